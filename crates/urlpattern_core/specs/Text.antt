@@ -1,0 +1,35 @@
+-- Texts as lists of characters, and places in them.
+use Rattle.std.specs.Prelude.{◌≡◌, ℕ, ◌+◌, Bool, false, ◌||◌, ◌==◌, List, [], ◌∷◌, length, IsTrue, String, string_bytes, codes, encode_utf8_all}
+use Rattle.std.specs.Str.{chars}
+use Rattle.std.specs.declared.alloc.Global.{Global}
+use Rattle.std.specs.List.{list_any}
+use Rattle.unicode.specs.Binary.{is_id_start, is_id_continue}
+
+-- the characters of a `String`
+abbrev pub text_of : String Global → List ℕ
+text_of string = chars (string_bytes string)
+
+-- how many bytes the characters take in UTF-8
+unfoldable pub byte_len : List ℕ → ℕ
+byte_len text = length (encode_utf8_all text)
+
+-- `rest`, which ends `whole`, begins at this byte: the bytes before it and its own are those of the whole
+abbrev pub BeginsAt : (whole rest : List ℕ) → ℕ → Type 0
+BeginsAt whole rest place = place + byte_len rest ≡ byte_len whole
+
+-- the character is one of these
+abbrev pub is_among : List ℕ → ℕ → Bool
+is_among marks c = list_any (λ mark. mark == c) marks
+
+-- the text begins with a character that passes the test
+abbrev pub BeginsWith : (ℕ → Bool) → List ℕ → Type 0
+BeginsWith test [] = IsTrue false
+BeginsWith test (c ∷ text) = IsTrue (test c)
+
+-- a character that may begin a name: ID_Start, `$` or `_`
+unfoldable pub is_name_start : ℕ → Bool
+is_name_start c = is_id_start c || is_among (codes "$_") c
+
+-- a character of a name: ID_Continue, `$`, U+200C or U+200D
+unfoldable pub is_name_part : ℕ → Bool
+is_name_part c = is_id_continue c || is_among (codes "$") c || is_among (0x200C ∷ 0x200D ∷ []) c
