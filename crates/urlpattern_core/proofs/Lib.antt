@@ -1,3 +1,16 @@
+pub mod StringTexts
+pub mod RegexpTexts
+pub mod Escaped
 pub mod TextLemmas
 pub mod BodyLemmas
+pub mod PieceLemmas
+pub mod PiecesExist
+pub mod PiecesUnique
+pub mod ReadingLemmas
+pub mod PartListLemmas
 pub mod TokenLemmas
+pub mod TokensUnique
+pub mod RegexpTextExamples
+pub mod TokenExamples
+pub mod PieceExamples
+pub mod ReadingExamples

@@ -1,8 +1,9 @@
 -- Lemmas on texts: characters against bytes, places, and where a text may be cut.
 use Rattle.std.proofs.Common.{◌≡◌, ℕ, ◌+◌, ◌-◌, ◌≤◌, List, [], ◌∷◌, ◌++◌, length, take, refl, sym, ap, ◌∙◌, arith, length-append}
-use Rattle.std.specs.Prelude.{encode_utf8_all}
+use Rattle.std.specs.Prelude.{codes, encode_utf8_all}
 use Rattle.std.specs.Prelude.{slice_range}
 use Rattle.std.proofs.Math.Seq.{take-append_seam}
+use Rattle.std.specs.Char.{encode_utf8}
 use Rattle.std.specs.Str.{chars, IsUtf8}
 use Rattle.std.proofs.lemmas.Str.{chars-nil, length-le-encodes, encodes-append, encodes-chars}
 use Rattle.urlpattern_core.specs.Text.{byte_len, BeginsAt}
@@ -55,3 +56,30 @@ chars-some bytes u some e =
     let l = byte_len-chars bytes u in
     let f = ap byte_len e ∙ byte_len-nil in
     some (omega arith)
+
+-- the bytes of a text whose characters are known
+pub bytes_from_chars : (bytes text : List ℕ) → IsUtf8 bytes → chars bytes ≡ text → encode_utf8_all text ≡ text → bytes ≡ text
+bytes_from_chars bytes text u e f = sym (encodes-chars bytes u) ∙ ap encode_utf8_all e ∙ f
+
+pub chars_question_mark : chars (codes "?") ≡ codes "?"
+unfolding chars
+chars_question_mark = refl
+
+pub question_mark_bytes : encode_utf8_all (codes "?") ≡ codes "?"
+unfolding encode_utf8
+question_mark_bytes = refl
+
+-- texts with the same characters have the same bytes
+pub bytes_same : (xs ys : List ℕ) → IsUtf8 xs → IsUtf8 ys → chars xs ≡ chars ys → xs ≡ ys
+bytes_same xs ys u v e = sym (encodes-chars xs u) ∙ ap encode_utf8_all e ∙ encodes-chars ys v
+
+pub chars_full_wildcard : chars (codes ".*") ≡ codes ".*"
+unfolding chars
+chars_full_wildcard = refl
+
+pub full_wildcard_bytes : encode_utf8_all (codes ".*") ≡ codes ".*"
+unfolding encode_utf8
+full_wildcard_bytes = refl
+
+pub chars_nothing : chars [] ≡ []
+chars_nothing = chars-nil

@@ -5,7 +5,7 @@ use Rattle.std.proofs.lemmas.Bool.{both_ways, and_from}
 use Rattle.std.proofs.lemmas.List.Folds.{list_all-append}
 use Rattle.std.proofs.lemmas.List.{append_cancel_right}
 use Rattle.urlpattern_core.specs.declared.tokenizer.TokenType.{TokenType}
-use Rattle.urlpattern_core.specs.declared.tokenizer.TokenType.TheVariants.{Open, Close, Regexp, Name, Char, EscapedChar, OtherModifier, Asterisk, End, InvalidChar}
+use Rattle.urlpattern_core.specs.declared.tokenizer.TokenType.TheVariants.{Asterisk, Char, Close, End, EscapedChar, InvalidChar, Name, Open, OtherModifier, Regexp}
 use Rattle.urlpattern_core.specs.Text.{byte_len, BeginsAt, BeginsWith, is_among, is_name_start, is_name_part}
 use Rattle.urlpattern_core.proofs.TextLemmas.{byte_len-append, length-le-byte_len}
 use Rattle.urlpattern_core.specs.Tokens.{TokenView, end_of, IsCut, IsStrictCut, IsTokenOf, Skips, SkipsBy, IsLexed, Spells, EndsThere, IsName, IsFaultAt, InvalidName, marks, is_ignored}

@@ -1,5 +1,6 @@
 pub mod Errors
 pub mod Options
+pub mod Parsing
 pub mod Parts
 pub mod Pieces
 pub mod Reading

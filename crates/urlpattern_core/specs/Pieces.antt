@@ -5,7 +5,7 @@ use Rattle.std.specs.List.{flat_map, list_all}
 use Rattle.urlpattern_core.specs.declared.parser.PartModifier.{PartModifier}
 use Rattle.urlpattern_core.specs.declared.parser.PartModifier.TheVariants as modifiers
 use Rattle.urlpattern_core.specs.declared.tokenizer.TokenType.{TokenType}
-use Rattle.urlpattern_core.specs.declared.tokenizer.TokenType.TheVariants.{Open, Close, Regexp, Name, Char, EscapedChar, OtherModifier, Asterisk, End, InvalidChar}
+use Rattle.urlpattern_core.specs.declared.tokenizer.TokenType.TheVariants.{Asterisk, Char, Close, End, EscapedChar, InvalidChar, Name, Open, OtherModifier, Regexp}
 use Rattle.urlpattern_core.specs.Tokens.{TokenView}
 
 -- What a placeholder stands for: a segment, what a custom regular expression matches, or anything.
@@ -130,14 +130,15 @@ pub record IsBraced (tokens inner : List TokenView) (modifier : PartModifier) (r
   pub is_modifier : IsModifier back modifier
   pub takes_modifier : TakesModifier modifier rest
 
--- texts, a placeholder, texts
-pub record IsFilled (inner : List TokenView) (before : List ℕ) (placeholder : Placeholder) (after : List ℕ) : Type 0 where
+-- texts, a placeholder, texts, as they stand before the rest
+pub record IsFilled (inner : List TokenView) (before : List ℕ) (placeholder : Placeholder) (after : List ℕ) (rest : List TokenView) : Type 0 where
   pub front : List TokenView
   pub middle : List TokenView
   pub back : List TokenView
   pub cut : inner ≡ front ++ middle ++ back
   pub are_texts_before : AreTexts front before
   pub is_placeholder : IsPlaceholderOf middle placeholder.name placeholder.matched
+  pub takes_regexp : TakesRegexp placeholder.matched (back ++ rest)
   pub are_texts_after : AreTexts back after
 
 -- the tokens are this piece, as it stands before the rest
@@ -149,7 +150,8 @@ IsPiece point tokens (Bare prefix placeholder modifier) rest = IsBare point toke
 IsPiece point tokens (TextGroup text modifier) rest =
     (inner : List TokenView) × IsBraced tokens inner modifier rest × AreTexts inner text
 IsPiece point tokens (Group before placeholder after modifier) rest =
-    (inner : List TokenView) × IsBraced tokens inner modifier rest × IsFilled inner before placeholder after
+    (inner : List TokenView) × (braces : IsBraced tokens inner modifier rest)
+    × IsFilled inner before placeholder after (braces.closing ∷ [])
 
 -- ---- what is left
 
@@ -169,10 +171,10 @@ is_stop kind = false
 
 -- what may stand between braces, before the rest, which is none of it
 abbrev pub IsOpenGroup : List TokenView → List TokenView → Type 0
-IsOpenGroup inner rest = ¬ BeginsWithKind is_text rest × (
-    ((text : List ℕ) × AreTexts inner text × ¬ BeginsWithKind is_placeholder rest)
-    ⊎ ((before after : List ℕ) × (placeholder : Placeholder) × IsFilled inner before placeholder after
-    × ((after ≡ []) → TakesRegexp placeholder.matched rest)))
+IsOpenGroup inner rest =
+    ¬ BeginsWithKind is_text rest
+    × (((text : List ℕ) × AreTexts inner text × ¬ BeginsWithKind is_placeholder rest)
+    ⊎ ((before after : List ℕ) × (placeholder : Placeholder) × IsFilled inner before placeholder after rest))
 
 abbrev pub IsEnding : List TokenView → Ending → Type 0
 IsEnding tokens (Stops found) = (more : List TokenView) × (tokens ≡ found ∷ more) × IsTrue (is_stop found.kind)

@@ -36,22 +36,32 @@ abbrev pub next_number : Option (List ℕ) → ℕ → ℕ
 next_number (Some name) number = number
 next_number None number = suc number
 
--- what the pieces stand for, one by one, where so many placeholders before them have no name
+-- what a piece stands for, where so many placeholders before it have no name
+abbrev pub item : ℕ → Piece → Item
+item number (pieces.Text text) = Fixed text modifiers.None
+item number (pieces.TextGroup text modifier) = Fixed text modifier
+item number (pieces.Bare prefix placeholder modifier) =
+    Capture prefix (name_or placeholder.name number) placeholder.matched [] modifier
+item number (pieces.Group before placeholder after modifier) =
+    Capture before (name_or placeholder.name number) placeholder.matched after modifier
+
+-- how many placeholders have no name, this piece's too
+abbrev pub number_after : ℕ → Piece → ℕ
+number_after number (pieces.Text text) = number
+number_after number (pieces.TextGroup text modifier) = number
+number_after number (pieces.Bare prefix placeholder modifier) = next_number placeholder.name number
+number_after number (pieces.Group before placeholder after modifier) = next_number placeholder.name number
+
+-- what the pieces stand for, one by one
 abbrev pub items_from : ℕ → List Piece → List Item
 items_from number [] = []
-items_from number (pieces.Text text ∷ rest) = Fixed text modifiers.None ∷ items_from number rest
-items_from number (pieces.TextGroup text modifier ∷ rest) = Fixed text modifier ∷ items_from number rest
-items_from number (pieces.Bare prefix placeholder modifier ∷ rest) =
-    Capture prefix (name_or placeholder.name number) placeholder.matched [] modifier
-    ∷ items_from (next_number placeholder.name number) rest
-items_from number (pieces.Group before placeholder after modifier ∷ rest) =
-    Capture before (name_or placeholder.name number) placeholder.matched after modifier
-    ∷ items_from (next_number placeholder.name number) rest
+items_from number (piece ∷ rest) = item number piece ∷ items_from (number_after number piece) rest
 
--- a plain fixed text before items, as one with the plain fixed text that they begin with
+-- a plain fixed text before items: nothing if it is empty, and one with the plain fixed text that they begin with
 abbrev pub with_text : List ℕ → List Item → List Item
-with_text text (Fixed more modifiers.None ∷ items) = Fixed (text ++ more) modifiers.None ∷ items
-with_text text items = Fixed text modifiers.None ∷ items
+with_text [] items = items
+with_text (c ∷ text) (Fixed more modifiers.None ∷ items) = Fixed (c ∷ text ++ more) modifiers.None ∷ items
+with_text (c ∷ text) items = Fixed (c ∷ text) modifiers.None ∷ items
 
 -- neighbouring plain fixed texts made one
 abbrev pub joined_items : List Item → List Item

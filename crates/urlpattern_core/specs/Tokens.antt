@@ -4,12 +4,14 @@ use Rattle.std.specs.List.{list_all}
 use Rattle.std.specs.Str.{chars}
 use Rattle.urlpattern_core.specs.declared.error.Error.{Error}
 use Rattle.urlpattern_core.specs.declared.error.Error.TheVariants as errors
+use Rattle.urlpattern_core.specs.declared.error.RegexFault.{RegexFault}
+use Rattle.urlpattern_core.specs.declared.error.RegexFault.TheVariants as regex_faults
 use Rattle.urlpattern_core.specs.declared.error.TokenizerError.{TokenizerError}
 use Rattle.urlpattern_core.specs.declared.error.TokenizerError.TheVariants as faults
 use Rattle.urlpattern_core.specs.declared.tokenizer.Lexeme.{Lexeme}
 use Rattle.urlpattern_core.specs.declared.tokenizer.Token.{Token}
 use Rattle.urlpattern_core.specs.declared.tokenizer.TokenType.{TokenType}
-use Rattle.urlpattern_core.specs.declared.tokenizer.TokenType.TheVariants.{Open, Close, Regexp, Name, Char, EscapedChar, OtherModifier, Asterisk, End, InvalidChar}
+use Rattle.urlpattern_core.specs.declared.tokenizer.TokenType.TheVariants.{Asterisk, Char, Close, End, EscapedChar, InvalidChar, Name, Open, OtherModifier, Regexp}
 use Rattle.urlpattern_core.specs.Text.{byte_len, BeginsAt, BeginsWith, is_among, is_name_start, is_name_part}
 
 -- A token: its kind, the byte where its spelling begins, and its value.
@@ -150,10 +152,19 @@ pub data FaultView : Type 0 where
   IncompleteEscapeCode InvalidName : FaultView
   InvalidRegex : List ℕ → FaultView
 
+-- a reason in words
+abbrev pub regex_fault_text : RegexFault → List ℕ
+regex_fault_text regex_faults.BadCharacter = reason NotAscii
+regex_fault_text regex_faults.BadEscape = reason EscapedNotAscii
+regex_fault_text regex_faults.NestedGroupNotClosed = reason GroupAtEnd
+regex_fault_text regex_faults.NestedGroupCaptures = reason CapturingGroup
+regex_fault_text regex_faults.MissingClose = reason NotClosed
+regex_fault_text regex_faults.Empty = reason NoBody
+
 abbrev pub fault_view : TokenizerError → FaultView
 fault_view faults.IncompleteEscapeCode = IncompleteEscapeCode
 fault_view faults.InvalidName = InvalidName
-fault_view (faults.InvalidRegex text) = InvalidRegex text.now
+fault_view (faults.InvalidRegex fault) = InvalidRegex (regex_fault_text fault)
 
 -- a token would begin where the text begins, and there is none for this reason
 abbrev pub IsFaultAt : List ℕ → FaultView → Type 0

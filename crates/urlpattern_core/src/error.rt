@@ -49,7 +49,42 @@ pub enum TokenizerError {
     /// No character that may begin a name follows a colon.
     InvalidName,
     /// What follows an open bracket is no custom regular expression, for the reason given.
-    InvalidRegex(&'static str),
+    InvalidRegex(RegexFault),
+}
+
+/// Why what follows an open bracket is no custom regular expression.
+#[derive(Debug, Clone, Copy, PartialEq, Eq)]
+pub enum RegexFault {
+    /// It starts with a question mark, or has a character that is not ASCII.
+    BadCharacter,
+    /// A backslash takes a character that is not ASCII.
+    BadEscape,
+    /// An inner bracket is the last of the text.
+    NestedGroupNotClosed,
+    /// A character other than a question mark follows an inner bracket.
+    NestedGroupCaptures,
+    /// The text ends before the closing bracket.
+    MissingClose,
+    /// Nothing stands between the brackets.
+    Empty,
+}
+
+impl RegexFault {
+    ghost use Rattle.urlpattern_core.specs.Tokens.{regex_fault_text};
+
+    /// The reason in words.
+    pub fn as_str(self) -> &'static str
+        ensures { result.now ≡ regex_fault_text self }
+    {
+        match self {
+            RegexFault::BadCharacter => "must not start with ?, and may only contain ascii",
+            RegexFault::BadEscape => "non ascii character was escaped",
+            RegexFault::NestedGroupNotClosed => "nested groups not closed",
+            RegexFault::NestedGroupCaptures => "nested groups must start with ?",
+            RegexFault::MissingClose => "missing closing )",
+            RegexFault::Empty => "length must be > 0",
+        }
+    }
 }
 
 /// Why the tokens of a pattern text are no pattern.

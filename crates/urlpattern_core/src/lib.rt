@@ -2,6 +2,7 @@
 //! the names of its groups.
 #![tactic(auto)]
 
+pub mod component;
 pub mod error;
 pub mod parser;
 pub mod tokenizer;

@@ -7,7 +7,7 @@ ghost use Rattle.std.specs.Str.{chars};
 ghost use Rattle.urlpattern_core.specs.Text.{BeginsWith, is_among, is_name_start, is_name_part};
 ghost use Rattle.urlpattern_core.specs.Tokens.{AreTokens, LacksEscaped, LacksQuestionMark, Lexes, Skips, SkipsBy, TellsFault, fault_view, is_ignored, token_view};
 
-use crate::error::{Error, TokenizerError};
+use crate::error::{Error, RegexFault, TokenizerError};
 use std::alloc::Global;
 use unicode::properties::{is_id_continue, is_id_start};
 
@@ -60,8 +60,6 @@ pub enum TokenizePolicy {
     /// Answer an error.
     Strict,
 }
-
-const NOT_ASCII: &str = "must not start with ?, and may only contain ascii";
 
 /// The front of a text, as a token, and what follows it.
 #[derive(Clone, Copy)]
@@ -173,8 +171,8 @@ fn regexp(text: &str) -> Result<Lexeme<'_>, TokenizerError>
     ensures { Lexes (codes "(" ++ chars text.now) result }
 {
     match split_first(text) {
-        Some(('?', _)) => Err(TokenizerError::InvalidRegex(NOT_ASCII)),
-        Some((')', _)) => Err(TokenizerError::InvalidRegex("length must be > 0")),
+        Some(('?', _)) => Err(TokenizerError::InvalidRegex(RegexFault::BadCharacter)),
+        Some((')', _)) => Err(TokenizerError::InvalidRegex(RegexFault::Empty)),
         _ => regexp_body(text),
     }
 }
@@ -206,10 +204,10 @@ fn regexp_body(text: &str) -> Result<Lexeme<'_>, TokenizerError>
                 depth -= 1;
             }
             _ if first.is_ascii() => rest = after,
-            _ => return Err(TokenizerError::InvalidRegex(NOT_ASCII)),
+            _ => return Err(TokenizerError::InvalidRegex(RegexFault::BadCharacter)),
         }
     }
-    Err(TokenizerError::InvalidRegex("missing closing )"))
+    Err(TokenizerError::InvalidRegex(RegexFault::MissingClose))
 }
 
 /// What follows the character that a backslash takes in the body of a regular expression.
@@ -221,7 +219,7 @@ fn escaped_ascii(text: &str) -> Result<&str, TokenizerError>
     match split_first(text) {
         None => Err(TokenizerError::IncompleteEscapeCode),
         Some((escaped, rest)) if escaped.is_ascii() => Ok(rest),
-        Some(_) => Err(TokenizerError::InvalidRegex("non ascii character was escaped")),
+        Some(_) => Err(TokenizerError::InvalidRegex(RegexFault::BadEscape)),
     }
 }
 
@@ -232,9 +230,9 @@ fn nested_group(text: &str) -> Result<&str, TokenizerError>
     ensures fault { IfErr result (λ fault. LacksQuestionMark (chars text.now) (fault_view fault)) }
 {
     match split_first(text) {
-        None => Err(TokenizerError::InvalidRegex("nested groups not closed")),
+        None => Err(TokenizerError::InvalidRegex(RegexFault::NestedGroupNotClosed)),
         Some(('?', rest)) => Ok(rest),
-        Some(_) => Err(TokenizerError::InvalidRegex("nested groups must start with ?")),
+        Some(_) => Err(TokenizerError::InvalidRegex(RegexFault::NestedGroupCaptures)),
     }
 }
 

@@ -1,0 +1,14 @@
+-- The kinds of options that the program knows by a name.
+use Rattle.std.specs.Prelude.{◌≡◌, ◌⊎◌, ℕ, List, codes}
+use Rattle.urlpattern.specs.Options.{OptionsView, default_options, hostname_options, pathname_options}
+
+-- the word names these options
+abbrev pub IsNamed : (word : List ℕ) → OptionsView → Type 0
+IsNamed word options =
+    ((word ≡ codes "default") × (options ≡ default_options))
+    ⊎ ((word ≡ codes "hostname") × (options ≡ hostname_options))
+    ⊎ ((word ≡ codes "pathname") × (options ≡ pathname_options))
+
+-- the word names some options
+abbrev pub IsKind : (word : List ℕ) → Type 0
+IsKind word = (word ≡ codes "default") ⊎ (word ≡ codes "hostname") ⊎ (word ≡ codes "pathname")

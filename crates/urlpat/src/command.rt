@@ -1,0 +1,240 @@
+//! The commands of the program: what its words ask for, and what it prints.
+
+ghost use Rattle.std.specs.Prelude.{◌≡◌, ◌⊎◌, map, string_bytes, IfOk, IfSome, Ok, None};
+ghost use Rattle.urlpat.specs.Kinds.{IsKind, IsNamed};
+ghost use Rattle.urlpattern.specs.Options.{options_view};
+ghost use Rattle.urlpat.specs.Report.{component_lines};
+
+use std::alloc::{AllocError, Global};
+use std::io::Write;
+use urlpattern::Error;
+use urlpattern::component::generate_regular_expression_and_name_list;
+use urlpattern::parser::{Options, parse_pattern_string};
+
+/// The status of a run that gave its answer.
+pub const DONE: u8 = 0;
+
+/// The status of every other run.
+pub const FAILED: u8 = 2;
+
+/// How a component is asked for.
+const COMPONENT_USAGE: &str = "usage: urlpat component default|hostname|pathname PATTERN\n";
+
+/// How a match is asked for.
+const MATCH_USAGE: &str = "       urlpat match PATTERN BASE INPUT\n";
+
+/// Why there is no answer.
+#[derive(Drop)]
+enum Failure {
+    /// The words are no command.
+    Usage,
+    /// The library refused a word, or memory ran out.
+    Refused(Error),
+}
+
+impl From<Error> for Failure {
+    fn from(error: Error) -> Failure {
+        Failure::Refused(error)
+    }
+}
+
+impl From<AllocError> for Failure {
+    fn from(error: AllocError) -> Failure {
+        Failure::Refused(Error::from(error))
+    }
+}
+
+/// Does what the words ask for, and gives the status to end with.
+///
+/// The answer goes to `out` in one piece. The usage goes to `err`.
+pub fn run<Out: Write, Err: Write>(
+    alloc: Global,
+    words: &[String],
+    out: &mut Out,
+    err: &mut Err,
+) -> u8
+    ensures status { (result ≡ DONE) ⊎ (result ≡ FAILED) }
+    ensures quiet { result ≡ DONE → err.new ≡ err.old }
+{
+    match answer(alloc, words) {
+        Ok(text) => match out.write_all(text.as_bytes()) {
+            Ok(()) => DONE,
+            Err(_) => FAILED,
+        },
+        Err(Failure::Usage) => {
+            tell_usage(err);
+            FAILED
+        }
+        Err(Failure::Refused(_)) => FAILED,
+    }
+}
+
+/// Writes how the program is used, up to a write that fails.
+fn tell_usage<Err: Write>(err: &mut Err) {
+    if err.write_all(COMPONENT_USAGE.as_bytes()).is_ok() {
+        let _ = err.write_all(MATCH_USAGE.as_bytes());
+    }
+}
+
+/// The text that the words ask for.
+fn answer(alloc: Global, words: &[String]) -> Result<String, Failure> {
+    match words {
+        [command, kind, pattern] if command.as_str() == "component" => {
+            component(alloc, kind, pattern)
+        }
+        _ => Err(Failure::Usage),
+    }
+}
+
+/// The answer to `component`.
+fn component(alloc: Global, kind: &str, pattern: &str) -> Result<String, Failure> {
+    let Some(options) = options_of(alloc, kind)? else {
+        return Err(Failure::Usage);
+    };
+    let unchanged = |text: &str| -> Result<String, Error> { Ok(String::from_str(alloc, text)?) };
+    let parts = parse_pattern_string(alloc, pattern, &options, unchanged)?;
+    let (regexp, names) = generate_regular_expression_and_name_list(alloc, &parts, &options)?;
+    Ok(component_report(alloc, &names, &regexp)?)
+}
+
+/// The options of this name, if there are such.
+fn options_of(alloc: Global, kind: &str) -> Result<Option<Options>, Error>
+    ensures some { IfOk result (λ found. IfSome found (λ options. IsNamed kind.now (options_view options))) }
+    ensures none { result ≡ Ok None → ¬ IsKind kind.now }
+{
+    match kind {
+        "default" => Ok(Some(Options::default(alloc))),
+        "hostname" => Ok(Some(Options::hostname(alloc))),
+        "pathname" => Ok(Some(Options::pathname(alloc)?)),
+        _ => Ok(None),
+    }
+}
+
+/// A line with the names and a line with the regular expression.
+fn component_report(alloc: Global, names: &[String], regexp: &str) -> Result<String, AllocError>
+    ensures { IfOk result (λ text. string_bytes text ≡ component_lines (map (λ name. string_bytes name) names.now) regexp.now) }
+{
+    let mut text = String::from_str(alloc, "names:")?;
+    for name in names {
+        text.push(' ')?;
+        text.push_str(name)?;
+    }
+    text.push_str("\nregexp: ")?;
+    text.push_str(regexp)?;
+    text.push('\n')?;
+    Ok(text)
+}
+
+#[cfg(test)]
+mod tests {
+    use super::*;
+    use std::io;
+    use std::process::Abort;
+    use std::test::Fail;
+
+    /// A writer of which each write fails, and that counts them.
+    #[derive(Drop)]
+    struct Broken {
+        writes: usize,
+    }
+
+    impl Write for Broken {
+        fn write(&mut self, _buf: &[u8]) -> io::Result<usize> {
+            self.writes = self.writes.saturating_add(1);
+            Err(io::Error::from(io::ErrorKind::BrokenPipe))
+        }
+
+        fn flush(&mut self) -> io::Result<()> {
+            Ok(())
+        }
+    }
+
+    fn words_of(alloc: Global, line: &[&str]) -> Result<Vec<String>, AllocError> {
+        let mut words = Vec::new(alloc);
+        for word in line {
+            words.push(String::from_str(alloc, word)?)?;
+        }
+        Ok(words)
+    }
+
+    /// Runs the words, and compares the status and what was written.
+    fn expect_run(
+        rt: &impl Abort,
+        alloc: Global,
+        line: &[&str],
+        status: u8,
+        printed: &str,
+        told: &str,
+    ) -> Result<(), AllocError> {
+        let words = words_of(alloc, line)?;
+        let mut out = Vec::new(alloc);
+        let mut err = Vec::new(alloc);
+        assert_eq!(rt;
+            run(alloc, &words, &mut out, &mut err),
+            status,
+            "at {line:?}"
+        );
+        assert_eq!(rt; str::from_utf8(&out), Ok(printed), "at {line:?}");
+        assert_eq!(rt; str::from_utf8(&err), Ok(told), "at {line:?}");
+        Ok(())
+    }
+
+    #[test]
+    fn tells_the_usage(rt: HostRuntime) -> Result<(), Fail> {
+        let mut usage = String::from_str(
+            rt.alloc(),
+            "usage: urlpat component default|hostname|pathname PATTERN\n",
+        )?;
+        usage.push_str("       urlpat match PATTERN BASE INPUT\n")?;
+        let lines: [&[&str]; 6] = [
+            &[],
+            &["component"],
+            &["component", "pathname"],
+            &["component", "search", "/"],
+            &["component", "pathname", "/", "/"],
+            &["other", "pathname", "/"],
+        ];
+        for line in lines {
+            expect_run(&rt, rt.alloc(), line, 2, "", &usage)?;
+        }
+        Ok(())
+    }
+
+    #[test]
+    fn refuses_a_pattern(rt: HostRuntime) -> Result<(), Fail> {
+        expect_run(&rt, rt.alloc(), &["component", "default", "{a"], 2, "", "")?;
+        Ok(())
+    }
+
+    #[test]
+    fn stops_at_a_failed_write(rt: HostRuntime) -> Result<(), Fail> {
+        let lines: [&[&str]; 2] = [&["component", "default", ""], &[]];
+        for (line, out_writes) in lines.into_iter().zip([1, 0]) {
+            let words = words_of(rt.alloc(), line)?;
+            let mut out = Broken { writes: 0 };
+            let mut err = Broken { writes: 0 };
+            assert_eq!(rt;
+                run(rt.alloc(), &words, &mut out, &mut err),
+                2,
+                "at {line:?}"
+            );
+            assert_eq!(rt; out.writes, out_writes, "at {line:?}");
+            assert_eq!(rt; err.writes, 1 - out_writes, "at {line:?}");
+        }
+        Ok(())
+    }
+
+    #[test]
+    fn prints_a_component(rt: HostRuntime) -> Result<(), Fail> {
+        let printed = "names: id\nregexp: ^/users(?:/([^/]+?))$\n";
+        expect_run(
+            &rt,
+            rt.alloc(),
+            &["component", "pathname", "/users/:id"],
+            0,
+            printed,
+            "",
+        )?;
+        Ok(())
+    }
+}

@@ -1,0 +1,9 @@
+pub use Rattle.urlpattern_core.specs.Errors
+pub use Rattle.urlpattern_core.specs.Options
+pub use Rattle.urlpattern_core.specs.Parsing
+pub use Rattle.urlpattern_core.specs.Parts
+pub use Rattle.urlpattern_core.specs.Pieces
+pub use Rattle.urlpattern_core.specs.Reading
+pub use Rattle.urlpattern_core.specs.RegexpText
+pub use Rattle.urlpattern_core.specs.Text
+pub use Rattle.urlpattern_core.specs.Tokens

@@ -1,0 +1,8 @@
+//! URL patterns: texts such as `/users/:id` that say which URLs are meant, and name their pieces.
+//!
+//! This crate gathers what the crates below it have, so that a user names it alone.
+//!
+//! <https://urlpattern.spec.whatwg.org/>
+#![tactic(auto)]
+
+pub use urlpattern_core::{Error, RegexSyntax, component, error, parser, tokenizer};

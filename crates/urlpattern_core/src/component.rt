@@ -1,0 +1,155 @@
+//! The regular expression of a component.
+//!
+//! <https://urlpattern.spec.whatwg.org/#component>
+
+ghost use Rattle.std.specs.Prelude.{◌≡◌, List, ◌++◌, map, IfOk, IfErr, OnOk};
+ghost use Rattle.urlpattern_core.specs.declared.error.Error.TheVariants as errors;
+ghost use Rattle.urlpattern_core.specs.Options.{options_view};
+ghost use Rattle.urlpattern_core.specs.Parts.{part_view};
+ghost use Rattle.urlpattern_core.specs.RegexpText.{affixed_regexp, bare_regexp, captured, escaped_regexp, fixed_regexp, group_names, grouped, matched_by, part_regexp, regexp_text, repeated_regexp};
+ghost use Rattle.urlpattern_core.specs.Text.{text_of};
+
+use crate::error::Error;
+use crate::parser::{FULL_WILDCARD_REGEXP_VALUE, Options, Part, PartModifier, PartType, push_text};
+use std::alloc::Global;
+
+/// The regular expression of a list of parts, and the names of its groups in their order.
+///
+/// The error is that memory ran out.
+///
+/// <https://urlpattern.spec.whatwg.org/#generate-a-regular-expression-and-name-list>
+pub fn generate_regular_expression_and_name_list(
+    alloc: Global,
+    part_list: &[Part],
+    options: &Options,
+) -> Result<(String, Vec<String>), Error>
+    ensures text { IfOk result (λ found. text_of found.0 ≡ regexp_text (options_view options.now) (map part_view part_list.now)) }
+    ensures names { IfOk result (λ found. map (λ name. text_of name) found.1.items ≡ group_names (map part_view part_list.now)) }
+    ensures memory { IfErr result (λ error. error ≡ errors.OutOfMemory) }
+{
+    let mut text = String::from_str(alloc, "^")?;
+    let mut names = Vec::new(alloc);
+    for part in part_list {
+        push_part(&mut text, part, options)?;
+        if part.kind != PartType::FixedText {
+            names.push(part.name.clone()?)?;
+        }
+    }
+    text.push('$')?;
+    Ok((text, names))
+}
+
+/// Appends the regular expression of a part.
+fn push_part(text: &mut String, part: &Part, options: &Options) -> Result<(), Error>
+    ensures appends { OnOk result (text_of text.new ≡ text_of text.old ++ part_regexp (options_view options.now) (part_view part.now)) }
+    ensures memory { IfErr result (λ error. error ≡ errors.OutOfMemory) }
+{
+    match part.kind {
+        PartType::FixedText => push_fixed(text, part, options),
+        _ if part.prefix.is_empty() && part.suffix.is_empty() => push_bare(text, part, options),
+        _ => push_affixed(text, part, options),
+    }
+}
+
+/// Appends a fixed text, in brackets if it has a modifier.
+fn push_fixed(text: &mut String, part: &Part, options: &Options) -> Result<(), Error>
+    ensures appends { OnOk result (text_of text.new ≡ text_of text.old ++ fixed_regexp part.now.modifier (escaped_regexp (options_view options.now) (text_of part.now.value))) }
+    ensures memory { IfErr result (λ error. error ≡ errors.OutOfMemory) }
+{
+    match part.modifier {
+        PartModifier::None => options.push_escaped(text, &part.value),
+        _ => {
+            push_text(text, "(?:")?;
+            options.push_escaped(text, &part.value)?;
+            push_text(text, ")")?;
+            push_text(text, part.modifier.as_str())
+        }
+    }
+}
+
+/// Appends a group that has neither prefix nor suffix.
+fn push_bare(text: &mut String, part: &Part, options: &Options) -> Result<(), Error>
+    ensures appends { OnOk result (text_of text.new ≡ text_of text.old ++ bare_regexp part.now.modifier (matched_by (options_view options.now) part.now.kind (text_of part.now.value))) }
+    ensures memory { IfErr result (λ error. error ≡ errors.OutOfMemory) }
+{
+    match part.modifier {
+        PartModifier::None | PartModifier::Optional => {
+            push_text(text, "(")?;
+            push_matched(text, part, options)?;
+            push_text(text, ")")?;
+            push_text(text, part.modifier.as_str())
+        }
+        PartModifier::ZeroOrMore | PartModifier::OneOrMore => {
+            push_text(text, "((?:")?;
+            push_matched(text, part, options)?;
+            push_text(text, ")")?;
+            push_text(text, part.modifier.as_str())?;
+            push_text(text, ")")
+        }
+    }
+}
+
+/// Appends a group that has a prefix or a suffix.
+fn push_affixed(text: &mut String, part: &Part, options: &Options) -> Result<(), Error>
+    ensures appends { OnOk result (text_of text.new ≡ text_of text.old ++ affixed_regexp part.now.modifier (escaped_regexp (options_view options.now) (text_of part.now.prefix)) (matched_by (options_view options.now) part.now.kind (text_of part.now.value)) (escaped_regexp (options_view options.now) (text_of part.now.suffix))) }
+    ensures memory { IfErr result (λ error. error ≡ errors.OutOfMemory) }
+{
+    match part.modifier {
+        PartModifier::None => push_single(text, part, options),
+        PartModifier::Optional => {
+            push_single(text, part, options)?;
+            push_text(text, "?")
+        }
+        PartModifier::ZeroOrMore => {
+            push_repeated(text, part, options)?;
+            push_text(text, "?")
+        }
+        PartModifier::OneOrMore => push_repeated(text, part, options),
+    }
+}
+
+/// Appends one copy of a group between its prefix and its suffix.
+fn push_single(text: &mut String, part: &Part, options: &Options) -> Result<(), Error>
+    ensures appends { OnOk result (text_of text.new ≡ text_of text.old ++ grouped (escaped_regexp (options_view options.now) (text_of part.now.prefix) ++ captured (matched_by (options_view options.now) part.now.kind (text_of part.now.value)) ++ escaped_regexp (options_view options.now) (text_of part.now.suffix))) }
+    ensures memory { IfErr result (λ error. error ≡ errors.OutOfMemory) }
+{
+    push_text(text, "(?:")?;
+    options.push_escaped(text, &part.prefix)?;
+    push_text(text, "(")?;
+    push_matched(text, part, options)?;
+    push_text(text, ")")?;
+    options.push_escaped(text, &part.suffix)?;
+    push_text(text, ")")
+}
+
+/// Appends one or more copies of a group between its prefix and its suffix, which also stand between the copies.
+fn push_repeated(text: &mut String, part: &Part, options: &Options) -> Result<(), Error>
+    ensures appends { OnOk result (text_of text.new ≡ text_of text.old ++ repeated_regexp (escaped_regexp (options_view options.now) (text_of part.now.prefix)) (matched_by (options_view options.now) part.now.kind (text_of part.now.value)) (escaped_regexp (options_view options.now) (text_of part.now.suffix))) }
+    ensures memory { IfErr result (λ error. error ≡ errors.OutOfMemory) }
+{
+    push_text(text, "(?:")?;
+    options.push_escaped(text, &part.prefix)?;
+    push_text(text, "((?:")?;
+    push_matched(text, part, options)?;
+    push_text(text, ")(?:")?;
+    options.push_escaped(text, &part.suffix)?;
+    options.push_escaped(text, &part.prefix)?;
+    push_text(text, "(?:")?;
+    push_matched(text, part, options)?;
+    push_text(text, "))*)")?;
+    options.push_escaped(text, &part.suffix)?;
+    push_text(text, ")")
+}
+
+/// Appends what one copy of a part matches, without its prefix and its suffix.
+fn push_matched(text: &mut String, part: &Part, options: &Options) -> Result<(), Error>
+    ensures appends { OnOk result (text_of text.new ≡ text_of text.old ++ matched_by (options_view options.now) part.now.kind (text_of part.now.value)) }
+    ensures memory { IfErr result (λ error. error ≡ errors.OutOfMemory) }
+{
+    match part.kind {
+        PartType::FixedText => options.push_escaped(text, &part.value),
+        PartType::Regexp => push_text(text, &part.value),
+        PartType::SegmentWildcard => options.push_segment_wildcard(text),
+        PartType::FullWildcard => push_text(text, FULL_WILDCARD_REGEXP_VALUE),
+    }
+}
