@@ -1,8 +1,23 @@
 -- What the program prints.
-use Rattle.std.specs.Prelude.{ℕ, List, ◌++◌, codes}
+use Rattle.std.specs.Prelude.{ℕ, List, ◌++◌, codes, Option, Some}
+use Rattle.std.specs.Fmt.{with_newline}
 use Rattle.std.specs.List.{flat_map}
+use Rattle.urlpat.specs.declared.command.Failure.{Failure}
+use Rattle.urlpat.specs.declared.command.Failure.TheVariants as failures
+use Rattle.urlpattern.specs.Errors.{error_view}
+use Rattle.urlpattern.specs.ErrorText.{error_text}
 
 -- a line with the names of a component's groups, and a line with its regular expression
 abbrev pub component_lines : (names : List (List ℕ)) → (regexp : List ℕ) → List ℕ
 component_lines names regexp =
     codes "names:" ++ flat_map (λ name. codes " " ++ name) names ++ codes "\nregexp: " ++ regexp ++ codes "\n"
+
+-- how the program is used
+abbrev pub usage : List ℕ
+usage =
+    codes "usage: urlpat component default|hostname|pathname PATTERN\n" ++ codes "       urlpat match PATTERN BASE INPUT\n"
+
+-- why there is no answer: how the program is used, or the text of an error, where one is promised, and a line end
+abbrev pub failure_lines : Failure → Option (List ℕ)
+failure_lines failures.Usage = Some usage
+failure_lines (failures.Refused error) = with_newline (error_text (error_view error))

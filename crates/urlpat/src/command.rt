@@ -1,11 +1,13 @@
 //! The commands of the program: what its words ask for, and what it prints.
 
-ghost use Rattle.std.specs.Prelude.{◌≡◌, ◌⊎◌, map, string_bytes, IfOk, IfSome, Ok, None};
+ghost use Rattle.std.specs.Io.KnownBytes.{Appends};
+ghost use Rattle.std.specs.Prelude.{◌≡◌, ◌⊎◌, map, string_bytes, IfOk, IfSome, OnOk, Ok, None};
 ghost use Rattle.urlpat.specs.Kinds.{IsKind, IsNamed};
 ghost use Rattle.urlpattern.specs.Options.{options_view};
-ghost use Rattle.urlpat.specs.Report.{component_lines};
+ghost use Rattle.urlpat.specs.Report.{component_lines, failure_lines};
 
 use std::alloc::{AllocError, Global};
+use std::io;
 use std::io::Write;
 use urlpattern::Error;
 use urlpattern::component::generate_regular_expression_and_name_list;
@@ -46,7 +48,7 @@ impl From<AllocError> for Failure {
 
 /// Does what the words ask for, and gives the status to end with.
 ///
-/// The answer goes to `out` in one piece. The usage goes to `err`.
+/// The answer goes to `out` in one piece. Why there is none goes to `err`.
 pub fn run<Out: Write, Err: Write>(
     alloc: Global,
     words: &[String],
@@ -61,18 +63,20 @@ pub fn run<Out: Write, Err: Write>(
             Ok(()) => DONE,
             Err(_) => FAILED,
         },
-        Err(Failure::Usage) => {
-            tell_usage(err);
+        Err(failure) => {
+            let _ = tell(&failure, err);
             FAILED
         }
-        Err(Failure::Refused(_)) => FAILED,
     }
 }
 
-/// Writes how the program is used, up to a write that fails.
-fn tell_usage<Err: Write>(err: &mut Err) {
-    if err.write_all(COMPONENT_USAGE.as_bytes()).is_ok() {
-        let _ = err.write_all(MATCH_USAGE.as_bytes());
+/// Writes why there is no answer: how the program is used, or the error and a line end.
+fn tell<Err: Write>(failure: &Failure, err: &mut Err) -> io::Result<()>
+    ensures { IfSome (failure_lines failure.now) (λ lines. OnOk result (Appends (Err.contents err.old) (Err.contents err.new) lines)) }
+{
+    match failure {
+        Failure::Usage => write!(err, "{COMPONENT_USAGE}{MATCH_USAGE}"),
+        Failure::Refused(error) => writeln!(err, "{error}"),
     }
 }
 
@@ -201,8 +205,30 @@ mod tests {
     }
 
     #[test]
-    fn refuses_a_pattern(rt: HostRuntime) -> Result<(), Fail> {
-        expect_run(&rt, rt.alloc(), &["component", "default", "{a"], 2, "", "")?;
+    fn tells_why_a_pattern_is_refused(rt: HostRuntime) -> Result<(), Fail> {
+        let alloc = rt.alloc();
+        // What is told of a token's fault, and its place.
+        let faults = [
+            (":", "invalid name; must be at least length 1", 0),
+            ("a\\", "incomplete escape code", 1),
+            ("é(", "invalid regex: missing closing )", 2),
+        ];
+        for (pattern, told, place) in faults {
+            let mut line = String::new(alloc);
+            writeln!(line, "tokenizer error: {told} (at char {place})")?;
+            expect_run(&rt, alloc, &["component", "default", pattern], 2, "", &line)?;
+        }
+        // What is told of tokens that are no pattern.
+        let refusals = [
+            ("{a", "expected token Close, found '' of type End"),
+            (":é:é", "pattern contains duplicate name é"),
+            ("a}", "expected token End, found '}' of type Close"),
+        ];
+        for (pattern, told) in refusals {
+            let mut line = String::new(alloc);
+            writeln!(line, "parser error: {told}")?;
+            expect_run(&rt, alloc, &["component", "default", pattern], 2, "", &line)?;
+        }
         Ok(())
     }
 
@@ -221,6 +247,20 @@ mod tests {
             assert_eq!(rt; out.writes, out_writes, "at {line:?}");
             assert_eq!(rt; err.writes, 1 - out_writes, "at {line:?}");
         }
+        Ok(())
+    }
+
+    #[test]
+    fn prints_a_component_without_names(rt: HostRuntime) -> Result<(), Fail> {
+        let printed = "names:\nregexp: ^(?:a)?b$\n";
+        expect_run(
+            &rt,
+            rt.alloc(),
+            &["component", "default", "{a}?b"],
+            0,
+            printed,
+            "",
+        )?;
         Ok(())
     }
 

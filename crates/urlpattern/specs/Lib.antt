@@ -1,8 +1,14 @@
+pub use Rattle.urlpattern_core.specs.Dialect
+pub use Rattle.urlpattern_core.specs.ErrorText
 pub use Rattle.urlpattern_core.specs.Errors
+pub use Rattle.urlpattern_core.specs.Laws
+pub use Rattle.urlpattern_core.specs.Matching
 pub use Rattle.urlpattern_core.specs.Options
 pub use Rattle.urlpattern_core.specs.Parsing
+pub use Rattle.urlpattern_core.specs.PartMeaning
 pub use Rattle.urlpattern_core.specs.Parts
 pub use Rattle.urlpattern_core.specs.Pieces
+pub use Rattle.urlpattern_core.specs.Printing
 pub use Rattle.urlpattern_core.specs.Reading
 pub use Rattle.urlpattern_core.specs.RegexpText
 pub use Rattle.urlpattern_core.specs.Text

@@ -5,4 +5,4 @@
 //! <https://urlpattern.spec.whatwg.org/>
 #![tactic(auto)]
 
-pub use urlpattern_core::{Error, RegexSyntax, component, error, parser, tokenizer};
+pub use urlpattern_core::{Error, RegexSyntax, component, error, laws, parser, tokenizer};

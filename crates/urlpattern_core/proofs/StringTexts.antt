@@ -45,3 +45,7 @@ text-nil string empty = ap chars empty ∙ chars-nil
 pub nothing_from_is_empty : (text : List ℕ) → is_empty text ≡ true → text ≡ []
 nothing_from_is_empty [] e = refl
 nothing_from_is_empty (c ∷ text) e = absurd (false≢true e)
+
+-- the bytes of its characters are its own
+pub text_bytes : (string : String Global) → encode_utf8_all (text_of string) ≡ string_bytes string
+text_bytes string = encodes-chars (string_bytes string) (IsUtf8-string_bytes string)

@@ -9,6 +9,7 @@ use Rattle.urlpattern_core.proofs.TextLemmas.{byte_len-append, length-le-byte_le
 use Rattle.urlpattern_core.proofs.TokenLemmas.{Spells-some}
 use Rattle.urlpattern_core.specs.declared.tokenizer.TokenType.{TokenType}
 use Rattle.urlpattern_core.specs.declared.tokenizer.TokenType.TheVariants.{Asterisk, Char, Close, End, EscapedChar, InvalidChar, Name, Open, OtherModifier, Regexp}
+use Rattle.urlpattern_core.specs.Laws.{Lays, spelling}
 use Rattle.urlpattern_core.specs.Text.{byte_len, BeginsAt, BeginsWith, is_among, is_name_start, is_name_part}
 use Rattle.urlpattern_core.specs.Tokens.{Body, Front, body_text, front_text, IsBody, IsFront, IsRegexpBody, IsRegexpFront, is_question_mark}
 use Rattle.urlpattern_core.specs.Tokens.{Body as bodies, Front as fronts}
@@ -445,28 +446,6 @@ lenient_strict text tokens h = record { front = h.front; cut = go text h.front h
     go rest (token ∷ front) cut = (cut.0, cut.1, cut.2, inl cut.3, go cut.1 front cut.4)
 
 -- ---- where tokens stand, and that nothing is lost
-
--- the characters of a text that make the token; End has none
-abbrev pub spelling : TokenType → List ℕ → List ℕ
-spelling Open value = value
-spelling Close value = value
-spelling Asterisk value = value
-spelling OtherModifier value = value
-spelling EscapedChar value = codes "\\" ++ value
-spelling Name value = codes ":" ++ value
-spelling Regexp value = codes "(" ++ value ++ codes ")"
-spelling Char value = value
-spelling End value = []
-spelling InvalidChar value = value
-
--- The text, which begins at this byte, is the spellings of these tokens in order, each at its token's index,
--- and nothing but skipped characters stands before each of them.
-abbrev pub Lays : (place : ℕ) → List TokenView → (text : List ℕ) → Type 0
-Lays place [] text = text ≡ []
-Lays place (token ∷ tokens) text =
-    (skipped rest : List ℕ) × (text ≡ skipped ++ spelling token.kind token.value ++ rest) × IsTrue (list_all is_ignored skipped)
-    × (token.index ≡ place + byte_len skipped)
-    × Lays (token.index + byte_len (spelling token.kind token.value)) tokens rest
 
 spelling_is : (kind : TokenType) (value text : List ℕ) → Spells kind value text → text ≡ spelling kind value
 spelling_is Open value text h = sym h.0

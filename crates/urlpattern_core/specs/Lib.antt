@@ -1,8 +1,14 @@
+pub mod Dialect
+pub mod ErrorText
 pub mod Errors
+pub mod Laws
+pub mod Matching
 pub mod Options
 pub mod Parsing
+pub mod PartMeaning
 pub mod Parts
 pub mod Pieces
+pub mod Printing
 pub mod Reading
 pub mod RegexpText
 pub mod Text

@@ -92,6 +92,19 @@ abbrev pub is_fixed_text : PartType → Bool
 is_fixed_text FixedText = true
 is_fixed_text kind = false
 
+abbrev pub IsWildcard : PartType → Type 0
+IsWildcard SegmentWildcard = Unit {0}
+IsWildcard FullWildcard = Unit {0}
+IsWildcard kind = ⊥
+
+abbrev pub is_unmodified : PartModifier → Bool
+is_unmodified modifiers.None = true
+is_unmodified modifier = false
+
+-- a fixed text without modifier
+abbrev pub is_plain : PartView → Bool
+is_plain part = is_fixed_text part.kind && is_unmodified part.modifier
+
 -- a group, with or without prefix and suffix
 abbrev pub group_regexp : OptionsView → PartView → List ℕ
 group_regexp options part =

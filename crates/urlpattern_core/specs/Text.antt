@@ -1,8 +1,8 @@
 -- Texts as lists of characters, and places in them.
-use Rattle.std.specs.Prelude.{◌≡◌, ℕ, ◌+◌, Bool, false, ◌||◌, ◌==◌, List, [], ◌∷◌, length, IsTrue, String, string_bytes, codes, encode_utf8_all}
+use Rattle.std.specs.Prelude.{◌≡◌, ℕ, zero, suc, ◌+◌, Bool, false, not, ◌||◌, ◌==◌, List, [], ◌∷◌, ◌++◌, length, IsTrue, String, string_bytes, codes, encode_utf8_all, slice_index}
 use Rattle.std.specs.Str.{chars}
 use Rattle.std.specs.declared.alloc.Global.{Global}
-use Rattle.std.specs.List.{list_any}
+use Rattle.std.specs.List.{list_all, list_any}
 use Rattle.unicode.specs.Binary.{is_id_start, is_id_continue}
 
 -- the characters of a `String`
@@ -21,10 +21,27 @@ BeginsAt whole rest place = place + byte_len rest ≡ byte_len whole
 abbrev pub is_among : List ℕ → ℕ → Bool
 is_among marks c = list_any (λ mark. mark == c) marks
 
+-- whether the text begins with a character that passes the test
+abbrev pub begins_with : (ℕ → Bool) → List ℕ → Bool
+begins_with test [] = false
+begins_with test (c ∷ text) = test c
+
 -- the text begins with a character that passes the test
 abbrev pub BeginsWith : (ℕ → Bool) → List ℕ → Type 0
 BeginsWith test [] = IsTrue false
 BeginsWith test (c ∷ text) = IsTrue (test c)
+
+-- the text has no such character
+abbrev pub lacks : ℕ → List ℕ → Bool
+lacks c text = list_all (λ other. not (other == c)) text
+
+abbrev pub line_feed : ℕ
+line_feed = slice_index (codes "\n") 0
+
+-- the text is cut into n stretches of this kind
+abbrev pub IsRepeated : (List ℕ → Type 0) → ℕ → List ℕ → Type 0
+IsRepeated Is zero text = text ≡ []
+IsRepeated Is (suc n) text = (first rest : List ℕ) × (text ≡ first ++ rest) × Is first × IsRepeated Is n rest
 
 -- a character that may begin a name: ID_Start, `$` or `_`
 unfoldable pub is_name_start : ℕ → Bool

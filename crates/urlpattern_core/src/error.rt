@@ -1,10 +1,14 @@
 //! The errors of building and matching patterns.
 
-ghost use Rattle.std.specs.Prelude.{◌≡◌};
+ghost use Rattle.std.specs.Prelude.{◌≡◌, Some};
 ghost use Rattle.urlpattern_core.specs.declared.error.Error.TheVariants as errors;
+ghost use Rattle.urlpattern_core.specs.ErrorText.{error_text, fault_text, parser_error_text};
+ghost use Rattle.urlpattern_core.specs.Errors.{error_view};
+ghost use Rattle.urlpattern_core.specs.Tokens.{fault_view};
 
 use crate::tokenizer::TokenType;
 use std::alloc::{AllocError, AllocFailed};
+use std::{error, fmt};
 
 /// Why a pattern could not be built or matched.
 #[derive(Debug, Drop)]
@@ -24,6 +28,33 @@ pub enum Error {
     /// The allocator had no memory.
     OutOfMemory,
 }
+
+/// Tells the error, with the place in a pattern text where it has one.
+impl fmt::Display for Error {
+    ghost output = { λ error. error_text (error_view error) };
+
+    fn fmt<W: fmt::Write>(&self, f: &mut fmt::Formatter<W>) -> fmt::Result {
+        match self {
+            Self::BaseUrlRequired => {
+                f.write_str("a relative input without ")?;
+                f.write_str("a base URL is not valid")
+            }
+            Self::BaseUrlWithInit => {
+                f.write_str("specifying both an init object, ")?;
+                f.write_str("and a separate base URL is not valid")
+            }
+            Self::Tokenizer(error, place) => {
+                write!(f, "tokenizer error: {error} (at char {place})")
+            }
+            Self::Parser(error) => write!(f, "parser error: {error}"),
+            Self::Url(error) => fmt::Display::fmt(error, f),
+            Self::RegExp(()) => f.write_str("regexp error"),
+            Self::OutOfMemory => f.write_str("out of memory"),
+        }
+    }
+}
+
+impl error::Error for Error {}
 
 impl From<AllocError> for Error {
     ghost from_gives = { λ _ error. error ≡ errors.OutOfMemory };
@@ -51,6 +82,24 @@ pub enum TokenizerError {
     /// What follows an open bracket is no custom regular expression, for the reason given.
     InvalidRegex(RegexFault),
 }
+
+/// Tells the fault.
+impl fmt::Display for TokenizerError {
+    ghost output = { λ error. Some (fault_text (fault_view error)) };
+
+    fn fmt<W: fmt::Write>(&self, f: &mut fmt::Formatter<W>) -> fmt::Result {
+        match self {
+            TokenizerError::IncompleteEscapeCode => f.write_str("incomplete escape code"),
+            TokenizerError::InvalidName => f.write_str("invalid name; must be at least length 1"),
+            TokenizerError::InvalidRegex(fault) => {
+                let reason = fault.as_str();
+                write!(f, "invalid regex: {reason}")
+            }
+        }
+    }
+}
+
+impl error::Error for TokenizerError {}
 
 /// Why what follows an open bracket is no custom regular expression.
 #[derive(Debug, Clone, Copy, PartialEq, Eq)]
@@ -95,6 +144,30 @@ pub enum ParserError {
     /// A second group has this name.
     DuplicateName(String),
 }
+
+/// Tells what had to stand and what does, or the name.
+impl fmt::Display for ParserError {
+    ghost output = { λ error. Some (parser_error_text error) };
+
+    #[tactic(auto, using(crate::proofs::StringTexts::text_bytes))]
+    fn fmt<W: fmt::Write>(&self, f: &mut fmt::Formatter<W>) -> fmt::Result {
+        match self {
+            ParserError::ExpectedToken(expected, found, value) => {
+                let expected = expected.name();
+                let found = found.name();
+                write!(
+                    f,
+                    "expected token {expected}, found '{value}' of type {found}"
+                )
+            }
+            ParserError::DuplicateName(name) => {
+                write!(f, "pattern contains duplicate name {name}")
+            }
+        }
+    }
+}
+
+impl error::Error for ParserError {}
 
 /// The allocator had no memory.
 #[derive(Debug, Drop)]

@@ -4,6 +4,7 @@
 
 pub mod component;
 pub mod error;
+pub mod laws;
 pub mod parser;
 pub mod tokenizer;
 

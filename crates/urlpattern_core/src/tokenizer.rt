@@ -38,6 +38,28 @@ pub enum TokenType {
     InvalidChar,
 }
 
+impl TokenType {
+    ghost use Rattle.urlpattern_core.specs.ErrorText.{kind_name};
+
+    /// The name of the kind.
+    pub fn name(&self) -> &'static str
+        ensures { result.now ≡ kind_name self.now }
+    {
+        match self {
+            TokenType::Open => "Open",
+            TokenType::Close => "Close",
+            TokenType::Regexp => "Regexp",
+            TokenType::Name => "Name",
+            TokenType::Char => "Char",
+            TokenType::EscapedChar => "EscapedChar",
+            TokenType::OtherModifier => "OtherModifier",
+            TokenType::Asterisk => "Asterisk",
+            TokenType::End => "End",
+            TokenType::InvalidChar => "InvalidChar",
+        }
+    }
+}
+
 /// A token: what it is, where it stands, and its value.
 ///
 /// <https://urlpattern.spec.whatwg.org/#token>

@@ -1,0 +1,37 @@
+//! Replays recorded questions and answers over the library, and prints how many there are and how many differ.
+#![tactic(auto)]
+
+mod recorded;
+mod replay;
+mod report;
+#[cfg(test)]
+mod rows;
+
+use std::process::ExitCode;
+use std::{env, io};
+
+/// The status of a run in which each answer is the recorded one.
+const SAME: u8 = 0;
+
+/// The status of a run in which an answer differs or a line holds no case.
+const DIFFERENT: u8 = 1;
+
+/// The status of a run that could not read or write.
+const FAILED: u8 = 2;
+
+fn main(rt: HostRuntime) -> ExitCode {
+    ExitCode::from(match replay_files(&rt) {
+        Ok(true) => SAME,
+        Ok(false) => DIFFERENT,
+        Err(_) => FAILED,
+    })
+}
+
+/// Replays the files that the words name. Says whether each answer is the recorded one.
+fn replay_files(rt: &HostRuntime) -> io::Result<bool> {
+    let mut words = env::args(rt)?;
+    // The first word is the program's own name.
+    let _ = words.next();
+    let paths = words.collect::<Vec<String>>(rt.alloc())?;
+    report::run(rt, &paths, &mut rt.stdout())
+}

@@ -1,0 +1,160 @@
+//! The run over files of cases, and what it prints.
+
+use crate::recorded::Operation;
+use crate::replay::{Outcome, replay};
+use std::alloc::Global;
+use std::io::Write;
+use std::rt::Files;
+use std::{fs, io};
+
+/// How many cases there are, and how many of them differ.
+#[derive(Default, Drop)]
+struct Tally {
+    answers: u64,
+    errors: u64,
+    differing: u64,
+}
+
+impl Tally {
+    /// Counts a case.
+    fn count(&mut self, outcome: &Outcome) {
+        let total = if outcome.is_error {
+            &mut self.errors
+        } else {
+            &mut self.answers
+        };
+        *total = total.saturating_add(1);
+        if !outcome.is_same {
+            self.differing = self.differing.saturating_add(1);
+        }
+    }
+
+    /// Prints the counts in a line.
+    fn print<O: Write>(&self, out: &mut O, operation: &str) -> io::Result<()> {
+        let Tally {
+            answers,
+            errors,
+            differing,
+        } = self;
+        writeln!(
+            out,
+            "{operation}: {answers} answers and {errors} errors, {differing} differ"
+        )
+    }
+}
+
+/// The counts of a run.
+#[derive(Default, Drop)]
+struct Report {
+    tokenize: Tally,
+    component: Tally,
+    unreadable: u64,
+}
+
+impl Report {
+    /// Counts the cases of a text, one in each line, and prints the place of each that differs or cannot be read.
+    fn add<O: Write>(
+        &mut self,
+        alloc: Global,
+        path: &str,
+        text: &str,
+        out: &mut O,
+    ) -> io::Result<()> {
+        for (line, number) in text.lines().zip(1u64..) {
+            match replay(alloc, line) {
+                Ok(outcome) => {
+                    self.tally(outcome.operation).count(&outcome);
+                    if !outcome.is_same {
+                        writeln!(out, "{path}:{number}: differs")?;
+                    }
+                }
+                Err(error) if error.is_memory() => return Err(io::Error::from(
+                    io::ErrorKind::OutOfMemory,
+                )),
+                Err(_) => {
+                    self.unreadable = self.unreadable.saturating_add(1);
+                    writeln!(out, "{path}:{number}: no case")?;
+                }
+            }
+        }
+        Ok(())
+    }
+
+    /// The counts for what was asked for.
+    fn tally(&mut self, operation: Operation) -> &mut Tally {
+        match operation {
+            Operation::Tokenize => &mut self.tokenize,
+            Operation::Component => &mut self.component,
+        }
+    }
+
+    /// Prints the counts.
+    fn print<O: Write>(&self, out: &mut O) -> io::Result<()> {
+        self.tokenize.print(out, "tokenize")?;
+        self.component.print(out, "component")?;
+        let unreadable = self.unreadable;
+        writeln!(out, "lines without a case: {unreadable}")
+    }
+
+    /// Whether each line holds a case, and none differs.
+    fn is_same(&self) -> bool {
+        self.tokenize.differing == 0 && self.component.differing == 0 && self.unreadable == 0
+    }
+}
+
+/// Replays the cases of each file, and prints those that differ and the counts. Says whether none differs.
+pub fn run<R: Files + AllocGlobal, O: Write>(
+    rt: &R,
+    paths: &[String],
+    out: &mut O,
+) -> io::Result<bool> {
+    let mut report = Report::default();
+    for path in paths {
+        let text = fs::read_to_string(rt, path)?;
+        report.add(rt.alloc(), path, &text, out)?;
+    }
+    report.print(out)?;
+    Ok(report.is_same())
+}
+
+#[cfg(test)]
+mod tests {
+    use super::*;
+    use std::test::Fail;
+
+    #[test]
+    fn names_each_line_that_is_not_as_recorded(rt: HostRuntime) -> Result<(), Fail> {
+        let lines = concat!(
+            r#"{"in":{"op":"tokenize","input":"a"},"out":{"ok":[["Char",0,"a"],["End",1,""]]}}"#,
+            "\n",
+            r#"{"in":{"op":"tokenize","input":"a"},"out":{"ok":[["Char",1,"a"],["End",1,""]]}}"#,
+            "\n",
+            r#"{"in":{"op":"tokenize","input":"a"},"out":{"err":"out of memory"}}"#,
+            "\n",
+            r#"{"in":{"op":"tokenize","input":":"},"out":{"err":"out of memory"}}"#,
+            "\n",
+            r#"{"in":{"op":"component","kind":"default","syntax":"Rust","pattern":""},"out":{"ok":{"parts":[],"names":[],"regexp":"^"}}}"#,
+            "\n",
+            r#"{"in":{"op":"component","kind":"default","syntax":"Rust","pattern":""},"out":{"ok":{"parts":[],"names":[],"regexp":"^$"}}}"#,
+            "\n",
+            r#"{"in":{"op":"other"},"out":{"ok":null}}"#,
+        );
+        let printed = concat!(
+            "cases:2: differs\n",
+            "cases:3: differs\n",
+            "cases:4: differs\n",
+            "cases:5: differs\n",
+            "cases:7: no case\n",
+            "tokenize: 2 answers and 2 errors, 3 differ\n",
+            "component: 2 answers and 0 errors, 1 differ\n",
+            "lines without a case: 1\n",
+        );
+        let mut report = Report::default();
+        let mut out = Vec::new(rt.alloc());
+        report.add(rt.alloc(), "cases", lines, &mut out)?;
+        report.print(&mut out)?;
+        assert_eq!(rt; str::from_utf8(&out), Ok(printed));
+        assert!(rt; !report.is_same());
+        Ok(())
+    }
+}

@@ -1,0 +1,18 @@
+//! Worked examples, by what they show.
+
+mod callbacks;
+mod components;
+mod long_texts;
+mod options;
+mod refusals;
+mod tokens;
+
+use std::alloc::Global;
+use urlpattern::Error;
+use urlpattern::parser::{Options, Part, parse_pattern_string};
+
+/// The parts of a pattern whose texts stay as they are.
+fn parts_of(alloc: Global, pattern: &str, options: &Options) -> Result<Vec<Part>, Error> {
+    let unchanged = |text: &str| -> Result<String, Error> { Ok(String::from_str(alloc, text)?) };
+    parse_pattern_string(alloc, pattern, options, unchanged)
+}

@@ -1,0 +1,61 @@
+//! Long patterns, which take time in step with their length.
+
+use super::parts_of;
+use std::alloc::{AllocError, Global};
+use std::test::Fail;
+use urlpattern::Error;
+use urlpattern::error::ParserError;
+use urlpattern::parser::{Options, PartType};
+use urlpattern::tokenizer::TokenType;
+
+/// Appends copies of a piece.
+fn push_copies(text: &mut String, piece: &str, count: usize) -> Result<(), AllocError> {
+    for _ in 0..count {
+        text.push_str(piece)?;
+    }
+    Ok(())
+}
+
+#[test]
+fn ten_thousand_open_braces(rt: HostRuntime) -> Result<(), Fail> {
+    let alloc = rt.alloc();
+    let mut pattern = String::new(alloc);
+    push_copies(&mut pattern, "{", 10_000)?;
+    let answer = parts_of(alloc, &pattern, &Options::default(alloc));
+    assert!(rt;
+        matches!(
+            &answer,
+            Err(Error::Parser(ParserError::ExpectedToken(TokenType::Close, TokenType::Open, _)))
+        )
+    );
+    Ok(())
+}
+
+#[test]
+fn a_thousand_names(rt: HostRuntime) -> Result<(), Fail> {
+    let alloc = rt.alloc();
+    let mut pattern = String::new(alloc);
+    for number in 1..=1_000u32 {
+        write!(pattern, ":a{number}")?;
+    }
+    let parts = parts_of(alloc, &pattern, &Options::default(alloc))?;
+    assert_eq!(rt; parts.len(), 1_000);
+    assert_eq!(rt; parts.last().map(|part| part.name.as_str()), Some("a1000"));
+    Ok(())
+}
+
+#[test]
+fn a_thousand_nested_groups(rt: HostRuntime) -> Result<(), Fail> {
+    let alloc = rt.alloc();
+    let mut body = String::new(alloc);
+    push_copies(&mut body, "(?:", 1_000)?;
+    push_copies(&mut body, ")", 1_000)?;
+    let pattern = format!(in alloc; "({body})")?;
+    let parts = parts_of(alloc, &pattern, &Options::default(alloc))?;
+    assert_eq!(rt; parts.len(), 1);
+    for part in &parts {
+        assert_eq!(rt; part.kind, PartType::Regexp);
+        assert_eq!(rt; part.value.as_str(), body.as_str());
+    }
+    Ok(())
+}
