@@ -6,6 +6,7 @@ mod long_texts;
 mod options;
 mod refusals;
 mod tokens;
+mod values;
 
 use std::alloc::Global;
 use urlpattern::Error;

@@ -1,10 +1,10 @@
 -- Worked examples of matchers: how they are made, and what they answer.
-use Rattle.std.proofs.Common.{◌≡◌, ℕ, true, false, List, [], ◌∷◌, refl, Some, None, Option, Ok, Err}
+use Rattle.std.proofs.Common.{◌≡◌, ℕ, true, false, List, [], ◌∷◌, refl, sym, Some, None, Option, Ok, Err}
 use Rattle.std.proofs.lemmas.List.{append_cancel_left, append_cancel_right}
-use Rattle.std.specs.Prelude.{codes}
+use Rattle.std.specs.Prelude.{codes, slice_index}
 use Rattle.urlpattern_core.specs.declared.parser.PartModifier.TheVariants as modifiers
 use Rattle.urlpattern_core.specs.Errors.{ErrorView as views}
-use Rattle.urlpattern_core.specs.Matching.{Literal, SingleCapture, RegExp, MatcherView, IsMadeOf, Answers}
+use Rattle.urlpattern_core.specs.Matching.{ArePeeled, Literal, SingleCapture, RegExp, MatcherView, IsMadeOf, Answers}
 use Rattle.urlpattern_core.specs.Options.{default_options, pathname_options}
 use Rattle.urlpattern_core.specs.PartMeaning.{Captures}
 use Rattle.urlpattern_core.specs.Parts.{fixed_text}
@@ -53,12 +53,28 @@ segment_none E answer captures (middle, e, (not_empty, passes, is)) =
     let whole : codes "a/" ≡ middle = append_cancel_right (codes "a/") middle [] (append_cancel_left (codes "/") _ _ e) in
     no (rw (← whole) at passes)
 
+pub segment_empty : (E : Type 0) (answer : E → List ℕ → Option Captures) → Answers answer (segment_matcher E) (codes "/") None
+segment_empty E answer captures (middle, e, (not_empty, passes, is)) =
+    let whole : [] ≡ middle = append_cancel_right [] middle [] (append_cancel_left (codes "/") _ _ e) in
+    not_empty (sym whole)
+
+-- a text that has such a cut is not answered by None
+pub segment_answered : (E : Type 0) (answer : E → List ℕ → Option Captures) → ¬ Answers answer (segment_matcher E) (codes "/a") None
+segment_answered E answer none = none (Some (codes "a") ∷ []) (segment_some E answer)
+
 -- case is folded in ASCII alone
 abbrev pub folding_matcher : (E : Type 0) → List ℕ → MatcherView E
 folding_matcher E text = record { prefix = []; suffix = []; inner = Literal text; ignore_case = true }
 
 pub folding_some : (E : Type 0) (answer : E → List ℕ → Option Captures) → Answers answer (folding_matcher E (codes "/Foo")) (codes "/fOO") (Some [])
 folding_some E answer = (codes "/fOO", refl, (refl, refl))
+
+-- so is that of a filter
+pub folding_filter : (E : Type 0) (answer : E → List ℕ → Option Captures) →
+    Answers answer (record { prefix = []; suffix = []; inner = SingleCapture (Some (slice_index (codes "A") 0)) false; ignore_case = true }) (codes "a") None
+folding_filter E answer captures (middle, e, (not_empty, passes, is)) =
+    let whole : codes "a" ≡ middle = append_cancel_right (codes "a") middle [] e in
+    no (rw (← whole) at passes)
 
 -- ---- making
 
@@ -109,3 +125,7 @@ optional_refused E IsMade MayRefuse flags may_refuse = record {
   are_peeled = record { cut = refl; front_goes = no; back_goes = refl };
   is_made = (Err views.RegExp, (refl, may_refuse), refl);
 }
+
+-- a plain fixed text at the end does not stay among the parts
+pub back_goes_off : ¬ ArePeeled (plain (codes "a") ∷ plain (codes "b") ∷ []) (Some (plain (codes "a"))) (plain (codes "b") ∷ []) None
+back_goes_off h = h.back_goes refl

@@ -5,8 +5,8 @@ use Rattle.std.specs.Prelude.{codes}
 use Rattle.urlpattern_core.specs.declared.parser.PartModifier.TheVariants as modifiers
 use Rattle.urlpattern_core.specs.declared.parser.PartType.TheVariants.{SegmentWildcard, FullWildcard}
 use Rattle.urlpattern_core.specs.Options.{OptionsView, default_options, pathname_options}
-use Rattle.urlpattern_core.specs.PartMeaning.{Captures, AreCaptures, PartMeans, PartsMean}
-use Rattle.urlpattern_core.specs.Parts.{PartView}
+use Rattle.urlpattern_core.specs.PartMeaning.{AreCopies, Captures, AreCaptures, PartMeans, PartsMean}
+use Rattle.urlpattern_core.specs.Parts.{PartView, fixed_text}
 use Rattle.urlpattern_core.proofs.RegexpTextExamples.{group}
 
 -- the pattern `{a/:x/b}+`: one capture from the first copy's segment to the last one's
@@ -112,3 +112,12 @@ starred_text = (
   },
   (refl, refl),
 )
+
+-- the pattern `{a}?`: two copies are too many
+pub optional_twice : (captures : Captures) → ¬ PartsMean default_options (fixed_text (codes "a") modifiers.Optional ∷ []) (codes "aa") captures
+optional_twice captures means = by_count (part_alone means).count (part_alone means).allowed (part_alone means).are_copies
+  where
+    by_count : (n : ℕ) → n ≤ 1 → AreCopies default_options (fixed_text (codes "a") modifiers.Optional) n (codes "aa") → ⊥
+    by_count zero le e = cc e
+    by_count (suc zero) le (first, rest, e, f, g) = cc (e, f, g)
+    by_count (suc (suc n)) le h = absurd (omega (arith, le))

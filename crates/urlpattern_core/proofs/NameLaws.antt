@@ -18,7 +18,7 @@ use Rattle.urlpattern_core.specs.Pieces.{ArePieces, Ending, IsPiece, IsPlacehold
 use Rattle.urlpattern_core.specs.Pieces.{Ending as endings, Matched as matched, Piece as pieces}
 use Rattle.urlpattern_core.specs.Reading.{AreMet, Capture, Demand, Encoding, Fixed, Item, Reads, demands_after, encode_fixed, items_from, items_of, joined_items, name_or, next_number, with_text}
 use Rattle.urlpattern_core.specs.RegexpText.{group_names}
-use Rattle.urlpattern_core.specs.Text.{begins_with, is_name_start}
+use Rattle.urlpattern_core.specs.Text.{begins_with, BeginsWith, is_name_start}
 use Rattle.urlpattern_core.specs.Tokens.{AreTokens, IsCut, IsName, IsTokenOf, Spells, TokenView, end_of}
 
 -- ---- names and numbers
@@ -283,3 +283,11 @@ module _ (text : List ℕ) (options : OptionsView) (encoding : Encoding) (parts 
   names_distinct =
       subst (AllPairs Differ) (sym reading_names)
       (new_names [] (items_of reads.pieces) (met_new encoding [] (items_of reads.pieces) reads.found reads.are_met)).distinct
+
+name_undigited : (name : List ℕ) → IsName name → ¬ BeginsWith is_ascii_digit name
+name_undigited [] h b = h
+name_undigited (c ∷ name) h b = both_ways (is_ascii_digit c) (name_start_no_digit c h.0) b
+
+pub given_undigited : (text : List ℕ) (tokens front back : List TokenView) (token : TokenView) → AreTokens text tokens → tokens ≡ front ++ token ∷ back → token.kind ≡ Name → ¬ BeginsWith is_ascii_digit token.value
+given_undigited text tokens front back token h e k =
+    name_undigited token.value ((NameTokens-right front (token ∷ back) (subst NameTokens e (text_names text tokens h))).0 k)

@@ -2,7 +2,7 @@
 use Rattle.std.proofs.Common.{◌≡◌, ℕ, List, [], ◌∷◌, refl}
 use Rattle.std.specs.Prelude.{codes}
 use Rattle.urlpattern_core.specs.declared.parser.PartModifier.TheVariants as modifiers
-use Rattle.urlpattern_core.specs.declared.parser.PartType.TheVariants.{SegmentWildcard, FullWildcard}
+use Rattle.urlpattern_core.specs.declared.parser.PartType.TheVariants.{Regexp, SegmentWildcard, FullWildcard}
 use Rattle.urlpattern_core.specs.Options.{default_options, pathname_options}
 use Rattle.urlpattern_core.specs.Parts.{PartView, fixed_text}
 use Rattle.urlpattern_core.specs.Printing.{escaped_pattern, joined, printed, printed_part}
@@ -82,6 +82,11 @@ number = refl
 pub wildcards : printed default_options (wildcard (codes "0") ∷ wildcard (codes "1") ∷ []) ≡ codes "*(.*)"
 unfolding printing
 wildcards = refl
+
+-- a custom regular expression stands as it is
+pub custom : printed default_options (record (group Regexp [] (codes "0") [] modifiers.None) { value = codes "a+" } ∷ []) ≡ codes "(a+)"
+unfolding printing
+custom = refl
 
 -- ---- joined lists
 

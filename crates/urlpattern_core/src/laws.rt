@@ -3,7 +3,8 @@
 //! Each function here does nothing; what it promises is a theorem.
 
 ghost use Rattle.std.specs.Prelude.{◌≡◌, ◌≢◌, ◌↔◌, ◌⊎◌, ℕ, suc, ◌<◌, ◌&&◌, List, [], ◌∷◌, ◌++◌, All, AllPairs, Option, Some, Result};
-ghost use Rattle.urlpattern_core.specs.declared.tokenizer.TokenType.TheVariants.{End};
+ghost use Rattle.std.specs.Char.{is_ascii_digit};
+ghost use Rattle.urlpattern_core.specs.declared.tokenizer.TokenType.TheVariants.{End, Name};
 ghost use Rattle.urlpattern_core.specs.Errors.{ErrorView};
 ghost use Rattle.urlpattern_core.specs.Laws.{AnswersOnce, CountFrom, Lays, listed, numbers_among, spelling};
 ghost use Rattle.urlpattern_core.specs.Matching.{ArePeeled, end_text};
@@ -14,7 +15,7 @@ ghost use Rattle.urlpattern_core.specs.Pieces.{ArePieces, Ending, Piece};
 ghost use Rattle.urlpattern_core.specs.Printing.{HaveTexts, joined, printed};
 ghost use Rattle.urlpattern_core.specs.Reading.{Reads, Refuses};
 ghost use Rattle.urlpattern_core.specs.RegexpText.{IsWildcard, group_names, is_empty};
-ghost use Rattle.urlpattern_core.specs.Text.{byte_len};
+ghost use Rattle.urlpattern_core.specs.Text.{byte_len, BeginsWith};
 ghost use Rattle.urlpattern_core.specs.Tokens.{AreLenientTokens, AreTokens, FaultView, IsFault, TokenView, end_of};
 
 /// Parts of which plain fixed texts went off at the ends stand for the first of these texts, a middle that the other
@@ -89,7 +90,7 @@ pub fn readings_are_one()
 {}
 
 /// In a reading the names of the groups are not empty, and no two are equal. Those that begin with a digit are `0`, `1`
-/// and so on in order; they are the names that the pattern does not give.
+/// and so on in order. A name that the pattern gives begins with none, so they are the groups without a name.
 pub fn names_are_new()
     ensures nonempty { (text : List ℕ) (options : OptionsView) (answers : List (List ℕ × Result (List ℕ) ErrorView)) (parts : List PartView) →
         Reads text options (listed answers) parts → All (λ name. name ≢ []) (group_names parts) }
@@ -97,4 +98,6 @@ pub fn names_are_new()
         Reads text options (listed answers) parts → AllPairs (λ name other. name ≢ other) (group_names parts) }
     ensures numbered { (text : List ℕ) (options : OptionsView) (answers : List (List ℕ × Result (List ℕ) ErrorView)) (parts : List PartView) →
         Reads text options (listed answers) parts → CountFrom 0 (numbers_among (group_names parts)) }
+    ensures given { (text : List ℕ) (tokens front back : List TokenView) (token : TokenView) → AreTokens text tokens → tokens ≡ front ++ token ∷ back → token.kind ≡ Name →
+        ¬ BeginsWith is_ascii_digit token.value }
 {}

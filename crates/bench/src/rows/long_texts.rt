@@ -1,4 +1,4 @@
-//! Long patterns, which take time in step with their length.
+//! Long and deeply nested patterns, which end well within the time that a test has.
 
 use super::parts_of;
 use std::alloc::{AllocError, Global};

@@ -1,4 +1,4 @@
-use Rattle.urlpattern_core.proofs.NameLaws.{names_nonempty, names_distinct, names_numbered}
+use Rattle.urlpattern_core.proofs.NameLaws.{given_undigited, names_nonempty, names_distinct, names_numbered}
 use Rattle.urlpattern_core.specs.Laws.{listed}
 use Rattle.urlpattern_core.proofs.laws.names_are_new.Goals as goal
 
@@ -10,3 +10,6 @@ returns-clause-distinct c = λ text options answers. names_distinct text options
 
 pub returns-clause-numbered : goal.returns-clause-numbered
 returns-clause-numbered c = λ text options answers. names_numbered text options (listed answers)
+
+pub returns-clause-given : goal.returns-clause-given
+returns-clause-given c = given_undigited

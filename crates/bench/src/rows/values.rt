@@ -1,0 +1,74 @@
+//! Copies, comparisons, defaults and written forms of the plain types.
+
+use std::test::Fail;
+use urlpattern::RegexSyntax;
+use urlpattern::parser::{Options, PartModifier, PartType};
+use urlpattern::tokenizer::{TokenType, TokenizePolicy, tokenize};
+
+#[test]
+fn a_copy_of_options_has_each_field(rt: HostRuntime) -> Result<(), Fail> {
+    let alloc = rt.alloc();
+    let options = Options {
+        regex_syntax: RegexSyntax::EcmaScript,
+        ignore_case: true,
+        ..Options::pathname(alloc)?
+    };
+    let copy = options.clone()?;
+    assert_eq!(rt; copy.delimiter_code_point, Some('/'));
+    assert_eq!(rt; copy.prefix_code_point.as_str(), "/");
+    assert_eq!(rt; copy.regex_syntax, RegexSyntax::EcmaScript);
+    assert!(rt; copy.ignore_case);
+    Ok(())
+}
+
+#[test]
+fn a_copy_of_a_token_has_each_field(rt: HostRuntime) -> Result<(), Fail> {
+    let tokens = tokenize(rt.alloc(), "/users/:id", TokenizePolicy::Strict)?;
+    for token in &tokens {
+        let copy = token.clone()?;
+        assert_eq!(rt; copy.kind, token.kind);
+        assert_eq!(rt; copy.index, token.index);
+        assert_eq!(rt; copy.value, token.value);
+    }
+    Ok(())
+}
+
+#[test]
+fn different_variants_are_not_equal(rt: HostRuntime) {
+    assert_ne!(rt; TokenType::Open, TokenType::Close);
+    assert_ne!(rt; RegexSyntax::Rust, RegexSyntax::EcmaScript);
+    assert_ne!(rt; PartType::SegmentWildcard, PartType::FullWildcard);
+    assert_ne!(rt; PartModifier::ZeroOrMore, PartModifier::OneOrMore);
+    assert_eq!(rt; TokenizePolicy::Strict, TokenizePolicy::Strict);
+}
+
+#[test]
+fn a_modifier_prints_its_sign(rt: HostRuntime) -> Result<(), Fail> {
+    for (modifier, sign) in [
+        (PartModifier::None, ""),
+        (PartModifier::Optional, "?"),
+        (PartModifier::ZeroOrMore, "*"),
+        (PartModifier::OneOrMore, "+"),
+    ] {
+        assert_eq!(rt; modifier.to_string(rt.alloc())?.as_str(), sign);
+    }
+    Ok(())
+}
+
+#[test]
+fn the_syntax_of_rust_is_the_default(rt: HostRuntime) {
+    assert_eq!(rt; RegexSyntax::default(), RegexSyntax::Rust);
+}
+
+#[test]
+fn a_syntax_is_a_name_in_json(rt: HostRuntime) -> Result<(), Fail> {
+    let alloc = rt.alloc();
+    for (syntax, json) in [
+        (RegexSyntax::Rust, "\"Rust\""),
+        (RegexSyntax::EcmaScript, "\"EcmaScript\""),
+    ] {
+        assert_eq!(rt; serde_json::to_string(alloc, &syntax)?.as_str(), json);
+        assert_eq!(rt; serde_json::from_str::<RegexSyntax>(alloc, json)?, syntax);
+    }
+    Ok(())
+}
