@@ -2,13 +2,13 @@
 use Rattle.std.proofs.Common.{◌≡◌, ◌⊎◌, ℕ, true, false, ◌&&◌, List, ◌++◌, codes, inl, inr, refl, sym, ap, ◌∙◌, append_assoc}
 use Rattle.std.proofs.lemmas.List.{append-nil}
 use Rattle.std.specs.Str.{chars}
-use Rattle.urlpattern_core.specs.declared.parser.PartModifier.{PartModifier}
-use Rattle.urlpattern_core.specs.declared.parser.PartModifier.TheVariants as modifiers
-use Rattle.urlpattern_core.specs.declared.parser.PartType.{PartType}
-use Rattle.urlpattern_core.specs.declared.parser.PartType.TheVariants.{FixedText, Regexp, SegmentWildcard, FullWildcard}
-use Rattle.urlpattern_core.specs.Options.{OptionsView}
-use Rattle.urlpattern_core.specs.Parts.{PartView}
-use Rattle.urlpattern_core.specs.RegexpText.{affixed_regexp, bare_regexp, captured, escaped_regexp, fixed_regexp, grouped, is_empty, is_fixed_text, matched_by, modifier_text, part_regexp, repeated_regexp}
+use Rattle.urlpattern_syntax.specs.declared.parser.PartModifier.{PartModifier}
+use Rattle.urlpattern_syntax.specs.declared.parser.PartModifier.TheVariants as modifiers
+use Rattle.urlpattern_syntax.specs.declared.parser.PartType.{PartType}
+use Rattle.urlpattern_syntax.specs.declared.parser.PartType.TheVariants.{FixedText, Regexp, SegmentWildcard, FullWildcard}
+use Rattle.urlpattern_syntax.specs.Options.{OptionsView}
+use Rattle.urlpattern_syntax.specs.Parts.{PartView}
+use Rattle.urlpattern_syntax.specs.RegexpText.{affixed_regexp, bare_regexp, captured, escaped_regexp, fixed_regexp, grouped, is_empty, is_fixed_text, matched_by, modifier_text, part_regexp, repeated_regexp}
 
 pub fixed-modified : (modifier : PartModifier) (text : List ℕ) → (modifier ≡ modifiers.None → ⊥) → fixed_regexp modifier text ≡ grouped text ++ modifier_text modifier
 fixed-modified modifiers.None text some = absurd (some refl)

@@ -3,11 +3,11 @@
 //! <https://urlpattern.spec.whatwg.org/#component>
 
 ghost use Rattle.std.specs.Prelude.{◌≡◌, List, ◌++◌, map, IfOk, IfErr, OnOk};
-ghost use Rattle.urlpattern_core.specs.declared.error.Error.TheVariants as errors;
-ghost use Rattle.urlpattern_core.specs.Options.{options_view};
-ghost use Rattle.urlpattern_core.specs.Parts.{part_view};
-ghost use Rattle.urlpattern_core.specs.RegexpText.{affixed_regexp, bare_regexp, captured, escaped_regexp, fixed_regexp, group_names, grouped, matched_by, part_regexp, regexp_text, repeated_regexp};
-ghost use Rattle.urlpattern_core.specs.Text.{text_of};
+ghost use Rattle.urlpattern_syntax.specs.declared.error.Error.TheVariants as errors;
+ghost use Rattle.urlpattern_syntax.specs.Options.{options_view};
+ghost use Rattle.urlpattern_syntax.specs.Parts.{part_view};
+ghost use Rattle.urlpattern_syntax.specs.RegexpText.{affixed_regexp, bare_regexp, captured, escaped_regexp, fixed_regexp, group_names, grouped, matched_by, part_regexp, regexp_text, repeated_regexp};
+ghost use Rattle.urlpattern_syntax.specs.Text.{text_of};
 
 use crate::error::Error;
 use crate::parser::{FULL_WILDCARD_REGEXP_VALUE, Options, Part, PartModifier, PartType, push_text};

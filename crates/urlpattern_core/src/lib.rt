@@ -1,12 +1,9 @@
-//! The core of URL patterns: from the text of one component's pattern to its parts, its regular expression and
-//! the names of its groups.
+//! One component of a URL pattern: from its parts to a regular expression and the names of its groups.
+//!
+//! The modules and items of the crates below stand here too.
 #![tactic(auto)]
 
 pub mod component;
-pub mod error;
-pub mod laws;
-pub mod parser;
-pub mod tokenizer;
 
-pub use error::Error;
-pub use parser::RegexSyntax;
+pub use urlpattern_laws::laws;
+pub use urlpattern_syntax::{Error, RegexSyntax, error, parser, tokenizer};

@@ -2,10 +2,10 @@ use Rattle.std.proofs.Common.{rules, ◌++◌, ◌∷◌, [], ap, ◌∙◌, map
 use Rattle.std.proofs.lemmas.List.{take_all}
 use Rattle.std.specs.Str.{chars}
 use Rattle.std.specs.List.{flat_map}
-use Rattle.urlpattern_core.proofs.StringTexts.{text-push}
-use Rattle.urlpattern_core.specs.Options.{options_view}
-use Rattle.urlpattern_core.specs.Parts.{part_view}
-use Rattle.urlpattern_core.specs.RegexpText.{part_regexp}
+use Rattle.urlpattern_syntax.proofs.StringTexts.{text-push}
+use Rattle.urlpattern_syntax.specs.Options.{options_view}
+use Rattle.urlpattern_syntax.specs.Parts.{part_view}
+use Rattle.urlpattern_syntax.specs.RegexpText.{part_regexp}
 use Rattle.urlpattern_core.proofs.component.generate_regular_expression_and_name_list.Goals as goal
 
 pub loop-part-init : goal.loop-part-init

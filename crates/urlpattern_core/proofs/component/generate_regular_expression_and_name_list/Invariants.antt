@@ -1,9 +1,9 @@
 use Rattle.std.proofs.Common.{◌≡◌, ◌++◌, codes, map, take}
 use Rattle.std.specs.List.{flat_map}
-use Rattle.urlpattern_core.specs.Options.{options_view}
-use Rattle.urlpattern_core.specs.Parts.{part_view}
-use Rattle.urlpattern_core.specs.RegexpText.{group_names, part_regexp}
-use Rattle.urlpattern_core.specs.Text.{text_of}
+use Rattle.urlpattern_syntax.specs.Options.{options_view}
+use Rattle.urlpattern_syntax.specs.Parts.{part_view}
+use Rattle.urlpattern_syntax.specs.RegexpText.{group_names, part_regexp}
+use Rattle.urlpattern_syntax.specs.Text.{text_of}
 use Rattle.urlpattern_core.proofs.component.generate_regular_expression_and_name_list.Given as goal
 
 abbrev pub invariant-loop-part : goal.invariant-loop-part

@@ -1,8 +1,8 @@
 use Rattle.std.proofs.lemmas.Result.{on_ok_weaker}
 use Rattle.urlpattern_core.proofs.RegexpTexts.{bare-appended, bare-appended_repeated}
-use Rattle.urlpattern_core.specs.Options.{options_view}
-use Rattle.urlpattern_core.specs.RegexpText.{matched_by}
-use Rattle.urlpattern_core.specs.Text.{text_of}
+use Rattle.urlpattern_syntax.specs.Options.{options_view}
+use Rattle.urlpattern_syntax.specs.RegexpText.{matched_by}
+use Rattle.urlpattern_syntax.specs.Text.{text_of}
 use Rattle.urlpattern_core.proofs.component.push_bare.Goals as goal
 
 pub returns-in_ok-push_text-in-None-2-clause-appends : goal.returns-in_ok-push_text-in-None-2-clause-appends

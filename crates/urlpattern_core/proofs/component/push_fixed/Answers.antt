@@ -1,8 +1,8 @@
 use Rattle.std.proofs.lemmas.Result.{on_ok_weaker}
 use Rattle.urlpattern_core.proofs.RegexpTexts.{fixed-appended}
-use Rattle.urlpattern_core.specs.Options.{options_view}
-use Rattle.urlpattern_core.specs.RegexpText.{escaped_regexp}
-use Rattle.urlpattern_core.specs.Text.{text_of}
+use Rattle.urlpattern_syntax.specs.Options.{options_view}
+use Rattle.urlpattern_syntax.specs.RegexpText.{escaped_regexp}
+use Rattle.urlpattern_syntax.specs.Text.{text_of}
 use Rattle.urlpattern_core.proofs.component.push_fixed.Goals as goal
 
 pub returns-in_ok-push_text-in_default-2-clause-appends : goal.returns-in_ok-push_text-in_default-2-clause-appends

@@ -1,10 +1,10 @@
 use Rattle.std.proofs.Common.{◌≡◌, ◌∙◌, sym, ap, ◌&&◌, false}
 use Rattle.urlpattern_core.proofs.RegexpTexts.{part_regexp-fixed, part_regexp-bare, part_regexp-affixed}
-use Rattle.urlpattern_core.proofs.StringTexts.{is_empty-text}
-use Rattle.urlpattern_core.specs.Options.{options_view}
-use Rattle.urlpattern_core.specs.Parts.{part_view}
-use Rattle.urlpattern_core.specs.RegexpText.{is_empty}
-use Rattle.urlpattern_core.specs.Text.{text_of}
+use Rattle.urlpattern_syntax.proofs.StringTexts.{is_empty-text}
+use Rattle.urlpattern_syntax.specs.Options.{options_view}
+use Rattle.urlpattern_syntax.specs.Parts.{part_view}
+use Rattle.urlpattern_syntax.specs.RegexpText.{is_empty}
+use Rattle.urlpattern_syntax.specs.Text.{text_of}
 use Rattle.urlpattern_core.proofs.component.push_part.Goals as goal
 use Rattle.urlpattern_core.proofs.component.push_part.Goals.{then-is_empty+else-is_empty-2, else-is_empty}
 

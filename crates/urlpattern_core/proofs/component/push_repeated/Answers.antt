@@ -1,8 +1,8 @@
 use Rattle.std.proofs.lemmas.Result.{on_ok_weaker}
 use Rattle.urlpattern_core.proofs.RegexpTexts.{repeated-appended}
-use Rattle.urlpattern_core.specs.Options.{options_view}
-use Rattle.urlpattern_core.specs.RegexpText.{escaped_regexp, matched_by}
-use Rattle.urlpattern_core.specs.Text.{text_of}
+use Rattle.urlpattern_syntax.specs.Options.{options_view}
+use Rattle.urlpattern_syntax.specs.RegexpText.{escaped_regexp, matched_by}
+use Rattle.urlpattern_syntax.specs.Text.{text_of}
 use Rattle.urlpattern_core.proofs.component.push_repeated.Goals as goal
 
 pub returns-clause-appends : goal.returns-clause-appends

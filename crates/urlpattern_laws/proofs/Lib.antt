@@ -1,0 +1,12 @@
+pub mod PiecesUnique
+pub mod TokensUnique
+pub mod MeaningExamples
+pub mod DialectExamples
+pub mod PrintingExamples
+pub mod MatchingExamples
+pub mod MeaningLaws
+pub mod PrintingLaws
+pub mod MatchingLaws
+pub mod TokenLaws
+pub mod ReadingLaws
+pub mod NameLaws

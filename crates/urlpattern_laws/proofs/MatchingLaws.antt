@@ -1,0 +1,207 @@
+-- Laws of matchers: the two that need no engine accept what the parts mean.
+use Rattle.std.proofs.Common.{◌≡◌, ℕ, List, [], ◌∷◌, ◌++◌, refl, sym, subst, ap, Bool, true, false, Some, None, Option, Result, append_assoc, ◌∙◌, ◌↔◌}
+use Rattle.std.proofs.lemmas.List.{append-nil, append_cancel_left, append_cancel_right}
+use Rattle.std.proofs.lemmas.List.Folds.{list_all-append}
+use Rattle.std.specs.Prelude.{IsTrue, ◌&&◌, not, ◌==◌, unwrap_or}
+use Rattle.urlpattern_syntax.specs.declared.parser.PartModifier.{PartModifier}
+use Rattle.urlpattern_syntax.specs.declared.parser.PartModifier.TheVariants as modifiers
+use Rattle.urlpattern_syntax.specs.declared.parser.PartType.{PartType}
+use Rattle.urlpattern_syntax.specs.declared.parser.PartType.TheVariants.{SegmentWildcard, FullWildcard}
+use Rattle.urlpattern_syntax.specs.Errors.{ErrorView}
+use Rattle.urlpattern_laws.specs.Matching.{MayBeEmpty, PassesFilter, InnerView, Literal, SingleCapture, RegExp, MatcherView, IsEngineOf, IsMadeBetween, IsMadeOf, IsMadeOfOne, Matches, end_text, single_capture}
+use Rattle.urlpattern_syntax.specs.Options.{OptionsView}
+use Rattle.urlpattern_laws.specs.PartMeaning.{AreCaptures, Captures, IsCapture, IsWildcardText, PartMeans, PartsMean}
+use Rattle.urlpattern_syntax.specs.Parts.{PartView}
+use Rattle.urlpattern_syntax.specs.RegexpText.{IsWildcard}
+use Rattle.urlpattern_syntax.specs.Text.{lacks, line_feed}
+use Rattle.urlpattern_laws.proofs.MeaningExamples.{part_alone}
+use Rattle.urlpattern_laws.proofs.MeaningLaws.{one_copy, peeled_means}
+use Rattle.urlpattern_syntax.proofs.TokenExamples.{no}
+
+-- ---- texts without a character
+
+and_left : (a b : Bool) → IsTrue (a && b) → IsTrue a
+and_left true b h = refl
+and_left false b h = h
+
+and_right : (a b : Bool) → IsTrue (a && b) → IsTrue b
+and_right true b h = h
+and_right false b h = absurd (no h)
+
+lacks_left : (c : ℕ) (text more : List ℕ) → IsTrue (lacks c (text ++ more)) → IsTrue (lacks c text)
+lacks_left c text more h = and_left (lacks c text) (lacks c more) (sym (list_all-append (λ other. not (other == c)) text more) ∙ h)
+
+lacks_right : (c : ℕ) (text more : List ℕ) → IsTrue (lacks c (text ++ more)) → IsTrue (lacks c more)
+lacks_right c text more h = and_right (lacks c text) (lacks c more) (sym (list_all-append (λ other. not (other == c)) text more) ∙ h)
+
+-- what stands between two texts
+lacks_middle : (c : ℕ) (front text back : List ℕ) → IsTrue (lacks c (front ++ text ++ back)) → IsTrue (lacks c text)
+lacks_middle c front text back h = lacks_right c front text (lacks_left c (front ++ text) back h)
+
+middle_cancel : (front a b back : List ℕ) → front ++ a ++ back ≡ front ++ b ++ back → a ≡ b
+middle_cancel front a b back e = append_cancel_left front a b (append_cancel_right (front ++ a) (front ++ b) back e)
+
+-- ---- one wildcard
+
+-- one copy of a wildcard between prefix and suffix
+abbrev pub IsOnePiece : OptionsView → PartView → List ℕ → Captures → Type 0
+IsOnePiece options part text captures =
+    (piece : List ℕ) × (text ≡ part.prefix ++ piece ++ part.suffix) × IsWildcardText options part.kind piece × (captures ≡ Some piece ∷ [])
+
+abbrev pub part_of : PartType → PartModifier → (value name prefix suffix : List ℕ) → PartView
+part_of kind modifier value name prefix suffix =
+    record { kind = kind; value = value; modifier = modifier; name = name; prefix = prefix; suffix = suffix }
+
+one_piece : (options : OptionsView) (part : PartView) (text : List ℕ) (captures : Captures) →
+    (piece : List ℕ) × (text ≡ part.prefix ++ piece ++ part.suffix) × IsWildcardText options part.kind piece →
+    (capture : Option (List ℕ)) × IsCapture part 1 text capture × (captures ≡ capture ∷ []) → IsOnePiece options part text captures
+one_piece options part text captures (piece, e, is) (capture, (inner, f, g), h) =
+    let same : inner ≡ piece = middle_cancel part.prefix inner piece part.suffix (sym f ∙ e) in
+    (piece, e, is, h ∙ ap (λ c. c ∷ []) (g ∙ ap Some same))
+
+one_by : (options : OptionsView) (kind : PartType) (value name prefix suffix text : List ℕ) (captures : Captures) → IsWildcard kind →
+    PartMeans options (part_of kind modifiers.None value name prefix suffix) text captures ↔ IsOnePiece options (part_of kind modifiers.None value name prefix suffix) text captures
+one_by options SegmentWildcard value name prefix suffix text captures h = (
+  λ means.
+      one_piece options (part_of SegmentWildcard modifiers.None value name prefix suffix) text captures
+      (one_copy _ _ _ means.are_copies means.allowed)
+      (subst (λ n. AreCaptures SegmentWildcard (part_of SegmentWildcard modifiers.None value name prefix suffix) n text captures) means.allowed means.are_captures),
+  λ is. record {
+    count = 1;
+    allowed = refl;
+    are_copies = (text, [], sym (append-nil text), (is.0, is.1, is.2), refl);
+    are_captures = (Some is.0, (is.0, is.1, refl), is.3);
+  },
+)
+one_by options FullWildcard value name prefix suffix text captures h = (
+  λ means.
+      one_piece options (part_of FullWildcard modifiers.None value name prefix suffix) text captures
+      (one_copy _ _ _ means.are_copies means.allowed)
+      (subst (λ n. AreCaptures FullWildcard (part_of FullWildcard modifiers.None value name prefix suffix) n text captures) means.allowed means.are_captures),
+  λ is. record {
+    count = 1;
+    allowed = refl;
+    are_copies = (text, [], sym (append-nil text), (is.0, is.1, is.2), refl);
+    are_captures = (Some is.0, (is.0, is.1, refl), is.3);
+  },
+)
+one_by options kind value name prefix suffix text captures h = absurd h
+
+-- ---- a single capture
+
+regrouped : (front prefix piece suffix back : List ℕ) → front ++ prefix ++ piece ++ (suffix ++ back) ≡ front ++ (prefix ++ piece ++ suffix) ++ back
+regrouped front prefix piece suffix back =
+    sym (append_assoc (front ++ prefix ++ piece) suffix back)
+    ∙ ap (λ t. t ++ back) (ap (λ t. t ++ suffix) (append_assoc front prefix piece) ∙ append_assoc front (prefix ++ piece) suffix)
+
+-- a single capture accepts what its wildcard stands for
+matches_single : {E : Type 0} (answer : E → List ℕ → Option Captures) (options : OptionsView) (front back : List ℕ) (part : PartView) (filter : Option ℕ) (allow_empty : Bool) (text : List ℕ) (captures : Captures) →
+    IsTrue (lacks line_feed text) →
+    ((piece : List ℕ) → IsTrue (lacks line_feed piece) → (MayBeEmpty allow_empty piece × PassesFilter options.ignore_case filter piece) ↔ IsWildcardText options part.kind piece) →
+    Matches answer (single_capture options front part back filter allow_empty) text captures ↔ ((inner : List ℕ) × (text ≡ front ++ inner ++ back) × IsOnePiece options part inner captures)
+matches_single answer options front back part filter allow_empty text captures no_feed accepts = (
+  λ (piece, e, (may, passes, is)). (
+    part.prefix ++ piece ++ part.suffix,
+    e ∙ regrouped front part.prefix piece part.suffix back,
+    (piece, refl, (accepts piece (lacks_middle line_feed (front ++ part.prefix) piece (part.suffix ++ back) (rw e at no_feed))).0 (may, passes), is),
+  ),
+  λ (inner, e, (piece, f, is, g)).
+      let whole : text ≡ front ++ part.prefix ++ piece ++ (part.suffix ++ back) = e ∙ ap (λ t. front ++ t ++ back) f ∙ sym (regrouped front part.prefix piece part.suffix back) in
+      let both = (accepts piece (lacks_middle line_feed (front ++ part.prefix) piece (part.suffix ++ back) (rw whole at no_feed))).1 is in
+      (piece, whole, (both.0, both.1, g)),
+)
+
+-- a full wildcard without line feed
+accepts_full : (options : OptionsView) (piece : List ℕ) → IsTrue (lacks line_feed piece) →
+    (MayBeEmpty true piece × PassesFilter options.ignore_case None piece) ↔ IsWildcardText options FullWildcard piece
+accepts_full options piece no_feed = (λ h. no_feed, λ h. (tt, tt))
+
+passes_filter : (filter : Option ℕ) (piece : List ℕ) → IsTrue (lacks line_feed piece) → PassesFilter false filter piece ↔ IsTrue (lacks (unwrap_or filter line_feed) piece)
+passes_filter None piece no_feed = (λ h. no_feed, λ h. tt)
+passes_filter (Some c) piece no_feed = (λ h. h, λ h. h)
+
+-- a segment
+accepts_segment : (options : OptionsView) → options.ignore_case ≡ false → (piece : List ℕ) → IsTrue (lacks line_feed piece) →
+    (MayBeEmpty false piece × PassesFilter options.ignore_case options.delimiter piece) ↔ IsWildcardText options SegmentWildcard piece
+accepts_segment options case piece no_feed = (
+  λ h. (h.0, (passes_filter options.delimiter piece no_feed).0 (subst (λ b. PassesFilter b options.delimiter piece) case h.1)),
+  λ h. (h.0, subst (λ b. PassesFilter b options.delimiter piece) (sym case) ((passes_filter options.delimiter piece no_feed).1 h.1)),
+)
+
+-- ---- matchers that need no engine
+
+abbrev pub IsFast : {E : Type 0} → InnerView E → Type 0
+IsFast (Literal literal) = Unit {0}
+IsFast (SingleCapture filter allow_empty) = Unit {0}
+IsFast (RegExp engine) = ⊥
+
+-- what a matcher accepts is a middle that these parts stand for, between the texts
+abbrev pub AcceptsBetween : {E : Type 0} → (answer : E → List ℕ → Option Captures) → (front back text : List ℕ) → Captures → (List ℕ → Captures → Type 0) → MatcherView E → Type 0
+AcceptsBetween answer front back text captures Mean matcher =
+    IsFast matcher.inner → Matches answer matcher text captures ↔ ((inner : List ℕ) × (text ≡ front ++ inner ++ back) × Mean inner captures)
+
+one_between : {E : Type 0} (answer : E → List ℕ → Option Captures) (IsEngine : List ℕ → Result E ErrorView → Type 0) (options : OptionsView) (front back : List ℕ) (kind : PartType) (modifier : PartModifier) (value name prefix suffix : List ℕ) (matcher : MatcherView E) (text : List ℕ) (captures : Captures) →
+    options.ignore_case ≡ false → IsTrue (lacks line_feed text) → IsMadeOfOne IsEngine kind modifier options front (part_of kind modifier value name prefix suffix) back matcher →
+    AcceptsBetween answer front back text captures (PartMeans options (part_of kind modifier value name prefix suffix)) matcher
+one_between answer IsEngine options front back FullWildcard modifiers.None value name prefix suffix matcher text captures case no_feed made fast =
+    let part = part_of FullWildcard modifiers.None value name prefix suffix in
+    let matches = matches_single answer options front back part None true text captures no_feed (accepts_full options) in (
+      λ h.
+          let found = matches.0 (subst (λ m. Matches answer m text captures) made h) in
+          (found.0, found.1, (one_by options FullWildcard value name prefix suffix found.0 captures tt).1 found.2),
+      λ (inner, e, means).
+          subst (λ m. Matches answer m text captures) (sym made)
+          (matches.1 (inner, e, (one_by options FullWildcard value name prefix suffix inner captures tt).0 means)),
+    )
+one_between answer IsEngine options front back SegmentWildcard modifiers.None value name prefix suffix matcher text captures case no_feed made fast =
+    let part = part_of SegmentWildcard modifiers.None value name prefix suffix in
+    let matches = matches_single answer options front back part options.delimiter false text captures no_feed (accepts_segment options case) in (
+      λ h.
+          let found = matches.0 (subst (λ m. Matches answer m text captures) made h) in
+          (found.0, found.1, (one_by options SegmentWildcard value name prefix suffix found.0 captures tt).1 found.2),
+      λ (inner, e, means).
+          subst (λ m. Matches answer m text captures) (sym made)
+          (matches.1 (inner, e, (one_by options SegmentWildcard value name prefix suffix inner captures tt).0 means)),
+    )
+one_between answer IsEngine options front back kind modifier value name prefix suffix matcher text captures case no_feed made fast =
+    absurd (subst (λ m. IsFast m.inner) made.2 fast)
+
+-- a part by itself, and back
+part_single : (options : OptionsView) (part : PartView) (text : List ℕ) (captures : Captures) → PartMeans options part text captures → PartsMean options (part ∷ []) text captures
+part_single options part text captures means = (text, [], captures, [], sym (append-nil text), sym (append-nil captures), means, (refl, refl))
+
+-- the literal
+matches_literal : {E : Type 0} (answer : E → List ℕ → Option Captures) (front back text : List ℕ) (captures : Captures) →
+    Matches answer (record { prefix = []; suffix = []; inner = Literal (front ++ back); ignore_case = false }) text captures ↔ ((inner : List ℕ) × (text ≡ front ++ inner ++ back) × (inner ≡ []) × (captures ≡ []))
+matches_literal answer front back text captures = (
+  λ (middle, e, (f, g)). ([], e ∙ append-nil middle ∙ f ∙ ap (λ t. t ++ back) (sym (append-nil front)), refl, g),
+  λ (inner, e, f, g). (text, sym (append-nil text), (e ∙ ap (λ t. front ++ t ++ back) f ∙ ap (λ t. t ++ back) (append-nil front), g)),
+)
+
+between : {E : Type 0} (answer : E → List ℕ → Option Captures) (IsEngine : List ℕ → Result E ErrorView → Type 0) (options : OptionsView) (front : List ℕ) (middle : List PartView) (back : List ℕ) (matcher : MatcherView E) (text : List ℕ) (captures : Captures) →
+    options.ignore_case ≡ false → IsTrue (lacks line_feed text) → IsMadeBetween IsEngine options front middle back matcher →
+    AcceptsBetween answer front back text captures (PartsMean options middle) matcher
+between answer IsEngine options front [] back matcher text captures case no_feed made fast =
+    let literal = matches_literal answer front back text captures in
+    let is : matcher ≡ record { prefix = []; suffix = []; inner = Literal (front ++ back); ignore_case = false } =
+    made ∙ ap (λ b. record { prefix = []; suffix = []; inner = Literal (front ++ back); ignore_case = b }) case in (
+      λ h. let found = literal.0 (subst (λ m. Matches answer m text captures) is h) in (found.0, found.1, (found.2, found.3)),
+      λ (inner, e, means). subst (λ m. Matches answer m text captures) (sym is) (literal.1 (inner, e, means.0, means.1)),
+    )
+between answer IsEngine options front (part ∷ []) back matcher text captures case no_feed made fast =
+    let one = one_between answer IsEngine options front back part.kind part.modifier part.value part.name part.prefix part.suffix matcher text captures case no_feed made fast in (
+      λ h. let found = one.0 h in (found.0, found.1, part_single options part found.0 captures found.2),
+      λ (inner, e, means). one.1 (inner, e, part_alone means),
+    )
+between answer IsEngine options front (part ∷ next ∷ parts) back matcher text captures case no_feed made fast =
+    absurd (subst (λ m. IsFast m.inner) made.2 fast)
+
+-- a matcher that needs no engine accepts what its parts stand for, and captures the same, in texts without line feed
+-- where case is kept
+pub fast_means : {E : Type 0} (answer : E → List ℕ → Option Captures) (IsMade : E → (regexp flags : List ℕ) → Type 0) (MayRefuse : (regexp flags : List ℕ) → Type 0) (options : OptionsView) (flags : List ℕ) (parts : List PartView) (matcher : MatcherView E) (text : List ℕ) (captures : Captures) →
+    IsMadeOf IsMade MayRefuse options flags parts matcher → options.ignore_case ≡ false → IsTrue (lacks line_feed text) → IsFast matcher.inner →
+    Matches answer matcher text captures ↔ PartsMean options parts text captures
+fast_means answer IsMade MayRefuse options flags parts matcher text captures made case no_feed fast =
+    let peeled = peeled_means options parts made.front made.middle made.back text captures made.are_peeled in
+    let accepted = between answer (IsEngineOf IsMade MayRefuse flags) options (end_text made.front) made.middle (end_text made.back) matcher text captures case no_feed made.is_made fast in
+    (λ h. peeled.1 (accepted.0 h), λ means. accepted.1 (peeled.0 means))

@@ -1,0 +1,50 @@
+-- Words in which the laws of the definitions are told. No other contract cites them.
+use Rattle.std.specs.Prelude.{◌≡◌, ℕ, suc, ◌+◌, List, [], ◌∷◌, ◌++◌, codes, Contains, Result, IsTrue, decimal, filter}
+use Rattle.std.specs.Char.{is_ascii_digit}
+use Rattle.std.specs.List.{list_all}
+use Rattle.urlpattern_syntax.specs.declared.tokenizer.TokenType.{TokenType}
+use Rattle.urlpattern_syntax.specs.declared.tokenizer.TokenType.TheVariants.{Regexp, Name, EscapedChar, End}
+use Rattle.urlpattern_syntax.specs.Errors.{ErrorView}
+use Rattle.urlpattern_syntax.specs.Reading.{Encoding}
+use Rattle.urlpattern_syntax.specs.Text.{begins_with, byte_len}
+use Rattle.urlpattern_syntax.specs.Tokens.{TokenView, is_ignored}
+
+-- ---- where tokens stand
+
+-- the characters that make a token of this kind and value; End has none
+abbrev pub spelling : TokenType → List ℕ → List ℕ
+spelling EscapedChar value = codes "\\" ++ value
+spelling Name value = codes ":" ++ value
+spelling Regexp value = codes "(" ++ value ++ codes ")"
+spelling End value = []
+spelling kind value = value
+
+-- The text, which begins at this byte, is the spellings of these tokens in order, each at its token's index, and nothing
+-- but skipped characters stands before each of them.
+abbrev pub Lays : (place : ℕ) → List TokenView → (text : List ℕ) → Type 0
+Lays place [] text = text ≡ []
+Lays place (token ∷ tokens) text =
+    (skipped rest : List ℕ) × (text ≡ skipped ++ spelling token.kind token.value ++ rest) × IsTrue (list_all is_ignored skipped)
+    × (token.index ≡ place + byte_len skipped)
+    × Lays (token.index + byte_len (spelling token.kind token.value)) tokens rest
+
+-- ---- encodings
+
+-- the encoding that such a list of texts with their answers is
+abbrev pub listed : List (List ℕ × Result (List ℕ) ErrorView) → Encoding
+listed answers text answer = Contains answers (text, answer)
+
+-- the encoding has one answer at most to each text
+abbrev pub AnswersOnce : Encoding → Type 0
+AnswersOnce encoding = (text : List ℕ) (answer other : Result (List ℕ) ErrorView) → encoding text answer → encoding text other → answer ≡ other
+
+-- ---- names
+
+-- the names that begin with a digit
+abbrev pub numbers_among : List (List ℕ) → List (List ℕ)
+numbers_among names = filter (λ name. begins_with is_ascii_digit name) names
+
+-- the names are this number, the next, and so on
+abbrev pub CountFrom : ℕ → List (List ℕ) → Type 0
+CountFrom number [] = Unit {0}
+CountFrom number (name ∷ names) = (name ≡ decimal number) × CountFrom (suc number) names

@@ -1,0 +1,5 @@
+pub mod Dialect
+pub mod Laws
+pub mod Matching
+pub mod PartMeaning
+pub mod Printing

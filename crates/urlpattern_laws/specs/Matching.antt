@@ -1,0 +1,139 @@
+-- Which matcher is made of a list of parts, and what a matcher answers to a text.
+use Rattle.std.specs.Prelude.{◌≡◌, ◌≢◌, ℕ, Bool, true, false, List, [], ◌∷◌, ◌++◌, map, Option, Some, None, Result, Ok, Err, IsTrue, if◌then◌else◌, option_to_list}
+use Rattle.std.specs.Char.{to_ascii_lowercase}
+use Rattle.urlpattern_syntax.specs.declared.parser.PartModifier.{PartModifier}
+use Rattle.urlpattern_syntax.specs.declared.parser.PartModifier.TheVariants as modifiers
+use Rattle.urlpattern_syntax.specs.declared.parser.PartType.{PartType}
+use Rattle.urlpattern_syntax.specs.declared.parser.PartType.TheVariants.{SegmentWildcard, FullWildcard}
+use Rattle.urlpattern_syntax.specs.Errors.{ErrorView}
+use Rattle.urlpattern_syntax.specs.Errors.{ErrorView as views}
+use Rattle.urlpattern_syntax.specs.Options.{OptionsView}
+use Rattle.urlpattern_laws.specs.PartMeaning.{Captures}
+use Rattle.urlpattern_syntax.specs.Parts.{PartView}
+use Rattle.urlpattern_syntax.specs.RegexpText.{is_plain, regexp_text}
+use Rattle.urlpattern_syntax.specs.Text.{lacks}
+
+-- What stands between prefix and suffix: a text; one capture, with a character that may not be in it; or a value of an
+-- engine, with the error where it was refused.
+pub data InnerView (E : Type 0) : Type 0 where
+  Literal : List ℕ → InnerView E
+  SingleCapture : (filter : Option ℕ) → (allow_empty : Bool) → InnerView E
+  RegExp : Result E ErrorView → InnerView E
+
+-- A `Matcher`, with its texts.
+pub record MatcherView (E : Type 0) : Type 0 where
+  pub prefix : List ℕ
+  pub suffix : List ℕ
+  pub inner : InnerView E
+  pub ignore_case : Bool
+
+-- ---- making
+
+abbrev pub BeginsPlain : List PartView → Type 0
+BeginsPlain [] = ⊥
+BeginsPlain (part ∷ parts) = IsTrue (is_plain part)
+
+abbrev pub EndsPlain : List PartView → Type 0
+EndsPlain [] = ⊥
+EndsPlain (part ∷ []) = IsTrue (is_plain part)
+EndsPlain (part ∷ next ∷ parts) = EndsPlain (next ∷ parts)
+
+-- a plain fixed text that goes off, or none where no such part is there
+abbrev pub GoesOff : Option PartView → (IsThere : Type 0) → Type 0
+GoesOff (Some part) IsThere = IsTrue (is_plain part)
+GoesOff None IsThere = ¬ IsThere
+
+-- the text of a part that goes off
+abbrev pub end_text : Option PartView → List ℕ
+end_text (Some part) = part.value
+end_text None = []
+
+-- A plain fixed text at the front goes off the parts, and one at the end of what remains.
+pub record ArePeeled (parts : List PartView) (front : Option PartView) (middle : List PartView) (back : Option PartView) : Type 0 where
+  pub cut : parts ≡ option_to_list front ++ middle ++ option_to_list back
+  pub front_goes : GoesOff front (BeginsPlain parts)
+  pub back_goes : GoesOff back (EndsPlain middle)
+
+-- a value that an engine makes of the regular expression, or the error where it may refuse that
+abbrev pub IsEngineOf : {E : Type 0} → (IsMade : E → (regexp flags : List ℕ) → Type 0) → (MayRefuse : (regexp flags : List ℕ) → Type 0) → (flags regexp : List ℕ) → Result E ErrorView → Type 0
+IsEngineOf IsMade MayRefuse flags regexp (Ok engine) = IsMade engine regexp flags
+IsEngineOf IsMade MayRefuse flags regexp (Err error) = (error ≡ views.RegExp) × MayRefuse regexp flags
+
+-- parts are left to an engine, by their regular expression
+abbrev pub IsMadeByEngine : {E : Type 0} → (IsEngine : (regexp : List ℕ) → Result E ErrorView → Type 0) → OptionsView → (prefix : List ℕ) → List PartView → (suffix : List ℕ) → MatcherView E → Type 0
+IsMadeByEngine {E} IsEngine options prefix middle suffix matcher =
+    (engine : Result E ErrorView) × IsEngine (regexp_text options middle) engine
+    × (matcher ≡ record { prefix = prefix; suffix = suffix; inner = RegExp engine; ignore_case = options.ignore_case })
+
+-- one capture, between prefix and suffix and those of the part
+abbrev pub single_capture : {E : Type 0} → OptionsView → (prefix : List ℕ) → PartView → (suffix : List ℕ) → (filter : Option ℕ) → (allow_empty : Bool) → MatcherView E
+single_capture options prefix part suffix filter allow_empty = record {
+  prefix = prefix ++ part.prefix;
+  suffix = part.suffix ++ suffix;
+  inner = SingleCapture filter allow_empty;
+  ignore_case = options.ignore_case;
+}
+
+-- one part is left: a wildcard without modifier is a single capture
+abbrev pub IsMadeOfOne : {E : Type 0} → (IsEngine : (regexp : List ℕ) → Result E ErrorView → Type 0) → PartType → PartModifier → OptionsView → (prefix : List ℕ) → PartView → (suffix : List ℕ) → MatcherView E → Type 0
+IsMadeOfOne IsEngine FullWildcard modifiers.None options prefix part suffix matcher =
+    matcher ≡ single_capture options prefix part suffix None true
+IsMadeOfOne IsEngine SegmentWildcard modifiers.None options prefix part suffix matcher =
+    matcher ≡ single_capture options prefix part suffix options.delimiter false
+IsMadeOfOne IsEngine kind modifier options prefix part suffix matcher =
+    IsMadeByEngine IsEngine options prefix (part ∷ []) suffix matcher
+
+-- these parts are left between the texts that went off
+abbrev pub IsMadeBetween : {E : Type 0} → (IsEngine : (regexp : List ℕ) → Result E ErrorView → Type 0) → OptionsView → (prefix : List ℕ) → List PartView → (suffix : List ℕ) → MatcherView E → Type 0
+IsMadeBetween IsEngine options prefix [] suffix matcher =
+    matcher ≡ record { prefix = []; suffix = []; inner = Literal (prefix ++ suffix); ignore_case = options.ignore_case }
+IsMadeBetween IsEngine options prefix (part ∷ []) suffix matcher =
+    IsMadeOfOne IsEngine part.kind part.modifier options prefix part suffix matcher
+IsMadeBetween IsEngine options prefix (part ∷ next ∷ parts) suffix matcher =
+    IsMadeByEngine IsEngine options prefix (part ∷ next ∷ parts) suffix matcher
+
+-- The matcher is made of the parts, where engines' values are made, and regular expressions refused, in this way.
+pub record IsMadeOf {E : Type 0} (IsMade : E → (regexp flags : List ℕ) → Type 0) (MayRefuse : (regexp flags : List ℕ) → Type 0) (options : OptionsView) (flags : List ℕ) (parts : List PartView) (matcher : MatcherView E) : Type 0 where
+  pub front : Option PartView
+  pub middle : List PartView
+  pub back : Option PartView
+  pub are_peeled : ArePeeled parts front middle back
+  pub is_made : IsMadeBetween (IsEngineOf IsMade MayRefuse flags) options (end_text front) middle (end_text back) matcher
+
+-- ---- answering
+
+-- a text as it is compared
+abbrev pub folded : (ignore_case : Bool) → List ℕ → List ℕ
+folded ignore_case text = if ignore_case then map to_ascii_lowercase text else text
+
+abbrev pub folded_character : (ignore_case : Bool) → ℕ → ℕ
+folded_character ignore_case c = if ignore_case then to_ascii_lowercase c else c
+
+-- the text does not have the filter's character
+abbrev pub PassesFilter : (ignore_case : Bool) → Option ℕ → List ℕ → Type 0
+PassesFilter ignore_case None text = Unit {0}
+PassesFilter ignore_case (Some c) text = IsTrue (lacks (folded_character ignore_case c) (folded ignore_case text))
+
+-- a text may be empty only where that is allowed
+abbrev pub MayBeEmpty : (allow_empty : Bool) → List ℕ → Type 0
+MayBeEmpty true text = Unit {0}
+MayBeEmpty false text = text ≢ []
+
+-- the text between prefix and suffix is accepted, with these captures
+abbrev pub Accepts : {E : Type 0} → (answer : E → List ℕ → Option Captures) → (ignore_case : Bool) → InnerView E → List ℕ → Captures → Type 0
+Accepts answer ignore_case (Literal literal) text captures = (folded ignore_case text ≡ folded ignore_case literal) × (captures ≡ [])
+Accepts answer ignore_case (SingleCapture filter allow_empty) text captures =
+    MayBeEmpty allow_empty text × PassesFilter ignore_case filter text × (captures ≡ Some text ∷ [])
+Accepts answer ignore_case (RegExp (Ok engine)) text captures = answer engine text ≡ Some captures
+Accepts answer ignore_case (RegExp (Err error)) text captures = ⊥
+
+-- the text is prefix, a middle that is accepted, and suffix, without overlap
+abbrev pub Matches : {E : Type 0} → (answer : E → List ℕ → Option Captures) → MatcherView E → List ℕ → Captures → Type 0
+Matches answer matcher text captures =
+    (middle : List ℕ) × (text ≡ matcher.prefix ++ middle ++ matcher.suffix)
+    × Accepts answer matcher.ignore_case matcher.inner middle captures
+
+-- what a matcher answers to a text, where engines' values answer in this way: captures, or None where there are none
+abbrev pub Answers : {E : Type 0} → (answer : E → List ℕ → Option Captures) → MatcherView E → List ℕ → Option Captures → Type 0
+Answers answer matcher text (Some captures) = Matches answer matcher text captures
+Answers answer matcher text None = (captures : Captures) → ¬ Matches answer matcher text captures

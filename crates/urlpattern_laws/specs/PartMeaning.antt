@@ -1,0 +1,75 @@
+-- What parts mean: the texts that they stand for, with what their groups capture. Custom regular expressions have no
+-- meaning here.
+use Rattle.std.specs.Prelude.{◌≡◌, ◌≢◌, ℕ, zero, suc, ◌≤◌, Bool, true, ◌&&◌, List, [], ◌∷◌, ◌++◌, Option, Some, None, IsTrue, unwrap_or}
+use Rattle.urlpattern_syntax.specs.declared.parser.PartModifier.{PartModifier}
+use Rattle.urlpattern_syntax.specs.declared.parser.PartModifier.TheVariants as modifiers
+use Rattle.urlpattern_syntax.specs.declared.parser.PartType.{PartType}
+use Rattle.urlpattern_syntax.specs.declared.parser.PartType.TheVariants.{FixedText, Regexp, SegmentWildcard, FullWildcard}
+use Rattle.urlpattern_syntax.specs.Options.{OptionsView}
+use Rattle.urlpattern_syntax.specs.Parts.{PartView}
+use Rattle.urlpattern_syntax.specs.RegexpText.{is_empty}
+use Rattle.urlpattern_syntax.specs.Text.{lacks, line_feed, IsRepeated}
+
+-- What groups capture, in order: a text, or None where a group takes no part.
+abbrev pub Captures : Type 0
+Captures = List (Option (List ℕ))
+
+-- ---- copies of a part
+
+-- a wildcard may stand for the text: a segment is not empty and has no delimiter, or else no line feed; a full wildcard
+-- is any text without line feed
+abbrev pub IsWildcardText : OptionsView → PartType → List ℕ → Type 0
+IsWildcardText options SegmentWildcard text = (text ≢ []) × IsTrue (lacks (unwrap_or options.delimiter line_feed) text)
+IsWildcardText options FullWildcard text = IsTrue (lacks line_feed text)
+-- no other kind is a wildcard
+IsWildcardText options kind text = ⊥
+
+-- a copy of a part of this kind: a fixed text, or a wildcard's text between prefix and suffix
+abbrev pub IsCopyOf : OptionsView → PartType → PartView → List ℕ → Type 0
+IsCopyOf options FixedText part text = text ≡ part.value
+IsCopyOf options kind part text = (piece : List ℕ) × (text ≡ part.prefix ++ piece ++ part.suffix) × IsWildcardText options kind piece
+
+-- n copies of the part, end to end
+abbrev pub AreCopies : OptionsView → PartView → ℕ → List ℕ → Type 0
+AreCopies options part n text = IsRepeated (IsCopyOf options part.kind part) n text
+
+-- ---- one part
+
+-- the modifier allows so many copies
+abbrev pub Allows : PartModifier → ℕ → Type 0
+Allows modifiers.None n = n ≡ 1
+Allows modifiers.Optional n = n ≤ 1
+Allows modifiers.ZeroOrMore n = Unit {0}
+Allows modifiers.OneOrMore n = 1 ≤ n
+
+-- the capture of no copies, by whether the part has neither prefix nor suffix
+abbrev pub capture_of_none : PartModifier → (is_bare : Bool) → Option (List ℕ)
+capture_of_none modifiers.ZeroOrMore true = Some []
+capture_of_none modifier is_bare = None
+
+-- the capture of n copies with this text: all but the first prefix and the last suffix
+abbrev pub IsCapture : PartView → ℕ → List ℕ → Option (List ℕ) → Type 0
+IsCapture part zero text capture = capture ≡ capture_of_none part.modifier (is_empty part.prefix && is_empty part.suffix)
+IsCapture part (suc n) text capture = (inner : List ℕ) × (text ≡ part.prefix ++ inner ++ part.suffix) × (capture ≡ Some inner)
+
+-- what n copies of a part of this kind capture: nothing for a fixed text, and one text for a wildcard
+abbrev pub AreCaptures : PartType → PartView → ℕ → List ℕ → Captures → Type 0
+AreCaptures FixedText part n text captures = captures ≡ []
+AreCaptures Regexp part n text captures = ⊥
+AreCaptures kind part n text captures = (capture : Option (List ℕ)) × IsCapture part n text capture × (captures ≡ capture ∷ [])
+
+-- The part stands for the text, and captures this.
+pub record PartMeans (options : OptionsView) (part : PartView) (text : List ℕ) (captures : Captures) : Type 0 where
+  pub count : ℕ
+  pub allowed : Allows part.modifier count
+  pub are_copies : AreCopies options part count text
+  pub are_captures : AreCaptures part.kind part count text captures
+
+-- ---- a list of parts
+
+-- the parts stand for the text, one stretch each, and capture this
+abbrev pub PartsMean : OptionsView → List PartView → List ℕ → Captures → Type 0
+PartsMean options [] text captures = (text ≡ []) × (captures ≡ [])
+PartsMean options (part ∷ parts) text captures =
+    (first rest : List ℕ) × (own others : Captures) × (text ≡ first ++ rest) × (captures ≡ own ++ others)
+    × PartMeans options part first own × PartsMean options parts rest others

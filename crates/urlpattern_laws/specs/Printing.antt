@@ -1,0 +1,165 @@
+-- The pattern text of a list of parts, after the URLPattern Standard, section "Converting part lists to pattern
+-- strings". It is close to the standard's steps, so what it is worth shows when the text is read again.
+use Rattle.std.specs.Prelude.{◌≡◌, ◌≢◌, ℕ, Bool, true, false, not, ◌&&◌, ◌||◌, List, [], ◌∷◌, ◌++◌, bytes_eq, codes, Option, Some, None, Result, Ok, IsTrue, if◌then◌else◌, ◌↔◌}
+use Rattle.std.specs.Char.{is_ascii_digit}
+use Rattle.std.specs.List.{flat_map}
+use Rattle.urlpattern_syntax.specs.declared.parser.PartType.{PartType}
+use Rattle.urlpattern_syntax.specs.declared.parser.PartType.TheVariants.{FixedText, Regexp, SegmentWildcard, FullWildcard}
+use Rattle.urlpattern_syntax.specs.Errors.{ErrorView}
+use Rattle.urlpattern_syntax.specs.Options.{OptionsView}
+use Rattle.urlpattern_syntax.specs.Parts.{PartView}
+use Rattle.urlpattern_syntax.specs.Reading.{Encoding}
+use Rattle.urlpattern_syntax.specs.RegexpText.{captured, escaped, full_wildcard, is_empty, is_fixed_text, is_plain, is_unmodified, modifier_text, segment_wildcard}
+use Rattle.urlpattern_syntax.specs.Text.{begins_with, is_name_part}
+
+-- the characters that mean more than themselves in a pattern
+abbrev pub pattern_marks : List ℕ
+pattern_marks = codes "+*?:{}()\\"
+
+-- a backslash before each of these
+abbrev pub escaped_pattern : List ℕ → List ℕ
+escaped_pattern text = escaped pattern_marks text
+
+-- ---- tests of parts
+
+-- a name from the pattern, and no number
+abbrev pub has_custom_name : PartView → Bool
+has_custom_name part = not (begins_with is_ascii_digit part.name)
+
+abbrev pub is_segment : PartType → Bool
+is_segment SegmentWildcard = true
+is_segment kind = false
+
+-- a name alone: the segment of a name that the pattern gives
+abbrev pub is_name_alone : PartView → Bool
+is_name_alone part = is_segment part.kind && has_custom_name part
+
+-- the last character, as a text
+abbrev pub last_of : List ℕ → List ℕ
+last_of [] = []
+last_of (c ∷ []) = c ∷ []
+last_of (c ∷ d ∷ text) = last_of (d ∷ text)
+
+abbrev pub first_part : List PartView → Option PartView
+first_part [] = None
+first_part (part ∷ parts) = Some part
+
+-- ---- when a part stands between braces
+
+-- it has a suffix
+abbrev pub has_suffix : PartView → Bool
+has_suffix part = not (is_empty part.suffix)
+
+-- it has a prefix that is not the prefix code point
+abbrev pub has_other_prefix : OptionsView → PartView → Bool
+has_other_prefix options part = not (is_empty part.prefix) && not (bytes_eq part.prefix options.prefix)
+
+-- what a part begins with when it is printed without braces would be taken by a name before it: a name character, or a
+-- bracket
+abbrev pub goes_on : PartView → Bool
+goes_on next =
+    is_empty next.prefix && is_empty next.suffix
+    && (if is_fixed_text next.kind then begins_with is_name_part next.value else not (has_custom_name next))
+
+-- it is a name alone, and would take what the next part begins with
+abbrev pub takes_next : PartView → Option PartView → Bool
+takes_next part None = false
+takes_next part (Some next) = is_name_alone part && is_unmodified part.modifier && goes_on next
+
+-- it has no prefix, and would take the last character of the fixed text before it as one
+abbrev pub takes_before : OptionsView → Option PartView → PartView → Bool
+takes_before options None part = false
+takes_before options (Some before) part =
+    is_empty part.prefix && is_fixed_text before.kind && not (is_empty before.value) && bytes_eq (last_of before.value) options.prefix
+
+abbrev pub needs_braces : OptionsView → (before : Option PartView) → PartView → (next : Option PartView) → Bool
+needs_braces options before part next =
+    has_suffix part || has_other_prefix options part || takes_next part next || takes_before options before part
+
+-- ---- the text of a part
+
+-- an asterisk behind this part is not its modifier
+abbrev pub admits_asterisk : Option PartView → Bool
+admits_asterisk None = true
+admits_asterisk (Some before) = is_fixed_text before.kind || not (is_unmodified before.modifier)
+
+-- a full wildcard may be printed as an asterisk
+abbrev pub is_asterisk : (before : Option PartView) → PartView → (braces : Bool) → Bool
+is_asterisk before part braces = not (has_custom_name part) && (admits_asterisk before || braces || not (is_empty part.prefix))
+
+-- what a part of this kind matches, behind its name
+abbrev pub printed_match : OptionsView → PartType → PartView → (asterisk : Bool) → List ℕ
+printed_match options FixedText part asterisk = []
+printed_match options Regexp part asterisk = captured part.value
+printed_match options SegmentWildcard part asterisk = if has_custom_name part then [] else captured (segment_wildcard options)
+printed_match options FullWildcard part asterisk = if asterisk then codes "*" else captured full_wildcard
+
+abbrev pub printed_name : PartView → List ℕ
+printed_name part = if has_custom_name part then codes ":" ++ part.name else []
+
+-- a backslash keeps the suffix from the name before it
+abbrev pub printed_suffix : PartView → List ℕ
+printed_suffix part =
+    (if is_name_alone part && begins_with is_name_part part.suffix then codes "\\" else []) ++ escaped_pattern part.suffix
+
+-- between braces or not
+abbrev pub in_braces : Bool → List ℕ → List ℕ
+in_braces braces text = if braces then codes "{" ++ text ++ codes "}" else text
+
+abbrev pub printed_group : OptionsView → (before : Option PartView) → PartView → (braces : Bool) → List ℕ
+printed_group options before part braces =
+    in_braces braces (
+    escaped_pattern part.prefix ++ printed_name part
+    ++ printed_match options part.kind part (is_asterisk before part braces) ++ printed_suffix part)
+    ++ modifier_text part.modifier
+
+-- a fixed text stands between braces where it has a modifier
+abbrev pub printed_fixed : PartView → List ℕ
+printed_fixed part = in_braces (not (is_unmodified part.modifier)) (escaped_pattern part.value) ++ modifier_text part.modifier
+
+-- a part between its neighbours
+unfoldable pub printed_part : OptionsView → (before : Option PartView) → PartView → (next : Option PartView) → List ℕ
+printed_part options before part next =
+    if is_fixed_text part.kind then printed_fixed part
+    else printed_group options before part (needs_braces options before part next)
+
+-- the parts, where this one stands before them
+abbrev pub printed_after : OptionsView → (before : Option PartView) → List PartView → List ℕ
+printed_after options before [] = []
+printed_after options before (part ∷ parts) = printed_part options before part (first_part parts) ++ printed_after options (Some part) parts
+
+-- the pattern text of a list of parts
+abbrev pub printed : OptionsView → List PartView → List ℕ
+printed options parts = printed_after options None parts
+
+-- ---- what the printed text is read as
+
+-- a part before others; it and the next are one if both are plain fixed texts
+abbrev pub joined_with : PartView → List PartView → List PartView
+joined_with part [] = part ∷ []
+joined_with part (next ∷ parts) =
+    if is_plain part && is_plain next then record part { value = part.value ++ next.value } ∷ parts else part ∷ next ∷ parts
+
+-- neighbouring plain fixed texts made one
+abbrev pub joined : List PartView → List PartView
+joined [] = []
+joined (part ∷ parts) = joined_with part (joined parts)
+
+-- no fixed text is empty
+abbrev pub HaveTexts : List PartView → Type 0
+HaveTexts [] = Unit {0}
+HaveTexts (part ∷ parts) = (IsTrue (is_fixed_text part.kind) → part.value ≢ []) × HaveTexts parts
+
+-- the texts of parts that an encoding is asked for
+abbrev pub encoded_texts : List PartView → List (List ℕ)
+encoded_texts parts = flat_map (λ part. if is_fixed_text part.kind then part.value ∷ [] else part.prefix ∷ part.suffix ∷ []) parts
+
+-- the encoding answers each text by itself and by nothing else
+abbrev pub KeepsTexts : Encoding → List (List ℕ) → Type 0
+KeepsTexts encoding [] = Unit {0}
+KeepsTexts encoding (text ∷ texts) =
+    ((answer : Result (List ℕ) ErrorView) → encoding text answer ↔ (answer ≡ Ok text)) × KeepsTexts encoding texts
+
+-- the encoding keeps the texts of the joined parts, and the empty text
+abbrev pub Keeps : Encoding → List PartView → Type 0
+Keeps encoding parts = KeepsTexts encoding ([] ∷ encoded_texts (joined parts))

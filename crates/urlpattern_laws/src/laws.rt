@@ -1,0 +1,103 @@
+//! Laws of the definitions by which the contracts of this crate are written.
+//!
+//! Each function here does nothing; what it promises is a theorem.
+
+ghost use Rattle.std.specs.Prelude.{◌≡◌, ◌≢◌, ◌↔◌, ◌⊎◌, ℕ, suc, ◌<◌, ◌&&◌, List, [], ◌∷◌, ◌++◌, All, AllPairs, Option, Some, Result};
+ghost use Rattle.std.specs.Char.{is_ascii_digit};
+ghost use Rattle.urlpattern_syntax.specs.declared.tokenizer.TokenType.TheVariants.{End, Name};
+ghost use Rattle.urlpattern_syntax.specs.Errors.{ErrorView};
+ghost use Rattle.urlpattern_laws.specs.Laws.{AnswersOnce, CountFrom, Lays, listed, numbers_among, spelling};
+ghost use Rattle.urlpattern_laws.specs.Matching.{ArePeeled, end_text};
+ghost use Rattle.urlpattern_syntax.specs.Options.{OptionsView};
+ghost use Rattle.urlpattern_laws.specs.PartMeaning.{Allows, AreCopies, Captures, PartMeans, PartsMean, capture_of_none};
+ghost use Rattle.urlpattern_syntax.specs.Parts.{PartView};
+ghost use Rattle.urlpattern_syntax.specs.Pieces.{ArePieces, Ending, Piece};
+ghost use Rattle.urlpattern_laws.specs.Printing.{HaveTexts, joined, printed};
+ghost use Rattle.urlpattern_syntax.specs.Reading.{Reads, Refuses};
+ghost use Rattle.urlpattern_syntax.specs.RegexpText.{IsWildcard, group_names, is_empty};
+ghost use Rattle.urlpattern_syntax.specs.Text.{byte_len, BeginsWith};
+ghost use Rattle.urlpattern_syntax.specs.Tokens.{AreLenientTokens, AreTokens, FaultView, IsFault, TokenView, end_of};
+
+/// Parts of which plain fixed texts went off at the ends stand for the first of these texts, a middle that the other
+/// parts stand for, and the second, and for nothing else.
+pub fn plain_ends_go_off()
+    ensures { (options : OptionsView) (parts : List PartView) (front : Option PartView) (middle : List PartView) (back : Option PartView) (text : List ℕ) (captures : Captures) →
+        ArePeeled parts front middle back →
+        PartsMean options parts text captures ↔ ((inner : List ℕ) × (text ≡ end_text front ++ inner ++ end_text back) × PartsMean options middle inner captures) }
+{}
+
+/// Neighbouring plain fixed texts mean the same as one.
+pub fn joining_keeps_meaning()
+    ensures { (options : OptionsView) (parts : List PartView) (text : List ℕ) (captures : Captures) → PartsMean options (joined parts) text captures ↔ PartsMean options parts text captures }
+{}
+
+/// Neighbouring plain fixed texts print as one, where no fixed text is empty.
+pub fn joining_keeps_printed_text()
+    ensures { (options : OptionsView) (parts : List PartView) → HaveTexts parts → printed options (joined parts) ≡ printed options parts }
+{}
+
+/// Copies of a wildcard are captured as one text, which is all of them but the first prefix and the last suffix. No
+/// copies are captured by None, or by the empty text where "zero or more" has neither prefix nor suffix. There is no
+/// other capture.
+pub fn copies_are_one_capture()
+    ensures copies { (options : OptionsView) (part : PartView) (n : ℕ) (text : List ℕ) → IsWildcard part.kind → Allows part.modifier (suc n) → AreCopies options part (suc n) text →
+        (inner : List ℕ) × (text ≡ part.prefix ++ inner ++ part.suffix) × PartMeans options part text (Some inner ∷ []) }
+    ensures none { (options : OptionsView) (part : PartView) → IsWildcard part.kind → Allows part.modifier 0 →
+        PartMeans options part [] (capture_of_none part.modifier (is_empty part.prefix && is_empty part.suffix) ∷ []) }
+    ensures only { (options : OptionsView) (part : PartView) (text : List ℕ) (captures : Captures) → IsWildcard part.kind → PartMeans options part text captures →
+        ((text ≡ []) × (captures ≡ capture_of_none part.modifier (is_empty part.prefix && is_empty part.suffix) ∷ []))
+        ⊎ ((inner : List ℕ) × (text ≡ part.prefix ++ inner ++ part.suffix) × (captures ≡ Some inner ∷ [])) }
+{}
+
+/// A text has one list of strict tokens or one first fault, and never both. Its lenient tokens are one list.
+pub fn tokens_are_one()
+    ensures tokens { (text : List ℕ) (tokens others : List TokenView) → AreTokens text tokens → AreTokens text others → tokens ≡ others }
+    ensures faults { (text : List ℕ) (fault other : FaultView) (place another : ℕ) → IsFault text fault place → IsFault text other another → (fault ≡ other) × (place ≡ another) }
+    ensures not_both { (text : List ℕ) (tokens : List TokenView) (fault : FaultView) (place : ℕ) → AreTokens text tokens → ¬ IsFault text fault place }
+    ensures lenient { (text : List ℕ) (tokens others : List TokenView) → AreLenientTokens text tokens → AreLenientTokens text others → tokens ≡ others }
+{}
+
+/// Nothing of a text is lost in its tokens but what is skipped between them and the marks of an escape, a name and a
+/// regular expression. Each token begins where its index says, behind the token before it, and its value stands there in
+/// the text. End is the last token, and no other.
+pub fn tokens_lose_nothing()
+    ensures lay { (text : List ℕ) (tokens : List TokenView) → AreTokens text tokens → Lays 0 tokens text }
+    ensures rise { (text : List ℕ) (tokens front between back : List TokenView) (token later : TokenView) → AreTokens text tokens → tokens ≡ front ++ token ∷ (between ++ later ∷ back) → token.index < later.index }
+    ensures stand { (text : List ℕ) (tokens front back : List TokenView) (token : TokenView) → AreTokens text tokens → tokens ≡ front ++ token ∷ back →
+        (before behind : List ℕ) × (text ≡ before ++ spelling token.kind token.value ++ behind) × (token.index ≡ byte_len before) }
+    ensures slice { (text : List ℕ) (tokens front back : List TokenView) (token : TokenView) → AreTokens text tokens → tokens ≡ front ++ token ∷ back →
+        (before behind : List ℕ) × (text ≡ before ++ token.value ++ behind) }
+    ensures ends { (text : List ℕ) (tokens front : List TokenView) (token : TokenView) → AreTokens text tokens → tokens ≡ front ++ token ∷ [] → token ≡ end_of text }
+    ensures only_end { (text : List ℕ) (tokens front back : List TokenView) (token : TokenView) → AreTokens text tokens → tokens ≡ front ++ token ∷ back → token.kind ≡ End → back ≡ [] }
+{}
+
+/// The tokens of a text have one list of pieces with the tokens that are left.
+pub fn pieces_are_one()
+    ensures one { (point : List ℕ) (tokens : List TokenView) (pieces others : List Piece) (ending other : Ending) →
+        ArePieces point tokens pieces ending → ArePieces point tokens others other → (pieces ≡ others) × (ending ≡ other) }
+    ensures exist { (point text : List ℕ) (tokens : List TokenView) → AreTokens text tokens → (pieces : List Piece) × (ending : Ending) × ArePieces point tokens pieces ending }
+{}
+
+/// A text has one outcome, which is a reading or a refusal, wherever the encoding has one answer at most to each text.
+/// The encoding is any list of texts with their answers.
+pub fn readings_are_one()
+    ensures readings { (text : List ℕ) (options : OptionsView) (answers : List (List ℕ × Result (List ℕ) ErrorView)) (parts others : List PartView) → AnswersOnce (listed answers) →
+        Reads text options (listed answers) parts → Reads text options (listed answers) others → parts ≡ others }
+    ensures refusals { (text : List ℕ) (options : OptionsView) (answers : List (List ℕ × Result (List ℕ) ErrorView)) (error other : ErrorView) → AnswersOnce (listed answers) →
+        Refuses text options (listed answers) error → Refuses text options (listed answers) other → error ≡ other }
+    ensures not_both { (text : List ℕ) (options : OptionsView) (answers : List (List ℕ × Result (List ℕ) ErrorView)) (parts : List PartView) (error : ErrorView) → AnswersOnce (listed answers) →
+        Reads text options (listed answers) parts → ¬ Refuses text options (listed answers) error }
+{}
+
+/// In a reading the names of the groups are not empty, and no two are equal. Those that begin with a digit are `0`, `1`
+/// and so on in order. A name that the pattern gives begins with none, so they are the groups without a name.
+pub fn names_are_new()
+    ensures nonempty { (text : List ℕ) (options : OptionsView) (answers : List (List ℕ × Result (List ℕ) ErrorView)) (parts : List PartView) →
+        Reads text options (listed answers) parts → All (λ name. name ≢ []) (group_names parts) }
+    ensures distinct { (text : List ℕ) (options : OptionsView) (answers : List (List ℕ × Result (List ℕ) ErrorView)) (parts : List PartView) →
+        Reads text options (listed answers) parts → AllPairs (λ name other. name ≢ other) (group_names parts) }
+    ensures numbered { (text : List ℕ) (options : OptionsView) (answers : List (List ℕ × Result (List ℕ) ErrorView)) (parts : List PartView) →
+        Reads text options (listed answers) parts → CountFrom 0 (numbers_among (group_names parts)) }
+    ensures given { (text : List ℕ) (tokens front back : List TokenView) (token : TokenView) → AreTokens text tokens → tokens ≡ front ++ token ∷ back → token.kind ≡ Name →
+        ¬ BeginsWith is_ascii_digit token.value }
+{}

@@ -1,0 +1,14 @@
+pub mod StringTexts
+pub mod Escaped
+pub mod TextLemmas
+pub mod BodyLemmas
+pub mod PieceLemmas
+pub mod PiecesExist
+pub mod ReadingLemmas
+pub mod PartListLemmas
+pub mod TokenLemmas
+pub mod ErrorTextExamples
+pub mod RegexpTextExamples
+pub mod TokenExamples
+pub mod PieceExamples
+pub mod ReadingExamples

@@ -1,0 +1,85 @@
+-- Lemmas on texts: characters against bytes, places, and where a text may be cut.
+use Rattle.std.proofs.Common.{◌≡◌, ℕ, ◌+◌, ◌-◌, ◌≤◌, List, [], ◌∷◌, ◌++◌, length, take, refl, sym, ap, ◌∙◌, arith, length-append}
+use Rattle.std.specs.Prelude.{codes, encode_utf8_all}
+use Rattle.std.specs.Prelude.{slice_range}
+use Rattle.std.proofs.Math.Seq.{take-append_seam}
+use Rattle.std.specs.Char.{encode_utf8}
+use Rattle.std.specs.Str.{chars, IsUtf8}
+use Rattle.std.proofs.lemmas.Str.{chars-nil, length-le-encodes, encodes-append, encodes-chars}
+use Rattle.urlpattern_syntax.specs.Text.{byte_len, BeginsAt}
+
+-- the bytes of a text whose characters are these and those of an end of it
+pub bytes_before : (text end : List ℕ) (front : List ℕ) → IsUtf8 text → IsUtf8 end → chars text ≡ front ++ chars end → text ≡ encode_utf8_all front ++ end
+bytes_before text end front u v e =
+    sym (encodes-chars text u) ∙ ap encode_utf8_all e ∙ encodes-append front (chars end) ∙ ap (λ x. encode_utf8_all front ++ x) (encodes-chars end v)
+
+-- what is before an end of a list
+pub slice_before : (xs front end : List ℕ) → xs ≡ front ++ end → slice_range xs 0 (length xs - length end) ≡ front
+slice_before xs front end e =
+    let n : length xs - length end ≡ length front = omega (arith, ap length e, length-append front end) in
+    ap (λ k. slice_range xs 0 k) n ∙ ap (λ ys. slice_range ys 0 (length front)) e
+    ∙ ap (λ k. take k (front ++ end)) (let same : length front - 0 ≡ length front = omega arith in same) ∙ take-append_seam front end
+
+-- ---- bytes and characters
+
+pub byte_len-nil : byte_len [] ≡ 0
+unfolding byte_len
+byte_len-nil = refl
+
+pub byte_len-append : (xs ys : List ℕ) → byte_len (xs ++ ys) ≡ byte_len xs + byte_len ys
+unfolding byte_len
+byte_len-append xs ys = ap length (encodes-append xs ys) ∙ length-append (encode_utf8_all xs) (encode_utf8_all ys)
+
+pub byte_len-chars : (bytes : List ℕ) → IsUtf8 bytes → byte_len (chars bytes) ≡ length bytes
+unfolding byte_len
+byte_len-chars bytes u = ap length (encodes-chars bytes u)
+
+-- each character takes a byte at least
+pub length-le-byte_len : (text : List ℕ) → length text ≤ byte_len text
+unfolding byte_len
+length-le-byte_len text = length-le-encodes text
+
+-- where an end of a text begins, by the lengths of their bytes
+pub BeginsAt-bytes : (whole rest : List ℕ) → IsUtf8 whole → IsUtf8 rest → length rest ≤ length whole → BeginsAt (chars whole) (chars rest) (length whole - length rest)
+BeginsAt-bytes whole rest u v le =
+    let e = byte_len-chars whole u in
+    let f = byte_len-chars rest v in
+    omega arith
+
+-- an empty text has no character
+pub chars-empty : (bytes : List ℕ) → length bytes ≡ 0 → chars bytes ≡ []
+chars-empty [] e = chars-nil
+chars-empty (b ∷ bytes) e = absurd (omega arith)
+
+pub chars-some : (bytes : List ℕ) → IsUtf8 bytes → ¬ (length bytes ≡ 0) → ¬ (chars bytes ≡ [])
+chars-some bytes u some e =
+    let l = byte_len-chars bytes u in
+    let f = ap byte_len e ∙ byte_len-nil in
+    some (omega arith)
+
+-- the bytes of a text whose characters are known
+pub bytes_from_chars : (bytes text : List ℕ) → IsUtf8 bytes → chars bytes ≡ text → encode_utf8_all text ≡ text → bytes ≡ text
+bytes_from_chars bytes text u e f = sym (encodes-chars bytes u) ∙ ap encode_utf8_all e ∙ f
+
+pub chars_question_mark : chars (codes "?") ≡ codes "?"
+unfolding chars
+chars_question_mark = refl
+
+pub question_mark_bytes : encode_utf8_all (codes "?") ≡ codes "?"
+unfolding encode_utf8
+question_mark_bytes = refl
+
+-- texts with the same characters have the same bytes
+pub bytes_same : (xs ys : List ℕ) → IsUtf8 xs → IsUtf8 ys → chars xs ≡ chars ys → xs ≡ ys
+bytes_same xs ys u v e = sym (encodes-chars xs u) ∙ ap encode_utf8_all e ∙ encodes-chars ys v
+
+pub chars_full_wildcard : chars (codes ".*") ≡ codes ".*"
+unfolding chars
+chars_full_wildcard = refl
+
+pub full_wildcard_bytes : encode_utf8_all (codes ".*") ≡ codes ".*"
+unfolding encode_utf8
+full_wildcard_bytes = refl
+
+pub chars_nothing : chars [] ≡ []
+chars_nothing = chars-nil

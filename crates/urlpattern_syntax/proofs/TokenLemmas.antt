@@ -1,0 +1,122 @@
+-- Lemmas on tokens: what is skipped, how a body goes on, how cuts are joined.
+use Rattle.std.proofs.Common.{◌≡◌, ℕ, ◌<◌, Bool, true, false, List, [], ◌∷◌, ◌++◌, length, refl, sym, ap, ◌∙◌, subst, inl, inr, arith, append_assoc}
+use Rattle.std.specs.Prelude.{codes, IsTrue}
+use Rattle.std.proofs.lemmas.Bool.{both_ways, and_from}
+use Rattle.std.proofs.lemmas.List.Folds.{list_all-append}
+use Rattle.std.proofs.lemmas.List.{append_cancel_right}
+use Rattle.urlpattern_syntax.specs.declared.tokenizer.TokenType.{TokenType}
+use Rattle.urlpattern_syntax.specs.declared.tokenizer.TokenType.TheVariants.{Asterisk, Char, Close, End, EscapedChar, InvalidChar, Name, Open, OtherModifier, Regexp}
+use Rattle.urlpattern_syntax.specs.Text.{byte_len, BeginsAt, BeginsWith, is_among, is_name_start, is_name_part}
+use Rattle.urlpattern_syntax.proofs.TextLemmas.{byte_len-append, length-le-byte_len}
+use Rattle.urlpattern_syntax.specs.Tokens.{TokenView, end_of, IsCut, IsStrictCut, IsTokenOf, Skips, SkipsBy, IsLexed, Spells, EndsThere, IsName, IsFaultAt, InvalidName, marks, is_ignored}
+
+-- ---- what is skipped
+
+pub SkipsBy-none : (p : ℕ → Bool) (text : List ℕ) → SkipsBy p text text
+SkipsBy-none p text = ([], refl, refl)
+
+pub SkipsBy-more : (p : ℕ → Bool) (text rest after : List ℕ) (c : ℕ) → SkipsBy p text rest → rest ≡ c ∷ after → p c ≡ true → SkipsBy p text after
+SkipsBy-more p text rest after c s e h = (
+  s.0 ++ c ∷ [],
+  s.1 ∙ ap (λ x. s.0 ++ x) e ∙ sym (append_assoc s.0 (c ∷ []) after),
+  list_all-append p s.0 (c ∷ []) ∙ and_from _ _ s.2 (and_from _ _ h refl),
+)
+
+pub SkipsBy-joined : (p : ℕ → Bool) (text rest left : List ℕ) → SkipsBy p text rest → SkipsBy p rest left → SkipsBy p text left
+SkipsBy-joined p text rest left s t = (
+  s.0 ++ t.0,
+  s.1 ∙ ap (λ x. s.0 ++ x) t.1 ∙ sym (append_assoc s.0 t.0 left),
+  list_all-append p s.0 t.0 ∙ and_from _ _ s.2 t.2,
+)
+
+-- an empty text begins with nothing
+pub BeginsWith-empty : (p : ℕ → Bool) (text : List ℕ) → text ≡ [] → ¬ BeginsWith p text
+BeginsWith-empty p text e h = false≢true (subst (BeginsWith p) e h)
+  where
+    false≢true : IsTrue false → ⊥
+    false≢true = both_ways false refl
+
+pub BeginsWith-other : (p : ℕ → Bool) (text rest : List ℕ) (c : ℕ) → text ≡ c ∷ rest → p c ≡ false → ¬ BeginsWith p text
+BeginsWith-other p text rest c e f h = both_ways (p c) f (subst (BeginsWith p) e h)
+
+-- ---- tokens at the front of a text
+
+-- what stands before the rest of a text is its first character
+pub one_character : (text value rest : List ℕ) (c : ℕ) → text ≡ c ∷ rest → text ≡ value ++ rest → value ≡ c ∷ []
+one_character text value rest c e f = append_cancel_right value (c ∷ []) rest (sym f ∙ e)
+
+pub escaped_lexed : (text value rest : List ℕ) (c : ℕ) → text ≡ c ∷ rest → text ≡ value ++ rest → IsLexed (codes "\\" ++ text) EscapedChar value rest
+escaped_lexed text value rest c e f = record {
+  spelling = codes "\\" ++ value;
+  cut = ap (λ x. codes "\\" ++ x) f;
+  spells = (refl, (c, one_character text value rest c e f));
+  ends = tt;
+}
+
+-- a name behind a colon: its first character, and what is skipped behind that
+pub name_lexed : (text value tail rest : List ℕ) (c : ℕ) → text ≡ c ∷ tail → is_name_start c ≡ true → SkipsBy is_name_part tail rest → ¬ BeginsWith is_name_part rest → text ≡ value ++ rest → IsLexed (codes ":" ++ text) Name value rest
+name_lexed text value tail rest c e starts skips all f = record {
+  spelling = codes ":" ++ value;
+  cut = ap (λ x. codes ":" ++ x) f;
+  spells = (refl, subst IsName (sym whole) (starts, skips.2));
+  ends = all;
+}
+  where
+    whole : value ≡ c ∷ skips.0
+    whole = append_cancel_right value (c ∷ skips.0) rest (sym f ∙ e ∙ ap (λ x. c ∷ x) skips.1)
+
+-- no name begins behind this colon
+pub no_name : (text : List ℕ) → ¬ BeginsWith is_name_start text → IsFaultAt (codes ":" ++ text) InvalidName
+no_name text h = (text, refl, h)
+
+-- one character that spells a token by itself
+pub character_lexed : (kind : TokenType) (text value rest : List ℕ) (c : ℕ) → text ≡ c ∷ rest → text ≡ value ++ rest → ((spelling : List ℕ) → spelling ≡ c ∷ [] → Spells kind spelling spelling) → EndsThere kind rest → IsLexed text kind value rest
+character_lexed kind text value rest c e f spells ends = record {
+  spelling = value;
+  cut = f;
+  spells = spells value (one_character text value rest c e f);
+  ends = ends;
+}
+
+-- a text that does not begin with what is skipped begins with another character
+pub not_ignored : (text rest : List ℕ) (c : ℕ) → text ≡ c ∷ rest → ¬ BeginsWith is_ignored text → ¬ IsTrue (is_ignored c)
+not_ignored text rest c e h g = h (subst (BeginsWith is_ignored) (sym e) g)
+
+pub Spells-char : (c : ℕ) → is_among marks c ≡ false → ¬ IsTrue (is_ignored c) → (spelling : List ℕ) → spelling ≡ c ∷ [] → Spells Char spelling spelling
+Spells-char c plain counts spelling e = (refl, (c, e, (λ h. both_ways _ plain h), counts))
+
+-- ---- cuts
+
+pub IsCut-more : (Item : List ℕ → TokenView → List ℕ → Type 0) (text : List ℕ) (tokens : List TokenView) (left rest next : List ℕ) (token : TokenView) → IsCut Item text tokens left → Item left token rest → Skips rest next → IsCut Item text (tokens ++ token ∷ []) next
+IsCut-more Item text [] left rest next token cut item skips = (left, rest, cut, item, skips)
+IsCut-more Item text (first ∷ tokens) left rest next token cut item skips =
+    (cut.0, cut.1, cut.2, cut.3, IsCut-more Item cut.1 tokens left rest next token cut.4 item skips)
+
+-- a spelling has a character
+pub Spells-some : (kind : TokenType) (value text : List ℕ) → Spells kind value text → 0 < length text
+Spells-some Open value text h = omega (arith, ap length h.1)
+Spells-some Close value text h = omega (arith, ap length h.1)
+Spells-some Asterisk value text h = omega (arith, ap length h.1)
+Spells-some OtherModifier value text h = elim h.1 [ inl e ↦ omega (arith, ap length e) | inr e ↦ omega (arith, ap length e) ]
+Spells-some EscapedChar value text h = omega (arith, ap length h.0)
+Spells-some Name value text h = omega (arith, ap length h.0)
+Spells-some Regexp value text h = omega (arith, ap length h.0)
+Spells-some Char value text h = omega (arith, ap length h.1.1)
+Spells-some End value text h = absurd h
+Spells-some InvalidChar value text h = absurd h
+
+-- what follows a token is shorter
+pub IsLexed-shorter : (text value rest : List ℕ) (kind : TokenType) → IsLexed text kind value rest → byte_len rest < byte_len text
+IsLexed-shorter text value rest kind h =
+    let some = Spells-some kind value h.spelling h.spells in
+    let least = length-le-byte_len h.spelling in
+    let e = ap byte_len h.cut ∙ byte_len-append h.spelling rest in
+    omega arith
+
+-- one more token, and what is skipped behind it
+pub IsStrictCut-more : (text : List ℕ) (tokens : List TokenView) (left value rest next : List ℕ) (kind : TokenType) (index : ℕ) → IsStrictCut text tokens left → IsLexed left kind value rest → BeginsAt text left index → Skips rest next → IsStrictCut text (tokens ++ record { kind = kind; index = index; value = value } ∷ []) next
+IsStrictCut-more text tokens left value rest next kind index cut lexed place skips =
+    IsCut-more (IsTokenOf text) text tokens left rest next (record { kind = kind; index = index; value = value }) cut (record { lexed = lexed; place = place }) skips
+
+pub end_view : (text value : List ℕ) (index : ℕ) → index ≡ byte_len text → value ≡ [] → record { kind = End; index = index; value = value } ≡ end_of text
+end_view text value index e f = λ i. record { kind = End; index = e i; value = f i }

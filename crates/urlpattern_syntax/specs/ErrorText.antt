@@ -1,0 +1,58 @@
+-- The texts of the errors, as the bytes that are printed.
+use Rattle.std.specs.Prelude.{ℕ, List, ◌++◌, codes, decimal, encode_utf8_all, Option, Some, None}
+use Rattle.urlpattern_syntax.specs.declared.error.ParserError.{ParserError}
+use Rattle.urlpattern_syntax.specs.declared.error.ParserError.TheVariants as parser_errors
+use Rattle.urlpattern_syntax.specs.declared.tokenizer.TokenType.{TokenType}
+use Rattle.urlpattern_syntax.specs.declared.tokenizer.TokenType.TheVariants.{Asterisk, Char, Close, End, EscapedChar, InvalidChar, Name, Open, OtherModifier, Regexp}
+use Rattle.urlpattern_syntax.specs.Errors as view
+use Rattle.urlpattern_syntax.specs.Errors.{ErrorView}
+use Rattle.urlpattern_syntax.specs.Text.{text_of}
+use Rattle.urlpattern_syntax.specs.Tokens as fault
+use Rattle.urlpattern_syntax.specs.Tokens.{FaultView}
+
+-- a kind of token is told by its name
+abbrev pub kind_name : TokenType → List ℕ
+kind_name Open = codes "Open"
+kind_name Close = codes "Close"
+kind_name Regexp = codes "Regexp"
+kind_name Name = codes "Name"
+kind_name Char = codes "Char"
+kind_name EscapedChar = codes "EscapedChar"
+kind_name OtherModifier = codes "OtherModifier"
+kind_name Asterisk = codes "Asterisk"
+kind_name End = codes "End"
+kind_name InvalidChar = codes "InvalidChar"
+
+-- a fault of a pattern text; the reasons are ASCII
+abbrev pub fault_text : FaultView → List ℕ
+fault_text fault.IncompleteEscapeCode = codes "incomplete escape code"
+fault_text fault.InvalidName = codes "invalid name; must be at least length 1"
+fault_text (fault.InvalidRegex reason) = codes "invalid regex: " ++ reason
+
+-- a token of one kind had to stand where one of another kind does, with this value
+abbrev pub expected_token_text : (expected found : TokenType) → (value : List ℕ) → List ℕ
+expected_token_text expected found value =
+    codes "expected token " ++ kind_name expected ++ codes ", found '" ++ encode_utf8_all value ++ codes "' of type "
+    ++ kind_name found
+
+-- two groups have this name
+abbrev pub duplicate_name_text : List ℕ → List ℕ
+duplicate_name_text name = codes "pattern contains duplicate name " ++ encode_utf8_all name
+
+-- a `ParserError`
+abbrev pub parser_error_text : ParserError → List ℕ
+parser_error_text (parser_errors.ExpectedToken expected found value) = expected_token_text expected found (text_of value)
+parser_error_text (parser_errors.DuplicateName name) = duplicate_name_text (text_of name)
+
+-- An `Error`. What is printed of an error of `url` is its own text, of which nothing is promised.
+abbrev pub error_text : ErrorView → Option (List ℕ)
+error_text view.BaseUrlRequired = Some (codes "a relative input without a base URL is not valid")
+error_text view.BaseUrlWithInit = Some (codes "specifying both an init object, " ++ codes "and a separate base URL is not valid")
+error_text (view.Tokenizer fault place) =
+    Some (codes "tokenizer error: " ++ fault_text fault ++ codes " (at char " ++ decimal place ++ codes ")")
+error_text (view.ExpectedToken expected found value) =
+    Some (codes "parser error: " ++ expected_token_text expected found value)
+error_text (view.DuplicateName name) = Some (codes "parser error: " ++ duplicate_name_text name)
+error_text (view.Url error) = None
+error_text view.RegExp = Some (codes "regexp error")
+error_text view.OutOfMemory = Some (codes "out of memory")

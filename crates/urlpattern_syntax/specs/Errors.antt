@@ -1,0 +1,33 @@
+-- The errors: what a clause sees of them.
+use Rattle.std.specs.Prelude.{ℕ, List}
+use Rattle.url.specs.declared.error.ParseError.{ParseError}
+use Rattle.urlpattern_syntax.specs.declared.error.Error.{Error}
+use Rattle.urlpattern_syntax.specs.declared.error.Error.TheVariants as errors
+use Rattle.urlpattern_syntax.specs.declared.error.ParserError.{ParserError}
+use Rattle.urlpattern_syntax.specs.declared.error.ParserError.TheVariants as parser_errors
+use Rattle.urlpattern_syntax.specs.declared.tokenizer.TokenType.{TokenType}
+use Rattle.urlpattern_syntax.specs.Text.{text_of}
+use Rattle.urlpattern_syntax.specs.Tokens.{FaultView, fault_view}
+
+-- An `Error`, with its texts.
+pub data ErrorView : Type 0 where
+  BaseUrlRequired BaseUrlWithInit : ErrorView
+  Tokenizer : FaultView → ℕ → ErrorView
+  -- the kind that had to stand there, and the kind and the value of what does
+  ExpectedToken : (expected found : TokenType) → List ℕ → ErrorView
+  DuplicateName : List ℕ → ErrorView
+  Url : ParseError → ErrorView
+  RegExp OutOfMemory : ErrorView
+
+abbrev pub parser_error_view : ParserError → ErrorView
+parser_error_view (parser_errors.ExpectedToken expected found value) = ExpectedToken expected found (text_of value)
+parser_error_view (parser_errors.DuplicateName name) = DuplicateName (text_of name)
+
+abbrev pub error_view : Error → ErrorView
+error_view errors.BaseUrlRequired = BaseUrlRequired
+error_view errors.BaseUrlWithInit = BaseUrlWithInit
+error_view (errors.Tokenizer fault place) = Tokenizer (fault_view fault) place
+error_view (errors.Parser error) = parser_error_view error
+error_view (errors.Url error) = Url error
+error_view (errors.RegExp error) = RegExp
+error_view errors.OutOfMemory = OutOfMemory

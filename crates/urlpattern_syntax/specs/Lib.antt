@@ -1,0 +1,10 @@
+pub mod ErrorText
+pub mod Errors
+pub mod Options
+pub mod Parsing
+pub mod Parts
+pub mod Pieces
+pub mod Reading
+pub mod RegexpText
+pub mod Text
+pub mod Tokens

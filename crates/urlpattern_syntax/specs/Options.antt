@@ -1,0 +1,34 @@
+-- The options of a component: what a clause sees of them.
+use Rattle.std.specs.Prelude.{ℕ, Bool, false, List, [], Option, None, Some, codes, slice_index}
+use Rattle.urlpattern_syntax.specs.declared.parser.RegexSyntax.{RegexSyntax}
+use Rattle.urlpattern_syntax.specs.declared.parser.RegexSyntax.TheVariants.{Rust}
+use Rattle.urlpattern_syntax.specs.declared.parser.Options.{Options}
+use Rattle.urlpattern_syntax.specs.Text.{text_of}
+
+-- The options, with the prefix code point as a text.
+pub record OptionsView : Type 0 where
+  pub delimiter : Option ℕ
+  pub prefix : List ℕ
+  pub syntax : RegexSyntax
+  pub ignore_case : Bool
+
+abbrev pub options_view : Options → OptionsView
+options_view options = record {
+  delimiter = options.delimiter_code_point;
+  prefix = text_of options.prefix_code_point;
+  syntax = options.regex_syntax;
+  ignore_case = options.ignore_case;
+}
+
+-- the standard's three sets of options, in Rust's syntax: a delimiter and a prefix code point
+abbrev pub standard_options : Option ℕ → List ℕ → OptionsView
+standard_options delimiter prefix = record { delimiter = delimiter; prefix = prefix; syntax = Rust; ignore_case = false }
+
+abbrev pub default_options : OptionsView
+default_options = standard_options None []
+
+abbrev pub hostname_options : OptionsView
+hostname_options = standard_options (Some (slice_index (codes ".") 0)) []
+
+abbrev pub pathname_options : OptionsView
+pathname_options = standard_options (Some (slice_index (codes "/") 0)) (codes "/")

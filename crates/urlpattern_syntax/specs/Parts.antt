@@ -1,0 +1,30 @@
+-- The parts of a pattern: what a clause sees of them.
+use Rattle.std.specs.Prelude.{ℕ, List, []}
+use Rattle.urlpattern_syntax.specs.declared.parser.Part.{Part}
+use Rattle.urlpattern_syntax.specs.declared.parser.PartModifier.{PartModifier}
+use Rattle.urlpattern_syntax.specs.declared.parser.PartType.{PartType}
+use Rattle.urlpattern_syntax.specs.declared.parser.PartType.TheVariants.{FixedText}
+use Rattle.urlpattern_syntax.specs.Text.{text_of}
+
+-- A part, with its texts.
+pub record PartView : Type 0 where
+  pub kind : PartType
+  pub value : List ℕ
+  pub modifier : PartModifier
+  pub name : List ℕ
+  pub prefix : List ℕ
+  pub suffix : List ℕ
+
+abbrev pub part_view : Part → PartView
+part_view part = record {
+  kind = part.kind;
+  value = text_of part.value;
+  modifier = part.modifier;
+  name = text_of part.name;
+  prefix = text_of part.prefix;
+  suffix = text_of part.suffix;
+}
+
+-- a fixed text
+abbrev pub fixed_text : List ℕ → PartModifier → PartView
+fixed_text value modifier = record { kind = FixedText; value = value; modifier = modifier; name = []; prefix = []; suffix = [] }

@@ -1,0 +1,190 @@
+-- The pieces of a list of tokens, after the URLPattern Standard, section "Parsing pattern strings": texts,
+-- placeholders and groups, each of which takes all that it may.
+use Rattle.std.specs.Prelude.{◌≡◌, ◌≢◌, ℕ, ◌⊎◌, Bool, true, false, List, [], ◌∷◌, ◌++◌, map, codes, Option, Some, None, IsTrue}
+use Rattle.std.specs.List.{flat_map, list_all}
+use Rattle.urlpattern_syntax.specs.declared.parser.PartModifier.{PartModifier}
+use Rattle.urlpattern_syntax.specs.declared.parser.PartModifier.TheVariants as modifiers
+use Rattle.urlpattern_syntax.specs.declared.tokenizer.TokenType.{TokenType}
+use Rattle.urlpattern_syntax.specs.declared.tokenizer.TokenType.TheVariants.{Asterisk, Char, Close, End, EscapedChar, InvalidChar, Name, Open, OtherModifier, Regexp}
+use Rattle.urlpattern_syntax.specs.Tokens.{TokenView}
+
+-- What a placeholder stands for: a segment, what a custom regular expression matches, or anything.
+pub data Matched : Type 0 where
+  Segment Anything : Matched
+  Custom : List ℕ → Matched
+
+-- A placeholder, perhaps with a name.
+pub record Placeholder : Type 0 where
+  pub name : Option (List ℕ)
+  pub matched : Matched
+
+pub data Piece : Type 0 where
+  -- one character
+  Text : List ℕ → Piece
+  -- a placeholder without braces, with the prefix code point before it or nothing
+  Bare : (prefix : List ℕ) → Placeholder → PartModifier → Piece
+  -- texts in braces
+  TextGroup : List ℕ → PartModifier → Piece
+  -- a placeholder in braces, with the texts before and behind it
+  Group : (before : List ℕ) → Placeholder → (after : List ℕ) → PartModifier → Piece
+
+-- ---- tokens by kind
+
+abbrev pub kinds : List TokenView → List TokenType
+kinds tokens = map (λ token. token.kind) tokens
+
+abbrev pub values : List TokenView → List (List ℕ)
+values tokens = map (λ token. token.value) tokens
+
+abbrev pub is_text : TokenType → Bool
+is_text Char = true
+is_text EscapedChar = true
+is_text kind = false
+
+-- a placeholder begins with such a token
+abbrev pub is_placeholder : TokenType → Bool
+is_placeholder Name = true
+is_placeholder Regexp = true
+is_placeholder Asterisk = true
+is_placeholder kind = false
+
+abbrev pub is_modifier : TokenType → Bool
+is_modifier OtherModifier = true
+is_modifier Asterisk = true
+is_modifier kind = false
+
+abbrev pub is_regexp : TokenType → Bool
+is_regexp Regexp = true
+is_regexp kind = false
+
+-- the first token is of such a kind
+abbrev pub BeginsWithKind : (TokenType → Bool) → List TokenView → Type 0
+BeginsWithKind test [] = ⊥
+BeginsWithKind test (token ∷ tokens) = IsTrue (test token.kind)
+
+-- ---- what tokens spell
+
+-- texts, end to end
+abbrev pub AreTexts : List TokenView → List ℕ → Type 0
+AreTexts tokens text = IsTrue (list_all (λ token. is_text token.kind) tokens) × (text ≡ flat_map (λ token. token.value) tokens)
+
+abbrev pub IsPlaceholderOf : List TokenView → Option (List ℕ) → Matched → Type 0
+IsPlaceholderOf tokens (Some name) Segment = (kinds tokens ≡ Name ∷ []) × (values tokens ≡ name ∷ [])
+IsPlaceholderOf tokens (Some name) (Custom body) =
+    (kinds tokens ≡ Name ∷ Regexp ∷ []) × (values tokens ≡ name ∷ body ∷ [])
+IsPlaceholderOf tokens None (Custom body) = (kinds tokens ≡ Regexp ∷ []) × (values tokens ≡ body ∷ [])
+IsPlaceholderOf tokens None Anything = kinds tokens ≡ Asterisk ∷ []
+-- there is no name with an asterisk, and no segment without a name
+IsPlaceholderOf tokens (Some name) Anything = ⊥
+IsPlaceholderOf tokens None Segment = ⊥
+
+abbrev pub IsModifier : List TokenView → PartModifier → Type 0
+IsModifier tokens modifiers.None = tokens ≡ []
+IsModifier tokens modifiers.Optional = (kinds tokens ≡ OtherModifier ∷ []) × (values tokens ≡ codes "?" ∷ [])
+IsModifier tokens modifiers.OneOrMore = (kinds tokens ≡ OtherModifier ∷ []) × (values tokens ≡ codes "+" ∷ [])
+IsModifier tokens modifiers.ZeroOrMore = kinds tokens ≡ Asterisk ∷ []
+
+-- nothing, or a Char that is the prefix code point
+abbrev pub IsPrefixOf : (point : List ℕ) → List TokenView → List ℕ → Type 0
+IsPrefixOf point tokens prefix =
+    ((tokens ≡ []) × (prefix ≡ [])) ⊎ ((kinds tokens ≡ Char ∷ []) × (values tokens ≡ prefix ∷ []) × (prefix ≡ point))
+
+-- ---- what may be taken is taken
+
+-- a modifier goes to what stands before it
+abbrev pub TakesModifier : PartModifier → List TokenView → Type 0
+TakesModifier modifiers.None rest = ¬ BeginsWithKind is_modifier rest
+TakesModifier modifier rest = Unit {0}
+
+-- a Regexp goes to the name before it
+abbrev pub TakesRegexp : Matched → List TokenView → Type 0
+TakesRegexp Segment rest = ¬ BeginsWithKind is_regexp rest
+TakesRegexp matched rest = Unit {0}
+
+-- a Char that is the prefix code point goes to the placeholder behind it
+abbrev pub TakesPrefix : (point : List ℕ) → TokenView → List TokenView → Type 0
+TakesPrefix point token rest = token.kind ≡ Char → token.value ≡ point → ¬ BeginsWithKind is_placeholder rest
+
+-- ---- pieces
+
+-- a placeholder and a modifier, as they stand before the rest
+pub record IsBare (point : List ℕ) (tokens : List TokenView) (prefix : List ℕ) (placeholder : Placeholder) (modifier : PartModifier) (rest : List TokenView) : Type 0 where
+  pub front : List TokenView
+  pub middle : List TokenView
+  pub back : List TokenView
+  pub cut : tokens ≡ front ++ middle ++ back
+  pub is_prefix : IsPrefixOf point front prefix
+  pub is_placeholder : IsPlaceholderOf middle placeholder.name placeholder.matched
+  pub is_modifier : IsModifier back modifier
+  pub takes_regexp : TakesRegexp placeholder.matched (back ++ rest)
+  pub takes_modifier : TakesModifier modifier rest
+
+-- braces round what stands between them, and a modifier
+pub record IsBraced (tokens inner : List TokenView) (modifier : PartModifier) (rest : List TokenView) : Type 0 where
+  pub opening : TokenView
+  pub closing : TokenView
+  pub back : List TokenView
+  pub cut : tokens ≡ opening ∷ inner ++ closing ∷ back
+  pub is_open : opening.kind ≡ Open
+  pub is_close : closing.kind ≡ Close
+  pub is_modifier : IsModifier back modifier
+  pub takes_modifier : TakesModifier modifier rest
+
+-- texts, a placeholder, texts, as they stand before the rest
+pub record IsFilled (inner : List TokenView) (before : List ℕ) (placeholder : Placeholder) (after : List ℕ) (rest : List TokenView) : Type 0 where
+  pub front : List TokenView
+  pub middle : List TokenView
+  pub back : List TokenView
+  pub cut : inner ≡ front ++ middle ++ back
+  pub are_texts_before : AreTexts front before
+  pub is_placeholder : IsPlaceholderOf middle placeholder.name placeholder.matched
+  pub takes_regexp : TakesRegexp placeholder.matched (back ++ rest)
+  pub are_texts_after : AreTexts back after
+
+-- the tokens are this piece, as it stands before the rest
+abbrev pub IsPiece : (point : List ℕ) → List TokenView → Piece → (rest : List TokenView) → Type 0
+IsPiece point tokens (Text text) rest =
+    (token : TokenView) × (tokens ≡ token ∷ []) × IsTrue (is_text token.kind) × (text ≡ token.value)
+    × TakesPrefix point token rest
+IsPiece point tokens (Bare prefix placeholder modifier) rest = IsBare point tokens prefix placeholder modifier rest
+IsPiece point tokens (TextGroup text modifier) rest =
+    (inner : List TokenView) × IsBraced tokens inner modifier rest × AreTexts inner text
+IsPiece point tokens (Group before placeholder after modifier) rest =
+    (inner : List TokenView) × (braces : IsBraced tokens inner modifier rest)
+    × IsFilled inner before placeholder after (braces.closing ∷ [])
+
+-- ---- what is left
+
+-- Where the pieces end: before a token with which none begins, or before a group that lacks its Close, where this
+-- token stands in its place.
+pub data Ending : Type 0 where
+  Stops : TokenView → Ending
+  LacksClose : TokenView → Ending
+
+-- no piece begins with such a token
+abbrev pub is_stop : TokenType → Bool
+is_stop End = true
+is_stop Close = true
+is_stop OtherModifier = true
+is_stop InvalidChar = true
+is_stop kind = false
+
+-- what may stand between braces, before the rest, which is none of it
+abbrev pub IsOpenGroup : List TokenView → List TokenView → Type 0
+IsOpenGroup inner rest =
+    ¬ BeginsWithKind is_text rest
+    × (((text : List ℕ) × AreTexts inner text × ¬ BeginsWithKind is_placeholder rest)
+    ⊎ ((before after : List ℕ) × (placeholder : Placeholder) × IsFilled inner before placeholder after rest))
+
+abbrev pub IsEnding : List TokenView → Ending → Type 0
+IsEnding tokens (Stops found) = (more : List TokenView) × (tokens ≡ found ∷ more) × IsTrue (is_stop found.kind)
+IsEnding tokens (LacksClose found) =
+    (opening : TokenView) × (inner more : List TokenView) × (tokens ≡ opening ∷ inner ++ found ∷ more) × (opening.kind ≡ Open)
+    × IsOpenGroup inner (found ∷ more) × (found.kind ≢ Close)
+
+-- the tokens are these pieces and what is left of them
+abbrev pub ArePieces : (point : List ℕ) → List TokenView → List Piece → Ending → Type 0
+ArePieces point tokens [] ending = IsEnding tokens ending
+ArePieces point tokens (piece ∷ pieces) ending =
+    (front rest : List TokenView) × (tokens ≡ front ++ rest) × IsPiece point front piece rest
+    × ArePieces point rest pieces ending

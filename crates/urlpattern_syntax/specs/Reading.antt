@@ -1,0 +1,207 @@
+-- What a pattern text means, or why it is refused, after the URLPattern Standard, section "Parsing pattern strings".
+use Rattle.std.specs.Prelude.{◌≡◌, ◌≢◌, ℕ, suc, ◌⊎◌, List, [], ◌∷◌, ◌++◌, bytes_eq, decimal, Option, Some, None, Result, Ok, Err, String, Contains, if◌then◌else◌, encode_utf8_all}
+use Rattle.std.specs.declared.alloc.Global.{Global}
+use Rattle.urlpattern_syntax.specs.declared.error.Error.{Error}
+use Rattle.urlpattern_syntax.specs.declared.parser.PartModifier.{PartModifier}
+use Rattle.urlpattern_syntax.specs.declared.parser.PartModifier.TheVariants as modifiers
+use Rattle.urlpattern_syntax.specs.declared.parser.PartType.{PartType}
+use Rattle.urlpattern_syntax.specs.declared.parser.PartType.TheVariants.{Regexp, SegmentWildcard, FullWildcard}
+use Rattle.urlpattern_syntax.specs.declared.tokenizer.TokenType.{TokenType}
+use Rattle.urlpattern_syntax.specs.declared.tokenizer.TokenType.TheVariants.{Close, End}
+use Rattle.urlpattern_syntax.specs.Errors.{ErrorView, error_view}
+use Rattle.urlpattern_syntax.specs.Errors.{ErrorView as views}
+use Rattle.urlpattern_syntax.specs.Options.{OptionsView}
+use Rattle.urlpattern_syntax.specs.Parts.{PartView, fixed_text}
+use Rattle.urlpattern_syntax.specs.Pieces.{Piece, Matched, Ending, ArePieces}
+use Rattle.urlpattern_syntax.specs.Pieces.{Piece as pieces}
+use Rattle.urlpattern_syntax.specs.Pieces.{Matched as matched}
+use Rattle.urlpattern_syntax.specs.Pieces.{Ending as endings}
+use Rattle.urlpattern_syntax.specs.RegexpText.{segment_wildcard, full_wildcard}
+use Rattle.urlpattern_syntax.specs.Text.{text_of}
+use Rattle.urlpattern_syntax.specs.Tokens.{TokenView, FaultView, AreTokens, IsFault}
+
+-- ---- what pieces stand for
+
+-- A fixed text, or a group with the texts round it, its name and what it matches.
+pub data Item : Type 0 where
+  Fixed : List ℕ → PartModifier → Item
+  Capture : (prefix name : List ℕ) → Matched → (suffix : List ℕ) → PartModifier → Item
+
+-- a placeholder's name, or its number among those that have none
+abbrev pub name_or : Option (List ℕ) → ℕ → List ℕ
+name_or (Some name) number = name
+name_or None number = decimal number
+
+abbrev pub next_number : Option (List ℕ) → ℕ → ℕ
+next_number (Some name) number = number
+next_number None number = suc number
+
+-- what a piece stands for, where so many placeholders before it have no name
+abbrev pub item : ℕ → Piece → Item
+item number (pieces.Text text) = Fixed text modifiers.None
+item number (pieces.TextGroup text modifier) = Fixed text modifier
+item number (pieces.Bare prefix placeholder modifier) =
+    Capture prefix (name_or placeholder.name number) placeholder.matched [] modifier
+item number (pieces.Group before placeholder after modifier) =
+    Capture before (name_or placeholder.name number) placeholder.matched after modifier
+
+-- how many placeholders have no name, this piece's too
+abbrev pub number_after : ℕ → Piece → ℕ
+number_after number (pieces.Text text) = number
+number_after number (pieces.TextGroup text modifier) = number
+number_after number (pieces.Bare prefix placeholder modifier) = next_number placeholder.name number
+number_after number (pieces.Group before placeholder after modifier) = next_number placeholder.name number
+
+-- what the pieces stand for, one by one
+abbrev pub items_from : ℕ → List Piece → List Item
+items_from number [] = []
+items_from number (piece ∷ rest) = item number piece ∷ items_from (number_after number piece) rest
+
+-- a plain fixed text before items: nothing if it is empty, and one with the plain fixed text that they begin with
+abbrev pub with_text : List ℕ → List Item → List Item
+with_text [] items = items
+with_text (c ∷ text) (Fixed more modifiers.None ∷ items) = Fixed (c ∷ text ++ more) modifiers.None ∷ items
+with_text (c ∷ text) items = Fixed (c ∷ text) modifiers.None ∷ items
+
+-- neighbouring plain fixed texts made one
+abbrev pub joined_items : List Item → List Item
+joined_items [] = []
+joined_items (Fixed text modifiers.None ∷ items) = with_text text (joined_items items)
+joined_items (item ∷ items) = item ∷ joined_items items
+
+abbrev pub items_of : List Piece → List Item
+items_of list = joined_items (items_from 0 list)
+
+-- ---- demands
+
+-- What a list of items asks for.
+pub data Demand : Type 0 where
+  -- the encoding answers a text for this text
+  Encode : List ℕ → Demand
+  -- none of these is the name
+  NewName : (earlier : List (List ℕ)) → List ℕ → Demand
+  -- the token is of this kind
+  Expect : TokenType → TokenView → Demand
+
+-- an empty fixed text asks for nothing
+abbrev pub encode_fixed : List ℕ → List Demand
+encode_fixed [] = []
+encode_fixed (c ∷ text) = Encode (c ∷ text) ∷ []
+
+-- The demands of the items and of what is left, in order, where these names stand before them. The pending text before
+-- a group that lacks its Close is not asked for.
+abbrev pub demands_after : List (List ℕ) → List Item → Ending → List Demand
+demands_after earlier [] (endings.Stops found) = Expect End found ∷ []
+demands_after earlier [] (endings.LacksClose found) = Expect Close found ∷ []
+demands_after earlier (Fixed text modifiers.None ∷ []) (endings.LacksClose found) = Expect Close found ∷ []
+demands_after earlier (Fixed text modifier ∷ items) ending = encode_fixed text ++ demands_after earlier items ending
+demands_after earlier (Capture prefix name match suffix modifier ∷ items) ending =
+    NewName earlier name ∷ Encode prefix ∷ Encode suffix ∷ demands_after (earlier ++ name ∷ []) items ending
+
+abbrev pub demands : List Item → Ending → List Demand
+demands items ending = demands_after [] items ending
+
+-- An encoding relates a text to what it may answer.
+abbrev pub Encoding : Type 1
+Encoding = List ℕ → Result (List ℕ) ErrorView → Type 0
+
+abbrev pub IsMet : Encoding → Demand → Type 0
+IsMet encoding (Encode text) = (answer : List ℕ) × encoding text (Ok answer)
+IsMet encoding (NewName earlier name) = ¬ Contains earlier name
+IsMet encoding (Expect kind token) = token.kind ≡ kind
+
+abbrev pub AreMet : Encoding → List Demand → Type 0
+AreMet encoding [] = Unit {0}
+AreMet encoding (demand ∷ rest) = IsMet encoding demand × AreMet encoding rest
+
+-- the demand is not met, and this error tells it
+abbrev pub Fails : Encoding → Demand → ErrorView → Type 0
+Fails encoding (Encode text) error = encoding text (Err error)
+Fails encoding (NewName earlier name) error = Contains earlier name × (error ≡ views.DuplicateName name)
+Fails encoding (Expect kind token) error = (token.kind ≢ kind) × (error ≡ views.ExpectedToken kind token.kind token.value)
+
+-- the first demand that is not met fails with this error
+abbrev pub FirstFails : Encoding → List Demand → ErrorView → Type 0
+FirstFails encoding [] error = ⊥
+FirstFails encoding (demand ∷ rest) error =
+    Fails encoding demand error ⊎ (IsMet encoding demand × FirstFails encoding rest error)
+
+-- ---- parts
+
+-- the regular expression that decides the kind of a part
+abbrev pub compared : OptionsView → Matched → List ℕ
+compared options matched.Segment = segment_wildcard options
+compared options (matched.Custom body) = body
+compared options matched.Anything = full_wildcard
+
+abbrev pub kind_of : OptionsView → List ℕ → PartType
+kind_of options regexp =
+    if bytes_eq regexp (segment_wildcard options) then SegmentWildcard
+    else (if bytes_eq regexp full_wildcard then FullWildcard else Regexp)
+
+-- a custom regular expression keeps its text
+abbrev pub value_of : PartType → List ℕ → List ℕ
+value_of Regexp regexp = regexp
+value_of kind regexp = []
+
+abbrev pub capture_part : OptionsView → (prefix name : List ℕ) → Matched → (suffix : List ℕ) → PartModifier → PartView
+capture_part options prefix name match suffix modifier =
+    let regexp = compared options match in
+    record {
+      kind = kind_of options regexp;
+      value = value_of (kind_of options regexp) regexp;
+      modifier = modifier;
+      name = name;
+      prefix = prefix;
+      suffix = suffix;
+    }
+
+-- the parts that the items give, with answers of the encoding in place of their texts
+abbrev pub AreParts : OptionsView → Encoding → List Item → List PartView → Type 0
+AreParts options encoding [] parts = parts ≡ []
+AreParts options encoding (Fixed [] modifier ∷ items) parts = AreParts options encoding items parts
+AreParts options encoding (Fixed (c ∷ text) modifier ∷ items) parts =
+    (value : List ℕ) × (rest : List PartView) × (parts ≡ fixed_text value modifier ∷ rest)
+    × encoding (c ∷ text) (Ok value) × AreParts options encoding items rest
+AreParts options encoding (Capture prefix name match suffix modifier ∷ items) parts =
+    (before after : List ℕ) × (rest : List PartView)
+    × (parts ≡ capture_part options before name match after modifier ∷ rest)
+    × encoding prefix (Ok before) × encoding suffix (Ok after) × AreParts options encoding items rest
+
+-- ---- reading and refusal
+
+-- the text means these parts
+pub record Reads (text : List ℕ) (options : OptionsView) (encoding : Encoding) (parts : List PartView) : Type 0 where
+  pub tokens : List TokenView
+  pub pieces : List Piece
+  pub found : TokenView
+  pub are_tokens : AreTokens text tokens
+  pub are_pieces : ArePieces options.prefix tokens pieces (endings.Stops found)
+  pub are_met : AreMet encoding (demands (items_of pieces) (endings.Stops found))
+  pub are_parts : AreParts options encoding (items_of pieces) parts
+
+-- the first demand of the text's pieces that is not met fails with this error
+pub record FailsDemand (text : List ℕ) (options : OptionsView) (encoding : Encoding) (error : ErrorView) : Type 0 where
+  pub tokens : List TokenView
+  pub pieces : List Piece
+  pub ending : Ending
+  pub are_tokens : AreTokens text tokens
+  pub are_pieces : ArePieces options.prefix tokens pieces ending
+  pub fails : FirstFails encoding (demands (items_of pieces) ending) error
+
+-- the text is refused with this error: its first fault, or else its first demand that is not met
+abbrev pub Refuses : List ℕ → OptionsView → Encoding → ErrorView → Type 0
+Refuses text options encoding error =
+    ((fault : FaultView) × (place : ℕ) × IsFault text fault place × (error ≡ views.Tokenizer fault place))
+    ⊎ FailsDemand text options encoding error
+
+-- ---- what callbacks answer
+
+abbrev pub answer_view : Result (String Global) Error → Result (List ℕ) ErrorView
+answer_view (Ok text) = Ok (text_of text)
+answer_view (Err error) = Err (error_view error)
+
+-- The encoding of a callback: what it may return for the UTF-8 of a text.
+abbrev pub encoding_of : (List ℕ → Result (String Global) Error → Type 0) → Encoding
+encoding_of returns text answer =
+    (returned : Result (String Global) Error) × returns (encode_utf8_all text) returned × (answer ≡ answer_view returned)

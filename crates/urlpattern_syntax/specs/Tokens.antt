@@ -1,0 +1,261 @@
+-- The tokens of a pattern text, after the URLPattern Standard, section "Tokenizing".
+use Rattle.std.specs.Prelude.{◌≡◌, ℕ, ◌<◌, ◌≤◌, ◌⊎◌, Bool, List, [], ◌∷◌, ◌++◌, codes, IsTrue, MatchResult, Result}
+use Rattle.std.specs.List.{list_all}
+use Rattle.std.specs.Str.{chars}
+use Rattle.urlpattern_syntax.specs.declared.error.Error.{Error}
+use Rattle.urlpattern_syntax.specs.declared.error.Error.TheVariants as errors
+use Rattle.urlpattern_syntax.specs.declared.error.RegexFault.{RegexFault}
+use Rattle.urlpattern_syntax.specs.declared.error.RegexFault.TheVariants as regex_faults
+use Rattle.urlpattern_syntax.specs.declared.error.TokenizerError.{TokenizerError}
+use Rattle.urlpattern_syntax.specs.declared.error.TokenizerError.TheVariants as faults
+use Rattle.urlpattern_syntax.specs.declared.tokenizer.Lexeme.{Lexeme}
+use Rattle.urlpattern_syntax.specs.declared.tokenizer.Token.{Token}
+use Rattle.urlpattern_syntax.specs.declared.tokenizer.TokenType.{TokenType}
+use Rattle.urlpattern_syntax.specs.declared.tokenizer.TokenType.TheVariants.{Asterisk, Char, Close, End, EscapedChar, InvalidChar, Name, Open, OtherModifier, Regexp}
+use Rattle.urlpattern_syntax.specs.Text.{byte_len, BeginsAt, BeginsWith, is_among, is_name_start, is_name_part}
+
+-- A token: its kind, the byte where its spelling begins, and its value.
+pub record TokenView : Type 0 where
+  pub kind : TokenType
+  pub index : ℕ
+  pub value : List ℕ
+
+abbrev pub token_view : Token → TokenView
+token_view token = record { kind = token.kind; index = token.index; value = chars token.value.now }
+
+-- ---- the body of a custom regular expression
+
+-- A backslash and a character, another character, or brackets round a body; and what follows.
+pub data Body : Type 0 where
+  Nothing : Body
+  Escaped : ℕ → Body → Body
+  Plain : ℕ → Body → Body
+  Group : Body → Body → Body
+
+abbrev pub body_text : Body → List ℕ
+body_text Nothing = []
+body_text (Escaped c body) = codes "\\" ++ c ∷ body_text body
+body_text (Plain c body) = c ∷ body_text body
+body_text (Group inner body) = codes "(" ++ body_text inner ++ codes ")" ++ body_text body
+
+abbrev pub is_question_mark : ℕ → Bool
+is_question_mark c = is_among (codes "?") c
+
+-- its characters are ASCII, and each inner bracket is followed by `?`
+abbrev pub IsBody : Body → Type 0
+IsBody Nothing = Unit {0}
+IsBody (Escaped c body) = (c < 128) × IsBody body
+IsBody (Plain c body) = (c < 128) × ¬ IsTrue (is_among (codes "\\()") c) × IsBody body
+IsBody (Group inner body) = BeginsWith is_question_mark (body_text inner) × IsBody inner × IsBody body
+
+-- the text between the brackets of a Regexp token
+pub record IsRegexpBody (text : List ℕ) : Type 0 where
+  pub body : Body
+  pub is_body : IsBody body
+  pub spelled : text ≡ body_text body
+  pub not_empty : ¬ (text ≡ [])
+  pub not_marked : ¬ BeginsWith is_question_mark text
+
+-- ---- spelling
+
+-- the characters that begin a token other than a Char
+abbrev pub marks : List ℕ
+marks = codes "{}*+?\\:("
+
+-- what is skipped between tokens: tab, line feed and carriage return
+abbrev pub is_ignored : ℕ → Bool
+is_ignored c = is_among (codes "\t\n\r") c
+
+abbrev pub IsName : List ℕ → Type 0
+IsName [] = ⊥
+IsName (c ∷ text) = IsTrue (is_name_start c) × IsTrue (list_all is_name_part text)
+
+-- the text spells one token of this kind and value
+abbrev pub Spells : TokenType → (value text : List ℕ) → Type 0
+Spells Open value text = (value ≡ text) × (text ≡ codes "{")
+Spells Close value text = (value ≡ text) × (text ≡ codes "}")
+Spells Asterisk value text = (value ≡ text) × (text ≡ codes "*")
+Spells OtherModifier value text = (value ≡ text) × ((text ≡ codes "+") ⊎ (text ≡ codes "?"))
+Spells EscapedChar value text = (text ≡ codes "\\" ++ value) × ((c : ℕ) × (value ≡ c ∷ []))
+Spells Name value text = (text ≡ codes ":" ++ value) × IsName value
+Spells Regexp value text = (text ≡ codes "(" ++ value ++ codes ")") × IsRegexpBody value
+Spells Char value text =
+    (value ≡ text) × ((c : ℕ) × (text ≡ c ∷ []) × ¬ IsTrue (is_among marks c) × ¬ IsTrue (is_ignored c))
+-- these two are not spelled: End stands behind the whole text, InvalidChar in a fault's place
+Spells End value text = ⊥
+Spells InvalidChar value text = ⊥
+
+-- a name takes all the name characters that there are
+abbrev pub EndsThere : TokenType → List ℕ → Type 0
+EndsThere Name rest = ¬ BeginsWith is_name_part rest
+EndsThere kind rest = Unit {0}
+
+-- the text begins with the spelling of a token, and this follows it
+pub record IsLexed (text : List ℕ) (kind : TokenType) (value rest : List ℕ) : Type 0 where
+  pub spelling : List ℕ
+  pub cut : text ≡ spelling ++ rest
+  pub spells : Spells kind value spelling
+  pub ends : EndsThere kind rest
+
+-- ---- faults
+
+-- Where the front of a body stops: in it, or behind an inner bracket that is not closed.
+pub data Front : Type 0 where
+  Here : Body → Front
+  Inside : Body → Front → Front
+
+abbrev pub front_text : Front → List ℕ
+front_text (Here body) = body_text body
+front_text (Inside body front) = body_text body ++ codes "(" ++ front_text front
+
+abbrev pub IsFront : Front → Type 0
+IsFront (Here body) = IsBody body
+IsFront (Inside body front) = IsBody body × IsFront front × BeginsWith is_question_mark (front_text front)
+
+-- what may stand behind `(` before a fault
+pub record IsRegexpFront (text : List ℕ) : Type 0 where
+  pub front : Front
+  pub is_front : IsFront front
+  pub spelled : text ≡ front_text front
+  pub not_marked : ¬ BeginsWith is_question_mark text
+
+-- What is wrong behind `(`.
+pub data RegexpFault : Type 0 where
+  StartsWithQuestionMark NotAscii EscapedNotAscii GroupAtEnd CapturingGroup NotClosed NoBody : RegexpFault
+
+-- this follows `(`, and no token begins there for this reason
+abbrev pub LacksRegexp : List ℕ → RegexpFault → Type 0
+LacksRegexp rest StartsWithQuestionMark = BeginsWith is_question_mark rest
+LacksRegexp rest NotAscii =
+    (front more : List ℕ) × (c : ℕ) × IsRegexpFront front × (rest ≡ front ++ c ∷ more) × (128 ≤ c)
+LacksRegexp rest EscapedNotAscii =
+    (front more : List ℕ) × (c : ℕ) × IsRegexpFront front × (rest ≡ front ++ codes "\\" ++ c ∷ more) × (128 ≤ c)
+LacksRegexp rest GroupAtEnd = (front : List ℕ) × IsRegexpFront front × (rest ≡ front ++ codes "(")
+LacksRegexp rest CapturingGroup =
+    (front more : List ℕ) × (c : ℕ) × IsRegexpFront front × (rest ≡ front ++ codes "(" ++ c ∷ more)
+    × ¬ IsTrue (is_question_mark c)
+LacksRegexp rest NotClosed = IsRegexpFront rest
+LacksRegexp rest NoBody = (more : List ℕ) × (rest ≡ codes ")" ++ more)
+
+-- how the fault is told
+abbrev pub reason : RegexpFault → List ℕ
+reason StartsWithQuestionMark = codes "must not start with ?, and may only contain ascii"
+reason NotAscii = codes "must not start with ?, and may only contain ascii"
+reason EscapedNotAscii = codes "non ascii character was escaped"
+reason GroupAtEnd = codes "nested groups not closed"
+reason CapturingGroup = codes "nested groups must start with ?"
+reason NotClosed = codes "missing closing )"
+reason NoBody = codes "length must be > 0"
+
+-- A `TokenizerError`.
+pub data FaultView : Type 0 where
+  IncompleteEscapeCode InvalidName : FaultView
+  InvalidRegex : List ℕ → FaultView
+
+-- a reason in words
+abbrev pub regex_fault_text : RegexFault → List ℕ
+regex_fault_text regex_faults.BadCharacter = reason NotAscii
+regex_fault_text regex_faults.BadEscape = reason EscapedNotAscii
+regex_fault_text regex_faults.NestedGroupNotClosed = reason GroupAtEnd
+regex_fault_text regex_faults.NestedGroupCaptures = reason CapturingGroup
+regex_fault_text regex_faults.MissingClose = reason NotClosed
+regex_fault_text regex_faults.Empty = reason NoBody
+
+abbrev pub fault_view : TokenizerError → FaultView
+fault_view faults.IncompleteEscapeCode = IncompleteEscapeCode
+fault_view faults.InvalidName = InvalidName
+fault_view (faults.InvalidRegex fault) = InvalidRegex (regex_fault_text fault)
+
+-- a token would begin where the text begins, and there is none for this reason
+abbrev pub IsFaultAt : List ℕ → FaultView → Type 0
+IsFaultAt text IncompleteEscapeCode =
+    (text ≡ codes "\\") ⊎ ((front : List ℕ) × IsRegexpFront front × (text ≡ codes "(" ++ front ++ codes "\\"))
+IsFaultAt text InvalidName = (rest : List ℕ) × (text ≡ codes ":" ++ rest) × ¬ BeginsWith is_name_start rest
+IsFaultAt text (InvalidRegex told) =
+    (rest : List ℕ) × (fault : RegexpFault) × (text ≡ codes "(" ++ rest) × LacksRegexp rest fault × (told ≡ reason fault)
+
+-- ---- a whole text
+
+-- `rest` follows characters at the front of the text that pass the test
+abbrev pub SkipsBy : (ℕ → Bool) → (text rest : List ℕ) → Type 0
+SkipsBy test text rest = (skipped : List ℕ) × (text ≡ skipped ++ rest) × IsTrue (list_all test skipped)
+
+-- `rest` follows what is skipped at the front of the text
+abbrev pub Skips : (text rest : List ℕ) → Type 0
+Skips text rest = SkipsBy is_ignored text rest
+
+-- The text is cut into these tokens up to what is left, each of them an `Item` of the text where it stands.
+abbrev pub IsCut : (List ℕ → TokenView → List ℕ → Type 0) → List ℕ → List TokenView → List ℕ → Type 0
+IsCut Item text [] left = Skips text left
+IsCut Item text (token ∷ tokens) left =
+    (start rest : List ℕ) × Skips text start × Item start token rest × IsCut Item rest tokens left
+
+-- a token stands in the whole text where this begins
+pub record IsTokenOf (whole text : List ℕ) (token : TokenView) (rest : List ℕ) : Type 0 where
+  pub lexed : IsLexed text token.kind token.value rest
+  pub place : BeginsAt whole text token.index
+
+-- Strict tokens, but for End.
+abbrev pub IsStrictCut : (text : List ℕ) → List TokenView → (left : List ℕ) → Type 0
+IsStrictCut text tokens left = IsCut (IsTokenOf text) text tokens left
+
+abbrev pub end_of : List ℕ → TokenView
+end_of text = record { kind = End; index = byte_len text; value = [] }
+
+-- These are the strict tokens of the text.
+pub record AreTokens (text : List ℕ) (tokens : List TokenView) : Type 0 where
+  pub front : List TokenView
+  pub cut : IsStrictCut text front []
+  pub all : tokens ≡ front ++ end_of text ∷ []
+
+-- The first fault of the text, and its place.
+pub record IsFault (text : List ℕ) (told : FaultView) (index : ℕ) : Type 0 where
+  pub front : List TokenView
+  pub left : List ℕ
+  pub cut : IsStrictCut text front left
+  pub place : BeginsAt text left index
+  pub fault : IsFaultAt left told
+
+-- a character in a fault's place stands in the whole text where this begins
+pub record IsInvalidCharOf (whole text : List ℕ) (token : TokenView) (rest : List ℕ) : Type 0 where
+  pub character : ℕ
+  pub cut : text ≡ character ∷ rest
+  pub fault : FaultView
+  pub is_fault : IsFaultAt text fault
+  pub is_token : token ≡ record { kind = InvalidChar; index = token.index; value = character ∷ [] }
+  pub place : BeginsAt whole text token.index
+
+-- These are the lenient tokens of the text: in a fault's place stands one character, and the cut goes on behind it.
+pub record AreLenientTokens (text : List ℕ) (tokens : List TokenView) : Type 0 where
+  pub front : List TokenView
+  pub cut : IsCut (λ start token rest. IsTokenOf text start token rest ⊎ IsInvalidCharOf text start token rest) text front []
+  pub all : tokens ≡ front ++ end_of text ∷ []
+
+-- ---- what calls answer
+
+-- a token at the front of a text, or why there is none
+abbrev pub Lexes : List ℕ → Result Lexeme TokenizerError → Type 0
+Lexes text result = MatchResult result
+    (λ lexeme. IsLexed text lexeme.kind (chars lexeme.value.now) (chars lexeme.rest.now))
+    (λ fault. IsFaultAt text (fault_view fault))
+
+-- no ASCII character stands behind a backslash in the body of a custom regular expression
+abbrev pub LacksEscaped : List ℕ → FaultView → Type 0
+LacksEscaped text IncompleteEscapeCode = text ≡ []
+LacksEscaped text InvalidName = ⊥
+LacksEscaped text (InvalidRegex told) =
+    (c : ℕ) × (more : List ℕ) × (text ≡ c ∷ more) × (128 ≤ c) × (told ≡ reason EscapedNotAscii)
+
+-- no question mark stands behind an inner bracket
+abbrev pub LacksQuestionMark : List ℕ → FaultView → Type 0
+LacksQuestionMark text IncompleteEscapeCode = ⊥
+LacksQuestionMark text InvalidName = ⊥
+LacksQuestionMark text (InvalidRegex told) =
+    ((text ≡ []) × (told ≡ reason GroupAtEnd))
+    ⊎ ((c : ℕ) × (more : List ℕ) × (text ≡ c ∷ more) × ¬ IsTrue (is_question_mark c) × (told ≡ reason CapturingGroup))
+
+-- the error tells the first fault of the text, or that memory ran out
+abbrev pub TellsFault : List ℕ → Error → Type 0
+TellsFault text (errors.Tokenizer fault place) = IsFault text (fault_view fault) place
+TellsFault text errors.OutOfMemory = Unit {0}
+TellsFault text other = ⊥

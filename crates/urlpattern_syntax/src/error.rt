@@ -1,0 +1,183 @@
+//! The errors of building and matching patterns.
+
+ghost use Rattle.std.specs.Prelude.{◌≡◌, Some};
+ghost use Rattle.urlpattern_syntax.specs.declared.error.Error.TheVariants as errors;
+ghost use Rattle.urlpattern_syntax.specs.ErrorText.{error_text, fault_text, parser_error_text};
+ghost use Rattle.urlpattern_syntax.specs.Errors.{error_view};
+ghost use Rattle.urlpattern_syntax.specs.Tokens.{fault_view};
+
+use crate::tokenizer::TokenType;
+use std::alloc::{AllocError, AllocFailed};
+use std::{error, fmt};
+
+/// Why a pattern could not be built or matched.
+#[derive(Debug, Drop)]
+pub enum Error {
+    /// A relative input was given with no base URL.
+    BaseUrlRequired,
+    /// Both an init and a base URL beside it were given.
+    BaseUrlWithInit,
+    /// A pattern text has no token at this place, a byte index.
+    Tokenizer(TokenizerError, usize),
+    /// The tokens of a pattern text are no pattern.
+    Parser(ParserError),
+    /// A part of a URL is not valid.
+    Url(url::ParseError),
+    /// The engine refused the text of a regular expression.
+    RegExp(()),
+    /// The allocator had no memory.
+    OutOfMemory,
+}
+
+/// Tells the error, with the place in a pattern text where it has one.
+impl fmt::Display for Error {
+    ghost output = { λ error. error_text (error_view error) };
+
+    fn fmt<W: fmt::Write>(&self, f: &mut fmt::Formatter<W>) -> fmt::Result {
+        match self {
+            Self::BaseUrlRequired => {
+                f.write_str("a relative input without ")?;
+                f.write_str("a base URL is not valid")
+            }
+            Self::BaseUrlWithInit => {
+                f.write_str("specifying both an init object, ")?;
+                f.write_str("and a separate base URL is not valid")
+            }
+            Self::Tokenizer(error, place) => {
+                write!(f, "tokenizer error: {error} (at char {place})")
+            }
+            Self::Parser(error) => write!(f, "parser error: {error}"),
+            Self::Url(error) => fmt::Display::fmt(error, f),
+            Self::RegExp(()) => f.write_str("regexp error"),
+            Self::OutOfMemory => f.write_str("out of memory"),
+        }
+    }
+}
+
+impl error::Error for Error {}
+
+impl From<AllocError> for Error {
+    ghost from_gives = { λ _ error. error ≡ errors.OutOfMemory };
+
+    fn from(_error: AllocError) -> Error {
+        Error::OutOfMemory
+    }
+}
+
+impl<T: Drop> From<AllocFailed<T>> for Error {
+    ghost from_gives = { λ _ error. error ≡ errors.OutOfMemory };
+
+    fn from(_error: AllocFailed<T>) -> Error {
+        Error::OutOfMemory
+    }
+}
+
+/// Why a pattern text has no token at a place.
+#[derive(Debug, Drop)]
+pub enum TokenizerError {
+    /// A backslash stands at the end of the text.
+    IncompleteEscapeCode,
+    /// No character that may begin a name follows a colon.
+    InvalidName,
+    /// What follows an open bracket is no custom regular expression, for the reason given.
+    InvalidRegex(RegexFault),
+}
+
+/// Tells the fault.
+impl fmt::Display for TokenizerError {
+    ghost output = { λ error. Some (fault_text (fault_view error)) };
+
+    fn fmt<W: fmt::Write>(&self, f: &mut fmt::Formatter<W>) -> fmt::Result {
+        match self {
+            TokenizerError::IncompleteEscapeCode => f.write_str("incomplete escape code"),
+            TokenizerError::InvalidName => f.write_str("invalid name; must be at least length 1"),
+            TokenizerError::InvalidRegex(fault) => {
+                let reason = fault.as_str();
+                write!(f, "invalid regex: {reason}")
+            }
+        }
+    }
+}
+
+impl error::Error for TokenizerError {}
+
+/// Why what follows an open bracket is no custom regular expression.
+#[derive(Debug, Clone, Copy, PartialEq, Eq)]
+pub enum RegexFault {
+    /// It starts with a question mark, or has a character that is not ASCII.
+    BadCharacter,
+    /// A backslash takes a character that is not ASCII.
+    BadEscape,
+    /// An inner bracket is the last of the text.
+    NestedGroupNotClosed,
+    /// A character other than a question mark follows an inner bracket.
+    NestedGroupCaptures,
+    /// The text ends before the closing bracket.
+    MissingClose,
+    /// Nothing stands between the brackets.
+    Empty,
+}
+
+impl RegexFault {
+    ghost use Rattle.urlpattern_syntax.specs.Tokens.{regex_fault_text};
+
+    /// The reason in words.
+    pub fn as_str(self) -> &'static str
+        ensures { result.now ≡ regex_fault_text self }
+    {
+        match self {
+            RegexFault::BadCharacter => "must not start with ?, and may only contain ascii",
+            RegexFault::BadEscape => "non ascii character was escaped",
+            RegexFault::NestedGroupNotClosed => "nested groups not closed",
+            RegexFault::NestedGroupCaptures => "nested groups must start with ?",
+            RegexFault::MissingClose => "missing closing )",
+            RegexFault::Empty => "length must be > 0",
+        }
+    }
+}
+
+/// Why the tokens of a pattern text are no pattern.
+#[derive(Debug, Drop)]
+pub enum ParserError {
+    /// The kind of token that had to stand at a place, then the kind and the value of the token that stands there.
+    ExpectedToken(TokenType, TokenType, String),
+    /// A second group has this name.
+    DuplicateName(String),
+}
+
+/// Tells what had to stand and what does, or the name.
+impl fmt::Display for ParserError {
+    ghost output = { λ error. Some (parser_error_text error) };
+
+    #[tactic(auto, using(crate::proofs::StringTexts::text_bytes))]
+    fn fmt<W: fmt::Write>(&self, f: &mut fmt::Formatter<W>) -> fmt::Result {
+        match self {
+            ParserError::ExpectedToken(expected, found, value) => {
+                let expected = expected.name();
+                let found = found.name();
+                write!(
+                    f,
+                    "expected token {expected}, found '{value}' of type {found}"
+                )
+            }
+            ParserError::DuplicateName(name) => {
+                write!(f, "pattern contains duplicate name {name}")
+            }
+        }
+    }
+}
+
+impl error::Error for ParserError {}
+
+/// The allocator had no memory.
+#[derive(Debug, Drop)]
+pub struct OutOfMemory;
+
+/// Why an engine gives no regular expression.
+#[derive(Debug, Drop)]
+pub enum RegExpError {
+    /// The engine refused the text.
+    Pattern,
+    /// The allocator had no memory.
+    OutOfMemory,
+}

@@ -1,0 +1,9 @@
+//! The syntax of URL patterns: from the text of one component's pattern to its tokens and its parts.
+#![tactic(auto)]
+
+pub mod error;
+pub mod parser;
+pub mod tokenizer;
+
+pub use error::Error;
+pub use parser::RegexSyntax;

@@ -1,0 +1,626 @@
+//! The parts of a pattern text.
+//!
+//! <https://urlpattern.spec.whatwg.org/#parts-and-part-lists>
+ghost use Rattle.urlpattern_syntax.specs.declared.error.Error.TheVariants as errors;
+ghost use Rattle.urlpattern_syntax.specs.Text.{is_among, text_of};
+ghost use Rattle.urlpattern_syntax.specs.RegexpText.{escaped_marks, escaped_regexp, regexp_marks, segment_wildcard, modifier_text};
+ghost use Rattle.urlpattern_syntax.specs.Options.{options_view, default_options, hostname_options, pathname_options};
+ghost use Rattle.std.specs.Prelude.{◌<◌, Contains, Result, map, ◌≡◌, ◌∷◌, ◌++◌, ◌↔◌, ℕ, List, IsTrue, IfNone, IfSome, [], Option, Some, IfOk, IfErr, OnOk};
+ghost use Rattle.std.specs.Str.{chars};
+ghost use Rattle.std.specs.Fn.{FnReturnsAt};
+ghost use Rattle.urlpattern_syntax.specs.Errors.{ErrorView, error_view};
+ghost use Rattle.urlpattern_syntax.specs.Parsing.{MemoryOr, AddsItem, AddsParts, FailsItem, FailsItems, FailsTokens, IsTokenList, ReadsTokens, group_item, item_view, joined_values, matched_view, name_view, number_by, part_list_view, pending_items, placeholder_view, views};
+ghost use Rattle.urlpattern_syntax.specs.Tokens.{token_view};
+ghost use Rattle.urlpattern_syntax.specs.Parts.{fixed_text, part_view};
+ghost use Rattle.urlpattern_syntax.specs.Reading.{Expect, FirstFails, Fixed, Reads, Refuses, compared, encode_fixed, encoding_of, kind_of, name_or, next_number, value_of};
+ghost use Rattle.urlpattern_syntax.specs.RegexpText.{group_names};
+
+mod pieces;
+
+use crate::error::{Error, ParserError};
+use crate::tokenizer::{Token, TokenType, TokenizePolicy, tokenize};
+use pieces::{Matched, Next, Piece, Placeholder, next_piece};
+use serde::{Deserialize, Serialize};
+use std::alloc::Global;
+use std::fmt;
+
+/// The regular expression of a full wildcard.
+///
+/// <https://urlpattern.spec.whatwg.org/#full-wildcard-regexp-value>
+pub const FULL_WILDCARD_REGEXP_VALUE: &str = ".*";
+
+/// The syntax of generated regular expressions.
+#[derive(Clone, Copy, Debug, Default, PartialEq, Eq, Deserialize, Serialize)]
+pub enum RegexSyntax {
+    /// That of Rust's crate `regex`, which takes no escaped slash. The default.
+    #[default]
+    Rust,
+    /// That of ECMAScript. Whether a custom regular expression is refused is the engine's matter.
+    EcmaScript,
+}
+
+/// How one component's pattern text is read.
+///
+/// <https://urlpattern.spec.whatwg.org/#options-header>
+#[derive(Debug, Clone, Drop)]
+pub struct Options {
+    /// The character that ends a segment. A name alone stands for a segment, which is any text if there is none.
+    pub delimiter_code_point: Option<char>,
+    /// The character that a group takes as its prefix where it stands directly before it, or an empty text.
+    pub prefix_code_point: String,
+    /// The syntax of the generated regular expression.
+    pub regex_syntax: RegexSyntax,
+    /// Whether case is ignored.
+    pub ignore_case: bool,
+}
+
+impl Options {
+    /// The options of most components: no delimiter and no prefix code point.
+    ///
+    /// <https://urlpattern.spec.whatwg.org/#default-options>
+    pub fn default(alloc: Global) -> Self
+        ensures { options_view result ≡ default_options }
+    {
+        Self {
+            delimiter_code_point: None,
+            prefix_code_point: String::new(alloc),
+            regex_syntax: RegexSyntax::Rust,
+            ignore_case: false,
+        }
+    }
+
+    /// The options of a hostname, whose segments end at a dot.
+    ///
+    /// <https://urlpattern.spec.whatwg.org/#hostname-options>
+    pub fn hostname(alloc: Global) -> Self
+        ensures { options_view result ≡ hostname_options }
+    {
+        Self {
+            delimiter_code_point: Some('.'),
+            ..Self::default(alloc)
+        }
+    }
+
+    /// The options of a pathname, whose segments begin and end at a slash.
+    ///
+    /// The error is that memory ran out.
+    ///
+    /// <https://urlpattern.spec.whatwg.org/#pathname-options>
+    pub fn pathname(alloc: Global) -> Result<Self, Error>
+        ensures ok { IfOk result (λ options. options_view options ≡ pathname_options) }
+        ensures memory { IfErr result (λ error. error ≡ errors.OutOfMemory) }
+    {
+        Ok(Self {
+            delimiter_code_point: Some('/'),
+            prefix_code_point: String::from_str(alloc, "/")?,
+            regex_syntax: RegexSyntax::Rust,
+            ignore_case: false,
+        })
+    }
+
+    /// The text, with a backslash before each character that means more than itself in a regular expression.
+    ///
+    /// The error is that memory ran out.
+    ///
+    /// <https://urlpattern.spec.whatwg.org/#escape-a-regexp-string>
+    pub fn escape_regexp_string(&self, alloc: Global, input: &str) -> Result<String, Error>
+        ensures escaped { IfOk result (λ text. text_of text ≡ escaped_regexp (options_view self.now) (chars input.now)) }
+        ensures memory { IfErr result (λ error. error ≡ errors.OutOfMemory) }
+    {
+        let mut text = String::new(alloc);
+        self.push_escaped(&mut text, input)?;
+        Ok(text)
+    }
+
+    /// The regular expression of a segment: some characters that are no delimiter.
+    ///
+    /// The error is that memory ran out.
+    ///
+    /// <https://urlpattern.spec.whatwg.org/#generate-a-segment-wildcard-regexp>
+    pub fn generate_segment_wildcard_regexp(&self, alloc: Global) -> Result<String, Error>
+        ensures wildcard { IfOk result (λ text. text_of text ≡ segment_wildcard (options_view self.now)) }
+        ensures memory { IfErr result (λ error. error ≡ errors.OutOfMemory) }
+    {
+        let mut text = String::new(alloc);
+        self.push_segment_wildcard(&mut text)?;
+        Ok(text)
+    }
+
+    /// Appends the escaped text.
+    pub fn push_escaped(&self, text: &mut String, input: &str) -> Result<(), Error>
+        ensures appends { OnOk result (text_of text.new ≡ text_of text.old ++ escaped_regexp (options_view self.now) (chars input.now)) }
+        ensures memory { IfErr result (λ error. error ≡ errors.OutOfMemory) }
+    {
+        for c in input.chars() {
+            self.push_escaped_char(text, c)?;
+        }
+        Ok(())
+    }
+
+    /// Appends the regular expression of a segment.
+    pub fn push_segment_wildcard(&self, text: &mut String) -> Result<(), Error>
+        ensures appends { OnOk result (text_of text.new ≡ text_of text.old ++ segment_wildcard (options_view self.now)) }
+        ensures memory { IfErr result (λ error. error ≡ errors.OutOfMemory) }
+    {
+        let Some(delimiter) = self.delimiter_code_point else {
+            return push_text(text, ".+?");
+        };
+        push_text(text, "[^")?;
+        self.push_escaped_char(text, delimiter)?;
+        push_text(text, "]+?")
+    }
+
+    /// Appends the character, with a backslash before it if it means more than itself.
+    fn push_escaped_char(&self, text: &mut String, c: char) -> Result<(), Error>
+        ensures appends { OnOk result (text_of text.new ≡ text_of text.old ++ escaped_regexp (options_view self.now) (c ∷ [])) }
+        ensures memory { IfErr result (λ error. error ≡ errors.OutOfMemory) }
+    {
+        if self.is_escaped(c) {
+            text.push('\\')?;
+        }
+        text.push(c)?;
+        Ok(())
+    }
+
+    /// Whether the character takes a backslash in a regular expression.
+    fn is_escaped(&self, c: char) -> bool
+        ensures { result ≡ is_among (escaped_marks (options_view self.now).syntax) c }
+    {
+        match self.regex_syntax {
+            RegexSyntax::Rust => is_regexp_mark(c),
+            RegexSyntax::EcmaScript => is_regexp_mark(c) || c == '/',
+        }
+    }
+}
+
+/// Whether the character means more than itself in a regular expression.
+fn is_regexp_mark(c: char) -> bool
+    ensures { result ≡ is_among regexp_marks c }
+{
+    matches!(
+        c,
+        '.' | '+' | '*' | '?' | '^' | '$' | '{' | '}' | '(' | ')' | '[' | ']' | '|' | '\\'
+    )
+}
+
+/// Appends the piece.
+pub fn push_text(text: &mut String, piece: &str) -> Result<(), Error>
+    ensures appends { OnOk result (text_of text.new ≡ text_of text.old ++ chars piece.now) }
+    ensures memory { IfErr result (λ error. error ≡ errors.OutOfMemory) }
+{
+    text.push_str(piece)?;
+    Ok(())
+}
+
+/// What a part stands for.
+///
+/// <https://urlpattern.spec.whatwg.org/#part-type>
+#[derive(Debug, PartialEq, Eq, Drop)]
+pub enum PartType {
+    /// Its value.
+    FixedText,
+    /// What a custom regular expression matches.
+    Regexp,
+    /// A text with no delimiter, not empty.
+    SegmentWildcard,
+    /// Any text.
+    FullWildcard,
+}
+
+/// How often a part stands.
+///
+/// <https://urlpattern.spec.whatwg.org/#part-modifier>
+#[derive(Debug, PartialEq, Eq, Drop)]
+pub enum PartModifier {
+    /// Once.
+    None,
+    /// Once or not at all.
+    Optional,
+    /// Any number of times.
+    ZeroOrMore,
+    /// At least once.
+    OneOrMore,
+}
+
+impl PartModifier {
+    /// The modifier as a pattern and a regular expression spell it.
+    pub fn as_str(&self) -> &'static str
+        ensures bytes { result.now ≡ modifier_text self.now }
+        ensures text { chars result.now ≡ modifier_text self.now }
+    {
+        match self {
+            Self::None => "",
+            Self::Optional => "?",
+            Self::ZeroOrMore => "*",
+            Self::OneOrMore => "+",
+        }
+    }
+}
+
+/// Writes the modifier as a pattern spells it.
+///
+/// <https://urlpattern.spec.whatwg.org/#convert-a-modifier-to-a-string>
+impl fmt::Display for PartModifier {
+    ghost output = { λ modifier. Some (modifier_text modifier) };
+
+    fn fmt<W: fmt::Write>(&self, f: &mut fmt::Formatter<W>) -> fmt::Result {
+        f.write_str(self.as_str())
+    }
+}
+
+/// A part of a pattern.
+///
+/// <https://urlpattern.spec.whatwg.org/#part>
+#[derive(Debug, Drop)]
+pub struct Part {
+    /// What the part stands for.
+    pub kind: PartType,
+    /// The text of a fixed text, the body of a custom regular expression, and else empty.
+    pub value: String,
+    /// How often the part stands.
+    pub modifier: PartModifier,
+    /// The name of its group, empty for a fixed text.
+    pub name: String,
+    /// The text that stands before it each time, empty for a fixed text.
+    pub prefix: String,
+    /// The text that stands behind it each time, empty for a fixed text.
+    pub suffix: String,
+}
+
+/// What stays the same while a pattern text is read.
+///
+/// <https://urlpattern.spec.whatwg.org/#pattern-parser>
+#[derive(Drop)]
+struct PatternParser<'o, F> {
+    alloc: Global,
+    options: &'o Options,
+    segment_wildcard_regexp: String,
+    encoding_callback: F,
+}
+
+/// What is read of a pattern text so far.
+#[derive(Drop)]
+struct PartList {
+    parts: Vec<Part>,
+    pending_fixed_value: String,
+    next_numeric_name: usize,
+}
+
+/// The parts of a pattern text.
+///
+/// Each fixed text, prefix and suffix goes through the callback, which may be asked in any order. The error is the first
+/// fault of the text, with its place in bytes; else the first demand of its pieces that is not met, which may be the
+/// callback's own error; or that memory ran out.
+///
+/// <https://urlpattern.spec.whatwg.org/#parse-a-pattern-string>
+pub fn parse_pattern_string<F: Fn(&str) -> Result<String, Error> + Drop>(
+    alloc: Global,
+    input: &str,
+    options: &Options,
+    encoding_callback: F,
+) -> Result<Vec<Part>, Error>
+    requires { F.IsAlwaysCallable encoding_callback }
+    ensures reads { IfOk result (λ parts. Reads (chars input.now) (options_view options.now)
+        (encoding_of (FnReturnsAt F.Fn encoding_callback)) (map part_view parts.items)) }
+    ensures refuses { IfErr result (MemoryOr (Refuses (chars input.now) (options_view options.now)
+        (encoding_of (FnReturnsAt F.Fn encoding_callback)))) }
+{
+    let tokens = tokenize(alloc, input, TokenizePolicy::Strict)?;
+    let segment_wildcard_regexp = options.generate_segment_wildcard_regexp(alloc)?;
+    let parser = PatternParser {
+        alloc,
+        options,
+        segment_wildcard_regexp,
+        encoding_callback,
+    };
+    parser.part_list(&tokens)
+}
+
+impl<F: Fn(&str) -> Result<String, Error>> PatternParser<'_, F> {
+    /// The parts of a list of tokens.
+    fn part_list<'t, 'a>(&self, tokens: &'t [Token<'a>]) -> Result<Vec<Part>, Error>
+        requires callable { F.IsAlwaysCallable self.now.encoding_callback }
+        requires wildcard { text_of self.now.segment_wildcard_regexp ≡ segment_wildcard (options_view self.now.options.now) }
+        requires closed { IsTokenList (views tokens.now) }
+        ensures reads { IfOk result (λ parts. ReadsTokens (views tokens.now) (options_view self.now.options.now)
+            (encoding_of (FnReturnsAt F.Fn self.now.encoding_callback)) (map part_view parts.items)) }
+        ensures fails { IfErr result (MemoryOr (FailsTokens (views tokens.now) (options_view self.now.options.now)
+            (encoding_of (FnReturnsAt F.Fn self.now.encoding_callback)))) }
+    {
+        let mut list = PartList::new(self.alloc);
+        let mut at = 0;
+        loop {
+            match next_piece(&tokens[at..], &self.options.prefix_code_point) {
+                Next::Piece(piece, behind) => {
+                    at = tokens.len() - behind.len();
+                    list.add(self, piece)?;
+                }
+                Next::LacksClose(found) => return Err(expected_token(
+                    self.alloc,
+                    TokenType::Close,
+                    found,
+                )),
+                Next::Stops(found) => return self.finish(list, found),
+            }
+        }
+    }
+
+    /// The parts up to the token with which no piece begins, which has to be the end.
+    fn finish(&self, mut list: PartList, found: Token<'_>) -> Result<Vec<Part>, Error>
+        requires { F.IsAlwaysCallable self.now.encoding_callback }
+        ensures ok { IfOk result (λ parts. (found.entry.kind ≡ TokenType.End)
+            × AddsParts (options_view self.now.options.now) (encoding_of (FnReturnsAt F.Fn self.now.encoding_callback)) (part_list_view list)
+            (pending_items (part_list_view list).pending) (record { parts = map part_view parts.items; pending = []; number = 0 })) }
+        ensures err { IfErr result (MemoryOr (FirstFails (encoding_of (FnReturnsAt F.Fn self.now.encoding_callback))
+            (encode_fixed (part_list_view list).pending ++ Expect TokenType.End (token_view found.entry) ∷ []))) }
+    {
+        list.add_pending(self)?;
+        if found.kind != TokenType::End {
+            return Err(expected_token(self.alloc, TokenType::End, found));
+        }
+        Ok(list.into_parts())
+    }
+
+    /// What the callback answers for a text.
+    fn ask(&self, text: &str) -> Result<String, Error>
+        requires { F.IsAlwaysCallable self.now.encoding_callback }
+        ensures ok { IfOk result (λ answer. encoding_of (FnReturnsAt F.Fn self.now.encoding_callback) (chars text.now) (Result.Ok (text_of answer))) }
+        ensures err { IfErr result (λ error. encoding_of (FnReturnsAt F.Fn self.now.encoding_callback) (chars text.now) (Result.Err (error_view error))) }
+    {
+        (self.encoding_callback)(text)
+    }
+
+    /// What the callback answers for the values of tokens, end to end.
+    fn encode(&self, tokens: &[Token<'_>]) -> Result<String, Error>
+        requires { F.IsAlwaysCallable self.now.encoding_callback }
+        ensures ok { IfOk result (λ answer. encoding_of (FnReturnsAt F.Fn self.now.encoding_callback) (joined_values (views tokens.now)) (Result.Ok (text_of answer))) }
+        ensures err { IfErr result (MemoryOr (λ error. encoding_of (FnReturnsAt F.Fn self.now.encoding_callback) (joined_values (views tokens.now)) (Result.Err error))) }
+    {
+        match tokens {
+            [] => self.ask(""),
+            [token] => self.ask(token.value),
+            _ => self.ask(&joined(self.alloc, tokens)?),
+        }
+    }
+
+    /// The regular expression by which the kind of a placeholder's part goes.
+    fn compared<'a>(&'a self, matched: Matched<'a>) -> &'a str
+        requires { text_of self.now.segment_wildcard_regexp ≡ segment_wildcard (options_view self.now.options.now) }
+        ensures { chars result.now ≡ compared (options_view self.now.options.now) (matched_view matched.entry) }
+    {
+        match matched {
+            Matched::Segment => &self.segment_wildcard_regexp,
+            Matched::Anything => FULL_WILDCARD_REGEXP_VALUE,
+            Matched::Custom(body) => body,
+        }
+    }
+
+    /// The kind of a placeholder's part, and its value: the body of a custom regular expression that is no wildcard.
+    fn kind_and_value(&self, matched: Matched<'_>) -> Result<(PartType, String), Error>
+        requires { text_of self.now.segment_wildcard_regexp ≡ segment_wildcard (options_view self.now.options.now) }
+        ensures kind { IfOk result (λ found. found.0 ≡ kind_of (options_view self.now.options.now) (compared (options_view self.now.options.now) (matched_view matched.entry))) }
+        ensures value { IfOk result (λ found. text_of found.1 ≡ value_of found.0 (compared (options_view self.now.options.now) (matched_view matched.entry))) }
+        ensures memory { IfErr result (λ error. error ≡ errors.OutOfMemory) }
+    {
+        let wildcard = self.segment_wildcard_regexp.as_str();
+        let body = self.compared(matched);
+        if body == wildcard {
+            return Ok((PartType::SegmentWildcard, String::new(self.alloc)));
+        }
+        if body == FULL_WILDCARD_REGEXP_VALUE {
+            return Ok((PartType::FullWildcard, String::new(self.alloc)));
+        }
+        Ok((PartType::Regexp, String::from_str(self.alloc, body)?))
+    }
+}
+
+impl PartList {
+    /// No part, and nothing pending.
+    fn new(alloc: Global) -> Self
+        ensures { part_list_view result ≡ record { parts = []; pending = []; number = 0 } }
+    {
+        PartList {
+            parts: Vec::new(alloc),
+            pending_fixed_value: String::new(alloc),
+            next_numeric_name: 0,
+        }
+    }
+
+    /// Adds a piece.
+    ///
+    /// <https://urlpattern.spec.whatwg.org/#add-a-part>
+    fn add<F: Fn(&str) -> Result<String, Error>>(
+        &mut self,
+        parser: &PatternParser<'_, F>,
+        piece: Piece<'_, '_>,
+    ) -> Result<(), Error>
+        requires callable { F.IsAlwaysCallable parser.now.encoding_callback }
+        requires wildcard { text_of parser.now.segment_wildcard_regexp ≡ segment_wildcard (options_view parser.now.options.now) }
+        requires room { self.old.next_numeric_name < usize.MAX }
+        ensures ok { OnOk result (AddsItem (options_view parser.now.options.now) (encoding_of (FnReturnsAt F.Fn parser.now.encoding_callback))
+            (part_list_view self.old) (item_view piece.entry self.old.next_numeric_name) (part_list_view self.new)) }
+        ensures number { OnOk result (self.new.next_numeric_name ≡ number_by piece.entry.placeholder self.old.next_numeric_name) }
+        ensures err { IfErr result (FailsItem (encoding_of (FnReturnsAt F.Fn parser.now.encoding_callback))
+            (part_list_view self.old) (item_view piece.entry self.old.next_numeric_name)) }
+    {
+        match piece.placeholder {
+            Some(placeholder) => self.add_group(parser, piece, placeholder),
+            None if piece.modifier == PartModifier::None => self.add_plain(piece.before),
+            None => self.add_fixed(parser, piece),
+        }
+    }
+
+    /// Puts texts behind the pending text.
+    fn add_plain(&mut self, texts: &[Token<'_>]) -> Result<(), Error>
+        ensures parts { self.new.parts ≡ self.old.parts }
+        ensures pending { OnOk result (text_of self.new.pending_fixed_value ≡ text_of self.old.pending_fixed_value ++ joined_values (views texts.now)) }
+        ensures number { self.new.next_numeric_name ≡ self.old.next_numeric_name }
+        ensures memory { IfErr result (λ error. error ≡ errors.OutOfMemory) }
+    {
+        for token in texts {
+            self.pending_fixed_value.push_str(token.value)?;
+        }
+        Ok(())
+    }
+
+    /// Adds texts with a modifier, and the pending text before them.
+    fn add_fixed<F: Fn(&str) -> Result<String, Error>>(
+        &mut self,
+        parser: &PatternParser<'_, F>,
+        piece: Piece<'_, '_>,
+    ) -> Result<(), Error>
+        requires { F.IsAlwaysCallable parser.now.encoding_callback }
+        ensures ok { OnOk result (AddsParts (options_view parser.now.options.now) (encoding_of (FnReturnsAt F.Fn parser.now.encoding_callback)) (part_list_view self.old)
+            (pending_items (part_list_view self.old).pending ++ Fixed (joined_values (views piece.entry.before.now)) piece.entry.modifier ∷ [])
+            (part_list_view self.new)) }
+        ensures number { OnOk result (self.new.next_numeric_name ≡ self.old.next_numeric_name) }
+        ensures err { IfErr result (FailsItems (encoding_of (FnReturnsAt F.Fn parser.now.encoding_callback)) (part_list_view self.old).parts
+            (pending_items (part_list_view self.old).pending ++ Fixed (joined_values (views piece.entry.before.now)) piece.entry.modifier ∷ [])) }
+    {
+        self.add_pending(parser)?;
+        let text = joined(parser.alloc, piece.before)?;
+        if !text.is_empty() {
+            let value = parser.ask(&text)?;
+            self.parts
+                .push(Part::fixed(parser.alloc, value, piece.modifier))?;
+        }
+        Ok(())
+    }
+
+    /// Adds a placeholder with the texts round it, and the pending text before them.
+    fn add_group<F: Fn(&str) -> Result<String, Error>>(
+        &mut self,
+        parser: &PatternParser<'_, F>,
+        piece: Piece<'_, '_>,
+        placeholder: Placeholder<'_>,
+    ) -> Result<(), Error>
+        requires callable { F.IsAlwaysCallable parser.now.encoding_callback }
+        requires wildcard { text_of parser.now.segment_wildcard_regexp ≡ segment_wildcard (options_view parser.now.options.now) }
+        requires room { self.old.next_numeric_name < usize.MAX }
+        ensures ok { OnOk result (AddsParts (options_view parser.now.options.now) (encoding_of (FnReturnsAt F.Fn parser.now.encoding_callback)) (part_list_view self.old)
+            (pending_items (part_list_view self.old).pending ++ group_item piece.entry placeholder.entry self.old.next_numeric_name ∷ [])
+            (part_list_view self.new)) }
+        ensures number { OnOk result (self.new.next_numeric_name ≡ next_number (placeholder_view placeholder.entry).name self.old.next_numeric_name) }
+        ensures err { IfErr result (FailsItems (encoding_of (FnReturnsAt F.Fn parser.now.encoding_callback)) (part_list_view self.old).parts
+            (pending_items (part_list_view self.old).pending ++ group_item piece.entry placeholder.entry self.old.next_numeric_name ∷ [])) }
+    {
+        self.add_pending(parser)?;
+        let name = self.name_of(parser.alloc, placeholder.name)?;
+        if has_name(&self.parts, &name) {
+            return Err(Error::Parser(ParserError::DuplicateName(name)));
+        }
+        let prefix = parser.encode(piece.before)?;
+        let suffix = parser.encode(piece.after)?;
+        let (kind, value) = parser.kind_and_value(placeholder.matched)?;
+        self.parts.push(Part {
+            kind,
+            value,
+            modifier: piece.modifier,
+            name,
+            prefix,
+            suffix,
+        })?;
+        Ok(())
+    }
+
+    /// The name, or else the number of a placeholder among those without a name.
+    fn name_of(&mut self, alloc: Global, name: Option<&str>) -> Result<String, Error>
+        requires { self.old.next_numeric_name < usize.MAX }
+        ensures name { IfOk result (λ text. text_of text ≡ name_or (name_view name.entry) self.old.next_numeric_name) }
+        ensures number { OnOk result (self.new.next_numeric_name ≡ next_number (name_view name.entry) self.old.next_numeric_name) }
+        ensures same { (self.new.parts ≡ self.old.parts) × (self.new.pending_fixed_value ≡ self.old.pending_fixed_value) }
+        ensures memory { IfErr result (λ error. error ≡ errors.OutOfMemory) }
+    {
+        match name {
+            Some(name) => Ok(String::from_str(alloc, name)?),
+            None => {
+                let number = self.next_numeric_name.to_string(alloc)?;
+                self.next_numeric_name += 1;
+                Ok(number)
+            }
+        }
+    }
+
+    /// Adds the pending text as a fixed text, if there is one.
+    ///
+    /// <https://urlpattern.spec.whatwg.org/#maybe-add-a-part-from-the-pending-fixed-value>
+    fn add_pending<F: Fn(&str) -> Result<String, Error>>(
+        &mut self,
+        parser: &PatternParser<'_, F>,
+    ) -> Result<(), Error>
+        requires { F.IsAlwaysCallable parser.now.encoding_callback }
+        ensures ok { OnOk result (AddsParts (options_view parser.now.options.now) (encoding_of (FnReturnsAt F.Fn parser.now.encoding_callback)) (part_list_view self.old)
+            (pending_items (part_list_view self.old).pending) (part_list_view self.new)) }
+        ensures number { OnOk result (self.new.next_numeric_name ≡ self.old.next_numeric_name) }
+        ensures err { IfErr result (FailsItems (encoding_of (FnReturnsAt F.Fn parser.now.encoding_callback)) (part_list_view self.old).parts
+            (pending_items (part_list_view self.old).pending)) }
+    {
+        if self.pending_fixed_value.is_empty() {
+            return Ok(());
+        }
+        let value = parser.ask(&self.pending_fixed_value)?;
+        self.pending_fixed_value.clear();
+        self.parts
+            .push(Part::fixed(parser.alloc, value, PartModifier::None))?;
+        Ok(())
+    }
+
+    /// The parts.
+    fn into_parts(self) -> Vec<Part>
+        ensures { result ≡ self.parts }
+    {
+        self.parts
+    }
+}
+
+impl Part {
+    /// A fixed text.
+    fn fixed(alloc: Global, value: String, modifier: PartModifier) -> Self
+        ensures { part_view result ≡ fixed_text (text_of value) modifier }
+    {
+        Part {
+            kind: PartType::FixedText,
+            value,
+            modifier,
+            name: String::new(alloc),
+            prefix: String::new(alloc),
+            suffix: String::new(alloc),
+        }
+    }
+}
+
+/// Whether a group among the parts has this name.
+///
+/// <https://urlpattern.spec.whatwg.org/#is-a-duplicate-name>
+fn has_name(parts: &[Part], name: &str) -> bool
+    ensures { IsTrue result ↔ Contains (group_names (map part_view parts.now)) (chars name.now) }
+{
+    for part in parts {
+        if part.kind != PartType::FixedText && part.name.as_str() == name {
+            return true;
+        }
+    }
+    false
+}
+
+/// The values of tokens, end to end.
+fn joined(alloc: Global, tokens: &[Token<'_>]) -> Result<String, Error>
+    ensures value { IfOk result (λ text. text_of text ≡ joined_values (views tokens.now)) }
+    ensures memory { IfErr result (λ error. error ≡ errors.OutOfMemory) }
+{
+    let mut text = String::new(alloc);
+    for token in tokens {
+        text.push_str(token.value)?;
+    }
+    Ok(text)
+}
+
+/// The error where a token of this kind has to stand and another does, or that memory ran out.
+fn expected_token(alloc: Global, kind: TokenType, found: Token<'_>) -> Error
+    ensures { MemoryOr (λ error. error ≡ ErrorView.ExpectedToken kind found.entry.kind (chars found.entry.value.now)) result }
+{
+    match String::from_str(alloc, found.value) {
+        Ok(value) => Error::Parser(ParserError::ExpectedToken(kind, found.kind, value)),
+        Err(error) => error.into(),
+    }
+}
