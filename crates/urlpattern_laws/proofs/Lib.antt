@@ -10,3 +10,4 @@ pub mod MatchingLaws
 pub mod TokenLaws
 pub mod ReadingLaws
 pub mod NameLaws
+pub mod RoundTripWords
