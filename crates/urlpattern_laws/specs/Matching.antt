@@ -1,5 +1,5 @@
 -- Which matcher is made of a list of parts, and what a matcher answers to a text.
-use Rattle.std.specs.Prelude.{◌≡◌, ◌≢◌, ℕ, Bool, true, false, List, [], ◌∷◌, ◌++◌, map, Option, Some, None, Result, Ok, Err, IsTrue, if◌then◌else◌, option_to_list}
+use Rattle.std.specs.Prelude.{◌≡◌, ◌≢◌, ◌⊎◌, ℕ, Bool, true, false, List, [], ◌∷◌, ◌++◌, map, Option, Some, None, Result, Ok, Err, IsTrue, if◌then◌else◌, option_to_list}
 use Rattle.std.specs.Char.{to_ascii_lowercase}
 use Rattle.urlpattern_syntax.specs.declared.parser.PartModifier.{PartModifier}
 use Rattle.urlpattern_syntax.specs.declared.parser.PartModifier.TheVariants as modifiers
@@ -137,3 +137,27 @@ Matches answer matcher text captures =
 abbrev pub Answers : {E : Type 0} → (answer : E → List ℕ → Option Captures) → MatcherView E → List ℕ → Option Captures → Type 0
 Answers answer matcher text (Some captures) = Matches answer matcher text captures
 Answers answer matcher text None = (captures : Captures) → ¬ Matches answer matcher text captures
+
+-- the text is matched, with some captures
+abbrev pub IsMatched : {E : Type 0} → (answer : E → List ℕ → Option Captures) → MatcherView E → List ℕ → Type 0
+IsMatched answer matcher text = (captures : Captures) × Matches answer matcher text captures
+
+-- ---- when memory is asked for
+
+-- an engine stands between prefix and suffix
+abbrev pub HoldsEngine : {E : Type 0} → InnerView E → Type 0
+HoldsEngine (RegExp (Ok engine)) = Unit {0}
+HoldsEngine other = ⊥
+
+-- one capture stands between prefix and suffix
+abbrev pub CapturesOne : {E : Type 0} → InnerView E → Type 0
+CapturesOne (SingleCapture filter allow_empty) = Unit {0}
+CapturesOne other = ⊥
+
+-- an engine is asked, as the text begins with the prefix and ends with the suffix
+abbrev pub AsksEngine : {E : Type 0} → MatcherView E → List ℕ → Type 0
+AsksEngine matcher text = (middle : List ℕ) × (text ≡ matcher.prefix ++ middle ++ matcher.suffix) × HoldsEngine matcher.inner
+
+-- memory is asked for: by an engine, or for the list of one capture
+abbrev pub MayWantMemory : {E : Type 0} → (answer : E → List ℕ → Option Captures) → MatcherView E → List ℕ → Type 0
+MayWantMemory answer matcher text = AsksEngine matcher text ⊎ (CapturesOne matcher.inner × IsMatched answer matcher text)
