@@ -1,1 +1,2 @@
+pub mod EngineLemmas
 pub mod RegexpTexts

@@ -1,2 +1,3 @@
 pub mod Captured
+pub mod Engines
 pub mod Matchers
