@@ -1,4 +1,6 @@
+pub mod EcmaRegexps
 pub use Rattle.urlpattern_laws.specs.Dialect
+pub use Rattle.urlpattern_core.specs.Engines
 pub use Rattle.urlpattern_syntax.specs.ErrorText
 pub use Rattle.urlpattern_syntax.specs.Errors
 pub use Rattle.urlpattern_laws.specs.Laws
