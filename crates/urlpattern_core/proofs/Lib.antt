@@ -1,1 +1,3 @@
 pub mod RegexpTexts
+pub mod MatcherTexts
+pub mod MatcherAnswers
