@@ -17,8 +17,8 @@ pub matches-accepts : {E : Type 0} (answer : E → List ℕ → Option Captures)
     Matches answer matcher text captures ↔ Accepts answer matcher.ignore_case matcher.inner middle captures
 matches-accepts answer matcher text middle captures e = (
   λ (other, cut, accepts).
-    subst (λ m. Accepts answer matcher.ignore_case matcher.inner m captures) (middle-one matcher.prefix matcher.suffix other middle (sym cut ∙ e)) accepts,
-  λ accepts. (middle, e, accepts)
+      subst (λ m. Accepts answer matcher.ignore_case matcher.inner m captures) (middle-one matcher.prefix matcher.suffix other middle (sym cut ∙ e)) accepts,
+  λ accepts. (middle, e, accepts),
 )
 
 -- a test tells whether the text is matched, where it tells whether its middle is accepted
@@ -28,8 +28,8 @@ pub matched-by : {E : Type 0} (answer : E → List ℕ → Option Captures) (mat
     IsTrue test ↔ IsMatched answer matcher text
 matched-by answer matcher text middle inner test e is_inner h = (
   λ t. let (captures, accepts) = h.0 t in
-    (captures, (middle, e, subst (λ x. Accepts answer matcher.ignore_case x middle captures) (sym is_inner) accepts)),
-  λ (captures, matches). h.1 (captures, subst (λ x. Accepts answer matcher.ignore_case x middle captures) is_inner ((matches-accepts answer matcher text middle captures e).0 matches))
+      (captures, (middle, e, subst (λ x. Accepts answer matcher.ignore_case x middle captures) (sym is_inner) accepts)),
+  λ (captures, matches). h.1 (captures, subst (λ x. Accepts answer matcher.ignore_case x middle captures) is_inner ((matches-accepts answer matcher text middle captures e).0 matches)),
 )
 
 -- it is not matched, where the test fails

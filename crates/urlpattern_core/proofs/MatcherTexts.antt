@@ -47,8 +47,8 @@ between-some s p d rest None u v front cases = tt
 between-some s p d rest (Some x) u v front (n, found, is_x, len) =
     let whole : rest ≡ x.now ++ d = found.1 ∙ ap (λ t. t ++ d) (sym is_x) in
     let clean : IsUtf8 x.now =
-      subst IsUtf8 (ap (λ k. take (length rest - k) rest) (sym found.0) ∙ sym is_x)
-      (IsUtf8-take rest (length rest - length d) (stripped-utf8 s p rest u front) found.2) in
+    subst IsUtf8 (ap (λ k. take (length rest - k) rest) (sym found.0) ∙ sym is_x)
+    (IsUtf8-take rest (length rest - length d) (stripped-utf8 s p rest u front) found.2) in
     ap chars (stripped s p rest front ∙ ap (λ t. p ++ t) whole) ∙ chars-three p x.now d v clean
 
 pub between-none : (s p d rest : List ℕ) (r : Option (Bor (List ℕ))) → IsUtf8 s → IsUtf8 p → IsUtf8 d → StripsPrefix (FindsTextPrefix p) s rest →
@@ -101,7 +101,7 @@ pub same_but_case : (a b : List ℕ) → IsUtf8 a → IsUtf8 b →
     (map to_ascii_lowercase a ≡ map to_ascii_lowercase b) ↔ (map to_ascii_lowercase (chars a) ≡ map to_ascii_lowercase (chars b))
 same_but_case a b u v = (
   λ e. encodes_same _ _ (sym (lower-bytes a u) ∙ e ∙ lower-bytes b v),
-  λ e. lower-bytes a u ∙ ap encode_utf8_all e ∙ sym (lower-bytes b v)
+  λ e. lower-bytes a u ∙ ap encode_utf8_all e ∙ sym (lower-bytes b v),
 )
 
 -- the same of texts that are the same
@@ -134,11 +134,11 @@ none-lacks c (d ∷ cs) (e, h) = ap (λ b. not b && lacks c cs) e ∙ none-lacks
 pub lacks-searched : (c : ℕ) (s : List ℕ) (r : Bool) → IsUtf8 s → MatchBool r (HasMatch (FindsChar c) s) (FindsChar c s None) → IsTrue (not r) ↔ IsTrue (lacks c (chars s))
 lacks-searched c s true u (i, j, (before, at), order, within) = (
   λ e. absurd (false≢true e),
-  λ h. absurd (has-char before.0 (chars s) (drop j s) c (encodes-chars s u ∙ sym (take-append-drop i s) ∙ ap (λ x. x ++ drop i s) (sym before.1) ∙ ap (λ x. encode_utf8_all before.0 ++ x) at.split) h)
+  λ h. absurd (has-char before.0 (chars s) (drop j s) c (encodes-chars s u ∙ sym (take-append-drop i s) ∙ ap (λ x. x ++ drop i s) (sym before.1) ∙ ap (λ x. encode_utf8_all before.0 ++ x) at.split) h),
 )
 lacks-searched c s false u (cs, is_s, none) = (
   λ e. subst (λ x. IsTrue (lacks c x)) (encodes_same cs (chars s) (is_s ∙ sym (encodes-chars s u))) (none-lacks c cs none),
-  λ h. refl
+  λ h. refl,
 )
 
 not-or : (a b : Bool) → not (a || b) ≡ (not a && not b)

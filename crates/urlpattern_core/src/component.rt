@@ -9,8 +9,11 @@ ghost use Rattle.urlpattern_syntax.specs.Parts.{part_view};
 ghost use Rattle.urlpattern_syntax.specs.RegexpText.{affixed_regexp, bare_regexp, captured, escaped_regexp, fixed_regexp, group_names, grouped, matched_by, part_regexp, regexp_text, repeated_regexp};
 ghost use Rattle.urlpattern_syntax.specs.Text.{text_of};
 
+mod matchers;
+
 use crate::error::Error;
 use crate::parser::{FULL_WILDCARD_REGEXP_VALUE, Options, Part, PartModifier, PartType, push_text};
+pub use matchers::generate_matcher;
 use std::alloc::Global;
 
 /// The regular expression of a list of parts, and the names of its groups in their order.
@@ -27,16 +30,40 @@ pub fn generate_regular_expression_and_name_list(
     ensures names { IfOk result (λ found. map (λ name. text_of name) found.1.items ≡ group_names (map part_view part_list.now)) }
     ensures memory { IfErr result (λ error. error ≡ errors.OutOfMemory) }
 {
+    let text = generate_regular_expression(alloc, part_list, options)?;
+    let names = generate_name_list(alloc, part_list)?;
+    Ok((text, names))
+}
+
+/// The regular expression of a list of parts.
+fn generate_regular_expression(
+    alloc: Global,
+    part_list: &[Part],
+    options: &Options,
+) -> Result<String, Error>
+    ensures text { IfOk result (λ text. text_of text ≡ regexp_text (options_view options.now) (map part_view part_list.now)) }
+    ensures memory { IfErr result (λ error. error ≡ errors.OutOfMemory) }
+{
     let mut text = String::from_str(alloc, "^")?;
-    let mut names = Vec::new(alloc);
     for part in part_list {
         push_part(&mut text, part, options)?;
+    }
+    text.push('$')?;
+    Ok(text)
+}
+
+/// The names of the groups of a list of parts, in their order.
+fn generate_name_list(alloc: Global, part_list: &[Part]) -> Result<Vec<String>, Error>
+    ensures names { IfOk result (λ found. map (λ name. text_of name) found.items ≡ group_names (map part_view part_list.now)) }
+    ensures memory { IfErr result (λ error. error ≡ errors.OutOfMemory) }
+{
+    let mut names = Vec::new(alloc);
+    for part in part_list {
         if part.kind != PartType::FixedText {
             names.push(part.name.clone()?)?;
         }
     }
-    text.push('$')?;
-    Ok((text, names))
+    Ok(names)
 }
 
 /// Appends the regular expression of a part.

@@ -29,7 +29,7 @@ returns-in_ok-matches-in-Ok-clause-answer g c =
     let middle = chars c.in-Some.middle.now in
     let found = captures_view c.in_ok-matches-in-Ok.field-0 in
     let is_inner : matcher.inner ≡ RegExp (Ok c.in-Ok.engine) =
-      ap inner_view c.in-RegExp.is ∙ ap (λ x. RegExp (engine_view x)) c.in-Ok.is in
+    ap inner_view c.in-RegExp.is ∙ ap (λ x. RegExp (engine_view x)) c.in-Ok.is in
     let found_is : c.is_some.result ≡ is_some found = c.is_some.ensures ∙ sym (is_some-map _ c.in_ok-matches-in-Ok.field-0) in
     let accepts = accepts-engine g.R.RegExp.answer matcher.ignore_case c.in-Ok.engine middle found c.in_ok-matches-in-Ok.ensures in
     matched-by g.R.RegExp.answer matcher (chars c.args.input.now) middle _ c.is_some.result c.in-Some.ensures.some is_inner (rw found_is accepts)

@@ -11,12 +11,12 @@ returns-then-not-is_empty g c =
     let text = c.args.text.now in
     let P : Type 0 = PassesFilter c.args.self.now.ignore_case c.args.filter (chars text) in
     let may : MayBeEmpty c.args.allow_empty (chars text) =
-      elim c.if-allow_empty.branch [
-        | then-allow_empty w ↦ subst (λ b. MayBeEmpty b (chars text)) (sym w.if-allow_empty.true) tt
-        | else-allow_empty w ↦
-            let some : ¬ (length text ≡ 0) = search rules in
-            may_be-some c.args.allow_empty (chars text) (chars-some text c.utf8.text some)
-      ] in
+    elim c.if-allow_empty.branch [
+      | then-allow_empty w ↦ subst (λ b. MayBeEmpty b (chars text)) (sym w.if-allow_empty.true) tt
+      | else-allow_empty w ↦
+          let some : ¬ (length text ≡ 0) = search rules in
+          may_be-some c.args.allow_empty (chars text) (chars-some text c.utf8.text some)
+    ] in
     captured-by c.args.allow_empty (chars text) P c.passes.result may c.passes.ensures
 
 pub returns-else-not-is_empty : goal.returns-else-not-is_empty

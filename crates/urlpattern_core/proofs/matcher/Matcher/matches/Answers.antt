@@ -14,7 +14,7 @@ returns-in_err-captures-in-SingleCapture-clause-asked g c =
     let middle = chars c.in-Some.middle.now in
     let is_inner : matcher.inner ≡ SingleCapture c.in-SingleCapture.filter c.in-SingleCapture.allow_empty = ap inner_view c.in-SingleCapture.is in
     let matched = matched-by g.R.RegExp.answer matcher (chars c.args.input.now) middle _ c.is_captured.result c.in-Some.ensures.some is_inner
-      (accepts-single g.R.RegExp.answer matcher.ignore_case c.in-SingleCapture.filter c.in-SingleCapture.allow_empty middle c.is_captured.result c.is_captured.ensures) in
+    (accepts-single g.R.RegExp.answer matcher.ignore_case c.in-SingleCapture.filter c.in-SingleCapture.allow_empty middle c.is_captured.result c.is_captured.ensures) in
     if_err (MayWantMemory g.R.RegExp.answer matcher (chars c.args.input.now)) c.from_residual.result
     (inr (subst CapturesOne (sym is_inner) tt, matched.0 c.if-is_captured.true))
 
