@@ -13,3 +13,8 @@ pub mod NameLaws
 pub mod PartTrees
 pub mod PartTreeTexts
 pub mod PartTreeAllowed
+pub mod Copies
+pub mod TreeMeaning
+pub mod PartAndTree
+pub mod WildcardItems
+pub mod PartTreeMeans

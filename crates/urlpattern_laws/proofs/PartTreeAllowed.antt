@@ -3,7 +3,7 @@ use Rattle.std.proofs.Common.{◌≡◌, ℕ, ◌+◌, List, [], ◌∷◌, ◌+
 use Rattle.std.proofs.lemmas.List.Elements.{All-head, All-tail}
 use Rattle.std.proofs.lemmas.List.Folds.{list_any-append}
 use Rattle.std.specs.Prelude.{codes, ◌≢◌, ◌==◌, ◌||◌, ◌&&◌, if◌then◌else◌, All, IsTrue}
-use Rattle.urlpattern_laws.specs.Dialect.{AllowsGroups, AreItems, Character, Items, Nothing, Item, Atom, Captured, Grouped, IsAtom, IsCharacter, IsClassCharacter, Plain, Escaped, Once, LazyOneOrMore, Quantifier, atom_group_count, group_count}
+use Rattle.urlpattern_laws.specs.Dialect.{AllowsGroups, AreItems, Items, Nothing, IsAtom, IsCharacter, IsClassCharacter, Plain, Escaped, LazyOneOrMore, group_count}
 use Rattle.urlpattern_syntax.specs.declared.parser.PartModifier.{PartModifier}
 use Rattle.urlpattern_syntax.specs.declared.parser.PartModifier.TheVariants as modifiers
 use Rattle.urlpattern_syntax.specs.declared.parser.PartType.{PartType}
@@ -15,7 +15,7 @@ use Rattle.urlpattern_syntax.specs.Parts.{PartView}
 use Rattle.urlpattern_syntax.specs.RegexpText.{escaped_marks, is_empty, regexp_marks, IsWildcard}
 use Rattle.urlpattern_syntax.specs.Text.{is_among}
 use Rattle.urlpattern_laws.proofs.MatchingLaws.{part_of}
-use Rattle.urlpattern_laws.proofs.PartTrees.{IsNotCustom, affixed_core, affixed_quantifier, alone, bare_core, bare_quantifier, between, character, copies, fixed_tree, group_atom, group_quantifier, part_tree, put, segment_atom, tree_of, wildcard_items}
+use Rattle.urlpattern_laws.proofs.PartTrees.{IsNotCustom, affixed_core, alone, bare_core, copies, fixed_tree, further, group_atom, group_quantifier, part_tree, put, segment_atom, tree_of, wildcard_items}
 use Rattle.urlpattern_syntax.proofs.TokenExamples.{no}
 
 -- ---- marks
@@ -85,8 +85,12 @@ bare_allowed modifiers.Optional piece groupless = groupless.allowed
 bare_allowed modifiers.ZeroOrMore piece groupless = (groupless.allowed, groupless.no_groups, tt)
 bare_allowed modifiers.OneOrMore piece groupless = (groupless.allowed, groupless.no_groups, tt)
 
-further_groups : (marks prefix : List ℕ) (piece : Items) (suffix : List ℕ) → group_count piece ≡ 0 → group_count (put marks suffix (put marks prefix (alone (Grouped piece) Once))) ≡ 0
+further_groups : (marks prefix : List ℕ) (piece : Items) (suffix : List ℕ) → group_count piece ≡ 0 → group_count (further marks prefix piece suffix) ≡ 0
 further_groups marks prefix piece suffix e = put_groups marks suffix _ ∙ put_groups marks prefix _ ∙ ap (λ n. n + 0) e
+
+pub copies_groups : (marks prefix : List ℕ) (piece : Items) (suffix : List ℕ) → group_count piece ≡ 0 → group_count (copies marks prefix piece suffix) ≡ 0
+copies_groups marks prefix piece suffix e =
+    ap (λ n. n + (group_count (further marks prefix piece suffix) + 0)) e ∙ ap (λ n. 0 + (n + 0)) (further_groups marks prefix piece suffix e)
 
 copies_allowed : (marks prefix : List ℕ) (piece : Items) (suffix : List ℕ) → AreMarks marks → AreGroupless piece → AreItems (copies marks prefix piece suffix)
 copies_allowed marks prefix piece suffix are groupless = (

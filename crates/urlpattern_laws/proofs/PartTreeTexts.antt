@@ -4,7 +4,7 @@ use Rattle.std.proofs.lemmas.List.{append-nil}
 use Rattle.std.proofs.lemmas.List.Elements.{All-head, All-tail}
 use Rattle.std.specs.List.{flat_map}
 use Rattle.std.specs.Prelude.{codes, ◌≢◌, ◌&&◌, if◌then◌else◌, All}
-use Rattle.urlpattern_laws.specs.Dialect.{Items, Nothing, Item, Captured, Grouped, Plain, Escaped, Once, ZeroOrMore, LazyOneOrMore, character_text, items_text}
+use Rattle.urlpattern_laws.specs.Dialect.{Items, Nothing, Item, Captured, Grouped, Plain, Escaped, ZeroOrMore, LazyOneOrMore, character_text, items_text}
 use Rattle.urlpattern_syntax.specs.declared.parser.PartModifier.{PartModifier}
 use Rattle.urlpattern_syntax.specs.declared.parser.PartModifier.TheVariants as modifiers
 use Rattle.urlpattern_syntax.specs.declared.parser.PartType.{PartType}
@@ -14,7 +14,7 @@ use Rattle.urlpattern_syntax.specs.Options.{OptionsView}
 use Rattle.urlpattern_syntax.specs.Parts.{PartView}
 use Rattle.urlpattern_syntax.specs.RegexpText.{affixed_regexp, bare_regexp, captured, escaped, escaped_marks, escaped_regexp, fixed_regexp, grouped, is_empty, matched_by, part_regexp, regexp_text, segment_wildcard_of, IsWildcard}
 use Rattle.urlpattern_syntax.specs.Text.{is_among}
-use Rattle.urlpattern_laws.proofs.PartTrees.{IsNotCustom, affixed_core, affixed_quantifier, alone, bare_core, bare_quantifier, between, character, copies, fixed_tree, group_atom, group_quantifier, part_tree, put, segment_atom, tree_of, wildcard_items}
+use Rattle.urlpattern_laws.proofs.PartTrees.{IsNotCustom, affixed_core, affixed_quantifier, alone, bare_core, bare_quantifier, between, character, copies, fixed_tree, further, group_atom, group_quantifier, part_tree, put, segment_atom, tree_of, wildcard_items}
 use Rattle.urlpattern_laws.proofs.MatchingLaws.{part_of}
 
 -- ---- texts
@@ -79,7 +79,7 @@ between_text marks prefix core suffix =
 
 -- copies without the first prefix and the last suffix
 further_text : (marks prefix : List ℕ) (piece : Items) (suffix : List ℕ) →
-    items_text (put marks suffix (put marks prefix (alone (Grouped piece) Once))) ≡ escaped marks suffix ++ escaped marks prefix ++ grouped (items_text piece)
+    items_text (further marks prefix piece suffix) ≡ escaped marks suffix ++ escaped marks prefix ++ grouped (items_text piece)
 further_text marks prefix piece suffix =
     put_text marks suffix _
     ∙ ap (λ t. escaped marks suffix ++ t) (put_text marks prefix _)
@@ -89,7 +89,7 @@ further_text marks prefix piece suffix =
 copies_text : (marks prefix : List ℕ) (piece : Items) (suffix : List ℕ) →
     items_text (copies marks prefix piece suffix) ≡ grouped (items_text piece) ++ grouped (escaped marks suffix ++ escaped marks prefix ++ grouped (items_text piece)) ++ codes "*"
 copies_text marks prefix piece suffix =
-    ap (λ t. t ++ items_text (alone (Grouped (put marks suffix (put marks prefix (alone (Grouped piece) Once)))) ZeroOrMore)) (append-nil (grouped (items_text piece)))
+    ap (λ t. t ++ items_text (alone (Grouped (further marks prefix piece suffix)) ZeroOrMore)) (append-nil (grouped (items_text piece)))
     ∙ ap (λ t. grouped (items_text piece) ++ t) (append-nil _)
     ∙ ap (λ t. grouped (items_text piece) ++ (grouped t ++ codes "*")) (further_text marks prefix piece suffix)
     ∙ sym (append_assoc (grouped (items_text piece)) (grouped (escaped marks suffix ++ escaped marks prefix ++ grouped (items_text piece))) (codes "*"))
@@ -107,7 +107,7 @@ affixed_text modifiers.ZeroOrMore marks prefix piece suffix items =
 affixed_text modifiers.OneOrMore marks prefix piece suffix items =
     ap (λ t. t ++ items_text items)
     (append-nil (grouped (items_text (between marks prefix (copies marks prefix piece suffix) suffix)))
-      ∙ ap grouped (between_text marks prefix (copies marks prefix piece suffix) suffix ∙ ap (λ t. escaped marks prefix ++ captured t ++ escaped marks suffix) (copies_text marks prefix piece suffix)))
+    ∙ ap grouped (between_text marks prefix (copies marks prefix piece suffix) suffix ∙ ap (λ t. escaped marks prefix ++ captured t ++ escaped marks suffix) (copies_text marks prefix piece suffix)))
 
 group_text : (is_bare : Bool) (modifier : PartModifier) (marks prefix : List ℕ) (piece : Items) (suffix : List ℕ) (items : Items) →
     items_text (Item (group_atom is_bare modifier marks prefix piece suffix) (group_quantifier is_bare modifier) items)
@@ -118,8 +118,8 @@ group_text false modifier marks prefix piece suffix items = affixed_text modifie
 wild_text : (options : OptionsView) (kind : PartType) (modifier : PartModifier) (value prefix suffix : List ℕ) (items : Items) → IsWildcard kind →
     items_text (Item (group_atom (is_empty prefix && is_empty suffix) modifier (escaped_marks options.syntax) prefix (wildcard_items options kind) suffix) (group_quantifier (is_empty prefix && is_empty suffix) modifier) items)
     ≡ (if is_empty prefix && is_empty suffix
-      then bare_regexp modifier (matched_by options kind value)
-      else affixed_regexp modifier (escaped_regexp options prefix) (matched_by options kind value) (escaped_regexp options suffix)) ++ items_text items
+    then bare_regexp modifier (matched_by options kind value)
+    else affixed_regexp modifier (escaped_regexp options prefix) (matched_by options kind value) (escaped_regexp options suffix)) ++ items_text items
 wild_text options kind modifier value prefix suffix items h =
     rw (← wildcard_text options kind value h) (group_text (is_empty prefix && is_empty suffix) modifier (escaped_marks options.syntax) prefix (wildcard_items options kind) suffix items)
 

@@ -56,10 +56,14 @@ abbrev pub bare_quantifier : PartModifier → Quantifier
 bare_quantifier modifiers.Optional = quantifiers.Optional
 bare_quantifier modifier = quantifiers.Once
 
+-- what a further copy adds
+abbrev pub further : (marks prefix : List ℕ) → (piece : Items) → (suffix : List ℕ) → Items
+further marks prefix piece suffix = put marks suffix (put marks prefix (alone (Grouped piece) quantifiers.Once))
+
 -- one or more copies, without the first prefix and the last suffix
 abbrev pub copies : (marks prefix : List ℕ) → (piece : Items) → (suffix : List ℕ) → Items
 copies marks prefix piece suffix =
-    Item (Grouped piece) quantifiers.Once (alone (Grouped (put marks suffix (put marks prefix (alone (Grouped piece) quantifiers.Once)))) quantifiers.ZeroOrMore)
+    Item (Grouped piece) quantifiers.Once (alone (Grouped (further marks prefix piece suffix)) quantifiers.ZeroOrMore)
 
 -- what a group with a prefix or a suffix captures, and how often it is taken
 abbrev pub affixed_core : PartModifier → (marks prefix : List ℕ) → (piece : Items) → (suffix : List ℕ) → Items
