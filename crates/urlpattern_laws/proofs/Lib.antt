@@ -10,3 +10,6 @@ pub mod MatchingLaws
 pub mod TokenLaws
 pub mod ReadingLaws
 pub mod NameLaws
+pub mod DialectSpelled
+pub mod DialectLeads
+pub mod DialectUnique
