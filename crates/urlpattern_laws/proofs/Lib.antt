@@ -18,3 +18,6 @@ pub mod TreeMeaning
 pub mod PartAndTree
 pub mod WildcardItems
 pub mod PartTreeMeans
+pub mod DialectSpelled
+pub mod DialectLeads
+pub mod DialectUnique

@@ -6,6 +6,7 @@ ghost use Rattle.std.specs.Prelude.{◌≡◌, ◌≢◌, ◌↔◌, ◌⊎◌, 
 ghost use Rattle.std.specs.Char.{is_ascii_digit};
 ghost use Rattle.urlpattern_syntax.specs.declared.tokenizer.TokenType.TheVariants.{End, Name};
 ghost use Rattle.urlpattern_syntax.specs.Errors.{ErrorView};
+ghost use Rattle.urlpattern_laws.specs.Dialect.{IsTreeOf, Items};
 ghost use Rattle.urlpattern_laws.specs.Laws.{AnswersOnce, CountFrom, Lays, listed, numbers_among, spelling};
 ghost use Rattle.urlpattern_laws.specs.Matching.{ArePeeled, end_text};
 ghost use Rattle.urlpattern_syntax.specs.Options.{OptionsView};
@@ -100,4 +101,9 @@ pub fn names_are_new()
         Reads text options (listed answers) parts → CountFrom 0 (numbers_among (group_names parts)) }
     ensures given { (text : List ℕ) (tokens front back : List TokenView) (token : TokenView) → AreTokens text tokens → tokens ≡ front ++ token ∷ back → token.kind ≡ Name →
         ¬ BeginsWith is_ascii_digit token.value }
+{}
+
+/// A text has one tree of the dialect at most.
+pub fn dialect_trees_are_one()
+    ensures { (text : List ℕ) (tree other : Items) → IsTreeOf text tree → IsTreeOf text other → tree ≡ other }
 {}
