@@ -21,3 +21,5 @@ pub mod PartTreeMeans
 pub mod DialectSpelled
 pub mod DialectLeads
 pub mod DialectUnique
+pub mod CaptureCount
+pub mod JoinedRegexp
