@@ -23,3 +23,6 @@ pub mod DialectLeads
 pub mod DialectUnique
 pub mod CaptureCount
 pub mod JoinedRegexp
+pub mod Peeling
+pub mod OneMeaning
+pub mod MatcherMeaning
