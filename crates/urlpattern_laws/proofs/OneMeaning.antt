@@ -9,7 +9,7 @@ use Rattle.urlpattern_laws.specs.PartMeaning.{Captures, PartsMean}
 use Rattle.urlpattern_syntax.specs.Options.{OptionsView}
 use Rattle.urlpattern_syntax.specs.Parts.{PartView}
 use Rattle.urlpattern_syntax.specs.RegexpText.{regexp_text}
-use Rattle.urlpattern_laws.proofs.DialectUnique.{only_tree}
+use Rattle.urlpattern_laws.proofs.DialectUnique.{only_tree, trees_are_one}
 use Rattle.urlpattern_laws.proofs.PartTreeAllowed.{tree_allowed}
 use Rattle.urlpattern_laws.proofs.PartTreeMeans.{tree_means}
 use Rattle.urlpattern_laws.proofs.PartTreeTexts.{tree_text}
@@ -22,6 +22,13 @@ is_tree_of options parts h = (tree_text options parts h, tree_allowed options pa
 pub one_meaning : (options : OptionsView) (parts : List PartView) → All IsNotCustom parts →
     (tree : Items) × IsOnlyTreeOf (regexp_text options parts) tree × ((text : List ℕ) (captures : Captures) → Means tree text captures ↔ PartsMean options parts text captures)
 one_meaning options parts h = (tree_of options parts, only_tree (regexp_text options parts) (tree_of options parts) (is_tree_of options parts h), tree_means options parts h)
+
+-- so each tree of it does
+pub each_tree_means : (options : OptionsView) (parts : List PartView) (tree : Items) (text : List ℕ) (captures : Captures) → All IsNotCustom parts → IsTreeOf (regexp_text options parts) tree →
+    Means tree text captures ↔ PartsMean options parts text captures
+each_tree_means options parts tree text captures h is =
+    subst (λ t. Means t text captures ↔ PartsMean options parts text captures) (trees_are_one (regexp_text options parts) (tree_of options parts) tree (is_tree_of options parts h) is)
+    (tree_means options parts h text captures)
 
 -- ---- engines
 
