@@ -26,3 +26,5 @@ pub mod JoinedRegexp
 pub mod Peeling
 pub mod OneMeaning
 pub mod MatcherMeaning
+pub mod MatcherShape
+pub mod OneMeaningExamples

@@ -3,7 +3,6 @@ use Rattle.std.proofs.Common.{◌≡◌, ℕ, List, [], ◌∷◌, ◌++◌, ref
 use Rattle.std.proofs.lemmas.List.Elements.{All-cons, All-head, All-nil, All-tail}
 use Rattle.std.specs.Prelude.{◌≢◌, ◌&&◌, All, IsTrue, Ok, Err, option_to_list}
 use Rattle.std.specs.Str.{all_scalars}
-use Rattle.urlpattern_laws.specs.Dialect.{Follows}
 use Rattle.urlpattern_laws.specs.Matching.{Accepts, Agrees, AgreesInMiddle, Answers, ArePeeled, FollowsMiddle, InnerView, IsEngineOf, IsMadeBetween, IsMadeOf, IsMadeOfOne, Literal, MatcherView, Matches, RegExp, SingleCapture, end_text}
 use Rattle.urlpattern_laws.specs.PartMeaning.{Captures, PartsMean}
 use Rattle.urlpattern_syntax.specs.declared.parser.PartModifier.{PartModifier}
@@ -13,14 +12,12 @@ use Rattle.urlpattern_syntax.specs.declared.parser.PartType.TheVariants.{Regexp,
 use Rattle.urlpattern_syntax.specs.Errors.{ErrorView}
 use Rattle.urlpattern_syntax.specs.Options.{OptionsView}
 use Rattle.urlpattern_syntax.specs.Parts.{PartView}
-use Rattle.urlpattern_syntax.specs.RegexpText.{regexp_text}
 use Rattle.urlpattern_syntax.specs.Text.{lacks, line_feed}
-use Rattle.urlpattern_laws.proofs.MatchingLaws.{IsFast, and_left, and_right, fast_means, part_of}
+use Rattle.urlpattern_laws.proofs.MatchingLaws.{IsFast, and_right, fast_means}
 use Rattle.urlpattern_laws.proofs.MeaningLaws.{peeled_means}
 use Rattle.urlpattern_laws.proofs.OneMeaning.{follows_agrees}
 use Rattle.urlpattern_laws.proofs.PartTrees.{IsNotCustom}
 use Rattle.urlpattern_laws.proofs.Peeling.{middle_one}
-use Rattle.urlpattern_syntax.proofs.TokenExamples.{no}
 
 -- ---- texts of characters
 

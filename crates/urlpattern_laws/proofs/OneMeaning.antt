@@ -1,7 +1,6 @@
 -- Parts and their regular expression mean the same, and an engine that follows the one answers what the other mean.
-use Rattle.std.proofs.Common.{◌≡◌, ℕ, List, Some, None, Option, subst, ◌↔◌, refl, sym, ap, ◌∙◌}
-use Rattle.std.proofs.lemmas.List.Elements.{All-head}
-use Rattle.std.specs.Prelude.{◌≢◌, All, IsTrue, MatchOption}
+use Rattle.std.proofs.Common.{◌≡◌, ℕ, List, Some, None, Option, subst, ◌↔◌}
+use Rattle.std.specs.Prelude.{All, IsTrue, MatchOption}
 use Rattle.std.specs.Str.{all_scalars}
 use Rattle.urlpattern_laws.specs.Dialect.{Follows, IsOnlyTreeOf, IsTreeOf, Items, Means}
 use Rattle.urlpattern_laws.specs.Matching.{Agrees}

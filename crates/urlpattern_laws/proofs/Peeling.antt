@@ -1,5 +1,5 @@
 -- Plain fixed texts go off the ends of parts in one way.
-use Rattle.std.proofs.Common.{◌≡◌, ℕ, List, [], ◌∷◌, ◌++◌, refl, sym, subst, Some, None, Option, ◌∙◌}
+use Rattle.std.proofs.Common.{◌≡◌, List, [], ◌∷◌, ◌++◌, sym, subst, Some, None, Option, ◌∙◌}
 use Rattle.std.proofs.lemmas.List.{append-nil, same_from_push}
 use Rattle.std.specs.Prelude.{IsTrue, option_to_list}
 use Rattle.urlpattern_laws.specs.Matching.{ArePeeled, BeginsPlain, EndsPlain, GoesOff}

@@ -147,8 +147,7 @@ abbrev pub Agrees : OptionsView → List PartView → List ℕ → Option Captur
 Agrees options parts text (Some captures) = PartsMean options parts text captures
 Agrees options parts text None = (captures : Captures) → ¬ PartsMean options parts text captures
 
--- where a matcher of these parts asks an engine, this holds of the engine's value and the parts that are left between the
--- ends; an error that is kept stands for no parts
+-- where an engine is asked, `Is` holds of its value and the parts left between the ends; an error that is kept fails this
 abbrev pub IsOfMiddle : {E : Type 0} → (Is : E → (middle : List PartView) → Type 0) → List PartView → InnerView E → Type 0
 IsOfMiddle Is parts (RegExp (Ok engine)) =
     (front : Option PartView) × (middle : List PartView) × (back : Option PartView) × ArePeeled parts front middle back × Is engine middle
