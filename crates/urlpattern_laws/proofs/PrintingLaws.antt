@@ -55,7 +55,7 @@ append-filled (c ∷ text) more h e = cc e
 
 -- ---- plain fixed texts
 
-plain_kind : (kind : PartType) (modifier : PartModifier) → IsTrue (is_fixed_text kind && is_unmodified modifier) → kind ≡ FixedText
+pub plain_kind : (kind : PartType) (modifier : PartModifier) → IsTrue (is_fixed_text kind && is_unmodified modifier) → kind ≡ FixedText
 plain_kind FixedText modifier h = refl
 plain_kind kind modifier h = absurd (no h)
 
