@@ -13,3 +13,4 @@ pub mod NameLaws
 pub mod RoundTripWords
 pub mod ReadParts
 pub mod JoinedParts
+pub mod StandingItems

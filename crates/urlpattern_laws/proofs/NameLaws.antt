@@ -217,7 +217,7 @@ good_items number (pieces.Group before placeholder after modifier ∷ list) h =
 -- ---- new names
 
 -- none of the names stands among those before it
-abbrev NewNames : (earlier : List (List ℕ)) → List Item → Type 0
+abbrev pub NewNames : (earlier : List (List ℕ)) → List Item → Type 0
 NewNames earlier [] = Unit {0}
 NewNames earlier (Fixed text modifier ∷ items) = NewNames earlier items
 NewNames earlier (Capture prefix name match suffix modifier ∷ items) = (¬ Contains earlier name) × NewNames (earlier ++ name ∷ []) items
@@ -240,7 +240,7 @@ met_new encoding earlier (Fixed text modifiers.OneOrMore ∷ items) found h =
 met_new encoding earlier (Capture prefix name match suffix modifier ∷ items) found h =
     (h.0, met_new encoding (earlier ++ name ∷ []) items found h.1.1.1)
 
-abbrev Differ : List ℕ → List ℕ → Type 0
+abbrev pub Differ : List ℕ → List ℕ → Type 0
 Differ name other = name ≢ other
 
 -- What is to be shown of names that are new behind others.
