@@ -14,3 +14,4 @@ pub mod RoundTripWords
 pub mod ReadParts
 pub mod JoinedParts
 pub mod StandingItems
+pub mod ReadsBack
