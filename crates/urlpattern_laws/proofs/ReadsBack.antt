@@ -1,7 +1,9 @@
 -- A printed pattern reads as the joined parts and as nothing else.
 use Rattle.std.proofs.Common.{◌≡◌, ℕ, ◌<◌, arith, List, [], ◌∷◌, refl, sym, ap, ◌∙◌, subst, inl, inr}
 use Rattle.std.specs.Prelude.{AllPairs, Contains, Result, Ok, Err, ◌↔◌}
+use Rattle.std.proofs.lemmas.Bool.{both_ways}
 use Rattle.urlpattern_syntax.proofs.ReadingLemmas.{item_names, names-AreParts}
+use Rattle.urlpattern_syntax.proofs.TokenExamples.{literals}
 use Rattle.urlpattern_syntax.specs.Errors.{ErrorView}
 use Rattle.urlpattern_syntax.specs.Options.{OptionsView}
 use Rattle.urlpattern_syntax.specs.Parts.{PartView}
@@ -10,14 +12,14 @@ use Rattle.urlpattern_syntax.specs.Reading.{AreParts, Encoding, FailsDemand, Fir
 use Rattle.urlpattern_syntax.specs.RegexpText.{group_names}
 use Rattle.urlpattern_syntax.specs.Tokens.{end_of}
 use Rattle.urlpattern_laws.specs.Printing.{HaveTexts, Keeps, KeepsTexts, encoded_texts, joined, printed}
-use Rattle.urlpattern_laws.specs.RoundTrip.{ArePatternParts, AreUnskipped, IsPrefixPoint}
+use Rattle.urlpattern_laws.specs.RoundTrip.{ArePatternParts, AreUnskipped, IsPrefixPoint, IsPrintable, IsStandard, WereRead}
 use Rattle.urlpattern_laws.proofs.JoinedParts.{joined_apart, joined_pattern_parts, joined_unskipped}
 use Rattle.urlpattern_laws.proofs.NameLaws.{Differ, NewNames}
 use Rattle.urlpattern_laws.proofs.PrintingLaws.{joined_texts, printed_joined}
 use Rattle.urlpattern_laws.proofs.ReadingLaws.{text_pieces_one}
 use Rattle.urlpattern_laws.proofs.ReadParts.{read_parts_are_pattern_parts}
 use Rattle.urlpattern_laws.proofs.RoundTripWords.{AreApart, PrintsItsParts}
-use Rattle.urlpattern_laws.proofs.StandingItems.{AllStand, EachText, distinct_new, items_stand, stand_met, stand_only, stand_parts, stand_unfailing}
+use Rattle.urlpattern_laws.proofs.StandingItems.{AllStand, EachText, distinct_new, each_contained, items_stand, stand_met, stand_only, stand_parts, stand_failing}
 use Rattle.urlpattern_laws.proofs.TokensUnique.{tokens_or_fault}
 
 -- ---- parts whose printed text has tokens and pieces that stand for them
@@ -59,13 +61,13 @@ module _ (options : OptionsView) (encoding : Encoding) (Of : List ℕ → Type 0
           reads.are_tokens prints.are_tokens reads.are_pieces prints.are_pieces in
       stand_only options encoding Of only parts (items_of prints.pieces) others all_stand (subst (λ x. AreParts options encoding (items_of x) others) e.0 reads.are_parts)
 
-  -- nor is it refused, where it answers none by an error
-  reads_unrefused : ((text : List ℕ) (error : ErrorView) → Of text → ¬ encoding text (Err error)) → (error : ErrorView) → ¬ Refuses (printed options parts) options encoding error
-  reads_unrefused answered error (inl fault) = tokens_or_fault (printed options parts) prints.tokens fault.0 fault.1 prints.are_tokens fault.2
-  reads_unrefused answered error (inr refused) =
+  -- it is refused only by an error that the encoding may answer to one of them
+  reads_refused : (error : ErrorView) → Refuses (printed options parts) options encoding error → (text : List ℕ) × Of text × encoding text (Err error)
+  reads_refused error (inl fault) = absurd (tokens_or_fault (printed options parts) prints.tokens fault.0 fault.1 prints.are_tokens fault.2)
+  reads_refused error (inr refused) =
       let e = text_pieces_one (printed options parts) options.prefix refused.tokens prints.tokens refused.pieces prints.pieces refused.ending (endings.Stops (end_of (printed options parts)))
           refused.are_tokens prints.are_tokens refused.are_pieces prints.are_pieces in
-      stand_unfailing options encoding Of answered [] parts (items_of prints.pieces) (end_of (printed options parts)) error all_stand all_new refl
+      stand_failing options encoding Of [] parts (items_of prints.pieces) (end_of (printed options parts)) error all_stand all_new refl
       (subst (λ x. FirstFails encoding (demands (items_of prints.pieces) x) error) e.1
       (subst (λ x. FirstFails encoding (demands (items_of x) refused.ending) error) e.0 refused.fails))
 
@@ -76,39 +78,32 @@ abbrev pub PartsArePrinted : Type 0
 PartsArePrinted =
     (options : OptionsView) (parts : List PartView) → IsPrefixPoint options.prefix → ArePatternParts options parts → HaveTexts parts → AreUnskipped parts → AreApart parts → PrintsItsParts options parts
 
--- What a printed pattern needs to read back.
-pub record IsPrintable (options : OptionsView) (parts : List PartView) : Type 0 where
-  pub point : IsPrefixPoint options.prefix
-  pub facts : ArePatternParts options parts
-  pub filled : HaveTexts parts
-  pub unskipped : AreUnskipped parts
-
 module _ (prints_its_parts : PartsArePrinted) (options : OptionsView) (encoding : Encoding) (Of : List ℕ → Type 0) (parts : List PartView)
          (printable : IsPrintable options parts) (texts : EachText Of (encoded_texts (joined parts))) where
   joined_prints : PrintsItsParts options (joined parts)
   joined_prints =
-      prints_its_parts options (joined parts) printable.point (joined_pattern_parts options parts printable.facts) (joined_texts parts printable.filled)
+      prints_its_parts options (joined parts) printable.point (joined_pattern_parts options parts printable.pattern_parts) (joined_texts parts printable.texts)
       (joined_unskipped parts printable.unskipped) (joined_apart parts)
 
   same_printed : printed options (joined parts) ≡ printed options parts
-  same_printed = printed_joined options parts printable.filled
+  same_printed = printed_joined options parts printable.texts
 
   -- the printed pattern reads as the joined parts, where the encoding may answer each of their texts by itself
   pub reads_back : ((text : List ℕ) → Of text → encoding text (Ok text)) → Reads (printed options parts) options encoding (joined parts)
   reads_back itself =
       subst (λ x. Reads x options encoding (joined parts)) same_printed
-      (reads_itself options encoding Of (joined parts) joined_prints (joined_pattern_parts options parts printable.facts) (joined_texts parts printable.filled) texts itself)
+      (reads_itself options encoding Of (joined parts) joined_prints (joined_pattern_parts options parts printable.pattern_parts) (joined_texts parts printable.texts) texts itself)
 
   -- and as no others, where it answers each by no other text
   pub reads_back_only : ((text other : List ℕ) → Of text → encoding text (Ok other) → other ≡ text) → (others : List PartView) → Reads (printed options parts) options encoding others → others ≡ joined parts
   reads_back_only only others reads =
-      reads_only options encoding Of (joined parts) joined_prints (joined_pattern_parts options parts printable.facts) (joined_texts parts printable.filled) texts only others
+      reads_only options encoding Of (joined parts) joined_prints (joined_pattern_parts options parts printable.pattern_parts) (joined_texts parts printable.texts) texts only others
       (subst (λ x. Reads x options encoding others) (sym same_printed) reads)
 
-  -- nor is it refused, where it answers none by an error
-  pub unrefused_back : ((text : List ℕ) (error : ErrorView) → Of text → ¬ encoding text (Err error)) → (error : ErrorView) → ¬ Refuses (printed options parts) options encoding error
-  unrefused_back answered error refuses =
-      reads_unrefused options encoding Of (joined parts) joined_prints (joined_pattern_parts options parts printable.facts) (joined_texts parts printable.filled) texts answered error
+  -- it is refused only by an error that the encoding may answer to one of them
+  pub refused_back : (error : ErrorView) → Refuses (printed options parts) options encoding error → (text : List ℕ) × Of text × encoding text (Err error)
+  refused_back error refuses =
+      reads_refused options encoding Of (joined parts) joined_prints (joined_pattern_parts options parts printable.pattern_parts) (joined_texts parts printable.texts) texts error
       (subst (λ x. Refuses x options encoding error) (sym same_printed) refuses)
 
   -- what it reads as is printed as the same text
@@ -142,13 +137,36 @@ module _ (prints_its_parts : PartsArePrinted) (options : OptionsView) (encoding 
   kept_reads_only = reads_back_only prints_its_parts options encoding (IsKept encoding) parts printable (each_kept encoding (encoded_texts (joined parts)) keeps.1) (kept_only encoding)
 
   pub kept_unrefused : (error : ErrorView) → ¬ Refuses (printed options parts) options encoding error
-  kept_unrefused = unrefused_back prints_its_parts options encoding (IsKept encoding) parts printable (each_kept encoding (encoded_texts (joined parts)) keeps.1) (kept_answered encoding)
+  kept_unrefused error refuses =
+      let answered = refused_back prints_its_parts options encoding (IsKept encoding) parts printable (each_kept encoding (encoded_texts (joined parts)) keeps.1) error refuses in
+      kept_answered encoding answered.0 error answered.1 answered.2
 
   pub kept_same : (others : List PartView) → Reads (printed options parts) options encoding others → printed options others ≡ printed options parts
   kept_same = same_back prints_its_parts options encoding (IsKept encoding) parts printable (each_kept encoding (encoded_texts (joined parts)) keeps.1) (kept_only encoding)
+
+-- ---- encodings that may fail, such as a callback that may run out of memory
+
+module _ (prints_its_parts : PartsArePrinted) (options : OptionsView) (encoding : Encoding) (parts : List PartView) (printable : IsPrintable options parts) where
+  -- whatever the text reads as is the joined parts, where the encoding answers each of their texts by itself if at all
+  pub asked_only : ((text other : List ℕ) → Contains (encoded_texts (joined parts)) text → encoding text (Ok other) → other ≡ text) →
+      (others : List PartView) → Reads (printed options parts) options encoding others → others ≡ joined parts
+  asked_only only = reads_back_only prints_its_parts options encoding (Contains (encoded_texts (joined parts))) parts printable (each_contained (encoded_texts (joined parts))) only
+
+  -- whatever error refuses the text is one that the encoding may answer to one of their texts
+  pub asked_refused : (error : ErrorView) → Refuses (printed options parts) options encoding error → (text : List ℕ) × Contains (encoded_texts (joined parts)) text × encoding text (Err error)
+  asked_refused = refused_back prints_its_parts options encoding (Contains (encoded_texts (joined parts))) parts printable (each_contained (encoded_texts (joined parts)))
 
 -- ---- parts that were read
 
 pub read_printable : (text : List ℕ) (options : OptionsView) (encoding : Encoding) (parts : List PartView) → IsPrefixPoint options.prefix → Reads text options encoding parts → HaveTexts parts → AreUnskipped parts → IsPrintable options parts
 read_printable text options encoding parts point reads filled unskipped =
-    record { point = point; facts = read_parts_are_pattern_parts text options encoding parts reads; filled = filled; unskipped = unskipped }
+    record { point = point; pattern_parts = read_parts_are_pattern_parts text options encoding parts reads; texts = filled; unskipped = unskipped }
+
+pub standard_point : (options : OptionsView) → IsStandard options → IsPrefixPoint options.prefix
+unfolding literals
+standard_point options (inl like) = subst IsPrefixPoint (sym like.1) tt
+standard_point options (inr (inl like)) = subst IsPrefixPoint (sym like.1) tt
+standard_point options (inr (inr like)) = subst IsPrefixPoint (sym like.1) (both_ways _ refl, both_ways _ refl)
+
+pub were_read_printable : (text : List ℕ) (options : OptionsView) (encoding : Encoding) (parts : List PartView) → WereRead text options encoding parts → IsPrintable options parts
+were_read_printable text options encoding parts read = read_printable text options encoding parts (standard_point options read.standard) read.reads read.texts read.unskipped

@@ -29,6 +29,16 @@ abbrev pub EachText : (List ℕ → Type 0) → List (List ℕ) → Type 0
 EachText Of [] = Unit {0}
 EachText Of (text ∷ texts) = Of text × EachText Of texts
 
+pub EachText-weaker : (Of Other : List ℕ → Type 0) → ((text : List ℕ) → Of text → Other text) → (texts : List (List ℕ)) → EachText Of texts → EachText Other texts
+EachText-weaker Of Other f [] h = tt
+EachText-weaker Of Other f (text ∷ texts) h = (f text h.0, EachText-weaker Of Other f texts h.1)
+
+-- each of the texts is one of them
+pub each_contained : (texts : List (List ℕ)) → EachText (Contains texts) texts
+each_contained [] = tt
+each_contained (text ∷ texts) =
+    ((0, omega arith, refl), EachText-weaker (Contains texts) (Contains (text ∷ texts)) (λ other has. (suc has.0, let lt : has.0 < length texts = has.1 in omega arith, has.2)) texts (each_contained texts))
+
 -- Items that stand for parts one by one, where this holds of each of their texts.
 pub data AllStand (options : OptionsView) (Of : List ℕ → Type 0) : List PartView → List Item → Type 0 where
   none : AllStand options Of [] []
@@ -122,23 +132,24 @@ module _ (options : OptionsView) (encoding : Encoding) (Of : List ℕ → Type 0
   stand_met itself earlier _ _ found (group prefix name match suffix modifier parts items of_prefix of_suffix more) new is_end =
       (new.0, ((prefix, itself prefix of_prefix), ((suffix, itself suffix of_suffix), stand_met itself (earlier ++ name ∷ []) parts items found more new.1 is_end)))
 
-  -- none of them fails, where it answers none by an error
-  pub stand_unfailing : ((text : List ℕ) (error : ErrorView) → Of text → ¬ encoding text (Err error)) → (earlier : List (List ℕ)) (parts : List PartView) (items : List Item) (found : TokenView) (error : ErrorView) →
-      AllStand options Of parts items → NewNames earlier items → found.kind ≡ End → ¬ FirstFails encoding (demands_after earlier items (endings.Stops found)) error
-  stand_unfailing answered earlier [] [] found error none new is_end (inl fails) = fails.0 is_end
-  stand_unfailing answered earlier [] [] found error none new is_end (inr fails) = fails.1
-  stand_unfailing answered earlier _ _ found error (fixed c text modifier parts items of more) new is_end fails =
+  -- one that fails does so by an error that the encoding may answer to one of these texts
+  pub stand_failing : (earlier : List (List ℕ)) (parts : List PartView) (items : List Item) (found : TokenView) (error : ErrorView) →
+      AllStand options Of parts items → NewNames earlier items → found.kind ≡ End → FirstFails encoding (demands_after earlier items (endings.Stops found)) error →
+      (text : List ℕ) × Of text × encoding text (Err error)
+  stand_failing earlier [] [] found error none new is_end (inl fails) = absurd (fails.0 is_end)
+  stand_failing earlier [] [] found error none new is_end (inr fails) = absurd fails.1
+  stand_failing earlier _ _ found error (fixed c text modifier parts items of more) new is_end fails =
       elim (subst (λ x. FirstFails encoding x error) (demands-fixed earlier (c ∷ text) modifier items found) fails) [
-        inl first ↦ answered (c ∷ text) error of first
-      | inr behind ↦ stand_unfailing answered earlier parts items found error more new is_end behind.1
+        inl first ↦ (c ∷ text, of, first)
+      | inr behind ↦ stand_failing earlier parts items found error more new is_end behind.1
       ]
-  stand_unfailing answered earlier _ _ found error (group prefix name match suffix modifier parts items of_prefix of_suffix more) new is_end (inl fails) = new.0 fails.0
-  stand_unfailing answered earlier _ _ found error (group prefix name match suffix modifier parts items of_prefix of_suffix more) new is_end (inr fails) =
+  stand_failing earlier _ _ found error (group prefix name match suffix modifier parts items of_prefix of_suffix more) new is_end (inl fails) = absurd (new.0 fails.0)
+  stand_failing earlier _ _ found error (group prefix name match suffix modifier parts items of_prefix of_suffix more) new is_end (inr fails) =
       elim fails.1 [
-        inl first ↦ answered prefix error of_prefix first
+        inl first ↦ (prefix, of_prefix, first)
       | inr behind ↦ elim behind.1 [
-          inl first ↦ answered suffix error of_suffix first
-        | inr last ↦ stand_unfailing answered (earlier ++ name ∷ []) parts items found error more new.1 is_end last.1
+          inl first ↦ (suffix, of_suffix, first)
+        | inr last ↦ stand_failing (earlier ++ name ∷ []) parts items found error more new.1 is_end last.1
         ]
       ]
 
