@@ -12,7 +12,7 @@ use Rattle.urlpattern_syntax.specs.Reading.{AreParts, Encoding, FailsDemand, Fir
 use Rattle.urlpattern_syntax.specs.RegexpText.{group_names}
 use Rattle.urlpattern_syntax.specs.Tokens.{end_of}
 use Rattle.urlpattern_laws.specs.Printing.{HaveTexts, Keeps, KeepsTexts, encoded_texts, joined, printed}
-use Rattle.urlpattern_laws.specs.RoundTrip.{ArePatternParts, AreUnskipped, IsPrefixPoint, IsPrintable, IsStandard, WereRead}
+use Rattle.urlpattern_laws.specs.RoundTrip.{ArePatternParts, AreUnskipped, IsPrefixPoint, IsPrintable, IsStandard, ReadsBack, WereRead}
 use Rattle.urlpattern_laws.proofs.JoinedParts.{joined_apart, joined_pattern_parts, joined_unskipped}
 use Rattle.urlpattern_laws.proofs.NameLaws.{Differ, NewNames}
 use Rattle.urlpattern_laws.proofs.PrintingLaws.{joined_texts, printed_joined}
@@ -143,6 +143,10 @@ module _ (prints_its_parts : PartsArePrinted) (options : OptionsView) (encoding 
 
   pub kept_same : (others : List PartView) → Reads (printed options parts) options encoding others → printed options others ≡ printed options parts
   kept_same = same_back prints_its_parts options encoding (IsKept encoding) parts printable (each_kept encoding (encoded_texts (joined parts)) keeps.1) (kept_only encoding)
+
+  -- all of it
+  pub kept_reads_back : ReadsBack (printed options parts) options encoding parts
+  kept_reads_back = record { reads = kept_reads; only = kept_reads_only; not_refused = kept_unrefused; same = kept_same }
 
 -- ---- encodings that may fail, such as a callback that may run out of memory
 

@@ -3,13 +3,14 @@ use Rattle.std.specs.Prelude.{◌≡◌, ◌≢◌, ℕ, suc, ◌⊎◌, not, Li
 use Rattle.std.specs.List.{list_all}
 use Rattle.urlpattern_syntax.specs.declared.parser.PartType.{PartType}
 use Rattle.urlpattern_syntax.specs.declared.parser.PartType.TheVariants.{FixedText, Regexp, SegmentWildcard, FullWildcard}
+use Rattle.urlpattern_syntax.specs.Errors.{ErrorView}
 use Rattle.urlpattern_syntax.specs.Options.{OptionsView, default_options, hostname_options, pathname_options}
 use Rattle.urlpattern_syntax.specs.Parts.{PartView}
-use Rattle.urlpattern_syntax.specs.Reading.{Encoding, Reads}
+use Rattle.urlpattern_syntax.specs.Reading.{Encoding, Reads, Refuses}
 use Rattle.urlpattern_syntax.specs.RegexpText.{full_wildcard, group_names, segment_wildcard}
 use Rattle.urlpattern_syntax.specs.Text.{is_among, is_name_part}
 use Rattle.urlpattern_syntax.specs.Tokens.{IsName, IsRegexpBody, is_ignored}
-use Rattle.urlpattern_laws.specs.Printing.{HaveTexts, has_custom_name, pattern_marks}
+use Rattle.urlpattern_laws.specs.Printing.{HaveTexts, has_custom_name, joined, pattern_marks, printed}
 
 -- ---- options
 
@@ -93,3 +94,12 @@ pub record WereRead (text : List ℕ) (options : OptionsView) (encoding : Encodi
   pub reads : Reads text options encoding parts
   pub texts : HaveTexts parts
   pub unskipped : AreUnskipped parts
+
+-- ---- the theorem of one text
+
+-- The text reads as the joined parts and as nothing else, it is not refused, and what it reads as prints as this text.
+pub record ReadsBack (text : List ℕ) (options : OptionsView) (encoding : Encoding) (parts : List PartView) : Type 0 where
+  pub reads : Reads text options encoding (joined parts)
+  pub only : (others : List PartView) → Reads text options encoding others → others ≡ joined parts
+  pub not_refused : (error : ErrorView) → ¬ Refuses text options encoding error
+  pub same : (others : List PartView) → Reads text options encoding others → printed options others ≡ text
