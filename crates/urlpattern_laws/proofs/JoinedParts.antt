@@ -60,9 +60,11 @@ fixed_number number kind part e = absurd (cc e)
 names_pair : (number : ℕ) (both : Bool) (part next : PartView) (parts : List PartView) → BothFixed both part next → AreNamed number (part ∷ next ∷ parts) → AreNamed number (pair both part next parts)
 names_pair number true part next parts fixed h =
     let one = with_value part (part.value ++ next.value) in
-    let behind = fixed_number number part.kind part (fixed.first refl) in
-    (h.0, subst (λ n. AreNamed n parts)
-    (fixed_number (number_behind number part.kind part) next.kind next (fixed.second refl) ∙ behind ∙ sym (fixed_number number part.kind one (fixed.first refl))) h.1.1)
+    let behind = fixed_number number part.kind part (fixed.first refl) in (
+      h.0,
+      subst (λ n. AreNamed n parts)
+          (fixed_number (number_behind number part.kind part) next.kind next (fixed.second refl) ∙ behind ∙ sym (fixed_number number part.kind one (fixed.first refl))) h.1.1,
+    )
 names_pair number false part next parts fixed h = h
 
 names_first : (number : ℕ) (part : PartView) (parts : List PartView) → IsNamed number part.kind part.name → AreNamed (number_behind number part.kind part) parts → AreNamed number (joined_with part parts)
@@ -124,7 +126,7 @@ unskipped_value kind part e h = absurd (cc e)
 unskipped_pair : (both : Bool) (part next : PartView) (parts : List PartView) → BothFixed both part next → AreUnskipped (part ∷ next ∷ parts) → AreUnskipped (pair both part next parts)
 unskipped_pair true part next parts fixed h = (
   unskipped_value part.kind (with_value part (part.value ++ next.value)) (fixed.first refl)
-  (unskipped-append part.value next.value (value_unskipped part.kind part (fixed.first refl) h.0) (value_unskipped next.kind next (fixed.second refl) h.1.0)),
+      (unskipped-append part.value next.value (value_unskipped part.kind part (fixed.first refl) h.0) (value_unskipped next.kind next (fixed.second refl) h.1.0)),
   h.1.1,
 )
 unskipped_pair false part next parts fixed h = h

@@ -15,3 +15,5 @@ pub mod ReadParts
 pub mod JoinedParts
 pub mod StandingItems
 pub mod ReadsBack
+pub mod RoundTripExamples
+pub mod KeptTexts

@@ -169,12 +169,12 @@ pieces_groups number (pieces.TextGroup text modifier ∷ list) h m = pieces_grou
 pieces_groups number (pieces.Bare prefix placeholder modifier ∷ list) h m = (
   placeholder_group number placeholder.name placeholder.matched h.0 m.0,
   subst (λ n. AreGroups n (items_from (next_number placeholder.name number) list)) (sym (with_or number placeholder.name h.0))
-  (pieces_groups (next_number placeholder.name number) list h.1 m.1),
+      (pieces_groups (next_number placeholder.name number) list h.1 m.1),
 )
 pieces_groups number (pieces.Group before placeholder after modifier ∷ list) h m = (
   placeholder_group number placeholder.name placeholder.matched h.0 m.0,
   subst (λ n. AreGroups n (items_from (next_number placeholder.name number) list)) (sym (with_or number placeholder.name h.0))
-  (pieces_groups (next_number placeholder.name number) list h.1 m.1),
+      (pieces_groups (next_number placeholder.name number) list h.1 m.1),
 )
 
 -- joining leaves the groups as they are
@@ -226,9 +226,9 @@ kind_has options regexp name before after modifier segment custom =
     (λ e. cond_both (bytes_eq regexp full_wildcard) FullWildcard part_types.Regexp (λ kind. HasKind options regexp name kind before after modifier)
     (λ f. refl)
     (λ f.
-      let other : regexp ≢ segment_wildcard options = λ same. false≢true (sym e ∙ (bytes_eq-Decides regexp (segment_wildcard options)).1 same) in
-      let another : regexp ≢ full_wildcard = λ same. false≢true (sym f ∙ (bytes_eq-Decides regexp full_wildcard).1 same) in
-      (custom other another, other, another)))
+    let other : regexp ≢ segment_wildcard options = λ same. false≢true (sym e ∙ (bytes_eq-Decides regexp (segment_wildcard options)).1 same) in
+    let another : regexp ≢ full_wildcard = λ same. false≢true (sym f ∙ (bytes_eq-Decides regexp full_wildcard).1 same) in
+    (custom other another, other, another)))
 
 capture_fields : (options : OptionsView) (before name : List ℕ) (match : Matched) (after : List ℕ) (modifier : PartModifier) → IsItemMatch match name →
     HasKind options (compared options match) name (kind_of options (compared options match)) before after modifier
@@ -272,7 +272,7 @@ parts_names options encoding number (Capture prefix name match suffix modifier �
     subst (AreNamed number) (sym are.3) (
       group_named options (compared options match) number name h.0.named,
       subst (λ n. AreNamed n are.2) (sym (group_number options (compared options match) number part))
-      (parts_names options encoding (number_with number name) items are.2 h.1 are.6),
+          (parts_names options encoding (number_with number name) items are.2 h.1 are.6),
     )
 
 -- what parts that were read have, under any options and any encoding

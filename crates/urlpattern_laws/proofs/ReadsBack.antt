@@ -33,7 +33,7 @@ none_contained : (name : List ℕ) → ¬ Contains [] name
 none_contained name has = let lt : has.0 < 0 = has.1 in absurd (omega arith)
 
 module _ (options : OptionsView) (encoding : Encoding) (Of : List ℕ → Type 0) (parts : List PartView) (prints : PrintsItsParts options parts)
-         (facts : ArePatternParts options parts) (filled : HaveTexts parts) (texts : EachText Of (encoded_texts parts)) where
+    (facts : ArePatternParts options parts) (filled : HaveTexts parts) (texts : EachText Of (encoded_texts parts)) where
   all_stand : AllStand options Of parts (items_of prints.pieces)
   all_stand = items_stand options Of 0 parts (items_of prints.pieces) prints.are_items facts.fields facts.names filled texts
 
@@ -58,7 +58,7 @@ module _ (options : OptionsView) (encoding : Encoding) (Of : List ℕ → Type 0
   reads_only : ((text other : List ℕ) → Of text → encoding text (Ok other) → other ≡ text) → (others : List PartView) → Reads (printed options parts) options encoding others → others ≡ parts
   reads_only only others reads =
       let e = text_pieces_one (printed options parts) options.prefix reads.tokens prints.tokens reads.pieces prints.pieces (endings.Stops reads.found) (endings.Stops (end_of (printed options parts)))
-          reads.are_tokens prints.are_tokens reads.are_pieces prints.are_pieces in
+      reads.are_tokens prints.are_tokens reads.are_pieces prints.are_pieces in
       stand_only options encoding Of only parts (items_of prints.pieces) others all_stand (subst (λ x. AreParts options encoding (items_of x) others) e.0 reads.are_parts)
 
   -- it is refused only by an error that the encoding may answer to one of them
@@ -66,7 +66,7 @@ module _ (options : OptionsView) (encoding : Encoding) (Of : List ℕ → Type 0
   reads_refused error (inl fault) = absurd (tokens_or_fault (printed options parts) prints.tokens fault.0 fault.1 prints.are_tokens fault.2)
   reads_refused error (inr refused) =
       let e = text_pieces_one (printed options parts) options.prefix refused.tokens prints.tokens refused.pieces prints.pieces refused.ending (endings.Stops (end_of (printed options parts)))
-          refused.are_tokens prints.are_tokens refused.are_pieces prints.are_pieces in
+      refused.are_tokens prints.are_tokens refused.are_pieces prints.are_pieces in
       stand_failing options encoding Of [] parts (items_of prints.pieces) (end_of (printed options parts)) error all_stand all_new refl
       (subst (λ x. FirstFails encoding (demands (items_of prints.pieces) x) error) e.1
       (subst (λ x. FirstFails encoding (demands (items_of x) refused.ending) error) e.0 refused.fails))
@@ -79,7 +79,7 @@ PartsArePrinted =
     (options : OptionsView) (parts : List PartView) → IsPrefixPoint options.prefix → ArePatternParts options parts → HaveTexts parts → AreUnskipped parts → AreApart parts → PrintsItsParts options parts
 
 module _ (prints_its_parts : PartsArePrinted) (options : OptionsView) (encoding : Encoding) (Of : List ℕ → Type 0) (parts : List PartView)
-         (printable : IsPrintable options parts) (texts : EachText Of (encoded_texts (joined parts))) where
+    (printable : IsPrintable options parts) (texts : EachText Of (encoded_texts (joined parts))) where
   joined_prints : PrintsItsParts options (joined parts)
   joined_prints =
       prints_its_parts options (joined parts) printable.point (joined_pattern_parts options parts printable.pattern_parts) (joined_texts parts printable.texts)

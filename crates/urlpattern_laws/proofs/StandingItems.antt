@@ -72,7 +72,7 @@ module _ (options : OptionsView) (Of : List ℕ → Type 0) where
       (filled refl) texts.0 is more
   stand_first kind part item parts items number e is fields name filled texts more =
       let same : part ≡ capture_part options part.prefix part.name is.0 part.suffix part.modifier =
-          λ i. record { kind = sym is.2 i; value = (sym is.3 ∙ ap (λ k. value_of k (compared options is.0)) (sym is.2)) i; modifier = part.modifier; name = part.name; prefix = part.prefix; suffix = part.suffix } in
+      λ i. record { kind = sym is.2 i; value = (sym is.3 ∙ ap (λ k. value_of k (compared options is.0)) (sym is.2)) i; modifier = part.modifier; name = part.name; prefix = part.prefix; suffix = part.suffix } in
       subst (λ x. AllStand options Of (x ∷ parts) (item ∷ items)) (sym same)
       (subst (λ x. AllStand options Of (capture_part options part.prefix part.name is.0 part.suffix part.modifier ∷ parts) (x ∷ items)) (sym is.1)
       (group part.prefix part.name is.0 part.suffix part.modifier parts items texts.0 texts.1.0 more))
@@ -107,8 +107,8 @@ distinct_new earlier (Capture prefix name match suffix modifier ∷ items) behin
     let others = item_names items in (
       All-head (λ other. ¬ Contains earlier other) name others behind,
       distinct_new (earlier ++ name ∷ []) items
-      (both_new earlier name others (All-tail (λ other. ¬ Contains earlier other) name others behind) (pairs_head Differ name others distinct))
-      (pairs_tail Differ name others distinct),
+          (both_new earlier name others (All-tail (λ other. ¬ Contains earlier other) name others behind) (pairs_head Differ name others distinct))
+          (pairs_tail Differ name others distinct),
     )
 
 -- ---- demands
@@ -140,16 +140,16 @@ module _ (options : OptionsView) (encoding : Encoding) (Of : List ℕ → Type 0
   stand_failing earlier [] [] found error none new is_end (inr fails) = absurd fails.1
   stand_failing earlier _ _ found error (fixed c text modifier parts items of more) new is_end fails =
       elim (subst (λ x. FirstFails encoding x error) (demands-fixed earlier (c ∷ text) modifier items found) fails) [
-        inl first ↦ (c ∷ text, of, first)
-      | inr behind ↦ stand_failing earlier parts items found error more new is_end behind.1
+        | inl first ↦ (c ∷ text, of, first)
+        | inr behind ↦ stand_failing earlier parts items found error more new is_end behind.1
       ]
   stand_failing earlier _ _ found error (group prefix name match suffix modifier parts items of_prefix of_suffix more) new is_end (inl fails) = absurd (new.0 fails.0)
   stand_failing earlier _ _ found error (group prefix name match suffix modifier parts items of_prefix of_suffix more) new is_end (inr fails) =
       elim fails.1 [
-        inl first ↦ (prefix, of_prefix, first)
-      | inr behind ↦ elim behind.1 [
-          inl first ↦ (suffix, of_suffix, first)
-        | inr last ↦ stand_failing (earlier ++ name ∷ []) parts items found error more new.1 is_end last.1
+        | inl first ↦ (prefix, of_prefix, first)
+        | inr behind ↦ elim behind.1 [
+          | inl first ↦ (suffix, of_suffix, first)
+          | inr last ↦ stand_failing (earlier ++ name ∷ []) parts items found error more new.1 is_end last.1
         ]
       ]
 

@@ -74,7 +74,7 @@ abbrev pub HasUnskipped : PartType → PartView → Type 0
 HasUnskipped FixedText part = IsUnskipped part.value
 HasUnskipped kind part = IsUnskipped part.prefix × IsUnskipped part.suffix
 
--- no fixed text, prefix or suffix has a tab, a line feed or a carriage return
+-- what is skipped between tokens stands in no part's texts
 abbrev pub AreUnskipped : List PartView → Type 0
 AreUnskipped [] = Unit {0}
 AreUnskipped (part ∷ parts) = HasUnskipped part.kind part × AreUnskipped parts

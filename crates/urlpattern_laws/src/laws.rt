@@ -112,7 +112,7 @@ pub fn read_parts_are_pattern_parts()
 
 /// Printing and parsing are inverse. The printed pattern of the parts reads as the joined parts, and as nothing else, and
 /// it is not refused. Printing what it reads as gives the same text. The parts may be any that are printable, and the
-/// encoding any list of answers that keeps their texts.
+/// encoding any list of answers that keeps their texts; for all parts there is such a list.
 pub fn printed_patterns_read_back()
     ensures reads { (options : OptionsView) (answers : List (List ℕ × Result (List ℕ) ErrorView)) (parts : List PartView) →
         IsPrintable options parts → Keeps (listed answers) parts → Reads (printed options parts) options (listed answers) (joined parts) }
@@ -122,6 +122,7 @@ pub fn printed_patterns_read_back()
         IsPrintable options parts → Keeps (listed answers) parts → ¬ Refuses (printed options parts) options (listed answers) error }
     ensures same { (options : OptionsView) (answers : List (List ℕ × Result (List ℕ) ErrorView)) (parts others : List PartView) →
         IsPrintable options parts → Keeps (listed answers) parts → Reads (printed options parts) options (listed answers) others → printed options others ≡ printed options parts }
+    ensures kept { (parts : List PartView) → (answers : List (List ℕ × Result (List ℕ) ErrorView)) × Keeps (listed answers) parts }
 {}
 
 /// Parts that a text was read as under the default, hostname or pathname options, in either syntax, print as a pattern

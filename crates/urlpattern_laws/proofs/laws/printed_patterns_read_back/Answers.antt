@@ -1,4 +1,5 @@
 use Rattle.urlpattern_laws.specs.Laws.{listed}
+use Rattle.urlpattern_laws.proofs.KeptTexts.{some_answers_keep}
 use Rattle.urlpattern_laws.proofs.ReadsBack.{PartsArePrinted, kept_reads, kept_reads_only, kept_same, kept_unrefused}
 use Rattle.urlpattern_laws.proofs.laws.printed_patterns_read_back.Goals as goal
 
@@ -16,3 +17,6 @@ returns-clause-not_refused c = λ options answers parts error printable keeps re
 
 pub returns-clause-same : goal.returns-clause-same
 returns-clause-same c = λ options answers parts others printable keeps reads. kept_same prints_its_parts options (listed answers) parts printable keeps others reads
+
+pub returns-clause-kept : goal.returns-clause-kept
+returns-clause-kept c = some_answers_keep
