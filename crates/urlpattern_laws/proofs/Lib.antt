@@ -11,3 +11,4 @@ pub mod TokenLaws
 pub mod ReadingLaws
 pub mod NameLaws
 pub mod RoundTripWords
+pub mod PrintedTokens
