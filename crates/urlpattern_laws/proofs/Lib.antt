@@ -12,3 +12,4 @@ pub mod ReadingLaws
 pub mod NameLaws
 pub mod RoundTripWords
 pub mod PrintedTokens
+pub mod PrintedTexts

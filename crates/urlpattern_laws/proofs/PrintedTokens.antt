@@ -33,7 +33,7 @@ no_parts : IsTrue (list_all (λ c. not (is_name_part c)) pattern_marks)
 unfolding literals
 no_parts = refl
 
-not_true : (b : Bool) → IsTrue (not b) → ¬ IsTrue b
+pub not_true : (b : Bool) → IsTrue (not b) → ¬ IsTrue b
 not_true true h g = no h
 not_true false h g = no g
 
