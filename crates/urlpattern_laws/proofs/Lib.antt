@@ -13,3 +13,4 @@ pub mod NameLaws
 pub mod RoundTripWords
 pub mod PrintedTokens
 pub mod PrintedTexts
+pub mod PrintedPlaceholders
