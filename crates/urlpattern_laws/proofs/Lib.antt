@@ -14,3 +14,5 @@ pub mod RoundTripWords
 pub mod PrintedTokens
 pub mod PrintedTexts
 pub mod PrintedPlaceholders
+pub mod PrintedBraces
+pub mod PrintedGroups

@@ -20,7 +20,7 @@ use Rattle.urlpattern_laws.proofs.PrintedTokens.{Run, backslash_lexed, char_lexe
 -- ---- tokens
 
 -- one character, with its backslash where it is a mark
-abbrev escaped_one : Bool → ℕ → List ℕ
+abbrev pub escaped_one : Bool → ℕ → List ℕ
 escaped_one mark c = if mark then codes "\\" ++ c ∷ [] else c ∷ []
 
 abbrev kind_by : Bool → TokenType

@@ -1,0 +1,1 @@
+-- A group as it is printed.
