@@ -14,7 +14,7 @@ use Rattle.urlpattern_syntax.specs.Text.{BeginsWith, begins_with, is_among, is_n
 use Rattle.urlpattern_syntax.specs.Tokens.{IsLexed, TokenView, is_ignored}
 use Rattle.urlpattern_laws.specs.Printing.{escaped_pattern, in_braces, pattern_marks}
 use Rattle.urlpattern_laws.specs.RoundTrip.{IsUnskipped}
-use Rattle.urlpattern_laws.proofs.PrintedTexts.{escaped_first, escaped_none, escaped_one, text_are, text_run, text_tokens}
+use Rattle.urlpattern_laws.proofs.PrintedTexts.{escaped_first, escaped_none, escaped_one, text_are, text_no_regexp, text_run, text_tokens}
 use Rattle.urlpattern_laws.proofs.PrintedTokens.{Run, asterisk_lexed, backslash_lexed, close_lexed, done, mark_no_part, next, open_lexed, optional_lexed, plus_lexed, run_joined, token_at}
 
 -- ---- modifiers
@@ -106,11 +106,6 @@ text_ends (c ∷ text) rest e free =
     subst (λ t. ¬ BeginsWith is_name_part t) (sym (escaped_first c text rest)) (one_ends c (escaped_pattern text ++ rest) (is_among pattern_marks c) e)
 
 -- texts before a token that is no Regexp begin with none
-text_no_regexp : (kind : TokenType) → IsTrue (is_text kind) → ¬ IsTrue (is_regexp kind)
-text_no_regexp Char h = no
-text_no_regexp EscapedChar h = no
-text_no_regexp other h = absurd (no h)
-
 pub texts_no_regexp : (tokens : List TokenView) (text : List ℕ) (last : TokenView) → AreTexts tokens text → ¬ IsTrue (is_regexp last.kind) → ¬ BeginsWithKind is_regexp (tokens ++ last ∷ [])
 texts_no_regexp [] text last are free = free
 texts_no_regexp (token ∷ tokens) text last are free = text_no_regexp token.kind (and_parts (is_text token.kind) (list_all (λ (t : TokenView). is_text t.kind) tokens) are.0).0

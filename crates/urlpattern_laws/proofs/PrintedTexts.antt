@@ -7,7 +7,7 @@ use Rattle.urlpattern_syntax.proofs.TokenExamples.{no}
 use Rattle.urlpattern_syntax.specs.declared.parser.PartModifier.TheVariants as modifiers
 use Rattle.urlpattern_syntax.specs.declared.tokenizer.TokenType.{TokenType}
 use Rattle.urlpattern_syntax.specs.declared.tokenizer.TokenType.TheVariants.{Char, EscapedChar}
-use Rattle.urlpattern_syntax.specs.Pieces.{ArePieces, AreTexts, BeginsWithKind, Ending, Piece, TakesPrefix, is_placeholder, is_text}
+use Rattle.urlpattern_syntax.specs.Pieces.{ArePieces, AreTexts, BeginsWithKind, Ending, Piece, TakesPrefix, is_modifier, is_placeholder, is_regexp, is_text}
 use Rattle.urlpattern_syntax.specs.Pieces.{Piece as pieces}
 use Rattle.urlpattern_syntax.specs.Reading.{Capture, Fixed, Item, items_from, joined_items, with_text}
 use Rattle.urlpattern_syntax.specs.RegexpText.{escaped}
@@ -72,11 +72,28 @@ abbrev pub text_pieces : List ℕ → List Piece
 text_pieces [] = []
 text_pieces (c ∷ text) = pieces.Text (c ∷ []) ∷ text_pieces text
 
--- no placeholder begins with a text
-text_no_placeholder : (kind : TokenType) → IsTrue (is_text kind) → ¬ IsTrue (is_placeholder kind)
-text_no_placeholder Char h = both_ways false refl
-text_no_placeholder EscapedChar h = both_ways false refl
+-- a text begins no placeholder
+pub text_no_placeholder : (kind : TokenType) → IsTrue (is_text kind) → ¬ IsTrue (is_placeholder kind)
+text_no_placeholder Char h = no
+text_no_placeholder EscapedChar h = no
 text_no_placeholder other h = absurd (no h)
+
+-- nor a Regexp, nor a modifier
+pub text_no_regexp : (kind : TokenType) → IsTrue (is_text kind) → ¬ IsTrue (is_regexp kind)
+text_no_regexp Char h = no
+text_no_regexp EscapedChar h = no
+text_no_regexp other h = absurd (no h)
+
+pub text_no_modifier : (kind : TokenType) → IsTrue (is_text kind) → ¬ IsTrue (is_modifier kind)
+text_no_modifier Char h = no
+text_no_modifier EscapedChar h = no
+text_no_modifier other h = absurd (no h)
+
+-- so what begins with a text begins with no such token
+pub text_first : (test : TokenType → Bool) (total : ℕ) (text rest : List ℕ) (behind : List TokenView) → ((kind : TokenType) → IsTrue (is_text kind) → ¬ IsTrue (test kind)) → (text ≡ [] → ¬ BeginsWithKind test behind) →
+    ¬ BeginsWithKind test (text_tokens total text rest ++ behind)
+text_first test total [] rest behind other free = free refl
+text_first test total (c ∷ text) rest behind other free = other (text_kind c) (text_kind_text (is_among pattern_marks c))
 
 takes_prefix : (point : List ℕ) (total c : ℕ) (text rest : List ℕ) (behind : List TokenView) (token : TokenView) → token.value ≡ c ∷ [] →
     (last_of (c ∷ text) ≡ point → ¬ BeginsWithKind is_placeholder behind) → TakesPrefix point token (text_tokens total text rest ++ behind)
