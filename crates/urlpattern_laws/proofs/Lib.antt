@@ -16,3 +16,6 @@ pub mod PrintedTexts
 pub mod PrintedPlaceholders
 pub mod PrintedBraces
 pub mod PrintedGroups
+pub mod PrintedBehind
+pub mod PrintedFixed
+pub mod PrintedParts

@@ -42,7 +42,7 @@ full_other syntax (Some c) e = false≢true (sym (ap (λ t. bytes_eq t full_wild
 -- ---- the placeholder of a part
 
 -- a name of the pattern's own
-abbrev name_by : (custom : Bool) → List ℕ → Option (List ℕ)
+abbrev pub name_by : (custom : Bool) → List ℕ → Option (List ℕ)
 name_by custom name = if custom then Some name else None
 
 abbrev matched_by : (custom asterisk : Bool) → OptionsView → PartType → (value : List ℕ) → Matched

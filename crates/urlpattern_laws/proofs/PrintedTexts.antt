@@ -23,7 +23,7 @@ use Rattle.urlpattern_laws.proofs.PrintedTokens.{Run, backslash_lexed, char_lexe
 abbrev pub escaped_one : Bool → ℕ → List ℕ
 escaped_one mark c = if mark then codes "\\" ++ c ∷ [] else c ∷ []
 
-abbrev kind_by : Bool → TokenType
+abbrev pub kind_by : Bool → TokenType
 kind_by mark = if mark then EscapedChar else Char
 
 abbrev pub text_kind : ℕ → TokenType
