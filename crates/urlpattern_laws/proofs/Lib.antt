@@ -18,4 +18,5 @@ pub mod PrintedBraces
 pub mod PrintedGroups
 pub mod PrintedBehind
 pub mod PrintedFixed
+pub mod PrintedCaptures
 pub mod PrintedParts
