@@ -65,18 +65,18 @@ own_name part group e f h =
 
 -- ---- before parts that are read back
 
--- where it does not need braces
+-- A group that needs no braces.
 record NeedsNone (options : OptionsView) (before : Option PartView) (part : PartView) (next : Option PartView) : Type 0 where
-  pub suffix : part.suffix ≡ []
-  pub prefix : has_other_prefix options part ≡ false
-  pub next : takes_next part next ≡ false
+  pub no_suffix : part.suffix ≡ []
+  pub no_other_prefix : has_other_prefix options part ≡ false
+  pub takes_none : takes_next part next ≡ false
 
 needs_none : (options : OptionsView) (before : Option PartView) (part : PartView) (next : Option PartView) → needs_braces options before part next ≡ false → NeedsNone options before part next
 needs_none options before part next h =
     let three = (or_parts (has_suffix part || has_other_prefix options part || takes_next part next) (takes_before options before part) h).0 in
     let two = or_parts (has_suffix part || has_other_prefix options part) (takes_next part next) three in
     let one = or_parts (has_suffix part) (has_other_prefix options part) two.0 in
-    record { suffix = empty_text part.suffix one.0; prefix = one.1; next = two.1 }
+    record { no_suffix = empty_text part.suffix one.0; no_other_prefix = one.1; takes_none = two.1 }
 
 module _ (options : OptionsView) (whole : List ℕ) (before : Option PartView) (number : ℕ) (part : PartView) (parts : List PartView) (is : IsGroup options number part) (more : ReadsBack options whole (Some part) (number_behind number part.kind part) parts) where
   abbrev rest : List ℕ
@@ -89,10 +89,10 @@ module _ (options : OptionsView) (whole : List ℕ) (before : Option PartView) (
   piece_by true point e = group_braced options (byte_len whole) number before part rest last is (more.behind.no_modifier is.group)
   piece_by false point e =
       let none = needs_none options before part (first_part parts) e in
-      group_bare options (byte_len whole) number before part rest last point is none.suffix none.prefix (record {
+      group_bare options (byte_len whole) number before part rest last point is none.no_suffix none.no_other_prefix (record {
         no_modifier = more.behind.no_modifier is.group;
-        no_regexp = λ alone plain. more.behind.no_regexp alone plain none.next;
-        no_name_part = λ alone plain. more.behind.no_name_part alone plain none.next;
+        no_regexp = λ alone plain. more.behind.no_regexp alone plain none.takes_none;
+        no_name_part = λ alone plain. more.behind.no_name_part alone plain none.takes_none;
       })
 
   behind_by : (braces : Bool) → needs_braces options before part (first_part parts) ≡ braces → (piece : GroupPiece options (byte_len whole) number before part braces rest last) → (earlier : PartView) → before ≡ Some earlier →
@@ -109,7 +109,7 @@ module _ (options : OptionsView) (whole : List ℕ) (before : Option PartView) (
       by_tokens test h = subst (λ ts. ¬ BeginsWithKind test ts) (sym (append_assoc piece.tokens more.tokens (end_of whole ∷ []))) h
 
       own : goes_on part ≡ false → part.prefix ≡ [] → braces ≡ false → IsTrue (has_custom_name part)
-      own goes prefix none = own_name part is.group prefix (needs_none options before part (first_part parts) (e ∙ none)).suffix goes
+      own goes prefix none = own_name part is.group prefix (needs_none options before part (first_part parts) (e ∙ none)).no_suffix goes
 
   step_by : (braces : Bool) → needs_braces options before part (first_part parts) ≡ braces → GroupPiece options (byte_len whole) number before part braces rest last → ReadsBack options whole before number (part ∷ parts)
   step_by braces e piece = record {
