@@ -11,6 +11,15 @@ pub mod TokenLaws
 pub mod ReadingLaws
 pub mod NameLaws
 pub mod RoundTripWords
+pub mod PrintedTokens
+pub mod PrintedTexts
+pub mod PrintedPlaceholders
+pub mod PrintedBraces
+pub mod PrintedGroups
+pub mod PrintedBehind
+pub mod PrintedFixed
+pub mod PrintedCaptures
+pub mod PrintedParts
 pub mod ReadParts
 pub mod JoinedParts
 pub mod StandingItems

@@ -77,6 +77,15 @@ unfolding starts_with_digit
 name_starts [] h = absurd h
 name_starts (c ∷ name) h = name_start_no_digit c h.0
 
+-- the same, where the test is in sight
+pub decimal_digited : (n : ℕ) → begins_with is_ascii_digit (decimal n) ≡ true
+unfolding starts_with_digit
+decimal_digited n = decimal_starts n
+
+pub name_not_digited : (name : List ℕ) → IsName name → begins_with is_ascii_digit name ≡ false
+unfolding starts_with_digit
+name_not_digited name h = name_starts name h
+
 -- ---- the names that tokens and placeholders give
 
 -- each Name has a name
