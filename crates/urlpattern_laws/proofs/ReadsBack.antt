@@ -15,6 +15,7 @@ use Rattle.urlpattern_laws.specs.Printing.{HaveTexts, Keeps, KeepsTexts, encoded
 use Rattle.urlpattern_laws.specs.RoundTrip.{ArePatternParts, AreUnskipped, IsPrefixPoint, IsPrintable, IsStandard, ReadsBack, WereRead}
 use Rattle.urlpattern_laws.proofs.JoinedParts.{joined_apart, joined_pattern_parts, joined_unskipped}
 use Rattle.urlpattern_laws.proofs.NameLaws.{Differ, NewNames}
+use Rattle.urlpattern_laws.proofs.PrintedParts.{prints_its_parts}
 use Rattle.urlpattern_laws.proofs.PrintingLaws.{joined_texts, printed_joined}
 use Rattle.urlpattern_laws.proofs.ReadingLaws.{text_pieces_one}
 use Rattle.urlpattern_laws.proofs.ReadParts.{read_parts_are_pattern_parts}
@@ -73,12 +74,7 @@ module _ (options : OptionsView) (encoding : Encoding) (Of : List ℕ → Type 0
 
 -- ---- joined parts
 
--- that apart parts print themselves
-abbrev pub PartsArePrinted : Type 0
-PartsArePrinted =
-    (options : OptionsView) (parts : List PartView) → IsPrefixPoint options.prefix → ArePatternParts options parts → HaveTexts parts → AreUnskipped parts → AreApart parts → PrintsItsParts options parts
-
-module _ (prints_its_parts : PartsArePrinted) (options : OptionsView) (encoding : Encoding) (Of : List ℕ → Type 0) (parts : List PartView)
+module _ (options : OptionsView) (encoding : Encoding) (Of : List ℕ → Type 0) (parts : List PartView)
     (printable : IsPrintable options parts) (texts : EachText Of (encoded_texts (joined parts))) where
   joined_prints : PrintsItsParts options (joined parts)
   joined_prints =
@@ -129,20 +125,20 @@ kept_only encoding text other kept answers = let e : Ok other ≡ Ok text = (kep
 pub kept_answered : (encoding : Encoding) (text : List ℕ) (error : ErrorView) → IsKept encoding text → ¬ encoding text (Err error)
 kept_answered encoding text error kept answers = let e : Err error ≡ Ok text = (kept (Err error)).0 answers in absurd (cc e)
 
-module _ (prints_its_parts : PartsArePrinted) (options : OptionsView) (encoding : Encoding) (parts : List PartView) (printable : IsPrintable options parts) (keeps : Keeps encoding parts) where
+module _ (options : OptionsView) (encoding : Encoding) (parts : List PartView) (printable : IsPrintable options parts) (keeps : Keeps encoding parts) where
   pub kept_reads : Reads (printed options parts) options encoding (joined parts)
-  kept_reads = reads_back prints_its_parts options encoding (IsKept encoding) parts printable (each_kept encoding (encoded_texts (joined parts)) keeps.1) (kept_itself encoding)
+  kept_reads = reads_back options encoding (IsKept encoding) parts printable (each_kept encoding (encoded_texts (joined parts)) keeps.1) (kept_itself encoding)
 
   pub kept_reads_only : (others : List PartView) → Reads (printed options parts) options encoding others → others ≡ joined parts
-  kept_reads_only = reads_back_only prints_its_parts options encoding (IsKept encoding) parts printable (each_kept encoding (encoded_texts (joined parts)) keeps.1) (kept_only encoding)
+  kept_reads_only = reads_back_only options encoding (IsKept encoding) parts printable (each_kept encoding (encoded_texts (joined parts)) keeps.1) (kept_only encoding)
 
   pub kept_unrefused : (error : ErrorView) → ¬ Refuses (printed options parts) options encoding error
   kept_unrefused error refuses =
-      let answered = refused_back prints_its_parts options encoding (IsKept encoding) parts printable (each_kept encoding (encoded_texts (joined parts)) keeps.1) error refuses in
+      let answered = refused_back options encoding (IsKept encoding) parts printable (each_kept encoding (encoded_texts (joined parts)) keeps.1) error refuses in
       kept_answered encoding answered.0 error answered.1 answered.2
 
   pub kept_same : (others : List PartView) → Reads (printed options parts) options encoding others → printed options others ≡ printed options parts
-  kept_same = same_back prints_its_parts options encoding (IsKept encoding) parts printable (each_kept encoding (encoded_texts (joined parts)) keeps.1) (kept_only encoding)
+  kept_same = same_back options encoding (IsKept encoding) parts printable (each_kept encoding (encoded_texts (joined parts)) keeps.1) (kept_only encoding)
 
   -- all of it
   pub kept_reads_back : ReadsBack (printed options parts) options encoding parts
@@ -150,15 +146,15 @@ module _ (prints_its_parts : PartsArePrinted) (options : OptionsView) (encoding 
 
 -- ---- encodings that may fail, such as a callback that may run out of memory
 
-module _ (prints_its_parts : PartsArePrinted) (options : OptionsView) (encoding : Encoding) (parts : List PartView) (printable : IsPrintable options parts) where
+module _ (options : OptionsView) (encoding : Encoding) (parts : List PartView) (printable : IsPrintable options parts) where
   -- whatever the text reads as is the joined parts, where the encoding answers each of their texts by itself if at all
   pub asked_only : ((text other : List ℕ) → Contains (encoded_texts (joined parts)) text → encoding text (Ok other) → other ≡ text) →
       (others : List PartView) → Reads (printed options parts) options encoding others → others ≡ joined parts
-  asked_only only = reads_back_only prints_its_parts options encoding (Contains (encoded_texts (joined parts))) parts printable (each_contained (encoded_texts (joined parts))) only
+  asked_only only = reads_back_only options encoding (Contains (encoded_texts (joined parts))) parts printable (each_contained (encoded_texts (joined parts))) only
 
   -- whatever error refuses the text is one that the encoding may answer to one of their texts
   pub asked_refused : (error : ErrorView) → Refuses (printed options parts) options encoding error → (text : List ℕ) × Contains (encoded_texts (joined parts)) text × encoding text (Err error)
-  asked_refused = refused_back prints_its_parts options encoding (Contains (encoded_texts (joined parts))) parts printable (each_contained (encoded_texts (joined parts)))
+  asked_refused = refused_back options encoding (Contains (encoded_texts (joined parts))) parts printable (each_contained (encoded_texts (joined parts)))
 
 -- ---- parts that were read
 
