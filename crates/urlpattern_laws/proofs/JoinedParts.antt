@@ -1,5 +1,5 @@
 -- Neighbouring plain fixed texts made one: what the parts have, the joined parts have too.
-use Rattle.std.proofs.Common.{◌≡◌, ℕ, suc, Bool, true, false, List, [], ◌∷◌, ◌++◌, refl, sym, ap, ◌∙◌, subst}
+use Rattle.std.proofs.Common.{◌≡◌, ℕ, Bool, true, false, List, [], ◌∷◌, ◌++◌, refl, sym, ap, ◌∙◌, subst}
 use Rattle.std.specs.Prelude.{IsTrue, AllPairs, ◌&&◌, filter, map, not, if◌then◌else◌}
 use Rattle.std.specs.List.{list_all}
 use Rattle.std.proofs.lemmas.Bool.{and_from, and_parts}
@@ -10,7 +10,7 @@ use Rattle.urlpattern_syntax.specs.Options.{OptionsView}
 use Rattle.urlpattern_syntax.specs.Parts.{PartView}
 use Rattle.urlpattern_syntax.specs.RegexpText.{group_names, is_fixed_text, is_plain}
 use Rattle.urlpattern_syntax.specs.Tokens.{is_ignored}
-use Rattle.urlpattern_laws.specs.Printing.{has_custom_name, joined, joined_with}
+use Rattle.urlpattern_laws.specs.Printing.{joined, joined_with}
 use Rattle.urlpattern_laws.specs.RoundTrip.{AllHaveFields, AreNamed, ArePatternParts, AreUnskipped, HasFields, HasUnskipped, IsNamed, IsUnskipped, number_behind}
 use Rattle.urlpattern_laws.proofs.MeaningLaws.{with_value}
 use Rattle.urlpattern_laws.proofs.PrintingLaws.{plain_kind}

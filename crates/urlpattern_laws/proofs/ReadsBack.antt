@@ -8,7 +8,7 @@ use Rattle.urlpattern_syntax.specs.Errors.{ErrorView}
 use Rattle.urlpattern_syntax.specs.Options.{OptionsView}
 use Rattle.urlpattern_syntax.specs.Parts.{PartView}
 use Rattle.urlpattern_syntax.specs.Pieces.{Ending as endings}
-use Rattle.urlpattern_syntax.specs.Reading.{AreParts, Encoding, FailsDemand, FirstFails, Item, Reads, Refuses, demands, items_of}
+use Rattle.urlpattern_syntax.specs.Reading.{AreParts, Encoding, FirstFails, Item, Reads, Refuses, demands, items_of}
 use Rattle.urlpattern_syntax.specs.RegexpText.{group_names}
 use Rattle.urlpattern_syntax.specs.Tokens.{end_of}
 use Rattle.urlpattern_laws.specs.Printing.{HaveTexts, Keeps, KeepsTexts, encoded_texts, joined, printed}
@@ -19,7 +19,7 @@ use Rattle.urlpattern_laws.proofs.PrintedParts.{prints_its_parts}
 use Rattle.urlpattern_laws.proofs.PrintingLaws.{joined_texts, printed_joined}
 use Rattle.urlpattern_laws.proofs.ReadingLaws.{text_pieces_one}
 use Rattle.urlpattern_laws.proofs.ReadParts.{read_parts_are_pattern_parts}
-use Rattle.urlpattern_laws.proofs.RoundTripWords.{AreApart, PrintsItsParts}
+use Rattle.urlpattern_laws.proofs.RoundTripWords.{PrintsItsParts}
 use Rattle.urlpattern_laws.proofs.StandingItems.{AllStand, EachText, distinct_new, each_contained, items_stand, stand_met, stand_only, stand_parts, stand_failing}
 use Rattle.urlpattern_laws.proofs.TokensUnique.{tokens_or_fault}
 

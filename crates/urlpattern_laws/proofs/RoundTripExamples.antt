@@ -1,26 +1,25 @@
 -- Worked examples of printed patterns that read back, and of what prints or reads otherwise where one premise is missing.
-use Rattle.std.proofs.Common.{◌≡◌, ℕ, zero, suc, ◌<◌, List, [], ◌∷◌, ◌++◌, refl, arith, inl, inr, lit<, Some, None, Ok}
+use Rattle.std.proofs.Common.{◌≡◌, ℕ, List, [], ◌∷◌, refl, subst, arith, inl, inr, lit<, Some, None, Ok}
 use Rattle.std.specs.Fmt.{digits}
-use Rattle.std.specs.Prelude.{codes, Contains, Option, Result}
+use Rattle.std.specs.Prelude.{codes}
 use Rattle.urlpattern_syntax.specs.declared.parser.PartModifier.TheVariants as modifiers
 use Rattle.urlpattern_syntax.specs.declared.parser.PartType.TheVariants.{Regexp}
 use Rattle.urlpattern_syntax.specs.declared.tokenizer.TokenType.TheVariants as tokens
-use Rattle.urlpattern_syntax.specs.Errors.{ErrorView}
 use Rattle.urlpattern_syntax.specs.Errors.{ErrorView as views}
 use Rattle.urlpattern_syntax.specs.Options.{OptionsView, default_options, pathname_options, standard_options}
-use Rattle.urlpattern_syntax.specs.Parts.{PartView, fixed_text}
+use Rattle.urlpattern_syntax.specs.Parts.{PartView}
 use Rattle.urlpattern_syntax.specs.Pieces.{Piece, Text, Bare, Segment, Anything, Custom, Placeholder, Stops}
 use Rattle.urlpattern_syntax.specs.Reading.{Encoding, Reads, Refuses}
 use Rattle.urlpattern_syntax.specs.RegexpText.{escaped}
-use Rattle.urlpattern_syntax.specs.Tokens.{AreTokens, IsRegexpBody, InvalidRegex, NoBody, Nothing, Plain, TokenView, reason}
+use Rattle.urlpattern_syntax.specs.Tokens.{AreTokens, IsRegexpBody, InvalidRegex, NoBody, Nothing, Plain, reason}
 use Rattle.urlpattern_syntax.proofs.PieceExamples.{PieceCut, bare, ends, piece, pieces_of}
 use Rattle.urlpattern_syntax.proofs.ReadingExamples.{first_name, keeping, other_name}
 use Rattle.urlpattern_syntax.proofs.RegexpTextExamples.{group}
-use Rattle.urlpattern_syntax.proofs.TokenExamples.{char, cut_of, done, empty, escaped_char, literals, mark, name, next, no, none, regexp, token}
-use Rattle.urlpattern_laws.specs.Laws.{listed}
+use Rattle.urlpattern_syntax.proofs.TokenExamples.{char, cut_of, done, empty, literals, mark, name, next, no, none, regexp, token}
 use Rattle.urlpattern_laws.specs.Printing.{Keeps, KeepsTexts, encoded_texts, joined, printed}
 use Rattle.urlpattern_laws.specs.RoundTrip.{IsPrintable}
 use Rattle.urlpattern_laws.proofs.PrintingExamples.{plain, printing, segment, wildcard}
+use Rattle.urlpattern_laws.proofs.ReadsBack.{kept_reads}
 
 -- ---- what is within
 
@@ -45,6 +44,16 @@ slash_printable = record {
   texts = (λ e. λ f. cc f, (λ e. absurd (no e), tt));
   unskipped = (refl, ((refl, refl), tt));
 }
+
+-- they read back
+pub slash_text : printed pathname_options (plain (codes "/") ∷ segment [] (codes "x") [] ∷ []) ≡ codes "/{:x}"
+unfolding printing
+slash_text = refl
+
+pub slash_read : Reads (codes "/{:x}") pathname_options keeping (plain (codes "/") ∷ segment [] (codes "x") [] ∷ [])
+slash_read =
+    let parts : List PartView = plain (codes "/") ∷ segment [] (codes "x") [] ∷ [] in
+    subst (λ text. Reads text pathname_options keeping parts) slash_text (kept_reads pathname_options keeping parts slash_printable (keeps_parts parts))
 
 -- ---- what is outside
 

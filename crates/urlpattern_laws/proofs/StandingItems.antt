@@ -1,9 +1,8 @@
 -- Items that stand for parts, one by one: their demands, and the parts that they give.
-use Rattle.std.proofs.Common.{◌≡◌, ◌≢◌, ℕ, suc, ◌<◌, ◌+◌, Bool, true, false, List, [], ◌∷◌, ◌++◌, length, get_or, refl, sym, ap, ◌∙◌, subst, inl, inr, arith}
-use Rattle.std.specs.Prelude.{All, AllPairs, Contains, IsTrue, Result, Ok, Err, ◌↔◌, if◌then◌else◌}
-use Rattle.std.proofs.lemmas.Bool.{false≢true}
-use Rattle.std.proofs.lemmas.List.Elements.{All-cons, All-head, All-nil, All-tail, Contains-push_cases}
-use Rattle.urlpattern_syntax.proofs.ReadingLemmas.{item_names, names-AreParts}
+use Rattle.std.proofs.Common.{◌≡◌, ◌≢◌, ℕ, suc, ◌<◌, List, [], ◌∷◌, ◌++◌, length, get_or, refl, sym, ap, ◌∙◌, subst, inl, inr, arith}
+use Rattle.std.specs.Prelude.{All, AllPairs, Contains, IsTrue, Ok, Err, if◌then◌else◌}
+use Rattle.std.proofs.lemmas.List.Elements.{All-head, All-tail, Contains-push_cases}
+use Rattle.urlpattern_syntax.proofs.ReadingLemmas.{item_names}
 use Rattle.urlpattern_syntax.specs.declared.parser.PartModifier.{PartModifier}
 use Rattle.urlpattern_syntax.specs.declared.parser.PartModifier.TheVariants as modifiers
 use Rattle.urlpattern_syntax.specs.declared.parser.PartType.{PartType}
@@ -12,10 +11,10 @@ use Rattle.urlpattern_syntax.specs.declared.tokenizer.TokenType.TheVariants.{End
 use Rattle.urlpattern_syntax.specs.Errors.{ErrorView}
 use Rattle.urlpattern_syntax.specs.Options.{OptionsView}
 use Rattle.urlpattern_syntax.specs.Parts.{PartView, fixed_text}
-use Rattle.urlpattern_syntax.specs.Pieces.{Ending, Matched}
+use Rattle.urlpattern_syntax.specs.Pieces.{Matched}
 use Rattle.urlpattern_syntax.specs.Pieces.{Ending as endings}
-use Rattle.urlpattern_syntax.specs.Reading.{AreMet, AreParts, Capture, Demand, Encode, Encoding, Expect, Fails, FirstFails, Fixed, IsMet, Item, NewName, capture_part, compared, demands_after, encode_fixed, kind_of, value_of}
-use Rattle.urlpattern_syntax.specs.RegexpText.{group_names, is_fixed_text}
+use Rattle.urlpattern_syntax.specs.Reading.{AreMet, AreParts, Capture, Encoding, FirstFails, Fixed, Item, capture_part, compared, demands_after, encode_fixed, value_of}
+use Rattle.urlpattern_syntax.specs.RegexpText.{is_fixed_text}
 use Rattle.urlpattern_syntax.specs.Tokens.{TokenView}
 use Rattle.urlpattern_laws.specs.Printing.{HaveTexts, encoded_texts}
 use Rattle.urlpattern_laws.specs.RoundTrip.{AllHaveFields, AreNamed, HasFields, IsNamed, number_behind}
