@@ -1,21 +1,20 @@
 -- Modifiers, braces, and the suffix behind a name, as they are printed.
-use Rattle.std.proofs.Common.{◌≡◌, ◌≢◌, ℕ, Bool, true, false, List, [], ◌∷◌, ◌++◌, refl, sym, ap, ◌∙◌, subst, append_assoc}
-use Rattle.std.specs.Prelude.{IsTrue, codes, not, ◌&&◌, if◌then◌else◌}
-use Rattle.std.proofs.lemmas.Bool.{and_from, and_parts, both_ways}
+use Rattle.std.proofs.Common.{◌≡◌, ℕ, Bool, true, false, List, [], ◌∷◌, ◌++◌, refl, sym, ap, ◌∙◌, subst, append_assoc}
+use Rattle.std.specs.Prelude.{IsTrue, codes, if◌then◌else◌}
+use Rattle.std.proofs.lemmas.Bool.{and_parts, both_ways}
 use Rattle.std.specs.List.{list_all}
 use Rattle.urlpattern_syntax.proofs.TokenExamples.{no}
 use Rattle.urlpattern_syntax.specs.declared.parser.PartModifier.{PartModifier}
 use Rattle.urlpattern_syntax.specs.declared.parser.PartModifier.TheVariants as modifiers
-use Rattle.urlpattern_syntax.specs.declared.tokenizer.TokenType.{TokenType}
-use Rattle.urlpattern_syntax.specs.declared.tokenizer.TokenType.TheVariants.{Asterisk, Char, Close, EscapedChar, Open, OtherModifier}
+use Rattle.urlpattern_syntax.specs.declared.tokenizer.TokenType.TheVariants.{Asterisk, Close, EscapedChar, Open, OtherModifier}
 use Rattle.urlpattern_syntax.specs.Pieces.{AreTexts, BeginsWithKind, IsBraced, IsModifier, TakesModifier, is_modifier, is_regexp, is_text}
 use Rattle.urlpattern_syntax.specs.RegexpText.{is_unmodified, modifier_text}
 use Rattle.urlpattern_syntax.specs.Text.{BeginsWith, begins_with, is_among, is_name_part}
-use Rattle.urlpattern_syntax.specs.Tokens.{IsLexed, TokenView, is_ignored}
+use Rattle.urlpattern_syntax.specs.Tokens.{IsLexed, TokenView}
 use Rattle.urlpattern_laws.specs.Printing.{escaped_pattern, in_braces, pattern_marks}
 use Rattle.urlpattern_laws.specs.RoundTrip.{IsUnskipped}
 use Rattle.urlpattern_laws.proofs.PrintedTexts.{escaped_first, escaped_none, escaped_one, text_are, text_no_regexp, text_run, text_tokens}
-use Rattle.urlpattern_laws.proofs.PrintedTokens.{Run, asterisk_lexed, backslash_lexed, close_lexed, done, mark_no_part, next, open_lexed, optional_lexed, plus_lexed, run_joined, token_at}
+use Rattle.urlpattern_laws.proofs.PrintedTokens.{Run, asterisk_lexed, backslash_lexed, close_lexed, done, mark_ends, mark_no_part, next, open_lexed, optional_lexed, plus_lexed, run_joined, token_at}
 
 -- ---- modifiers
 
@@ -47,9 +46,9 @@ modifier_takes modifiers.OneOrMore behind free = tt
 -- a modifier ends a name
 pub modifier_ends : (modifier : PartModifier) (rest : List ℕ) → (IsTrue (is_unmodified modifier) → ¬ BeginsWith is_name_part rest) → ¬ BeginsWith is_name_part (modifier_text modifier ++ rest)
 modifier_ends modifiers.None rest free = free refl
-modifier_ends modifiers.Optional rest free = mark_no_part 63 refl
-modifier_ends modifiers.ZeroOrMore rest free = mark_no_part 42 refl
-modifier_ends modifiers.OneOrMore rest free = mark_no_part 43 refl
+modifier_ends modifiers.Optional rest free = mark_ends (codes "?") refl
+modifier_ends modifiers.ZeroOrMore rest free = mark_ends (codes "*") refl
+modifier_ends modifiers.OneOrMore rest free = mark_ends (codes "+") refl
 
 -- a modifier is no Regexp
 pub modifier_regexp : (total : ℕ) (modifier : PartModifier) (rest : List ℕ) (behind : List TokenView) → (IsTrue (is_unmodified modifier) → ¬ BeginsWithKind is_regexp behind) → ¬ BeginsWithKind is_regexp (modifier_tokens total modifier rest ++ behind)
@@ -96,7 +95,7 @@ is_braced total text inner modifier rest behind free = record {
 -- ---- what a text begins with
 
 one_ends : (c : ℕ) (rest : List ℕ) (mark : Bool) → is_name_part c ≡ false → ¬ BeginsWith is_name_part (escaped_one mark c ++ rest)
-one_ends c rest true e = mark_no_part 92 refl
+one_ends c rest true e = mark_ends (codes "\\") refl
 one_ends c rest false e = both_ways (is_name_part c) e
 
 -- an escaped text that does not begin with a name character ends a name
@@ -135,7 +134,7 @@ suffix_tokens total false suffix rest part h = record {
 suffix_tokens total true [] rest part h = absurd (no (part refl))
 suffix_tokens total true (c ∷ suffix) rest part h =
     let spelled : escaped_pattern (c ∷ suffix) ++ rest ≡ c ∷ (escaped_pattern suffix ++ rest) =
-        escaped_first c suffix rest ∙ ap (λ t. t ++ (escaped_pattern suffix ++ rest)) (part_no_mark c (is_among pattern_marks c) refl (part refl)) in
+    escaped_first c suffix rest ∙ ap (λ t. t ++ (escaped_pattern suffix ++ rest)) (part_no_mark c (is_among pattern_marks c) refl (part refl)) in
     let more = text_are total suffix rest in
     record {
       tokens = token_at total (codes "\\" ++ (escaped_pattern (c ∷ suffix) ++ rest)) EscapedChar (c ∷ []) ∷ text_tokens total suffix rest;
@@ -146,5 +145,5 @@ suffix_tokens total true (c ∷ suffix) rest part h =
 
 -- behind a name that stands alone, a suffix with its backslash ends the name
 pub suffix_ends : (kept : Bool) (suffix rest : List ℕ) → begins_with is_name_part suffix ≡ kept → ¬ BeginsWith is_name_part rest → ¬ BeginsWith is_name_part (suffix_text kept suffix ++ rest)
-suffix_ends true suffix rest e free = mark_no_part 92 refl
+suffix_ends true suffix rest e free = mark_ends (codes "\\") refl
 suffix_ends false suffix rest e free = text_ends suffix rest e (λ f. free)

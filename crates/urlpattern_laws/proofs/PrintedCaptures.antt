@@ -1,9 +1,8 @@
 -- A group as it is printed, before parts that are read back.
-use Rattle.std.proofs.Common.{◌≡◌, ◌≢◌, ℕ, Bool, true, false, List, [], ◌∷◌, ◌++◌, Option, Some, None, refl, sym, ap, ◌∙◌, subst, append_assoc}
-use Rattle.std.specs.Prelude.{IsTrue, bytes_eq, not, ◌&&◌, ◌||◌, if◌then◌else◌}
+use Rattle.std.proofs.Common.{◌≡◌, ◌≢◌, ℕ, Bool, true, false, List, [], ◌∷◌, ◌++◌, Option, Some, refl, sym, ap, ◌∙◌, subst, append_assoc}
+use Rattle.std.specs.Prelude.{IsTrue, not, ◌||◌, if◌then◌else◌}
 use Rattle.std.proofs.lemmas.Bool.{and_from, false≢true, not-false, or_parts, or_right}
 use Rattle.std.proofs.lemmas.Slice.Eq.{bytes_eq-Decides}
-use Rattle.urlpattern_syntax.specs.declared.parser.PartModifier.{PartModifier}
 use Rattle.urlpattern_syntax.specs.declared.parser.PartType.{PartType}
 use Rattle.urlpattern_syntax.specs.declared.parser.PartType.TheVariants.{FixedText, FullWildcard, Regexp, SegmentWildcard}
 use Rattle.urlpattern_syntax.specs.declared.tokenizer.TokenType.{TokenType}
@@ -11,16 +10,16 @@ use Rattle.urlpattern_syntax.specs.Options.{OptionsView}
 use Rattle.urlpattern_syntax.specs.Parts.{PartView}
 use Rattle.urlpattern_syntax.specs.Pieces.{BeginsWithKind, Matched, is_modifier, is_placeholder, is_regexp}
 use Rattle.urlpattern_syntax.specs.Pieces.{Ending as endings}
-use Rattle.urlpattern_syntax.specs.Reading.{Capture, Item, compared, items_from, joined_items, kind_of, number_after, value_of}
+use Rattle.urlpattern_syntax.specs.Reading.{Capture, compared, items_from, joined_items, kind_of, number_after, value_of}
 use Rattle.urlpattern_syntax.specs.RegexpText.{is_empty, is_fixed_text, is_unmodified}
 use Rattle.urlpattern_syntax.specs.Text.{BeginsWith, begins_with, byte_len, is_name_part}
 use Rattle.urlpattern_syntax.specs.Tokens.{TokenView, end_of}
-use Rattle.urlpattern_laws.specs.Printing.{admits_asterisk, first_part, goes_on, has_custom_name, has_other_prefix, has_suffix, is_name_alone, last_of, needs_braces, printed_after, printed_fixed, printed_group, printed_part, takes_before, takes_next}
+use Rattle.urlpattern_laws.specs.Printing.{admits_asterisk, first_part, goes_on, has_custom_name, has_other_prefix, has_suffix, last_of, needs_braces, printed_after, printed_fixed, printed_group, printed_part, takes_before, takes_next}
 use Rattle.urlpattern_laws.specs.RoundTrip.{IsPrefixPoint, number_behind}
 use Rattle.urlpattern_laws.proofs.PrintedBehind.{Behind, ReadsBack, are_more, behind_any, goes_by, goes_not}
 use Rattle.urlpattern_laws.proofs.PrintedGroups.{GroupPiece, IsGroup, group_bare, group_braced}
 use Rattle.urlpattern_laws.proofs.PrintedTokens.{Run, run_joined}
-use Rattle.urlpattern_laws.proofs.RoundTripWords.{AreItemsOf, IsItemOf}
+use Rattle.urlpattern_laws.proofs.RoundTripWords.{IsItemOf}
 
 -- a group is the item of its part
 capture_item : (options : OptionsView) (kind : PartType) (part : PartView) (match : Matched) → is_fixed_text kind ≡ false → kind_of options (compared options match) ≡ part.kind → value_of part.kind (compared options match) ≡ part.value →
@@ -121,7 +120,7 @@ module _ (options : OptionsView) (whole : List ℕ) (before : Option PartView) (
       Capture part.prefix part.name piece.placeholder.matched part.suffix part.modifier,
       joined_items (items_from (number_behind number part.kind part) more.pieces),
       ap (λ x. joined_items (x ∷ items_from (number_after number piece.piece) more.pieces)) piece.is_item
-      ∙ ap (λ n. Capture part.prefix part.name piece.placeholder.matched part.suffix part.modifier ∷ joined_items (items_from n more.pieces)) piece.is_number,
+          ∙ ap (λ n. Capture part.prefix part.name piece.placeholder.matched part.suffix part.modifier ∷ joined_items (items_from n more.pieces)) piece.is_number,
       capture_item options part.kind part piece.placeholder.matched is.group piece.shows.is_kind piece.shows.is_value,
       more.are_items,
     );

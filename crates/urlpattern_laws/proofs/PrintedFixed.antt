@@ -1,6 +1,6 @@
 -- A fixed text as it is printed, plain or with a modifier, before parts that are read back.
-use Rattle.std.proofs.Common.{◌≡◌, ◌≢◌, ℕ, Bool, true, false, List, [], ◌∷◌, ◌++◌, Option, Some, None, refl, sym, ap, ◌∙◌, subst, append_assoc}
-use Rattle.std.specs.Prelude.{IsTrue, not, ◌&&◌, if◌then◌else◌}
+use Rattle.std.proofs.Common.{◌≡◌, ◌≢◌, ℕ, Bool, true, false, List, [], ◌∷◌, ◌++◌, Option, Some, refl, sym, ap, ◌∙◌, subst, append_assoc}
+use Rattle.std.specs.Prelude.{IsTrue, codes, not, ◌&&◌, if◌then◌else◌}
 use Rattle.std.proofs.lemmas.Bool.{both_ways, false≢true}
 use Rattle.urlpattern_syntax.proofs.TokenExamples.{no}
 use Rattle.urlpattern_syntax.specs.declared.parser.PartModifier.{PartModifier}
@@ -10,19 +10,19 @@ use Rattle.urlpattern_syntax.specs.declared.parser.PartType.TheVariants.{FixedTe
 use Rattle.urlpattern_syntax.specs.declared.tokenizer.TokenType.{TokenType}
 use Rattle.urlpattern_syntax.specs.Options.{OptionsView}
 use Rattle.urlpattern_syntax.specs.Parts.{PartView}
-use Rattle.urlpattern_syntax.specs.Pieces.{BeginsWithKind, IsPiece, Piece, is_modifier, is_placeholder, is_regexp, is_text}
+use Rattle.urlpattern_syntax.specs.Pieces.{BeginsWithKind, is_modifier, is_placeholder, is_regexp, is_text}
 use Rattle.urlpattern_syntax.specs.Pieces.{Ending as endings, Piece as pieces}
 use Rattle.urlpattern_syntax.specs.Pieces.{ArePieces}
-use Rattle.urlpattern_syntax.specs.Reading.{Capture, Fixed, Item, items_from, joined_items, with_text}
-use Rattle.urlpattern_syntax.specs.RegexpText.{is_empty, is_fixed_text, is_plain, is_unmodified, modifier_text}
+use Rattle.urlpattern_syntax.specs.Reading.{Fixed, Item, items_from, joined_items, with_text}
+use Rattle.urlpattern_syntax.specs.RegexpText.{is_fixed_text, is_plain, is_unmodified, modifier_text}
 use Rattle.urlpattern_syntax.specs.Text.{BeginsWith, begins_with, byte_len, is_name_part}
 use Rattle.urlpattern_syntax.specs.Tokens.{TokenView, end_of}
 use Rattle.urlpattern_laws.specs.Printing.{escaped_pattern, first_part, goes_on, has_custom_name, in_braces, needs_braces, printed_after, printed_fixed, printed_group, printed_part}
-use Rattle.urlpattern_laws.specs.RoundTrip.{HasFields, IsUnskipped}
+use Rattle.urlpattern_laws.specs.RoundTrip.{IsUnskipped}
 use Rattle.urlpattern_laws.proofs.PrintedBehind.{Behind, ReadsBack, are_more, behind_any, goes_by, goes_not}
 use Rattle.urlpattern_laws.proofs.PrintedBraces.{braced_run, braced_tokens, closing_text, is_braced, text_ends}
 use Rattle.urlpattern_laws.proofs.PrintedTexts.{are_text_pieces, text_are, text_first, text_items, text_no_modifier, text_no_placeholder, text_no_regexp, text_pieces, text_run, text_tokens}
-use Rattle.urlpattern_laws.proofs.PrintedTokens.{Run, mark_no_part, run_joined}
+use Rattle.urlpattern_laws.proofs.PrintedTokens.{Run, mark_ends, run_joined}
 use Rattle.urlpattern_laws.proofs.PrintingLaws.{plain_fixed, plain_kind, plain_modifier, plain_printed}
 use Rattle.urlpattern_laws.proofs.RoundTripWords.{AreApart, AreItemsOf, IsItemOf}
 
@@ -80,8 +80,8 @@ step_plain options whole before number part parts plain filled unskipped no_pref
     Fixed part.value part.modifier,
     joined_items (items_from number more.pieces),
     text_items number part.value more.pieces
-    ∙ text_apart options part parts part.value (joined_items (items_from number more.pieces)) plain filled apart more.are_items
-    ∙ ap (λ m. Fixed part.value m ∷ joined_items (items_from number more.pieces)) (sym (plain_modifier part.kind part.modifier plain)),
+        ∙ text_apart options part parts part.value (joined_items (items_from number more.pieces)) plain filled apart more.are_items
+        ∙ ap (λ m. Fixed part.value m ∷ joined_items (items_from number more.pieces)) (sym (plain_modifier part.kind part.modifier plain)),
     fixed_item options part.kind part (plain_kind part.kind part.modifier plain),
     more.are_items,
   );
@@ -177,5 +177,5 @@ step_modified options whole before number part parts fixed modified unskipped mo
       no_modifier = λ _ _. no;
       no_placeholder = λ _ _ _. no;
       no_regexp = λ _ _ _. no;
-      no_name_part = λ _ _ _. subst (λ t. ¬ BeginsWith is_name_part (t ++ rest)) spelled (mark_no_part 123 refl);
+      no_name_part = λ _ _ _. subst (λ t. ¬ BeginsWith is_name_part (t ++ rest)) spelled (mark_ends (codes "{") refl);
     }

@@ -1,12 +1,11 @@
 -- A group as it is printed, with braces or without: its tokens, its piece, and the item that this is.
 use Rattle.std.proofs.Common.{◌≡◌, ◌≢◌, ℕ, Bool, true, false, List, [], ◌∷◌, ◌++◌, Option, refl, sym, ap, ◌∙◌, subst, inl, inr, append_assoc}
 use Rattle.std.specs.Prelude.{IsTrue, bytes_eq, codes, not, ◌&&◌, ◌||◌, if◌then◌else◌}
-use Rattle.std.proofs.lemmas.Bool.{and_parts, both_ways, false≢true, false_from_ne_true, not-false}
+use Rattle.std.proofs.lemmas.Bool.{and_parts, false≢true, false_from_ne_true, not-false}
 use Rattle.std.proofs.lemmas.Slice.Eq.{bytes_eq-Decides}
 use Rattle.urlpattern_syntax.proofs.TokenExamples.{no}
-use Rattle.urlpattern_syntax.specs.declared.parser.PartModifier.{PartModifier}
 use Rattle.urlpattern_syntax.specs.declared.tokenizer.TokenType.{TokenType}
-use Rattle.urlpattern_syntax.specs.declared.tokenizer.TokenType.TheVariants.{Char, EscapedChar}
+use Rattle.urlpattern_syntax.specs.declared.tokenizer.TokenType.TheVariants.{Char}
 use Rattle.urlpattern_syntax.specs.Options.{OptionsView}
 use Rattle.urlpattern_syntax.specs.Parts.{PartView}
 use Rattle.urlpattern_syntax.specs.Pieces.{BeginsWithKind, IsBraced, IsPiece, IsPlaceholderOf, IsPrefixOf, Piece, Placeholder, is_modifier, is_placeholder, is_regexp, is_text}
@@ -15,12 +14,12 @@ use Rattle.urlpattern_syntax.specs.Reading.{Capture, item, number_after}
 use Rattle.urlpattern_syntax.specs.RegexpText.{escaped, is_empty, is_fixed_text, is_unmodified, modifier_text}
 use Rattle.urlpattern_syntax.specs.Text.{BeginsWith, begins_with, is_among, is_name_part}
 use Rattle.urlpattern_syntax.specs.Tokens.{TokenView}
-use Rattle.urlpattern_laws.specs.Printing.{admits_asterisk, escaped_pattern, has_custom_name, has_other_prefix, has_suffix, is_asterisk, is_name_alone, pattern_marks, printed_group, printed_match, printed_name, printed_suffix}
+use Rattle.urlpattern_laws.specs.Printing.{admits_asterisk, escaped_pattern, has_custom_name, has_other_prefix, is_asterisk, is_name_alone, pattern_marks, printed_group, printed_match, printed_name, printed_suffix}
 use Rattle.urlpattern_laws.specs.RoundTrip.{HasFields, IsNamed, IsPrefixPoint, IsUnskipped, number_behind}
-use Rattle.urlpattern_laws.proofs.PrintedBraces.{SuffixTokens, braced_run, braced_tokens, closing_text, closing_token, is_braced, modifier_ends, modifier_is, modifier_regexp, modifier_run, modifier_takes, modifier_tokens, suffix_ends, suffix_text, suffix_tokens, text_ends, texts_no_regexp}
+use Rattle.urlpattern_laws.proofs.PrintedBraces.{SuffixTokens, braced_run, braced_tokens, closing_text, is_braced, modifier_ends, modifier_is, modifier_regexp, modifier_run, modifier_takes, modifier_tokens, suffix_ends, suffix_text, suffix_tokens, text_ends, texts_no_regexp}
 use Rattle.urlpattern_laws.proofs.PrintedPlaceholders.{Placed, Shows, name_by, named_no_regexp, not_anything, placed_no_modifier, placed_part, placeholder_of, shows_part, takes_regexp}
-use Rattle.urlpattern_laws.proofs.PrintedTexts.{kind_by, text_are, text_first, text_kind, text_no_modifier, text_no_placeholder, text_no_regexp, text_run, text_tokens}
-use Rattle.urlpattern_laws.proofs.PrintedTokens.{Run, mark_no_part, run_joined, token_at}
+use Rattle.urlpattern_laws.proofs.PrintedTexts.{kind_by, text_are, text_first, text_no_modifier, text_no_placeholder, text_no_regexp, text_run, text_tokens}
+use Rattle.urlpattern_laws.proofs.PrintedTokens.{Run, mark_ends, run_joined}
 
 -- What is known of a group, where so many groups before it have no name.
 pub record IsGroup (options : OptionsView) (number : ℕ) (part : PartView) : Type 0 where
@@ -83,7 +82,7 @@ group_braced options total number before part rest behind is free = record {
   no_modifier = λ _. no;
   no_placeholder = λ _. no;
   no_regexp = λ _. no;
-  no_name_part = λ _. mark_no_part 123 refl;
+  no_name_part = λ _. mark_ends (codes "{") refl;
 }
   where
     asterisk : Bool
@@ -110,7 +109,7 @@ group_braced options total number before part rest behind is free = record {
     placed : Placed total (printed_name part ++ (printed_match options part.kind part asterisk ++ (printed_suffix part ++ closing))) (printed_suffix part ++ closing) placeholder
     placed =
         placed_part options total number part.kind part asterisk (printed_suffix part ++ closing) (unnamed_asterisk (has_custom_name part) _) is.group is.fields is.named
-        (λ alone. suffix_ends kept part.suffix closing (sym (ap (λ a. a && begins_with is_name_part part.suffix) alone)) (mark_no_part 125 refl))
+        (λ alone. suffix_ends kept part.suffix closing (sym (ap (λ a. a && begins_with is_name_part part.suffix) alone)) (mark_ends (codes "}") refl))
 
     front : List TokenView
     front = text_tokens total part.prefix (printed_name part ++ (printed_match options part.kind part asterisk ++ (printed_suffix part ++ closing)))
@@ -166,7 +165,7 @@ bare_text a b c (x ∷ d) m rest e = absurd (cc e)
 
 -- a text with a name of the pattern's own begins with a colon
 colon_ends : (custom : Bool) (name rest : List ℕ) → IsTrue custom → ¬ BeginsWith is_name_part ((if custom then codes ":" ++ name else []) ++ rest)
-colon_ends true name rest h = mark_no_part 58 refl
+colon_ends true name rest h = mark_ends (codes ":") refl
 colon_ends false name rest h = absurd (no h)
 
 three_lists : (a b c d : List TokenView) → (a ++ b ++ c) ++ d ≡ a ++ (b ++ (c ++ d))

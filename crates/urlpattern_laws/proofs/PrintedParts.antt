@@ -1,21 +1,20 @@
 -- Printed parts are read one by one: the tokens, the pieces and the items of a printed list of parts.
-use Rattle.std.proofs.Common.{◌≡◌, ◌≢◌, ℕ, Bool, true, false, List, [], ◌∷◌, ◌++◌, Option, Some, None, refl, sym, ap, ◌∙◌, subst}
-use Rattle.std.specs.Prelude.{IsTrue, ◌&&◌}
+use Rattle.std.proofs.Common.{◌≡◌, ◌≢◌, ℕ, false, List, [], ◌∷◌, ◌++◌, Option, Some, None, refl, ap, subst}
+use Rattle.std.specs.Prelude.{IsTrue}
 use Rattle.std.proofs.lemmas.Bool.{and_from}
 use Rattle.urlpattern_syntax.specs.declared.parser.PartModifier.{PartModifier}
 use Rattle.urlpattern_syntax.specs.declared.parser.PartModifier.TheVariants as modifiers
 use Rattle.urlpattern_syntax.specs.declared.parser.PartType.{PartType}
-use Rattle.urlpattern_syntax.specs.declared.parser.PartType.TheVariants.{FixedText, FullWildcard, Regexp, SegmentWildcard}
+use Rattle.urlpattern_syntax.specs.declared.parser.PartType.TheVariants.{FixedText}
 use Rattle.urlpattern_syntax.specs.Options.{OptionsView}
 use Rattle.urlpattern_syntax.specs.Parts.{PartView}
-use Rattle.urlpattern_syntax.specs.RegexpText.{is_fixed_text, is_plain, is_unmodified}
+use Rattle.urlpattern_syntax.specs.RegexpText.{is_fixed_text, is_unmodified}
 use Rattle.urlpattern_syntax.specs.Tokens.{end_of}
 use Rattle.urlpattern_laws.specs.Printing.{HaveTexts, printed}
 use Rattle.urlpattern_laws.specs.RoundTrip.{AllHaveFields, AreNamed, ArePatternParts, AreUnskipped, HasFields, HasUnskipped, IsNamed, IsPrefixPoint, IsUnskipped, number_behind}
 use Rattle.urlpattern_laws.proofs.PrintedBehind.{ReadsBack, reads_end}
 use Rattle.urlpattern_laws.proofs.PrintedCaptures.{step_group}
 use Rattle.urlpattern_laws.proofs.PrintedFixed.{step_modified, step_plain}
-use Rattle.urlpattern_laws.proofs.PrintedGroups.{IsGroup}
 use Rattle.urlpattern_laws.proofs.PrintedTokens.{run_tokens}
 use Rattle.urlpattern_laws.proofs.RoundTripWords.{AreApart, PrintsItsParts}
 

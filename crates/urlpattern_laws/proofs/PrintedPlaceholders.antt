@@ -1,8 +1,8 @@
 -- The name of a group and what it matches, as they are printed: their tokens, and the placeholder that these are.
-use Rattle.std.proofs.Common.{◌≡◌, ◌≢◌, ℕ, suc, ◌⊎◌, Bool, true, false, List, [], ◌∷◌, ◌++◌, Option, Some, None, refl, sym, ap, ◌∙◌, subst, inl, inr, append_assoc, arith, lit<}
-use Rattle.std.specs.Prelude.{IsTrue, bytes_eq, codes, decimal, not, ◌&&◌, if◌then◌else◌}
+use Rattle.std.proofs.Common.{◌≡◌, ◌≢◌, ℕ, suc, Bool, true, false, List, [], ◌∷◌, ◌++◌, Option, Some, None, refl, sym, ap, ◌∙◌, subst, inl, inr, lit<}
+use Rattle.std.specs.Prelude.{IsTrue, bytes_eq, codes, decimal, not, ◌&&◌, slice_index, if◌then◌else◌}
 use Rattle.std.specs.Char.{is_ascii_digit}
-use Rattle.std.proofs.lemmas.Bool.{and_from, both_ways, false≢true, not-false, not-true}
+use Rattle.std.proofs.lemmas.Bool.{and_from, both_ways, false≢true, not-false}
 use Rattle.urlpattern_syntax.proofs.ReadingLemmas.{kind_custom, kind_full, kind_segment}
 use Rattle.urlpattern_syntax.proofs.TokenExamples.{no}
 use Rattle.urlpattern_syntax.specs.declared.parser.PartType.{PartType}
@@ -12,7 +12,7 @@ use Rattle.urlpattern_syntax.specs.declared.tokenizer.TokenType.{TokenType}
 use Rattle.urlpattern_syntax.specs.declared.tokenizer.TokenType.TheVariants as tokens
 use Rattle.urlpattern_syntax.specs.Options.{OptionsView}
 use Rattle.urlpattern_syntax.specs.Parts.{PartView}
-use Rattle.urlpattern_syntax.specs.Pieces.{BeginsWithKind, IsPlaceholderOf, Matched, Placeholder, TakesRegexp, is_modifier, is_regexp, kinds, values}
+use Rattle.urlpattern_syntax.specs.Pieces.{BeginsWithKind, IsPlaceholderOf, Matched, Placeholder, TakesRegexp, is_modifier, is_regexp, kinds}
 use Rattle.urlpattern_syntax.specs.Pieces.{Matched as matched}
 use Rattle.urlpattern_syntax.specs.Reading.{compared, kind_of, name_or, next_number, value_of}
 use Rattle.urlpattern_syntax.specs.RegexpText.{captured, full_wildcard, is_fixed_text, segment_wildcard, segment_wildcard_of}
@@ -22,13 +22,13 @@ use Rattle.urlpattern_syntax.specs.Tokens.{Body as bodies}
 use Rattle.urlpattern_laws.specs.Printing.{has_custom_name, is_segment, printed_match, printed_name}
 use Rattle.urlpattern_laws.specs.RoundTrip.{HasFields, IsNamed, number_behind}
 use Rattle.urlpattern_laws.proofs.NameLaws.{decimal_digited, name_not_digited}
-use Rattle.urlpattern_laws.proofs.PrintedTokens.{Run, asterisk_lexed, done, mark_no_part, name_lexed, next, regexp_lexed, token_at}
+use Rattle.urlpattern_laws.proofs.PrintedTokens.{Run, asterisk_lexed, done, mark_ends, name_lexed, next, regexp_lexed, token_at}
 
 -- ---- the wildcards
 
 pub full_body : IsRegexpBody full_wildcard
 full_body = record {
-  body = bodies.Plain 46 (bodies.Plain 42 bodies.Nothing);
+  body = bodies.Plain (slice_index (codes ".") 0) (bodies.Plain (slice_index (codes "*") 0) bodies.Nothing);
   is_body = (lit< tt, both_ways _ refl, (lit< tt, both_ways _ refl, tt));
   spelled = refl;
   not_empty = λ e. cc e;
@@ -144,7 +144,7 @@ placed_name total name rest is ends = record {
 
 -- an opening bracket ends a name
 bracket_no_part : ¬ IsTrue (is_name_part 40)
-bracket_no_part = mark_no_part 40 refl
+bracket_no_part = mark_ends (codes "(") refl
 
 placed_both : (total : ℕ) (name body rest : List ℕ) → IsName name → IsRegexpBody body → Placed total (codes ":" ++ name ++ (captured body ++ rest)) rest (record { name = Some name; matched = matched.Custom body })
 placed_both total name body rest is is_body = record {

@@ -1,15 +1,14 @@
 -- The tokens of printed patterns, in which nothing is skipped, and what a name character is not.
-use Rattle.std.proofs.Common.{◌≡◌, ℕ, ◌-◌, ◌≤◌, Bool, true, false, List, [], ◌∷◌, ◌++◌, refl, sym, ap, ◌∙◌, subst, inl, inr, arith, append_assoc}
-use Rattle.std.specs.Prelude.{IsTrue, codes, not, ◌==◌, if◌then◌else◌}
+use Rattle.std.proofs.Common.{ℕ, ◌-◌, ◌≤◌, Bool, true, false, List, [], ◌∷◌, ◌++◌, refl, subst, inl, inr, arith}
+use Rattle.std.specs.Prelude.{IsTrue, codes, not, ◌==◌}
 use Rattle.std.specs.List.{list_all}
-use Rattle.std.proofs.lemmas.Bool.{and_parts, both_ways, eqb-true, or_cases}
-use Rattle.urlpattern_syntax.proofs.TextLemmas.{byte_len-append}
+use Rattle.std.proofs.lemmas.Bool.{and_parts, eqb-true, or_cases}
 use Rattle.urlpattern_syntax.proofs.TokenExamples.{literals, no, none}
 use Rattle.urlpattern_syntax.proofs.TokenLemmas.{IsLexed-shorter}
 use Rattle.urlpattern_syntax.specs.declared.tokenizer.TokenType.{TokenType}
 use Rattle.urlpattern_syntax.specs.declared.tokenizer.TokenType.TheVariants.{Asterisk, Char, Close, EscapedChar, Name, Open, OtherModifier, Regexp}
-use Rattle.urlpattern_syntax.specs.Text.{BeginsWith, begins_with, byte_len, is_among, is_name_part}
-use Rattle.urlpattern_syntax.specs.Tokens.{AreTokens, EndsThere, IsCut, IsLexed, IsName, IsRegexpBody, IsTokenOf, Spells, TokenView, end_of, is_ignored, marks}
+use Rattle.urlpattern_syntax.specs.Text.{BeginsWith, byte_len, is_among, is_name_part}
+use Rattle.urlpattern_syntax.specs.Tokens.{AreTokens, IsCut, IsLexed, IsName, IsRegexpBody, IsTokenOf, TokenView, end_of, is_ignored, marks}
 use Rattle.urlpattern_laws.specs.Printing.{pattern_marks}
 
 -- ---- characters
@@ -20,8 +19,8 @@ among_all test [] c all h = absurd (no h)
 among_all test (mark ∷ some) c all h =
     let parts = and_parts (test mark) (list_all test some) all in
     elim (or_cases (mark == c) (is_among some c) h) [
-      inl e ↦ subst (λ x. IsTrue (test x)) (eqb-true mark c e) parts.0
-    | inr more ↦ among_all test some c parts.1 more
+      | inl e ↦ subst (λ x. IsTrue (test x)) (eqb-true mark c e) parts.0
+      | inr more ↦ among_all test some c parts.1 more
     ]
 
 -- a mark of tokens is a mark of patterns
@@ -39,6 +38,11 @@ not_true false h g = no g
 
 pub mark_no_part : (c : ℕ) → IsTrue (is_among pattern_marks c) → ¬ IsTrue (is_name_part c)
 mark_no_part c h = not_true (is_name_part c) (among_all (λ x. not (is_name_part x)) pattern_marks c no_parts h)
+
+-- so a text that begins with such a mark does not go on with a name
+pub mark_ends : (text : List ℕ) → BeginsWith (is_among pattern_marks) text → ¬ BeginsWith is_name_part text
+mark_ends [] h = no
+mark_ends (c ∷ text) h = mark_no_part c h
 
 -- ---- one token
 
