@@ -10,9 +10,7 @@ pub mod MatchingLaws
 pub mod TokenLaws
 pub mod ReadingLaws
 pub mod NameLaws
-<<<<<<< HEAD
 pub mod RoundTripWords
-=======
 pub mod PartTrees
 pub mod PartTreeTexts
 pub mod PartTreeAllowed
@@ -31,4 +29,18 @@ pub mod OneMeaning
 pub mod MatcherMeaning
 pub mod MatcherShape
 pub mod OneMeaningExamples
->>>>>>> 503d5d3add08be947689be183ff17d41707cb629
+pub mod PrintedTokens
+pub mod PrintedTexts
+pub mod PrintedPlaceholders
+pub mod PrintedBraces
+pub mod PrintedGroups
+pub mod PrintedBehind
+pub mod PrintedFixed
+pub mod PrintedCaptures
+pub mod PrintedParts
+pub mod ReadParts
+pub mod JoinedParts
+pub mod StandingItems
+pub mod ReadsBack
+pub mod RoundTripExamples
+pub mod KeptTexts

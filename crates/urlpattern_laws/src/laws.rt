@@ -15,8 +15,9 @@ ghost use Rattle.urlpattern_syntax.specs.Options.{OptionsView};
 ghost use Rattle.urlpattern_laws.specs.PartMeaning.{Allows, AreCopies, Captures, PartMeans, PartsMean, capture_of_none};
 ghost use Rattle.urlpattern_syntax.specs.Parts.{PartView};
 ghost use Rattle.urlpattern_syntax.specs.Pieces.{ArePieces, Ending, Piece};
-ghost use Rattle.urlpattern_laws.specs.Printing.{HaveTexts, joined, printed};
+ghost use Rattle.urlpattern_laws.specs.Printing.{HaveTexts, Keeps, joined, printed};
 ghost use Rattle.urlpattern_syntax.specs.Reading.{Reads, Refuses};
+ghost use Rattle.urlpattern_laws.specs.RoundTrip.{ArePatternParts, IsPrintable, WereRead};
 ghost use Rattle.urlpattern_syntax.specs.RegexpText.{IsWildcard, group_names, is_empty, regexp_text};
 ghost use Rattle.urlpattern_syntax.specs.Text.{byte_len, lacks, line_feed, BeginsWith};
 ghost use Rattle.urlpattern_syntax.specs.Tokens.{AreLenientTokens, AreTokens, FaultView, IsFault, TokenView, end_of};
@@ -144,4 +145,40 @@ pub fn matchers_answer_what_parts_mean<E>()
 pub fn joining_keeps_regexp()
     ensures text { (options : OptionsView) (parts : List PartView) → regexp_text options (joined parts) ≡ regexp_text options parts }
     ensures names { (parts : List PartView) → group_names (joined parts) ≡ group_names parts }
+{}
+
+/// Parts that a text reads as are such as a pattern text may be read as: their kinds, values and names fit together.
+/// This holds under any options and any encoding.
+pub fn read_parts_are_pattern_parts()
+    ensures { (text : List ℕ) (options : OptionsView) (answers : List (List ℕ × Result (List ℕ) ErrorView)) (parts : List PartView) →
+        Reads text options (listed answers) parts → ArePatternParts options parts }
+{}
+
+/// Printing and parsing are inverse. The printed pattern of the parts reads as the joined parts, and as nothing else, and
+/// it is not refused. Printing what it reads as gives the same text. The parts may be any that are printable, and the
+/// encoding any list of answers that keeps their texts; for all parts there is such a list.
+pub fn printed_patterns_read_back()
+    ensures reads { (options : OptionsView) (answers : List (List ℕ × Result (List ℕ) ErrorView)) (parts : List PartView) →
+        IsPrintable options parts → Keeps (listed answers) parts → Reads (printed options parts) options (listed answers) (joined parts) }
+    ensures only { (options : OptionsView) (answers : List (List ℕ × Result (List ℕ) ErrorView)) (parts others : List PartView) →
+        IsPrintable options parts → Keeps (listed answers) parts → Reads (printed options parts) options (listed answers) others → others ≡ joined parts }
+    ensures not_refused { (options : OptionsView) (answers : List (List ℕ × Result (List ℕ) ErrorView)) (parts : List PartView) (error : ErrorView) →
+        IsPrintable options parts → Keeps (listed answers) parts → ¬ Refuses (printed options parts) options (listed answers) error }
+    ensures same { (options : OptionsView) (answers : List (List ℕ × Result (List ℕ) ErrorView)) (parts others : List PartView) →
+        IsPrintable options parts → Keeps (listed answers) parts → Reads (printed options parts) options (listed answers) others → printed options others ≡ printed options parts }
+    ensures kept { (parts : List PartView) → (answers : List (List ℕ × Result (List ℕ) ErrorView)) × Keeps (listed answers) parts }
+{}
+
+/// Parts that a text was read as under the default, hostname or pathname options, in either syntax, print as a pattern
+/// that reads back: as the joined parts, and as nothing else, and printing these gives the same text. The two encodings
+/// are any lists of answers: the first made the parts, and the second keeps their texts.
+pub fn parts_that_were_read_print_and_read_back()
+    ensures reads { (text : List ℕ) (options : OptionsView) (first answers : List (List ℕ × Result (List ℕ) ErrorView)) (parts : List PartView) →
+        WereRead text options (listed first) parts → Keeps (listed answers) parts → Reads (printed options parts) options (listed answers) (joined parts) }
+    ensures only { (text : List ℕ) (options : OptionsView) (first answers : List (List ℕ × Result (List ℕ) ErrorView)) (parts others : List PartView) →
+        WereRead text options (listed first) parts → Keeps (listed answers) parts → Reads (printed options parts) options (listed answers) others → others ≡ joined parts }
+    ensures not_refused { (text : List ℕ) (options : OptionsView) (first answers : List (List ℕ × Result (List ℕ) ErrorView)) (parts : List PartView) (error : ErrorView) →
+        WereRead text options (listed first) parts → Keeps (listed answers) parts → ¬ Refuses (printed options parts) options (listed answers) error }
+    ensures same { (text : List ℕ) (options : OptionsView) (first answers : List (List ℕ × Result (List ℕ) ErrorView)) (parts others : List PartView) →
+        WereRead text options (listed first) parts → Keeps (listed answers) parts → Reads (printed options parts) options (listed answers) others → printed options others ≡ printed options parts }
 {}
