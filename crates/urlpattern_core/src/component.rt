@@ -1,4 +1,4 @@
-//! The regular expression of a component.
+//! The regular expression of a component, and its pattern text.
 //!
 //! <https://urlpattern.spec.whatwg.org/#component>
 
@@ -9,8 +9,12 @@ ghost use Rattle.urlpattern_syntax.specs.Parts.{part_view};
 ghost use Rattle.urlpattern_syntax.specs.RegexpText.{affixed_regexp, bare_regexp, captured, escaped_regexp, fixed_regexp, group_names, grouped, matched_by, part_regexp, regexp_text, repeated_regexp};
 ghost use Rattle.urlpattern_syntax.specs.Text.{text_of};
 
+mod printed;
+
 use crate::error::Error;
 use crate::parser::{FULL_WILDCARD_REGEXP_VALUE, Options, Part, PartModifier, PartType, push_text};
+pub use printed::generate_pattern_string;
+pub(crate) use printed::push_escaped_pattern;
 use std::alloc::Global;
 
 /// The regular expression of a list of parts, and the names of its groups in their order.
