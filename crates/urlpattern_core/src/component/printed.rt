@@ -249,12 +249,18 @@ fn takes_next(part: &Part, next: Option<&Part>) -> bool
 fn goes_on(part: &Part) -> bool
     ensures { result ≡ goes_on (part_view part.now) }
 {
-    part.prefix.is_empty()
-        && part.suffix.is_empty()
+    is_bare(part)
         && match part.kind {
             PartType::FixedText => begins_with_name_part(&part.value),
             _ => !has_custom_name(part),
         }
+}
+
+/// Whether the part has neither prefix nor suffix.
+fn is_bare(part: &Part) -> bool
+    ensures { result ≡ (is_empty (text_of part.now.prefix) && is_empty (text_of part.now.suffix)) }
+{
+    part.prefix.is_empty() && part.suffix.is_empty()
 }
 
 /// Whether the part would take the end of a fixed text before it as its prefix.
