@@ -1,3 +1,4 @@
+pub mod PrintedTexts
 pub mod RegexpTexts
 pub mod MatcherTexts
 pub mod MatcherAnswers

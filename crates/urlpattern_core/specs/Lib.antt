@@ -1,2 +1,3 @@
 pub mod Captured
 pub mod Matchers
+pub mod Neighbours

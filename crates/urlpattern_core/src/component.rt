@@ -1,4 +1,4 @@
-//! The regular expression of a component.
+//! The regular expression of a component, and its pattern text.
 //!
 //! <https://urlpattern.spec.whatwg.org/#component>
 
@@ -10,10 +10,13 @@ ghost use Rattle.urlpattern_syntax.specs.RegexpText.{affixed_regexp, bare_regexp
 ghost use Rattle.urlpattern_syntax.specs.Text.{text_of};
 
 mod matchers;
+mod printed;
 
 use crate::error::Error;
 use crate::parser::{FULL_WILDCARD_REGEXP_VALUE, Options, Part, PartModifier, PartType, push_text};
 pub use matchers::generate_matcher;
+pub use printed::generate_pattern_string;
+pub(crate) use printed::push_escaped_pattern;
 use std::alloc::Global;
 
 /// The regular expression of a list of parts, and the names of its groups in their order.

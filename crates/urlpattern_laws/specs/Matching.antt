@@ -1,10 +1,5 @@
-<<<<<<< HEAD
--- Which matcher is made of a list of parts, and what a matcher answers to a text.
-use Rattle.std.specs.Prelude.{◌≡◌, ◌≢◌, ◌⊎◌, ℕ, Bool, true, false, List, [], ◌∷◌, ◌++◌, map, Option, Some, None, Result, Ok, Err, IsTrue, if◌then◌else◌, option_to_list}
-=======
 -- Which matcher is made of a list of parts, what a matcher answers to a text, and when that is what the parts mean.
-use Rattle.std.specs.Prelude.{◌≡◌, ◌≢◌, ℕ, Bool, true, false, List, [], ◌∷◌, ◌++◌, map, Option, Some, None, Result, Ok, Err, IsTrue, if◌then◌else◌, option_to_list}
->>>>>>> 503d5d3add08be947689be183ff17d41707cb629
+use Rattle.std.specs.Prelude.{◌≡◌, ◌≢◌, ◌⊎◌, ℕ, Bool, true, false, List, [], ◌∷◌, ◌++◌, map, Option, Some, None, Result, Ok, Err, IsTrue, if◌then◌else◌, option_to_list}
 use Rattle.std.specs.Char.{to_ascii_lowercase}
 use Rattle.std.specs.Str.{all_scalars}
 use Rattle.urlpattern_laws.specs.Dialect.{Follows}
@@ -145,7 +140,6 @@ abbrev pub Answers : {E : Type 0} → (answer : E → List ℕ → Option Captur
 Answers answer matcher text (Some captures) = Matches answer matcher text captures
 Answers answer matcher text None = (captures : Captures) → ¬ Matches answer matcher text captures
 
-<<<<<<< HEAD
 -- the text is matched, with some captures
 abbrev pub IsMatched : {E : Type 0} → (answer : E → List ℕ → Option Captures) → MatcherView E → List ℕ → Type 0
 IsMatched answer matcher text = (captures : Captures) × Matches answer matcher text captures
@@ -169,7 +163,7 @@ AsksEngine matcher text = (middle : List ℕ) × (text ≡ matcher.prefix ++ mid
 -- memory is asked for: by an engine, or for the list of one capture
 abbrev pub MayWantMemory : {E : Type 0} → (answer : E → List ℕ → Option Captures) → MatcherView E → List ℕ → Type 0
 MayWantMemory answer matcher text = AsksEngine matcher text ⊎ (CapturesOne matcher.inner × IsMatched answer matcher text)
-=======
+
 -- ---- agreeing with the parts
 
 -- the answer to a text is what parts mean: captures that they have there, or None where they have none
@@ -192,4 +186,3 @@ FollowsMiddle answer options parts inner = IsOfMiddle (λ engine middle. Follows
 abbrev pub AgreesInMiddle : {E : Type 0} → (answer : E → List ℕ → Option Captures) → OptionsView → List PartView → InnerView E → Type 0
 AgreesInMiddle answer options parts inner =
     IsOfMiddle (λ engine middle. (text : List ℕ) → IsTrue (all_scalars text) → Agrees options middle text (answer engine text)) parts inner
->>>>>>> 503d5d3add08be947689be183ff17d41707cb629
