@@ -5,4 +5,6 @@
 //! <https://urlpattern.spec.whatwg.org/>
 #![tactic(auto)]
 
-pub use urlpattern_core::{Error, RegexSyntax, component, error, laws, parser, tokenizer};
+pub use urlpattern_core::{
+    Error, RegexSyntax, component, error, laws, matcher, parser, regexp, tokenizer,
+};
