@@ -1,18 +1,21 @@
 -- A printed pattern reads as the joined parts and as nothing else.
 use Rattle.std.proofs.Common.{◌≡◌, ℕ, ◌<◌, arith, List, [], ◌∷◌, refl, sym, ap, ◌∙◌, subst, inl, inr}
-use Rattle.std.specs.Prelude.{AllPairs, Contains, Result, Ok, Err, ◌↔◌}
+use Rattle.std.specs.Prelude.{AllPairs, Contains, Result, Ok, Err, String, encode_utf8_all, ◌↔◌}
 use Rattle.std.proofs.lemmas.Bool.{both_ways}
 use Rattle.urlpattern_syntax.proofs.ReadingLemmas.{item_names, names-AreParts}
 use Rattle.urlpattern_syntax.proofs.TokenExamples.{literals}
+use Rattle.std.specs.declared.alloc.Global.{Global}
+use Rattle.urlpattern_syntax.specs.declared.error.Error.{Error}
 use Rattle.urlpattern_syntax.specs.Errors.{ErrorView}
+use Rattle.urlpattern_syntax.specs.Text.{text_of}
 use Rattle.urlpattern_syntax.specs.Options.{OptionsView}
 use Rattle.urlpattern_syntax.specs.Parts.{PartView}
 use Rattle.urlpattern_syntax.specs.Pieces.{Ending as endings}
-use Rattle.urlpattern_syntax.specs.Reading.{AreParts, Encoding, FirstFails, Item, Reads, Refuses, demands, items_of}
+use Rattle.urlpattern_syntax.specs.Reading.{AreParts, Encoding, FirstFails, Item, Reads, Refuses, demands, encoding_of, items_of}
 use Rattle.urlpattern_syntax.specs.RegexpText.{group_names}
 use Rattle.urlpattern_syntax.specs.Tokens.{end_of}
 use Rattle.urlpattern_laws.specs.Printing.{HaveTexts, Keeps, KeepsTexts, encoded_texts, joined, printed}
-use Rattle.urlpattern_laws.specs.RoundTrip.{ArePatternParts, AreUnskipped, IsPrefixPoint, IsPrintable, IsStandard, ReadsBack, WereRead}
+use Rattle.urlpattern_laws.specs.RoundTrip.{ArePatternParts, AreUnskipped, IsPrefixPoint, IsPrintable, IsStandard, KeepsAnswered, ReadsBack, WereRead}
 use Rattle.urlpattern_laws.proofs.JoinedParts.{joined_apart, joined_pattern_parts, joined_unskipped}
 use Rattle.urlpattern_laws.proofs.NameLaws.{Differ, NewNames}
 use Rattle.urlpattern_laws.proofs.PrintedParts.{prints_its_parts}
@@ -144,17 +147,22 @@ module _ (options : OptionsView) (encoding : Encoding) (parts : List PartView) (
   pub kept_reads_back : ReadsBack (printed options parts) options encoding parts
   kept_reads_back = record { reads = kept_reads; only = kept_reads_only; not_refused = kept_unrefused; same = kept_same }
 
--- ---- encodings that may fail, such as a callback that may run out of memory
+-- ---- encodings that may answer by an error
 
 module _ (options : OptionsView) (encoding : Encoding) (parts : List PartView) (printable : IsPrintable options parts) where
-  -- whatever the text reads as is the joined parts, where the encoding answers each of their texts by itself if at all
-  pub asked_only : ((text other : List ℕ) → Contains (encoded_texts (joined parts)) text → encoding text (Ok other) → other ≡ text) →
-      (others : List PartView) → Reads (printed options parts) options encoding others → others ≡ joined parts
-  asked_only only = reads_back_only options encoding (Contains (encoded_texts (joined parts))) parts printable (each_contained (encoded_texts (joined parts))) only
+  -- the joined parts are all that the printed pattern may read as
+  pub answered_only : KeepsAnswered encoding parts → (others : List PartView) → Reads (printed options parts) options encoding others → others ≡ joined parts
+  answered_only only = reads_back_only options encoding (Contains (encoded_texts (joined parts))) parts printable (each_contained (encoded_texts (joined parts))) only
 
-  -- whatever error refuses the text is one that the encoding may answer to one of their texts
-  pub asked_refused : (error : ErrorView) → Refuses (printed options parts) options encoding error → (text : List ℕ) × Contains (encoded_texts (joined parts)) text × encoding text (Err error)
-  asked_refused = refused_back options encoding (Contains (encoded_texts (joined parts))) parts printable (each_contained (encoded_texts (joined parts)))
+  -- an error that refuses it is one that the encoding may answer to one of their texts
+  pub answered_refused : (error : ErrorView) → Refuses (printed options parts) options encoding error → (text : List ℕ) × Contains (encoded_texts (joined parts)) text × encoding text (Err error)
+  answered_refused = refused_back options encoding (Contains (encoded_texts (joined parts))) parts printable (each_contained (encoded_texts (joined parts)))
+
+-- what a callback returns is what its encoding answers
+pub returned_kept : (returns : List ℕ → Result (String Global) Error → Type 0) (parts : List PartView) →
+    ((text : List ℕ) (string : String Global) → Contains (encoded_texts (joined parts)) text → returns (encode_utf8_all text) (Ok string) → text_of string ≡ text) → KeepsAnswered (encoding_of returns) parts
+returned_kept returns parts kept text other asked (Ok string, returned, same) = (let e : other ≡ text_of string = cc same in e) ∙ kept text string asked returned
+returned_kept returns parts kept text other asked (Err error, returned, same) = absurd (cc same)
 
 -- ---- parts that were read
 

@@ -1,5 +1,5 @@
 -- Lists of parts whose printed pattern reads as these parts again: the premises of that theorem.
-use Rattle.std.specs.Prelude.{◌≡◌, ◌≢◌, ℕ, suc, ◌⊎◌, not, List, [], ◌∷◌, AllPairs, IsTrue, decimal, if◌then◌else◌}
+use Rattle.std.specs.Prelude.{◌≡◌, ◌≢◌, ℕ, suc, ◌⊎◌, not, List, [], ◌∷◌, AllPairs, Contains, IsTrue, Ok, decimal, if◌then◌else◌}
 use Rattle.std.specs.List.{list_all}
 use Rattle.urlpattern_syntax.specs.declared.parser.PartType.{PartType}
 use Rattle.urlpattern_syntax.specs.declared.parser.PartType.TheVariants.{FixedText, Regexp, SegmentWildcard, FullWildcard}
@@ -10,7 +10,7 @@ use Rattle.urlpattern_syntax.specs.Reading.{Encoding, Reads, Refuses}
 use Rattle.urlpattern_syntax.specs.RegexpText.{full_wildcard, group_names, segment_wildcard}
 use Rattle.urlpattern_syntax.specs.Text.{is_among, is_name_part}
 use Rattle.urlpattern_syntax.specs.Tokens.{IsName, IsRegexpBody, is_ignored}
-use Rattle.urlpattern_laws.specs.Printing.{HaveTexts, has_custom_name, joined, pattern_marks, printed}
+use Rattle.urlpattern_laws.specs.Printing.{HaveTexts, encoded_texts, has_custom_name, joined, pattern_marks, printed}
 
 -- ---- options
 
@@ -94,6 +94,11 @@ pub record WereRead (text : List ℕ) (options : OptionsView) (encoding : Encodi
   pub reads : Reads text options encoding parts
   pub texts : HaveTexts parts
   pub unskipped : AreUnskipped parts
+
+-- the encoding answers no text of the joined parts by another text; it may answer by an error, as a callback may that
+-- finds no memory
+abbrev pub KeepsAnswered : Encoding → List PartView → Type 0
+KeepsAnswered encoding parts = (text other : List ℕ) → Contains (encoded_texts (joined parts)) text → encoding text (Ok other) → other ≡ text
 
 -- ---- the theorem of one text
 

@@ -2,7 +2,7 @@
 //!
 //! Each function here does nothing; what it promises is a theorem.
 
-ghost use Rattle.std.specs.Prelude.{◌≡◌, ◌≢◌, ◌↔◌, ◌⊎◌, ℕ, suc, ◌<◌, false, ◌&&◌, List, [], ◌∷◌, ◌++◌, length, All, AllPairs, IsTrue, Option, Some, Result};
+ghost use Rattle.std.specs.Prelude.{◌≡◌, ◌≢◌, ◌↔◌, ◌⊎◌, ℕ, suc, ◌<◌, false, ◌&&◌, List, [], ◌∷◌, ◌++◌, length, All, AllPairs, Contains, IsTrue, Option, Some, Result, Err};
 ghost use Rattle.std.specs.Char.{is_ascii_digit};
 ghost use Rattle.std.specs.Str.{all_scalars};
 ghost use Rattle.urlpattern_syntax.specs.declared.parser.PartType.TheVariants.{Regexp};
@@ -15,9 +15,9 @@ ghost use Rattle.urlpattern_syntax.specs.Options.{OptionsView};
 ghost use Rattle.urlpattern_laws.specs.PartMeaning.{Allows, AreCopies, Captures, PartMeans, PartsMean, capture_of_none};
 ghost use Rattle.urlpattern_syntax.specs.Parts.{PartView};
 ghost use Rattle.urlpattern_syntax.specs.Pieces.{ArePieces, Ending, Piece};
-ghost use Rattle.urlpattern_laws.specs.Printing.{HaveTexts, Keeps, joined, printed};
+ghost use Rattle.urlpattern_laws.specs.Printing.{HaveTexts, Keeps, encoded_texts, joined, printed};
 ghost use Rattle.urlpattern_syntax.specs.Reading.{Reads, Refuses};
-ghost use Rattle.urlpattern_laws.specs.RoundTrip.{ArePatternParts, IsPrintable, WereRead};
+ghost use Rattle.urlpattern_laws.specs.RoundTrip.{ArePatternParts, IsPrintable, KeepsAnswered, WereRead};
 ghost use Rattle.urlpattern_syntax.specs.RegexpText.{IsWildcard, group_names, is_empty, regexp_text};
 ghost use Rattle.urlpattern_syntax.specs.Text.{byte_len, lacks, line_feed, BeginsWith};
 ghost use Rattle.urlpattern_syntax.specs.Tokens.{AreLenientTokens, AreTokens, FaultView, IsFault, TokenView, end_of};
@@ -167,6 +167,15 @@ pub fn printed_patterns_read_back()
     ensures same { (options : OptionsView) (answers : List (List ℕ × Result (List ℕ) ErrorView)) (parts others : List PartView) →
         IsPrintable options parts → Keeps (listed answers) parts → Reads (printed options parts) options (listed answers) others → printed options others ≡ printed options parts }
     ensures kept { (parts : List PartView) → (answers : List (List ℕ × Result (List ℕ) ErrorView)) × Keeps (listed answers) parts }
+{}
+
+/// A printed pattern is refused only by an error that the encoding answers to one of the texts of the joined parts. Where
+/// the encoding answers none of them by another text, the pattern reads as the joined parts if it reads at all.
+pub fn printed_patterns_fail_by_the_encoding_alone()
+    ensures only { (options : OptionsView) (answers : List (List ℕ × Result (List ℕ) ErrorView)) (parts others : List PartView) →
+        IsPrintable options parts → KeepsAnswered (listed answers) parts → Reads (printed options parts) options (listed answers) others → others ≡ joined parts }
+    ensures refused { (options : OptionsView) (answers : List (List ℕ × Result (List ℕ) ErrorView)) (parts : List PartView) (error : ErrorView) →
+        IsPrintable options parts → Refuses (printed options parts) options (listed answers) error → (text : List ℕ) × Contains (encoded_texts (joined parts)) text × listed answers text (Err error) }
 {}
 
 /// Parts that a text was read as under the default, hostname or pathname options, in either syntax, print as a pattern
