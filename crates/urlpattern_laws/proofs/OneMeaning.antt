@@ -2,7 +2,7 @@
 use Rattle.std.proofs.Common.{◌≡◌, ℕ, List, Some, None, Option, subst, ◌↔◌}
 use Rattle.std.specs.Prelude.{All, IsTrue, MatchOption}
 use Rattle.std.specs.Str.{all_scalars}
-use Rattle.urlpattern_laws.specs.Dialect.{Follows, IsOnlyTreeOf, IsTreeOf, Items, Means}
+use Rattle.urlpattern_laws.specs.Dialect.{Follows, HasMeaningOf, IsTreeOf, Items, Means}
 use Rattle.urlpattern_laws.specs.Matching.{Agrees}
 use Rattle.urlpattern_laws.specs.PartMeaning.{Captures, PartsMean}
 use Rattle.urlpattern_syntax.specs.Options.{OptionsView}
@@ -18,8 +18,7 @@ pub is_tree_of : (options : OptionsView) (parts : List PartView) → All IsNotCu
 is_tree_of options parts h = (tree_text options parts h, tree_allowed options parts h)
 
 -- the regular expression has one tree, which means what the parts mean
-pub one_meaning : (options : OptionsView) (parts : List PartView) → All IsNotCustom parts →
-    (tree : Items) × IsOnlyTreeOf (regexp_text options parts) tree × ((text : List ℕ) (captures : Captures) → Means tree text captures ↔ PartsMean options parts text captures)
+pub one_meaning : (options : OptionsView) (parts : List PartView) → All IsNotCustom parts → HasMeaningOf (regexp_text options parts) options parts
 one_meaning options parts h = (tree_of options parts, only_tree (regexp_text options parts) (tree_of options parts) (is_tree_of options parts h), tree_means options parts h)
 
 -- so each tree of it does

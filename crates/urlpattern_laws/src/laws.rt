@@ -8,7 +8,7 @@ ghost use Rattle.std.specs.Str.{all_scalars};
 ghost use Rattle.urlpattern_syntax.specs.declared.parser.PartType.TheVariants.{Regexp};
 ghost use Rattle.urlpattern_syntax.specs.declared.tokenizer.TokenType.TheVariants.{End, Name};
 ghost use Rattle.urlpattern_syntax.specs.Errors.{ErrorView};
-ghost use Rattle.urlpattern_laws.specs.Dialect.{Follows, IsOnlyTreeOf, IsTreeOf, Items, Means};
+ghost use Rattle.urlpattern_laws.specs.Dialect.{Follows, HasMeaningOf, IsTreeOf, Items, Means};
 ghost use Rattle.urlpattern_laws.specs.Laws.{AnswersOnce, CountFrom, HasShapeOf, Lays, listed, numbers_among, spelling};
 ghost use Rattle.urlpattern_laws.specs.Matching.{Agrees, AgreesInMiddle, Answers, ArePeeled, FollowsMiddle, MatcherView, end_text};
 ghost use Rattle.urlpattern_syntax.specs.Options.{OptionsView};
@@ -115,8 +115,7 @@ pub fn dialect_trees_are_one()
 /// This holds under all options and for all names, prefixes, suffixes and values, where no part has a regular expression
 /// of its own.
 pub fn parts_and_regexp_mean_the_same()
-    ensures tree { (options : OptionsView) (parts : List PartView) → All (λ part. part.kind ≢ Regexp) parts →
-        (tree : Items) × IsOnlyTreeOf (regexp_text options parts) tree × ((text : List ℕ) (captures : Captures) → Means tree text captures ↔ PartsMean options parts text captures) }
+    ensures tree { (options : OptionsView) (parts : List PartView) → All (λ part. part.kind ≢ Regexp) parts → HasMeaningOf (regexp_text options parts) options parts }
     ensures means { (options : OptionsView) (parts : List PartView) (tree : Items) (text : List ℕ) (captures : Captures) → All (λ part. part.kind ≢ Regexp) parts →
         IsTreeOf (regexp_text options parts) tree → Means tree text captures ↔ PartsMean options parts text captures }
     ensures engines { (options : OptionsView) (parts : List PartView) (answer : List ℕ → Option Captures) → All (λ part. part.kind ≢ Regexp) parts →
