@@ -2,8 +2,11 @@
 //!
 //! <https://urlpattern.spec.whatwg.org/#component>
 
-ghost use Rattle.std.specs.Prelude.{◌≡◌, List, ◌++◌, map, IfOk, IfErr, OnOk};
+ghost use Rattle.std.specs.Prelude.{◌≡◌, ◌≢◌, ℕ, List, ◌++◌, length, map, All, IfOk, IfErr, OnOk};
+ghost use Rattle.urlpattern_laws.specs.Dialect.{HasMeaningOf};
+ghost use Rattle.urlpattern_laws.specs.PartMeaning.{Captures, PartsMean};
 ghost use Rattle.urlpattern_syntax.specs.declared.error.Error.TheVariants as errors;
+ghost use Rattle.urlpattern_syntax.specs.declared.parser.PartType.TheVariants.{Regexp};
 ghost use Rattle.urlpattern_syntax.specs.Options.{options_view};
 ghost use Rattle.urlpattern_syntax.specs.Parts.{part_view};
 ghost use Rattle.urlpattern_syntax.specs.RegexpText.{affixed_regexp, bare_regexp, captured, escaped_regexp, fixed_regexp, group_names, grouped, matched_by, part_regexp, regexp_text, repeated_regexp};
@@ -21,6 +24,9 @@ use std::alloc::Global;
 
 /// The regular expression of a list of parts, and the names of its groups in their order.
 ///
+/// Where no part has a regular expression of its own, the text means exactly what the parts mean, with the same captures,
+/// and these are as many as the names.
+///
 /// The error is that memory ran out.
 ///
 /// <https://urlpattern.spec.whatwg.org/#generate-a-regular-expression-and-name-list>
@@ -31,6 +37,8 @@ pub fn generate_regular_expression_and_name_list(
 ) -> Result<(String, Vec<String>), Error>
     ensures text { IfOk result (λ found. text_of found.0 ≡ regexp_text (options_view options.now) (map part_view part_list.now)) }
     ensures names { IfOk result (λ found. map (λ name. text_of name) found.1.items ≡ group_names (map part_view part_list.now)) }
+    ensures meaning { IfOk result (λ found. All (λ part. part.kind ≢ Regexp) (map part_view part_list.now) → HasMeaningOf (text_of found.0) (options_view options.now) (map part_view part_list.now)) }
+    ensures captures { IfOk result (λ found. (text : List ℕ) (captures : Captures) → PartsMean (options_view options.now) (map part_view part_list.now) text captures → length captures ≡ length found.1.items) }
     ensures memory { IfErr result (λ error. error ≡ errors.OutOfMemory) }
 {
     let text = generate_regular_expression(alloc, part_list, options)?;
