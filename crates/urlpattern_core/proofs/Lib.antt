@@ -1,2 +1,6 @@
 pub mod EngineLemmas
+pub mod PrintedTexts
 pub mod RegexpTexts
+pub mod MatcherTexts
+pub mod MatcherAnswers
+pub mod Peeling

@@ -1,3 +1,4 @@
 pub mod Captured
 pub mod Engines
 pub mod Matchers
+pub mod Neighbours

@@ -1,12 +1,13 @@
 //! Matchers: what a component is matched with, past the engine of regular expressions where that is not needed.
 
-ghost use Rattle.std.specs.Prelude.{◌≡◌, ◌↔◌, ℕ, List, ◌++◌, IfErr, IfNone, IfOk, IfSome, IsTrue};
+ghost use Rattle.std.specs.Prelude.{◌≡◌, ◌↔◌, ℕ, List, ◌++◌, IfErr, IfNone, IfOk, IfSome, IsTrue, map, not};
+ghost use Rattle.std.specs.Char.{to_ascii_lowercase};
 ghost use Rattle.std.specs.Str.{chars};
 ghost use Rattle.urlpattern_core.specs.Captured.{captures_view};
 ghost use Rattle.urlpattern_core.specs.Matchers.{matcher_view};
 ghost use Rattle.urlpattern_laws.specs.Matching.{Answers, AsksEngine, IsMatched, MayBeEmpty, MayWantMemory, PassesFilter, folded};
 ghost use Rattle.urlpattern_syntax.specs.declared.error.Error.TheVariants as errors;
-ghost use Rattle.urlpattern_syntax.specs.Text.{text_of};
+ghost use Rattle.urlpattern_syntax.specs.Text.{lacks, text_of};
 
 use crate::error::Error;
 use crate::regexp::RegExp;
@@ -85,8 +86,10 @@ impl<R: RegExp> Matcher<R> {
                     Ok(None)
                 }
             }
-            InnerMatcher::RegExp { regexp: Ok(regexp) } => Ok(regexp.matches(alloc, middle)?),
-            InnerMatcher::RegExp { regexp: Err(_) } => Ok(None),
+            InnerMatcher::RegExp { regexp } => match regexp {
+                Ok(engine) => Ok(engine.matches(alloc, middle)?),
+                Err(_) => Ok(None),
+            },
         }
     }
 
@@ -107,10 +110,10 @@ impl<R: RegExp> Matcher<R> {
                 filter,
                 allow_empty,
             } => Ok(self.is_captured(middle, *filter, *allow_empty)),
-            InnerMatcher::RegExp { regexp: Ok(regexp) } => {
-                Ok(regexp.matches(alloc, middle)?.is_some())
-            }
-            InnerMatcher::RegExp { regexp: Err(_) } => Ok(false),
+            InnerMatcher::RegExp { regexp } => match regexp {
+                Ok(engine) => Ok(engine.matches(alloc, middle)?.is_some()),
+                Err(_) => Ok(false),
+            },
         }
     }
 }
@@ -140,9 +143,13 @@ impl<R> Matcher<R> {
     fn is_captured(&self, text: &str, filter: Option<char>, allow_empty: bool) -> bool
         ensures { IsTrue result ↔ (MayBeEmpty allow_empty (chars text.now) × PassesFilter self.now.ignore_case filter (chars text.now)) }
     {
-        if text.is_empty() && !allow_empty {
-            return false;
-        }
+        (allow_empty || !text.is_empty()) && self.passes(text, filter)
+    }
+
+    /// Whether the filter's character does not stand in a text.
+    fn passes(&self, text: &str, filter: Option<char>) -> bool
+        ensures { IsTrue result ↔ PassesFilter self.now.ignore_case filter (chars text.now) }
+    {
         match filter {
             None => true,
             Some(c) if self.ignore_case => !has_ignoring_case(text, c),
@@ -153,7 +160,7 @@ impl<R> Matcher<R> {
 
 /// Whether a character stands in a text, where the case of ASCII letters is ignored.
 fn has_ignoring_case(text: &str, c: char) -> bool
-    ensures { IsTrue result ↔ ¬ PassesFilter true (Option.Some c) (chars text.now) }
+    ensures { not result ≡ lacks (to_ascii_lowercase c) (map to_ascii_lowercase (chars text.now)) }
 {
     text.chars().any(|other| other.eq_ignore_ascii_case(&c))
 }

@@ -1,6 +1,8 @@
--- Which matcher is made of a list of parts, and what a matcher answers to a text.
+-- Which matcher is made of a list of parts, what a matcher answers to a text, and when that is what the parts mean.
 use Rattle.std.specs.Prelude.{◌≡◌, ◌≢◌, ◌⊎◌, ℕ, Bool, true, false, List, [], ◌∷◌, ◌++◌, map, Option, Some, None, Result, Ok, Err, IsTrue, if◌then◌else◌, option_to_list}
 use Rattle.std.specs.Char.{to_ascii_lowercase}
+use Rattle.std.specs.Str.{all_scalars}
+use Rattle.urlpattern_laws.specs.Dialect.{Follows}
 use Rattle.urlpattern_syntax.specs.declared.parser.PartModifier.{PartModifier}
 use Rattle.urlpattern_syntax.specs.declared.parser.PartModifier.TheVariants as modifiers
 use Rattle.urlpattern_syntax.specs.declared.parser.PartType.{PartType}
@@ -8,7 +10,7 @@ use Rattle.urlpattern_syntax.specs.declared.parser.PartType.TheVariants.{Segment
 use Rattle.urlpattern_syntax.specs.Errors.{ErrorView}
 use Rattle.urlpattern_syntax.specs.Errors.{ErrorView as views}
 use Rattle.urlpattern_syntax.specs.Options.{OptionsView}
-use Rattle.urlpattern_laws.specs.PartMeaning.{Captures}
+use Rattle.urlpattern_laws.specs.PartMeaning.{Captures, PartsMean}
 use Rattle.urlpattern_syntax.specs.Parts.{PartView}
 use Rattle.urlpattern_syntax.specs.RegexpText.{is_plain, regexp_text}
 use Rattle.urlpattern_syntax.specs.Text.{lacks}
@@ -161,3 +163,26 @@ AsksEngine matcher text = (middle : List ℕ) × (text ≡ matcher.prefix ++ mid
 -- memory is asked for: by an engine, or for the list of one capture
 abbrev pub MayWantMemory : {E : Type 0} → (answer : E → List ℕ → Option Captures) → MatcherView E → List ℕ → Type 0
 MayWantMemory answer matcher text = AsksEngine matcher text ⊎ (CapturesOne matcher.inner × IsMatched answer matcher text)
+
+-- ---- agreeing with the parts
+
+-- the answer to a text is what parts mean: captures that they have there, or None where they have none
+abbrev pub Agrees : OptionsView → List PartView → List ℕ → Option Captures → Type 0
+Agrees options parts text (Some captures) = PartsMean options parts text captures
+Agrees options parts text None = (captures : Captures) → ¬ PartsMean options parts text captures
+
+-- where an engine is asked, `Is` holds of its value and the parts left between the ends; an error that is kept fails this
+abbrev pub IsOfMiddle : {E : Type 0} → (Is : E → (middle : List PartView) → Type 0) → List PartView → InnerView E → Type 0
+IsOfMiddle Is parts (RegExp (Ok engine)) =
+    (front : Option PartView) × (middle : List PartView) × (back : Option PartView) × ArePeeled parts front middle back × Is engine middle
+IsOfMiddle Is parts (RegExp (Err error)) = ⊥
+IsOfMiddle Is parts inner = Unit {0}
+
+-- an engine's value follows the regular expression of the parts that are left to it
+abbrev pub FollowsMiddle : {E : Type 0} → (answer : E → List ℕ → Option Captures) → OptionsView → List PartView → InnerView E → Type 0
+FollowsMiddle answer options parts inner = IsOfMiddle (λ engine middle. Follows (regexp_text options middle) (answer engine)) parts inner
+
+-- an engine's value answers, to texts of characters, what the parts that are left to it mean
+abbrev pub AgreesInMiddle : {E : Type 0} → (answer : E → List ℕ → Option Captures) → OptionsView → List PartView → InnerView E → Type 0
+AgreesInMiddle answer options parts inner =
+    IsOfMiddle (λ engine middle. (text : List ℕ) → IsTrue (all_scalars text) → Agrees options middle text (answer engine text)) parts inner

@@ -1,14 +1,16 @@
 -- Lists of parts whose printed pattern reads as these parts again: the premises of that theorem.
-use Rattle.std.specs.Prelude.{◌≡◌, ◌≢◌, ℕ, suc, ◌⊎◌, not, List, [], ◌∷◌, AllPairs, IsTrue, decimal, if◌then◌else◌}
+use Rattle.std.specs.Prelude.{◌≡◌, ◌≢◌, ℕ, suc, ◌⊎◌, not, List, [], ◌∷◌, AllPairs, Contains, IsTrue, Ok, decimal, if◌then◌else◌}
 use Rattle.std.specs.List.{list_all}
 use Rattle.urlpattern_syntax.specs.declared.parser.PartType.{PartType}
 use Rattle.urlpattern_syntax.specs.declared.parser.PartType.TheVariants.{FixedText, Regexp, SegmentWildcard, FullWildcard}
-use Rattle.urlpattern_syntax.specs.Options.{OptionsView}
+use Rattle.urlpattern_syntax.specs.Errors.{ErrorView}
+use Rattle.urlpattern_syntax.specs.Options.{OptionsView, default_options, hostname_options, pathname_options}
 use Rattle.urlpattern_syntax.specs.Parts.{PartView}
+use Rattle.urlpattern_syntax.specs.Reading.{Encoding, Reads, Refuses}
 use Rattle.urlpattern_syntax.specs.RegexpText.{full_wildcard, group_names, segment_wildcard}
 use Rattle.urlpattern_syntax.specs.Text.{is_among, is_name_part}
 use Rattle.urlpattern_syntax.specs.Tokens.{IsName, IsRegexpBody, is_ignored}
-use Rattle.urlpattern_laws.specs.Printing.{has_custom_name, pattern_marks}
+use Rattle.urlpattern_laws.specs.Printing.{HaveTexts, encoded_texts, has_custom_name, joined, pattern_marks, printed}
 
 -- ---- options
 
@@ -17,6 +19,14 @@ abbrev pub IsPrefixPoint : List ℕ → Type 0
 IsPrefixPoint [] = Unit {0}
 IsPrefixPoint (c ∷ []) = ¬ IsTrue (is_among pattern_marks c) × ¬ IsTrue (is_name_part c)
 IsPrefixPoint (c ∷ d ∷ text) = ⊥
+
+-- it has the delimiter and the prefix code point of the other options
+abbrev pub HasPointsOf : (other options : OptionsView) → Type 0
+HasPointsOf other options = (options.delimiter ≡ other.delimiter) × (options.prefix ≡ other.prefix)
+
+-- the default, hostname or pathname options, in either syntax
+abbrev pub IsStandard : OptionsView → Type 0
+IsStandard options = HasPointsOf default_options options ⊎ (HasPointsOf hostname_options options ⊎ HasPointsOf pathname_options options)
 
 -- ---- what parts that were read have
 
@@ -64,7 +74,37 @@ abbrev pub HasUnskipped : PartType → PartView → Type 0
 HasUnskipped FixedText part = IsUnskipped part.value
 HasUnskipped kind part = IsUnskipped part.prefix × IsUnskipped part.suffix
 
--- no fixed text, prefix or suffix has a tab, a line feed or a carriage return
+-- what is skipped between tokens stands in no part's texts
 abbrev pub AreUnskipped : List PartView → Type 0
 AreUnskipped [] = Unit {0}
 AreUnskipped (part ∷ parts) = HasUnskipped part.kind part × AreUnskipped parts
+
+-- ---- premises
+
+-- What the parts need under these options, so that their printed pattern reads back.
+pub record IsPrintable (options : OptionsView) (parts : List PartView) : Type 0 where
+  pub point : IsPrefixPoint options.prefix
+  pub pattern_parts : ArePatternParts options parts
+  pub texts : HaveTexts parts
+  pub unskipped : AreUnskipped parts
+
+-- The text reads as the parts under standard options, and their texts are such as may be printed.
+pub record WereRead (text : List ℕ) (options : OptionsView) (encoding : Encoding) (parts : List PartView) : Type 0 where
+  pub standard : IsStandard options
+  pub reads : Reads text options encoding parts
+  pub texts : HaveTexts parts
+  pub unskipped : AreUnskipped parts
+
+-- the encoding answers no text of the joined parts by another text; it may answer by an error, as a callback may that
+-- finds no memory
+abbrev pub KeepsAnswered : Encoding → List PartView → Type 0
+KeepsAnswered encoding parts = (text other : List ℕ) → Contains (encoded_texts (joined parts)) text → encoding text (Ok other) → other ≡ text
+
+-- ---- the theorem of one text
+
+-- The text reads as the joined parts and as nothing else, it is not refused, and what it reads as prints as this text.
+pub record ReadsBack (text : List ℕ) (options : OptionsView) (encoding : Encoding) (parts : List PartView) : Type 0 where
+  pub reads : Reads text options encoding (joined parts)
+  pub only : (others : List PartView) → Reads text options encoding others → others ≡ joined parts
+  pub not_refused : (error : ErrorView) → ¬ Refuses text options encoding error
+  pub same : (others : List PartView) → Reads text options encoding others → printed options others ≡ text
