@@ -1,3 +1,4 @@
+pub mod CompileLemmas
 pub mod EngineLemmas
 pub mod PrintedTexts
 pub mod RegexpTexts

@@ -1,4 +1,5 @@
 pub mod Captured
+pub mod Compiling
 pub mod Engines
 pub mod Matchers
 pub mod Neighbours

@@ -12,15 +12,34 @@ ghost use Rattle.urlpattern_syntax.specs.Parts.{part_view};
 ghost use Rattle.urlpattern_syntax.specs.RegexpText.{affixed_regexp, bare_regexp, captured, escaped_regexp, fixed_regexp, group_names, grouped, matched_by, part_regexp, regexp_text, repeated_regexp};
 ghost use Rattle.urlpattern_syntax.specs.Text.{text_of};
 
+mod compile;
 mod matchers;
 mod printed;
 
 use crate::error::Error;
+use crate::matcher::Matcher;
 use crate::parser::{FULL_WILDCARD_REGEXP_VALUE, Options, Part, PartModifier, PartType, push_text};
 pub use matchers::generate_matcher;
 pub use printed::generate_pattern_string;
 pub(crate) use printed::push_escaped_pattern;
 use std::alloc::Global;
+
+/// What a pattern text is compiled to.
+///
+/// <https://urlpattern.spec.whatwg.org/#component>
+#[derive(Debug, Drop)]
+pub struct Component<R> {
+    /// The pattern text, as it is written anew from the parts.
+    pub pattern_string: String,
+    /// The value that an engine made of the regular expression, or why there is none.
+    pub regexp: Result<R, Error>,
+    /// The names of the groups, in their order.
+    pub group_name_list: Vec<String>,
+    /// What texts are matched with.
+    pub matcher: Matcher<R>,
+    /// Whether the pattern has a regular expression of its own.
+    pub has_regexp_group: bool,
+}
 
 /// The regular expression of a list of parts, and the names of its groups in their order.
 ///

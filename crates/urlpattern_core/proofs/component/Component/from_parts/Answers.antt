@@ -1,0 +1,25 @@
+use Rattle.std.proofs.Common.{ℕ, Bool, false, List, map, ap, ◌∙◌, subst}
+use Rattle.std.specs.Str.{chars}
+use Rattle.urlpattern_core.proofs.CompileLemmas.{engine-along}
+use Rattle.urlpattern_core.specs.Matchers.{engine_view, matcher_view}
+use Rattle.urlpattern_laws.specs.Matching.{IsMadeOf}
+use Rattle.urlpattern_syntax.specs.Options.{options_view}
+use Rattle.urlpattern_syntax.specs.Parts.{part_view}
+use Rattle.urlpattern_core.proofs.component.Component.from_parts.Goals as goal
+
+pub returns-clause-made : goal.returns-clause-made
+returns-clause-made g c =
+    let IsMade = g.R.RegExp.IsMade in
+    let MayRefuse = g.R.RegExp.MayRefuse in
+    let options = options_view c.args.options.now in
+    let parts = map part_view c.args.part_list.now in
+    let flags_are = c.engine_flags-flags.ensures in
+    let told = c.has_regexp-has_regexp_group.ensures in
+    record {
+      is_printed = c.in_ok-generate_pattern_string.ensures.text;
+      has_engine = engine-along IsMade MayRefuse g.R.RegExp.syntax_of (engine_view c.in_ok-regexp.regexp) told flags_are
+          (ap chars c.deref.ensures ∙ c.in_ok-text.ensures.text) c.in_ok-regexp.ensures.made;
+      has_names = c.in_ok-generate_name_list.ensures.names;
+      has_matcher = subst (λ flags. IsMadeOf IsMade (λ regexp flags. MayRefuse regexp flags false) options flags parts (matcher_view c.in_ok-matcher.matcher)) flags_are c.in_ok-matcher.ensures.made;
+      tells_regexps = told;
+    }

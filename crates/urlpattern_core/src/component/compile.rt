@@ -1,0 +1,102 @@
+//! The component of a pattern text.
+
+ghost use Rattle.std.specs.Prelude.{◌≡◌, map, IfErr, IfOk};
+ghost use Rattle.std.specs.Fn.{FnReturnsAt};
+ghost use Rattle.std.specs.Str.{chars};
+ghost use Rattle.urlpattern_core.specs.Compiling.{IsCompiledFrom, IsComponentOf, MayRefuseAsked, component_view, engine_flags, has_regexp, is_asked_again, pattern_text};
+ghost use Rattle.urlpattern_core.specs.Matchers.{engine_view};
+ghost use Rattle.urlpattern_laws.specs.Matching.{IsEngineOf};
+ghost use Rattle.urlpattern_syntax.specs.declared.error.Error.TheVariants as errors;
+ghost use Rattle.urlpattern_syntax.specs.Options.{options_view};
+ghost use Rattle.urlpattern_syntax.specs.Parsing.{MemoryOr};
+ghost use Rattle.urlpattern_syntax.specs.Parts.{part_view};
+ghost use Rattle.urlpattern_syntax.specs.Reading.{Refuses, encoding_of};
+
+use super::matchers::{ask_engine, generate_matcher_knowing};
+use super::printed::generate_pattern_string;
+use super::{Component, generate_name_list, generate_regular_expression};
+use crate::error::Error;
+use crate::parser::{Options, Part, PartType, RegexSyntax, parse_pattern_string};
+use crate::regexp::RegExp;
+use std::alloc::Global;
+
+impl<R: RegExp> Component<R> {
+    /// The component of a pattern text, or of an asterisk where there is none.
+    ///
+    /// Each fixed text, prefix and suffix of the pattern goes through the callback. What the engine refuses is kept in the
+    /// component as an error. An engine that takes ECMAScript's syntax is told to look at the text at once if the pattern
+    /// has a regular expression of its own.
+    ///
+    /// The error is that of the pattern text, which may be the callback's own; or that memory ran out.
+    ///
+    /// <https://urlpattern.spec.whatwg.org/#compile-a-component>
+    pub fn compile<F: Fn(&str) -> Result<String, Error> + Drop>(
+        alloc: Global,
+        pattern: Option<&str>,
+        encoding_callback: F,
+        options: Options,
+    ) -> Result<Self, Error>
+        requires { F.IsAlwaysCallable encoding_callback }
+        ensures compiled { IfOk result (λ component. IsCompiledFrom R.IsMade R.MayRefuse R.syntax_of (pattern_text pattern.entry) (options_view options)
+            (encoding_of (FnReturnsAt F.Fn encoding_callback)) (component_view component)) }
+        ensures refuses { IfErr result (MemoryOr (Refuses (pattern_text pattern.entry) (options_view options)
+            (encoding_of (FnReturnsAt F.Fn encoding_callback)))) }
+    {
+        let pattern = pattern.unwrap_or("*");
+        let part_list = parse_pattern_string(alloc, pattern, &options, encoding_callback)?;
+        Self::from_parts(alloc, &part_list, &options)
+    }
+
+    /// The component of a list of parts.
+    fn from_parts(alloc: Global, part_list: &[Part], options: &Options) -> Result<Self, Error>
+        ensures made { IfOk result (λ component. IsComponentOf R.IsMade R.MayRefuse R.syntax_of (options_view options.now) (map part_view part_list.now) (component_view component)) }
+        ensures memory { IfErr result (λ error. error ≡ errors.OutOfMemory) }
+    {
+        let flags = engine_flags(options);
+        let has_regexp_group = has_regexp(part_list);
+        let text = generate_regular_expression(alloc, part_list, options)?;
+        let regexp = engine_of(alloc, &text, flags, has_regexp_group)?;
+        let matcher = generate_matcher_knowing(alloc, part_list, options, flags, Some(&text))?;
+        Ok(Component {
+            pattern_string: generate_pattern_string(alloc, part_list, options)?,
+            regexp,
+            group_name_list: generate_name_list(alloc, part_list)?,
+            matcher,
+            has_regexp_group,
+        })
+    }
+}
+
+/// The flags for an engine.
+fn engine_flags(options: &Options) -> &'static str
+    ensures { chars result.now ≡ engine_flags (options_view options.now) }
+{
+    if options.ignore_case { "ui" } else { "u" }
+}
+
+/// Whether a custom regular expression is among the parts.
+fn has_regexp(part_list: &[Part]) -> bool
+    ensures { result ≡ has_regexp (map part_view part_list.now) }
+{
+    part_list
+        .iter()
+        .any(|part| matches!(part.kind, PartType::Regexp))
+}
+
+/// What an engine makes of the regular expression of some parts. If it takes ECMAScript's syntax and took the text, which
+/// holds a custom one, it is asked again and may not put off its answer.
+fn engine_of<R: RegExp>(
+    alloc: Global,
+    regexp: &str,
+    flags: &str,
+    has_regexp_group: bool,
+) -> Result<Result<R, Error>, Error>
+    ensures made { IfOk result (λ engine. IsEngineOf R.IsMade (MayRefuseAsked R.MayRefuse (is_asked_again R.syntax_of has_regexp_group)) (chars flags.now) (chars regexp.now) (engine_view engine)) }
+    ensures memory { IfErr result (λ error. error ≡ errors.OutOfMemory) }
+{
+    let engine: Result<R, Error> = ask_engine(alloc, regexp, flags, false)?;
+    if has_regexp_group && engine.is_ok() && R::syntax() == RegexSyntax::EcmaScript {
+        return ask_engine(alloc, regexp, flags, true);
+    }
+    Ok(engine)
+}
