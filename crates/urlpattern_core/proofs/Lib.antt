@@ -1,1 +1,2 @@
+pub mod CanonicalLemmas
 pub mod RegexpTexts
