@@ -1,2 +1,4 @@
 pub mod CanonicalLemmas
+pub mod MarkLemmas
 pub mod RegexpTexts
+pub mod SchemeLemmas

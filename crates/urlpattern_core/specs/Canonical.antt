@@ -1,7 +1,7 @@
 -- Canonical values: what `url` answers to a question about a value, after the URLPattern Standard, section
 -- "Canonicalization", with the values of an init, section "Processing". A text is a list of characters; `url` is asked
 -- and answers in bytes.
-use Rattle.std.specs.Prelude.{◌≡◌, ◌≢◌, ℕ, ◌+◌, ◌^◌, ◌≤◌, ◌⊎◌, Bool, true, false, not, ◌||◌, ◌==◌, List, [], ◌∷◌, ◌++◌, drop, map, nat_eq, max, codes, encode_utf8_all, length, slice_index, bytes_eq, Option, Some, None, unwrap_or, Result, Ok, Err, MatchResult, String, if◌then◌else◌}
+use Rattle.std.specs.Prelude.{◌≡◌, ◌≢◌, ℕ, ◌^◌, ◌≤◌, ◌⊎◌, Bool, true, false, ◌||◌, ◌==◌, List, [], ◌∷◌, ◌++◌, drop, map, nat_eq, codes, encode_utf8_all, slice_index, bytes_eq, Option, Some, None, unwrap_or, Result, Ok, Err, MatchResult, String, if◌then◌else◌}
 use Rattle.std.specs.Char.{is_ascii_hexdigit, to_ascii_lowercase}
 use Rattle.std.specs.List.{list_all, starts_with}
 use Rattle.std.specs.Str.{chars}

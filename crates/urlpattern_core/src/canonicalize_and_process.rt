@@ -2,6 +2,7 @@
 //!
 //! <https://urlpattern.spec.whatwg.org/#canon>
 ghost use Rattle.std.specs.Prelude.{◌≡◌, ◌≢◌, ◌<◌, ◌≤◌, ◌∷◌, ◌==◌, None, Ok, Some, codes, slice_index, ◌++◌, [], max, length, string_bytes, option_copied, option_map, unwrap_or, IfOk, IfErr, IsAscii, IsErrAnd, OnOk, MatchResult};
+ghost use Rattle.std.specs.List.{list_all};
 ghost use Rattle.std.specs.Option.{ForSome};
 ghost use Rattle.std.specs.Str.{chars};
 ghost use Rattle.url.specs.Parser.{parse_url};
@@ -515,17 +516,24 @@ pub fn canonicalize_hostname(alloc: Global, value: &str) -> Result<String, Error
 pub fn canonicalize_ipv6_hostname(alloc: Global, value: &str) -> Result<String, Error>
     ensures { IsAnswer (canonical_ipv6_hostname (chars value.now)) 0 result }
 {
-    if !value.chars().all(is_ipv6_character) {
+    if !is_ipv6_text(value) {
         return Err(Error::Url(ParseError::InvalidIpv6Address));
     }
     Ok(value.to_ascii_lowercase(alloc)?)
 }
 
-/// Whether the character may stand in an IPv6 address in brackets.
-fn is_ipv6_character(c: char) -> bool
-    ensures { result ≡ is_ipv6_character c }
+/// Whether each character may stand in an IPv6 address in brackets.
+fn is_ipv6_text(value: &str) -> bool
+    ensures { result ≡ list_all is_ipv6_character value.now }
 {
-    c.is_ascii_hexdigit() || matches!(c, '[' | ']' | ':')
+    value.as_bytes().iter().all(|&b| is_ipv6_byte(b))
+}
+
+/// Whether the character may stand in an IPv6 address in brackets.
+fn is_ipv6_byte(b: u8) -> bool
+    ensures { result ≡ is_ipv6_character b }
+{
+    b.is_ascii_hexdigit() || matches!(b, b'[' | b']' | b':')
 }
 
 /// The canonical port under a protocol, empty if it is the protocol's default.

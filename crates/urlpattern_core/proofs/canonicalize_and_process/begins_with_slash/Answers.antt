@@ -1,4 +1,4 @@
-use Rattle.std.proofs.Common.{◌∙◌, sym, codes, slice_index, arith}
+use Rattle.std.proofs.Common.{codes, slice_index, arith}
 use Rattle.std.proofs.lemmas.Grind.{common_steps}
 use Rattle.urlpattern_core.proofs.CanonicalLemmas.{begins_with-chars}
 use Rattle.urlpattern_core.proofs.canonicalize_and_process.begins_with_slash.Goals as goal

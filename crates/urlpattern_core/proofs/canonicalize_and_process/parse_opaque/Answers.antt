@@ -1,5 +1,4 @@
 use Rattle.std.proofs.Common.{arith}
-use Rattle.std.specs.Prelude.{IfErr}
 use Rattle.urlpattern_core.proofs.CanonicalLemmas.{opaque_is_parsed, memory_alone}
 use Rattle.urlpattern_core.specs.Canonical.{opaque_url}
 use Rattle.urlpattern_core.proofs.canonicalize_and_process.parse_opaque.Goals as goal

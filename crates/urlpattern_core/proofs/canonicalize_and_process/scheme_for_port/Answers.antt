@@ -1,4 +1,4 @@
-use Rattle.std.proofs.Common.{sym, ap, ◌∙◌, refl, arith}
+use Rattle.std.proofs.Common.{sym, ap, ◌∙◌}
 use Rattle.urlpattern_core.proofs.CanonicalLemmas.{chars_dummy, is_empty-false, is_empty-true, scheme_for_port-some}
 use Rattle.urlpattern_core.specs.Canonical.{scheme_for_port}
 use Rattle.urlpattern_syntax.proofs.TextLemmas.{chars-empty, chars-some}

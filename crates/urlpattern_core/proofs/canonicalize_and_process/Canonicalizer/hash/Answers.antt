@@ -1,9 +1,9 @@
-use Rattle.std.proofs.Common.{◌≡◌, ◌≢◌, [], false, length, refl, unwrap_or, Some, Ok, sym, ◌∙◌, arith}
+use Rattle.std.proofs.Common.{◌≡◌, [], length, refl, unwrap_or, Some, Ok, ◌∙◌}
 use Rattle.std.proofs.lemmas.Result.{err_from_is_err_and}
 use Rattle.std.specs.Str.{chars}
 use Rattle.url.specs.Setters.{set_fragment}
-use Rattle.urlpattern_core.proofs.CanonicalLemmas.{after-err, after-ok, canonical-empty, canonical-err, canonical-ok, is_empty-false, is_empty-true, told-err, told-ok, told_as-err, told_as-ok, unwrapped-copied}
-use Rattle.urlpattern_core.specs.Canonical.{canonical_hash, dummy_url, opaque_url, told_as, hash_of}
+use Rattle.urlpattern_core.proofs.CanonicalLemmas.{after-err, after-ok, canonical-empty, canonical-err, canonical-ok, is_empty-false, is_empty-true, told-err, told-ok, unwrapped-copied}
+use Rattle.urlpattern_core.specs.Canonical.{canonical_hash, dummy_url, hash_of}
 use Rattle.urlpattern_core.proofs.canonicalize_and_process.Canonicalizer.hash.Goals as goal
 
 pub returns-then-is_empty : goal.returns-then-is_empty

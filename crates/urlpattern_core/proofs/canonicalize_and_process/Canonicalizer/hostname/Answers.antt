@@ -1,12 +1,12 @@
-use Rattle.std.proofs.Common.{◌≡◌, ◌≢◌, [], false, length, unwrap_or, Some, Ok, sym, ◌∙◌, arith}
+use Rattle.std.proofs.Common.{◌≡◌, ◌≢◌, false, length, ◌∙◌}
 use Rattle.std.proofs.lemmas.Result.{err_from_is_err_and}
 use Rattle.std.specs.Str.{chars}
 use Rattle.url.specs.Host.{host_text}
 use Rattle.url.specs.Parts.{host_or_empty}
 use Rattle.url.specs.Quirks as quirks
 use Rattle.url.specs.declared.error.ParseError.TheVariants.{InvalidDomainCharacter, OutOfMemory}
-use Rattle.urlpattern_core.proofs.CanonicalLemmas.{after-err, after-ok, canonical-empty, canonical-err, canonical-ok, is_empty-false, is_empty-true, told-err, told-ok, told_as-err, told_as-ok}
-use Rattle.urlpattern_core.specs.Canonical.{canonical_hostname, dummy_url, opaque_url, told_as, hostname_of}
+use Rattle.urlpattern_core.proofs.CanonicalLemmas.{after-err, after-ok, canonical-empty, canonical-err, canonical-ok, is_empty-false, is_empty-true, told_as-err, told_as-ok}
+use Rattle.urlpattern_core.specs.Canonical.{canonical_hostname, dummy_url, told_as, hostname_of}
 use Rattle.urlpattern_core.proofs.canonicalize_and_process.Canonicalizer.hostname.Goals as goal
 
 pub returns-then-is_empty : goal.returns-then-is_empty

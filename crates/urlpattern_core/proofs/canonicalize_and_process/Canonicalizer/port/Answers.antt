@@ -1,11 +1,11 @@
-use Rattle.std.proofs.Common.{◌≡◌, ◌≢◌, ◌++◌, [], false, length, codes, max, refl, sym, unwrap_or, ap, Err, Ok, None, ◌∙◌, arith}
+use Rattle.std.proofs.Common.{◌≡◌, ◌++◌, [], length, codes, max, refl, sym, unwrap_or, ap, None, ◌∙◌}
 use Rattle.std.proofs.lemmas.Result.{err_from_is_err_and}
 use Rattle.std.proofs.lemmas.Str.{encodes-chars}
 use Rattle.std.specs.Prelude.{encode_utf8_all, option_copied, option_map}
 use Rattle.std.specs.Str.{chars}
-use Rattle.url.specs.declared.error.ParseError.TheVariants.{InvalidPort, OutOfMemory}
+use Rattle.url.specs.declared.error.ParseError.TheVariants.{InvalidPort}
 use Rattle.url.specs.declared.slicing.Position.TheVariants.{BeforePort, AfterPort}
-use Rattle.url.specs.Parser.{and_then, parse_url}
+use Rattle.url.specs.Parser.{parse_url}
 use Rattle.url.specs.Parts.{text_between}
 use Rattle.url.specs.Quirks as quirks
 use Rattle.urlpattern_core.proofs.CanonicalLemmas.{after-err, after-ok, after-refused, canonical-empty, canonical-err, canonical-ok, is_empty-false, is_empty-true, tells-through, told_as-err, told_as-ok, unwrap_or-chars, unwrapped-copied}

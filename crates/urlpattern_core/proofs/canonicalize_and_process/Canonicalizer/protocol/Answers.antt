@@ -1,9 +1,9 @@
-use Rattle.std.proofs.Common.{◌≡◌, ◌++◌, length, codes, sym, ap, Err, Ok, None, ◌∙◌, arith}
+use Rattle.std.proofs.Common.{◌≡◌, ◌++◌, length, codes, sym, ap, Ok, None, ◌∙◌}
 use Rattle.std.proofs.lemmas.Result.{err_from_is_err_and}
 use Rattle.std.specs.Str.{chars}
 use Rattle.url.specs.Parser.{and_then, parse_url}
 use Rattle.urlpattern_core.proofs.CanonicalLemmas.{canonical-empty, canonical-err, canonical-ok, is_empty-false, is_empty-true, tells-through}
-use Rattle.urlpattern_core.specs.Canonical.{canonical_protocol, dummy_of_scheme, protocol_of}
+use Rattle.urlpattern_core.specs.Canonical.{canonical_protocol, protocol_of}
 use Rattle.urlpattern_core.proofs.canonicalize_and_process.Canonicalizer.protocol.Goals as goal
 
 pub returns-then-is_empty : goal.returns-then-is_empty

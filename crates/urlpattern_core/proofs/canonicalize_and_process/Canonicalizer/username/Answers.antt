@@ -1,9 +1,9 @@
-use Rattle.std.proofs.Common.{◌≡◌, ◌≢◌, [], false, length, unwrap_or, Some, Ok, sym, ◌∙◌, arith}
+use Rattle.std.proofs.Common.{◌≡◌, length, ◌∙◌}
 use Rattle.std.proofs.lemmas.Result.{err_from_is_err_and}
 use Rattle.std.specs.Str.{chars}
 use Rattle.url.specs.Setters.{set_username}
-use Rattle.urlpattern_core.proofs.CanonicalLemmas.{after-err, after-ok, canonical-empty, canonical-err, canonical-ok, is_empty-false, is_empty-true, told-err, told-ok, told_as-err, told_as-ok}
-use Rattle.urlpattern_core.specs.Canonical.{canonical_username, dummy_url, opaque_url, told_as, username_of}
+use Rattle.urlpattern_core.proofs.CanonicalLemmas.{after-err, after-ok, canonical-empty, canonical-err, canonical-ok, is_empty-false, is_empty-true, told-err, told-ok}
+use Rattle.urlpattern_core.specs.Canonical.{canonical_username, dummy_url, username_of}
 use Rattle.urlpattern_core.proofs.canonicalize_and_process.Canonicalizer.username.Goals as goal
 
 pub returns-then-is_empty : goal.returns-then-is_empty
