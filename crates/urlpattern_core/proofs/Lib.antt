@@ -3,3 +3,7 @@ pub mod RegexpTexts
 pub mod MatcherTexts
 pub mod MatcherAnswers
 pub mod Peeling
+pub mod CanonicalLemmas
+pub mod MarkLemmas
+pub mod RegexpTexts
+pub mod SchemeLemmas
