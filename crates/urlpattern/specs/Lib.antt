@@ -1,6 +1,11 @@
 pub use Rattle.urlpattern_core.specs.Captured
 pub use Rattle.urlpattern_core.specs.Matchers
 pub use Rattle.urlpattern_laws.specs.Dialect
+pub mod EcmaRegexps
+pub use Rattle.urlpattern_laws.specs.Dialect
+pub use Rattle.urlpattern_core.specs.Engines
+pub use Rattle.urlpattern_syntax.specs.ErrorText
+pub use Rattle.urlpattern_syntax.specs.Errors
 pub use Rattle.urlpattern_laws.specs.Laws
 pub use Rattle.urlpattern_laws.specs.Matching
 pub use Rattle.urlpattern_laws.specs.PartMeaning

@@ -201,3 +201,13 @@ pub enum RegExpError {
     /// The allocator had no memory.
     OutOfMemory,
 }
+
+impl From<AllocError> for RegExpError {
+    ghost use Rattle.urlpattern_syntax.specs.declared.error.RegExpError.TheVariants as regexp_errors;
+
+    ghost from_gives = { λ _ error. error ≡ regexp_errors.OutOfMemory };
+
+    fn from(_error: AllocError) -> RegExpError {
+        RegExpError::OutOfMemory
+    }
+}
