@@ -2,7 +2,6 @@ pub use Rattle.urlpattern_core.specs.Captured
 pub use Rattle.urlpattern_core.specs.Matchers
 pub use Rattle.urlpattern_laws.specs.Dialect
 pub mod EcmaRegexps
-pub use Rattle.urlpattern_laws.specs.Dialect
 pub use Rattle.urlpattern_core.specs.Engines
 pub use Rattle.urlpattern_syntax.specs.ErrorText
 pub use Rattle.urlpattern_syntax.specs.Errors
@@ -11,8 +10,6 @@ pub use Rattle.urlpattern_laws.specs.Matching
 pub use Rattle.urlpattern_laws.specs.PartMeaning
 pub use Rattle.urlpattern_laws.specs.Printing
 pub use Rattle.urlpattern_laws.specs.RoundTrip
-pub use Rattle.urlpattern_syntax.specs.ErrorText
-pub use Rattle.urlpattern_syntax.specs.Errors
 pub use Rattle.urlpattern_syntax.specs.Options
 pub use Rattle.urlpattern_syntax.specs.Parsing
 pub use Rattle.urlpattern_syntax.specs.Parts

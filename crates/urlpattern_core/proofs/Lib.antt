@@ -6,5 +6,4 @@ pub mod MatcherAnswers
 pub mod Peeling
 pub mod CanonicalLemmas
 pub mod MarkLemmas
-pub mod RegexpTexts
 pub mod SchemeLemmas
