@@ -116,11 +116,7 @@ fn ecma_script_prints_its_escaped_delimiter(rt: HostRuntime) -> Result<(), Fail>
 }
 
 /// Compares a list that has one part: its kind, its name and its value.
-fn expect_one_part(
-    rt: &impl Abort,
-    parts: &[Part],
-    (kind, name, value): (PartType, &str, &str),
-) {
+fn expect_one_part(rt: &impl Abort, parts: &[Part], (kind, name, value): (PartType, &str, &str)) {
     assert_eq!(rt; parts.len(), 1);
     for part in parts {
         assert_eq!(rt; part.kind, kind);
