@@ -1,4 +1,6 @@
+pub mod EcmaRegexps
 pub use Rattle.urlpattern_core.specs.Captured
+pub use Rattle.urlpattern_core.specs.Engines
 pub use Rattle.urlpattern_core.specs.Matchers
 pub use Rattle.urlpattern_laws.specs.Dialect
 pub mod EcmaRegexps

@@ -1,5 +1,5 @@
-pub mod PrintedTexts
 pub mod EngineLemmas
+pub mod PrintedTexts
 pub mod RegexpTexts
 pub mod MatcherTexts
 pub mod MatcherAnswers
