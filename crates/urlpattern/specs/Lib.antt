@@ -1,3 +1,5 @@
+pub mod Split
+pub mod Splitting
 pub use Rattle.urlpattern_laws.specs.Dialect
 pub use Rattle.urlpattern_syntax.specs.ErrorText
 pub use Rattle.urlpattern_syntax.specs.Errors

@@ -5,4 +5,6 @@
 //! <https://urlpattern.spec.whatwg.org/>
 #![tactic(auto)]
 
+mod constructor_parser;
+
 pub use urlpattern_core::{Error, RegexSyntax, component, error, laws, parser, tokenizer};

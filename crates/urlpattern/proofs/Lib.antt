@@ -1,0 +1,2 @@
+pub mod TokenPlaces
+pub mod SeenLemmas

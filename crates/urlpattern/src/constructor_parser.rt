@@ -1,0 +1,287 @@
+//! Cuts a constructor string, the pattern of a whole URL, into the patterns of its components.
+//!
+//! <https://urlpattern.spec.whatwg.org/#constructor-string-parsing>
+
+ghost use Rattle.std.specs.Prelude.{◌≡◌, ℕ, ◌+◌, ◌-◌, ◌*◌, ◌^◌, ◌<◌, ◌≤◌, ◌∷◌, ◌&&◌, ◌||◌, ◌==◌, not, if◌then◌else◌, [], List, length, IsTrue, None, codes};
+ghost use Rattle.std.specs.Str.{bytes_eq, chars};
+ghost use Rattle.urlpattern.specs.Split.{EndsAt, HashAt, HashFrom, HostnameFrom, IsTextBetween, PathnameAt, PathnameFrom, PortAt, SearchAt, SearchFrom, at, depth_before, depth_behind, ends_at, follows_modified, has_slashes, is_at_sign, is_character, is_colon, is_end, is_ending, is_open, is_hash_sign, is_search_sign, is_sign, is_slash, takes_modifier};
+ghost use Rattle.urlpattern.specs.Splitting.{CanRead, HasRead, HasTurnForSlash, IsClosed, IsSource, NoAuthority, NoPathname, NoSearch, components_of, is_hostname, text_of_source, tokens_of};
+ghost use Rattle.urlpattern_syntax.specs.Tokens.{token_view};
+
+use urlpattern_core::tokenizer::{Token, TokenType};
+
+/// A stretch of a constructor string, which ends at signs of its own.
+///
+/// <https://urlpattern.spec.whatwg.org/#constructor-string-parser-state>
+#[derive(Clone, Copy, PartialEq, Eq)]
+enum Section {
+    Protocol,
+    Authority,
+    Username,
+    Password,
+    Hostname,
+    Port,
+    Pathname,
+    Search,
+    Hash,
+}
+
+/// How far the tokens have been read.
+#[derive(Clone, Copy)]
+struct Place {
+    /// The index of the token to be read next.
+    index: usize,
+    /// How many groups are open before it.
+    depth: usize,
+    /// How many looks at a token were taken.
+    turns: usize,
+}
+
+/// A constructor string and its lenient tokens.
+#[derive(Clone, Copy)]
+struct Source<'t, 'a> {
+    input: &'a str,
+    tokens: &'t [Token<'a>],
+}
+
+/// The components that were found, and how many looks at a token that took.
+#[derive(Clone, Copy)]
+struct Split<'a> {
+    protocol: Option<&'a str>,
+    username: Option<&'a str>,
+    password: Option<&'a str>,
+    hostname: Option<&'a str>,
+    port: Option<&'a str>,
+    pathname: Option<&'a str>,
+    search: Option<&'a str>,
+    hash: Option<&'a str>,
+    turns: usize,
+}
+
+impl Place {
+    /// The place so many tokens behind this one, outside of all groups.
+    fn behind(self, count: usize) -> Place
+        requires { self.index + count < 2 ^ 64 }
+        ensures index { result.index ≡ self.index + count }
+        ensures depth { result.depth ≡ 0 }
+        ensures turns { result.turns ≡ self.turns }
+    {
+        Place {
+            index: self.index + count,
+            depth: 0,
+            turns: self.turns,
+        }
+    }
+}
+
+impl<'a> Split<'a> {
+    /// No component.
+    fn nothing(turns: usize) -> Split<'a>
+        ensures nothing { NoSearch (components_of result) }
+        ensures hash { (components_of result).hash ≡ None }
+        ensures turns { result.turns ≡ turns }
+    {
+        Split {
+            protocol: None,
+            username: None,
+            password: None,
+            hostname: None,
+            port: None,
+            pathname: None,
+            search: None,
+            hash: None,
+            turns,
+        }
+    }
+}
+
+/// Whether a token of the kind stands for one character as it is.
+///
+/// <https://urlpattern.spec.whatwg.org/#is-a-non-special-pattern-char>
+fn is_character(kind: TokenType) -> bool
+    ensures { result ≡ is_character kind }
+{
+    matches!(
+        kind,
+        TokenType::Char | TokenType::EscapedChar | TokenType::InvalidChar
+    )
+}
+
+/// Whether a question mark behind a token of the kind is a modifier.
+fn takes_modifier(kind: TokenType) -> bool
+    ensures { result ≡ takes_modifier kind }
+{
+    matches!(
+        kind,
+        TokenType::Name | TokenType::Regexp | TokenType::Close | TokenType::Asterisk
+    )
+}
+
+/// Whether the kind is that of the last token.
+fn is_end(kind: TokenType) -> bool
+    ensures { result ≡ is_end kind }
+{
+    matches!(kind, TokenType::End)
+}
+
+/// Whether a token of the kind is seen at a depth of groups, where it is not the last.
+fn is_seen(kind: TokenType, depth: usize) -> bool
+    ensures { result ≡ (not (is_open kind) && depth == 0) }
+{
+    !matches!(kind, TokenType::Open) && depth == 0
+}
+
+/// The depth of groups behind a token.
+fn depth_behind(kind: TokenType, depth: usize) -> usize
+    requires { depth + 1 < 2 ^ 64 }
+    ensures { result ≡ depth_behind kind depth }
+{
+    match kind {
+        TokenType::Open => depth + 1,
+        TokenType::Close => depth.saturating_sub(1),
+        _ => depth,
+    }
+}
+
+/// Whether the text is this ASCII character.
+fn is_mark(text: &str, mark: u8) -> bool
+    requires { mark < 128 }
+    ensures { result ≡ bytes_eq (chars text.now) (mark ∷ []) }
+{
+    text.as_bytes() == [mark].as_slice()
+}
+
+impl<'t, 'a> Source<'t, 'a> {
+    /// Whether the token at the index stands for this ASCII character.
+    fn is_sign(&self, index: usize, mark: u8) -> bool
+        requires { mark < 128 }
+        ensures { result ≡ at (is_sign (mark ∷ [])) (tokens_of self.now) index }
+    {
+        match self.tokens.get(index) {
+            Some(token) => is_character(token.kind) && is_mark(token.value, mark),
+            None => false,
+        }
+    }
+
+    /// Whether the token before the index takes a question mark there as a modifier.
+    fn follows_modified(&self, index: usize) -> bool
+        ensures { result ≡ follows_modified (tokens_of self.now) index }
+    {
+        if index == 0 {
+            return false;
+        }
+        match self.tokens.get(index - 1) {
+            Some(token) => takes_modifier(token.kind),
+            None => false,
+        }
+    }
+
+    /// Whether the search begins behind the token at the index.
+    ///
+    /// <https://urlpattern.spec.whatwg.org/#is-a-search-prefix>
+    fn is_search_sign(&self, index: usize) -> bool
+        ensures { result ≡ is_search_sign (tokens_of self.now) index }
+    {
+        match self.tokens.get(index) {
+            Some(token) => {
+                is_mark(token.value, b'?')
+                    && (is_character(token.kind) || !self.follows_modified(index))
+            }
+            None => false,
+        }
+    }
+
+    /// Whether two slashes follow the token at the index.
+    ///
+    /// <https://urlpattern.spec.whatwg.org/#next-is-authority-slashes>
+    fn has_slashes(&self, index: usize) -> bool
+        requires { index + 2 < 2 ^ 64 }
+        ensures { result ≡ has_slashes (tokens_of self.now) index }
+    {
+        self.is_sign(index + 1, b'/') && self.is_sign(index + 2, b'/')
+    }
+
+    /// Whether a section ends with the token at the index, where `balanced` tells that a colon there stands outside of
+    /// square brackets.
+    fn is_ending(&self, section: Section, balanced: bool, index: usize) -> bool
+        ensures { result ≡ is_ending section balanced (tokens_of self.now) index }
+    {
+        match section {
+            Section::Protocol => self.is_sign(index, b':'),
+            Section::Authority => {
+                self.is_sign(index, b'@')
+                    || self.is_sign(index, b'/')
+                    || self.is_search_sign(index)
+                    || self.is_sign(index, b'#')
+            }
+            Section::Username => self.is_sign(index, b':') || self.is_sign(index, b'@'),
+            Section::Password => self.is_sign(index, b'@'),
+            Section::Hostname => {
+                (balanced && self.is_sign(index, b':'))
+                    || self.is_sign(index, b'/')
+                    || self.is_search_sign(index)
+                    || self.is_sign(index, b'#')
+            }
+            Section::Port => {
+                self.is_sign(index, b'/')
+                    || self.is_search_sign(index)
+                    || self.is_sign(index, b'#')
+            }
+            Section::Pathname => self.is_search_sign(index) || self.is_sign(index, b'#'),
+            Section::Search => self.is_sign(index, b'#'),
+            Section::Hash => false,
+        }
+    }
+
+    /// Counts the token at the index, if it is seen, stands for this bracket and counts in the section.
+    fn count_bracket(
+        &self,
+        section: Section,
+        is_seen: bool,
+        index: usize,
+        mark: u8,
+        count: usize,
+    ) -> usize
+        requires ascii { mark < 128 }
+        requires room { count + 1 < 2 ^ 64 }
+        ensures { result ≡ count + (if is_hostname section && is_seen && at (is_sign (mark ∷ [])) (tokens_of self.now) index then 1 else 0) }
+    {
+        if matches!(section, Section::Hostname) && is_seen && self.is_sign(index, mark) {
+            count + 1
+        } else {
+            count
+        }
+    }
+
+    /// The token with which a section ends that begins at a place: the first that is seen and is one of its signs, or
+    /// the end. Every token up to there is looked at once.
+    fn end_of(&self, section: Section, from: Place) -> Place
+        requires closed { IsClosed (tokens_of self.now) }
+        requires within { from.index < length self.now.tokens.now }
+        requires shallow { from.depth ≤ length self.now.tokens.now }
+        requires turns { from.turns ≤ 2 * length self.now.tokens.now }
+        ensures ends { EndsAt section (tokens_of self.now) from.index from.depth result.index }
+        ensures depth { result.depth ≡ depth_before (tokens_of self.now) from.index from.depth result.index }
+        ensures shallow { result.depth + from.index ≤ from.depth + result.index }
+        ensures turns { result.turns + from.index ≡ from.turns + result.index + 1 }
+    {
+        let mut place = from;
+        let mut opened = 0;
+        let mut closed = 0;
+        loop {
+            let kind = self.tokens[place.index].kind;
+            place.turns += 1;
+            if is_end(kind) {
+                return place;
+            }
+            let is_seen = is_seen(kind, place.depth);
+            if is_seen && self.is_ending(section, opened == closed, place.index) {
+                return place;
+            }
+            opened = self.count_bracket(section, is_seen, place.index, b'[', opened);
+            closed = self.count_bracket(section, is_seen, place.index, b']', closed);
+            place.depth = depth_behind(kind, place.depth);
+            place.index += 1;
+        }
+    }
+}
