@@ -46,11 +46,11 @@ pub record HasRead (source : Source) (place : Place) : Type 0 where
   pub within : place.index < length source.tokens.now
   pub turns : place.turns + (length source.tokens.now - place.index) ≤ 2 * length source.tokens.now + 1
 
--- where a slash is seen from the place on, one token may be looked at once more
+-- a slash that is seen from the place on is looked at a second time
 abbrev pub HasTurnForSlash : Source → (index depth turns : ℕ) → Type 0
 HasTurnForSlash source index depth turns =
     (other : ℕ) → index ≤ other → IsTrue (is_seen (tokens_of source) index depth other) → IsTrue (is_slash (tokens_of source) other)
-    → turns + (length source.tokens.now - index) + 1 ≤ 2 * length source.tokens.now
+    → turns + (length source.tokens.now - index) ≤ 2 * length source.tokens.now
 
 -- the section in which square brackets are counted
 abbrev pub is_hostname : Section → Bool

@@ -4,8 +4,8 @@
 
 ghost use Rattle.std.specs.Prelude.{◌≡◌, ℕ, ◌+◌, ◌-◌, ◌*◌, ◌^◌, ◌<◌, ◌≤◌, ◌∷◌, ◌&&◌, ◌||◌, ◌==◌, not, if◌then◌else◌, [], List, length, IsTrue, None, codes};
 ghost use Rattle.std.specs.Str.{bytes_eq, chars};
-ghost use Rattle.urlpattern.specs.Split.{EndsAt, HashAt, HashFrom, HostnameFrom, IsTextBetween, PathnameAt, PathnameFrom, PortAt, SearchAt, SearchFrom, at, depth_before, depth_behind, ends_at, follows_modified, has_slashes, is_at_sign, is_character, is_colon, is_end, is_ending, is_open, is_hash_sign, is_search_sign, is_sign, is_slash, takes_modifier};
-ghost use Rattle.urlpattern.specs.Splitting.{CanRead, HasRead, HasTurnForSlash, IsClosed, IsSource, NoAuthority, NoPathname, NoSearch, components_of, is_hostname, text_of_source, tokens_of};
+ghost use Rattle.urlpattern.specs.Split.{EndsAt, HashAt, HashFrom, HostnameFrom, IsTextBetween, PathnameAt, PathnameFrom, PortAt, SearchAt, SearchFrom, at, depth_before, depth_behind, ends_at, follows_modified, has_slashes, implied_pathname, is_at_sign, is_character, is_colon, is_end, is_ending, is_open, is_hash_sign, is_search_sign, is_sign, is_slash, takes_modifier};
+ghost use Rattle.urlpattern.specs.Splitting.{CanRead, HasRead, HasTurnForSlash, IsSource, NoAuthority, NoPathname, NoSearch, components_of, is_hostname, text_of_source, tokens_of};
 ghost use Rattle.urlpattern_syntax.specs.Tokens.{token_view};
 
 use urlpattern_core::tokenizer::{Token, TokenType};
@@ -151,6 +151,13 @@ fn is_mark(text: &str, mark: u8) -> bool
     text.as_bytes() == [mark].as_slice()
 }
 
+/// The pathname where a search or a hash begins without one.
+fn implied_pathname(special: bool) -> &'static str
+    ensures { chars result.now ≡ implied_pathname special }
+{
+    if special { "/" } else { "" }
+}
+
 impl<'t, 'a> Source<'t, 'a> {
     /// Whether the token at the index stands for this ASCII character.
     fn is_sign(&self, index: usize, mark: u8) -> bool
@@ -256,7 +263,7 @@ impl<'t, 'a> Source<'t, 'a> {
     /// The token with which a section ends that begins at a place: the first that is seen and is one of its signs, or
     /// the end. Every token up to there is looked at once.
     fn end_of(&self, section: Section, from: Place) -> Place
-        requires closed { IsClosed (tokens_of self.now) }
+        requires source { IsSource self.now }
         requires within { from.index < length self.now.tokens.now }
         requires shallow { from.depth ≤ length self.now.tokens.now }
         requires turns { from.turns ≤ 2 * length self.now.tokens.now }
@@ -282,6 +289,159 @@ impl<'t, 'a> Source<'t, 'a> {
             closed = self.count_bracket(section, is_seen, place.index, b']', closed);
             place.depth = depth_behind(kind, place.depth);
             place.index += 1;
+        }
+    }
+
+    /// The text from the index of one token up to that of another.
+    ///
+    /// <https://urlpattern.spec.whatwg.org/#make-a-component-string>
+    fn text_between(&self, from: usize, until: usize) -> &'a str
+        requires source { IsSource self.now }
+        requires order { from ≤ until }
+        requires within { until < length self.now.tokens.now }
+        ensures { IsTextBetween (text_of_source self.now) (tokens_of self.now) from until (chars result.now) }
+    {
+        &self.input[self.tokens[from].index..self.tokens[until].index]
+    }
+
+    /// The hash, which begins at a place.
+    fn hash_from(&self, from: Place) -> Split<'a>
+        requires source { IsSource self.now }
+        requires reads { CanRead self.now from }
+        ensures split { HashFrom (text_of_source self.now) (tokens_of self.now) from.index (components_of result) }
+        ensures nothing { NoSearch (components_of result) }
+        ensures turns { result.turns ≤ 2 * length self.now.tokens.now }
+    {
+        let end = self.end_of(Section::Hash, from);
+        Split {
+            hash: Some(self.text_between(from.index, end.index)),
+            ..Split::nothing(end.turns)
+        }
+    }
+
+    /// The hash, if it begins behind the token at a place.
+    fn hash_at(&self, end: Place) -> Split<'a>
+        requires source { IsSource self.now }
+        requires reads { HasRead self.now end }
+        requires sign { IsTrue (is_hash_sign (tokens_of self.now) end.index || ends_at (tokens_of self.now) end.index) }
+        ensures split { HashAt (text_of_source self.now) (tokens_of self.now) end.index (components_of result) }
+        ensures nothing { NoSearch (components_of result) }
+        ensures turns { result.turns ≤ 2 * length self.now.tokens.now }
+    {
+        if self.is_sign(end.index, b'#') {
+            return self.hash_from(end.behind(1));
+        }
+        Split::nothing(end.turns)
+    }
+
+    /// The search, which begins at a place, and the hash.
+    fn search_from(&self, from: Place) -> Split<'a>
+        requires source { IsSource self.now }
+        requires reads { CanRead self.now from }
+        ensures split { SearchFrom (text_of_source self.now) (tokens_of self.now) from.index from.depth (components_of result) }
+        ensures nothing { NoPathname (components_of result) }
+        ensures turns { result.turns ≤ 2 * length self.now.tokens.now }
+    {
+        let end = self.end_of(Section::Search, from);
+        Split {
+            search: Some(self.text_between(from.index, end.index)),
+            ..self.hash_at(end)
+        }
+    }
+
+    /// The search and the hash, if they begin behind the token at a place.
+    fn search_at(&self, end: Place) -> Split<'a>
+        requires source { IsSource self.now }
+        requires reads { HasRead self.now end }
+        requires sign { IsTrue (is_search_sign (tokens_of self.now) end.index || is_hash_sign (tokens_of self.now) end.index || ends_at (tokens_of self.now) end.index) }
+        ensures split { SearchAt (text_of_source self.now) (tokens_of self.now) end.index (components_of result) }
+        ensures nothing { NoPathname (components_of result) }
+        ensures turns { result.turns ≤ 2 * length self.now.tokens.now }
+    {
+        if self.is_search_sign(end.index) {
+            return self.search_from(end.behind(1));
+        }
+        if self.is_sign(end.index, b'#') {
+            return Split {
+                search: Some(""),
+                ..self.hash_from(end.behind(1))
+            };
+        }
+        Split::nothing(end.turns)
+    }
+
+    /// The pathname, which begins at a place, the search and the hash.
+    fn pathname_from(&self, from: Place) -> Split<'a>
+        requires source { IsSource self.now }
+        requires reads { CanRead self.now from }
+        ensures split { PathnameFrom (text_of_source self.now) (tokens_of self.now) from.index from.depth (components_of result) }
+        ensures nothing { NoAuthority (components_of result) }
+        ensures turns { result.turns ≤ 2 * length self.now.tokens.now }
+    {
+        let end = self.end_of(Section::Pathname, from);
+        Split {
+            pathname: Some(self.text_between(from.index, end.index)),
+            ..self.search_at(end)
+        }
+    }
+
+    /// What stands behind the hostname and the port: the pathname, if it begins at a place, the search and the hash.
+    fn pathname_at(&self, end: Place, special: bool) -> Split<'a>
+        requires source { IsSource self.now }
+        requires reads { HasRead self.now end }
+        requires sign { IsTrue (is_slash (tokens_of self.now) end.index || is_search_sign (tokens_of self.now) end.index || is_hash_sign (tokens_of self.now) end.index || ends_at (tokens_of self.now) end.index) }
+        requires slash { IsTrue (is_slash (tokens_of self.now) end.index) → end.turns + (length self.now.tokens.now - end.index) ≤ 2 * length self.now.tokens.now }
+        ensures split { PathnameAt (text_of_source self.now) (tokens_of self.now) special end.index (components_of result) }
+        ensures nothing { NoAuthority (components_of result) }
+        ensures turns { result.turns ≤ 2 * length self.now.tokens.now }
+    {
+        if self.is_sign(end.index, b'/') {
+            return self.pathname_from(end.behind(0));
+        }
+        if self.is_search_sign(end.index) || self.is_sign(end.index, b'#') {
+            return Split {
+                pathname: Some(implied_pathname(special)),
+                ..self.search_at(end)
+            };
+        }
+        Split::nothing(end.turns)
+    }
+
+    /// The port, if a colon stands at a place, and what stands behind it.
+    fn port_at(&self, end: Place, special: bool) -> Split<'a>
+        requires source { IsSource self.now }
+        requires reads { HasRead self.now end }
+        requires sign { IsTrue (is_colon (tokens_of self.now) end.index || is_slash (tokens_of self.now) end.index || is_search_sign (tokens_of self.now) end.index || is_hash_sign (tokens_of self.now) end.index || ends_at (tokens_of self.now) end.index) }
+        requires slash { HasTurnForSlash self.now end.index 0 end.turns }
+        ensures split { PortAt (text_of_source self.now) (tokens_of self.now) special end.index (components_of result) }
+        ensures turns { result.turns ≤ 2 * length self.now.tokens.now }
+    {
+        if self.is_sign(end.index, b':') {
+            let from = end.behind(1);
+            let end = self.end_of(Section::Port, from);
+            return Split {
+                port: Some(self.text_between(from.index, end.index)),
+                ..self.pathname_at(end, special)
+            };
+        }
+        Split {
+            port: Some(""),
+            ..self.pathname_at(end, special)
+        }
+    }
+
+    /// The hostname, which begins at a place, and what stands behind it.
+    fn hostname_from(&self, from: Place, special: bool) -> Split<'a>
+        requires source { IsSource self.now }
+        requires reads { CanRead self.now from }
+        requires slash { HasTurnForSlash self.now from.index from.depth (from.turns + 1) }
+        ensures split { HostnameFrom (text_of_source self.now) (tokens_of self.now) special from.index from.depth (components_of result) }
+        ensures turns { result.turns ≤ 2 * length self.now.tokens.now }
+    {
+        let end = self.end_of(Section::Hostname, from);
+        Split {
+            hostname: Some(self.text_between(from.index, end.index)),
+            ..self.port_at(end, special)
         }
     }
 }

@@ -2,7 +2,8 @@ use Rattle.std.proofs.Common.{◌≡◌, ◌+◌, ◌≤◌, ◌&&◌, ◌==◌,
 use Rattle.std.proofs.lemmas.Bool.{and_left, and_right, both_ways}
 use Rattle.std.proofs.lemmas.List.{length-map}
 use Rattle.urlpattern.specs.Split.{at, depth_behind, ends_at, is_end, is_ending, is_open, is_sign}
-use Rattle.urlpattern.specs.Splitting.{is_hostname, tokens_of}
+use Rattle.urlpattern.specs.Splitting.{is_hostname, text_of_source, tokens_of}
+use Rattle.urlpattern.proofs.TextBetween.{are_closed}
 use Rattle.urlpattern.proofs.SeenLemmas.{cond-bound, depth_behind-bound, way_ends, way_goes, way_stops}
 use Rattle.urlpattern.proofs.TokenPlaces.{at_view, no_token, view_read}
 use Rattle.urlpattern_syntax.specs.Tokens.{token_view}
@@ -32,7 +33,7 @@ loop-section-preserved c =
     let not_last = λ (h : ends_at (tokens_of c.args.self.now) c.loop-section.place.index ≡ true). both_ways _ (at_view (λ t. is_end t.kind) (tokens_of c.args.self.now) c.loop-section.place.index token is ∙ goes) h in
     let size : length (tokens_of c.args.self.now) ≡ length c.args.self.now.tokens.now = length-map c.args.self.now.tokens.now token_view in
     let inside : c.loop-section.place.index < length (tokens_of c.args.self.now) = omega (arith, c.loop-section.invariant.within) in
-    let within = c.requires.closed.goes_on c.loop-section.place.index inside not_last in
+    let within = (are_closed (text_of_source c.args.self.now) (tokens_of c.args.self.now) c.requires.source).goes_on c.loop-section.place.index inside not_last in
     let passes : ((not (is_open token.kind) && c.loop-section.place.depth == 0) && is_ending c.args.section (c.loop-section.opened == c.loop-section.closed) (tokens_of c.args.self.now) c.loop-section.place.index) ≡ false =
         elim c.else-is_seen.branch [
             else-is_seen-via-then-is_seen+else-is_ending w ↦ and_right _ _ (sym w.is_ending.ensures ∙ w.if-is_ending.false)
