@@ -4,7 +4,7 @@
 
 ghost use Rattle.std.specs.Prelude.{◌≡◌, ℕ, ◌+◌, ◌-◌, ◌*◌, ◌^◌, ◌<◌, ◌≤◌, ◌∷◌, ◌&&◌, ◌||◌, ◌==◌, not, if◌then◌else◌, [], List, length, IsTrue, None, codes};
 ghost use Rattle.std.specs.Str.{bytes_eq, chars};
-ghost use Rattle.urlpattern.specs.Split.{EndsAt, HashAt, HashFrom, HostnameFrom, IsTextBetween, PathnameAt, PathnameFrom, PortAt, SearchAt, SearchFrom, at, depth_before, depth_behind, ends_at, follows_modified, has_slashes, implied_pathname, is_at_sign, is_character, is_colon, is_end, is_ending, is_open, is_hash_sign, is_search_sign, is_sign, is_slash, takes_modifier};
+ghost use Rattle.urlpattern.specs.Split.{AuthorityFrom, EndsAt, HashAt, HashFrom, HostnameFrom, IsAbsoluteSplit, IsRelativeSplit, IsTextBetween, PathnameAt, PathnameFrom, PortAt, SearchAt, SearchFrom, UserinfoFrom, at, depth_before, depth_behind, ends_at, follows_modified, has_slashes, implied_pathname, is_at_sign, is_character, is_colon, is_end, is_ending, is_open, is_hash_sign, is_search_sign, is_sign, is_slash, takes_modifier};
 ghost use Rattle.urlpattern.specs.Splitting.{CanRead, HasRead, HasTurnForSlash, IsSource, NoAuthority, NoPathname, NoSearch, components_of, is_hostname, text_of_source, tokens_of};
 ghost use Rattle.urlpattern_syntax.specs.Tokens.{token_view};
 
@@ -442,6 +442,114 @@ impl<'t, 'a> Source<'t, 'a> {
         Split {
             hostname: Some(self.text_between(from.index, end.index)),
             ..self.port_at(end, special)
+        }
+    }
+
+    /// The username and the password, which begin at a place, where the hostname follows the sign `until`, and what
+    /// stands behind them.
+    fn userinfo_from(&self, from: Place, until: usize, special: bool) -> Split<'a>
+        requires source { IsSource self.now }
+        requires ends { EndsAt Section.Authority (tokens_of self.now) from.index 0 until }
+        requires sign { IsTrue (is_at_sign (tokens_of self.now) until) }
+        requires level { from.depth ≡ 0 }
+        requires turns { from.turns ≤ from.index + until + 1 }
+        ensures userinfo { UserinfoFrom (text_of_source self.now) (tokens_of self.now) from.index until (components_of result) }
+        ensures hostname { HostnameFrom (text_of_source self.now) (tokens_of self.now) special (until + 1) 0 (components_of result) }
+        ensures turns { result.turns ≤ 2 * length self.now.tokens.now }
+    {
+        let end = self.end_of(Section::Username, from);
+        let username = Some(self.text_between(from.index, end.index));
+        if !self.is_sign(end.index, b':') {
+            return Split {
+                username,
+                password: None,
+                ..self.hostname_from(end.behind(1), special)
+            };
+        }
+        let password_from = end.behind(1);
+        let password_end = self.end_of(Section::Password, password_from);
+        Split {
+            username,
+            password: Some(self.text_between(password_from.index, password_end.index)),
+            ..self.hostname_from(password_end.behind(1), special)
+        }
+    }
+
+    /// The authority, which begins at a place, and what stands behind it.
+    fn authority_from(&self, from: Place, special: bool) -> Split<'a>
+        requires source { IsSource self.now }
+        requires within { from.index < length self.now.tokens.now }
+        requires level { from.depth ≡ 0 }
+        requires turns { from.turns ≤ 2 * from.index }
+        ensures split { AuthorityFrom (text_of_source self.now) (tokens_of self.now) special from.index (components_of result) }
+        ensures turns { result.turns ≤ 2 * length self.now.tokens.now }
+    {
+        let end = self.end_of(Section::Authority, from);
+        if self.is_sign(end.index, b'@') {
+            let back = Place {
+                turns: end.turns,
+                ..from
+            };
+            return self.userinfo_from(back, end.index, special);
+        }
+        let back = Place {
+            index: from.index,
+            ..end
+        };
+        Split {
+            username: None,
+            password: None,
+            ..self.hostname_from(back, special)
+        }
+    }
+
+    /// The components of a text in which no protocol was found, read up to its end.
+    fn relative(&self, end: Place) -> Split<'a>
+        requires source { IsSource self.now }
+        requires ends { EndsAt Section.Protocol (tokens_of self.now) 0 0 end.index }
+        requires end { IsTrue (ends_at (tokens_of self.now) end.index) }
+        requires depth { end.depth ≡ depth_before (tokens_of self.now) 0 0 end.index }
+        requires shallow { end.depth ≤ end.index }
+        requires turns { end.turns ≤ length self.now.tokens.now }
+        ensures split { IsRelativeSplit (text_of_source self.now) (tokens_of self.now) (components_of result) }
+        ensures turns { result.turns ≤ 2 * length self.now.tokens.now }
+    {
+        if self.is_sign(0, b'#') {
+            return self.hash_from(Place { index: 1, ..end });
+        }
+        if self.is_search_sign(0) {
+            return self.search_from(Place { index: 1, ..end });
+        }
+        self.pathname_from(Place { index: 0, ..end })
+    }
+
+    /// The components of a text whose protocol ends at a colon.
+    fn absolute(&self, colon: Place, special: bool) -> Split<'a>
+        requires source { IsSource self.now }
+        requires ends { EndsAt Section.Protocol (tokens_of self.now) 0 0 colon.index }
+        requires sign { IsTrue (is_colon (tokens_of self.now) colon.index) }
+        requires turns { colon.turns ≤ 2 * (colon.index + 1) }
+        ensures split { IsAbsoluteSplit (text_of_source self.now) (tokens_of self.now) special colon.index (components_of result) }
+        ensures turns { result.turns ≤ 2 * length self.now.tokens.now }
+    {
+        let protocol = Some(self.text_between(0, colon.index));
+        if self.has_slashes(colon.index) {
+            return Split {
+                protocol,
+                ..self.authority_from(colon.behind(3), special)
+            };
+        }
+        if special {
+            return Split {
+                protocol,
+                ..self.authority_from(colon.behind(1), special)
+            };
+        }
+        Split {
+            protocol,
+            hostname: Some(""),
+            port: Some(""),
+            ..self.pathname_from(colon.behind(1))
         }
     }
 }
