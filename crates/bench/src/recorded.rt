@@ -27,6 +27,8 @@ pub enum Operation {
     Tokenize,
     /// The parts of a pattern, the names of its groups and its regular expression.
     Component,
+    /// What an engine of regular expressions answers.
+    Engine,
 }
 
 /// A question, and the answer that was recorded.
@@ -125,4 +127,40 @@ pub struct Part {
     pub name: String,
     pub prefix: String,
     pub suffix: String,
+}
+
+/// A question for what an engine answers.
+#[derive(Drop, Deserialize)]
+pub struct EngineQuestion {
+    /// The engine.
+    pub engine: Engine,
+    /// The text of the regular expression.
+    pub pattern: String,
+    /// Whether a text that the engine does not take is to be refused at once.
+    #[serde(default)]
+    pub force_eval: bool,
+    /// The texts that it is asked about.
+    pub inputs: Vec<String>,
+}
+
+/// An engine of regular expressions.
+#[derive(Clone, Copy, Drop, Deserialize)]
+#[serde(rename_all = "lowercase")]
+pub enum Engine {
+    /// The crate `regex`.
+    Regex,
+    /// That of a browser, which the crate `regex` plays.
+    Ecma,
+}
+
+/// What groups capture of a text, or None where it is not matched.
+pub type Captures = Option<Vec<Option<String>>>;
+
+/// What an engine answers.
+#[derive(Drop, Deserialize)]
+pub struct EngineAnswer {
+    /// The answer to each text.
+    pub matches: Vec<Captures>,
+    /// The text of the regular expression.
+    pub pattern_string: String,
 }

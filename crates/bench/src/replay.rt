@@ -1,5 +1,7 @@
 //! Asks the library what was asked when a case was recorded, and compares the answers.
 
+mod engines;
+
 use crate::recorded;
 use crate::recorded::{
     Answer, Callback, Case, Component, ComponentQuestion, Heading, Kind, Operation, TokensQuestion,
@@ -30,6 +32,7 @@ pub fn replay(alloc: Global, line: &str) -> Result<Outcome, serde_json::Error> {
     match heading.question.operation {
         Operation::Tokenize => replay_tokens(alloc, line),
         Operation::Component => replay_component(alloc, line),
+        Operation::Engine => engines::replay_engine(alloc, line),
     }
 }
 

@@ -48,6 +48,7 @@ impl Tally {
 struct Report {
     tokenize: Tally,
     component: Tally,
+    engine: Tally,
     unreadable: u64,
 }
 
@@ -85,6 +86,7 @@ impl Report {
         match operation {
             Operation::Tokenize => &mut self.tokenize,
             Operation::Component => &mut self.component,
+            Operation::Engine => &mut self.engine,
         }
     }
 
@@ -92,13 +94,15 @@ impl Report {
     fn print<O: Write>(&self, out: &mut O) -> io::Result<()> {
         self.tokenize.print(out, "tokenize")?;
         self.component.print(out, "component")?;
+        self.engine.print(out, "engine")?;
         let unreadable = self.unreadable;
         writeln!(out, "lines without a case: {unreadable}")
     }
 
     /// Whether each line holds a case, and none differs.
     fn is_same(&self) -> bool {
-        self.tokenize.differing == 0 && self.component.differing == 0 && self.unreadable == 0
+        let differing = [&self.tokenize, &self.component, &self.engine];
+        differing.iter().all(|tally| tally.differing == 0) && self.unreadable == 0
     }
 }
 
@@ -137,6 +141,12 @@ mod tests {
             "\n",
             r#"{"in":{"op":"component","kind":"default","syntax":"Rust","pattern":""},"out":{"ok":{"parts":[],"names":[],"regexp":"^$"}}}"#,
             "\n",
+            r#"{"in":{"op":"engine","engine":"regex","pattern":"b(c)","inputs":["abcd","b"]},"out":{"ok":{"matches":[["c"],null],"pattern_string":"b(c)"}}}"#,
+            "\n",
+            r#"{"in":{"op":"engine","engine":"regex","pattern":"b(c)","inputs":["abcd"]},"out":{"ok":{"matches":[[null]],"pattern_string":"b(c)"}}}"#,
+            "\n",
+            r#"{"in":{"op":"engine","engine":"regex","pattern":"a(","inputs":[]},"out":{"err":"pattern"}}"#,
+            "\n",
             r#"{"in":{"op":"other"},"out":{"ok":null}}"#,
         );
         let printed = concat!(
@@ -144,9 +154,11 @@ mod tests {
             "cases:3: differs\n",
             "cases:4: differs\n",
             "cases:5: differs\n",
-            "cases:7: no case\n",
+            "cases:8: differs\n",
+            "cases:10: no case\n",
             "tokenize: 2 answers and 2 errors, 3 differ\n",
             "component: 2 answers and 0 errors, 1 differ\n",
+            "engine: 2 answers and 1 errors, 1 differ\n",
             "lines without a case: 1\n",
         );
         let mut report = Report::default();

@@ -2,6 +2,7 @@
 
 mod callbacks;
 mod components;
+mod engines;
 mod long_texts;
 mod options;
 mod refusals;

@@ -7,10 +7,11 @@ use Rattle.urlpat.specs.declared.command.Failure.TheVariants as failures
 use Rattle.urlpattern.specs.Errors.{error_view}
 use Rattle.urlpattern.specs.ErrorText.{error_text}
 
--- a line with the names of a component's groups, and a line with its regular expression
-abbrev pub component_lines : (names : List (List ℕ)) → (regexp : List ℕ) → List ℕ
-component_lines names regexp =
-    codes "names:" ++ flat_map (λ name. codes " " ++ name) names ++ codes "\nregexp: " ++ regexp ++ codes "\n"
+-- a line with the names of a component's groups, one with its regular expression and one with its printed pattern
+abbrev pub component_lines : (names : List (List ℕ)) → (regexp pattern : List ℕ) → List ℕ
+component_lines names regexp pattern =
+    codes "names:" ++ flat_map (λ name. codes " " ++ name) names ++ codes "\nregexp: " ++ regexp
+    ++ codes "\npattern: " ++ pattern ++ codes "\n"
 
 -- how the program is used
 abbrev pub usage : List ℕ

@@ -10,7 +10,7 @@ use std::alloc::{AllocError, Global};
 use std::io;
 use std::io::Write;
 use urlpattern::Error;
-use urlpattern::component::generate_regular_expression_and_name_list;
+use urlpattern::component::{generate_pattern_string, generate_regular_expression_and_name_list};
 use urlpattern::parser::{Options, parse_pattern_string};
 
 /// The status of a run that gave its answer.
@@ -98,7 +98,8 @@ fn component(alloc: Global, kind: &str, pattern: &str) -> Result<String, Failure
     let unchanged = |text: &str| -> Result<String, Error> { Ok(String::from_str(alloc, text)?) };
     let parts = parse_pattern_string(alloc, pattern, &options, unchanged)?;
     let (regexp, names) = generate_regular_expression_and_name_list(alloc, &parts, &options)?;
-    Ok(component_report(alloc, &names, &regexp)?)
+    let printed = generate_pattern_string(alloc, &parts, &options)?;
+    Ok(component_report(alloc, &names, &regexp, &printed)?)
 }
 
 /// The options of this name, if there are such.
@@ -114,9 +115,14 @@ fn options_of(alloc: Global, kind: &str) -> Result<Option<Options>, Error>
     }
 }
 
-/// A line with the names and a line with the regular expression.
-fn component_report(alloc: Global, names: &[String], regexp: &str) -> Result<String, AllocError>
-    ensures { IfOk result (λ text. string_bytes text ≡ component_lines (map (λ name. string_bytes name) names.now) regexp.now) }
+/// A line with the names, one with the regular expression and one with the printed pattern.
+fn component_report(
+    alloc: Global,
+    names: &[String],
+    regexp: &str,
+    pattern: &str,
+) -> Result<String, AllocError>
+    ensures { IfOk result (λ text. string_bytes text ≡ component_lines (map (λ name. string_bytes name) names.now) regexp.now pattern.now) }
 {
     let mut text = String::from_str(alloc, "names:")?;
     for name in names {
@@ -125,6 +131,8 @@ fn component_report(alloc: Global, names: &[String], regexp: &str) -> Result<Str
     }
     text.push_str("\nregexp: ")?;
     text.push_str(regexp)?;
+    text.push_str("\npattern: ")?;
+    text.push_str(pattern)?;
     text.push('\n')?;
     Ok(text)
 }
@@ -252,7 +260,7 @@ mod tests {
 
     #[test]
     fn prints_a_component_without_names(rt: HostRuntime) -> Result<(), Fail> {
-        let printed = "names:\nregexp: ^(?:a)?b$\n";
+        let printed = "names:\nregexp: ^(?:a)?b$\npattern: {a}?b\n";
         expect_run(
             &rt,
             rt.alloc(),
@@ -266,7 +274,7 @@ mod tests {
 
     #[test]
     fn prints_a_component(rt: HostRuntime) -> Result<(), Fail> {
-        let printed = "names: id\nregexp: ^/users(?:/([^/]+?))$\n";
+        let printed = "names: id\nregexp: ^/users(?:/([^/]+?))$\npattern: /users/:id\n";
         expect_run(
             &rt,
             rt.alloc(),

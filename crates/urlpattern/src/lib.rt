@@ -6,5 +6,9 @@
 #![tactic(auto)]
 
 mod constructor_parser;
+pub mod quirks;
 
-pub use urlpattern_core::{Error, RegexSyntax, component, error, laws, parser, tokenizer};
+pub use urlpattern_core::{
+    Error, RegexSyntax, canonicalize_and_process, component, error, laws, matcher, parser, regexp,
+    tokenizer,
+};

@@ -1,1 +1,9 @@
+pub mod PrintedTexts
+pub mod EngineLemmas
 pub mod RegexpTexts
+pub mod MatcherTexts
+pub mod MatcherAnswers
+pub mod Peeling
+pub mod CanonicalLemmas
+pub mod MarkLemmas
+pub mod SchemeLemmas

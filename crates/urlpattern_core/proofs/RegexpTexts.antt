@@ -74,7 +74,7 @@ unfolding chars
 bare-appended_repeated start text modifier often h1 h2 h3 h4 h5 h6 = simp (bare-repeated modifier text often, h6, h5, h4, h3, h2, h1, append_assoc)
 
 -- the regular expression of a part, by what the part is
-not-fixed : (kind : PartType) → (kind ≡ FixedText → ⊥) → is_fixed_text kind ≡ false
+pub not-fixed : (kind : PartType) → (kind ≡ FixedText → ⊥) → is_fixed_text kind ≡ false
 not-fixed FixedText other = absurd (other refl)
 not-fixed Regexp other = refl
 not-fixed SegmentWildcard other = refl

@@ -1,19 +1,31 @@
-//! The regular expression of a component.
+//! The regular expression of a component, and its pattern text.
 //!
 //! <https://urlpattern.spec.whatwg.org/#component>
 
-ghost use Rattle.std.specs.Prelude.{◌≡◌, List, ◌++◌, map, IfOk, IfErr, OnOk};
+ghost use Rattle.std.specs.Prelude.{◌≡◌, ◌≢◌, ℕ, List, ◌++◌, length, map, All, IfOk, IfErr, OnOk};
+ghost use Rattle.urlpattern_laws.specs.Dialect.{HasMeaningOf};
+ghost use Rattle.urlpattern_laws.specs.PartMeaning.{Captures, PartsMean};
 ghost use Rattle.urlpattern_syntax.specs.declared.error.Error.TheVariants as errors;
+ghost use Rattle.urlpattern_syntax.specs.declared.parser.PartType.TheVariants.{Regexp};
 ghost use Rattle.urlpattern_syntax.specs.Options.{options_view};
 ghost use Rattle.urlpattern_syntax.specs.Parts.{part_view};
 ghost use Rattle.urlpattern_syntax.specs.RegexpText.{affixed_regexp, bare_regexp, captured, escaped_regexp, fixed_regexp, group_names, grouped, matched_by, part_regexp, regexp_text, repeated_regexp};
 ghost use Rattle.urlpattern_syntax.specs.Text.{text_of};
 
+mod matchers;
+mod printed;
+
 use crate::error::Error;
 use crate::parser::{FULL_WILDCARD_REGEXP_VALUE, Options, Part, PartModifier, PartType, push_text};
+pub use matchers::generate_matcher;
+pub use printed::generate_pattern_string;
+pub(crate) use printed::push_escaped_pattern;
 use std::alloc::Global;
 
 /// The regular expression of a list of parts, and the names of its groups in their order.
+///
+/// Where no part has a regular expression of its own, the text means exactly what the parts mean, with the same captures,
+/// and these are as many as the names.
 ///
 /// The error is that memory ran out.
 ///
@@ -25,18 +37,44 @@ pub fn generate_regular_expression_and_name_list(
 ) -> Result<(String, Vec<String>), Error>
     ensures text { IfOk result (λ found. text_of found.0 ≡ regexp_text (options_view options.now) (map part_view part_list.now)) }
     ensures names { IfOk result (λ found. map (λ name. text_of name) found.1.items ≡ group_names (map part_view part_list.now)) }
+    ensures meaning { IfOk result (λ found. All (λ part. part.kind ≢ Regexp) (map part_view part_list.now) → HasMeaningOf (text_of found.0) (options_view options.now) (map part_view part_list.now)) }
+    ensures captures { IfOk result (λ found. (text : List ℕ) (captures : Captures) → PartsMean (options_view options.now) (map part_view part_list.now) text captures → length captures ≡ length found.1.items) }
+    ensures memory { IfErr result (λ error. error ≡ errors.OutOfMemory) }
+{
+    let text = generate_regular_expression(alloc, part_list, options)?;
+    let names = generate_name_list(alloc, part_list)?;
+    Ok((text, names))
+}
+
+/// The regular expression of a list of parts.
+fn generate_regular_expression(
+    alloc: Global,
+    part_list: &[Part],
+    options: &Options,
+) -> Result<String, Error>
+    ensures text { IfOk result (λ text. text_of text ≡ regexp_text (options_view options.now) (map part_view part_list.now)) }
     ensures memory { IfErr result (λ error. error ≡ errors.OutOfMemory) }
 {
     let mut text = String::from_str(alloc, "^")?;
-    let mut names = Vec::new(alloc);
     for part in part_list {
         push_part(&mut text, part, options)?;
+    }
+    text.push('$')?;
+    Ok(text)
+}
+
+/// The names of the groups of a list of parts, in their order.
+fn generate_name_list(alloc: Global, part_list: &[Part]) -> Result<Vec<String>, Error>
+    ensures names { IfOk result (λ found. map (λ name. text_of name) found.items ≡ group_names (map part_view part_list.now)) }
+    ensures memory { IfErr result (λ error. error ≡ errors.OutOfMemory) }
+{
+    let mut names = Vec::new(alloc);
+    for part in part_list {
         if part.kind != PartType::FixedText {
             names.push(part.name.clone()?)?;
         }
     }
-    text.push('$')?;
-    Ok((text, names))
+    Ok(names)
 }
 
 /// Appends the regular expression of a part.

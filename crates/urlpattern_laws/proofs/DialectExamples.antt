@@ -1,7 +1,8 @@
 -- Worked examples of trees of regular expressions, and of what they mean.
 use Rattle.std.proofs.Common.{◌≡◌, ℕ, List, [], ◌∷◌, refl, Some, None, inl, inr}
 use Rattle.std.specs.Prelude.{codes, slice_index}
-use Rattle.urlpattern_laws.specs.Dialect.{Items, Nothing, Item, Atom, Literal, Dot, AnyBut, Captured, Grouped, Escaped, Plain, Once, Optional, ZeroOrMore, LazyOneOrMore, AreItems, AtomMeans, IsAtom, IsTreeOf, Means}
+use Rattle.urlpattern_laws.proofs.DialectUnique.{only_tree}
+use Rattle.urlpattern_laws.specs.Dialect.{Items, Nothing, Item, Atom, Literal, Dot, AnyBut, Captured, Grouped, Escaped, Plain, Once, Optional, ZeroOrMore, LazyOneOrMore, AreItems, AtomMeans, IsAtom, IsOnlyTreeOf, IsTreeOf, Means}
 use Rattle.urlpattern_laws.specs.PartMeaning.{Captures}
 use Rattle.urlpattern_syntax.proofs.TokenExamples.{no}
 
@@ -252,3 +253,11 @@ dot_no_literal h = h refl
 
 pub letter_no_escape : ¬ IsAtom (Literal (Escaped (slice_index (codes "d") 0)))
 letter_no_escape h = no h
+
+-- A backslash in a class: `[^\]` alone leaves out a backslash. Before another `]` it is an escape, and there is no other
+-- tree, since a `]` does not stand by itself.
+pub backslash_only : IsOnlyTreeOf (codes "^[^\\]$") (once (AnyBut (Plain (slice_index (codes "\\") 0))))
+backslash_only = only_tree _ _ (refl, (tt, tt, tt))
+
+pub bracket_only : IsOnlyTreeOf (codes "^[^\\]]$") (once (AnyBut (Escaped (slice_index (codes "]") 0))))
+bracket_only = only_tree _ _ (refl, (refl, tt, tt))

@@ -20,11 +20,11 @@ use Rattle.urlpattern_syntax.proofs.TokenExamples.{no}
 
 -- ---- texts without a character
 
-and_left : (a b : Bool) → IsTrue (a && b) → IsTrue a
+pub and_left : (a b : Bool) → IsTrue (a && b) → IsTrue a
 and_left true b h = refl
 and_left false b h = h
 
-and_right : (a b : Bool) → IsTrue (a && b) → IsTrue b
+pub and_right : (a b : Bool) → IsTrue (a && b) → IsTrue b
 and_right true b h = h
 and_right false b h = absurd (no h)
 
@@ -38,7 +38,7 @@ lacks_right c text more h = and_right (lacks c text) (lacks c more) (sym (list_a
 lacks_middle : (c : ℕ) (front text back : List ℕ) → IsTrue (lacks c (front ++ text ++ back)) → IsTrue (lacks c text)
 lacks_middle c front text back h = lacks_right c front text (lacks_left c (front ++ text) back h)
 
-middle_cancel : (front a b back : List ℕ) → front ++ a ++ back ≡ front ++ b ++ back → a ≡ b
+pub middle_cancel : (front a b back : List ℕ) → front ++ a ++ back ≡ front ++ b ++ back → a ≡ b
 middle_cancel front a b back e = append_cancel_left front a b (append_cancel_right (front ++ a) (front ++ b) back e)
 
 -- ---- one wildcard

@@ -23,7 +23,7 @@ use Rattle.urlpattern_syntax.specs.Tokens.{AreTokens, IsCut, IsName, IsTokenOf, 
 
 -- ---- names and numbers
 
-starts_with_digit : List ℕ → Bool
+unfoldable pub starts_with_digit : List ℕ → Bool
 starts_with_digit name = begins_with is_ascii_digit name
 
 digit_starts_none : (k : ℕ) → k < 10 → is_name_start (48 + k) ≡ false
@@ -51,7 +51,7 @@ onto_digit (suc k) n ds h =
     cond_both (n / 10 == 0) (digit_glyph false (n % 10) ∷ ds) (digits_onto k 10 false (n / 10) (digit_glyph false (n % 10) ∷ ds)) (λ x. begins_with is_ascii_digit x ≡ true)
     (λ _. glyph_is_digit n) (λ _. onto_digit k (n / 10) (digit_glyph false (n % 10) ∷ ds) (glyph_is_digit n))
 
-decimal_starts : (n : ℕ) → starts_with_digit (decimal n) ≡ true
+pub decimal_starts : (n : ℕ) → starts_with_digit (decimal n) ≡ true
 unfolding starts_with_digit digits
 decimal_starts n =
     cond_both (n / 10 == 0) (digit_glyph false (n % 10) ∷ []) (digits_onto 63 10 false (n / 10) (digit_glyph false (n % 10) ∷ [])) (λ x. begins_with is_ascii_digit x ≡ true)
@@ -72,15 +72,24 @@ name_start_no_digit c h = by_digit (is_ascii_digit c) refl
         let same : 48 + (c - 48) ≡ c = omega arith in
         absurd (both_ways (is_name_start c) (subst (λ x. is_name_start x ≡ false) same (digit_starts_none (c - 48) (omega arith))) h)
 
-name_starts : (name : List ℕ) → IsName name → starts_with_digit name ≡ false
+pub name_starts : (name : List ℕ) → IsName name → starts_with_digit name ≡ false
 unfolding starts_with_digit
 name_starts [] h = absurd h
 name_starts (c ∷ name) h = name_start_no_digit c h.0
 
+-- the same, where the test is in sight
+pub decimal_digited : (n : ℕ) → begins_with is_ascii_digit (decimal n) ≡ true
+unfolding starts_with_digit
+decimal_digited n = decimal_starts n
+
+pub name_not_digited : (name : List ℕ) → IsName name → begins_with is_ascii_digit name ≡ false
+unfolding starts_with_digit
+name_not_digited name h = name_starts name h
+
 -- ---- the names that tokens and placeholders give
 
 -- each Name has a name
-abbrev NameTokens : List TokenView → Type 0
+abbrev pub NameTokens : List TokenView → Type 0
 NameTokens [] = Unit {0}
 NameTokens (token ∷ tokens) = (token.kind ≡ Name → IsName token.value) × NameTokens tokens
 
@@ -98,10 +107,10 @@ cut_names whole text left (token ∷ tokens) h =
     let lexed = h.3.lexed in
     (λ k. (subst (λ kind. Spells kind token.value lexed.spelling) k lexed.spells).1, cut_names whole h.1 left tokens h.4)
 
-text_names : (text : List ℕ) (tokens : List TokenView) → AreTokens text tokens → NameTokens tokens
+pub text_names : (text : List ℕ) (tokens : List TokenView) → AreTokens text tokens → NameTokens tokens
 text_names text tokens h = subst NameTokens (sym h.all) (cut_names text text [] h.front h.cut)
 
-abbrev GivesName : Option (List ℕ) → Type 0
+abbrev pub GivesName : Option (List ℕ) → Type 0
 GivesName None = Unit {0}
 GivesName (Some name) = IsName name
 
@@ -118,7 +127,7 @@ placeholder_name tokens (Some name) matched.Segment h is = first_name tokens [] 
 placeholder_name tokens (Some name) (matched.Custom body) h is = first_name tokens (Regexp ∷ []) (body ∷ []) name h is.0 is.1
 placeholder_name tokens (Some name) matched.Anything h is = absurd is
 
-abbrev piece_name : Piece → Option (List ℕ)
+abbrev pub piece_name : Piece → Option (List ℕ)
 piece_name (pieces.Text text) = None
 piece_name (pieces.TextGroup text modifier) = None
 piece_name (pieces.Bare prefix placeholder modifier) = placeholder.name
@@ -138,11 +147,11 @@ piece_names point tokens rest (pieces.Group before placeholder after modifier) h
     (NameTokens-right filled.front filled.middle (NameTokens-left (filled.front ++ filled.middle) filled.back (subst NameTokens filled.cut inner))) filled.is_placeholder
 
 -- each piece with a name gives one
-abbrev NamePieces : List Piece → Type 0
+abbrev pub NamePieces : List Piece → Type 0
 NamePieces [] = Unit {0}
 NamePieces (piece ∷ rest) = GivesName (piece_name piece) × NamePieces rest
 
-all_piece_names : (point : List ℕ) (tokens : List TokenView) (list : List Piece) (ending : Ending) → NameTokens tokens → ArePieces point tokens list ending → NamePieces list
+pub all_piece_names : (point : List ℕ) (tokens : List TokenView) (list : List Piece) (ending : Ending) → NameTokens tokens → ArePieces point tokens list ending → NamePieces list
 all_piece_names point tokens [] ending h are = tt
 all_piece_names point tokens (piece ∷ list) ending h are =
     let all = subst NameTokens are.2 h in (
@@ -217,7 +226,7 @@ good_items number (pieces.Group before placeholder after modifier ∷ list) h =
 -- ---- new names
 
 -- none of the names stands among those before it
-abbrev NewNames : (earlier : List (List ℕ)) → List Item → Type 0
+abbrev pub NewNames : (earlier : List (List ℕ)) → List Item → Type 0
 NewNames earlier [] = Unit {0}
 NewNames earlier (Fixed text modifier ∷ items) = NewNames earlier items
 NewNames earlier (Capture prefix name match suffix modifier ∷ items) = (¬ Contains earlier name) × NewNames (earlier ++ name ∷ []) items
@@ -240,7 +249,7 @@ met_new encoding earlier (Fixed text modifiers.OneOrMore ∷ items) found h =
 met_new encoding earlier (Capture prefix name match suffix modifier ∷ items) found h =
     (h.0, met_new encoding (earlier ++ name ∷ []) items found h.1.1.1)
 
-abbrev Differ : List ℕ → List ℕ → Type 0
+abbrev pub Differ : List ℕ → List ℕ → Type 0
 Differ name other = name ≢ other
 
 -- What is to be shown of names that are new behind others.

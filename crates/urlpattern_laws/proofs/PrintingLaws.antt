@@ -55,19 +55,19 @@ append-filled (c ∷ text) more h e = cc e
 
 -- ---- plain fixed texts
 
-plain_kind : (kind : PartType) (modifier : PartModifier) → IsTrue (is_fixed_text kind && is_unmodified modifier) → kind ≡ FixedText
+pub plain_kind : (kind : PartType) (modifier : PartModifier) → IsTrue (is_fixed_text kind && is_unmodified modifier) → kind ≡ FixedText
 plain_kind FixedText modifier h = refl
 plain_kind kind modifier h = absurd (no h)
 
-plain_fixed : (part : PartView) → IsTrue (is_plain part) → IsTrue (is_fixed_text part.kind)
+pub plain_fixed : (part : PartView) → IsTrue (is_plain part) → IsTrue (is_fixed_text part.kind)
 plain_fixed part h = ap is_fixed_text (plain_kind part.kind part.modifier h)
 
-plain_modifier : (kind : PartType) (modifier : PartModifier) → IsTrue (is_fixed_text kind && is_unmodified modifier) → modifier ≡ modifiers.None
+pub plain_modifier : (kind : PartType) (modifier : PartModifier) → IsTrue (is_fixed_text kind && is_unmodified modifier) → modifier ≡ modifiers.None
 plain_modifier FixedText modifiers.None h = refl
 plain_modifier kind modifier h = absurd (no h)
 
 -- a plain fixed text prints as itself
-plain_printed : (options : OptionsView) (before : Option PartView) (part : PartView) (next : Option PartView) → IsTrue (is_plain part) → printed_part options before part next ≡ escaped_pattern part.value
+pub plain_printed : (options : OptionsView) (before : Option PartView) (part : PartView) (next : Option PartView) → IsTrue (is_plain part) → printed_part options before part next ≡ escaped_pattern part.value
 unfolding printed_part
 plain_printed options before part next h =
     rw (plain_fixed part h, plain_modifier part.kind part.modifier h) (append-nil (escaped_pattern part.value))

@@ -51,7 +51,7 @@ module _ (options : OptionsView) (encoding : Encoding) (once : AnswersOnce encod
   all_or_first (demand ∷ rest) error m (inr f) = all_or_first rest error m.1 f.1
 
 -- the pieces of a text are one list, and so is their end
-text_pieces_one : (text point : List ℕ) (tokens others : List TokenView) (pieces more : List Piece) (ending other : Ending) → AreTokens text tokens → AreTokens text others → ArePieces point tokens pieces ending → ArePieces point others more other → (pieces ≡ more) × (ending ≡ other)
+pub text_pieces_one : (text point : List ℕ) (tokens others : List TokenView) (pieces more : List Piece) (ending other : Ending) → AreTokens text tokens → AreTokens text others → ArePieces point tokens pieces ending → ArePieces point others more other → (pieces ≡ more) × (ending ≡ other)
 text_pieces_one text point tokens others pieces more ending other h g p q =
     pieces_one point others pieces more ending other (subst (λ x. ArePieces point x pieces ending) (tokens_one text tokens others h g) p) q
 

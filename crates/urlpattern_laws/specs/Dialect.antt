@@ -1,7 +1,9 @@
 -- The dialect of regular expressions in which parts are written: trees, the texts that spell them, and what they mean.
-use Rattle.std.specs.Prelude.{◌≡◌, ℕ, suc, ◌+◌, ◌⊎◌, not, ◌==◌, List, [], ◌∷◌, ◌++◌, replicate, codes, Option, Some, None, IsTrue, MatchOption}
+use Rattle.std.specs.Prelude.{◌≡◌, ◌↔◌, ℕ, suc, ◌+◌, ◌⊎◌, not, ◌==◌, List, [], ◌∷◌, ◌++◌, replicate, codes, Option, Some, None, IsTrue, MatchOption}
 use Rattle.std.specs.Str.{all_scalars}
-use Rattle.urlpattern_laws.specs.PartMeaning.{Captures}
+use Rattle.urlpattern_laws.specs.PartMeaning.{Captures, PartsMean}
+use Rattle.urlpattern_syntax.specs.Options.{OptionsView}
+use Rattle.urlpattern_syntax.specs.Parts.{PartView}
 use Rattle.urlpattern_syntax.specs.RegexpText.{captured, grouped, regexp_marks}
 use Rattle.urlpattern_syntax.specs.Text.{is_among, line_feed, IsRepeated}
 
@@ -141,6 +143,11 @@ abbrev mutual
 pub record IsOnlyTreeOf (text : List ℕ) (tree : Items) : Type 0 where
   pub is_tree : IsTreeOf text tree
   pub only : (other : Items) → IsTreeOf text other → other ≡ tree
+
+-- the text has one tree, which means each text with the captures that the parts have there, and no others
+abbrev pub HasMeaningOf : (regexp : List ℕ) → OptionsView → List PartView → Type 0
+HasMeaningOf regexp options parts =
+    (tree : Items) × IsOnlyTreeOf regexp tree × ((text : List ℕ) (captures : Captures) → Means tree text captures ↔ PartsMean options parts text captures)
 
 -- What an engine answers to texts of characters is what the one tree of its own text means: captures that the tree has
 -- there, or None where it has none.

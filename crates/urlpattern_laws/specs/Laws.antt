@@ -4,7 +4,10 @@ use Rattle.std.specs.Char.{is_ascii_digit}
 use Rattle.std.specs.List.{list_all}
 use Rattle.urlpattern_syntax.specs.declared.tokenizer.TokenType.{TokenType}
 use Rattle.urlpattern_syntax.specs.declared.tokenizer.TokenType.TheVariants.{Regexp, Name, EscapedChar, End}
+use Rattle.urlpattern_laws.specs.Matching.{IsMadeOf, MatcherView}
 use Rattle.urlpattern_syntax.specs.Errors.{ErrorView}
+use Rattle.urlpattern_syntax.specs.Options.{OptionsView}
+use Rattle.urlpattern_syntax.specs.Parts.{PartView}
 use Rattle.urlpattern_syntax.specs.Reading.{Encoding}
 use Rattle.urlpattern_syntax.specs.Text.{begins_with, byte_len}
 use Rattle.urlpattern_syntax.specs.Tokens.{TokenView, is_ignored}
@@ -48,3 +51,9 @@ numbers_among names = filter (λ name. begins_with is_ascii_digit name) names
 abbrev pub CountFrom : ℕ → List (List ℕ) → Type 0
 CountFrom number [] = Unit {0}
 CountFrom number (name ∷ names) = (name ≡ decimal number) × CountFrom (suc number) names
+
+-- ---- matchers
+
+-- the matcher is made of the parts, whatever its engine makes or refuses
+abbrev pub HasShapeOf : {E : Type 0} → OptionsView → List PartView → MatcherView E → Type 0
+HasShapeOf options parts matcher = IsMadeOf (λ engine regexp flags. Unit {0}) (λ regexp flags. Unit {0}) options [] parts matcher

@@ -3,3 +3,4 @@ pub mod Laws
 pub mod Matching
 pub mod PartMeaning
 pub mod Printing
+pub mod RoundTrip

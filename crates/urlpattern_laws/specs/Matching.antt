@@ -1,17 +1,19 @@
--- Which matcher is made of a list of parts, and what a matcher answers to a text.
-use Rattle.std.specs.Prelude.{◌≡◌, ◌≢◌, ℕ, Bool, true, false, List, [], ◌∷◌, ◌++◌, map, Option, Some, None, Result, Ok, Err, IsTrue, if◌then◌else◌, option_to_list}
+-- Which matcher is made of a list of parts, what a matcher answers to a text, and when that is what the parts mean.
+use Rattle.std.specs.Prelude.{◌≡◌, ◌≢◌, ◌⊎◌, ℕ, Bool, true, false, List, [], ◌∷◌, ◌++◌, map, Option, Some, None, Result, Ok, Err, IsTrue, if◌then◌else◌, option_to_list, All}
 use Rattle.std.specs.Char.{to_ascii_lowercase}
+use Rattle.std.specs.Str.{all_scalars}
+use Rattle.urlpattern_laws.specs.Dialect.{Follows}
 use Rattle.urlpattern_syntax.specs.declared.parser.PartModifier.{PartModifier}
 use Rattle.urlpattern_syntax.specs.declared.parser.PartModifier.TheVariants as modifiers
 use Rattle.urlpattern_syntax.specs.declared.parser.PartType.{PartType}
-use Rattle.urlpattern_syntax.specs.declared.parser.PartType.TheVariants.{SegmentWildcard, FullWildcard}
+use Rattle.urlpattern_syntax.specs.declared.parser.PartType.TheVariants.{Regexp, SegmentWildcard, FullWildcard}
 use Rattle.urlpattern_syntax.specs.Errors.{ErrorView}
 use Rattle.urlpattern_syntax.specs.Errors.{ErrorView as views}
 use Rattle.urlpattern_syntax.specs.Options.{OptionsView}
-use Rattle.urlpattern_laws.specs.PartMeaning.{Captures}
+use Rattle.urlpattern_laws.specs.PartMeaning.{Captures, PartsMean}
 use Rattle.urlpattern_syntax.specs.Parts.{PartView}
 use Rattle.urlpattern_syntax.specs.RegexpText.{is_plain, regexp_text}
-use Rattle.urlpattern_syntax.specs.Text.{lacks}
+use Rattle.urlpattern_syntax.specs.Text.{lacks, line_feed}
 
 -- What stands between prefix and suffix: a text; one capture, with a character that may not be in it; or a value of an
 -- engine, with the error where it was refused.
@@ -137,3 +139,58 @@ Matches answer matcher text captures =
 abbrev pub Answers : {E : Type 0} → (answer : E → List ℕ → Option Captures) → MatcherView E → List ℕ → Option Captures → Type 0
 Answers answer matcher text (Some captures) = Matches answer matcher text captures
 Answers answer matcher text None = (captures : Captures) → ¬ Matches answer matcher text captures
+
+-- the text is matched, with some captures
+abbrev pub IsMatched : {E : Type 0} → (answer : E → List ℕ → Option Captures) → MatcherView E → List ℕ → Type 0
+IsMatched answer matcher text = (captures : Captures) × Matches answer matcher text captures
+
+-- ---- when memory is asked for
+
+-- an engine stands between prefix and suffix
+abbrev pub HoldsEngine : {E : Type 0} → InnerView E → Type 0
+HoldsEngine (RegExp (Ok engine)) = Unit {0}
+HoldsEngine other = ⊥
+
+-- one capture stands between prefix and suffix
+abbrev pub CapturesOne : {E : Type 0} → InnerView E → Type 0
+CapturesOne (SingleCapture filter allow_empty) = Unit {0}
+CapturesOne other = ⊥
+
+-- an engine is asked, as the text begins with the prefix and ends with the suffix
+abbrev pub AsksEngine : {E : Type 0} → MatcherView E → List ℕ → Type 0
+AsksEngine matcher text = (middle : List ℕ) × (text ≡ matcher.prefix ++ middle ++ matcher.suffix) × HoldsEngine matcher.inner
+
+-- memory is asked for: by an engine, or for the list of one capture
+abbrev pub MayWantMemory : {E : Type 0} → (answer : E → List ℕ → Option Captures) → MatcherView E → List ℕ → Type 0
+MayWantMemory answer matcher text = AsksEngine matcher text ⊎ (CapturesOne matcher.inner × IsMatched answer matcher text)
+
+-- ---- agreeing with the parts
+
+-- the answer to a text is what parts mean: captures that they have there, or None where they have none
+abbrev pub Agrees : OptionsView → List PartView → List ℕ → Option Captures → Type 0
+Agrees options parts text (Some captures) = PartsMean options parts text captures
+Agrees options parts text None = (captures : Captures) → ¬ PartsMean options parts text captures
+
+-- where an engine is asked, `Is` holds of its value and the parts left between the ends; an error that is kept fails this
+abbrev pub IsOfMiddle : {E : Type 0} → (Is : E → (middle : List PartView) → Type 0) → List PartView → InnerView E → Type 0
+IsOfMiddle Is parts (RegExp (Ok engine)) =
+    (front : Option PartView) × (middle : List PartView) × (back : Option PartView) × ArePeeled parts front middle back × Is engine middle
+IsOfMiddle Is parts (RegExp (Err error)) = ⊥
+IsOfMiddle Is parts inner = Unit {0}
+
+-- an engine's value follows the regular expression of the parts that are left to it
+abbrev pub FollowsMiddle : {E : Type 0} → (answer : E → List ℕ → Option Captures) → OptionsView → List PartView → InnerView E → Type 0
+FollowsMiddle answer options parts inner = IsOfMiddle (λ engine middle. Follows (regexp_text options middle) (answer engine)) parts inner
+
+-- an engine's value answers, to texts of characters, what the parts that are left to it mean
+abbrev pub AgreesInMiddle : {E : Type 0} → (answer : E → List ℕ → Option Captures) → OptionsView → List PartView → InnerView E → Type 0
+AgreesInMiddle answer options parts inner =
+    IsOfMiddle (λ engine middle. (text : List ℕ) → IsTrue (all_scalars text) → Agrees options middle text (answer engine text)) parts inner
+
+-- The matcher answers what the parts mean, where none of them is custom and case is kept: to each text of characters
+-- without line feed, if an engine that is asked follows the regular expression of the parts that are left to it.
+abbrev pub AnswersByMeaning : {E : Type 0} → (answer : E → List ℕ → Option Captures) → OptionsView → List PartView → MatcherView E → Type 0
+AnswersByMeaning answer options parts matcher =
+    All (λ part. part.kind ≢ Regexp) parts → options.ignore_case ≡ false → FollowsMiddle answer options parts matcher.inner →
+    (text : List ℕ) (result : Option Captures) → IsTrue (lacks line_feed text) → IsTrue (all_scalars text) →
+    Answers answer matcher text result → Agrees options parts text result

@@ -2,20 +2,24 @@
 //!
 //! Each function here does nothing; what it promises is a theorem.
 
-ghost use Rattle.std.specs.Prelude.{◌≡◌, ◌≢◌, ◌↔◌, ◌⊎◌, ℕ, suc, ◌<◌, ◌&&◌, List, [], ◌∷◌, ◌++◌, All, AllPairs, Option, Some, Result};
+ghost use Rattle.std.specs.Prelude.{◌≡◌, ◌≢◌, ◌↔◌, ◌⊎◌, ℕ, suc, ◌<◌, false, ◌&&◌, List, [], ◌∷◌, ◌++◌, length, All, AllPairs, Contains, IsTrue, Option, Some, Result, Err};
 ghost use Rattle.std.specs.Char.{is_ascii_digit};
+ghost use Rattle.std.specs.Str.{all_scalars};
+ghost use Rattle.urlpattern_syntax.specs.declared.parser.PartType.TheVariants.{Regexp};
 ghost use Rattle.urlpattern_syntax.specs.declared.tokenizer.TokenType.TheVariants.{End, Name};
 ghost use Rattle.urlpattern_syntax.specs.Errors.{ErrorView};
-ghost use Rattle.urlpattern_laws.specs.Laws.{AnswersOnce, CountFrom, Lays, listed, numbers_among, spelling};
-ghost use Rattle.urlpattern_laws.specs.Matching.{ArePeeled, end_text};
+ghost use Rattle.urlpattern_laws.specs.Dialect.{Follows, HasMeaningOf, IsTreeOf, Items, Means};
+ghost use Rattle.urlpattern_laws.specs.Laws.{AnswersOnce, CountFrom, HasShapeOf, Lays, listed, numbers_among, spelling};
+ghost use Rattle.urlpattern_laws.specs.Matching.{Agrees, AgreesInMiddle, Answers, ArePeeled, FollowsMiddle, MatcherView, end_text};
 ghost use Rattle.urlpattern_syntax.specs.Options.{OptionsView};
 ghost use Rattle.urlpattern_laws.specs.PartMeaning.{Allows, AreCopies, Captures, PartMeans, PartsMean, capture_of_none};
 ghost use Rattle.urlpattern_syntax.specs.Parts.{PartView};
 ghost use Rattle.urlpattern_syntax.specs.Pieces.{ArePieces, Ending, Piece};
-ghost use Rattle.urlpattern_laws.specs.Printing.{HaveTexts, joined, printed};
+ghost use Rattle.urlpattern_laws.specs.Printing.{HaveTexts, Keeps, encoded_texts, joined, printed};
 ghost use Rattle.urlpattern_syntax.specs.Reading.{Reads, Refuses};
-ghost use Rattle.urlpattern_syntax.specs.RegexpText.{IsWildcard, group_names, is_empty};
-ghost use Rattle.urlpattern_syntax.specs.Text.{byte_len, BeginsWith};
+ghost use Rattle.urlpattern_laws.specs.RoundTrip.{ArePatternParts, IsPrintable, KeepsAnswered, WereRead};
+ghost use Rattle.urlpattern_syntax.specs.RegexpText.{IsWildcard, group_names, is_empty, regexp_text};
+ghost use Rattle.urlpattern_syntax.specs.Text.{byte_len, lacks, line_feed, BeginsWith};
 ghost use Rattle.urlpattern_syntax.specs.Tokens.{AreLenientTokens, AreTokens, FaultView, IsFault, TokenView, end_of};
 
 /// Parts of which plain fixed texts went off at the ends stand for the first of these texts, a middle that the other
@@ -100,4 +104,89 @@ pub fn names_are_new()
         Reads text options (listed answers) parts → CountFrom 0 (numbers_among (group_names parts)) }
     ensures given { (text : List ℕ) (tokens front back : List TokenView) (token : TokenView) → AreTokens text tokens → tokens ≡ front ++ token ∷ back → token.kind ≡ Name →
         ¬ BeginsWith is_ascii_digit token.value }
+{}
+
+/// A text has one tree of the dialect at most.
+pub fn dialect_trees_are_one()
+    ensures { (text : List ℕ) (tree other : Items) → IsTreeOf text tree → IsTreeOf text other → tree ≡ other }
+{}
+
+/// The regular expression of parts has one tree, and it means what the parts mean: each text, with the same captures.
+/// This holds under all options and for all names, prefixes, suffixes and values, where no part has a regular expression
+/// of its own.
+pub fn parts_and_regexp_mean_the_same()
+    ensures tree { (options : OptionsView) (parts : List PartView) → All (λ part. part.kind ≢ Regexp) parts → HasMeaningOf (regexp_text options parts) options parts }
+    ensures means { (options : OptionsView) (parts : List PartView) (tree : Items) (text : List ℕ) (captures : Captures) → All (λ part. part.kind ≢ Regexp) parts →
+        IsTreeOf (regexp_text options parts) tree → Means tree text captures ↔ PartsMean options parts text captures }
+    ensures engines { (options : OptionsView) (parts : List PartView) (answer : List ℕ → Option Captures) → All (λ part. part.kind ≢ Regexp) parts →
+        Follows (regexp_text options parts) answer ↔ ((text : List ℕ) → IsTrue (all_scalars text) → Agrees options parts text (answer text)) }
+{}
+
+/// Each meaning of a list of parts has as many captures as the list has names.
+pub fn captures_are_as_many_as_names()
+    ensures { (options : OptionsView) (parts : List PartView) (text : List ℕ) (captures : Captures) → PartsMean options parts text captures → length captures ≡ length (group_names parts) }
+{}
+
+/// A matcher of parts answers what the parts mean: captures only where they have these, and None only where they have
+/// none. Case is kept, and the text is of characters without line feed. A matcher that needs no engine asks for no more.
+/// An engine's value either follows the regular expression of the parts that are left between the ends, where no part has
+/// one of its own, or answers what those parts mean. `E` is any type of engines' values.
+pub fn matchers_answer_what_parts_mean<E>()
+    ensures follows { (answer : E → List ℕ → Option Captures) (options : OptionsView) (parts : List PartView) (matcher : MatcherView E) (text : List ℕ) (result : Option Captures) →
+        HasShapeOf options parts matcher → All (λ part. part.kind ≢ Regexp) parts → options.ignore_case ≡ false → IsTrue (lacks line_feed text) → IsTrue (all_scalars text) →
+        FollowsMiddle answer options parts matcher.inner → Answers answer matcher text result → Agrees options parts text result }
+    ensures agrees { (answer : E → List ℕ → Option Captures) (options : OptionsView) (parts : List PartView) (matcher : MatcherView E) (text : List ℕ) (result : Option Captures) →
+        HasShapeOf options parts matcher → options.ignore_case ≡ false → IsTrue (lacks line_feed text) → IsTrue (all_scalars text) →
+        AgreesInMiddle answer options parts matcher.inner → Answers answer matcher text result → Agrees options parts text result }
+{}
+
+/// Neighbouring plain fixed texts have the same regular expression, and the same names, as one.
+pub fn joining_keeps_regexp()
+    ensures text { (options : OptionsView) (parts : List PartView) → regexp_text options (joined parts) ≡ regexp_text options parts }
+    ensures names { (parts : List PartView) → group_names (joined parts) ≡ group_names parts }
+{}
+
+/// Parts that a text reads as are such as a pattern text may be read as: their kinds, values and names fit together.
+/// This holds under any options and any encoding.
+pub fn read_parts_are_pattern_parts()
+    ensures { (text : List ℕ) (options : OptionsView) (answers : List (List ℕ × Result (List ℕ) ErrorView)) (parts : List PartView) →
+        Reads text options (listed answers) parts → ArePatternParts options parts }
+{}
+
+/// Printing and parsing are inverse. The printed pattern of the parts reads as the joined parts, and as nothing else, and
+/// it is not refused. Printing what it reads as gives the same text. The parts may be any that are printable, and the
+/// encoding any list of answers that keeps their texts; for all parts there is such a list.
+pub fn printed_patterns_read_back()
+    ensures reads { (options : OptionsView) (answers : List (List ℕ × Result (List ℕ) ErrorView)) (parts : List PartView) →
+        IsPrintable options parts → Keeps (listed answers) parts → Reads (printed options parts) options (listed answers) (joined parts) }
+    ensures only { (options : OptionsView) (answers : List (List ℕ × Result (List ℕ) ErrorView)) (parts others : List PartView) →
+        IsPrintable options parts → Keeps (listed answers) parts → Reads (printed options parts) options (listed answers) others → others ≡ joined parts }
+    ensures not_refused { (options : OptionsView) (answers : List (List ℕ × Result (List ℕ) ErrorView)) (parts : List PartView) (error : ErrorView) →
+        IsPrintable options parts → Keeps (listed answers) parts → ¬ Refuses (printed options parts) options (listed answers) error }
+    ensures same { (options : OptionsView) (answers : List (List ℕ × Result (List ℕ) ErrorView)) (parts others : List PartView) →
+        IsPrintable options parts → Keeps (listed answers) parts → Reads (printed options parts) options (listed answers) others → printed options others ≡ printed options parts }
+    ensures kept { (parts : List PartView) → (answers : List (List ℕ × Result (List ℕ) ErrorView)) × Keeps (listed answers) parts }
+{}
+
+/// A printed pattern is refused only by an error that the encoding answers to one of the texts of the joined parts. Where
+/// the encoding answers none of them by another text, the pattern reads as the joined parts if it reads at all.
+pub fn printed_patterns_fail_by_the_encoding_alone()
+    ensures only { (options : OptionsView) (answers : List (List ℕ × Result (List ℕ) ErrorView)) (parts others : List PartView) →
+        IsPrintable options parts → KeepsAnswered (listed answers) parts → Reads (printed options parts) options (listed answers) others → others ≡ joined parts }
+    ensures refused { (options : OptionsView) (answers : List (List ℕ × Result (List ℕ) ErrorView)) (parts : List PartView) (error : ErrorView) →
+        IsPrintable options parts → Refuses (printed options parts) options (listed answers) error → (text : List ℕ) × Contains (encoded_texts (joined parts)) text × listed answers text (Err error) }
+{}
+
+/// Parts that a text was read as under the default, hostname or pathname options, in either syntax, print as a pattern
+/// that reads back: as the joined parts, and as nothing else, and printing these gives the same text. The two encodings
+/// are any lists of answers: the first made the parts, and the second keeps their texts.
+pub fn parts_that_were_read_print_and_read_back()
+    ensures reads { (text : List ℕ) (options : OptionsView) (first answers : List (List ℕ × Result (List ℕ) ErrorView)) (parts : List PartView) →
+        WereRead text options (listed first) parts → Keeps (listed answers) parts → Reads (printed options parts) options (listed answers) (joined parts) }
+    ensures only { (text : List ℕ) (options : OptionsView) (first answers : List (List ℕ × Result (List ℕ) ErrorView)) (parts others : List PartView) →
+        WereRead text options (listed first) parts → Keeps (listed answers) parts → Reads (printed options parts) options (listed answers) others → others ≡ joined parts }
+    ensures not_refused { (text : List ℕ) (options : OptionsView) (first answers : List (List ℕ × Result (List ℕ) ErrorView)) (parts : List PartView) (error : ErrorView) →
+        WereRead text options (listed first) parts → Keeps (listed answers) parts → ¬ Refuses (printed options parts) options (listed answers) error }
+    ensures same { (text : List ℕ) (options : OptionsView) (first answers : List (List ℕ × Result (List ℕ) ErrorView)) (parts others : List PartView) →
+        WereRead text options (listed first) parts → Keeps (listed answers) parts → Reads (printed options parts) options (listed answers) others → printed options others ≡ printed options parts }
 {}

@@ -72,6 +72,14 @@ impl<T: Drop> From<AllocFailed<T>> for Error {
     }
 }
 
+impl From<OutOfMemory> for Error {
+    ghost from_gives = { λ _ error. error ≡ errors.OutOfMemory };
+
+    fn from(_error: OutOfMemory) -> Error {
+        Error::OutOfMemory
+    }
+}
+
 /// Why a pattern text has no token at a place.
 #[derive(Debug, Drop)]
 pub enum TokenizerError {
@@ -173,6 +181,18 @@ impl error::Error for ParserError {}
 #[derive(Debug, Drop)]
 pub struct OutOfMemory;
 
+impl From<AllocError> for OutOfMemory {
+    fn from(_error: AllocError) -> OutOfMemory {
+        OutOfMemory
+    }
+}
+
+impl<T: Drop> From<AllocFailed<T>> for OutOfMemory {
+    fn from(_error: AllocFailed<T>) -> OutOfMemory {
+        OutOfMemory
+    }
+}
+
 /// Why an engine gives no regular expression.
 #[derive(Debug, Drop)]
 pub enum RegExpError {
@@ -180,4 +200,14 @@ pub enum RegExpError {
     Pattern,
     /// The allocator had no memory.
     OutOfMemory,
+}
+
+impl From<AllocError> for RegExpError {
+    ghost use Rattle.urlpattern_syntax.specs.declared.error.RegExpError.TheVariants as regexp_errors;
+
+    ghost from_gives = { λ _ error. error ≡ regexp_errors.OutOfMemory };
+
+    fn from(_error: AllocError) -> RegExpError {
+        RegExpError::OutOfMemory
+    }
 }

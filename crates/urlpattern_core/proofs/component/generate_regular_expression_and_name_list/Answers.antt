@@ -1,21 +1,20 @@
-use Rattle.std.proofs.Common.{rules, ◌++◌, ◌∷◌, [], ap, ◌∙◌, map, arith}
-use Rattle.std.proofs.lemmas.List.{take_all}
-use Rattle.std.specs.Str.{chars}
-use Rattle.std.specs.List.{flat_map}
-use Rattle.urlpattern_syntax.proofs.StringTexts.{text-push}
+use Rattle.std.proofs.Common.{ap, sym, subst, ◌∙◌, length, map}
+use Rattle.std.proofs.lemmas.List.{length-map}
+use Rattle.urlpattern_laws.specs.Dialect.{HasMeaningOf}
+use Rattle.urlpattern_laws.proofs.CaptureCount.{captures_counted}
+use Rattle.urlpattern_laws.proofs.OneMeaning.{one_meaning}
 use Rattle.urlpattern_syntax.specs.Options.{options_view}
 use Rattle.urlpattern_syntax.specs.Parts.{part_view}
-use Rattle.urlpattern_syntax.specs.RegexpText.{part_regexp}
+use Rattle.urlpattern_syntax.specs.Text.{text_of}
 use Rattle.urlpattern_core.proofs.component.generate_regular_expression_and_name_list.Goals as goal
 
-pub loop-part-init : goal.loop-part-init
-unfolding chars
-loop-part-init c = record { text = ap chars c.in_ok-text.ensures.ok; names = search rules }
+pub returns-clause-meaning : goal.returns-clause-meaning
+returns-clause-meaning c = λ h.
+    let options = options_view c.args.options.now in
+    let parts = map part_view c.args.part_list.now in
+    subst (λ t. HasMeaningOf t options parts) (sym c.in_ok-text.ensures.text) (one_meaning options parts h)
 
-pub returns-clause-text : goal.returns-clause-text
-returns-clause-text c =
-    let parts = c.args.part_list.now in
-    let last = text-push c.loop-part.text 36 (search rules) c.in_ok-push-2.ensures.bytes in
-    let all = take_all c.loop-part.part-index parts (omega arith) in
-    last ∙ ap (λ x. x ++ 36 ∷ []) c.loop-part.invariant.text
-    ∙ ap (λ xs. 94 ∷ (flat_map (part_regexp (options_view c.args.options.now)) (map part_view xs) ++ 36 ∷ [])) all
+pub returns-clause-captures : goal.returns-clause-captures
+returns-clause-captures c = λ text captures means.
+    captures_counted (options_view c.args.options.now) (map part_view c.args.part_list.now) text captures means
+    ∙ sym (ap (λ xs. length xs) c.in_ok-names.ensures.names) ∙ length-map c.in_ok-names.names.items (λ name. text_of name)

@@ -1,0 +1,20 @@
+-- What an `EcmaRegexp` is made of, and what it answers.
+use Rattle.std.specs.Prelude.{◌≡◌, ℕ, List, Option, IfSome, option_and_then}
+use Rattle.urlpattern.specs.declared.quirks.ecma_regexp.EcmaRegexp.{EcmaRegexp}
+use Rattle.urlpattern_core.specs.Engines.{IsRegexOf, regex_answer}
+use Rattle.urlpattern_laws.specs.PartMeaning.{Captures}
+use Rattle.urlpattern_syntax.specs.Text.{text_of}
+
+-- the text of its regular expression
+abbrev pub ecma_regexp_text : EcmaRegexp → List ℕ
+ecma_regexp_text ecma = text_of ecma.0
+
+-- It holds the text and the flags, and the value of `regex`, where one is kept, was built from the text.
+pub record IsEcmaRegexpOf (regexp flags : List ℕ) (ecma : EcmaRegexp) : Type 0 where
+  pub has_text : text_of ecma.0 ≡ regexp
+  pub has_flags : text_of ecma.1 ≡ flags
+  pub has_read : IfSome ecma.2 (IsRegexOf regexp)
+
+-- what the kept value answers, or None where none is kept
+abbrev pub ecma_regexp_answer : EcmaRegexp → List ℕ → Option Captures
+ecma_regexp_answer ecma text = option_and_then (λ regex. regex_answer regex text) ecma.2

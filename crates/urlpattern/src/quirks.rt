@@ -1,0 +1,6 @@
+//! What a browser needs that takes this library in: an engine in ECMAScript's syntax.
+
+mod ecma_regexp;
+
+pub use crate::Error;
+pub use ecma_regexp::EcmaRegexp;

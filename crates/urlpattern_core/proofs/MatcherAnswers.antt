@@ -1,0 +1,94 @@
+-- Lemmas on what a matcher answers, by what it holds between prefix and suffix.
+use Rattle.std.proofs.Common.{◌≡◌, ◌↔◌, ℕ, Bool, true, false, List, [], ◌∷◌, ◌++◌, refl, sym, ap, ◌∙◌, subst, inl, inr}
+use Rattle.std.proofs.lemmas.Bool.{false≢true}
+use Rattle.std.proofs.lemmas.List.{append_cancel_left, append_cancel_right}
+use Rattle.std.specs.Prelude.{IsTrue, Option, Some, None, Result, Ok, Err, IfErr, is_some, option_map}
+use Rattle.urlpattern_laws.specs.Matching.{Accepts, Answers, InnerView, IsMatched, Literal, Matches, MatcherView, MayBeEmpty, PassesFilter, RegExp, SingleCapture, folded}
+use Rattle.urlpattern_laws.specs.PartMeaning.{Captures}
+
+-- one text stands between prefix and suffix
+middle-one : (prefix suffix one other : List ℕ) → prefix ++ one ++ suffix ≡ prefix ++ other ++ suffix → one ≡ other
+middle-one prefix suffix one other e =
+    append_cancel_left prefix one other (append_cancel_right (prefix ++ one) (prefix ++ other) suffix e)
+
+-- a text with this middle is matched where the middle is accepted
+pub matches-accepts : {E : Type 0} (answer : E → List ℕ → Option Captures) (matcher : MatcherView E) (text middle : List ℕ) (captures : Captures) →
+    text ≡ matcher.prefix ++ middle ++ matcher.suffix →
+    Matches answer matcher text captures ↔ Accepts answer matcher.ignore_case matcher.inner middle captures
+matches-accepts answer matcher text middle captures e = (
+  λ (other, cut, accepts).
+      subst (λ m. Accepts answer matcher.ignore_case matcher.inner m captures) (middle-one matcher.prefix matcher.suffix other middle (sym cut ∙ e)) accepts,
+  λ accepts. (middle, e, accepts),
+)
+
+-- a test tells whether the text is matched, where it tells whether its middle is accepted
+pub matched-by : {E : Type 0} (answer : E → List ℕ → Option Captures) (matcher : MatcherView E) (text middle : List ℕ) (inner : InnerView E) (test : Bool) →
+    text ≡ matcher.prefix ++ middle ++ matcher.suffix → matcher.inner ≡ inner →
+    (IsTrue test ↔ ((captures : Captures) × Accepts answer matcher.ignore_case inner middle captures)) →
+    IsTrue test ↔ IsMatched answer matcher text
+matched-by answer matcher text middle inner test e is_inner h = (
+  λ t. let (captures, accepts) = h.0 t in
+      (captures, (middle, e, subst (λ x. Accepts answer matcher.ignore_case x middle captures) (sym is_inner) accepts)),
+  λ (captures, matches). h.1 (captures, subst (λ x. Accepts answer matcher.ignore_case x middle captures) is_inner ((matches-accepts answer matcher text middle captures e).0 matches)),
+)
+
+-- it is not matched, where the test fails
+pub not_matched-by : {E : Type 0} (answer : E → List ℕ → Option Captures) (matcher : MatcherView E) (text middle : List ℕ) (inner : InnerView E) (test : Bool) →
+    text ≡ matcher.prefix ++ middle ++ matcher.suffix → matcher.inner ≡ inner → test ≡ false →
+    (IsTrue test ↔ ((captures : Captures) × Accepts answer matcher.ignore_case inner middle captures)) →
+    (captures : Captures) → ¬ Matches answer matcher text captures
+not_matched-by answer matcher text middle inner test e is_inner fails h captures matches =
+    let t : test ≡ true = (matched-by answer matcher text middle inner test e is_inner h).1 (captures, matches) in
+    let never : ⊥ = cc in never
+
+-- ---- whether a text may be captured
+
+-- a text that is not empty may stand anywhere
+pub may_be-some : (allow_empty : Bool) (text : List ℕ) → ¬ (text ≡ []) → MayBeEmpty allow_empty text
+may_be-some true text some = tt
+may_be-some false text some = some
+
+pub captured-by : (allow_empty : Bool) (text : List ℕ) (P : Type 0) (test : Bool) → MayBeEmpty allow_empty text → (IsTrue test ↔ P) → IsTrue test ↔ (MayBeEmpty allow_empty text × P)
+captured-by allow_empty text P test may h = (λ t. (may, h.0 t), λ (may_be, p). h.1 p)
+
+-- an empty text that may not be
+pub not_captured-by : (allow_empty : Bool) (text : List ℕ) (P : Type 0) (test : Bool) → allow_empty ≡ false → text ≡ [] → test ≡ false → IsTrue test ↔ (MayBeEmpty allow_empty text × P)
+not_captured-by true text P test full empty fails = absurd (false≢true (sym full))
+not_captured-by false text P test full empty fails = (λ t. absurd (false≢true (sym fails ∙ t)), λ (some, p). absurd (some empty))
+
+-- ---- by the inner matcher
+
+pub accepts-literal : {E : Type 0} (answer : E → List ℕ → Option Captures) (ignore_case : Bool) (literal middle : List ℕ) (test : Bool) →
+    (IsTrue test ↔ (folded ignore_case middle ≡ folded ignore_case literal)) →
+    IsTrue test ↔ ((captures : Captures) × Accepts answer ignore_case (Literal literal) middle captures)
+accepts-literal answer ignore_case literal middle test h = (λ t. ([], (h.0 t, refl)), λ (captures, (same, none)). h.1 same)
+
+pub accepts-single : {E : Type 0} (answer : E → List ℕ → Option Captures) (ignore_case : Bool) (filter : Option ℕ) (allow_empty : Bool) (middle : List ℕ) (test : Bool) →
+    (IsTrue test ↔ (MayBeEmpty allow_empty middle × PassesFilter ignore_case filter middle)) →
+    IsTrue test ↔ ((captures : Captures) × Accepts answer ignore_case (SingleCapture filter allow_empty) middle captures)
+accepts-single answer ignore_case filter allow_empty middle test h =
+    (λ t. let (full, passes) = h.0 t in (Some middle ∷ [], (full, passes, refl)), λ (captures, (full, passes, one)). h.1 (full, passes))
+
+pub accepts-engine : {E : Type 0} (answer : E → List ℕ → Option Captures) (ignore_case : Bool) (engine : E) (middle : List ℕ) (found : Option Captures) →
+    found ≡ answer engine middle →
+    IsTrue (is_some found) ↔ ((captures : Captures) × Accepts answer ignore_case (RegExp (Ok engine)) middle captures)
+accepts-engine answer ignore_case engine middle None e = (λ t. let never : ⊥ = cc in absurd never, λ (captures, a). let never : ⊥ = cc in absurd never)
+accepts-engine answer ignore_case engine middle (Some captures) e = (λ t. (captures, sym e), λ a. refl)
+
+pub is_some-map : {A B : Type 0} (f : A → B) (x : Option A) → is_some (option_map f x) ≡ is_some x
+is_some-map f None = refl
+is_some-map f (Some x) = refl
+
+pub if_err : {A B : Type 0} (P : Type 0) (result : Result A B) → P → IfErr result (λ x. P)
+if_err P (Ok x) p = tt
+if_err P (Err x) p = p
+
+-- an engine's answer is the matcher's
+pub answers-engine : {E : Type 0} (answer : E → List ℕ → Option Captures) (matcher : MatcherView E) (text middle : List ℕ) (engine : E) (found : Option Captures) →
+    text ≡ matcher.prefix ++ middle ++ matcher.suffix → matcher.inner ≡ RegExp (Ok engine) → found ≡ answer engine middle →
+    Answers answer matcher text found
+answers-engine answer matcher text middle engine (Some captures) e is_inner f =
+    (middle, e, subst (λ x. Accepts answer matcher.ignore_case x middle captures) (sym is_inner) (sym f))
+answers-engine answer matcher text middle engine None e is_inner f = λ captures matches.
+    let accepts : answer engine middle ≡ Some captures = subst (λ x. Accepts answer matcher.ignore_case x middle captures) is_inner ((matches-accepts answer matcher text middle captures e).0 matches) in
+    let never : ⊥ = cc in never

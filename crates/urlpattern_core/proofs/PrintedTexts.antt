@@ -1,0 +1,196 @@
+-- Lemmas on the texts of printed patterns.
+use Rattle.std.proofs.Common.{◌≡◌, ℕ, Bool, true, false, not, ◌&&◌, ◌||◌, ◌==◌, List, [], ◌∷◌, ◌++◌, length, take, Option, Some, None, String, refl, sym, ap, subst, ◌∙◌, append_assoc, bytes_eq, map, codes, arith}
+use denote.Ref.{Bor}
+use Rattle.std.proofs.lemmas.Slice.Eq.{bytes_eq-Decides}
+use Rattle.std.proofs.Math.Dec.{eqb}
+use Rattle.std.proofs.lemmas.Bool.{eq-eqb, eqb-true}
+use Rattle.std.proofs.lemmas.Bool.Decides.{Decides-eqb, same_from_decides}
+use Rattle.std.proofs.lemmas.Str.{chars-append, chars-nil, chars_past_char, IsCharBoundary-at_seam, IsUtf8-encode, IsUtf8-past_char, IsUtf8-string_bytes, IsUtf8-take}
+use Rattle.std.proofs.Math.Seq.{take-append_seam}
+use Rattle.std.specs.Char.{IsScalar, encode_utf8}
+use Rattle.std.specs.Option.{option_eq}
+use Rattle.std.specs.Prelude.{option_copied, option_map, slice_get, string_bytes}
+use Rattle.std.specs.Str.{chars, IsUtf8}
+use Rattle.std.specs.declared.alloc.Global.{Global}
+use Rattle.urlpattern_core.proofs.RegexpTexts.{not-fixed}
+use Rattle.urlpattern_core.specs.Neighbours.{neighbour}
+use Rattle.urlpattern_laws.specs.Printing.{escaped_pattern, first_part, in_braces, is_asterisk, last_of, needs_braces, printed_fixed, printed_group, printed_match, printed_name, printed_part, printed_suffix}
+use Rattle.urlpattern_syntax.proofs.StringTexts.{chars-encode}
+use Rattle.urlpattern_syntax.proofs.TextLemmas.{bytes_same, chars-some}
+use Rattle.urlpattern_syntax.specs.declared.parser.Part.{Part}
+use Rattle.urlpattern_syntax.specs.declared.parser.PartModifier.{PartModifier}
+use Rattle.urlpattern_syntax.specs.declared.parser.PartModifier.TheVariants as modifiers
+use Rattle.urlpattern_syntax.specs.declared.parser.PartType.TheVariants.{FixedText}
+use Rattle.urlpattern_syntax.specs.Options.{OptionsView}
+use Rattle.urlpattern_syntax.specs.Parts.{PartView, part_view}
+use Rattle.urlpattern_syntax.specs.RegexpText.{is_empty, is_unmodified, modifier_text}
+use Rattle.urlpattern_syntax.specs.Text.{text_of}
+
+-- ---- the last character
+
+pub last_of-append : (text : List ℕ) (c : ℕ) → last_of (text ++ c ∷ []) ≡ c ∷ []
+last_of-append [] c = refl
+last_of-append (d ∷ []) c = refl
+last_of-append (d ∷ e ∷ text) c = last_of-append (e ∷ text) c
+
+pub filled-append : (text : List ℕ) (c : ℕ) → is_empty (text ++ c ∷ []) ≡ false
+filled-append [] c = refl
+filled-append (d ∷ text) c = refl
+
+-- the characters of a text that ends with the bytes of this one
+pub chars_before_char : (whole front : List ℕ) (c : ℕ) → IsUtf8 whole → IsScalar c → whole ≡ front ++ encode_utf8 c → chars whole ≡ chars front ++ c ∷ []
+chars_before_char whole front c u s e =
+    let cut : take (length front) whole ≡ front = ap (λ xs. take (length front) xs) e ∙ take-append_seam front (encode_utf8 c) in
+    let P : List ℕ → Type 0 = λ xs. IsUtf8 xs in
+    let v = subst P cut (IsUtf8-take whole (length front) u (IsCharBoundary-at_seam whole front (encode_utf8 c) e (IsUtf8-encode c s))) in
+    ap chars e ∙ chars-append front (encode_utf8 c) v ∙ ap (λ xs. chars front ++ xs) (chars-encode c s)
+
+-- whether a text that ends with this character ends with this prefix code point
+pub ends_with : {answer : Bool} (text front : List ℕ) (c : ℕ) (prefix : List ℕ) → text ≡ front ++ c ∷ [] → answer ≡ bytes_eq (c ∷ []) prefix → answer ≡ not (is_empty text) && bytes_eq (last_of text) prefix
+ends_with text front c prefix e h =
+    rw (e, filled-append front c, last_of-append front c) h
+
+nothing_alone : (text : List ℕ) → (text ≡ [] → ⊥) → bytes_eq [] text ≡ false
+nothing_alone [] some = absurd (some refl)
+nothing_alone (c ∷ text) some = refl
+
+alone : (rest : List ℕ) → IsUtf8 rest → bytes_eq [] (chars rest) ≡ (length rest == 0)
+alone [] u = ap (λ text. bytes_eq [] text) chars-nil
+alone (b ∷ rest) u =
+    let some : length (b ∷ rest) ≡ 0 → ⊥ = λ e. omega (arith, e) in
+    nothing_alone (chars (b ∷ rest)) (chars-some (b ∷ rest) u some) ∙ sym (grind arith)
+
+-- whether this character, with which the text begins, is all of it
+pub is_alone : (c : ℕ) (bytes rest : List ℕ) → IsUtf8 bytes → bytes ≡ encode_utf8 c ++ rest → bytes_eq (c ∷ []) (chars bytes) ≡ (length rest == 0)
+is_alone c bytes rest u e =
+    let same : eqb c c ≡ true = eq-eqb c c refl in
+    ap (λ text. bytes_eq (c ∷ []) text) (chars_past_char bytes rest c u e) ∙ ap (λ b. b && bytes_eq [] (chars rest)) same ∙ alone rest (IsUtf8-past_char bytes rest c u e)
+
+-- the text begins with no such character
+pub begins_else : (c : ℕ) (text : List ℕ) → false ≡ option_eq eqb (slice_get text 0) (Some c) → bytes_eq (c ∷ []) text ≡ false
+begins_else c [] e = refl
+begins_else c (d ∷ text) e =
+    let one = same_from_decides (eqb c d) (eqb d c) (Decides-eqb c d) ((λ h. sym (eqb-true d c h)), (λ same. eq-eqb d c (sym same))) in
+    ap (λ b. b && bytes_eq [] text) (one ∙ sym e)
+
+-- the character that was found is this one
+pub found_as : (found : Option ℕ) (c : ℕ) → true ≡ option_eq eqb found (Some c) → found ≡ Some c
+found_as None c e = absurd (cc e)
+found_as (Some d) c e = ap (λ x. Some x) (eqb-true d c (sym e))
+
+-- ---- equal texts
+
+pub bytes_eq-text : (one other : String Global) → bytes_eq (text_of one) (text_of other) ≡ bytes_eq (string_bytes one) (string_bytes other)
+bytes_eq-text one other =
+    let u = IsUtf8-string_bytes one in
+    let v = IsUtf8-string_bytes other in
+    let chars_decide = bytes_eq-Decides (text_of one) (text_of other) in
+    let bytes_decide = bytes_eq-Decides (string_bytes one) (string_bytes other) in
+    same_from_decides (bytes_eq (text_of one) (text_of other)) (bytes_eq (string_bytes one) (string_bytes other))
+    ((λ e. bytes_same (string_bytes one) (string_bytes other) u v (chars_decide.0 e)), (λ e. chars_decide.1 (ap chars e)))
+    bytes_decide
+
+-- ---- tests one after another
+
+pub found_of_four : (a b c d first second answer : Bool) → first ≡ a || b → second ≡ first || c → second ≡ true → answer ≡ second → answer ≡ a || b || c || d
+found_of_four true b c d first second answer e f t g = g ∙ t
+found_of_four false true c d first second answer e f t g = g ∙ t
+found_of_four false false true d first second answer e f t g = g ∙ t
+found_of_four false false false d first second answer e f t g = absurd (cc (e, f, t))
+
+pub last_of_four : (a b c d first second answer : Bool) → first ≡ a || b → second ≡ first || c → second ≡ false → answer ≡ d → answer ≡ a || b || c || d
+last_of_four false false false d first second answer e f t g = g
+last_of_four true b c d first second answer e f t g = let h : second ≡ true = f ∙ ap (λ x. x || c) e in absurd (cc (h, t))
+last_of_four false true c d first second answer e f t g = let h : second ≡ true = f ∙ ap (λ x. x || c) e in absurd (cc (h, t))
+last_of_four false false true d first second answer e f t g = let h : second ≡ true = f ∙ ap (λ x. x || true) e in absurd (cc (h, t))
+
+pub last_of_three : (a b c first answer : Bool) → first ≡ a && b → first ≡ true → answer ≡ c → answer ≡ a && b && c
+last_of_three true true c first answer e t g = g
+last_of_three true false c first answer e t g = absurd (cc (e, t))
+last_of_three false b c first answer e t g = absurd (cc (e, t))
+
+pub last_two_of_four : (a b c d first answer : Bool) → first ≡ a && b → first ≡ true → answer ≡ c && d → answer ≡ a && b && c && d
+last_two_of_four true true c d first answer e t g = g
+last_two_of_four true false c d first answer e t g = absurd (cc (e, t))
+last_two_of_four false b c d first answer e t g = absurd (cc (e, t))
+
+pub failed_of_three : (a b c first answer : Bool) → first ≡ a && b → first ≡ false → answer ≡ first → answer ≡ a && b && c
+failed_of_three true true c first answer e t g = absurd (cc (e, t))
+failed_of_three true false c first answer e t g = g ∙ t
+failed_of_three false b c first answer e t g = g ∙ t
+
+pub failed_of_four : (a b c d first answer : Bool) → first ≡ a && b → first ≡ false → answer ≡ first → answer ≡ a && b && c && d
+failed_of_four true true c d first answer e t g = absurd (cc (e, t))
+failed_of_four true false c d first answer e t g = g ∙ t
+failed_of_four false b c d first answer e t g = g ∙ t
+
+-- ---- neighbours
+
+-- the first of the parts behind
+pub first_neighbour : (first : Option (Bor Part)) (parts : List Part) → option_copied first ≡ slice_get parts 0 → neighbour first ≡ first_part (map part_view parts)
+first_neighbour None [] e = refl
+first_neighbour None (part ∷ parts) e = absurd (cc e)
+first_neighbour (Some first) [] e = absurd (cc e)
+first_neighbour (Some first) (part ∷ parts) e = ap (λ found. option_map part_view found) e
+
+-- ---- what the calls append, one after another
+
+-- a text between braces, and a modifier
+pub braced-appended : {b c d all spelled : List ℕ} (start text modifier : List ℕ)
+    → b ≡ start ++ chars (codes "{") → c ≡ b ++ text → d ≡ c ++ chars (codes "}") → spelled ≡ modifier → all ≡ d ++ spelled → all ≡ start ++ (in_braces true text ++ modifier)
+unfolding chars
+braced-appended start text modifier h1 h2 h3 h4 h5 = simp (h5, h4, h3, h2, h1, append_assoc)
+
+modified : (modifier : PartModifier) → (modifier ≡ modifiers.None → ⊥) → is_unmodified modifier ≡ false
+modified modifiers.None some = absurd (some refl)
+modified modifiers.Optional some = refl
+modified modifiers.ZeroOrMore some = refl
+modified modifiers.OneOrMore some = refl
+
+pub fixed-printed : {b c d all spelled : List ℕ} (start : List ℕ) (part : PartView) → (part.modifier ≡ modifiers.None → ⊥)
+    → b ≡ start ++ chars (codes "{") → c ≡ b ++ escaped_pattern part.value → d ≡ c ++ chars (codes "}") → spelled ≡ modifier_text part.modifier → all ≡ d ++ spelled → all ≡ start ++ printed_fixed part
+fixed-printed start part some h1 h2 h3 h4 h5 =
+    rw (modified part.modifier some) (braced-appended start (escaped_pattern part.value) (modifier_text part.modifier) h1 h2 h3 h4 h5)
+
+-- a backslash before a text
+pub marked-appended : {b all : List ℕ} (start text : List ℕ) → b ≡ start ++ chars (codes "\\") → all ≡ b ++ text → all ≡ start ++ (codes "\\" ++ text)
+unfolding chars
+marked-appended start text h1 h2 = simp (h2, h1, append_assoc)
+
+-- a text without braces, and a modifier
+pub bare-printed : {b all spelled : List ℕ} (start text modifier : List ℕ) → b ≡ start ++ text → spelled ≡ modifier → all ≡ b ++ spelled → all ≡ start ++ (in_braces false text ++ modifier)
+bare-printed start text modifier h1 h2 h3 = simp (h3, h2, h1, append_assoc)
+
+abbrev pub inner : OptionsView → PartView → (asterisk : Bool) → List ℕ
+inner options part asterisk = escaped_pattern part.prefix ++ printed_name part ++ printed_match options part.kind part asterisk ++ printed_suffix part
+
+grouped_as : (options : OptionsView) (before : Option PartView) (part : PartView) (asterisk grouped shape : Bool) → asterisk ≡ is_asterisk before part grouped → grouped ≡ shape →
+    in_braces shape (inner options part asterisk) ++ modifier_text part.modifier ≡ printed_group options before part grouped
+grouped_as options before part asterisk grouped shape h g =
+    ap (λ a. in_braces shape (inner options part a) ++ modifier_text part.modifier) h
+    ∙ ap (λ b. in_braces b (inner options part (is_asterisk before part grouped)) ++ modifier_text part.modifier) (sym g)
+
+-- a group between braces
+pub group-braced : {b c d e all spelled : List ℕ} (start : List ℕ) (options : OptionsView) (before : Option PartView) (part : PartView) (asterisk grouped : Bool) → asterisk ≡ is_asterisk before part grouped → grouped ≡ true
+    → b ≡ start ++ chars (codes "{") → c ≡ b ++ inner options part asterisk → d ≡ c ++ chars (codes "}") → e ≡ d → spelled ≡ modifier_text part.modifier → all ≡ e ++ spelled
+    → all ≡ start ++ printed_group options before part grouped
+group-braced start options before part asterisk grouped h g h1 h2 h3 h4 h5 h6 =
+    braced-appended start (inner options part asterisk) (modifier_text part.modifier) h1 h2 (h4 ∙ h3) h5 h6 ∙ ap (λ text. start ++ text) (grouped_as options before part asterisk grouped true h g)
+
+-- a group without braces
+pub group-bare : {b c all spelled : List ℕ} (start : List ℕ) (options : OptionsView) (before : Option PartView) (part : PartView) (asterisk grouped : Bool) → asterisk ≡ is_asterisk before part grouped → grouped ≡ false
+    → b ≡ start ++ inner options part asterisk → c ≡ b → spelled ≡ modifier_text part.modifier → all ≡ c ++ spelled
+    → all ≡ start ++ printed_group options before part grouped
+group-bare start options before part asterisk grouped h g h1 h2 h3 h4 =
+    bare-printed start (inner options part asterisk) (modifier_text part.modifier) (h2 ∙ h1) h3 h4 ∙ ap (λ text. start ++ text) (grouped_as options before part asterisk grouped false h g)
+
+-- ---- a part between its neighbours, by what it is
+
+pub printed_part-fixed : (options : OptionsView) (before : Option PartView) (part : PartView) (next : Option PartView) → part.kind ≡ FixedText → printed_part options before part next ≡ printed_fixed part
+unfolding printed_part
+printed_part-fixed options before part next e = rw e
+
+pub printed_part-group : (options : OptionsView) (before : Option PartView) (part : PartView) (next : Option PartView) → (part.kind ≡ FixedText → ⊥)
+    → printed_part options before part next ≡ printed_group options before part (needs_braces options before part next)
+unfolding printed_part
+printed_part-group options before part next other = rw (not-fixed part.kind other)

@@ -1,0 +1,8 @@
+use Rattle.std.proofs.Common.{◌≡◌, map, take}
+use Rattle.urlpattern_syntax.specs.Parts.{part_view}
+use Rattle.urlpattern_syntax.specs.RegexpText.{group_names}
+use Rattle.urlpattern_syntax.specs.Text.{text_of}
+use Rattle.urlpattern_core.proofs.component.generate_name_list.Given as goal
+
+abbrev pub invariant-loop-part : goal.invariant-loop-part
+invariant-loop-part l = map (λ name. text_of name) l.names.items ≡ group_names (map part_view (take l.part-index l.part_list))

@@ -1,0 +1,23 @@
+use Rattle.std.proofs.Common.{◌≤◌, length, map, ap, sym, ◌∙◌, subst, arith}
+use Rattle.std.proofs.lemmas.List.{length-map}
+use Rattle.std.specs.Prelude.{false, List, ℕ}
+use Rattle.std.specs.Str.{chars}
+use Rattle.urlpattern_core.specs.Matchers.{matcher_view}
+use Rattle.urlpattern_core.proofs.Peeling.{if_ok-map, made-of, many-by_engine}
+use Rattle.urlpattern_laws.specs.Matching.{IsEngineOf}
+use Rattle.urlpattern_syntax.specs.Options.{options_view}
+use Rattle.urlpattern_syntax.specs.Parts.{part_view}
+use Rattle.urlpattern_core.proofs.component.matchers.generate_matcher_knowing.Goals as goal
+
+pub returns-in_default-clause-made : goal.returns-in_default-clause-made
+returns-in_default-clause-made g c =
+    let IsMade = g.R.RegExp.IsMade in
+    let MayRefuse = λ (regexp : List ℕ) (flags : List ℕ). g.R.RegExp.MayRefuse regexp flags false in
+    let options = options_view c.args.options.now in
+    let flags = chars c.args.flags.now in
+    let middle = map part_view c.peel.result.1.now in
+    let len : 2 ≤ length middle = omega (arith, length-map c.peel.result.1.now part_view, c.in_default.len_at_least) in
+    if_ok-map _ _ c.engine_matcher-in_default.result
+    (λ matcher made. made-of IsMade MayRefuse options flags _ middle _ _ (matcher_view matcher) c.peel.ensures
+    (many-by_engine (IsEngineOf IsMade MayRefuse flags) options _ middle _ (matcher_view matcher) len made))
+    c.engine_matcher-in_default.ensures.made

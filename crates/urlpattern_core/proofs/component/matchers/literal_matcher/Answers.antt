@@ -1,0 +1,9 @@
+use Rattle.std.proofs.Common.{◌++◌, [], ap, ◌∙◌, refl}
+use Rattle.std.specs.Str.{chars}
+use Rattle.urlpattern_laws.specs.Matching.{Literal, MatcherView}
+use Rattle.urlpattern_syntax.proofs.StringTexts.{text-nil}
+use Rattle.urlpattern_core.proofs.component.matchers.literal_matcher.Goals as goal
+
+pub returns-clause-made : goal.returns-clause-made
+returns-clause-made g c =
+    rw (text-nil c.new.result c.new.ensures.bytes, text-nil c.new-2.result c.new-2.ensures.bytes, c.in_ok-joined.ensures.text) refl

@@ -1,0 +1,34 @@
+-- What a value of the crate `regex` is made of, and what it answers.
+use Rattle.std.specs.Prelude.{◌≡◌, ℕ, ◌-◌, List, map, length, Option, option_map, encode_utf8_all, slice_range}
+use Rattle.std.specs.List.{range_with_len}
+use Rattle.std.specs.Str.{chars}
+use Rattle.regex.specs.Patterns.{default_config, find_str}
+use Rattle.regex.specs.Strings.{IsReadFromSource, regex_config, regex_names, regex_pattern, regex_source}
+use Rattle.regex.specs.Writes.{group_of}
+use Rattle.regex.specs.declared.string.regex.Regex.{Regex}
+use Rattle.urlpattern_laws.specs.PartMeaning.{Captures}
+
+-- the text that it was built from
+abbrev pub regex_text : Regex → List ℕ
+regex_text regex = chars (regex_source regex)
+
+-- it was built from the text, as `regex` reads that with its default options
+pub record IsRegexOf (regexp : List ℕ) (regex : Regex) : Type 0 where
+  pub of_text : regex_text regex ≡ regexp
+  pub by_default : regex_config regex ≡ default_config
+  pub is_read : IsReadFromSource regex
+
+-- the characters from one byte place to another
+abbrev pub text_between : (bytes : List ℕ) → ℕ × ℕ → List ℕ
+text_between bytes span = chars (slice_range bytes span.0 span.1)
+
+-- the texts that so many groups span, from group 1 on
+abbrev pub group_texts : (bytes : List ℕ) → (count : ℕ) → (span_of : ℕ → Option (ℕ × ℕ)) → Captures
+group_texts bytes count span_of = map (λ n. option_map (text_between bytes) (span_of n)) (range_with_len 1 count)
+
+-- what the groups of the first match in the text span, without group 0, which is the match; None without a match
+unfoldable pub regex_answer : Regex → List ℕ → Option Captures
+regex_answer regex text =
+    let bytes = encode_utf8_all text in
+    let count = length (regex_names regex) - 1 in
+    option_map (λ found. group_texts bytes count (group_of found)) (find_str (regex_pattern regex) bytes 0)

@@ -1,0 +1,6 @@
+pub mod Asking
+pub mod Canonical
+pub mod Captured
+pub mod Engines
+pub mod Matchers
+pub mod Neighbours

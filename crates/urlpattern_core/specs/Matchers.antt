@@ -1,0 +1,56 @@
+-- Matchers: what a clause sees of them.
+use Rattle.std.specs.Prelude.{◌≡◌, ℕ, Bool, true, false, List, Option, Some, None, Result, Ok, Err, option_to_list, ◌++◌}
+use Rattle.urlpattern_core.specs.declared.matcher.InnerMatcher.{InnerMatcher}
+use Rattle.urlpattern_core.specs.declared.matcher.InnerMatcher.TheVariants as inners
+use Rattle.urlpattern_core.specs.declared.matcher.Matcher.{Matcher}
+use Rattle.urlpattern_laws.specs.Matching.{ArePeeled, BeginsPlain, EndsPlain, GoesOff, InnerView, Literal, MatcherView, RegExp, SingleCapture, end_text}
+use Rattle.urlpattern_syntax.specs.declared.error.Error.{Error}
+use Rattle.urlpattern_syntax.specs.declared.parser.PartModifier.{PartModifier}
+use Rattle.urlpattern_syntax.specs.declared.parser.PartModifier.TheVariants as modifiers
+use Rattle.urlpattern_syntax.specs.declared.parser.PartType.{PartType}
+use Rattle.urlpattern_syntax.specs.declared.parser.PartType.TheVariants.{FullWildcard, SegmentWildcard}
+use Rattle.urlpattern_syntax.specs.Errors.{ErrorView, error_view}
+use Rattle.urlpattern_syntax.specs.Options.{OptionsView}
+use Rattle.urlpattern_syntax.specs.Parts.{PartView}
+use Rattle.urlpattern_syntax.specs.Text.{text_of}
+
+-- an engine's value, or the error that is kept in its place
+abbrev pub engine_view : {E : Type 0} → Result E Error → Result E ErrorView
+engine_view (Ok engine) = Ok engine
+engine_view (Err error) = Err (error_view error)
+
+abbrev pub inner_view : {E : Type 0} → InnerMatcher E → InnerView E
+inner_view (inners.Literal literal) = Literal (text_of literal)
+inner_view (inners.SingleCapture filter allow_empty) = SingleCapture filter allow_empty
+inner_view (inners.RegExp regexp) = RegExp (engine_view regexp)
+
+abbrev pub matcher_view : {E : Type 0} → Matcher E → MatcherView E
+matcher_view matcher = record {
+  prefix = text_of matcher.prefix;
+  suffix = text_of matcher.suffix;
+  inner = inner_view matcher.inner;
+  ignore_case = matcher.ignore_case;
+}
+
+-- ---- words of private contracts
+
+-- the texts of plain fixed parts that go off the ends of the parts, and the parts between them
+abbrev pub PeelsTo : List PartView → (prefix : List ℕ) → List PartView → (suffix : List ℕ) → Type 0
+PeelsTo parts prefix middle suffix =
+    (front back : Option PartView) × ArePeeled parts front middle back × (prefix ≡ end_text front) × (suffix ≡ end_text back)
+
+-- the text of a plain fixed part that goes off the front of the parts, and the parts behind it
+abbrev pub PeelsFront : List PartView → (prefix : List ℕ) → List PartView → Type 0
+PeelsFront parts prefix rest =
+    (front : Option PartView) × (parts ≡ option_to_list front ++ rest) × GoesOff front (BeginsPlain parts) × (prefix ≡ end_text front)
+
+-- the text of a plain fixed part that goes off the end of the parts, and the parts before it
+abbrev pub PeelsBack : List PartView → List PartView → (suffix : List ℕ) → Type 0
+PeelsBack parts middle suffix =
+    (back : Option PartView) × (parts ≡ middle ++ option_to_list back) × GoesOff back (EndsPlain parts) × (suffix ≡ end_text back)
+
+-- what a wildcard without modifier captures: the character that may not be in it, and whether it may be empty
+abbrev pub capture_of : OptionsView → PartType → PartModifier → Option (Option ℕ × Bool)
+capture_of options FullWildcard modifiers.None = Some (None, true)
+capture_of options SegmentWildcard modifiers.None = Some (options.delimiter, false)
+capture_of options kind modifier = None

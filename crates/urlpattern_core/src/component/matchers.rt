@@ -1,0 +1,227 @@
+//! The matcher of a list of parts.
+
+ghost use Rattle.std.specs.Prelude.{◌≡◌, false, List, [], ◌++◌, map, IfErr, IfOk, IfSome};
+ghost use Rattle.std.specs.Str.{chars};
+ghost use Rattle.urlpattern_core.specs.Matchers.{PeelsBack, PeelsFront, PeelsTo, capture_of, engine_view, matcher_view};
+ghost use Rattle.urlpattern_laws.specs.Matching.{AnswersByMeaning, IsEngineOf, IsMadeByEngine, IsMadeOf, Literal, single_capture};
+ghost use Rattle.urlpattern_syntax.specs.declared.error.Error.TheVariants as errors;
+ghost use Rattle.urlpattern_syntax.specs.Options.{options_view};
+ghost use Rattle.urlpattern_syntax.specs.Parts.{part_view};
+ghost use Rattle.urlpattern_syntax.specs.RegexpText.{is_plain, regexp_text};
+ghost use Rattle.urlpattern_syntax.specs.Text.{text_of};
+
+use super::generate_regular_expression;
+use crate::error::{Error, RegExpError};
+use crate::matcher::{InnerMatcher, Matcher};
+use crate::parser::{Options, Part, PartModifier, PartType};
+use crate::regexp::RegExp;
+use std::alloc::Global;
+
+/// The matcher of a list of parts. Plain fixed texts at the ends of the list become its prefix and its suffix.
+///
+/// What an engine refuses is kept in the matcher as an error. Where no part has a regular expression of its own and case is
+/// kept, the matcher answers what the parts mean, if an engine that it asks follows the regular expression it was given.
+///
+/// The error answered is that memory ran out.
+pub fn generate_matcher<R: RegExp>(
+    alloc: Global,
+    part_list: &[Part],
+    options: &Options,
+    flags: &str,
+) -> Result<Matcher<R>, Error>
+    ensures made { IfOk result (λ matcher. IsMadeOf R.IsMade (λ regexp flags. R.MayRefuse regexp flags false) (options_view options.now) (chars flags.now)
+        (map part_view part_list.now) (matcher_view matcher)) }
+    ensures means { IfOk result (λ matcher. AnswersByMeaning R.answer (options_view options.now) (map part_view part_list.now) (matcher_view matcher)) }
+    ensures memory { IfErr result (λ error. error ≡ errors.OutOfMemory) }
+{
+    generate_matcher_knowing(alloc, part_list, options, flags, None)
+}
+
+/// The same, where the regular expression of the whole list may be known.
+pub(crate) fn generate_matcher_knowing<R: RegExp>(
+    alloc: Global,
+    part_list: &[Part],
+    options: &Options,
+    flags: &str,
+    whole: Option<&str>,
+) -> Result<Matcher<R>, Error>
+    requires { IfSome whole (λ text. chars text.now ≡ regexp_text (options_view options.now) (map part_view part_list.now)) }
+    ensures made { IfOk result (λ matcher. IsMadeOf R.IsMade (λ regexp flags. R.MayRefuse regexp flags false) (options_view options.now) (chars flags.now)
+        (map part_view part_list.now) (matcher_view matcher)) }
+    ensures memory { IfErr result (λ error. error ≡ errors.OutOfMemory) }
+{
+    let (prefix, middle, suffix) = peel(part_list);
+    let known = if middle.len() == part_list.len() {
+        whole
+    } else {
+        None
+    };
+    match middle {
+        [] => literal_matcher(alloc, prefix, suffix, options),
+        [part] => match capture_of(part, options) {
+            Some((filter, allow_empty)) => {
+                capture_matcher(alloc, prefix, part, suffix, options, filter, allow_empty)
+            }
+            None => engine_matcher(alloc, prefix, middle, suffix, options, flags, known),
+        },
+        _ => engine_matcher(alloc, prefix, middle, suffix, options, flags, known),
+    }
+}
+
+/// The plain fixed texts at the two ends of a list of parts, or empty texts, and the parts between them.
+fn peel(part_list: &[Part]) -> (&str, &[Part], &str)
+    ensures { PeelsTo (map part_view part_list.now) (chars result.0.now) (map part_view result.1.now) (chars result.2.now) }
+{
+    let (prefix, rest) = peel_front(part_list);
+    let (middle, suffix) = peel_back(rest);
+    (prefix, middle, suffix)
+}
+
+/// The plain fixed text that a list of parts begins with, or an empty text, and the other parts.
+fn peel_front(part_list: &[Part]) -> (&str, &[Part])
+    ensures { PeelsFront (map part_view part_list.now) (chars result.0.now) (map part_view result.1.now) }
+{
+    match part_list.split_first() {
+        Some((first, rest)) if is_plain(first) => (&first.value, rest),
+        _ => ("", part_list),
+    }
+}
+
+/// The plain fixed text that a list of parts ends with, or an empty text, and the other parts before it.
+fn peel_back(part_list: &[Part]) -> (&[Part], &str)
+    ensures { PeelsBack (map part_view part_list.now) (map part_view result.0.now) (chars result.1.now) }
+{
+    match part_list.split_last() {
+        Some((last, middle)) if is_plain(last) => (middle, &last.value),
+        _ => (part_list, ""),
+    }
+}
+
+/// Whether a part is a fixed text without modifier.
+fn is_plain(part: &Part) -> bool
+    ensures { result ≡ is_plain (part_view part.now) }
+{
+    part.kind == PartType::FixedText && part.modifier == PartModifier::None
+}
+
+/// What a part captures if it is a wildcard without modifier: any text without this character, and whether it may be
+/// empty.
+fn capture_of(part: &Part, options: &Options) -> Option<(Option<char>, bool)>
+    ensures { result ≡ capture_of (options_view options.now) part.now.kind part.now.modifier }
+{
+    if part.modifier != PartModifier::None {
+        return None;
+    }
+    match part.kind {
+        PartType::FullWildcard => Some((None, true)),
+        PartType::SegmentWildcard => Some((options.delimiter_code_point, false)),
+        _ => None,
+    }
+}
+
+/// A matcher of one text.
+fn literal_matcher<R>(
+    alloc: Global,
+    prefix: &str,
+    suffix: &str,
+    options: &Options,
+) -> Result<Matcher<R>, Error>
+    ensures made { IfOk result (λ matcher. matcher_view matcher
+        ≡ record { prefix = []; suffix = []; inner = Literal (chars prefix.now ++ chars suffix.now); ignore_case = options.now.ignore_case }) }
+    ensures memory { IfErr result (λ error. error ≡ errors.OutOfMemory) }
+{
+    Ok(Matcher {
+        prefix: String::new(alloc),
+        suffix: String::new(alloc),
+        inner: InnerMatcher::Literal {
+            literal: joined(alloc, prefix, suffix)?,
+        },
+        ignore_case: options.ignore_case,
+    })
+}
+
+/// A matcher of one capture between two texts and those of its part.
+fn capture_matcher<R>(
+    alloc: Global,
+    prefix: &str,
+    part: &Part,
+    suffix: &str,
+    options: &Options,
+    filter: Option<char>,
+    allow_empty: bool,
+) -> Result<Matcher<R>, Error>
+    ensures made { IfOk result (λ matcher. matcher_view matcher
+        ≡ single_capture (options_view options.now) (chars prefix.now) (part_view part.now) (chars suffix.now) filter allow_empty) }
+    ensures memory { IfErr result (λ error. error ≡ errors.OutOfMemory) }
+{
+    Ok(Matcher {
+        prefix: joined(alloc, prefix, &part.prefix)?,
+        suffix: joined(alloc, &part.suffix, suffix)?,
+        inner: InnerMatcher::SingleCapture {
+            filter,
+            allow_empty,
+        },
+        ignore_case: options.ignore_case,
+    })
+}
+
+/// A matcher that leaves the parts between two texts to an engine. If the text of these parts is known, it is not
+/// generated.
+fn engine_matcher<R: RegExp>(
+    alloc: Global,
+    prefix: &str,
+    middle: &[Part],
+    suffix: &str,
+    options: &Options,
+    flags: &str,
+    known: Option<&str>,
+) -> Result<Matcher<R>, Error>
+    requires { IfSome known (λ text. chars text.now ≡ regexp_text (options_view options.now) (map part_view middle.now)) }
+    ensures made { IfOk result (λ matcher. IsMadeByEngine (IsEngineOf R.IsMade (λ regexp flags. R.MayRefuse regexp flags false) (chars flags.now)) (options_view options.now)
+        (chars prefix.now) (map part_view middle.now) (chars suffix.now) (matcher_view matcher)) }
+    ensures memory { IfErr result (λ error. error ≡ errors.OutOfMemory) }
+{
+    let regexp = match known {
+        Some(text) => ask_engine(alloc, text, flags, false)?,
+        None => {
+            let text = generate_regular_expression(alloc, middle, options)?;
+            ask_engine(alloc, &text, flags, false)?
+        }
+    };
+    Ok(Matcher {
+        prefix: String::from_str(alloc, prefix)?,
+        suffix: String::from_str(alloc, suffix)?,
+        inner: InnerMatcher::RegExp { regexp },
+        ignore_case: options.ignore_case,
+    })
+}
+
+/// The value that an engine makes of a text, or the error that it refuses the text.
+///
+/// The error answered is that memory ran out.
+pub(crate) fn ask_engine<R: RegExp>(
+    alloc: Global,
+    regexp: &str,
+    flags: &str,
+    force_eval: bool,
+) -> Result<Result<R, Error>, Error>
+    ensures made { IfOk result (λ engine. IsEngineOf R.IsMade (λ regexp flags. R.MayRefuse regexp flags force_eval) (chars flags.now) (chars regexp.now) (engine_view engine)) }
+    ensures memory { IfErr result (λ error. error ≡ errors.OutOfMemory) }
+{
+    match R::parse(alloc, regexp, flags, force_eval) {
+        Ok(engine) => Ok(Ok(engine)),
+        Err(RegExpError::Pattern) => Ok(Err(Error::RegExp(()))),
+        Err(RegExpError::OutOfMemory) => Err(Error::OutOfMemory),
+    }
+}
+
+/// Two texts end to end.
+fn joined(alloc: Global, front: &str, back: &str) -> Result<String, Error>
+    ensures text { IfOk result (λ text. text_of text ≡ chars front.now ++ chars back.now) }
+    ensures memory { IfErr result (λ error. error ≡ errors.OutOfMemory) }
+{
+    let mut text = String::with_capacity(alloc, front.len() + back.len())?;
+    text.push_str(front)?;
+    text.push_str(back)?;
+    Ok(text)
+}

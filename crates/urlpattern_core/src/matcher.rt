@@ -1,0 +1,166 @@
+//! Matchers: what a component is matched with, past the engine of regular expressions where that is not needed.
+
+ghost use Rattle.std.specs.Prelude.{◌≡◌, ◌↔◌, ℕ, List, ◌++◌, IfErr, IfNone, IfOk, IfSome, IsTrue, map, not};
+ghost use Rattle.std.specs.Char.{to_ascii_lowercase};
+ghost use Rattle.std.specs.Str.{chars};
+ghost use Rattle.urlpattern_core.specs.Captured.{captures_view};
+ghost use Rattle.urlpattern_core.specs.Matchers.{matcher_view};
+ghost use Rattle.urlpattern_laws.specs.Matching.{Answers, AsksEngine, IsMatched, MayBeEmpty, MayWantMemory, PassesFilter, folded};
+ghost use Rattle.urlpattern_syntax.specs.declared.error.Error.TheVariants as errors;
+ghost use Rattle.urlpattern_syntax.specs.Text.{lacks, text_of};
+
+use crate::error::Error;
+use crate::regexp::RegExp;
+use std::alloc::Global;
+
+/// What a text is matched with: its prefix, its suffix, and what stands between them.
+#[derive(Debug, Drop)]
+pub struct Matcher<R> {
+    /// The text that a matched text begins with.
+    pub prefix: String,
+    /// The text that a matched text ends with, behind the prefix and what stands between.
+    pub suffix: String,
+    /// What stands between prefix and suffix.
+    pub inner: InnerMatcher<R>,
+    /// Whether the case of ASCII letters is ignored between prefix and suffix.
+    pub ignore_case: bool,
+}
+
+/// What stands between the prefix and the suffix of a text.
+#[derive(Debug, Drop)]
+pub enum InnerMatcher<R> {
+    /// This text.
+    Literal {
+        /// The text.
+        literal: String,
+    },
+    /// Any text, which is captured.
+    SingleCapture {
+        /// A character that may not stand in the text.
+        filter: Option<char>,
+        /// Whether the text may be empty.
+        allow_empty: bool,
+    },
+    /// What an engine matches, which captures. Nothing, if an error is kept.
+    RegExp {
+        /// The value of the engine, or why there is none.
+        regexp: Result<R, Error>,
+    },
+}
+
+impl<R: RegExp> Matcher<R> {
+    /// What the groups capture of a text, in their order: a slice of it, or None for a group that took no part. None if
+    /// the text is not matched.
+    ///
+    /// The error is that memory ran out. None is asked for where the answer is None before an engine is asked, nor where
+    /// a literal stands between prefix and suffix.
+    pub fn matches<'a>(
+        &self,
+        alloc: Global,
+        input: &'a str,
+    ) -> Result<Option<Vec<Option<&'a str>>>, Error>
+        ensures answer { IfOk result (λ found. Answers R.answer (matcher_view self.now) (chars input.now) (captures_view found)) }
+        ensures memory { IfErr result (λ error. error ≡ errors.OutOfMemory) }
+        ensures asked { IfErr result (λ _. MayWantMemory R.answer (matcher_view self.now) (chars input.now)) }
+    {
+        let Some(middle) = self.middle(input) else {
+            return Ok(None);
+        };
+        match &self.inner {
+            InnerMatcher::Literal { literal } => {
+                if self.is_same(middle, literal) {
+                    Ok(Some(Vec::new(alloc)))
+                } else {
+                    Ok(None)
+                }
+            }
+            InnerMatcher::SingleCapture {
+                filter,
+                allow_empty,
+            } => {
+                if self.is_captured(middle, *filter, *allow_empty) {
+                    let mut captures = Vec::with_capacity(alloc, 1)?;
+                    captures.push(Some(middle))?;
+                    Ok(Some(captures))
+                } else {
+                    Ok(None)
+                }
+            }
+            InnerMatcher::RegExp { regexp } => match regexp {
+                Ok(engine) => Ok(engine.matches(alloc, middle)?),
+                Err(_) => Ok(None),
+            },
+        }
+    }
+
+    /// Whether a text is matched.
+    ///
+    /// The error is that memory ran out. None is asked for but by an engine.
+    pub fn accepts(&self, alloc: Global, input: &str) -> Result<bool, Error>
+        ensures answer { IfOk result (λ accepted. IsTrue accepted ↔ IsMatched R.answer (matcher_view self.now) (chars input.now)) }
+        ensures memory { IfErr result (λ error. error ≡ errors.OutOfMemory) }
+        ensures asked { IfErr result (λ _. AsksEngine (matcher_view self.now) (chars input.now)) }
+    {
+        let Some(middle) = self.middle(input) else {
+            return Ok(false);
+        };
+        match &self.inner {
+            InnerMatcher::Literal { literal } => Ok(self.is_same(middle, literal)),
+            InnerMatcher::SingleCapture {
+                filter,
+                allow_empty,
+            } => Ok(self.is_captured(middle, *filter, *allow_empty)),
+            InnerMatcher::RegExp { regexp } => match regexp {
+                Ok(engine) => Ok(engine.matches(alloc, middle)?.is_some()),
+                Err(_) => Ok(false),
+            },
+        }
+    }
+}
+
+impl<R> Matcher<R> {
+    /// What stands in a text between prefix and suffix, if it begins and ends with them and they do not overlap.
+    fn middle<'a>(&self, input: &'a str) -> Option<&'a str>
+        ensures some { IfSome result (λ middle. chars input.now ≡ text_of self.now.prefix ++ chars middle.now ++ text_of self.now.suffix) }
+        ensures none { IfNone result ((middle : List ℕ) → ¬ (chars input.now ≡ text_of self.now.prefix ++ middle ++ text_of self.now.suffix)) }
+    {
+        let rest = input.strip_prefix(self.prefix.as_str())?;
+        rest.strip_suffix(self.suffix.as_str())
+    }
+
+    /// Whether a text is the literal.
+    fn is_same(&self, text: &str, literal: &str) -> bool
+        ensures { IsTrue result ↔ (folded self.now.ignore_case (chars text.now) ≡ folded self.now.ignore_case (chars literal.now)) }
+    {
+        if self.ignore_case {
+            text.eq_ignore_ascii_case(literal)
+        } else {
+            text == literal
+        }
+    }
+
+    /// Whether a text may be captured.
+    fn is_captured(&self, text: &str, filter: Option<char>, allow_empty: bool) -> bool
+        ensures { IsTrue result ↔ (MayBeEmpty allow_empty (chars text.now) × PassesFilter self.now.ignore_case filter (chars text.now)) }
+    {
+        (allow_empty || !text.is_empty()) && self.passes(text, filter)
+    }
+
+    /// Whether the filter's character does not stand in a text.
+    fn passes(&self, text: &str, filter: Option<char>) -> bool
+        ensures { IsTrue result ↔ PassesFilter self.now.ignore_case filter (chars text.now) }
+    {
+        match filter {
+            None => true,
+            Some(c) if self.ignore_case => !has_ignoring_case(text, c),
+            Some(c) => !text.contains(c),
+        }
+    }
+}
+
+/// Whether a character stands in a text, where the case of ASCII letters is ignored.
+fn has_ignoring_case(text: &str, c: char) -> bool
+    ensures { not result ≡ lacks (to_ascii_lowercase c) (map to_ascii_lowercase (chars text.now)) }
+{
+    text.chars().any(|other| other.eq_ignore_ascii_case(&c))
+}

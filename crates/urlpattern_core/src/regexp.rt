@@ -1,0 +1,115 @@
+//! Engines of regular expressions.
+
+mod rust;
+
+ghost use Rattle.std.specs.Prelude.{◌≡◌, ⊤, Bool, ℕ, List, Option, Err, IfOk};
+ghost use Rattle.std.specs.Str.{chars};
+ghost use Rattle.urlpattern_core.specs.Captured.{captures_view};
+ghost use Rattle.urlpattern_core.specs.Engines.{regex_answer, regex_text, IsRegexOf};
+ghost use Rattle.urlpattern_laws.specs.PartMeaning.{Captures};
+ghost use Rattle.urlpattern_syntax.specs.declared.error.RegExpError.TheVariants.{Pattern};
+ghost use Rattle.urlpattern_syntax.specs.declared.parser.RegexSyntax.{RegexSyntax};
+ghost use Rattle.urlpattern_syntax.specs.declared.parser.RegexSyntax.TheVariants.{Rust};
+
+use crate::error::{OutOfMemory, RegExpError};
+use crate::parser::RegexSyntax;
+use regex::Regex;
+use std::alloc::Global;
+
+/// A regular expression of some engine.
+///
+/// What a type of engines means is told by its ghost members: `syntax_of` is the syntax that it takes, `IsMade` tells
+/// which of its values are made of a text and flags, `MayRefuse` tells of a text, flags and `force_eval` whether they may
+/// be refused, `answer` what a value answers to a text, and `text_made_of` the text that a value was made of.
+pub trait RegExp: Sized + Drop {
+    ghost syntax_of: { RegexSyntax };
+
+    ghost IsMade: { Self → (regexp flags : List ℕ) → Type 0 };
+
+    ghost MayRefuse: { (regexp flags : List ℕ) → (force_eval : Bool) → Type 0 };
+
+    ghost answer: { Self → List ℕ → Option Captures };
+
+    ghost text_made_of: { Self → List ℕ };
+
+    /// The syntax that the engine takes.
+    fn syntax() -> RegexSyntax
+        ensures { result ≡ syntax_of };
+
+    /// Makes a value of a text and flags.
+    ///
+    /// With `force_eval` a text is refused at once if the engine does not take it. Without, an engine may put that off.
+    ///
+    /// The error tells a text that the engine refuses from want of memory.
+    fn parse(
+        alloc: Global,
+        pattern: &str,
+        flags: &str,
+        force_eval: bool,
+    ) -> Result<Self, RegExpError>
+        ensures made { IfOk result (λ engine. IsMade engine (chars pattern.now) (chars flags.now)) }
+        ensures refused { result ≡ Err Pattern → MayRefuse (chars pattern.now) (chars flags.now) force_eval };
+
+    /// What the groups capture of a text, in their order and without the whole match: a slice of the text, or None where a
+    /// group was passed over. A text that is not matched gives None.
+    ///
+    /// The error is that memory ran out.
+    fn matches<'a>(
+        &self,
+        alloc: Global,
+        text: &'a str,
+    ) -> Result<Option<Vec<Option<&'a str>>>, OutOfMemory>
+        ensures { IfOk result (λ found. captures_view found ≡ answer self.now (chars text.now)) };
+
+    /// The text that the value was made of.
+    fn pattern_string(&self) -> &str
+        ensures { chars result.now ≡ text_made_of self.now };
+}
+
+/// The engine of the crate `regex`. It takes no notice of flags, and reads each text at once.
+///
+/// It may refuse any text. What it matches and captures is said by the contracts of that crate.
+impl RegExp for Regex {
+    ghost syntax_of = { Rust };
+
+    ghost IsMade = { λ regex regexp flags. IsRegexOf regexp regex };
+
+    ghost MayRefuse = { λ regexp flags force_eval. ⊤ };
+
+    ghost answer = { regex_answer };
+
+    ghost text_made_of = { regex_text };
+
+    fn syntax() -> RegexSyntax {
+        RegexSyntax::Rust
+    }
+
+    fn parse(
+        alloc: Global,
+        pattern: &str,
+        _flags: &str,
+        _force_eval: bool,
+    ) -> Result<Regex, RegExpError> {
+        match Regex::new(alloc, pattern) {
+            Ok(regex) => Ok(regex),
+            Err(regex::Error::OutOfMemory) => Err(RegExpError::OutOfMemory),
+            Err(_) => Err(RegExpError::Pattern),
+        }
+    }
+
+    fn matches<'a>(
+        &self,
+        alloc: Global,
+        text: &'a str,
+    ) -> Result<Option<Vec<Option<&'a str>>>, OutOfMemory> {
+        let mut matcher = self.matcher(alloc)?;
+        match matcher.captures(text) {
+            Some(captures) => Ok(Some(rust::groups(alloc, &captures)?)),
+            None => Ok(None),
+        }
+    }
+
+    fn pattern_string(&self) -> &str {
+        self.as_str()
+    }
+}

@@ -1,0 +1,35 @@
+//! What the groups of a match by the crate `regex` capture.
+
+ghost use Rattle.std.specs.Prelude.{◌≡◌, ◌-◌, map, length, option_map, IfOk};
+ghost use Rattle.regex.specs.Strings.{captures_haystack, captures_names, captures_span};
+ghost use Rattle.urlpattern_core.specs.Captured.{capture_view};
+ghost use Rattle.urlpattern_core.specs.Engines.{group_texts, text_between};
+
+use crate::error::OutOfMemory;
+use regex::Captures;
+use std::alloc::Global;
+
+/// What the groups from group 1 on span, with None for a group that took no part.
+///
+/// The error is that memory ran out.
+pub(super) fn groups<'h>(
+    alloc: Global,
+    captures: &Captures<'_, 'h>,
+) -> Result<Vec<Option<&'h str>>, OutOfMemory>
+    ensures { IfOk result (λ groups. map capture_view groups.items ≡ group_texts (captures_haystack captures.now) (length (captures_names captures.now) - 1) (captures_span captures.now)) }
+{
+    let count = captures.len();
+    let mut groups = Vec::with_capacity(alloc, count.saturating_sub(1))?;
+    for index in 1..count {
+        groups.push(group(captures, index))?;
+    }
+    Ok(groups)
+}
+
+/// What a group spans, if it took part.
+fn group<'h>(captures: &Captures<'_, 'h>, index: usize) -> Option<&'h str>
+    ensures { capture_view result ≡ option_map (text_between (captures_haystack captures.now)) (captures_span captures.now index) }
+{
+    let found = captures.get(index)?;
+    Some(found.as_str())
+}

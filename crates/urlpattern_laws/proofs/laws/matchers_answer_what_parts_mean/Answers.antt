@@ -1,0 +1,9 @@
+use Rattle.std.specs.Prelude.{[]}
+use Rattle.urlpattern_laws.proofs.MatcherMeaning.{matcher_agrees, matcher_means}
+use Rattle.urlpattern_laws.proofs.laws.matchers_answer_what_parts_mean.Goals as goal
+
+pub returns-clause-follows : goal.returns-clause-follows
+returns-clause-follows g c = λ answer options parts. matcher_means answer (λ engine regexp flags. Unit {0}) (λ regexp flags. Unit {0}) options [] parts
+
+pub returns-clause-agrees : goal.returns-clause-agrees
+returns-clause-agrees g c = λ answer options parts. matcher_agrees answer (λ engine regexp flags. Unit {0}) (λ regexp flags. Unit {0}) options [] parts

@@ -1,0 +1,6 @@
+use Rattle.urlpattern_laws.specs.Laws.{listed}
+use Rattle.urlpattern_laws.proofs.ReadParts.{read_parts_are_pattern_parts}
+use Rattle.urlpattern_laws.proofs.laws.read_parts_are_pattern_parts.Goals as goal
+
+pub returns : goal.returns
+returns c = λ text options answers. read_parts_are_pattern_parts text options (listed answers)
