@@ -1,4 +1,6 @@
 pub mod EcmaRegexps
+pub mod Split
+pub mod Splitting
 pub use Rattle.urlpattern_core.specs.Captured
 pub use Rattle.urlpattern_core.specs.Engines
 pub use Rattle.urlpattern_core.specs.Matchers

@@ -5,6 +5,7 @@
 //! <https://urlpattern.spec.whatwg.org/>
 #![tactic(auto)]
 
+mod constructor_parser;
 pub mod quirks;
 
 pub use urlpattern_core::{
