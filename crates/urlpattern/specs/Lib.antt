@@ -5,8 +5,6 @@ pub use Rattle.urlpattern_core.specs.Captured
 pub use Rattle.urlpattern_core.specs.Engines
 pub use Rattle.urlpattern_core.specs.Matchers
 pub use Rattle.urlpattern_laws.specs.Dialect
-pub mod EcmaRegexps
-pub use Rattle.urlpattern_core.specs.Engines
 pub use Rattle.urlpattern_syntax.specs.ErrorText
 pub use Rattle.urlpattern_syntax.specs.Errors
 pub use Rattle.urlpattern_laws.specs.Laws
