@@ -5,6 +5,7 @@ mod components;
 mod engines;
 mod long_texts;
 mod options;
+mod printed;
 mod refusals;
 mod tokens;
 mod values;

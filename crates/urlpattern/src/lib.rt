@@ -5,8 +5,10 @@
 //! <https://urlpattern.spec.whatwg.org/>
 #![tactic(auto)]
 
+mod constructor_parser;
 pub mod quirks;
 
 pub use urlpattern_core::{
-    Error, RegexSyntax, component, error, laws, matcher, parser, regexp, tokenizer,
+    Error, RegexSyntax, canonicalize_and_process, component, error, laws, matcher, parser, regexp,
+    tokenizer,
 };

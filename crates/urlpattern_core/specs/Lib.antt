@@ -1,3 +1,5 @@
+pub mod Asking
+pub mod Canonical
 pub mod Captured
 pub mod Compiling
 pub mod Engines

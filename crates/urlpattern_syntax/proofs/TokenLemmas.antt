@@ -1,14 +1,20 @@
 -- Lemmas on tokens: what is skipped, how a body goes on, how cuts are joined.
-use Rattle.std.proofs.Common.{◌≡◌, ℕ, ◌<◌, Bool, true, false, List, [], ◌∷◌, ◌++◌, length, refl, sym, ap, ◌∙◌, subst, inl, inr, arith, append_assoc}
+use Rattle.std.proofs.Common.{◌≡◌, ℕ, ◌<◌, ◌⊎◌, Bool, true, false, List, [], ◌∷◌, ◌++◌, length, Ok, Err, refl, sym, ap, ◌∙◌, subst, inl, inr, arith, append_assoc}
 use Rattle.std.specs.Prelude.{codes, IsTrue}
 use Rattle.std.proofs.lemmas.Bool.{both_ways, and_from}
 use Rattle.std.proofs.lemmas.List.Folds.{list_all-append}
 use Rattle.std.proofs.lemmas.List.{append_cancel_right}
+use Rattle.std.specs.Str.{chars}
+use Rattle.urlpattern_syntax.specs.declared.error.Error.TheVariants as errors
+use Rattle.urlpattern_syntax.specs.declared.error.TokenizerError.{TokenizerError}
+use Rattle.urlpattern_syntax.specs.declared.tokenizer.Lexeme.{Lexeme}
+use Rattle.urlpattern_syntax.specs.declared.tokenizer.TokenizePolicy.{TokenizePolicy}
+use Rattle.urlpattern_syntax.specs.declared.tokenizer.TokenizePolicy.TheVariants as policies
 use Rattle.urlpattern_syntax.specs.declared.tokenizer.TokenType.{TokenType}
 use Rattle.urlpattern_syntax.specs.declared.tokenizer.TokenType.TheVariants.{Asterisk, Char, Close, End, EscapedChar, InvalidChar, Name, Open, OtherModifier, Regexp}
 use Rattle.urlpattern_syntax.specs.Text.{byte_len, BeginsAt, BeginsWith, is_among, is_name_start, is_name_part}
 use Rattle.urlpattern_syntax.proofs.TextLemmas.{byte_len-append, length-le-byte_len}
-use Rattle.urlpattern_syntax.specs.Tokens.{TokenView, end_of, IsCut, IsStrictCut, IsTokenOf, Skips, SkipsBy, IsLexed, Spells, EndsThere, IsName, IsFaultAt, InvalidName, marks, is_ignored}
+use Rattle.urlpattern_syntax.specs.Tokens.{TokenView, end_of, AreTokensUnder, IsCut, IsInvalidChar, IsInvalidCharOf, IsTokenOf, LexesUnder, Skips, SkipsBy, IsLexed, Spells, EndsThere, IsName, IsFaultAt, InvalidName, TellsFaultUnder, marks, is_ignored}
 
 -- ---- what is skipped
 
@@ -113,10 +119,72 @@ IsLexed-shorter text value rest kind h =
     let e = ap byte_len h.cut ∙ byte_len-append h.spelling rest in
     omega arith
 
--- one more token, and what is skipped behind it
-pub IsStrictCut-more : (text : List ℕ) (tokens : List TokenView) (left value rest next : List ℕ) (kind : TokenType) (index : ℕ) → IsStrictCut text tokens left → IsLexed left kind value rest → BeginsAt text left index → Skips rest next → IsStrictCut text (tokens ++ record { kind = kind; index = index; value = value } ∷ []) next
-IsStrictCut-more text tokens left value rest next kind index cut lexed place skips =
-    IsCut-more (IsTokenOf text) text tokens left rest next (record { kind = kind; index = index; value = value }) cut (record { lexed = lexed; place = place }) skips
-
 pub end_view : (text value : List ℕ) (index : ℕ) → index ≡ byte_len text → value ≡ [] → record { kind = End; index = index; value = value } ≡ end_of text
 end_view text value index e f = λ i. record { kind = End; index = e i; value = f i }
+
+-- ---- tokens under a policy
+
+-- what a token of the whole text is under a policy, where this begins and that follows
+abbrev pub IsTokenUnder : TokenizePolicy → (whole text : List ℕ) → TokenView → (rest : List ℕ) → Type 0
+IsTokenUnder policies.Strict whole text token rest = IsTokenOf whole text token rest
+IsTokenUnder policies.Lenient whole text token rest = IsTokenOf whole text token rest ⊎ IsInvalidCharOf whole text token rest
+
+abbrev pub IsCutUnder : TokenizePolicy → (text : List ℕ) → List TokenView → (left : List ℕ) → Type 0
+IsCutUnder policy text tokens left = IsCut (IsTokenUnder policy text) text tokens left
+
+-- a token at the front of a text, or a character with which no token begins
+abbrev pub IsLexedUnder : TokenizePolicy → List ℕ → TokenType → (value rest : List ℕ) → Type 0
+IsLexedUnder policies.Strict text kind value rest = IsLexed text kind value rest
+IsLexedUnder policies.Lenient text kind value rest = IsLexed text kind value rest ⊎ IsInvalidChar text kind value rest
+
+pub LexesUnder-ok : (policy : TokenizePolicy) (text : List ℕ) (lexeme : Lexeme) → LexesUnder policy text (Ok lexeme) → IsLexedUnder policy text lexeme.kind (chars lexeme.value.now) (chars lexeme.rest.now)
+LexesUnder-ok policies.Strict text lexeme h = h
+LexesUnder-ok policies.Lenient text lexeme h = h
+
+-- a character that is taken leaves a shorter text
+pub IsInvalidChar-shorter : (text value rest : List ℕ) (kind : TokenType) → IsInvalidChar text kind value rest → byte_len rest < byte_len text
+IsInvalidChar-shorter text value rest kind h =
+    let least = length-le-byte_len (h.character ∷ []) in
+    let e = ap byte_len h.cut ∙ byte_len-append (h.character ∷ []) rest in
+    omega arith
+
+pub IsLexedUnder-shorter : (policy : TokenizePolicy) (text value rest : List ℕ) (kind : TokenType) → IsLexedUnder policy text kind value rest → byte_len rest < byte_len text
+IsLexedUnder-shorter policies.Strict text value rest kind h = IsLexed-shorter text value rest kind h
+IsLexedUnder-shorter policies.Lenient text value rest kind h =
+    elim h [ inl lexed ↦ IsLexed-shorter text value rest kind lexed | inr invalid ↦ IsInvalidChar-shorter text value rest kind invalid ]
+
+invalid_token : (whole text value rest : List ℕ) (kind : TokenType) (index : ℕ) → IsInvalidChar text kind value rest → BeginsAt whole text index → IsInvalidCharOf whole text (record { kind = kind; index = index; value = value }) rest
+invalid_token whole text value rest kind index h place = record {
+  character = h.character;
+  cut = h.cut;
+  fault = h.fault;
+  is_fault = h.is_fault;
+  is_token = λ i. record { kind = h.is_kind i; index = index; value = h.is_value i };
+  place = place;
+}
+
+pub IsTokenUnder-made : (policy : TokenizePolicy) (whole text value rest : List ℕ) (kind : TokenType) (index : ℕ) → IsLexedUnder policy text kind value rest → BeginsAt whole text index → IsTokenUnder policy whole text (record { kind = kind; index = index; value = value }) rest
+IsTokenUnder-made policies.Strict whole text value rest kind index h place = record { lexed = h; place = place }
+IsTokenUnder-made policies.Lenient whole text value rest kind index h place = elim h [
+  | inl lexed ↦ inl (record { lexed = lexed; place = place })
+  | inr invalid ↦ inr (invalid_token whole text value rest kind index invalid place)
+]
+
+-- one more token, and what is skipped behind it
+pub IsCutUnder-more : (policy : TokenizePolicy) (text : List ℕ) (tokens : List TokenView) (left value rest next : List ℕ) (kind : TokenType) (index : ℕ) → IsCutUnder policy text tokens left → IsLexedUnder policy left kind value rest → BeginsAt text left index → Skips rest next → IsCutUnder policy text (tokens ++ record { kind = kind; index = index; value = value } ∷ []) next
+IsCutUnder-more policy text tokens left value rest next kind index cut lexed place skips =
+    IsCut-more (IsTokenUnder policy text) text tokens left rest next (record { kind = kind; index = index; value = value }) cut (IsTokenUnder-made policy text left value rest kind index lexed place) skips
+
+-- the tokens of a cut that leaves nothing, and End
+pub AreTokensUnder-cut : (policy : TokenizePolicy) (text : List ℕ) (tokens front : List TokenView) → IsCutUnder policy text front [] → tokens ≡ front ++ end_of text ∷ [] → AreTokensUnder policy text tokens
+AreTokensUnder-cut policies.Strict text tokens front cut all = record { front = front; cut = cut; all = all }
+AreTokensUnder-cut policies.Lenient text tokens front cut all = record { front = front; cut = cut; all = all }
+
+-- a fault is told under the strict policy alone
+pub TellsFaultUnder-first : (policy : TokenizePolicy) (text left : List ℕ) (front : List TokenView) (fault : TokenizerError) (index : ℕ) → IsCutUnder policy text front left → LexesUnder policy left (Err fault) → BeginsAt text left index → TellsFaultUnder policy text (errors.Tokenizer fault index)
+TellsFaultUnder-first policies.Strict text left front fault index cut told place = record { front = front; left = left; cut = cut; place = place; fault = told }
+TellsFaultUnder-first policies.Lenient text left front fault index cut told place = absurd told
+
+pub TellsFaultUnder-memory : (policy : TokenizePolicy) (text : List ℕ) → TellsFaultUnder policy text errors.OutOfMemory
+TellsFaultUnder-memory policies.Strict text = tt
+TellsFaultUnder-memory policies.Lenient text = refl

@@ -10,6 +10,8 @@ use Rattle.urlpattern_syntax.specs.declared.error.TokenizerError.{TokenizerError
 use Rattle.urlpattern_syntax.specs.declared.error.TokenizerError.TheVariants as faults
 use Rattle.urlpattern_syntax.specs.declared.tokenizer.Lexeme.{Lexeme}
 use Rattle.urlpattern_syntax.specs.declared.tokenizer.Token.{Token}
+use Rattle.urlpattern_syntax.specs.declared.tokenizer.TokenizePolicy.{TokenizePolicy}
+use Rattle.urlpattern_syntax.specs.declared.tokenizer.TokenizePolicy.TheVariants as policies
 use Rattle.urlpattern_syntax.specs.declared.tokenizer.TokenType.{TokenType}
 use Rattle.urlpattern_syntax.specs.declared.tokenizer.TokenType.TheVariants.{Asterisk, Char, Close, End, EscapedChar, InvalidChar, Name, Open, OtherModifier, Regexp}
 use Rattle.urlpattern_syntax.specs.Text.{byte_len, BeginsAt, BeginsWith, is_among, is_name_start, is_name_part}
@@ -231,13 +233,35 @@ pub record AreLenientTokens (text : List ℕ) (tokens : List TokenView) : Type 0
   pub cut : IsCut (λ start token rest. IsTokenOf text start token rest ⊎ IsInvalidCharOf text start token rest) text front []
   pub all : tokens ≡ front ++ end_of text ∷ []
 
+-- These are the tokens of the text under the policy.
+abbrev pub AreTokensUnder : TokenizePolicy → (text : List ℕ) → List TokenView → Type 0
+AreTokensUnder policies.Strict text tokens = AreTokens text tokens
+AreTokensUnder policies.Lenient text tokens = AreLenientTokens text tokens
+
 -- ---- what calls answer
+
+-- the text begins with a character with which no token begins, and this follows it
+pub record IsInvalidChar (text : List ℕ) (kind : TokenType) (value rest : List ℕ) : Type 0 where
+  pub character : ℕ
+  pub cut : text ≡ character ∷ rest
+  pub fault : FaultView
+  pub is_fault : IsFaultAt text fault
+  pub is_kind : kind ≡ InvalidChar
+  pub is_value : value ≡ character ∷ []
 
 -- a token at the front of a text, or why there is none
 abbrev pub Lexes : List ℕ → Result Lexeme TokenizerError → Type 0
 Lexes text result = MatchResult result
     (λ lexeme. IsLexed text lexeme.kind (chars lexeme.value.now) (chars lexeme.rest.now))
     (λ fault. IsFaultAt text (fault_view fault))
+
+-- the same under the policy: under the lenient one a character in a fault's place is a token
+abbrev pub LexesUnder : TokenizePolicy → List ℕ → Result Lexeme TokenizerError → Type 0
+LexesUnder policies.Strict text result = Lexes text result
+LexesUnder policies.Lenient text result = MatchResult result
+    (λ lexeme. IsLexed text lexeme.kind (chars lexeme.value.now) (chars lexeme.rest.now)
+    ⊎ IsInvalidChar text lexeme.kind (chars lexeme.value.now) (chars lexeme.rest.now))
+    (λ fault. ⊥)
 
 -- no ASCII character stands behind a backslash in the body of a custom regular expression
 abbrev pub LacksEscaped : List ℕ → FaultView → Type 0
@@ -259,3 +283,8 @@ abbrev pub TellsFault : List ℕ → Error → Type 0
 TellsFault text (errors.Tokenizer fault place) = IsFault text (fault_view fault) place
 TellsFault text errors.OutOfMemory = Unit {0}
 TellsFault text other = ⊥
+
+-- the same under the policy: the lenient one tells no fault
+abbrev pub TellsFaultUnder : TokenizePolicy → List ℕ → Error → Type 0
+TellsFaultUnder policies.Strict text error = TellsFault text error
+TellsFaultUnder policies.Lenient text error = error ≡ errors.OutOfMemory

@@ -5,7 +5,7 @@
 ghost use Rattle.std.specs.Prelude.{◌≡◌, ◌<◌, ◌≤◌, List, map, ℕ, ◌∷◌, ◌++◌, [], length, codes, IfNone, IfSome, IfOk, IfErr};
 ghost use Rattle.std.specs.Str.{chars};
 ghost use Rattle.urlpattern_syntax.specs.Text.{BeginsWith, is_among, is_name_start, is_name_part};
-ghost use Rattle.urlpattern_syntax.specs.Tokens.{AreTokens, LacksEscaped, LacksQuestionMark, Lexes, Skips, SkipsBy, TellsFault, fault_view, is_ignored, token_view};
+ghost use Rattle.urlpattern_syntax.specs.Tokens.{AreTokensUnder, FaultView, IsFaultAt, IsInvalidChar, LacksEscaped, LacksQuestionMark, Lexes, LexesUnder, Skips, SkipsBy, TellsFaultUnder, fault_view, is_ignored, token_view};
 
 use crate::error::{Error, RegexFault, TokenizerError};
 use std::alloc::Global;
@@ -81,6 +81,8 @@ pub struct Token<'a> {
 pub enum TokenizePolicy {
     /// Answer an error.
     Strict,
+    /// Take the character as a token of the kind `InvalidChar`, and go on behind it.
+    Lenient,
 }
 
 /// The front of a text, as a token, and what follows it.
@@ -93,7 +95,8 @@ struct Lexeme<'a> {
 
 /// Cuts a text into tokens, the last of them `End`.
 ///
-/// The error is the first fault of the text, with its place in bytes, or that memory ran out.
+/// The error is that memory ran out or, under the strict policy, the first fault of the text with its place in bytes.
+/// Under the lenient policy no text is refused.
 ///
 /// <https://urlpattern.spec.whatwg.org/#tokenize>
 pub fn tokenize<'a>(
@@ -101,15 +104,14 @@ pub fn tokenize<'a>(
     input: &'a str,
     policy: TokenizePolicy,
 ) -> Result<Vec<Token<'a>>, Error>
-    ensures tokens { IfOk result (λ tokens. AreTokens (chars input.now) (map token_view tokens.items)) }
-    ensures fault { IfErr result (TellsFault (chars input.now)) }
+    ensures tokens { IfOk result (λ tokens. AreTokensUnder policy (chars input.now) (map token_view tokens.items)) }
+    ensures fault { IfErr result (TellsFaultUnder policy (chars input.now)) }
 {
-    let TokenizePolicy::Strict = policy;
     let mut tokens = Vec::new(alloc);
     let mut rest = skip_ignored(input);
     while !rest.is_empty() {
         let index = input.len() - rest.len();
-        match next_lexeme(rest) {
+        match next_token(rest, &policy) {
             Ok(lexeme) => {
                 let token = Token {
                     kind: lexeme.kind,
@@ -129,6 +131,33 @@ pub fn tokenize<'a>(
     };
     tokens.push(end)?;
     Ok(tokens)
+}
+
+/// The token at the front of a text that is not empty and begins with no character that is skipped. Under the lenient
+/// policy a character with which no token begins is one itself.
+fn next_token<'a>(text: &'a str, policy: &TokenizePolicy) -> Result<Lexeme<'a>, TokenizerError>
+    requires characters { ¬ (chars text.now ≡ []) }
+    requires counts { ¬ BeginsWith is_ignored (chars text.now) }
+    ensures { LexesUnder policy.now (chars text.now) result }
+{
+    match (next_lexeme(text), policy) {
+        (Err(_), TokenizePolicy::Lenient) => Ok(invalid_char(text)),
+        (answer, _) => answer,
+    }
+}
+
+/// The first character of a text, with which no token begins.
+fn invalid_char(text: &str) -> Lexeme<'_>
+    requires characters { ¬ (chars text.now ≡ []) }
+    requires fault { (fault : FaultView) × IsFaultAt (chars text.now) fault }
+    ensures { IsInvalidChar (chars text.now) result.kind (chars result.value.now) (chars result.rest.now) }
+{
+    let (_, rest) = split_first(text).unwrap();
+    Lexeme {
+        kind: TokenType::InvalidChar,
+        value: before(text, rest),
+        rest,
+    }
 }
 
 /// The token at the front of a text that is not empty and begins with no character that is skipped.

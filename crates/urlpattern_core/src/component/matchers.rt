@@ -3,7 +3,7 @@
 ghost use Rattle.std.specs.Prelude.{◌≡◌, false, List, [], ◌++◌, map, IfErr, IfOk, IfSome};
 ghost use Rattle.std.specs.Str.{chars};
 ghost use Rattle.urlpattern_core.specs.Matchers.{PeelsBack, PeelsFront, PeelsTo, capture_of, engine_view, matcher_view};
-ghost use Rattle.urlpattern_laws.specs.Matching.{IsEngineOf, IsMadeByEngine, IsMadeOf, Literal, single_capture};
+ghost use Rattle.urlpattern_laws.specs.Matching.{AnswersByMeaning, IsEngineOf, IsMadeByEngine, IsMadeOf, Literal, single_capture};
 ghost use Rattle.urlpattern_syntax.specs.declared.error.Error.TheVariants as errors;
 ghost use Rattle.urlpattern_syntax.specs.Options.{options_view};
 ghost use Rattle.urlpattern_syntax.specs.Parts.{part_view};
@@ -19,7 +19,10 @@ use std::alloc::Global;
 
 /// The matcher of a list of parts. Plain fixed texts at the ends of the list become its prefix and its suffix.
 ///
-/// What an engine refuses is kept in the matcher as an error. The error answered is that memory ran out.
+/// What an engine refuses is kept in the matcher as an error. Where no part has a regular expression of its own and case is
+/// kept, the matcher answers what the parts mean, if an engine that it asks follows the regular expression it was given.
+///
+/// The error answered is that memory ran out.
 pub fn generate_matcher<R: RegExp>(
     alloc: Global,
     part_list: &[Part],
@@ -28,6 +31,7 @@ pub fn generate_matcher<R: RegExp>(
 ) -> Result<Matcher<R>, Error>
     ensures made { IfOk result (λ matcher. IsMadeOf R.IsMade (λ regexp flags. R.MayRefuse regexp flags false) (options_view options.now) (chars flags.now)
         (map part_view part_list.now) (matcher_view matcher)) }
+    ensures means { IfOk result (λ matcher. AnswersByMeaning R.answer (options_view options.now) (map part_view part_list.now) (matcher_view matcher)) }
     ensures memory { IfErr result (λ error. error ≡ errors.OutOfMemory) }
 {
     generate_matcher_knowing(alloc, part_list, options, flags, None)

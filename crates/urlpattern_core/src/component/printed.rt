@@ -2,10 +2,13 @@
 //!
 //! <https://urlpattern.spec.whatwg.org/#converting-part-lists-to-pattern-strings>
 
-ghost use Rattle.std.specs.Prelude.{◌≡◌, ◌++◌, ◌&&◌, ◌∷◌, [], false, not, map, codes, bytes_eq, IfOk, IfErr, OnOk};
+ghost use Rattle.std.specs.Prelude.{ℕ, List, Result, ◌≡◌, ◌++◌, ◌&&◌, ◌∷◌, [], false, not, map, codes, bytes_eq, IfOk, IfErr, OnOk};
 ghost use Rattle.std.specs.Str.{chars};
 ghost use Rattle.urlpattern_core.specs.Neighbours.{neighbour};
-ghost use Rattle.urlpattern_laws.specs.Printing.{escaped_pattern, goes_on, has_custom_name, has_other_prefix, is_asterisk, is_name_alone, last_of, needs_braces, pattern_marks, printed, printed_fixed, printed_group, printed_match, printed_name, printed_part, printed_suffix, takes_before, takes_next, admits_asterisk};
+ghost use Rattle.urlpattern_laws.specs.Laws.{listed};
+ghost use Rattle.urlpattern_laws.specs.RoundTrip.{IsPrintable, ReadsBack};
+ghost use Rattle.urlpattern_syntax.specs.Errors.{ErrorView};
+ghost use Rattle.urlpattern_laws.specs.Printing.{Keeps, escaped_pattern, goes_on, has_custom_name, has_other_prefix, is_asterisk, is_name_alone, last_of, needs_braces, pattern_marks, printed, printed_fixed, printed_group, printed_match, printed_name, printed_part, printed_suffix, takes_before, takes_next, admits_asterisk};
 ghost use Rattle.urlpattern_syntax.specs.declared.error.Error.TheVariants as errors;
 ghost use Rattle.urlpattern_syntax.specs.declared.parser.PartType.TheVariants as kinds;
 ghost use Rattle.urlpattern_syntax.specs.Options.{options_view};
@@ -20,6 +23,9 @@ use std::alloc::Global;
 
 /// The pattern text of a list of parts.
 ///
+/// The text of parts that are printable reads as these parts again, neighbouring plain fixed texts joined, and as nothing
+/// else, under any encoding that keeps their texts.
+///
 /// The error is that memory ran out.
 ///
 /// <https://urlpattern.spec.whatwg.org/#generate-a-pattern-string>
@@ -29,6 +35,8 @@ pub fn generate_pattern_string(
     options: &Options,
 ) -> Result<String, Error>
     ensures text { IfOk result (λ text. text_of text ≡ printed (options_view options.now) (map part_view part_list.now)) }
+    ensures reads_back { IfOk result (λ text. (answers : List (List ℕ × Result (List ℕ) ErrorView)) → IsPrintable (options_view options.now) (map part_view part_list.now) →
+        Keeps (listed answers) (map part_view part_list.now) → ReadsBack (text_of text) (options_view options.now) (listed answers) (map part_view part_list.now)) }
     ensures memory { IfErr result (λ error. error ≡ errors.OutOfMemory) }
 {
     let mut text = String::new(alloc);
@@ -288,7 +296,7 @@ fn ends_with_prefix(options: &Options, text: &str) -> bool
     prefix.next() == Some(last) && prefix.as_str().is_empty()
 }
 
-/// Whether the asterisk of a full wildcard behind these parts would be read as such.
+/// Whether the part may be printed as an asterisk, if it is a full wildcard.
 fn is_asterisk(previous: Option<&Part>, part: &Part, grouped: bool) -> bool
     ensures { result ≡ is_asterisk (neighbour previous.entry) (part_view part.now) grouped }
 {

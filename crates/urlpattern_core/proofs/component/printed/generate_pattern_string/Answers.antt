@@ -1,4 +1,8 @@
-use Rattle.std.proofs.Common.{◌++◌, Some, ap, map, sym, ◌∙◌, append_assoc}
+use Rattle.std.proofs.Common.{◌++◌, Some, ap, map, arith, subst, sym, ◌∙◌, append_assoc}
+use Rattle.std.proofs.lemmas.Grind.{common_steps}
+use Rattle.urlpattern_laws.proofs.ReadsBack.{kept_reads_back}
+use Rattle.urlpattern_laws.specs.Laws.{listed}
+use Rattle.urlpattern_laws.specs.RoundTrip.{ReadsBack}
 use Rattle.urlpattern_core.proofs.PrintedTexts.{first_neighbour}
 use Rattle.urlpattern_core.specs.Neighbours.{neighbour}
 use Rattle.urlpattern_laws.specs.Printing.{first_part, printed, printed_after, printed_part}
@@ -26,3 +30,12 @@ loop-part-preserved c =
     ∙ append_assoc text (printed_part options previous part (first_part after)) behind
     ∙ ap (λ parts. text ++ printed_after options previous (map part_view parts)) (sym cut.0)
     ∙ c.loop-part.invariant
+
+pub returns-clause-text : goal.returns-clause-text
+returns-clause-text c = grind (arith, common_steps)
+
+pub returns-clause-reads_back : goal.returns-clause-reads_back
+returns-clause-reads_back c = λ answers printable keeps.
+    let options = options_view c.args.options.now in
+    let parts = map part_view c.args.part_list.now in
+    subst (λ text. ReadsBack text options (listed answers) parts) (sym (returns-clause-text c)) (kept_reads_back options (listed answers) parts printable keeps)

@@ -1,0 +1,4 @@
+pub mod TokenPlaces
+pub mod SeenLemmas
+pub mod TextBetween
+pub mod SplitLemmas
