@@ -1,6 +1,7 @@
 //! Worked examples, by what they show.
 
 mod callbacks;
+mod compiled;
 mod components;
 mod engines;
 mod long_texts;

@@ -3,4 +3,5 @@
 mod ecma_regexp;
 
 pub use crate::Error;
+pub use crate::component::Component;
 pub use ecma_regexp::EcmaRegexp;
