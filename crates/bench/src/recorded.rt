@@ -25,7 +25,7 @@ pub struct Call {
 pub enum Operation {
     /// The strict tokens of a text.
     Tokenize,
-    /// The parts of a pattern, the names of its groups and its regular expression.
+    /// The parts of a pattern, the names of its groups, its regular expression and its printed pattern.
     Component,
 }
 
@@ -60,7 +60,7 @@ pub struct TokensQuestion {
 /// A token: the name of its kind, its place and its value.
 pub type Token = (String, usize, String);
 
-/// A question for the parts of a pattern and its regular expression.
+/// A question for the parts of a pattern, its regular expression and its printed pattern.
 #[derive(Drop, Deserialize)]
 pub struct ComponentQuestion {
     /// The component whose options hold.
@@ -105,7 +105,7 @@ pub enum Callback {
     EmptyLineFeed,
 }
 
-/// The parts of a pattern, the names of its groups and its regular expression.
+/// The parts of a pattern, the names of its groups, its regular expression and its printed pattern.
 #[derive(PartialEq, Drop, Deserialize)]
 pub struct Component {
     /// The parts.
@@ -114,6 +114,8 @@ pub struct Component {
     pub names: Vec<String>,
     /// The regular expression.
     pub regexp: String,
+    /// The printed pattern.
+    pub pattern: String,
 }
 
 /// A part, whose kind and modifier are names.

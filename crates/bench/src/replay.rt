@@ -7,7 +7,7 @@ use crate::recorded::{
 use std::alloc::{AllocError, Global};
 use url::ParseError;
 use urlpattern::Error;
-use urlpattern::component::generate_regular_expression_and_name_list;
+use urlpattern::component::{generate_pattern_string, generate_regular_expression_and_name_list};
 use urlpattern::parser::{Options, Part, PartModifier, PartType, parse_pattern_string};
 use urlpattern::tokenizer::{Token, TokenizePolicy, tokenize};
 
@@ -50,7 +50,7 @@ fn replay_tokens(alloc: Global, line: &str) -> Result<Outcome, serde_json::Error
     })
 }
 
-/// Replays a case that asks for parts, names and a regular expression.
+/// Replays a case that asks for parts, names, a regular expression and a printed pattern.
 fn replay_component(alloc: Global, line: &str) -> Result<Outcome, serde_json::Error> {
     let Case { question, answer }: Case<ComponentQuestion, Component> = serde_json::from_str(
         alloc, line,
@@ -93,6 +93,7 @@ fn component(alloc: Global, question: &ComponentQuestion) -> Result<Component, E
     let encode = |text: &str| -> Result<String, Error> { callback.encode(alloc, text) };
     let part_list = parse_pattern_string(alloc, &question.pattern, &options, encode)?;
     let (regexp, names) = generate_regular_expression_and_name_list(alloc, &part_list, &options)?;
+    let pattern = generate_pattern_string(alloc, &part_list, &options)?;
     let mut parts = Vec::new(alloc);
     for part in part_list {
         parts.push(recorded_part(alloc, part)?)?;
@@ -101,6 +102,7 @@ fn component(alloc: Global, question: &ComponentQuestion) -> Result<Component, E
         parts,
         names,
         regexp,
+        pattern,
     })
 }
 

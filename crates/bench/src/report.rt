@@ -133,9 +133,11 @@ mod tests {
             "\n",
             r#"{"in":{"op":"tokenize","input":":"},"out":{"err":"out of memory"}}"#,
             "\n",
-            r#"{"in":{"op":"component","kind":"default","syntax":"Rust","pattern":""},"out":{"ok":{"parts":[],"names":[],"regexp":"^"}}}"#,
+            r#"{"in":{"op":"component","kind":"default","syntax":"Rust","pattern":""},"out":{"ok":{"parts":[],"names":[],"regexp":"^","pattern":""}}}"#,
             "\n",
-            r#"{"in":{"op":"component","kind":"default","syntax":"Rust","pattern":""},"out":{"ok":{"parts":[],"names":[],"regexp":"^$"}}}"#,
+            r#"{"in":{"op":"component","kind":"default","syntax":"Rust","pattern":""},"out":{"ok":{"parts":[],"names":[],"regexp":"^$","pattern":"{}"}}}"#,
+            "\n",
+            r#"{"in":{"op":"component","kind":"default","syntax":"Rust","pattern":""},"out":{"ok":{"parts":[],"names":[],"regexp":"^$","pattern":""}}}"#,
             "\n",
             r#"{"in":{"op":"other"},"out":{"ok":null}}"#,
         );
@@ -144,9 +146,10 @@ mod tests {
             "cases:3: differs\n",
             "cases:4: differs\n",
             "cases:5: differs\n",
-            "cases:7: no case\n",
+            "cases:6: differs\n",
+            "cases:8: no case\n",
             "tokenize: 2 answers and 2 errors, 3 differ\n",
-            "component: 2 answers and 0 errors, 1 differ\n",
+            "component: 3 answers and 0 errors, 2 differ\n",
             "lines without a case: 1\n",
         );
         let mut report = Report::default();

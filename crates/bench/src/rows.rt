@@ -4,6 +4,7 @@ mod callbacks;
 mod components;
 mod long_texts;
 mod options;
+mod printed;
 mod refusals;
 mod tokens;
 mod values;

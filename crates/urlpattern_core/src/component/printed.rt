@@ -288,7 +288,7 @@ fn ends_with_prefix(options: &Options, text: &str) -> bool
     prefix.next() == Some(last) && prefix.as_str().is_empty()
 }
 
-/// Whether the asterisk of a full wildcard behind these parts would be read as such.
+/// Whether the part may be printed as an asterisk, if it is a full wildcard.
 fn is_asterisk(previous: Option<&Part>, part: &Part, grouped: bool) -> bool
     ensures { result ≡ is_asterisk (neighbour previous.entry) (part_view part.now) grouped }
 {
