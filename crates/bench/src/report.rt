@@ -48,6 +48,9 @@ impl Tally {
 struct Report {
     tokenize: Tally,
     component: Tally,
+    matches: Tally,
+    hand_matcher: Tally,
+    left: u64,
     unreadable: u64,
 }
 
@@ -64,6 +67,7 @@ impl Report {
             match replay(alloc, line) {
                 Ok(outcome) => {
                     self.tally(outcome.operation).count(&outcome);
+                    self.left = self.left.saturating_add(outcome.left);
                     if !outcome.is_same {
                         writeln!(out, "{path}:{number}: differs")?;
                     }
@@ -85,6 +89,8 @@ impl Report {
         match operation {
             Operation::Tokenize => &mut self.tokenize,
             Operation::Component => &mut self.component,
+            Operation::Matches => &mut self.matches,
+            Operation::HandMatcher => &mut self.hand_matcher,
         }
     }
 
@@ -92,13 +98,23 @@ impl Report {
     fn print<O: Write>(&self, out: &mut O) -> io::Result<()> {
         self.tokenize.print(out, "tokenize")?;
         self.component.print(out, "component")?;
+        self.matches.print(out, "matches")?;
+        self.hand_matcher.print(out, "hand_matcher")?;
+        let left = self.left;
+        writeln!(out, "answers to texts left to an engine: {left}")?;
         let unreadable = self.unreadable;
         writeln!(out, "lines without a case: {unreadable}")
     }
 
     /// Whether each line holds a case, and none differs.
     fn is_same(&self) -> bool {
-        self.tokenize.differing == 0 && self.component.differing == 0 && self.unreadable == 0
+        let tallies = [
+            &self.tokenize,
+            &self.component,
+            &self.matches,
+            &self.hand_matcher,
+        ];
+        tallies.iter().all(|tally| tally.differing == 0) && self.unreadable == 0
     }
 }
 
@@ -133,11 +149,21 @@ mod tests {
             "\n",
             r#"{"in":{"op":"tokenize","input":":"},"out":{"err":"out of memory"}}"#,
             "\n",
-            r#"{"in":{"op":"component","kind":"default","syntax":"Rust","pattern":""},"out":{"ok":{"parts":[],"names":[],"regexp":"^","pattern":""}}}"#,
+            r#"{"in":{"op":"component","kind":"default","syntax":"Rust","pattern":""},"out":{"ok":{"parts":[],"names":[],"regexp":"^","pattern":"","matcher":{"kind":"literal","prefix":"","suffix":"","literal":""}}}}"#,
             "\n",
-            r#"{"in":{"op":"component","kind":"default","syntax":"Rust","pattern":""},"out":{"ok":{"parts":[],"names":[],"regexp":"^$","pattern":"{}"}}}"#,
+            r#"{"in":{"op":"component","kind":"default","syntax":"Rust","pattern":""},"out":{"ok":{"parts":[],"names":[],"regexp":"^$","pattern":"{}","matcher":{"kind":"literal","prefix":"","suffix":"","literal":""}}}}"#,
             "\n",
-            r#"{"in":{"op":"component","kind":"default","syntax":"Rust","pattern":""},"out":{"ok":{"parts":[],"names":[],"regexp":"^$","pattern":""}}}"#,
+            r#"{"in":{"op":"component","kind":"default","syntax":"Rust","pattern":""},"out":{"ok":{"parts":[],"names":[],"regexp":"^$","pattern":"","matcher":{"kind":"literal","prefix":"","suffix":"","literal":""}}}}"#,
+            "\n",
+            r#"{"in":{"op":"component","kind":"default","syntax":"Rust","pattern":""},"out":{"ok":{"parts":[],"names":[],"regexp":"^$","pattern":"","matcher":{"kind":"literal","prefix":"","suffix":"","literal":"a"}}}}"#,
+            "\n",
+            r#"{"in":{"op":"matches","kind":"default","pattern":"a*","ignore_case":false,"inputs":["ab","b"]},"out":{"ok":{"matches":[["b"],null],"refused":false}}}"#,
+            "\n",
+            r#"{"in":{"op":"matches","kind":"default","pattern":"a*","ignore_case":false,"inputs":["ab","b"]},"out":{"ok":{"matches":[["b"],[]],"refused":false}}}"#,
+            "\n",
+            r#"{"in":{"op":"matches","kind":"default","pattern":"a{*}?","ignore_case":false,"inputs":["ab","b"]},"out":{"ok":{"matches":[["b"],null],"refused":false}}}"#,
+            "\n",
+            r#"{"in":{"op":"hand_matcher","prefix":"a","suffix":"","ignore_case":false,"literal":"b","inputs":["ab"]},"out":{"ok":[null]}}"#,
             "\n",
             r#"{"in":{"op":"other"},"out":{"ok":null}}"#,
         );
@@ -147,9 +173,15 @@ mod tests {
             "cases:4: differs\n",
             "cases:5: differs\n",
             "cases:6: differs\n",
-            "cases:8: no case\n",
+            "cases:8: differs\n",
+            "cases:10: differs\n",
+            "cases:12: differs\n",
+            "cases:13: no case\n",
             "tokenize: 2 answers and 2 errors, 3 differ\n",
-            "component: 3 answers and 0 errors, 2 differ\n",
+            "component: 4 answers and 0 errors, 3 differ\n",
+            "matches: 3 answers and 0 errors, 1 differ\n",
+            "hand_matcher: 1 answers and 0 errors, 1 differ\n",
+            "answers to texts left to an engine: 1\n",
             "lines without a case: 1\n",
         );
         let mut report = Report::default();

@@ -3,6 +3,7 @@
 mod callbacks;
 mod components;
 mod long_texts;
+mod matchers;
 mod options;
 mod printed;
 mod refusals;
