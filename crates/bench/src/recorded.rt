@@ -21,14 +21,18 @@ pub struct Call {
 
 /// What a case may ask for.
 #[derive(Clone, Copy, Drop, Deserialize)]
-#[serde(rename_all = "lowercase")]
+#[serde(rename_all = "snake_case")]
 pub enum Operation {
     /// The strict tokens of a text.
     Tokenize,
-    /// The parts of a pattern, the names of its groups, its regular expression and its printed pattern.
+    /// The parts of a pattern, and what is made of them.
     Component,
     /// What an engine of regular expressions answers.
     Engine,
+    /// What the matcher of a pattern answers to texts.
+    Matches,
+    /// What a matcher made by hand answers to texts.
+    HandMatcher,
 }
 
 /// A question, and the answer that was recorded.
@@ -62,7 +66,7 @@ pub struct TokensQuestion {
 /// A token: the name of its kind, its place and its value.
 pub type Token = (String, usize, String);
 
-/// A question for the parts of a pattern, its regular expression and its printed pattern.
+/// A question for the parts of a pattern and what is made of them.
 #[derive(Drop, Deserialize)]
 pub struct ComponentQuestion {
     /// The component whose options hold.
@@ -107,7 +111,7 @@ pub enum Callback {
     EmptyLineFeed,
 }
 
-/// The parts of a pattern, the names of its groups, its regular expression and its printed pattern.
+/// The parts of a pattern, and what is made of them.
 #[derive(PartialEq, Drop, Deserialize)]
 pub struct Component {
     /// The parts.
@@ -118,6 +122,8 @@ pub struct Component {
     pub regexp: String,
     /// The printed pattern.
     pub pattern: String,
+    /// The matcher.
+    pub matcher: Matcher,
 }
 
 /// A part, whose kind and modifier are names.
@@ -155,6 +161,33 @@ pub enum Engine {
     Ecma,
 }
 
+/// A matcher, with those of the last four fields that its kind has.
+#[derive(PartialEq, Drop, Deserialize)]
+#[serde(rename_all = "camelCase")]
+pub struct Matcher {
+    pub kind: String,
+    pub prefix: String,
+    pub suffix: String,
+    pub literal: Option<String>,
+    pub filter: Option<char>,
+    pub allow_empty: Option<bool>,
+    /// The text that an engine is handed.
+    pub regexp: Option<String>,
+}
+
+/// A question for what the matcher of a pattern answers.
+#[derive(Drop, Deserialize)]
+pub struct MatchesQuestion {
+    /// The component whose options hold.
+    pub kind: Kind,
+    /// The pattern.
+    pub pattern: String,
+    /// Whether the case of ASCII letters is ignored.
+    pub ignore_case: bool,
+    /// The texts that it is asked about.
+    pub inputs: Vec<String>,
+}
+
 /// What groups capture of a text, or None where it is not matched.
 pub type Captures = Option<Vec<Option<String>>>;
 
@@ -165,4 +198,25 @@ pub struct EngineAnswer {
     pub matches: Vec<Captures>,
     /// The text of the regular expression.
     pub pattern_string: String,
+}
+
+/// What the matcher of a pattern answers.
+#[derive(Drop, Deserialize)]
+pub struct MatchesAnswer {
+    /// The answer to each text.
+    pub matches: Vec<Captures>,
+}
+
+/// A question for what a matcher made by hand answers: a literal, or one capture.
+#[derive(Drop, Deserialize)]
+pub struct HandMatcherQuestion {
+    pub prefix: String,
+    pub suffix: String,
+    pub ignore_case: bool,
+    pub literal: Option<String>,
+    pub filter: Option<char>,
+    #[serde(default)]
+    pub allow_empty: bool,
+    /// The texts that it is asked about.
+    pub inputs: Vec<String>,
 }

@@ -1,6 +1,7 @@
 //! Asks the library what was asked when a case was recorded, and compares the answers.
 
 mod engines;
+mod matchers;
 
 use crate::recorded;
 use crate::recorded::{
@@ -9,7 +10,9 @@ use crate::recorded::{
 use std::alloc::{AllocError, Global};
 use url::ParseError;
 use urlpattern::Error;
-use urlpattern::component::{generate_pattern_string, generate_regular_expression_and_name_list};
+use urlpattern::component::{
+    generate_matcher, generate_pattern_string, generate_regular_expression_and_name_list,
+};
 use urlpattern::parser::{Options, Part, PartModifier, PartType, parse_pattern_string};
 use urlpattern::tokenizer::{Token, TokenizePolicy, tokenize};
 
@@ -22,6 +25,8 @@ pub struct Outcome {
     pub is_error: bool,
     /// Whether the library answers what was recorded.
     pub is_same: bool,
+    /// How many of the answers are an engine's matter, and are not compared.
+    pub left: u64,
 }
 
 /// Replays the case that a line holds.
@@ -33,6 +38,8 @@ pub fn replay(alloc: Global, line: &str) -> Result<Outcome, serde_json::Error> {
         Operation::Tokenize => replay_tokens(alloc, line),
         Operation::Component => replay_component(alloc, line),
         Operation::Engine => engines::replay_engine(alloc, line),
+        Operation::Matches => matchers::replay_matches(alloc, line),
+        Operation::HandMatcher => matchers::replay_hand_matcher(alloc, line),
     }
 }
 
@@ -50,10 +57,11 @@ fn replay_tokens(alloc: Global, line: &str) -> Result<Outcome, serde_json::Error
         operation: Operation::Tokenize,
         is_error: matches!(answer, Answer::Err(_)),
         is_same,
+        left: 0,
     })
 }
 
-/// Replays a case that asks for parts, names, a regular expression and a printed pattern.
+/// Replays a case that asks for parts and what is made of them.
 fn replay_component(alloc: Global, line: &str) -> Result<Outcome, serde_json::Error> {
     let Case { question, answer }: Case<ComponentQuestion, Component> = serde_json::from_str(
         alloc, line,
@@ -68,6 +76,7 @@ fn replay_component(alloc: Global, line: &str) -> Result<Outcome, serde_json::Er
         operation: Operation::Component,
         is_error: matches!(answer, Answer::Err(_)),
         is_same,
+        left: 0,
     })
 }
 
@@ -97,6 +106,7 @@ fn component(alloc: Global, question: &ComponentQuestion) -> Result<Component, E
     let part_list = parse_pattern_string(alloc, &question.pattern, &options, encode)?;
     let (regexp, names) = generate_regular_expression_and_name_list(alloc, &part_list, &options)?;
     let pattern = generate_pattern_string(alloc, &part_list, &options)?;
+    let matcher = generate_matcher(alloc, &part_list, &options, "u")?;
     let mut parts = Vec::new(alloc);
     for part in part_list {
         parts.push(recorded_part(alloc, part)?)?;
@@ -106,16 +116,22 @@ fn component(alloc: Global, question: &ComponentQuestion) -> Result<Component, E
         names,
         regexp,
         pattern,
+        matcher: matchers::recorded_matcher(alloc, matcher)?,
+    })
+}
+
+/// The options of a component.
+fn options_of_kind(alloc: Global, kind: Kind) -> Result<Options, Error> {
+    Ok(match kind {
+        Kind::Default => Options::default(alloc),
+        Kind::Hostname => Options::hostname(alloc),
+        Kind::Pathname => Options::pathname(alloc)?,
     })
 }
 
 /// The options that a question names.
 fn options_of(alloc: Global, question: &ComponentQuestion) -> Result<Options, Error> {
-    let mut options = match question.kind {
-        Kind::Default => Options::default(alloc),
-        Kind::Hostname => Options::hostname(alloc),
-        Kind::Pathname => Options::pathname(alloc)?,
-    };
+    let mut options = options_of_kind(alloc, question.kind)?;
     options.regex_syntax = question.syntax;
     if question.delimiter.is_some() {
         options.delimiter_code_point = question.delimiter;

@@ -49,6 +49,9 @@ struct Report {
     tokenize: Tally,
     component: Tally,
     engine: Tally,
+    matches: Tally,
+    hand_matcher: Tally,
+    left: u64,
     unreadable: u64,
 }
 
@@ -65,6 +68,7 @@ impl Report {
             match replay(alloc, line) {
                 Ok(outcome) => {
                     self.tally(outcome.operation).count(&outcome);
+                    self.left = self.left.saturating_add(outcome.left);
                     if !outcome.is_same {
                         writeln!(out, "{path}:{number}: differs")?;
                     }
@@ -87,6 +91,8 @@ impl Report {
             Operation::Tokenize => &mut self.tokenize,
             Operation::Component => &mut self.component,
             Operation::Engine => &mut self.engine,
+            Operation::Matches => &mut self.matches,
+            Operation::HandMatcher => &mut self.hand_matcher,
         }
     }
 
@@ -95,14 +101,24 @@ impl Report {
         self.tokenize.print(out, "tokenize")?;
         self.component.print(out, "component")?;
         self.engine.print(out, "engine")?;
+        self.matches.print(out, "matches")?;
+        self.hand_matcher.print(out, "hand_matcher")?;
+        let left = self.left;
+        writeln!(out, "answers to texts left to an engine: {left}")?;
         let unreadable = self.unreadable;
         writeln!(out, "lines without a case: {unreadable}")
     }
 
     /// Whether each line holds a case, and none differs.
     fn is_same(&self) -> bool {
-        let differing = [&self.tokenize, &self.component, &self.engine];
-        differing.iter().all(|tally| tally.differing == 0) && self.unreadable == 0
+        let tallies = [
+            &self.tokenize,
+            &self.component,
+            &self.engine,
+            &self.matches,
+            &self.hand_matcher,
+        ];
+        tallies.iter().all(|tally| tally.differing == 0) && self.unreadable == 0
     }
 }
 
@@ -137,11 +153,21 @@ mod tests {
             "\n",
             r#"{"in":{"op":"tokenize","input":":"},"out":{"err":"out of memory"}}"#,
             "\n",
-            r#"{"in":{"op":"component","kind":"default","syntax":"Rust","pattern":""},"out":{"ok":{"parts":[],"names":[],"regexp":"^","pattern":""}}}"#,
+            r#"{"in":{"op":"component","kind":"default","syntax":"Rust","pattern":""},"out":{"ok":{"parts":[],"names":[],"regexp":"^","pattern":"","matcher":{"kind":"literal","prefix":"","suffix":"","literal":""}}}}"#,
             "\n",
-            r#"{"in":{"op":"component","kind":"default","syntax":"Rust","pattern":""},"out":{"ok":{"parts":[],"names":[],"regexp":"^$","pattern":"{}"}}}"#,
+            r#"{"in":{"op":"component","kind":"default","syntax":"Rust","pattern":""},"out":{"ok":{"parts":[],"names":[],"regexp":"^$","pattern":"{}","matcher":{"kind":"literal","prefix":"","suffix":"","literal":""}}}}"#,
             "\n",
-            r#"{"in":{"op":"component","kind":"default","syntax":"Rust","pattern":""},"out":{"ok":{"parts":[],"names":[],"regexp":"^$","pattern":""}}}"#,
+            r#"{"in":{"op":"component","kind":"default","syntax":"Rust","pattern":""},"out":{"ok":{"parts":[],"names":[],"regexp":"^$","pattern":"","matcher":{"kind":"literal","prefix":"","suffix":"","literal":""}}}}"#,
+            "\n",
+            r#"{"in":{"op":"component","kind":"default","syntax":"Rust","pattern":""},"out":{"ok":{"parts":[],"names":[],"regexp":"^$","pattern":"","matcher":{"kind":"literal","prefix":"","suffix":"","literal":"a"}}}}"#,
+            "\n",
+            r#"{"in":{"op":"matches","kind":"default","pattern":"a*","ignore_case":false,"inputs":["ab","b"]},"out":{"ok":{"matches":[["b"],null],"refused":false}}}"#,
+            "\n",
+            r#"{"in":{"op":"matches","kind":"default","pattern":"a*","ignore_case":false,"inputs":["ab","b"]},"out":{"ok":{"matches":[["b"],[]],"refused":false}}}"#,
+            "\n",
+            r#"{"in":{"op":"matches","kind":"default","pattern":"a{*}?","ignore_case":false,"inputs":["ab","b"]},"out":{"ok":{"matches":[["b"],null],"refused":false}}}"#,
+            "\n",
+            r#"{"in":{"op":"hand_matcher","prefix":"a","suffix":"","ignore_case":false,"literal":"b","inputs":["ab"]},"out":{"ok":[null]}}"#,
             "\n",
             r#"{"in":{"op":"engine","engine":"regex","pattern":"b(c)","inputs":["abcd","b"]},"out":{"ok":{"matches":[["c"],null],"pattern_string":"b(c)"}}}"#,
             "\n",
@@ -157,11 +183,17 @@ mod tests {
             "cases:4: differs\n",
             "cases:5: differs\n",
             "cases:6: differs\n",
-            "cases:9: differs\n",
-            "cases:11: no case\n",
+            "cases:8: differs\n",
+            "cases:10: differs\n",
+            "cases:12: differs\n",
+            "cases:14: differs\n",
+            "cases:16: no case\n",
             "tokenize: 2 answers and 2 errors, 3 differ\n",
-            "component: 3 answers and 0 errors, 2 differ\n",
+            "component: 4 answers and 0 errors, 3 differ\n",
             "engine: 2 answers and 1 errors, 1 differ\n",
+            "matches: 3 answers and 0 errors, 1 differ\n",
+            "hand_matcher: 1 answers and 0 errors, 1 differ\n",
+            "answers to texts left to an engine: 1\n",
             "lines without a case: 1\n",
         );
         let mut report = Report::default();

@@ -5,6 +5,7 @@ mod compiled;
 mod components;
 mod engines;
 mod long_texts;
+mod matchers;
 mod options;
 mod printed;
 mod refusals;

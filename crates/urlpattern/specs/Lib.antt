@@ -20,3 +20,4 @@ pub use Rattle.urlpattern_syntax.specs.Reading
 pub use Rattle.urlpattern_syntax.specs.RegexpText
 pub use Rattle.urlpattern_syntax.specs.Text
 pub use Rattle.urlpattern_syntax.specs.Tokens
+pub use Rattle.urlpattern_syntax.specs.declared.parser.RegexSyntax
