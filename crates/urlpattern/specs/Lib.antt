@@ -1,6 +1,9 @@
+pub use Rattle.urlpattern_core.specs.Canonical
 pub use Rattle.urlpattern_laws.specs.Dialect
 pub use Rattle.urlpattern_syntax.specs.ErrorText
 pub use Rattle.urlpattern_syntax.specs.Errors
+pub mod Inheritance
+pub mod MatchInput
 pub use Rattle.urlpattern_laws.specs.Laws
 pub use Rattle.urlpattern_laws.specs.Matching
 pub use Rattle.urlpattern_syntax.specs.Options

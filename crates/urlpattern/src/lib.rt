@@ -5,4 +5,10 @@
 //! <https://urlpattern.spec.whatwg.org/>
 #![tactic(auto)]
 
-pub use urlpattern_core::{Error, RegexSyntax, component, error, laws, parser, tokenizer};
+mod init;
+pub mod quirks;
+
+pub use init::{UrlPatternInit, UrlPatternMatchInput};
+pub use urlpattern_core::{
+    Error, RegexSyntax, canonicalize_and_process, component, error, laws, parser, tokenizer,
+};
