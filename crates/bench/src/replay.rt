@@ -1,5 +1,7 @@
 //! Asks the library what was asked when a case was recorded, and compares the answers.
 
+mod values;
+
 use crate::recorded;
 use crate::recorded::{
     Answer, Callback, Case, Component, ComponentQuestion, Heading, Kind, Operation, TokensQuestion,
@@ -30,6 +32,9 @@ pub fn replay(alloc: Global, line: &str) -> Result<Outcome, serde_json::Error> {
     match heading.question.operation {
         Operation::Tokenize => replay_tokens(alloc, line),
         Operation::Component => replay_component(alloc, line),
+        Operation::Canonicalize => values::replay_canonical(alloc, line),
+        Operation::Process => values::replay_processed(alloc, line),
+        Operation::MatchInput => values::replay_match_input(alloc, line),
     }
 }
 

@@ -48,6 +48,9 @@ impl Tally {
 struct Report {
     tokenize: Tally,
     component: Tally,
+    canonicalize: Tally,
+    process: Tally,
+    match_input: Tally,
     unreadable: u64,
 }
 
@@ -85,6 +88,9 @@ impl Report {
         match operation {
             Operation::Tokenize => &mut self.tokenize,
             Operation::Component => &mut self.component,
+            Operation::Canonicalize => &mut self.canonicalize,
+            Operation::Process => &mut self.process,
+            Operation::MatchInput => &mut self.match_input,
         }
     }
 
@@ -92,13 +98,23 @@ impl Report {
     fn print<O: Write>(&self, out: &mut O) -> io::Result<()> {
         self.tokenize.print(out, "tokenize")?;
         self.component.print(out, "component")?;
+        self.canonicalize.print(out, "canonicalize")?;
+        self.process.print(out, "process")?;
+        self.match_input.print(out, "match_input")?;
         let unreadable = self.unreadable;
         writeln!(out, "lines without a case: {unreadable}")
     }
 
     /// Whether each line holds a case, and none differs.
     fn is_same(&self) -> bool {
-        self.tokenize.differing == 0 && self.component.differing == 0 && self.unreadable == 0
+        let tallies = [
+            &self.tokenize,
+            &self.component,
+            &self.canonicalize,
+            &self.process,
+            &self.match_input,
+        ];
+        tallies.iter().all(|tally| tally.differing == 0) && self.unreadable == 0
     }
 }
 
@@ -147,6 +163,9 @@ mod tests {
             "cases:7: no case\n",
             "tokenize: 2 answers and 2 errors, 3 differ\n",
             "component: 2 answers and 0 errors, 1 differ\n",
+            "canonicalize: 0 answers and 0 errors, 0 differ\n",
+            "process: 0 answers and 0 errors, 0 differ\n",
+            "match_input: 0 answers and 0 errors, 0 differ\n",
             "lines without a case: 1\n",
         );
         let mut report = Report::default();

@@ -1,8 +1,10 @@
 //! Worked examples, by what they show.
 
 mod callbacks;
+mod canonical;
 mod components;
 mod long_texts;
+mod match_inputs;
 mod options;
 mod refusals;
 mod tokens;

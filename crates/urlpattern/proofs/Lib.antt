@@ -1,1 +1,2 @@
 pub mod InheritanceLemmas
+pub mod MatchInputLemmas

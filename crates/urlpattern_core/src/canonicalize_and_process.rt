@@ -753,9 +753,9 @@ pub fn special_scheme_default_port(scheme: &str) -> Option<&'static str>
 
 /// A text of a base URL as the text of an init: for a pattern it is escaped.
 ///
-/// The error is that memory ran out.
-///
 /// <https://urlpattern.spec.whatwg.org/#process-a-base-url-string>
+///
+/// The error is that memory ran out.
 pub fn process_base_url(alloc: Global, input: &str, kind: &ProcessType) -> Result<String, Error>
     ensures ok { IfOk result (λ text. text_of text ≡ processed_base kind.now (chars input.now)) }
     ensures memory { IfErr result (λ error. error ≡ errors.OutOfMemory) }

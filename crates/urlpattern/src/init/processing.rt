@@ -162,6 +162,7 @@ impl Processing<'_> {
         let search = self.value_under(Component::Search, &protocol)?;
         let hash = self.value_under(Component::Hash, &protocol)?;
         Ok(UrlPatternInit {
+            base_url: None,
             protocol,
             username,
             password,
@@ -170,7 +171,6 @@ impl Processing<'_> {
             pathname,
             search,
             hash,
-            base_url: None,
         })
     }
 
