@@ -33,6 +33,13 @@ pub enum Operation {
     Matches,
     /// What a matcher made by hand answers to texts.
     HandMatcher,
+    /// A canonical value.
+    Canonicalize,
+    /// A value of an init, or an escaped text.
+    Process,
+    /// The texts of a match input.
+    #[serde(rename = "match_input")]
+    MatchInput,
 }
 
 /// A question, and the answer that was recorded.
@@ -83,10 +90,11 @@ pub struct ComponentQuestion {
 }
 
 /// Whose options hold.
-#[derive(Clone, Copy, Drop, Deserialize)]
+#[derive(Default, Clone, Copy, Drop, Deserialize)]
 #[serde(rename_all = "lowercase")]
 pub enum Kind {
     /// Those of most components.
+    #[default]
     Default,
     /// Those of a hostname.
     Hostname,
@@ -219,4 +227,115 @@ pub struct HandMatcherQuestion {
     pub allow_empty: bool,
     /// The texts that it is asked about.
     pub inputs: Vec<String>,
+}
+
+/// A question for a canonical value.
+#[derive(Drop, Deserialize)]
+pub struct CanonicalQuestion {
+    /// Whose value it is.
+    pub which: Canonical,
+    /// The value.
+    pub value: String,
+    /// The protocol of a port.
+    pub protocol: Option<String>,
+}
+
+/// What is made canonical.
+#[derive(Clone, Copy, Drop, Deserialize)]
+#[serde(rename_all = "snake_case")]
+pub enum Canonical {
+    Protocol,
+    Username,
+    Password,
+    Hostname,
+    Ipv6Hostname,
+    Port,
+    Pathname,
+    OpaquePathname,
+    Search,
+    Hash,
+}
+
+/// A question for a value of an init, or for an escaped text.
+#[derive(Drop, Deserialize)]
+pub struct ProcessQuestion {
+    /// Whose value it is, or which text is made.
+    pub which: Processed,
+    /// The value.
+    pub value: String,
+    /// How the value is meant.
+    #[serde(default)]
+    pub mode: Mode,
+    /// The protocol of a port or a pathname.
+    pub protocol: Option<String>,
+    /// The component whose options hold.
+    #[serde(default)]
+    pub kind: Kind,
+    /// The syntax of a regular expression.
+    #[serde(default)]
+    pub syntax: RegexSyntax,
+}
+
+/// What is processed, or escaped.
+#[derive(Clone, Copy, Drop, Deserialize)]
+#[serde(rename_all = "snake_case")]
+pub enum Processed {
+    Protocol,
+    Username,
+    Password,
+    Hostname,
+    Port,
+    Pathname,
+    Search,
+    Hash,
+    BaseUrl,
+    EscapePatternString,
+    EscapeRegexpString,
+    SegmentWildcard,
+}
+
+/// How a value of an init is meant.
+#[derive(Default, Clone, Copy, Drop, Deserialize)]
+#[serde(rename_all = "lowercase")]
+pub enum Mode {
+    /// As a pattern.
+    #[default]
+    Pattern,
+    /// As a component of a URL.
+    Url,
+}
+
+/// A question for the texts of a match input: a text or an init, with or without a base URL.
+#[derive(Drop, Deserialize)]
+pub struct MatchInputQuestion {
+    /// A text.
+    pub string: Option<String>,
+    /// An init.
+    pub init: Option<Init>,
+    /// The base URL beside it.
+    pub base: Option<String>,
+}
+
+/// The components of an init, with its base URL.
+#[derive(Drop, Deserialize)]
+pub struct Init {
+    /// The scheme.
+    pub protocol: Option<String>,
+    /// The user name.
+    pub username: Option<String>,
+    /// The secret beside it.
+    pub password: Option<String>,
+    /// The host.
+    pub hostname: Option<String>,
+    /// The port, as a text.
+    pub port: Option<String>,
+    /// The path.
+    pub pathname: Option<String>,
+    /// The query.
+    pub search: Option<String>,
+    /// The fragment.
+    pub hash: Option<String>,
+    /// The base URL, as a text.
+    #[serde(rename = "baseURL")]
+    pub base_url: Option<String>,
 }

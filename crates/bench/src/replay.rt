@@ -2,6 +2,7 @@
 
 mod engines;
 mod matchers;
+mod values;
 
 use crate::recorded;
 use crate::recorded::{
@@ -40,6 +41,9 @@ pub fn replay(alloc: Global, line: &str) -> Result<Outcome, serde_json::Error> {
         Operation::Engine => engines::replay_engine(alloc, line),
         Operation::Matches => matchers::replay_matches(alloc, line),
         Operation::HandMatcher => matchers::replay_hand_matcher(alloc, line),
+        Operation::Canonicalize => values::replay_canonical(alloc, line),
+        Operation::Process => values::replay_processed(alloc, line),
+        Operation::MatchInput => values::replay_match_input(alloc, line),
     }
 }
 

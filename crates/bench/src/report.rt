@@ -52,6 +52,9 @@ struct Report {
     matches: Tally,
     hand_matcher: Tally,
     left: u64,
+    canonicalize: Tally,
+    process: Tally,
+    match_input: Tally,
     unreadable: u64,
 }
 
@@ -93,6 +96,9 @@ impl Report {
             Operation::Engine => &mut self.engine,
             Operation::Matches => &mut self.matches,
             Operation::HandMatcher => &mut self.hand_matcher,
+            Operation::Canonicalize => &mut self.canonicalize,
+            Operation::Process => &mut self.process,
+            Operation::MatchInput => &mut self.match_input,
         }
     }
 
@@ -105,6 +111,9 @@ impl Report {
         self.hand_matcher.print(out, "hand_matcher")?;
         let left = self.left;
         writeln!(out, "answers to texts left to an engine: {left}")?;
+        self.canonicalize.print(out, "canonicalize")?;
+        self.process.print(out, "process")?;
+        self.match_input.print(out, "match_input")?;
         let unreadable = self.unreadable;
         writeln!(out, "lines without a case: {unreadable}")
     }
@@ -117,6 +126,9 @@ impl Report {
             &self.engine,
             &self.matches,
             &self.hand_matcher,
+            &self.canonicalize,
+            &self.process,
+            &self.match_input,
         ];
         tallies.iter().all(|tally| tally.differing == 0) && self.unreadable == 0
     }
@@ -194,6 +206,9 @@ mod tests {
             "matches: 3 answers and 0 errors, 1 differ\n",
             "hand_matcher: 1 answers and 0 errors, 1 differ\n",
             "answers to texts left to an engine: 1\n",
+            "canonicalize: 0 answers and 0 errors, 0 differ\n",
+            "process: 0 answers and 0 errors, 0 differ\n",
+            "match_input: 0 answers and 0 errors, 0 differ\n",
             "lines without a case: 1\n",
         );
         let mut report = Report::default();

@@ -2,10 +2,12 @@
 
 mod callbacks;
 mod compiled;
+mod canonical;
 mod components;
 mod engines;
 mod long_texts;
 mod matchers;
+mod match_inputs;
 mod options;
 mod printed;
 mod refusals;

@@ -4,9 +4,12 @@ pub mod Splitting
 pub use Rattle.urlpattern_core.specs.Captured
 pub use Rattle.urlpattern_core.specs.Engines
 pub use Rattle.urlpattern_core.specs.Matchers
+pub use Rattle.urlpattern_core.specs.Canonical
 pub use Rattle.urlpattern_laws.specs.Dialect
 pub use Rattle.urlpattern_syntax.specs.ErrorText
 pub use Rattle.urlpattern_syntax.specs.Errors
+pub mod Inheritance
+pub mod MatchInput
 pub use Rattle.urlpattern_laws.specs.Laws
 pub use Rattle.urlpattern_laws.specs.Matching
 pub use Rattle.urlpattern_laws.specs.PartMeaning

@@ -1,7 +1,9 @@
-//! What a browser needs that takes this library in: an engine in ECMAScript's syntax.
+//! Types and calls for browsers: an engine in ECMAScript's syntax, and the texts of a match input.
 
 mod ecma_regexp;
+mod match_input;
 
 pub use crate::Error;
 pub use crate::component::Component;
 pub use ecma_regexp::EcmaRegexp;
+pub use match_input::{MatchInput, parse_match_input};

@@ -12,7 +12,7 @@ use Rattle.url.specs.declared.error.ParseError.TheVariants.{Overflow, OutOfMemor
 use Rattle.url.specs.Parser.{Gives, GivesBy, IsOutOfRoom, Parsed, and_then, parse_url}
 use Rattle.url.specs.Parts.{Parts}
 use Rattle.urlpattern_core.specs.Asking.{IsRefusal, IsToldAs}
-use Rattle.urlpattern_core.specs.Canonical.{Tells, after, canonical, dummy_url, long_text, path_of, pathname_of, scheme_for_port, told_as, without_guard}
+use Rattle.urlpattern_core.specs.Canonical.{IsAnswer, Tells, after, canonical, dummy_url, long_text, path_of, pathname_of, scheme_for_port, told_as, without_guard}
 use Rattle.urlpattern_syntax.proofs.TextLemmas.{chars-empty}
 use Rattle.urlpattern_syntax.specs.declared.error.Error.{Error}
 use Rattle.urlpattern_syntax.specs.declared.error.Error.TheVariants as errors
@@ -120,6 +120,22 @@ pub tells-through : {T U : Type 0} (asked : Parsed T) (whole : Parsed U) (bytes 
     → ((reason : ParseError) → asked ≡ Err reason → whole ≡ Err reason) → MemoryOr (Tells asked bytes) error → MemoryOr (Tells whole bytes) error
 tells-through asked whole bytes error step told =
     elim told [ inl memory ↦ inl memory | inr refused ↦ inr (tells-through_view asked whole bytes (error_view error) step refused) ]
+
+-- texts of more bytes
+tells-more_view : {T : Type 0} (asked : Parsed T) (few many : ℕ) (error : ErrorView) → few ≤ many → Tells asked few error → Tells asked many error
+tells-more_view asked few many (views.Url reason) more told =
+    (told.0, elim told.1 [ inl refused ↦ inl refused | inr long ↦ inr (long.0, omega (arith, long.1)) ])
+tells-more_view asked few many error more told = absurd told
+
+pub tells-more : {T : Type 0} (asked : Parsed T) (few many : ℕ) (error : Error) → few ≤ many → MemoryOr (Tells asked few) error
+    → MemoryOr (Tells asked many) error
+tells-more asked few many error more told =
+    elim told [ inl memory ↦ inl memory | inr refused ↦ inr (tells-more_view asked few many (error_view error) more refused) ]
+
+pub answers-more : (asked : Parsed (List ℕ)) (few many : ℕ) (result : Result (String Global) Error) → few ≤ many → IsAnswer asked few result
+    → IsAnswer asked many result
+answers-more asked few many (Ok text) more answer = answer
+answers-more asked few many (Err error) more answer = tells-more asked few many error more answer
 
 -- what is told of a URL that is parsed
 pub told_parse : (answer : Parsed Parts) (asked : Parsed Parts) (bytes : ℕ) (result : Result Parts Error) → Gives answer asked

@@ -390,7 +390,7 @@ fn scheme_for_port(protocol: &str) -> &str
 }
 
 /// Whether the text begins with a slash.
-fn begins_with_slash(text: &str) -> bool
+pub fn begins_with_slash(text: &str) -> bool
     ensures bytes { result ≡ (slice_index text.now 0 == slice_index (codes "/") 0) }
     ensures text { result ≡ begins_with (λ c. c == slice_index (codes "/") 0) (chars text.now) }
 {
@@ -420,7 +420,7 @@ fn without_colon(text: &str) -> &str
 }
 
 /// The text without this mark at its front.
-fn without_first(text: &str, mark: u8) -> &str
+pub fn without_first(text: &str, mark: u8) -> &str
     requires { (0 < mark) × (mark < 128) }
     ensures value { chars result.now ≡ without_first mark (chars text.now) }
     ensures shorter { length result.now ≤ length text.now }
@@ -753,9 +753,9 @@ pub fn special_scheme_default_port(scheme: &str) -> Option<&'static str>
 
 /// A text of a base URL as the text of an init: for a pattern it is escaped.
 ///
-/// The error is that memory ran out.
-///
 /// <https://urlpattern.spec.whatwg.org/#process-a-base-url-string>
+///
+/// The error is that memory ran out.
 pub fn process_base_url(alloc: Global, input: &str, kind: &ProcessType) -> Result<String, Error>
     ensures ok { IfOk result (λ text. text_of text ≡ processed_base kind.now (chars input.now)) }
     ensures memory { IfErr result (λ error. error ≡ errors.OutOfMemory) }
