@@ -205,7 +205,7 @@ fn is_as_expected(alloc: Global) -> Result<bool, Error> {
     )
 }
 
-/// Holds whichever allocation is refused: `rt try --test --fail-alloc 1..` refuses each in turn.
+/// Holds whichever allocation is refused: `rt try --test --fail-alloc N` refuses the one of that number.
 #[test]
 fn without_memory_no_other_answer_is_given(rt: HostRuntime) {
     let answer = is_as_expected(rt.alloc());
