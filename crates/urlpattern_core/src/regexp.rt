@@ -14,8 +14,9 @@ use std::alloc::Global;
 /// A regular expression of some engine.
 ///
 /// What a type of engines means is told by its ghost members: `syntax_of` is the syntax that it takes, `IsMade` tells
-/// which of its values are made of a text and flags, `MayRefuse` which texts it may refuse with which flags and
-/// `force_eval`, `answer` what a value answers to a text, and `text_made_of` the text that a value was made of.
+/// which of its values are made of a text and flags, `MayRefuse` whether a text may be refused when it comes with these
+/// flags and this `force_eval`, `answer` what a value answers to a text, and `text_made_of` the text that a value was
+/// made of.
 pub trait RegExp: Sized + Drop {
     ghost syntax_of: { RegexSyntax };
 
@@ -45,8 +46,8 @@ pub trait RegExp: Sized + Drop {
         ensures made { IfOk result (λ engine. IsMade engine (chars pattern.now) (chars flags.now)) }
         ensures refused { result ≡ Err Pattern → MayRefuse (chars pattern.now) (chars flags.now) force_eval };
 
-    /// What the groups capture of a text, in their order and without the whole match: a slice of the text, or None for a
-    /// group that took no part. None if the text is not matched.
+    /// What the groups capture of a text, in their order and without the whole match: slices of the text, with None where
+    /// a group took no part. Where the text is not matched there is no list.
     ///
     /// The error is that memory ran out.
     fn matches<'a>(
