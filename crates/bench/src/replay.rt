@@ -111,6 +111,7 @@ fn component(alloc: Global, question: &ComponentQuestion) -> Result<Component, E
     let (regexp, names) = generate_regular_expression_and_name_list(alloc, &part_list, &options)?;
     let pattern = generate_pattern_string(alloc, &part_list, &options)?;
     let matcher = generate_matcher(alloc, &part_list, &options, "u")?;
+    let matcher = matchers::recorded_matcher(alloc, &matcher)?;
     let mut parts = Vec::new(alloc);
     for part in part_list {
         parts.push(recorded_part(alloc, part)?)?;
@@ -120,7 +121,7 @@ fn component(alloc: Global, question: &ComponentQuestion) -> Result<Component, E
         names,
         regexp,
         pattern,
-        matcher: matchers::recorded_matcher(alloc, matcher)?,
+        matcher,
     })
 }
 

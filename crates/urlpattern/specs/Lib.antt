@@ -2,6 +2,7 @@ pub mod EcmaRegexps
 pub mod Split
 pub mod Splitting
 pub use Rattle.urlpattern_core.specs.Captured
+pub use Rattle.urlpattern_core.specs.Compiling
 pub use Rattle.urlpattern_core.specs.Engines
 pub use Rattle.urlpattern_core.specs.Matchers
 pub use Rattle.urlpattern_core.specs.Canonical

@@ -49,8 +49,8 @@ pub enum InnerMatcher<R> {
 }
 
 impl<R: RegExp> Matcher<R> {
-    /// What the groups capture of a text, in their order: a slice of it, or None for a group that took no part. None if
-    /// the text is not matched.
+    /// What the groups capture of a text, in their order: slices of it, with None where a group took no part. Where the
+    /// text is not matched there is no list.
     ///
     /// The error is that memory ran out. None is asked for where the answer is None before an engine is asked, nor where
     /// a literal stands between prefix and suffix.

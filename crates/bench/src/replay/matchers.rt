@@ -147,33 +147,37 @@ fn are_same_captures(found: &Option<Vec<Option<&str>>>, recorded: &Captures) -> 
 /// A matcher in the form of the recorded ones.
 pub fn recorded_matcher(
     alloc: Global,
-    matcher: Matcher<KeptText>,
+    matcher: &Matcher<KeptText>,
 ) -> Result<recorded::Matcher, AllocError> {
-    let Matcher {
-        prefix,
-        suffix,
-        inner,
-        ignore_case: _,
-    } = matcher;
-    let (kind, literal, filter, allow_empty, regexp) = match inner {
-        InnerMatcher::Literal { literal } => ("literal", Some(literal), None, None, None),
+    let mut shown = recorded::Matcher {
+        kind: String::new(alloc),
+        prefix: matcher.prefix.clone()?,
+        suffix: matcher.suffix.clone()?,
+        literal: None,
+        filter: None,
+        allow_empty: None,
+        regexp: None,
+    };
+    let kind = match &matcher.inner {
+        InnerMatcher::Literal { literal } => {
+            shown.literal = Some(literal.clone()?);
+            "literal"
+        }
         InnerMatcher::SingleCapture {
             filter,
             allow_empty,
-        } => ("singleCapture", None, filter, Some(allow_empty), None),
-        InnerMatcher::RegExp { regexp: Ok(engine) } => {
-            let text = String::from_str(alloc, engine.pattern_string())?;
-            ("regExp", None, None, None, Some(text))
+        } => {
+            shown.filter = *filter;
+            shown.allow_empty = Some(*allow_empty);
+            "singleCapture"
         }
-        InnerMatcher::RegExp { regexp: Err(_) } => ("regExp", None, None, None, None),
+        InnerMatcher::RegExp { regexp } => {
+            if let Ok(engine) = regexp {
+                shown.regexp = Some(String::from_str(alloc, engine.pattern_string())?);
+            }
+            "regExp"
+        }
     };
-    Ok(recorded::Matcher {
-        kind: String::from_str(alloc, kind)?,
-        prefix,
-        suffix,
-        literal,
-        filter,
-        allow_empty,
-        regexp,
-    })
+    shown.kind.push_str(kind)?;
+    Ok(shown)
 }

@@ -65,7 +65,7 @@ fn is_inner(found: &InnerMatcher<KeptText>, expected: Inner<'_>) -> bool {
     }
 }
 
-/// Compares what a matcher answers to texts: the one text that it captures, nothing that it captures, or no match.
+/// Compares what a matcher captures of each text, None where there is no match, and whether it accepts the text.
 fn expect_answers(
     rt: &impl Abort,
     alloc: Global,
@@ -186,7 +186,7 @@ fn case_is_ignored_in_a_literal_and_not_in_a_prefix(rt: HostRuntime) -> Result<(
     Ok(())
 }
 
-/// Whether a pattern is printed and matched as expected, by a text that is captured and one that an engine is asked about.
+/// Whether patterns are printed and match as expected: one by a capture, and one by an engine.
 fn is_as_expected(alloc: Global) -> Result<bool, Error> {
     let options = Options::pathname(alloc)?;
     let parts = parts_of(alloc, "/blog/:id.html", &options)?;
@@ -205,7 +205,7 @@ fn is_as_expected(alloc: Global) -> Result<bool, Error> {
     )
 }
 
-/// Holds whichever allocation is refused: `rt try --test --fail-alloc 1..` refuses each in turn.
+/// Holds whichever allocation is refused: `rt try --test --fail-alloc N` refuses the one of that number.
 #[test]
 fn without_memory_no_other_answer_is_given(rt: HostRuntime) {
     let answer = is_as_expected(rt.alloc());
