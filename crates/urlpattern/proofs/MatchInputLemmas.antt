@@ -18,9 +18,9 @@ pub no_input : (init : UrlPatternInit) (error : Error) (reason : ParseError) →
     → IsNoInput (Init init)
 no_input init error reason is told =
     elim (rw is at told) [
-      inl memory ↦ absurd cc
+      | inl memory ↦ absurd cc
       | inr refused ↦ elim refused.1 [
-          inl asked ↦ inl (reason, ap (λ parsed. and_then parsed (λ values. Ok (texts_of_values values))) asked)
-          | inr long ↦ inr long.1
-        ]
+        | inl asked ↦ inl (reason, ap (λ parsed. and_then parsed (λ values. Ok (texts_of_values values))) asked)
+        | inr long ↦ inr long.1
+      ]
     ]

@@ -1,10 +1,9 @@
 -- The values of an init, and what it inherits from its base URL, after the URLPattern Standard, section "Processing", at
 -- "process a URLPatternInit".
-use Rattle.std.specs.Prelude.{◌≡◌, ℕ, ◌+◌, ◌≤◌, ◌⊎◌, Bool, true, false, not, ◌&&◌, ◌||◌, ◌==◌, List, [], ◌∷◌, ◌++◌, map, nat_eq, codes, slice_index, sum, Option, Some, None, is_none, option_map, unwrap_or, Ok, Err, if◌then◌else◌}
-use Rattle.std.specs.List.{list_all, list_any, starts_with}
+use Rattle.std.specs.Prelude.{ℕ, ◌+◌, Bool, true, false, ◌&&◌, ◌||◌, ◌==◌, List, [], ◌∷◌, ◌++◌, map, codes, slice_index, sum, Option, Some, None, is_none, option_map, unwrap_or, Ok, Err, if◌then◌else◌}
+use Rattle.std.specs.List.{list_all, list_any}
 use Rattle.std.specs.Option.{option_or}
 use Rattle.std.specs.Str.{chars}
-use Rattle.url.specs.declared.error.ParseError.{ParseError}
 use Rattle.url.specs.declared.slicing.Position.TheVariants.{BeforePort, AfterPort}
 use Rattle.url.specs.Host.{host_text}
 use Rattle.url.specs.Parser.{Parsed, and_then}
@@ -12,7 +11,7 @@ use Rattle.url.specs.Parts.{Parts, cannot_be_a_base, host_or_empty, text_between
 use Rattle.urlpattern.specs.declared.init.processing.Component.{Component}
 use Rattle.urlpattern.specs.declared.init.processing.Component.TheVariants.{Protocol, Username, Password, Hostname, Port, Pathname, Search, Hash}
 use Rattle.urlpattern.specs.declared.init.UrlPatternInit.{UrlPatternInit}
-use Rattle.urlpattern_core.specs.Canonical.{long_text, processed_base, processed_hash, processed_hostname, processed_password, processed_pathname, processed_port, processed_protocol, processed_search, processed_username, without_first}
+use Rattle.urlpattern_core.specs.Canonical.{processed_base, processed_hash, processed_hostname, processed_password, processed_pathname, processed_port, processed_protocol, processed_search, processed_username, without_first}
 use Rattle.urlpattern_core.specs.declared.canonicalize_and_process.ProcessType.{ProcessType}
 use Rattle.urlpattern_core.specs.declared.canonicalize_and_process.ProcessType.TheVariants.{Pattern, Url}
 use Rattle.urlpattern_syntax.specs.Text.{begins_with, byte_len, text_of}

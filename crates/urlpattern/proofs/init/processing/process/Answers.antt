@@ -1,4 +1,4 @@
-use Rattle.std.proofs.Common.{◌≡◌, ◌+◌, [], length, None, arith}
+use Rattle.std.proofs.Common.{◌+◌, None, arith}
 use Rattle.std.proofs.lemmas.Result.{err_from_is_err_and}
 use Rattle.urlpattern_core.proofs.CanonicalLemmas.{tells-more, tells-through}
 use Rattle.urlpattern.proofs.InheritanceLemmas.{given-le, refused-protocol}

@@ -1,4 +1,4 @@
-use Rattle.std.proofs.Common.{◌≡◌, ◌+◌, ◌∙◌, sym, take, arith}
+use Rattle.std.proofs.Common.{◌+◌, ◌∙◌, sym, arith}
 use Rattle.std.proofs.lemmas.Str.Pattern.{rfind_char}
 use Rattle.urlpattern_core.proofs.MarkLemmas.{slice_range-front}
 use Rattle.urlpattern.proofs.InheritanceLemmas.{up_to_last_slash-at, up_to_last_slash-none}

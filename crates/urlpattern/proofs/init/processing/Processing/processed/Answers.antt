@@ -1,4 +1,4 @@
-use Rattle.std.proofs.Common.{◌≡◌, ◌≤◌, ◌+◌, [], length, max, unwrap_or, arith}
+use Rattle.std.proofs.Common.{◌+◌, [], length, max, unwrap_or, arith}
 use Rattle.std.specs.Prelude.{option_copied, option_map}
 use Rattle.std.specs.Str.{chars}
 use Rattle.urlpattern_core.proofs.CanonicalLemmas.{answers-more}

@@ -1,4 +1,4 @@
-use Rattle.std.proofs.Common.{◌≡◌, [], ◌++◌, ◌∙◌, Some, option_copied, option_map, sym, ap}
+use Rattle.std.proofs.Common.{◌≡◌, [], ◌++◌, ◌∙◌, option_copied, option_map, sym, ap}
 use Rattle.std.specs.Str.{chars}
 use Rattle.urlpattern_core.specs.Canonical.{processed_base}
 use Rattle.urlpattern_syntax.proofs.StringTexts.{text-append}

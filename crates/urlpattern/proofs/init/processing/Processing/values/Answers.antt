@@ -1,4 +1,4 @@
-use Rattle.std.proofs.Common.{◌≡◌, ◌+◌, ◌∙◌, sym, ap, None, option_map}
+use Rattle.std.proofs.Common.{◌+◌, option_map}
 use Rattle.std.proofs.lemmas.Result.{err_from_is_err_and}
 use Rattle.urlpattern_core.proofs.CanonicalLemmas.{tells-more, tells-through}
 use Rattle.urlpattern_syntax.specs.Text.{text_of}
