@@ -23,12 +23,14 @@ pub struct Call {
 #[derive(Clone, Copy, Drop, Deserialize)]
 #[serde(rename_all = "lowercase")]
 pub enum Operation {
-    /// The strict tokens of a text.
+    /// The tokens of a text.
     Tokenize,
     /// The parts of a pattern, the names of its groups and its regular expression.
     Component,
     /// What an engine of regular expressions answers.
     Engine,
+    /// The components of a constructor string.
+    Constructor,
 }
 
 /// A question, and the answer that was recorded.
@@ -52,9 +54,23 @@ pub enum Answer<A> {
     Err(String),
 }
 
-/// A question for the strict tokens of a text.
+/// What is done where a text has no token.
+#[derive(Default, Clone, Copy, Drop, Deserialize)]
+#[serde(rename_all = "lowercase")]
+pub enum Policy {
+    /// An error is answered.
+    #[default]
+    Strict,
+    /// The character is taken as a token.
+    Lenient,
+}
+
+/// A question for the tokens of a text.
 #[derive(Drop, Deserialize)]
 pub struct TokensQuestion {
+    /// What is done where there is none.
+    #[serde(default)]
+    pub policy: Policy,
     /// The text.
     pub input: String,
 }
@@ -163,4 +179,27 @@ pub struct EngineAnswer {
     pub matches: Vec<Captures>,
     /// The text of the regular expression.
     pub pattern_string: String,
+}
+
+/// A question for the components of a constructor string.
+#[derive(Drop, Deserialize)]
+pub struct ConstructorQuestion {
+    /// The constructor string.
+    pub pattern: String,
+    /// The text of the base URL.
+    pub base: Option<String>,
+}
+
+/// The components of a constructor string, and how many looks at a token were taken.
+#[derive(PartialEq, Drop, Deserialize)]
+pub struct Constructor {
+    pub protocol: Option<String>,
+    pub username: Option<String>,
+    pub password: Option<String>,
+    pub hostname: Option<String>,
+    pub port: Option<String>,
+    pub pathname: Option<String>,
+    pub search: Option<String>,
+    pub hash: Option<String>,
+    pub turns: usize,
 }

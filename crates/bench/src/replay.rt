@@ -1,10 +1,12 @@
 //! Asks the library what was asked when a case was recorded, and compares the answers.
 
+mod constructors;
 mod engines;
 
 use crate::recorded;
 use crate::recorded::{
-    Answer, Callback, Case, Component, ComponentQuestion, Heading, Kind, Operation, TokensQuestion,
+    Answer, Callback, Case, Component, ComponentQuestion, Heading, Kind, Operation, Policy,
+    TokensQuestion,
 };
 use std::alloc::{AllocError, Global};
 use url::ParseError;
@@ -33,6 +35,7 @@ pub fn replay(alloc: Global, line: &str) -> Result<Outcome, serde_json::Error> {
         Operation::Tokenize => replay_tokens(alloc, line),
         Operation::Component => replay_component(alloc, line),
         Operation::Engine => engines::replay_engine(alloc, line),
+        Operation::Constructor => constructors::replay_constructor(alloc, line),
     }
 }
 
@@ -40,7 +43,11 @@ pub fn replay(alloc: Global, line: &str) -> Result<Outcome, serde_json::Error> {
 fn replay_tokens(alloc: Global, line: &str) -> Result<Outcome, serde_json::Error> {
     let Case { question, answer }: Case<TokensQuestion, Vec<recorded::Token>> =
         serde_json::from_str(alloc, line)?;
-    let found = tokenize(alloc, &question.input, TokenizePolicy::Strict);
+    let policy = match question.policy {
+        Policy::Strict => TokenizePolicy::Strict,
+        Policy::Lenient => TokenizePolicy::Lenient,
+    };
+    let found = tokenize(alloc, &question.input, policy);
     let is_same = match (&found, &answer) {
         (Ok(tokens), Answer::Ok(recorded)) => are_same_tokens(tokens, recorded),
         (Err(error), Answer::Err(text)) => prints(alloc, error, text)?,

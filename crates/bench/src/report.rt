@@ -49,6 +49,7 @@ struct Report {
     tokenize: Tally,
     component: Tally,
     engine: Tally,
+    constructor: Tally,
     unreadable: u64,
 }
 
@@ -87,6 +88,7 @@ impl Report {
             Operation::Tokenize => &mut self.tokenize,
             Operation::Component => &mut self.component,
             Operation::Engine => &mut self.engine,
+            Operation::Constructor => &mut self.constructor,
         }
     }
 
@@ -95,13 +97,19 @@ impl Report {
         self.tokenize.print(out, "tokenize")?;
         self.component.print(out, "component")?;
         self.engine.print(out, "engine")?;
+        self.constructor.print(out, "constructor")?;
         let unreadable = self.unreadable;
         writeln!(out, "lines without a case: {unreadable}")
     }
 
     /// Whether each line holds a case, and none differs.
     fn is_same(&self) -> bool {
-        let differing = [&self.tokenize, &self.component, &self.engine];
+        let differing = [
+            &self.tokenize,
+            &self.component,
+            &self.engine,
+            &self.constructor,
+        ];
         differing.iter().all(|tally| tally.differing == 0) && self.unreadable == 0
     }
 }
@@ -147,6 +155,12 @@ mod tests {
             "\n",
             r#"{"in":{"op":"engine","engine":"regex","pattern":"a(","inputs":[]},"out":{"err":"pattern"}}"#,
             "\n",
+            r#"{"in":{"op":"tokenize","policy":"lenient","input":":"},"out":{"ok":[["InvalidChar",0,":"],["End",1,""]]}}"#,
+            "\n",
+            r#"{"in":{"op":"constructor","pattern":"a","base":null},"out":{"err":"a relative input without a base URL is not valid"}}"#,
+            "\n",
+            r#"{"in":{"op":"constructor","pattern":"a","base":null},"out":{"err":"out of memory"}}"#,
+            "\n",
             r#"{"in":{"op":"other"},"out":{"ok":null}}"#,
         );
         let printed = concat!(
@@ -155,10 +169,12 @@ mod tests {
             "cases:4: differs\n",
             "cases:5: differs\n",
             "cases:8: differs\n",
-            "cases:10: no case\n",
-            "tokenize: 2 answers and 2 errors, 3 differ\n",
+            "cases:12: differs\n",
+            "cases:13: no case\n",
+            "tokenize: 3 answers and 2 errors, 3 differ\n",
             "component: 2 answers and 0 errors, 1 differ\n",
             "engine: 2 answers and 1 errors, 1 differ\n",
+            "constructor: 0 answers and 2 errors, 1 differ\n",
             "lines without a case: 1\n",
         );
         let mut report = Report::default();

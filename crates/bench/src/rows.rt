@@ -2,6 +2,7 @@
 
 mod callbacks;
 mod components;
+mod constructor_strings;
 mod engines;
 mod long_texts;
 mod options;

@@ -2,3 +2,5 @@ pub mod TokenPlaces
 pub mod SeenLemmas
 pub mod TextBetween
 pub mod SplitLemmas
+pub mod Encodings
+pub mod SplitExamples

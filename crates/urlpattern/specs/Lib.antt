@@ -1,3 +1,5 @@
+pub mod ConstructorString
+pub mod SpecialProtocol
 pub mod Split
 pub mod Splitting
 pub use Rattle.urlpattern_core.specs.Captured

@@ -6,8 +6,10 @@
 #![tactic(auto)]
 
 mod constructor_parser;
+mod init;
 pub mod quirks;
 
+pub use init::UrlPatternInit;
 pub use urlpattern_core::{
     Error, RegexSyntax, canonicalize_and_process, component, error, laws, matcher, parser, regexp,
     tokenizer,
