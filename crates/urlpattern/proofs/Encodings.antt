@@ -4,7 +4,8 @@ use Rattle.urlpattern_syntax.specs.declared.parser.PartModifier.{PartModifier}
 use Rattle.urlpattern_syntax.specs.Errors.{ErrorView}
 use Rattle.urlpattern_syntax.specs.Options.{OptionsView}
 use Rattle.urlpattern_syntax.specs.Parts.{PartView}
-use Rattle.urlpattern_syntax.specs.Reading.{AreMet, AreParts, Capture, Demand, Encode, Encoding, Expect, FailsDemand, Fails, FirstFails, Fixed, IsMet, Item, NewName, Reads, Refuses}
+use Rattle.urlpattern_syntax.specs.Reading.{AreMet, AreParts, Capture, Demand, Encode, Encoding, Expect, FailsDemand, Fails, FirstFails, Fixed, IsMet, Item, NewName, Reads, Refuses, demands, items_of}
+use Rattle.urlpattern_syntax.specs.Pieces.{Ending as endings}
 
 -- whatever the one answers the other may
 abbrev pub Weakens : Encoding → Encoding → Type 0
@@ -46,8 +47,8 @@ reads_weaker strong weak h text options parts r = record {
   found = r.found;
   are_tokens = r.are_tokens;
   are_pieces = r.are_pieces;
-  are_met = are_met strong weak h _ r.are_met;
-  are_parts = are_parts strong weak h options _ parts r.are_parts;
+  are_met = are_met strong weak h (demands (items_of r.pieces) (endings.Stops r.found)) r.are_met;
+  are_parts = are_parts strong weak h options (items_of r.pieces) parts r.are_parts;
 }
 
 pub refuses_weaker : (strong weak : Encoding) → Weakens strong weak → (text : List ℕ) (options : OptionsView) (error : ErrorView) → Refuses text options strong error → Refuses text options weak error
@@ -59,6 +60,6 @@ refuses_weaker strong weak h text options error r = elim r [
       ending = demand.ending;
       are_tokens = demand.are_tokens;
       are_pieces = demand.are_pieces;
-      fails = first_fails strong weak h _ error demand.fails;
+      fails = first_fails strong weak h (demands (items_of demand.pieces) demand.ending) error demand.fails;
     })
 ]

@@ -4,3 +4,4 @@ pub mod TextBetween
 pub mod SplitLemmas
 pub mod Encodings
 pub mod SplitExamples
+pub mod SchemeLemmas

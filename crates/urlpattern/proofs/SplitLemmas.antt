@@ -10,7 +10,7 @@ use Rattle.std.specs.Str.{bytes_eq}
 use Rattle.urlpattern.specs.Split.{EndsAt, at, depth_before, depth_behind, ends_at, is_at_sign, is_balanced, is_character, is_colon, is_end, is_ending, is_hash_sign, is_open, is_search_sign, is_seen, is_sign, is_slash, may_end}
 use Rattle.urlpattern.specs.Splitting.{IsClosed}
 use Rattle.urlpattern.specs.declared.constructor_parser.Section.{Section}
-use Rattle.urlpattern.specs.declared.constructor_parser.Section.TheVariants.{Authority, Password, Port, Username}
+use Rattle.urlpattern.specs.declared.constructor_parser.Section.TheVariants.{Authority, Password, Port, Protocol, Username}
 use Rattle.urlpattern.proofs.TokenPlaces.{at_view}
 use Rattle.urlpattern.proofs.SeenLemmas.{depth_here, depth_more}
 use Rattle.urlpattern_syntax.specs.Tokens.{TokenView}
@@ -275,3 +275,13 @@ no_slash_in_sight tokens from depth end other closed ends is_end behind seen sla
     or_second true b c d h = refl
     or_second false true c d h = refl
     or_second false false c d h = absurd (false≢true h)
+
+-- the first colon that is seen is found again
+pub colon_again : (tokens : List TokenView) (first second : ℕ) → IsClosed tokens → EndsAt Protocol tokens 0 0 first → IsTrue (is_colon tokens first) → EndsAt Protocol tokens 0 0 second → second ≡ first
+colon_again tokens first second closed ends colon again =
+    let seen = sign_is_seen (codes ":") Protocol tokens 0 0 first ends colon in
+    let le = ends_by Protocol tokens 0 0 second first again (omega arith) (and_from (is_seen tokens 0 0 first) (is_colon tokens first) seen colon) in
+    elim (stops_cases Protocol tokens 0 0 second again) [
+        inl may ↦ let ge = ends_by Protocol tokens 0 0 first second ends (omega arith) may in omega arith
+      | inr is_end ↦ let last = closed.last second again.within is_end in let within = ends.within in omega arith
+    ]

@@ -670,7 +670,7 @@ impl<'t, 'a> Source<'t, 'a> {
 
 /// A text of one's own, if there is one.
 fn owned(alloc: Global, text: Option<&str>) -> Result<Option<String>, Error>
-    ensures ok { IfOk result (λ owned. option_map text_of owned ≡ name_view text) }
+    ensures ok { IfOk result (λ owned. option_map text_of owned ≡ name_view text.entry) }
     ensures memory { IfErr result (λ error. error ≡ errors.OutOfMemory) }
 {
     match text {
