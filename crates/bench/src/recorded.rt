@@ -23,7 +23,7 @@ pub struct Call {
 #[derive(Clone, Copy, Drop, Deserialize)]
 #[serde(rename_all = "snake_case")]
 pub enum Operation {
-    /// The strict tokens of a text.
+    /// The tokens of a text.
     Tokenize,
     /// The parts of a pattern, and what is made of them.
     Component,
@@ -40,6 +40,8 @@ pub enum Operation {
     /// The texts of a match input.
     #[serde(rename = "match_input")]
     MatchInput,
+    /// The components of a constructor string.
+    Constructor,
 }
 
 /// A question, and the answer that was recorded.
@@ -63,9 +65,23 @@ pub enum Answer<A> {
     Err(String),
 }
 
-/// A question for the strict tokens of a text.
+/// What is done where a text has no token.
+#[derive(Default, Clone, Copy, Drop, Deserialize)]
+#[serde(rename_all = "lowercase")]
+pub enum Policy {
+    /// An error is answered.
+    #[default]
+    Strict,
+    /// The character is taken as a token.
+    Lenient,
+}
+
+/// A question for the tokens of a text.
 #[derive(Drop, Deserialize)]
 pub struct TokensQuestion {
+    /// What is done where there is none.
+    #[serde(default)]
+    pub policy: Policy,
     /// The text.
     pub input: String,
 }
@@ -338,4 +354,27 @@ pub struct Init {
     /// The base URL, as a text.
     #[serde(rename = "baseURL")]
     pub base_url: Option<String>,
+}
+
+/// A question for the components of a constructor string.
+#[derive(Drop, Deserialize)]
+pub struct ConstructorQuestion {
+    /// The constructor string.
+    pub pattern: String,
+    /// The text of the base URL.
+    pub base: Option<String>,
+}
+
+/// The components of a constructor string, and how many looks at a token were taken.
+#[derive(PartialEq, Drop, Deserialize)]
+pub struct Constructor {
+    pub protocol: Option<String>,
+    pub username: Option<String>,
+    pub password: Option<String>,
+    pub hostname: Option<String>,
+    pub port: Option<String>,
+    pub pathname: Option<String>,
+    pub search: Option<String>,
+    pub hash: Option<String>,
+    pub turns: usize,
 }

@@ -1,12 +1,14 @@
 //! Asks the library what was asked when a case was recorded, and compares the answers.
 
+mod constructors;
 mod engines;
 mod matchers;
 mod values;
 
 use crate::recorded;
 use crate::recorded::{
-    Answer, Callback, Case, Component, ComponentQuestion, Heading, Kind, Operation, TokensQuestion,
+    Answer, Callback, Case, Component, ComponentQuestion, Heading, Kind, Operation, Policy,
+    TokensQuestion,
 };
 use std::alloc::{AllocError, Global};
 use url::ParseError;
@@ -44,6 +46,7 @@ pub fn replay(alloc: Global, line: &str) -> Result<Outcome, serde_json::Error> {
         Operation::Canonicalize => values::replay_canonical(alloc, line),
         Operation::Process => values::replay_processed(alloc, line),
         Operation::MatchInput => values::replay_match_input(alloc, line),
+        Operation::Constructor => constructors::replay_constructor(alloc, line),
     }
 }
 
@@ -51,7 +54,11 @@ pub fn replay(alloc: Global, line: &str) -> Result<Outcome, serde_json::Error> {
 fn replay_tokens(alloc: Global, line: &str) -> Result<Outcome, serde_json::Error> {
     let Case { question, answer }: Case<TokensQuestion, Vec<recorded::Token>> =
         serde_json::from_str(alloc, line)?;
-    let found = tokenize(alloc, &question.input, TokenizePolicy::Strict);
+    let policy = match question.policy {
+        Policy::Strict => TokenizePolicy::Strict,
+        Policy::Lenient => TokenizePolicy::Lenient,
+    };
+    let found = tokenize(alloc, &question.input, policy);
     let is_same = match (&found, &answer) {
         (Ok(tokens), Answer::Ok(recorded)) => are_same_tokens(tokens, recorded),
         (Err(error), Answer::Err(text)) => prints(alloc, error, text)?,

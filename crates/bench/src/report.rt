@@ -55,6 +55,7 @@ struct Report {
     canonicalize: Tally,
     process: Tally,
     match_input: Tally,
+    constructor: Tally,
     unreadable: u64,
 }
 
@@ -99,6 +100,7 @@ impl Report {
             Operation::Canonicalize => &mut self.canonicalize,
             Operation::Process => &mut self.process,
             Operation::MatchInput => &mut self.match_input,
+            Operation::Constructor => &mut self.constructor,
         }
     }
 
@@ -114,6 +116,7 @@ impl Report {
         self.canonicalize.print(out, "canonicalize")?;
         self.process.print(out, "process")?;
         self.match_input.print(out, "match_input")?;
+        self.constructor.print(out, "constructor")?;
         let unreadable = self.unreadable;
         writeln!(out, "lines without a case: {unreadable}")
     }
@@ -129,6 +132,7 @@ impl Report {
             &self.canonicalize,
             &self.process,
             &self.match_input,
+            &self.constructor,
         ];
         tallies.iter().all(|tally| tally.differing == 0) && self.unreadable == 0
     }
@@ -187,6 +191,12 @@ mod tests {
             "\n",
             r#"{"in":{"op":"engine","engine":"regex","pattern":"a(","inputs":[]},"out":{"err":"pattern"}}"#,
             "\n",
+            r#"{"in":{"op":"tokenize","policy":"lenient","input":":"},"out":{"ok":[["InvalidChar",0,":"],["End",1,""]]}}"#,
+            "\n",
+            r#"{"in":{"op":"constructor","pattern":"a","base":null},"out":{"err":"a relative input without a base URL is not valid"}}"#,
+            "\n",
+            r#"{"in":{"op":"constructor","pattern":"a","base":null},"out":{"err":"out of memory"}}"#,
+            "\n",
             r#"{"in":{"op":"other"},"out":{"ok":null}}"#,
         );
         let printed = concat!(
@@ -199,8 +209,9 @@ mod tests {
             "cases:10: differs\n",
             "cases:12: differs\n",
             "cases:14: differs\n",
-            "cases:16: no case\n",
-            "tokenize: 2 answers and 2 errors, 3 differ\n",
+            "cases:18: differs\n",
+            "cases:19: no case\n",
+            "tokenize: 3 answers and 2 errors, 3 differ\n",
             "component: 4 answers and 0 errors, 3 differ\n",
             "engine: 2 answers and 1 errors, 1 differ\n",
             "matches: 3 answers and 0 errors, 1 differ\n",
@@ -209,6 +220,7 @@ mod tests {
             "canonicalize: 0 answers and 0 errors, 0 differ\n",
             "process: 0 answers and 0 errors, 0 differ\n",
             "match_input: 0 answers and 0 errors, 0 differ\n",
+            "constructor: 0 answers and 2 errors, 1 differ\n",
             "lines without a case: 1\n",
         );
         let mut report = Report::default();

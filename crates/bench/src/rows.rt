@@ -4,6 +4,7 @@ mod callbacks;
 mod compiled;
 mod canonical;
 mod components;
+mod constructor_strings;
 mod engines;
 mod long_texts;
 mod matchers;

@@ -4,3 +4,6 @@ pub mod TextBetween
 pub mod SplitLemmas
 pub mod InheritanceLemmas
 pub mod MatchInputLemmas
+pub mod Encodings
+pub mod SplitExamples
+pub mod SchemeLemmas

@@ -1,19 +1,19 @@
 -- Lemmas on the places of a split: what a sign tells, what is seen behind it, and that a section ends at one place.
-use Rattle.std.proofs.Common.{◌≡◌, ℕ, zero, suc, ◌+◌, ◌-◌, ◌<◌, ◌≤◌, ◌⊎◌, Bool, true, false, not, ◌&&◌, ◌||◌, ◌==◌, Some, List, [], ◌∷◌, ◌++◌, length, take, drop, refl, sym, ap, ◌∙◌, subst, inl, inr, arith}
+use Rattle.std.proofs.Common.{◌≡◌, ℕ, zero, suc, ◌+◌, ◌-◌, ◌<◌, ◌≤◌, ◌⊎◌, Bool, true, false, not, ◌&&◌, ◌||◌, ◌==◌, Option, Some, None, List, [], ◌∷◌, ◌++◌, length, take, drop, refl, sym, ap, ◌∙◌, subst, inl, inr, arith}
 use Rattle.std.proofs.lemmas.Bool.{and_parts, and_from, both_ways, cases_Bool, cases_eq, cases_lt, eqb-true, false≢true, false_from_ne_true, or_cases, or_left, or_right}
 use Rattle.std.proofs.lemmas.List.{drop-drop}
 use Rattle.std.proofs.lemmas.List.Sums.{fold-append}
 use Rattle.std.proofs.lemmas.Slice.Eq.{bytes_eq-Decides}
 use Rattle.std.specs.List.{fold}
-use Rattle.std.specs.Prelude.{codes, IsTrue, slice_get, slice_range}
+use Rattle.std.specs.Prelude.{codes, IsSomeAnd, IsTrue, is_some, option_map, slice_get, slice_range}
 use Rattle.std.specs.Str.{bytes_eq}
-use Rattle.urlpattern.specs.Split.{EndsAt, at, depth_before, depth_behind, ends_at, is_at_sign, is_balanced, is_character, is_colon, is_end, is_ending, is_hash_sign, is_open, is_search_sign, is_seen, is_sign, is_slash, may_end}
+use Rattle.urlpattern.specs.Split.{Components, EndsAt, IsSplit, LacksProtocol, at, depth_before, depth_behind, ends_at, is_at_sign, is_balanced, is_character, is_colon, is_end, is_ending, is_hash_sign, is_open, is_search_sign, is_seen, is_sign, is_slash, may_end}
 use Rattle.urlpattern.specs.Splitting.{IsClosed}
 use Rattle.urlpattern.specs.declared.constructor_parser.Section.{Section}
-use Rattle.urlpattern.specs.declared.constructor_parser.Section.TheVariants.{Authority, Password, Port, Username}
+use Rattle.urlpattern.specs.declared.constructor_parser.Section.TheVariants.{Authority, Password, Port, Protocol, Username}
 use Rattle.urlpattern.proofs.TokenPlaces.{at_view}
 use Rattle.urlpattern.proofs.SeenLemmas.{depth_here, depth_more}
-use Rattle.urlpattern_syntax.specs.Tokens.{TokenView}
+use Rattle.urlpattern_syntax.specs.Tokens.{AreLenientTokens, TokenView}
 use Rattle.urlpattern_syntax.specs.declared.tokenizer.TokenType.{TokenType}
 use Rattle.urlpattern_syntax.specs.declared.tokenizer.TokenType.TheVariants.{Char, Close, End, EscapedChar, InvalidChar, Open}
 
@@ -275,3 +275,30 @@ no_slash_in_sight tokens from depth end other closed ends is_end behind seen sla
     or_second true b c d h = refl
     or_second false true c d h = refl
     or_second false false c d h = absurd (false≢true h)
+
+-- the first colon that is seen is found again
+pub colon_again : (tokens : List TokenView) (first second : ℕ) → IsClosed tokens → EndsAt Protocol tokens 0 0 first → IsTrue (is_colon tokens first) → EndsAt Protocol tokens 0 0 second → second ≡ first
+colon_again tokens first second closed ends colon again =
+    let seen = sign_is_seen (codes ":") Protocol tokens 0 0 first ends colon in
+    let le = ends_by Protocol tokens 0 0 second first again (omega arith) (and_from (is_seen tokens 0 0 first) (is_colon tokens first) seen colon) in
+    elim (stops_cases Protocol tokens 0 0 second again) [
+        inl may ↦ let ge = ends_by Protocol tokens 0 0 first second ends (omega arith) may in omega arith
+      | inr is_end ↦ let last = closed.last second again.within is_end in let within = ends.within in omega arith
+    ]
+
+-- ---- the whole string
+
+pub missing_is_none : {X Y : Type 0} → (f : X → Y) (o : Option X) (P : Y → Type 0) → is_some o ≡ false → IsSomeAnd (option_map f o) P → ⊥
+missing_is_none f None P none some = some
+missing_is_none f (Some x) P none some = false≢true (sym none)
+
+pub none_of : {X : Type 0} → (o : Option X) → is_some o ≡ false → o ≡ None
+none_of None none = refl
+none_of (Some x) none = absurd (false≢true (sym none))
+
+-- a split without a protocol has found none
+pub lacks_protocol : (IsSpecial : List ℕ → Bool → Type 0) (text : List ℕ) (tokens : List TokenView) (components : Components) → AreLenientTokens text tokens → IsSplit IsSpecial text tokens components → ((P : List ℕ → Type 0) → IsSomeAnd components.protocol P → ⊥) → LacksProtocol text
+lacks_protocol IsSpecial text tokens components are_tokens split none = elim split [
+    inl relative ↦ (tokens, relative.until, are_tokens, relative.no_colon, relative.is_end)
+  | inr absolute ↦ absurd (none (λ protocol. IsSpecial protocol absolute.1) absolute.3)
+]

@@ -1,4 +1,6 @@
 pub mod EcmaRegexps
+pub mod ConstructorString
+pub mod SpecialProtocol
 pub mod Split
 pub mod Splitting
 pub use Rattle.urlpattern_core.specs.Captured

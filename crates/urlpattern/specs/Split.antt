@@ -8,7 +8,7 @@ use Rattle.urlpattern.specs.declared.constructor_parser.Section.TheVariants.{Pro
 use Rattle.urlpattern_syntax.specs.declared.tokenizer.TokenType.{TokenType}
 use Rattle.urlpattern_syntax.specs.declared.tokenizer.TokenType.TheVariants.{Asterisk, Char, Close, End, EscapedChar, InvalidChar, Name, Open, Regexp}
 use Rattle.urlpattern_syntax.specs.Text.{byte_len}
-use Rattle.urlpattern_syntax.specs.Tokens.{TokenView}
+use Rattle.urlpattern_syntax.specs.Tokens.{AreLenientTokens, TokenView}
 
 -- ---- the token at a place
 
@@ -263,3 +263,22 @@ pub record IsAbsoluteSplit (text : List ℕ) (tokens : List TokenView) (special 
     ⊎ (IsTrue (not (has_slashes tokens colon) && special) × AuthorityFrom text tokens special (colon + 1) components)
     ⊎ (IsTrue (not (has_slashes tokens colon) && not special) × (components.username ≡ None) × (components.password ≡ None)
         × (components.hostname ≡ Some []) × (components.port ≡ Some []) × PathnameFrom text tokens (colon + 1) 0 components)
+
+-- These are the components of the text, whose tokens these are. `IsSpecial` relates the text of a protocol to whether it
+-- is special.
+abbrev pub IsSplit : (IsSpecial : List ℕ → Bool → Type 0) → (text : List ℕ) → List TokenView → Components → Type 0
+IsSplit IsSpecial text tokens components =
+    IsRelativeSplit text tokens components
+    ⊎ ((colon : ℕ) × (special : Bool) × IsAbsoluteSplit text tokens special colon components
+        × IsSomeAnd components.protocol (λ protocol. IsSpecial protocol special))
+
+-- no protocol is found in the text
+abbrev pub LacksProtocol : (text : List ℕ) → Type 0
+LacksProtocol text =
+    (tokens : List TokenView) × (until : ℕ) × AreLenientTokens text tokens × EndsAt Protocol tokens 0 0 until × IsTrue (ends_at tokens until)
+
+-- the text has a protocol, and this holds of it
+abbrev pub HasProtocol : (text : List ℕ) → (Is : List ℕ → Type 0) → Type 0
+HasProtocol text Is =
+    (tokens : List TokenView) × (colon : ℕ) × (protocol : List ℕ) × AreLenientTokens text tokens
+    × EndsAt Protocol tokens 0 0 colon × IsTrue (is_colon tokens colon) × IsTextBetween text tokens 0 colon protocol × Is protocol

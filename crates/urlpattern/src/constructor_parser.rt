@@ -2,13 +2,29 @@
 //!
 //! <https://urlpattern.spec.whatwg.org/#constructor-string-parsing>
 
-ghost use Rattle.std.specs.Prelude.{◌≡◌, ℕ, ◌+◌, ◌-◌, ◌*◌, ◌^◌, ◌<◌, ◌≤◌, ◌∷◌, ◌&&◌, ◌||◌, ◌==◌, not, if◌then◌else◌, [], List, length, IsTrue, None, codes};
+ghost use Rattle.std.specs.Prelude.{◌≡◌, ◌↔◌, Any, IfErr, IfOk, MatchBool, Some, false, option_map, ℕ, ◌+◌, ◌-◌, ◌*◌, ◌^◌, ◌<◌, ◌≤◌, ◌∷◌, ◌&&◌, ◌||◌, ◌==◌, not, if◌then◌else◌, [], List, length, IsTrue, None, codes};
 ghost use Rattle.std.specs.Str.{bytes_eq, chars};
-ghost use Rattle.urlpattern.specs.Split.{AuthorityFrom, EndsAt, HashAt, HashFrom, HostnameFrom, IsAbsoluteSplit, IsRelativeSplit, IsTextBetween, PathnameAt, PathnameFrom, PortAt, SearchAt, SearchFrom, UserinfoFrom, at, depth_before, depth_behind, ends_at, follows_modified, has_slashes, implied_pathname, is_at_sign, is_character, is_colon, is_end, is_ending, is_open, is_hash_sign, is_search_sign, is_sign, is_slash, takes_modifier};
+ghost use Rattle.urlpattern.specs.ConstructorString.{HasProtocolOrBase, RefusesString, SplitsInto, init_components};
+ghost use Rattle.urlpattern.specs.SpecialProtocol.{AcceptsSpecialScheme, CanonicalizesProtocol, IsSpecialBy, RefusesProtocol};
+ghost use Rattle.urlpattern.specs.Split.{AuthorityFrom, EndsAt, HashAt, HashFrom, HasProtocol, HostnameFrom, IsAbsoluteSplit, IsRelativeSplit, IsSplit, IsTextBetween, PathnameAt, PathnameFrom, PortAt, SearchAt, SearchFrom, UserinfoFrom, at, depth_before, depth_behind, ends_at, follows_modified, has_slashes, implied_pathname, is_at_sign, is_character, is_colon, is_end, is_ending, is_open, is_hash_sign, is_search_sign, is_sign, is_slash, takes_modifier};
 ghost use Rattle.urlpattern.specs.Splitting.{CanRead, HasRead, HasTurnForSlash, IsSource, NoAuthority, NoPathname, NoSearch, components_of, is_hostname, text_of_source, tokens_of};
+ghost use Rattle.urlpattern_core.specs.Matchers.{matcher_view};
+ghost use Rattle.urlpattern_laws.specs.Matching.{IsMatched};
+ghost use Rattle.urlpattern_syntax.specs.Parsing.{MemoryOr, name_view};
+ghost use Rattle.urlpattern_syntax.specs.Text.{text_of};
 ghost use Rattle.urlpattern_syntax.specs.Tokens.{token_view};
+ghost use Rattle.urlpattern_syntax.specs.declared.error.Error.TheVariants as errors;
 
-use urlpattern_core::tokenizer::{Token, TokenType};
+use crate::init::UrlPatternInit;
+use std::alloc::Global;
+use url::Url;
+use urlpattern_core::Error;
+use urlpattern_core::canonicalize_and_process::canonicalize_protocol;
+use urlpattern_core::component::generate_matcher;
+use urlpattern_core::matcher::Matcher;
+use urlpattern_core::parser::{Options, parse_pattern_string};
+use urlpattern_core::regexp::RegExp;
+use urlpattern_core::tokenizer::{Token, TokenType, TokenizePolicy, tokenize};
 
 /// A stretch of a constructor string, which ends at signs of its own.
 ///
@@ -92,6 +108,27 @@ impl<'a> Split<'a> {
             hash: None,
             turns,
         }
+    }
+
+    /// An init with these components and a base URL.
+    ///
+    /// The error is that memory ran out.
+    fn to_init(&self, alloc: Global, base_url: Option<Url>) -> Result<UrlPatternInit, Error>
+        ensures components { IfOk result (λ init. init_components init ≡ components_of self.now) }
+        ensures base { IfOk result (λ init. init.base_url ≡ base_url) }
+        ensures memory { IfErr result (λ error. error ≡ errors.OutOfMemory) }
+    {
+        Ok(UrlPatternInit {
+            protocol: owned(alloc, self.protocol)?,
+            username: owned(alloc, self.username)?,
+            password: owned(alloc, self.password)?,
+            hostname: owned(alloc, self.hostname)?,
+            port: owned(alloc, self.port)?,
+            pathname: owned(alloc, self.pathname)?,
+            search: owned(alloc, self.search)?,
+            hash: owned(alloc, self.hash)?,
+            base_url,
+        })
     }
 }
 
@@ -523,16 +560,18 @@ impl<'t, 'a> Source<'t, 'a> {
         self.pathname_from(Place { index: 0, ..end })
     }
 
-    /// The components of a text whose protocol ends at a colon.
-    fn absolute(&self, colon: Place, special: bool) -> Split<'a>
+    /// The components of a text with a protocol, which ends at a colon.
+    fn absolute(&self, colon: Place, protocol: &'a str, special: bool) -> Split<'a>
         requires source { IsSource self.now }
+        requires protocol { IsTextBetween (text_of_source self.now) (tokens_of self.now) 0 colon.index (chars protocol.now) }
         requires ends { EndsAt Section.Protocol (tokens_of self.now) 0 0 colon.index }
         requires sign { IsTrue (is_colon (tokens_of self.now) colon.index) }
         requires turns { colon.turns ≤ 2 * (colon.index + 1) }
         ensures split { IsAbsoluteSplit (text_of_source self.now) (tokens_of self.now) special colon.index (components_of result) }
+        ensures protocol { (components_of result).protocol ≡ Some (chars protocol.now) }
         ensures turns { result.turns ≤ 2 * length self.now.tokens.now }
     {
-        let protocol = Some(self.text_between(0, colon.index));
+        let protocol = Some(protocol);
         if self.has_slashes(colon.index) {
             return Split {
                 protocol,
@@ -552,4 +591,140 @@ impl<'t, 'a> Source<'t, 'a> {
             ..self.pathname_from(colon.behind(1))
         }
     }
+}
+
+impl UrlPatternInit {
+    /// Splits a constructor string, the pattern of a whole URL, into the patterns of its components.
+    ///
+    /// The error is that of the protocol's pattern, that there is neither a protocol nor a base URL, or that memory ran out.
+    ///
+    /// <https://urlpattern.spec.whatwg.org/#parse-a-constructor-string>
+    pub fn parse_constructor_string<R: RegExp>(
+        alloc: Global,
+        pattern: &str,
+        base_url: Option<Url>,
+    ) -> Result<UrlPatternInit, Error>
+        ensures split { IfOk result (λ init. (turns : ℕ) × SplitsInto (IsSpecialBy R.IsMade (λ regexp flags. R.MayRefuse regexp flags false) R.answer)
+            (chars pattern.now) (init_components init) turns) }
+        ensures base { IfOk result (λ init. init.base_url ≡ base_url) }
+        ensures complete { IfOk result HasProtocolOrBase }
+        ensures refused { IfErr result (MemoryOr (RefusesString (chars pattern.now) base_url)) }
+    {
+        let (init, _) = Self::parse_constructor_string_counted::<R>(alloc, pattern, base_url)?;
+        Ok(init)
+    }
+
+    /// The same, with the number of turns: how many looks at a token were taken.
+    pub fn parse_constructor_string_counted<R: RegExp>(
+        alloc: Global,
+        pattern: &str,
+        base_url: Option<Url>,
+    ) -> Result<(UrlPatternInit, usize), Error>
+        ensures split { IfOk result (λ found. SplitsInto (IsSpecialBy R.IsMade (λ regexp flags. R.MayRefuse regexp flags false) R.answer)
+            (chars pattern.now) (init_components found.0) found.1) }
+        ensures base { IfOk result (λ found. found.0.base_url ≡ base_url) }
+        ensures complete { IfOk result (λ found. HasProtocolOrBase found.0) }
+        ensures refused { IfErr result (MemoryOr (RefusesString (chars pattern.now) base_url)) }
+    {
+        let tokens = tokenize(alloc, pattern, TokenizePolicy::Lenient)?;
+        let source = Source {
+            input: pattern,
+            tokens: &tokens,
+        };
+        let split = source.split::<R>(alloc)?;
+        if split.protocol.is_none() && base_url.is_none() {
+            return Err(Error::BaseUrlRequired);
+        }
+        let init = split.to_init(alloc, base_url)?;
+        Ok((init, split.turns))
+    }
+}
+
+impl<'t, 'a> Source<'t, 'a> {
+    /// The components of a constructor string. Its protocol is read first, and tells whether it is special.
+    ///
+    /// The error is that of the protocol's pattern, or that memory ran out.
+    fn split<R: RegExp>(&self, alloc: Global) -> Result<Split<'a>, Error>
+        requires { IsSource self.now }
+        ensures split { IfOk result (λ split. IsSplit (IsSpecialBy R.IsMade (λ regexp flags. R.MayRefuse regexp flags false) R.answer)
+            (text_of_source self.now) (tokens_of self.now) (components_of split)) }
+        ensures turns { IfOk result (λ split. split.turns ≤ 2 * length self.now.tokens.now) }
+        ensures refused { IfErr result (MemoryOr (λ error. HasProtocol (text_of_source self.now) (λ protocol. RefusesProtocol protocol error))) }
+    {
+        let start = Place {
+            index: 0,
+            depth: 0,
+            turns: 0,
+        };
+        let end = self.end_of(Section::Protocol, start);
+        if !self.is_sign(end.index, b':') {
+            return Ok(self.relative(end));
+        }
+        let back = Place { index: 0, ..end };
+        let colon = self.end_of(Section::Protocol, back);
+        let protocol = self.text_between(0, colon.index);
+        let special = is_special_protocol::<R>(alloc, protocol)?;
+        Ok(self.absolute(colon, protocol, special))
+    }
+}
+
+/// A text of one's own, if there is one.
+fn owned(alloc: Global, text: Option<&str>) -> Result<Option<String>, Error>
+    ensures ok { IfOk result (λ owned. option_map text_of owned ≡ name_view text.entry) }
+    ensures memory { IfErr result (λ error. error ≡ errors.OutOfMemory) }
+{
+    match text {
+        Some(text) => Ok(Some(String::from_str(alloc, text)?)),
+        None => Ok(None),
+    }
+}
+
+/// Whether a protocol that is given as a pattern is special: its matcher accepts a special scheme.
+///
+/// The error is that the pattern is refused, or that memory ran out.
+///
+/// <https://urlpattern.spec.whatwg.org/#compute-protocol-matches-a-special-scheme-flag>
+fn is_special_protocol<R: RegExp>(alloc: Global, protocol: &str) -> Result<bool, Error>
+    ensures special { IfOk result (IsSpecialBy R.IsMade (λ regexp flags. R.MayRefuse regexp flags false) R.answer (chars protocol.now)) }
+    ensures refused { IfErr result (MemoryOr (RefusesProtocol (chars protocol.now))) }
+{
+    let options = Options::default(alloc);
+    let canonicalize = |text: &str| -> Result<String, Error>
+        ensures { CanonicalizesProtocol text.now result }
+    { canonicalize_protocol(alloc, text) };
+    let part_list = parse_pattern_string(alloc, protocol, &options, canonicalize)?;
+    let matcher = generate_matcher::<R>(alloc, &part_list, &options, "u")?;
+    accepts_special_scheme(alloc, &matcher)
+}
+
+/// Whether a matcher accepts a special scheme.
+///
+/// The error is that memory ran out.
+pub(crate) fn accepts_special_scheme<R: RegExp>(
+    alloc: Global,
+    matcher: &Matcher<R>,
+) -> Result<bool, Error>
+    ensures answer { IfOk result (λ accepted. IsTrue accepted ↔ AcceptsSpecialScheme R.answer (matcher_view matcher.now)) }
+    ensures memory { IfErr result (λ error. error ≡ errors.OutOfMemory) }
+{
+    accepts_any(alloc, matcher, &["http", "https", "ws", "wss", "ftp", "file"])
+}
+
+/// Whether a matcher accepts one of some texts.
+fn accepts_any<R: RegExp>(
+    alloc: Global,
+    matcher: &Matcher<R>,
+    texts: &[&str],
+) -> Result<bool, Error>
+    ensures answer { IfOk result (λ accepted. MatchBool accepted
+        (Any (λ text. IsMatched R.answer (matcher_view matcher.now) (chars text.now)) texts.now)
+        (¬ Any (λ text. IsMatched R.answer (matcher_view matcher.now) (chars text.now)) texts.now)) }
+    ensures memory { IfErr result (λ error. error ≡ errors.OutOfMemory) }
+{
+    for text in texts {
+        if matcher.accepts(alloc, text)? {
+            return Ok(true);
+        }
+    }
+    Ok(false)
 }

@@ -11,7 +11,7 @@ pub returns-then-has_slashes-clause-split : goal.returns-then-has_slashes-clause
 returns-then-has_slashes-clause-split c = record {
   is_colon_there = c.requires.sign;
   protocol_ends = c.requires.ends;
-  protocol = c.text_between.ensures;
+  protocol = c.requires.protocol;
   behind = inl (sym c.has_slashes.ensures ∙ c.if-has_slashes.true, rw c.behind.ensures.index at c.authority_from.ensures.split);
 }
 
@@ -27,7 +27,7 @@ returns-then-special-clause-split c =
     record {
       is_colon_there = c.requires.sign;
       protocol_ends = c.requires.ends;
-      protocol = c.text_between.ensures;
+      protocol = c.requires.protocol;
       behind = inr (inl (
           and_from (not (has_slashes (tokens_of c.args.self.now) c.args.colon.index)) c.args.special no_slashes c.if-special.true,
           rw c.behind-then-special.ensures.index at c.authority_from-then-special.ensures.split,
@@ -50,7 +50,7 @@ returns-clause-split c =
     record {
       is_colon_there = c.requires.sign;
       protocol_ends = c.requires.ends;
-      protocol = c.text_between.ensures;
+      protocol = c.requires.protocol;
       behind = inr (inr (
           and_from (not (has_slashes (tokens_of c.args.self.now) c.args.colon.index)) (not c.args.special) no_slashes (ap not c.if-special.false),
           c.pathname_from.ensures.nothing.1,
