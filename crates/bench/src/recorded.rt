@@ -1,6 +1,7 @@
 //! Recorded cases: a question and the answer to it on each line, as JSON.
 
 use serde::Deserialize;
+use serde_json::Value;
 use urlpattern::RegexSyntax;
 
 /// The call that a case is about, whatever else it holds.
@@ -27,6 +28,8 @@ pub enum Operation {
     Tokenize,
     /// The parts of a pattern, and what is made of them.
     Component,
+    /// The component of a pattern, compiled.
+    Compile,
     /// What an engine of regular expressions answers.
     Engine,
     /// What the matcher of a pattern answers to texts.
@@ -161,6 +164,36 @@ pub struct Part {
     pub suffix: String,
 }
 
+/// A question for the compiled component of a pattern.
+#[derive(Drop, Deserialize)]
+pub struct CompileQuestion {
+    /// The component whose options hold.
+    pub kind: Kind,
+    /// The syntax of the regular expression.
+    #[serde(default)]
+    pub syntax: RegexSyntax,
+    /// The pattern.
+    pub pattern: String,
+    /// The engine.
+    #[serde(default)]
+    pub engine: Engine,
+}
+
+/// A compiled component. Where an error is kept in place of a regular expression, there is an object in place of a text.
+#[derive(Drop, Deserialize)]
+pub struct CompileAnswer {
+    /// Whether the pattern has a regular expression of its own.
+    pub has_regexp_group: bool,
+    /// The regular expression that the matcher asks, or null where it asks none.
+    pub inner_regexp: Value,
+    /// The names of the groups.
+    pub names: Vec<String>,
+    /// The printed pattern.
+    pub pattern: String,
+    /// The regular expression.
+    pub regexp: Value,
+}
+
 /// A question for what an engine answers.
 #[derive(Drop, Deserialize)]
 pub struct EngineQuestion {
@@ -176,10 +209,11 @@ pub struct EngineQuestion {
 }
 
 /// An engine of regular expressions.
-#[derive(Clone, Copy, Drop, Deserialize)]
+#[derive(Default, Clone, Copy, Drop, Deserialize)]
 #[serde(rename_all = "lowercase")]
 pub enum Engine {
     /// The crate `regex`.
+    #[default]
     Regex,
     /// That of a browser, which the crate `regex` plays.
     Ecma,
@@ -229,6 +263,8 @@ pub struct EngineAnswer {
 pub struct MatchesAnswer {
     /// The answer to each text.
     pub matches: Vec<Captures>,
+    /// Whether the matcher keeps an error in place of a regular expression.
+    pub refused: bool,
 }
 
 /// A question for what a matcher made by hand answers: a literal, or one capture.

@@ -1,5 +1,6 @@
 //! Asks the library what was asked when a case was recorded, and compares the answers.
 
+mod compiled;
 mod constructors;
 mod engines;
 mod matchers;
@@ -28,8 +29,6 @@ pub struct Outcome {
     pub is_error: bool,
     /// Whether the library answers what was recorded.
     pub is_same: bool,
-    /// How many of the answers are an engine's matter, and are not compared.
-    pub left: u64,
 }
 
 /// Replays the case that a line holds.
@@ -40,6 +39,7 @@ pub fn replay(alloc: Global, line: &str) -> Result<Outcome, serde_json::Error> {
     match heading.question.operation {
         Operation::Tokenize => replay_tokens(alloc, line),
         Operation::Component => replay_component(alloc, line),
+        Operation::Compile => compiled::replay_compiled(alloc, line),
         Operation::Engine => engines::replay_engine(alloc, line),
         Operation::Matches => matchers::replay_matches(alloc, line),
         Operation::HandMatcher => matchers::replay_hand_matcher(alloc, line),
@@ -68,7 +68,6 @@ fn replay_tokens(alloc: Global, line: &str) -> Result<Outcome, serde_json::Error
         operation: Operation::Tokenize,
         is_error: matches!(answer, Answer::Err(_)),
         is_same,
-        left: 0,
     })
 }
 
@@ -87,7 +86,6 @@ fn replay_component(alloc: Global, line: &str) -> Result<Outcome, serde_json::Er
         operation: Operation::Component,
         is_error: matches!(answer, Answer::Err(_)),
         is_same,
-        left: 0,
     })
 }
 

@@ -48,10 +48,10 @@ impl Tally {
 struct Report {
     tokenize: Tally,
     component: Tally,
+    compile: Tally,
     engine: Tally,
     matches: Tally,
     hand_matcher: Tally,
-    left: u64,
     canonicalize: Tally,
     process: Tally,
     match_input: Tally,
@@ -72,7 +72,6 @@ impl Report {
             match replay(alloc, line) {
                 Ok(outcome) => {
                     self.tally(outcome.operation).count(&outcome);
-                    self.left = self.left.saturating_add(outcome.left);
                     if !outcome.is_same {
                         writeln!(out, "{path}:{number}: differs")?;
                     }
@@ -94,6 +93,7 @@ impl Report {
         match operation {
             Operation::Tokenize => &mut self.tokenize,
             Operation::Component => &mut self.component,
+            Operation::Compile => &mut self.compile,
             Operation::Engine => &mut self.engine,
             Operation::Matches => &mut self.matches,
             Operation::HandMatcher => &mut self.hand_matcher,
@@ -108,11 +108,10 @@ impl Report {
     fn print<O: Write>(&self, out: &mut O) -> io::Result<()> {
         self.tokenize.print(out, "tokenize")?;
         self.component.print(out, "component")?;
+        self.compile.print(out, "compile")?;
         self.engine.print(out, "engine")?;
         self.matches.print(out, "matches")?;
         self.hand_matcher.print(out, "hand_matcher")?;
-        let left = self.left;
-        writeln!(out, "answers to texts left to an engine: {left}")?;
         self.canonicalize.print(out, "canonicalize")?;
         self.process.print(out, "process")?;
         self.match_input.print(out, "match_input")?;
@@ -126,6 +125,7 @@ impl Report {
         let tallies = [
             &self.tokenize,
             &self.component,
+            &self.compile,
             &self.engine,
             &self.matches,
             &self.hand_matcher,
@@ -213,10 +213,10 @@ mod tests {
             "cases:19: no case\n",
             "tokenize: 3 answers and 2 errors, 3 differ\n",
             "component: 4 answers and 0 errors, 3 differ\n",
+            "compile: 0 answers and 0 errors, 0 differ\n",
             "engine: 2 answers and 1 errors, 1 differ\n",
             "matches: 3 answers and 0 errors, 1 differ\n",
             "hand_matcher: 1 answers and 0 errors, 1 differ\n",
-            "answers to texts left to an engine: 1\n",
             "canonicalize: 0 answers and 0 errors, 0 differ\n",
             "process: 0 answers and 0 errors, 0 differ\n",
             "match_input: 0 answers and 0 errors, 0 differ\n",

@@ -57,7 +57,7 @@ fn is_same<R: RegExp>(alloc: Global, engine: &R, inputs: &[String], recorded: &[
 }
 
 /// Whether captures are the recorded ones.
-fn are_same_captures(found: &Option<Vec<Option<&str>>>, recorded: &Captures) -> bool {
+pub fn are_same_captures(found: &Option<Vec<Option<&str>>>, recorded: &Captures) -> bool {
     match (found, recorded) {
         (Some(found), Some(recorded)) => {
             found.len() == recorded.len()

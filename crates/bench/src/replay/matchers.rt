@@ -1,46 +1,54 @@
-//! Asks matchers what they were asked when a case was recorded, as far as no engine matches.
+//! Asks matchers what they were asked when a case was recorded.
 
 use crate::engines::KeptText;
 use crate::recorded;
 use crate::recorded::{
     Answer, Captures, Case, HandMatcherQuestion, MatchesAnswer, MatchesQuestion, Operation,
 };
+use crate::replay::engines::are_same_captures;
 use crate::replay::{Outcome, options_of_kind, prints};
+use regex::Regex;
 use std::alloc::{AllocError, Global};
 use urlpattern::Error;
 use urlpattern::component::generate_matcher;
 use urlpattern::matcher::{InnerMatcher, Matcher};
 use urlpattern::parser::parse_pattern_string;
+use urlpattern::quirks::EcmaRegexp;
 use urlpattern::regexp::RegExp;
 
-/// What came of the texts of a case.
-#[derive(Default, Drop)]
-struct Comparison {
-    /// How many answers are not the recorded ones.
-    differing: u64,
-    /// How many answers are left to an engine.
-    left: u64,
-}
-
-/// Replays a case that asks the matcher of a pattern for its answers.
+/// Replays a case that asks the matcher of a pattern for its answers, over both engines.
 pub fn replay_matches(alloc: Global, line: &str) -> Result<Outcome, serde_json::Error> {
     let Case { question, answer }: Case<MatchesQuestion, MatchesAnswer> = serde_json::from_str(
         alloc, line,
     )?;
-    let (is_same, left) = match (matcher_of(alloc, &question), &answer) {
-        (Ok(matcher), Answer::Ok(recorded)) => {
-            let compared = compare(alloc, &matcher, &question.inputs, &recorded.matches);
-            (compared.differing == 0, compared.left)
-        }
-        (Err(error), Answer::Err(text)) => (prints(alloc, &error, text)?, 0),
-        _ => (false, 0),
-    };
+    let is_same = is_recorded::<Regex>(alloc, &question, &answer)?
+        && is_recorded::<EcmaRegexp>(alloc, &question, &answer)?;
     Ok(Outcome {
         operation: Operation::Matches,
         is_error: matches!(answer, Answer::Err(_)),
         is_same,
-        left,
     })
+}
+
+/// Whether the matcher of a pattern over an engine answers what was recorded.
+fn is_recorded<R: RegExp>(
+    alloc: Global,
+    question: &MatchesQuestion,
+    answer: &Answer<MatchesAnswer>,
+) -> Result<bool, AllocError> {
+    Ok(match (matcher_of::<R>(alloc, question), answer) {
+        (Ok(matcher), Answer::Ok(recorded)) => {
+            are_answers(alloc, &matcher, &question.inputs, &recorded.matches)
+                && (recorded.refused || !keeps_error(&matcher))
+        }
+        (Err(error), Answer::Err(text)) => prints(alloc, &error, text)?,
+        _ => false,
+    })
+}
+
+/// Whether a matcher keeps an error in place of a regular expression.
+fn keeps_error<R>(matcher: &Matcher<R>) -> bool {
+    matches!(matcher.inner, InnerMatcher::RegExp { regexp: Err(_) })
 }
 
 /// Replays a case that asks a matcher made by hand for its answers.
@@ -70,19 +78,18 @@ pub fn replay_hand_matcher(alloc: Global, line: &str) -> Result<Outcome, serde_j
         ignore_case,
     };
     let is_same = match &answer {
-        Answer::Ok(recorded) => compare(alloc, &matcher, &inputs, recorded).differing == 0,
+        Answer::Ok(recorded) => are_answers(alloc, &matcher, &inputs, recorded),
         Answer::Err(_) => false,
     };
     Ok(Outcome {
         operation: Operation::HandMatcher,
         is_error: matches!(answer, Answer::Err(_)),
         is_same,
-        left: 0,
     })
 }
 
-/// The matcher of a pattern, over an engine that matches nothing.
-fn matcher_of(alloc: Global, question: &MatchesQuestion) -> Result<Matcher<KeptText>, Error> {
+/// The matcher of a pattern.
+fn matcher_of<R: RegExp>(alloc: Global, question: &MatchesQuestion) -> Result<Matcher<R>, Error> {
     let mut options = options_of_kind(alloc, question.kind)?;
     options.ignore_case = question.ignore_case;
     let unchanged = |text: &str| -> Result<String, Error> { Ok(String::from_str(alloc, text)?) };
@@ -91,37 +98,28 @@ fn matcher_of(alloc: Global, question: &MatchesQuestion) -> Result<Matcher<KeptT
     generate_matcher(alloc, &parts, &options, flags)
 }
 
-/// Compares a matcher's answers to texts with the recorded ones, and whether it accepts the texts.
-fn compare(
+/// Whether a matcher answers each text as recorded.
+fn are_answers<R: RegExp>(
     alloc: Global,
-    matcher: &Matcher<KeptText>,
+    matcher: &Matcher<R>,
     inputs: &[String],
     recorded: &[Captures],
-) -> Comparison {
-    let mut compared = Comparison::default();
-    if inputs.len() != recorded.len() {
-        compared.differing = 1;
-    }
+) -> bool {
     for (input, expected) in inputs.iter().zip(recorded) {
-        if asks_engine(matcher, input) {
-            compared.left = compared.left.saturating_add(1);
-        } else if !answers(alloc, matcher, input, expected) {
-            compared.differing = compared.differing.saturating_add(1);
+        if !answers(alloc, matcher, input, expected) {
+            return false;
         }
     }
-    compared
-}
-
-/// Whether the answer to a text is left to an engine.
-fn asks_engine(matcher: &Matcher<KeptText>, input: &str) -> bool {
-    matches!(matcher.inner, InnerMatcher::RegExp { .. })
-        && input.strip_prefix(matcher.prefix.as_str()).is_some_and(|rest| rest
-            .strip_suffix(matcher.suffix.as_str())
-            .is_some())
+    inputs.len() == recorded.len()
 }
 
 /// Whether a matcher answers a text as recorded.
-fn answers(alloc: Global, matcher: &Matcher<KeptText>, input: &str, expected: &Captures) -> bool {
+fn answers<R: RegExp>(
+    alloc: Global,
+    matcher: &Matcher<R>,
+    input: &str,
+    expected: &Captures,
+) -> bool {
     let (Ok(found), Ok(is_accepted)) = (
         matcher.matches(alloc, input),
         matcher.accepts(alloc, input),
@@ -129,19 +127,6 @@ fn answers(alloc: Global, matcher: &Matcher<KeptText>, input: &str, expected: &C
         return false;
     };
     is_accepted == expected.is_some() && are_same_captures(&found, expected)
-}
-
-/// Whether captures are the recorded ones.
-fn are_same_captures(found: &Option<Vec<Option<&str>>>, recorded: &Captures) -> bool {
-    match (found, recorded) {
-        (Some(found), Some(recorded)) => {
-            found.len() == recorded.len()
-                && found.iter().zip(recorded).all(|(text, expected)| *text
-                    == expected.as_ref().map(|text| text.as_str()))
-        }
-        (None, None) => true,
-        _ => false,
-    }
 }
 
 /// A matcher in the form of the recorded ones.
