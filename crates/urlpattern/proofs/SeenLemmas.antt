@@ -140,14 +140,17 @@ way_goes section tokens from depth index reached opened closed reached' opened' 
   where
     sees : is_seen tokens from depth index ≡ (not (is_open token.kind) && reached == 0)
     sees = walk_sees tokens from depth index reached token is goes way.depth_is
+
     not_here : may_end section tokens from depth index ≡ false
     not_here =
         ap (λ b. b && is_ending section (is_balanced tokens from depth index) tokens index) sees
         ∙ ap (λ b. (not (is_open token.kind) && reached == 0) && b) (sym (ending_of section tokens from depth index reached opened closed way))
         ∙ passes
+
     none_yet : (other : ℕ) → from ≤ other → (other ≡ index) ⊎ (other ≡ index → ⊥) → other < index + 1 → ¬ IsTrue (may_end section tokens from depth other)
     none_yet other behind (inl e) before h = both_ways _ (ap (may_end section tokens from depth) e ∙ not_here) h
     none_yet other behind (inr ne) before h = way.none other behind (omega arith) h
+
     counted : (mark : List ℕ) (n : ℕ) → IsTrue (is_hostname section) → n ≡ count_seen mark tokens from depth index → n + cond (is_hostname section && (not (is_open token.kind) && reached == 0) && at (is_sign mark) tokens index) 1 0 ≡ count_seen mark tokens from depth (index + 1)
     counted mark n hostname so_far =
         ap (λ b. n + cond (b && (not (is_open token.kind) && reached == 0) && at (is_sign mark) tokens index) 1 0) hostname

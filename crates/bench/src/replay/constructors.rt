@@ -35,7 +35,9 @@ fn constructor(alloc: Global, question: &ConstructorQuestion) -> Result<Construc
         None => None,
     };
     let pattern = &question.pattern;
-    let (init, turns) = UrlPatternInit::parse_constructor_string_counted::<Regex>(alloc, pattern, base)?;
+    let (init, turns) = UrlPatternInit::parse_constructor_string_counted::<Regex>(
+        alloc, pattern, base,
+    )?;
     Ok(Constructor {
         protocol: init.protocol,
         username: init.username,

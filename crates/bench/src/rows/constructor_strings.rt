@@ -41,7 +41,19 @@ fn expect_components(
     base: Option<&str>,
     row: Row<'_>,
 ) -> Result<(), Fail> {
-    let (pattern, [protocol, username, password, hostname, port, pathname, search, hash]) = row;
+    let (
+        pattern,
+        [
+            protocol,
+            username,
+            password,
+            hostname,
+            port,
+            pathname,
+            search,
+            hash,
+        ],
+    ) = row;
     let (init, _) = parse(alloc, pattern, base)?;
     assert_eq!(rt; text(&init.protocol), protocol, "protocol of {pattern:?}");
     assert_eq!(rt; text(&init.username), username, "username of {pattern:?}");
@@ -74,15 +86,42 @@ fn strings_with_a_protocol(rt: HostRuntime) -> Result<(), Fail> {
     let rows: [Row<'_>; 9] = [
         (
             ":café://:foo",
-            [Some(":café"), None, None, Some(":foo"), Some(""), None, None, None],
+            [
+                Some(":café"),
+                None,
+                None,
+                Some(":foo"),
+                Some(""),
+                None,
+                None,
+                None,
+            ],
         ),
         (
             "https://a]",
-            [Some("https"), None, None, Some("a]"), Some(""), None, None, None],
+            [
+                Some("https"),
+                None,
+                None,
+                Some("a]"),
+                Some(""),
+                None,
+                None,
+                None,
+            ],
         ),
         (
             "https:1/",
-            [Some("https"), None, None, Some("1"), Some(""), Some("/"), None, None],
+            [
+                Some("https"),
+                None,
+                None,
+                Some("1"),
+                Some(""),
+                Some("/"),
+                None,
+                None,
+            ],
         ),
         (
             "https://user\\:pw@example.com:8080/a?b#c",
@@ -138,7 +177,16 @@ fn strings_with_a_protocol(rt: HostRuntime) -> Result<(), Fail> {
         ),
         (
             "data:1?b",
-            [Some("data"), None, None, Some(""), Some(""), Some("1"), Some("b"), None],
+            [
+                Some("data"),
+                None,
+                None,
+                Some(""),
+                Some(""),
+                Some("1"),
+                Some("b"),
+                None,
+            ],
         ),
         (
             "(H\\PH)e:*) (emH\\<N)E*(elNH\\PH)e\u{FFFD}{}?u",
@@ -191,15 +239,42 @@ fn groups_names_and_brackets(rt: HostRuntime) -> Result<(), Fail> {
         ),
         (
             "https://a{:80}/b",
-            [Some("https"), None, None, Some("a{:80}"), Some(""), Some("/b"), None, None],
+            [
+                Some("https"),
+                None,
+                None,
+                Some("a{:80}"),
+                Some(""),
+                Some("/b"),
+                None,
+                None,
+            ],
         ),
         (
             "https://]:1",
-            [Some("https"), None, None, Some("]:1"), Some(""), None, None, None],
+            [
+                Some("https"),
+                None,
+                None,
+                Some("]:1"),
+                Some(""),
+                None,
+                None,
+                None,
+            ],
         ),
         (
             "ht(tp):1/",
-            [Some("ht(tp)"), None, None, Some("1"), Some(""), Some("/"), None, None],
+            [
+                Some("ht(tp)"),
+                None,
+                None,
+                Some("1"),
+                Some(""),
+                Some("/"),
+                None,
+                None,
+            ],
         ),
     ];
     for row in rows {
@@ -212,9 +287,15 @@ fn groups_names_and_brackets(rt: HostRuntime) -> Result<(), Fail> {
 fn strings_without_a_protocol(rt: HostRuntime) -> Result<(), Fail> {
     let rows: [Row<'_>; 5] = [
         ("", [None, None, None, None, None, Some(""), None, None]),
-        ("foo", [None, None, None, None, None, Some("foo"), None, None]),
+        (
+            "foo",
+            [None, None, None, None, None, Some("foo"), None, None],
+        ),
         ("?q", [None, None, None, None, None, None, Some("q"), None]),
-        ("#h{", [None, None, None, None, None, None, None, Some("h{")]),
+        (
+            "#h{",
+            [None, None, None, None, None, None, None, Some("h{")],
+        ),
         (
             "a#b{c",
             [None, None, None, None, None, Some("a#b{c"), None, None],
@@ -240,7 +321,10 @@ fn the_base_is_kept(rt: HostRuntime) -> Result<(), Fail> {
 fn a_protocol_or_a_base_is_needed(rt: HostRuntime) -> Result<(), Fail> {
     for pattern in ["", "foo"] {
         let answer = parse(rt.alloc(), pattern, None);
-        assert!(rt; matches!(&answer, Err(Error::BaseUrlRequired)), "at {pattern:?}");
+        assert!(rt;
+            matches!(&answer, Err(Error::BaseUrlRequired)),
+            "at {pattern:?}"
+        );
     }
     Ok(())
 }
@@ -295,8 +379,22 @@ fn with_copies(
 #[test]
 fn ten_thousand_open_braces(rt: HostRuntime) -> Result<(), Fail> {
     let pattern = with_copies(rt.alloc(), "", "{", 10_000)?;
-    let whole = [None, None, None, None, None, Some(pattern.as_str()), None, None];
-    expect_components(&rt, rt.alloc(), Some("https://example.com/"), (&pattern, whole))?;
+    let whole = [
+        None,
+        None,
+        None,
+        None,
+        None,
+        Some(pattern.as_str()),
+        None,
+        None,
+    ];
+    expect_components(
+        &rt,
+        rt.alloc(),
+        Some("https://example.com/"),
+        (&pattern, whole),
+    )?;
     expect_turns(&rt, rt.alloc(), &pattern, 10_001, 20_002)?;
     Ok(())
 }
@@ -306,7 +404,16 @@ fn ten_thousand_closing_brackets(rt: HostRuntime) -> Result<(), Fail> {
     let brackets = with_copies(rt.alloc(), "", "]", 10_000)?;
     let pattern = format!(in rt.alloc(); "https://{brackets}")?;
     let hostname = Some(brackets.as_str());
-    let components = [Some("https"), None, None, hostname, Some(""), None, None, None];
+    let components = [
+        Some("https"),
+        None,
+        None,
+        hostname,
+        Some(""),
+        None,
+        None,
+        None,
+    ];
     expect_components(&rt, rt.alloc(), None, (&pattern, components))?;
     Ok(())
 }

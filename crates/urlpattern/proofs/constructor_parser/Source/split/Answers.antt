@@ -40,6 +40,6 @@ returns-in_err-special-clause-refused g c =
     let p = err_from_is_err_and c.from_residual.result c.from_residual.ensures.1 in
     rw (p.1, p.2)
     (elim c.in_err-special.ensures.refused [
-        inl memory ↦ inl memory
+      | inl memory ↦ inl memory
       | inr refused ↦ inr (tokens, c.end_of-colon.result.index, chars c.text_between-protocol.result.now, c.requires, again, ap (is_colon tokens) same ∙ colon, c.text_between-protocol.ensures, refused)
     ])
