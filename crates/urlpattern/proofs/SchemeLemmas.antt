@@ -1,9 +1,9 @@
 -- Lemmas on the texts that a matcher is asked for, one after another.
-use Rattle.std.proofs.Common.{◌≡◌, ℕ, zero, suc, ◌+◌, ◌<◌, ◌≤◌, ◌⊎◌, Bool, true, false, Option, Some, Result, Ok, Err, List, [], ◌∷◌, length, map, get_or, codes, Bor, sym, ap, ◌∙◌, subst, inl, inr, arith, refl}
+use Rattle.std.proofs.Common.{◌≡◌, ℕ, zero, suc, ◌+◌, ◌<◌, ◌≤◌, Bool, true, false, Option, Some, Result, Ok, Err, List, [], ◌∷◌, length, map, get_or, codes, Bor, sym, ap, ◌∙◌, subst, inl, inr, arith, refl}
 use Rattle.std.proofs.lemmas.Bool.{cases_eq, false≢true}
 use Rattle.std.proofs.lemmas.Option.{slice_get-get_or, slice_get_read}
 use Rattle.std.specs.List.{Any}
-use Rattle.std.specs.Prelude.{◌↔◌, IfOk, IsTrue, MatchBool, slice_get}
+use Rattle.std.specs.Prelude.{◌↔◌, IfOk, IsTrue, MatchBool}
 use Rattle.std.specs.Str.{chars}
 use Rattle.urlpattern_core.specs.Canonical.{special_schemes}
 use Rattle.urlpattern.specs.SpecialProtocol.{AcceptsSpecialScheme, IsSpecialBy, protocol_encoding}

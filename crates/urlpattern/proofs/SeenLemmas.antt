@@ -1,12 +1,12 @@
 -- Lemmas on the tokens that are seen: the depth from one token to the next, counts, and a walk up to where a section ends.
-use Rattle.std.proofs.Common.{◌≡◌, ℕ, zero, suc, ◌+◌, ◌-◌, ◌<◌, ◌≤◌, ◌⊎◌, Bool, true, false, cond, not, ◌&&◌, ◌||◌, ◌==◌, Some, List, [], ◌∷◌, ◌++◌, length, get_or, take, refl, sym, ap, ◌∙◌, subst, inl, inr, arith, rules, zero-add}
-use Rattle.std.proofs.lemmas.Bool.{and_from, and_left, and_parts, and_right, both_ways, cases_eq, eqb-true, false≢true, false_from_ne_true, or_from, or_left, or_right}
+use Rattle.std.proofs.Common.{◌≡◌, ℕ, zero, suc, ◌+◌, ◌-◌, ◌<◌, ◌≤◌, ◌⊎◌, Bool, true, false, cond, not, ◌&&◌, ◌||◌, ◌==◌, Some, List, [], ◌∷◌, ◌++◌, get_or, refl, sym, ap, ◌∙◌, inl, inr, arith, zero-add}
+use Rattle.std.proofs.lemmas.Bool.{and_from, both_ways, cases_eq, or_left, or_right}
 use Rattle.std.proofs.lemmas.List.Edits.{between_more}
 use Rattle.std.proofs.lemmas.List.Sums.{fold-append, sum_by-append}
 use Rattle.std.proofs.lemmas.Option.{get_or_from_slice_get, slice_get_within}
 use Rattle.std.specs.List.{count_by, fold, range_with_len, sum_by}
 use Rattle.std.specs.Prelude.{codes, IsTrue, slice_get, slice_range}
-use Rattle.urlpattern.specs.Split.{EndsAt, at, count_seen, depth_before, depth_behind, ends_at, is_balanced, is_end, is_ending, is_open, is_seen, is_sign, may_end}
+use Rattle.urlpattern.specs.Split.{EndsAt, at, count_seen, depth_before, depth_behind, is_balanced, is_end, is_ending, is_open, is_seen, is_sign, may_end}
 use Rattle.urlpattern.specs.Splitting.{is_hostname}
 use Rattle.urlpattern.specs.declared.constructor_parser.Section.{Section}
 use Rattle.urlpattern.specs.declared.constructor_parser.Section.TheVariants.{Protocol, Authority, Username, Password, Hostname, Port, Pathname, Search, Hash}

@@ -1,22 +1,21 @@
 -- The text between two lenient tokens: that there is one, and that the bytes may be cut there.
-use Rattle.std.proofs.Common.{◌≡◌, ℕ, zero, suc, ◌+◌, ◌-◌, ◌<◌, ◌≤◌, ◌⊎◌, Bool, true, false, ◌&&◌, Option, Some, List, [], ◌∷◌, ◌++◌, length, get_or, take, drop, refl, sym, ap, ◌∙◌, subst, inl, inr, arith, append_assoc, length-append}
+use Rattle.std.proofs.Common.{◌≡◌, ℕ, zero, suc, ◌+◌, ◌-◌, ◌<◌, ◌≤◌, ◌⊎◌, true, false, Some, List, [], ◌∷◌, ◌++◌, length, get_or, take, drop, refl, sym, ap, ◌∙◌, subst, inl, inr, arith, append_assoc, length-append}
 use Rattle.std.proofs.Math.Seq.{take-append_seam}
-use Rattle.std.proofs.lemmas.Bool.{and_from, and_parts, both_ways, false≢true}
+use Rattle.std.proofs.lemmas.Bool.{and_from, and_parts, both_ways}
 use Rattle.std.proofs.lemmas.List.{append-nil, length-map}
 use Rattle.std.proofs.lemmas.Str.{chars-encodes, encodes-append, encodes-chars, IsCharBoundary-at_seam}
-use Rattle.std.specs.Char.{IsScalar}
 use Rattle.std.specs.Prelude.{encode_utf8_all, IsTrue, IsSomeAnd, slice_get, slice_range}
 use Rattle.std.specs.Str.{chars, IsCharBoundary, IsUtf8}
-use lib.Utf8.{scalars, scalar}
-use Rattle.urlpattern.specs.Split.{IsTextBetween, at, ends_at, is_end}
+use lib.Utf8.{scalars}
+use Rattle.urlpattern.specs.Split.{IsTextBetween, ends_at, is_end}
 use Rattle.urlpattern.specs.Splitting.{IsClosed, IsSource, text_of_source, tokens_of}
 use Rattle.urlpattern.specs.declared.constructor_parser.Source.{Source}
 use Rattle.urlpattern.proofs.TokenPlaces.{no_token, view_read}
 use Rattle.urlpattern_syntax.specs.Text.{byte_len, BeginsAt}
-use Rattle.urlpattern_syntax.specs.Tokens.{AreLenientTokens, IsCut, IsInvalidCharOf, IsLexed, IsTokenOf, Skips, Spells, TokenView, end_of, token_view}
+use Rattle.urlpattern_syntax.specs.Tokens.{AreLenientTokens, IsCut, IsInvalidCharOf, IsTokenOf, Spells, TokenView, end_of, token_view}
 use Rattle.urlpattern_syntax.specs.declared.tokenizer.TokenType.{TokenType}
-use Rattle.urlpattern_syntax.specs.declared.tokenizer.TokenType.TheVariants.{Asterisk, Char, Close, End, EscapedChar, InvalidChar, Name, Open, OtherModifier, Regexp}
-use Rattle.urlpattern_syntax.proofs.TextLemmas.{byte_len-append, byte_len-nil}
+use Rattle.urlpattern_syntax.specs.declared.tokenizer.TokenType.TheVariants.{End}
+use Rattle.urlpattern_syntax.proofs.TextLemmas.{byte_len-append}
 
 -- what a lenient token of the whole text is
 abbrev pub IsLenient : (whole start : List ℕ) → TokenView → List ℕ → Type 0

@@ -1,4 +1,4 @@
-use Rattle.std.proofs.Common.{◌≡◌, ◌+◌, ◌<◌, ◌≤◌, length, inl, inr, arith}
+use Rattle.std.proofs.Common.{inl, inr, arith}
 use Rattle.std.proofs.lemmas.Bool.{both_ways, cases_Bool}
 use Rattle.urlpattern.specs.Split.{EndsAt, ends_at}
 use Rattle.urlpattern.specs.Splitting.{tokens_of}

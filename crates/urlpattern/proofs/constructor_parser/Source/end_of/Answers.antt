@@ -1,7 +1,7 @@
-use Rattle.std.proofs.Common.{◌≡◌, ◌+◌, ◌≤◌, ◌&&◌, ◌==◌, ◌<◌, Bool, true, false, cond, not, codes, get_or, length, map, sym, ap, ◌∙◌, arith, rules}
+use Rattle.std.proofs.Common.{◌≡◌, ◌+◌, ◌&&◌, ◌==◌, ◌<◌, true, false, cond, not, codes, get_or, length, sym, ap, ◌∙◌, arith}
 use Rattle.std.proofs.lemmas.Bool.{and_left, and_right, both_ways}
 use Rattle.std.proofs.lemmas.List.{length-map}
-use Rattle.urlpattern.specs.Split.{at, depth_behind, ends_at, is_end, is_ending, is_open, is_sign}
+use Rattle.urlpattern.specs.Split.{at, ends_at, is_end, is_ending, is_open, is_sign}
 use Rattle.urlpattern.specs.Splitting.{is_hostname, text_of_source, tokens_of}
 use Rattle.urlpattern.proofs.TextBetween.{are_closed}
 use Rattle.urlpattern.proofs.SeenLemmas.{cond-bound, depth_behind-bound, way_ends, way_goes, way_stops}

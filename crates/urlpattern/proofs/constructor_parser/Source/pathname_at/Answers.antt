@@ -1,4 +1,4 @@
-use Rattle.std.proofs.Common.{◌≡◌, ◌+◌, Some, ap, sym, ◌∙◌, inl, inr, arith}
+use Rattle.std.proofs.Common.{◌≡◌, Some, ap, sym, ◌∙◌, inl, inr, arith}
 use Rattle.std.proofs.lemmas.Bool.{or_left, or_right}
 use Rattle.urlpattern.proofs.constructor_parser.Source.pathname_at.Goals as goal
 use Rattle.urlpattern.proofs.constructor_parser.Source.pathname_at.Goals.{then-is_search_sign-via-then-is_search_sign, then-is_search_sign-via-else-is_search_sign+then-is_sign-2}

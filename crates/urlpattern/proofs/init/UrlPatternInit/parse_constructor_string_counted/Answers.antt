@@ -1,8 +1,7 @@
-use Rattle.std.proofs.Common.{◌≡◌, ◌*◌, ◌≤◌, Bor, List, ℕ, length, map, not, refl, sym, ap, ◌∙◌, subst, inl, inr, arith}
+use Rattle.std.proofs.Common.{Bor, List, ℕ, map, not, refl, sym, ap, ◌∙◌, subst, inl, inr, arith}
 use Rattle.std.proofs.lemmas.List.{length-map}
 use Rattle.std.proofs.lemmas.Result.{err_from_is_err_and}
 use Rattle.std.specs.Str.{chars}
-use Rattle.urlpattern.specs.ConstructorString.{init_components}
 use Rattle.urlpattern.specs.SpecialProtocol.{IsSpecialBy}
 use Rattle.urlpattern.specs.Split.{IsSplit}
 use Rattle.urlpattern.specs.Splitting.{components_of}
