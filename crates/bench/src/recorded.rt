@@ -401,16 +401,25 @@ pub struct ConstructorQuestion {
     pub base: Option<String>,
 }
 
-/// The components of a constructor string, and how many looks at a token were taken.
+/// The components of a constructor string, null where one is missing, and how many looks at a token were taken.
 #[derive(PartialEq, Drop, Deserialize)]
 pub struct Constructor {
+    /// The scheme.
     pub protocol: Option<String>,
+    /// The user name.
     pub username: Option<String>,
+    /// The password.
     pub password: Option<String>,
+    /// The host.
     pub hostname: Option<String>,
+    /// The port.
     pub port: Option<String>,
+    /// The path.
     pub pathname: Option<String>,
+    /// The query.
     pub search: Option<String>,
+    /// The fragment.
     pub hash: Option<String>,
+    /// The number of looks.
     pub turns: usize,
 }

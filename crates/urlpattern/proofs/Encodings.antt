@@ -1,10 +1,9 @@
 -- A weaker encoding reads and refuses no less.
-use Rattle.std.proofs.Common.{◌≡◌, ℕ, ◌⊎◌, Result, Ok, Err, List, [], ◌∷◌, inl, inr}
-use Rattle.urlpattern_syntax.specs.declared.parser.PartModifier.{PartModifier}
+use Rattle.std.proofs.Common.{ℕ, Result, Ok, Err, List, [], ◌∷◌, inl, inr}
 use Rattle.urlpattern_syntax.specs.Errors.{ErrorView}
 use Rattle.urlpattern_syntax.specs.Options.{OptionsView}
 use Rattle.urlpattern_syntax.specs.Parts.{PartView}
-use Rattle.urlpattern_syntax.specs.Reading.{AreMet, AreParts, Capture, Demand, Encode, Encoding, Expect, FailsDemand, Fails, FirstFails, Fixed, IsMet, Item, NewName, Reads, Refuses, demands, items_of}
+use Rattle.urlpattern_syntax.specs.Reading.{AreMet, AreParts, Capture, Demand, Encode, Encoding, Expect, Fails, FirstFails, Fixed, IsMet, Item, NewName, Reads, Refuses, demands, items_of}
 use Rattle.urlpattern_syntax.specs.Pieces.{Ending as endings}
 
 -- whatever the one answers the other may
@@ -28,7 +27,7 @@ fails strong weak h (Expect kind token) error f = f
 first_fails : (strong weak : Encoding) → Weakens strong weak → (list : List Demand) (error : ErrorView) → FirstFails strong list error → FirstFails weak list error
 first_fails strong weak h [] error f = f
 first_fails strong weak h (demand ∷ rest) error f = elim f [
-    inl now ↦ inl (fails strong weak h demand error now)
+  | inl now ↦ inl (fails strong weak h demand error now)
   | inr later ↦ inr (met strong weak h demand later.0, first_fails strong weak h rest error later.1)
 ]
 
@@ -53,13 +52,13 @@ reads_weaker strong weak h text options parts r = record {
 
 pub refuses_weaker : (strong weak : Encoding) → Weakens strong weak → (text : List ℕ) (options : OptionsView) (error : ErrorView) → Refuses text options strong error → Refuses text options weak error
 refuses_weaker strong weak h text options error r = elim r [
-    inl fault ↦ inl fault
+  | inl fault ↦ inl fault
   | inr demand ↦ inr (record {
-      tokens = demand.tokens;
-      pieces = demand.pieces;
-      ending = demand.ending;
-      are_tokens = demand.are_tokens;
-      are_pieces = demand.are_pieces;
-      fails = first_fails strong weak h (demands (items_of demand.pieces) demand.ending) error demand.fails;
-    })
+    tokens = demand.tokens;
+    pieces = demand.pieces;
+    ending = demand.ending;
+    are_tokens = demand.are_tokens;
+    are_pieces = demand.are_pieces;
+    fails = first_fails strong weak h (demands (items_of demand.pieces) demand.ending) error demand.fails;
+  })
 ]

@@ -1,9 +1,9 @@
 -- Lemmas on the texts that a matcher is asked for, one after another.
-use Rattle.std.proofs.Common.{◌≡◌, ℕ, zero, suc, ◌+◌, ◌<◌, ◌≤◌, ◌⊎◌, Bool, true, false, Option, Some, Result, Ok, Err, List, [], ◌∷◌, length, map, get_or, codes, Bor, sym, ap, ◌∙◌, subst, inl, inr, arith, refl}
+use Rattle.std.proofs.Common.{◌≡◌, ℕ, zero, suc, ◌+◌, ◌<◌, ◌≤◌, Bool, true, false, Option, Some, Result, Ok, Err, List, [], ◌∷◌, length, map, get_or, codes, Bor, sym, ap, ◌∙◌, subst, inl, inr, arith, refl}
 use Rattle.std.proofs.lemmas.Bool.{cases_eq, false≢true}
 use Rattle.std.proofs.lemmas.Option.{slice_get-get_or, slice_get_read}
 use Rattle.std.specs.List.{Any}
-use Rattle.std.specs.Prelude.{◌↔◌, IfOk, IsTrue, MatchBool, slice_get}
+use Rattle.std.specs.Prelude.{◌↔◌, IfOk, IsTrue, MatchBool}
 use Rattle.std.specs.Str.{chars}
 use Rattle.urlpattern_core.specs.Canonical.{special_schemes}
 use Rattle.urlpattern.specs.SpecialProtocol.{AcceptsSpecialScheme, IsSpecialBy, protocol_encoding}
@@ -25,7 +25,7 @@ same_read xs i x d within is =
 -- what holds of no element before an index and not of that one holds of none before the next
 pub none_more : {X : Type 0} → (P : X → Type 0) (xs : List X) (i : ℕ) (d : X) → i < length xs → ((k : ℕ) (x : X) → k < i → get_or xs k x ≡ x → ¬ P x) → ¬ P (get_or xs i d) → (k : ℕ) (x : X) → k < i + 1 → get_or xs k x ≡ x → ¬ P x
 none_more P xs i d within before here k x less is p = elim (cases_eq k i) [
-    inl same ↦ here (subst P (sym (same_read xs i x d within (ap (λ n. get_or xs n x) (sym same) ∙ is))) p)
+  | inl same ↦ here (subst P (sym (same_read xs i x d within (ap (λ n. get_or xs n x) (sym same) ∙ is))) p)
   | inr other ↦ before k x (omega arith) is p
 ]
 
@@ -67,12 +67,14 @@ lent ptr text = record { ref_ptr = ptr; now = text }
 -- an answer on texts with the characters of the special schemes is one on these
 pub schemes_answer : (P : List ℕ → Type 0) (texts : List (Bor (List ℕ))) (answer : Result Bool Error) → map (λ (t : Bor (List ℕ)). chars t.now) texts ≡ map (λ (s : List ℕ × Option (List ℕ)). s.0) special_schemes → IfOk answer (λ accepted. MatchBool accepted (Any (λ (t : Bor (List ℕ)). P (chars t.now)) texts) (¬ Any (λ (t : Bor (List ℕ)). P (chars t.now)) texts)) → IfOk answer (λ accepted. IsTrue accepted ↔ Any (λ (s : List ℕ × Option (List ℕ)). P s.0) special_schemes)
 schemes_answer P texts (Err error) e h = tt
-schemes_answer P texts (Ok true) e h =
-    ((λ accepted. any_hidden (λ (s : List ℕ × Option (List ℕ)). s.0) P special_schemes (subst (Any P) e (any_shown (λ (t : Bor (List ℕ)). chars t.now) P texts h))),
-     (λ any. refl))
-schemes_answer P texts (Ok false) e h =
-    ((λ accepted. absurd (false≢true accepted)),
-     (λ any. absurd (h (any_hidden (λ (t : Bor (List ℕ)). chars t.now) P texts (subst (Any P) (sym e) (any_shown (λ (s : List ℕ × Option (List ℕ)). s.0) P special_schemes any))))))
+schemes_answer P texts (Ok true) e h = (
+  (λ accepted. any_hidden (λ (s : List ℕ × Option (List ℕ)). s.0) P special_schemes (subst (Any P) e (any_shown (λ (t : Bor (List ℕ)). chars t.now) P texts h))),
+  (λ any. refl),
+)
+schemes_answer P texts (Ok false) e h = (
+  (λ accepted. absurd (false≢true accepted)),
+  (λ any. absurd (h (any_hidden (λ (t : Bor (List ℕ)). chars t.now) P texts (subst (Any P) (sym e) (any_shown (λ (s : List ℕ × Option (List ℕ)). s.0) P special_schemes any))))),
+)
 
 -- the answer on special schemes, for the parts that a protocol reads as and the matcher that is made of them
 pub special_from : {E : Type 0} → (IsMade : E → (regexp flags : List ℕ) → Type 0) (MayRefuse : (regexp flags : List ℕ) → Type 0) (answer : E → List ℕ → Option Captures) (protocol flags : List ℕ) (options : OptionsView) (parts these : List PartView) (matcher : MatcherView E) (found : Result Bool Error) → options ≡ default_options → flags ≡ codes "u" → these ≡ parts → Reads protocol options protocol_encoding parts → IsMadeOf IsMade MayRefuse options flags these matcher → IfOk found (λ special. IsTrue special ↔ AcceptsSpecialScheme answer matcher) → IfOk found (IsSpecialBy IsMade MayRefuse answer protocol)

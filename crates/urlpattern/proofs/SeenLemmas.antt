@@ -1,12 +1,12 @@
 -- Lemmas on the tokens that are seen: the depth from one token to the next, counts, and a walk up to where a section ends.
-use Rattle.std.proofs.Common.{◌≡◌, ℕ, zero, suc, ◌+◌, ◌-◌, ◌<◌, ◌≤◌, ◌⊎◌, Bool, true, false, cond, not, ◌&&◌, ◌||◌, ◌==◌, Some, List, [], ◌∷◌, ◌++◌, length, get_or, take, refl, sym, ap, ◌∙◌, subst, inl, inr, arith, rules, zero-add}
-use Rattle.std.proofs.lemmas.Bool.{and_from, and_left, and_parts, and_right, both_ways, cases_eq, eqb-true, false≢true, false_from_ne_true, or_from, or_left, or_right}
+use Rattle.std.proofs.Common.{◌≡◌, ℕ, zero, suc, ◌+◌, ◌-◌, ◌<◌, ◌≤◌, ◌⊎◌, Bool, true, false, cond, not, ◌&&◌, ◌||◌, ◌==◌, Some, List, [], ◌∷◌, ◌++◌, get_or, refl, sym, ap, ◌∙◌, inl, inr, arith, zero-add}
+use Rattle.std.proofs.lemmas.Bool.{and_from, both_ways, cases_eq, or_left, or_right}
 use Rattle.std.proofs.lemmas.List.Edits.{between_more}
 use Rattle.std.proofs.lemmas.List.Sums.{fold-append, sum_by-append}
 use Rattle.std.proofs.lemmas.Option.{get_or_from_slice_get, slice_get_within}
 use Rattle.std.specs.List.{count_by, fold, range_with_len, sum_by}
 use Rattle.std.specs.Prelude.{codes, IsTrue, slice_get, slice_range}
-use Rattle.urlpattern.specs.Split.{EndsAt, at, count_seen, depth_before, depth_behind, ends_at, is_balanced, is_end, is_ending, is_open, is_seen, is_sign, may_end}
+use Rattle.urlpattern.specs.Split.{EndsAt, at, count_seen, depth_before, depth_behind, is_balanced, is_end, is_ending, is_open, is_seen, is_sign, may_end}
 use Rattle.urlpattern.specs.Splitting.{is_hostname}
 use Rattle.urlpattern.specs.declared.constructor_parser.Section.{Section}
 use Rattle.urlpattern.specs.declared.constructor_parser.Section.TheVariants.{Protocol, Authority, Username, Password, Hostname, Port, Pathname, Search, Hash}
@@ -140,14 +140,17 @@ way_goes section tokens from depth index reached opened closed reached' opened' 
   where
     sees : is_seen tokens from depth index ≡ (not (is_open token.kind) && reached == 0)
     sees = walk_sees tokens from depth index reached token is goes way.depth_is
+
     not_here : may_end section tokens from depth index ≡ false
     not_here =
         ap (λ b. b && is_ending section (is_balanced tokens from depth index) tokens index) sees
         ∙ ap (λ b. (not (is_open token.kind) && reached == 0) && b) (sym (ending_of section tokens from depth index reached opened closed way))
         ∙ passes
+
     none_yet : (other : ℕ) → from ≤ other → (other ≡ index) ⊎ (other ≡ index → ⊥) → other < index + 1 → ¬ IsTrue (may_end section tokens from depth other)
     none_yet other behind (inl e) before h = both_ways _ (ap (may_end section tokens from depth) e ∙ not_here) h
     none_yet other behind (inr ne) before h = way.none other behind (omega arith) h
+
     counted : (mark : List ℕ) (n : ℕ) → IsTrue (is_hostname section) → n ≡ count_seen mark tokens from depth index → n + cond (is_hostname section && (not (is_open token.kind) && reached == 0) && at (is_sign mark) tokens index) 1 0 ≡ count_seen mark tokens from depth (index + 1)
     counted mark n hostname so_far =
         ap (λ b. n + cond (b && (not (is_open token.kind) && reached == 0) && at (is_sign mark) tokens index) 1 0) hostname

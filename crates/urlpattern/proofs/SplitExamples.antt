@@ -1,11 +1,11 @@
 -- Worked examples of the split: constructor strings with their tokens, and where each component begins and ends.
-use Rattle.std.proofs.Common.{◌≡◌, ℕ, zero, suc, ◌+◌, ◌<◌, ◌≤◌, ◌⊎◌, Bool, true, false, not, ◌&&◌, ◌||◌, Some, None, List, [], ◌∷◌, ◌++◌, length, refl, sym, ap, ◌∙◌, inl, inr, arith, lit<, lit≤}
+use Rattle.std.proofs.Common.{◌≡◌, ℕ, zero, suc, ◌+◌, ◌<◌, ◌≤◌, Bool, true, false, not, ◌&&◌, ◌||◌, Some, None, List, [], ◌∷◌, ◌++◌, length, refl, sym, ap, ◌∙◌, inl, inr, arith, lit<}
 use Rattle.std.proofs.lemmas.Bool.{and_parts, both_ways, cases_eq, false≢true, not-true}
 use Rattle.std.specs.Char.{encode_utf8}
 use Rattle.std.specs.Prelude.{codes, IsTrue, IsSomeAnd, slice_get}
-use Rattle.urlpattern.specs.Split.{Components, EndsAt, IsAbsoluteSplit, IsRelativeSplit, IsTextBetween, ends_at, may_end}
+use Rattle.urlpattern.specs.Split.{EndsAt, IsAbsoluteSplit, IsRelativeSplit, IsTextBetween, ends_at, may_end}
 use Rattle.urlpattern.specs.declared.constructor_parser.Section.{Section}
-use Rattle.urlpattern.specs.declared.constructor_parser.Section.TheVariants.{Protocol, Authority, Username, Password, Hostname, Port, Pathname, Search, Hash}
+use Rattle.urlpattern.specs.declared.constructor_parser.Section.TheVariants.{Protocol, Authority, Username, Hostname, Port, Pathname, Search}
 use Rattle.urlpattern_syntax.specs.declared.tokenizer.TokenType.{TokenType}
 use Rattle.urlpattern_syntax.specs.declared.tokenizer.TokenType.TheVariants.{Char, End, EscapedChar, InvalidChar, Open, OtherModifier}
 use Rattle.urlpattern_syntax.specs.Text.{byte_len}
@@ -32,7 +32,7 @@ nowhere section tokens from depth place zero h other behind before may = absurd 
 nowhere section tokens from depth place (suc count) h other behind before may =
     let parts = and_parts (not (may_end section tokens from depth place)) (may_not section tokens from depth (place + 1) count) h in
     elim (cases_eq other place) [
-        inl same ↦ absurd (both_ways (may_end section tokens from depth place) (not-true (may_end section tokens from depth place) parts.0) (ap (may_end section tokens from depth) (sym same) ∙ may))
+      | inl same ↦ absurd (both_ways (may_end section tokens from depth place) (not-true (may_end section tokens from depth place) parts.0) (ap (may_end section tokens from depth) (sym same) ∙ may))
       | inr differ ↦ nowhere section tokens from depth (place + 1) count parts.1 other (omega arith) (omega arith) may
     ]
 
@@ -68,16 +68,24 @@ closing_bracket = record {
   is_colon_there = refl;
   protocol_ends = ends Protocol bracket_tokens 0 0 5 5 refl (lit< tt) refl refl;
   protocol = between bracket_tokens 0 5 [] (codes "https") (codes "://a]") refl refl refl refl;
-  behind = inl (refl, (
+  behind = inl (
+    refl,
+    (
       10,
       ends Authority bracket_tokens 8 0 2 10 refl (lit< tt) refl refl,
-      inr (false≢true, refl, refl, (
+      inr (
+        false≢true,
+        refl,
+        refl,
+        (
           10,
           ends Hostname bracket_tokens 8 0 2 10 refl (lit< tt) refl refl,
           between bracket_tokens 8 10 (codes "https://") (codes "a]") [] refl refl refl refl,
           inr (false≢true, refl, inr (inr (refl, refl, refl, refl))),
-      )),
-  ));
+        ),
+      ),
+    ),
+  );
 }
 
 -- ---- https:1/
@@ -93,21 +101,36 @@ special_without_slashes = record {
   is_colon_there = refl;
   protocol_ends = ends Protocol special_tokens 0 0 5 5 refl (lit< tt) refl refl;
   protocol = between special_tokens 0 5 [] (codes "https") (codes ":1/") refl refl refl refl;
-  behind = inr (inl (refl, (
+  behind = inr (inl (
+    refl,
+    (
       7,
       ends Authority special_tokens 6 0 1 7 refl (lit< tt) refl refl,
-      inr (false≢true, refl, refl, (
+      inr (
+        false≢true,
+        refl,
+        refl,
+        (
           7,
           ends Hostname special_tokens 6 0 1 7 refl (lit< tt) refl refl,
           between special_tokens 6 7 (codes "https:") (codes "1") (codes "/") refl refl refl refl,
-          inr (false≢true, refl, inl (refl, (
-              8,
-              ends Pathname special_tokens 7 0 1 8 refl (lit< tt) refl refl,
-              between special_tokens 7 8 (codes "https:1") (codes "/") [] refl refl refl refl,
-              inr (inr (refl, refl, refl)),
-          ))),
-      )),
-  )));
+          inr (
+            false≢true,
+            refl,
+            inl (
+              refl,
+              (
+                8,
+                ends Pathname special_tokens 7 0 1 8 refl (lit< tt) refl refl,
+                between special_tokens 7 8 (codes "https:1") (codes "/") [] refl refl refl refl,
+                inr (inr (refl, refl, refl)),
+              ),
+            ),
+          ),
+        ),
+      ),
+    ),
+  ));
 }
 
 -- ---- data:1?b
@@ -123,17 +146,27 @@ opaque_pathname = record {
   is_colon_there = refl;
   protocol_ends = ends Protocol opaque_tokens 0 0 4 4 refl (lit< tt) refl refl;
   protocol = between opaque_tokens 0 4 [] (codes "data") (codes ":1?b") refl refl refl refl;
-  behind = inr (inr (refl, refl, refl, refl, refl, (
+  behind = inr (inr (
+    refl,
+    refl,
+    refl,
+    refl,
+    refl,
+    (
       6,
       ends Pathname opaque_tokens 5 0 1 6 refl (lit< tt) refl refl,
       between opaque_tokens 5 6 (codes "data:") (codes "1") (codes "?b") refl refl refl refl,
-      inl (refl, (
+      inl (
+        refl,
+        (
           8,
           ends Search opaque_tokens 7 0 1 8 refl (lit< tt) refl refl,
           between opaque_tokens 7 8 (codes "data:1?") (codes "b") [] refl refl refl refl,
           inr (refl, refl),
-      )),
-  )));
+        ),
+      ),
+    ),
+  ));
 }
 
 -- ---- a#b{c
@@ -149,12 +182,15 @@ depth_is_kept = record {
   until = 5;
   no_colon = ends Protocol open_tokens 0 0 5 5 refl (lit< tt) refl refl;
   is_end = refl;
-  begins = inr (inr (false≢true, (
+  begins = inr (inr (
+    false≢true,
+    (
       5,
       ends Pathname open_tokens 0 1 5 5 refl (lit< tt) refl refl,
       between open_tokens 0 5 [] (codes "a#b{c") [] refl refl refl refl,
       inr (inr (refl, refl, refl)),
-  )));
+    ),
+  ));
   nothing_before = (refl, refl, refl, refl, refl);
 }
 
@@ -174,37 +210,50 @@ all_components = record {
   is_colon_there = refl;
   protocol_ends = ends Protocol whole_tokens 0 0 5 5 refl (lit< tt) refl refl;
   protocol = between whole_tokens 0 5 [] (codes "https") (codes "://user\\:pw@example.com:8080/a?b#c") refl refl refl refl;
-  behind = inl (refl, (
+  behind = inl (
+    refl,
+    (
       15,
       ends Authority whole_tokens 8 0 7 15 refl (lit< tt) refl refl,
-      inl (refl,
-          (
-              12,
-              ends Username whole_tokens 8 0 4 12 refl (lit< tt) refl refl,
-              between whole_tokens 8 12 (codes "https://") (codes "user") (codes "\\:pw@example.com:8080/a?b#c") refl refl refl refl,
-              inr (lit< tt, between whole_tokens 13 15 (codes "https://user\\:") (codes "pw") (codes "@example.com:8080/a?b#c") refl refl refl refl),
+      inl (
+        refl,
+        (
+          12,
+          ends Username whole_tokens 8 0 4 12 refl (lit< tt) refl refl,
+          between whole_tokens 8 12 (codes "https://") (codes "user") (codes "\\:pw@example.com:8080/a?b#c") refl refl refl refl,
+          inr (lit< tt, between whole_tokens 13 15 (codes "https://user\\:") (codes "pw") (codes "@example.com:8080/a?b#c") refl refl refl refl),
+        ),
+        (
+          27,
+          ends Hostname whole_tokens 16 0 11 27 refl (lit< tt) refl refl,
+          between whole_tokens 16 27 (codes "https://user\\:pw@") (codes "example.com") (codes ":8080/a?b#c") refl refl refl refl,
+          inl (
+            refl,
+            (
+              32,
+              ends Port whole_tokens 28 0 4 32 refl (lit< tt) refl refl,
+              between whole_tokens 28 32 (codes "https://user\\:pw@example.com:") (codes "8080") (codes "/a?b#c") refl refl refl refl,
+              inl (
+                refl,
+                (
+                  34,
+                  ends Pathname whole_tokens 32 0 2 34 refl (lit< tt) refl refl,
+                  between whole_tokens 32 34 (codes "https://user\\:pw@example.com:8080") (codes "/a") (codes "?b#c") refl refl refl refl,
+                  inl (
+                    refl,
+                    (
+                      36,
+                      ends Search whole_tokens 35 0 1 36 refl (lit< tt) refl refl,
+                      between whole_tokens 35 36 (codes "https://user\\:pw@example.com:8080/a?") (codes "b") (codes "#c") refl refl refl refl,
+                      inl (refl, (38, refl, between whole_tokens 37 38 (codes "https://user\\:pw@example.com:8080/a?b#") (codes "c") [] refl refl refl refl)),
+                    ),
+                  ),
+                ),
+              ),
+            ),
           ),
-          (
-              27,
-              ends Hostname whole_tokens 16 0 11 27 refl (lit< tt) refl refl,
-              between whole_tokens 16 27 (codes "https://user\\:pw@") (codes "example.com") (codes ":8080/a?b#c") refl refl refl refl,
-              inl (refl, (
-                  32,
-                  ends Port whole_tokens 28 0 4 32 refl (lit< tt) refl refl,
-                  between whole_tokens 28 32 (codes "https://user\\:pw@example.com:") (codes "8080") (codes "/a?b#c") refl refl refl refl,
-                  inl (refl, (
-                      34,
-                      ends Pathname whole_tokens 32 0 2 34 refl (lit< tt) refl refl,
-                      between whole_tokens 32 34 (codes "https://user\\:pw@example.com:8080") (codes "/a") (codes "?b#c") refl refl refl refl,
-                      inl (refl, (
-                          36,
-                          ends Search whole_tokens 35 0 1 36 refl (lit< tt) refl refl,
-                          between whole_tokens 35 36 (codes "https://user\\:pw@example.com:8080/a?") (codes "b") (codes "#c") refl refl refl refl,
-                          inl (refl, (38, refl, between whole_tokens 37 38 (codes "https://user\\:pw@example.com:8080/a?b#") (codes "c") [] refl refl refl refl)),
-                      )),
-                  )),
-              )),
-          ),
+        ),
       ),
-  ));
+    ),
+  );
 }

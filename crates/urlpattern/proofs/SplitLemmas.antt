@@ -1,6 +1,6 @@
 -- Lemmas on the places of a split: what a sign tells, what is seen behind it, and that a section ends at one place.
-use Rattle.std.proofs.Common.{◌≡◌, ℕ, zero, suc, ◌+◌, ◌-◌, ◌<◌, ◌≤◌, ◌⊎◌, Bool, true, false, not, ◌&&◌, ◌||◌, ◌==◌, Option, Some, None, List, [], ◌∷◌, ◌++◌, length, take, drop, refl, sym, ap, ◌∙◌, subst, inl, inr, arith}
-use Rattle.std.proofs.lemmas.Bool.{and_parts, and_from, both_ways, cases_Bool, cases_eq, cases_lt, eqb-true, false≢true, false_from_ne_true, or_cases, or_left, or_right}
+use Rattle.std.proofs.Common.{◌≡◌, ℕ, zero, suc, ◌+◌, ◌-◌, ◌<◌, ◌≤◌, ◌⊎◌, Bool, true, false, not, ◌&&◌, ◌||◌, ◌==◌, Option, Some, None, List, [], ◌∷◌, ◌++◌, length, take, drop, refl, sym, ap, ◌∙◌, inl, inr, arith}
+use Rattle.std.proofs.lemmas.Bool.{and_parts, and_from, both_ways, cases_Bool, cases_eq, cases_lt, eqb-true, false≢true, or_cases, or_right}
 use Rattle.std.proofs.lemmas.List.{drop-drop}
 use Rattle.std.proofs.lemmas.List.Sums.{fold-append}
 use Rattle.std.proofs.lemmas.Slice.Eq.{bytes_eq-Decides}
@@ -84,9 +84,9 @@ depth_behind_sign mark tokens from depth place less h =
     let more : from + 1 ≤ place = omega arith in
     depth_joined tokens from depth (from + 1) place le more
     ∙ ap (λ d. depth_before tokens (from + 1) d place)
-      (depth_more tokens from depth from found.0 (omega arith) found.1
-       ∙ ap (depth_behind found.0.kind) (depth_here tokens from depth)
-       ∙ character_depth found.0.kind depth character)
+    (depth_more tokens from depth from found.0 (omega arith) found.1
+    ∙ ap (depth_behind found.0.kind) (depth_here tokens from depth)
+    ∙ character_depth found.0.kind depth character)
 
 -- where one is seen whose depth is the same, the other is
 pub seen_same : (tokens : List TokenView) (from depth other_from other_depth place : ℕ) → depth_before tokens from depth place ≡ depth_before tokens other_from other_depth place → is_seen tokens from depth place ≡ is_seen tokens other_from other_depth place
@@ -107,7 +107,7 @@ may_end_parts section tokens from depth place may = and_parts (is_seen tokens fr
 pub seen_depth : (tokens : List TokenView) (from depth place : ℕ) → IsTrue (is_seen tokens from depth place) → ¬ IsTrue (ends_at tokens place) → depth_before tokens from depth place ≡ 0
 seen_depth tokens from depth place seen goes =
     elim (or_cases (ends_at tokens place) (not (at (λ t. is_open t.kind) tokens place) && depth_before tokens from depth place == 0) seen) [
-        inl end ↦ absurd (goes end)
+      | inl end ↦ absurd (goes end)
       | inr level ↦ eqb-true (depth_before tokens from depth place) 0 (and_parts (not (at (λ t. is_open t.kind) tokens place)) (depth_before tokens from depth place == 0) level).1
     ]
 
@@ -115,7 +115,7 @@ seen_depth tokens from depth place seen goes =
 pub depth_at_end : (section : Section) (tokens : List TokenView) (from depth place : ℕ) → EndsAt section tokens from depth place → ¬ IsTrue (ends_at tokens place) → depth_before tokens from depth place ≡ 0
 depth_at_end section tokens from depth place ends goes =
     elim (stops_cases section tokens from depth place ends) [
-        inl may ↦ seen_depth tokens from depth place (may_end_parts section tokens from depth place may).0 goes
+      | inl may ↦ seen_depth tokens from depth place (may_end_parts section tokens from depth place may).0 goes
       | inr end ↦ absurd (goes end)
     ]
 
@@ -123,16 +123,16 @@ depth_at_end section tokens from depth place ends goes =
 pub slash_seen_before : (section : Section) (tokens : List TokenView) (from depth end other : ℕ) → IsClosed tokens → EndsAt section tokens from depth end → end ≤ other → IsTrue (is_seen tokens end 0 other) → IsTrue (is_slash tokens other) → IsTrue (is_seen tokens from depth other)
 slash_seen_before section tokens from depth end other closed ends le seen slash =
     elim (cases_Bool (ends_at tokens end)) [
-        inl is_end ↦
-            let last = closed.last end ends.within is_end in
-            let within = (found_at (is_sign (codes "/")) tokens other slash).3 in
-            let same : end ≡ other = omega arith in
-            absurd (sign_not_end (codes "/") tokens other slash (ap (ends_at tokens) (sym same) ∙ is_end))
+      | inl is_end ↦
+          let last = closed.last end ends.within is_end in
+          let within = (found_at (is_sign (codes "/")) tokens other slash).3 in
+          let same : end ≡ other = omega arith in
+          absurd (sign_not_end (codes "/") tokens other slash (ap (ends_at tokens) (sym same) ∙ is_end))
       | inr goes ↦
-            let zero_depth = depth_at_end section tokens from depth end ends (λ h. both_ways (ends_at tokens end) goes h) in
-            seen_same tokens from depth end 0 other
-            (depth_joined tokens from depth end other ends.behind le ∙ ap (λ d. depth_before tokens end d other) zero_depth)
-            ∙ seen
+          let zero_depth = depth_at_end section tokens from depth end ends (λ h. both_ways (ends_at tokens end) goes h) in
+          seen_same tokens from depth end 0 other
+          (depth_joined tokens from depth end other ends.behind le ∙ ap (λ d. depth_before tokens end d other) zero_depth)
+          ∙ seen
     ]
 
 -- a slash that is seen behind a sign is seen from the sign
@@ -144,7 +144,7 @@ slash_seen_from_sign mark tokens sign other is_a_sign less seen =
 pub slash_is_seen : (section : Section) (tokens : List TokenView) (from depth end : ℕ) → EndsAt section tokens from depth end → IsTrue (is_slash tokens end) → IsTrue (is_seen tokens from depth end)
 slash_is_seen section tokens from depth end ends slash =
     elim (stops_cases section tokens from depth end ends) [
-        inl may ↦ (may_end_parts section tokens from depth end may).0
+      | inl may ↦ (may_end_parts section tokens from depth end may).0
       | inr is_end ↦ absurd (sign_not_end (codes "/") tokens end slash is_end)
     ]
 
@@ -152,7 +152,7 @@ slash_is_seen section tokens from depth end ends slash =
 pub port_sign : (tokens : List TokenView) (from depth place : ℕ) → EndsAt Port tokens from depth place → IsTrue (is_slash tokens place || is_search_sign tokens place || is_hash_sign tokens place || ends_at tokens place)
 port_sign tokens from depth place ends =
     elim (stops_cases Port tokens from depth place ends) [
-        inl may ↦ or_regroup (is_slash tokens place) (is_search_sign tokens place) (is_hash_sign tokens place) (ends_at tokens place) (may_end_parts Port tokens from depth place may).1
+      | inl may ↦ or_regroup (is_slash tokens place) (is_search_sign tokens place) (is_hash_sign tokens place) (ends_at tokens place) (may_end_parts Port tokens from depth place may).1
       | inr is_end ↦ or_last (is_slash tokens place) (is_search_sign tokens place) (is_hash_sign tokens place) (ends_at tokens place) is_end
     ]
   where
@@ -161,6 +161,7 @@ port_sign tokens from depth place ends =
     or_regroup false true c e h = refl
     or_regroup false false true e h = refl
     or_regroup false false false e h = absurd (false≢true h)
+
     or_last : (a b c e : Bool) → e ≡ true → (a || b || c || e) ≡ true
     or_last true b c e h = refl
     or_last false true c e h = refl
@@ -178,7 +179,7 @@ ends_by section tokens from depth place other ends behind may =
 pub sign_is_seen : (mark : List ℕ) (section : Section) (tokens : List TokenView) (from depth end : ℕ) → EndsAt section tokens from depth end → IsTrue (at (is_sign mark) tokens end) → IsTrue (is_seen tokens from depth end)
 sign_is_seen mark section tokens from depth end ends sign =
     elim (stops_cases section tokens from depth end ends) [
-        inl may ↦ (may_end_parts section tokens from depth end may).0
+      | inl may ↦ (may_end_parts section tokens from depth end may).0
       | inr is_end ↦ absurd (sign_not_end mark tokens end sign is_end)
     ]
 
@@ -220,11 +221,11 @@ pub username_alone : (tokens : List TokenView) (from until place : ℕ) → IsCl
 username_alone tokens from until place closed authority at_sign username no_colon =
     let le = username_before tokens from until place authority at_sign username in
     elim (stops_cases Username tokens from 0 place username) [
-        inl may ↦
-            let parts = may_end_parts Username tokens from 0 place may in
-            let sign : IsTrue (is_at_sign tokens place) = elim (or_cases (is_colon tokens place) (is_at_sign tokens place) parts.1) [ inl colon ↦ absurd (no_colon colon) | inr sign ↦ sign ] in
-            let ge = ends_by Authority tokens from 0 until place authority username.behind (and_from (is_seen tokens from 0 place) (is_ending Authority (is_balanced tokens from 0 place) tokens place) parts.0 (at_sign_ends tokens place (is_balanced tokens from 0 place) sign)) in
-            omega arith
+      | inl may ↦
+          let parts = may_end_parts Username tokens from 0 place may in
+          let sign : IsTrue (is_at_sign tokens place) = elim (or_cases (is_colon tokens place) (is_at_sign tokens place) parts.1) [ inl colon ↦ absurd (no_colon colon) | inr sign ↦ sign ] in
+          let ge = ends_by Authority tokens from 0 until place authority username.behind (and_from (is_seen tokens from 0 place) (is_ending Authority (is_balanced tokens from 0 place) tokens place) parts.0 (at_sign_ends tokens place (is_balanced tokens from 0 place) sign)) in
+          omega arith
       | inr is_end ↦ let last = closed.last place username.within is_end in let within = authority.within in omega arith
     ]
 
@@ -236,16 +237,18 @@ password_ends tokens from until colon place closed authority at_sign username is
     let seen_there = sign_is_seen (codes "@") Authority tokens from 0 until authority at_sign in
     let seen_here : IsTrue (is_seen tokens (colon + 1) 0 until) = seen_same tokens (colon + 1) 0 from 0 until (sym (userinfo_depth tokens from colon until username is_a_colon less)) ∙ seen_there in
     let before : place ≤ until = ends_by Password tokens (colon + 1) 0 place until password (omega arith) (and_from (is_seen tokens (colon + 1) 0 until) (is_at_sign tokens until) seen_here at_sign) in
-    let behind = password.behind in
-    (less, elim (stops_cases Password tokens (colon + 1) 0 place password) [
-        inl may ↦
+    let behind = password.behind in (
+      less,
+      elim (stops_cases Password tokens (colon + 1) 0 place password) [
+        | inl may ↦
             let parts = may_end_parts Password tokens (colon + 1) 0 place may in
             let seen : IsTrue (is_seen tokens from 0 place) = seen_same tokens from 0 (colon + 1) 0 place (userinfo_depth tokens from colon place username is_a_colon (omega arith)) ∙ parts.0 in
             let start = username.behind in
             let ge = ends_by Authority tokens from 0 until place authority (omega arith) (and_from (is_seen tokens from 0 place) (is_ending Authority (is_balanced tokens from 0 place) tokens place) seen (at_sign_ends tokens place (is_balanced tokens from 0 place) parts.1)) in
             omega arith
-      | inr is_end ↦ let last = closed.last place password.within is_end in let within = authority.within in omega arith
-    ])
+        | inr is_end ↦ let last = closed.last place password.within is_end in let within = authority.within in omega arith
+      ],
+    )
 
 -- ---- an authority without an end
 
@@ -282,7 +285,7 @@ colon_again tokens first second closed ends colon again =
     let seen = sign_is_seen (codes ":") Protocol tokens 0 0 first ends colon in
     let le = ends_by Protocol tokens 0 0 second first again (omega arith) (and_from (is_seen tokens 0 0 first) (is_colon tokens first) seen colon) in
     elim (stops_cases Protocol tokens 0 0 second again) [
-        inl may ↦ let ge = ends_by Protocol tokens 0 0 first second ends (omega arith) may in omega arith
+      | inl may ↦ let ge = ends_by Protocol tokens 0 0 first second ends (omega arith) may in omega arith
       | inr is_end ↦ let last = closed.last second again.within is_end in let within = ends.within in omega arith
     ]
 
@@ -299,6 +302,6 @@ none_of (Some x) none = absurd (false≢true (sym none))
 -- a split without a protocol has found none
 pub lacks_protocol : (IsSpecial : List ℕ → Bool → Type 0) (text : List ℕ) (tokens : List TokenView) (components : Components) → AreLenientTokens text tokens → IsSplit IsSpecial text tokens components → ((P : List ℕ → Type 0) → IsSomeAnd components.protocol P → ⊥) → LacksProtocol text
 lacks_protocol IsSpecial text tokens components are_tokens split none = elim split [
-    inl relative ↦ (tokens, relative.until, are_tokens, relative.no_colon, relative.is_end)
+  | inl relative ↦ (tokens, relative.until, are_tokens, relative.no_colon, relative.is_end)
   | inr absolute ↦ absurd (none (λ protocol. IsSpecial protocol absolute.1) absolute.3)
 ]

@@ -1,22 +1,21 @@
 -- The text between two lenient tokens: that there is one, and that the bytes may be cut there.
-use Rattle.std.proofs.Common.{◌≡◌, ℕ, zero, suc, ◌+◌, ◌-◌, ◌<◌, ◌≤◌, ◌⊎◌, Bool, true, false, ◌&&◌, Option, Some, List, [], ◌∷◌, ◌++◌, length, get_or, take, drop, refl, sym, ap, ◌∙◌, subst, inl, inr, arith, append_assoc, length-append}
+use Rattle.std.proofs.Common.{◌≡◌, ℕ, zero, suc, ◌+◌, ◌-◌, ◌<◌, ◌≤◌, ◌⊎◌, true, false, Some, List, [], ◌∷◌, ◌++◌, length, get_or, take, drop, refl, sym, ap, ◌∙◌, subst, inl, inr, arith, append_assoc, length-append}
 use Rattle.std.proofs.Math.Seq.{take-append_seam}
-use Rattle.std.proofs.lemmas.Bool.{and_from, and_parts, both_ways, false≢true}
+use Rattle.std.proofs.lemmas.Bool.{and_from, and_parts, both_ways}
 use Rattle.std.proofs.lemmas.List.{append-nil, length-map}
 use Rattle.std.proofs.lemmas.Str.{chars-encodes, encodes-append, encodes-chars, IsCharBoundary-at_seam}
-use Rattle.std.specs.Char.{IsScalar}
 use Rattle.std.specs.Prelude.{encode_utf8_all, IsTrue, IsSomeAnd, slice_get, slice_range}
 use Rattle.std.specs.Str.{chars, IsCharBoundary, IsUtf8}
-use lib.Utf8.{scalars, scalar}
-use Rattle.urlpattern.specs.Split.{IsTextBetween, at, ends_at, is_end}
+use lib.Utf8.{scalars}
+use Rattle.urlpattern.specs.Split.{IsTextBetween, ends_at, is_end}
 use Rattle.urlpattern.specs.Splitting.{IsClosed, IsSource, text_of_source, tokens_of}
 use Rattle.urlpattern.specs.declared.constructor_parser.Source.{Source}
 use Rattle.urlpattern.proofs.TokenPlaces.{no_token, view_read}
 use Rattle.urlpattern_syntax.specs.Text.{byte_len, BeginsAt}
-use Rattle.urlpattern_syntax.specs.Tokens.{AreLenientTokens, IsCut, IsInvalidCharOf, IsLexed, IsTokenOf, Skips, Spells, TokenView, end_of, token_view}
+use Rattle.urlpattern_syntax.specs.Tokens.{AreLenientTokens, IsCut, IsInvalidCharOf, IsTokenOf, Spells, TokenView, end_of, token_view}
 use Rattle.urlpattern_syntax.specs.declared.tokenizer.TokenType.{TokenType}
-use Rattle.urlpattern_syntax.specs.declared.tokenizer.TokenType.TheVariants.{Asterisk, Char, Close, End, EscapedChar, InvalidChar, Name, Open, OtherModifier, Regexp}
-use Rattle.urlpattern_syntax.proofs.TextLemmas.{byte_len-append, byte_len-nil}
+use Rattle.urlpattern_syntax.specs.declared.tokenizer.TokenType.TheVariants.{End}
+use Rattle.urlpattern_syntax.proofs.TextLemmas.{byte_len-append}
 
 -- what a lenient token of the whole text is
 abbrev pub IsLenient : (whole start : List ℕ) → TokenView → List ℕ → Type 0
@@ -91,10 +90,12 @@ front_of whole before text (token ∷ front) (suc i) e cut within =
     let spelling = taken whole cut.0 token cut.1 cut.3 in
     let text_is : text ≡ (skipped.0 ++ spelling.0) ++ cut.1 = skipped.1 ∙ ap (λ x. skipped.0 ++ x) spelling.1 ∙ sym (append_assoc skipped.0 spelling.0 cut.1) in
     let all : whole ≡ (before ++ (skipped.0 ++ spelling.0)) ++ cut.1 = e ∙ ap (λ x. before ++ x) text_is ∙ sym (append_assoc before (skipped.0 ++ spelling.0) cut.1) in
-    let found = front_of whole (before ++ (skipped.0 ++ spelling.0)) cut.1 front i all cut.4 (omega arith) in
-    ((skipped.0 ++ spelling.0) ++ found.0, found.1,
-     text_is ∙ ap (λ x. (skipped.0 ++ spelling.0) ++ x) found.2 ∙ sym (append_assoc (skipped.0 ++ spelling.0) found.0 found.1),
-     record { index = subst (λ x. IsSomeAnd (slice_get (front ++ end_of whole ∷ []) i) (λ t. t.index ≡ byte_len x)) (append_assoc before (skipped.0 ++ spelling.0) found.0) found.3.index })
+    let found = front_of whole (before ++ (skipped.0 ++ spelling.0)) cut.1 front i all cut.4 (omega arith) in (
+      (skipped.0 ++ spelling.0) ++ found.0,
+      found.1,
+      text_is ∙ ap (λ x. (skipped.0 ++ spelling.0) ++ x) found.2 ∙ sym (append_assoc (skipped.0 ++ spelling.0) found.0 found.1),
+      record { index = subst (λ x. IsSomeAnd (slice_get (front ++ end_of whole ∷ []) i) (λ t. t.index ≡ byte_len x)) (append_assoc before (skipped.0 ++ spelling.0) found.0) found.3.index },
+    )
 
 -- two tokens stand behind two fronts, the one an extension of the other
 fronts_of : (whole before text : List ℕ) (front : List TokenView) (i j : ℕ) → whole ≡ before ++ text → IsCut (IsLenient whole) text front [] → i ≤ j → j < length (front ++ end_of whole ∷ []) → (pre mid post : List ℕ) × (text ≡ pre ++ (mid ++ post)) × StandsBehind (front ++ end_of whole ∷ []) i (before ++ pre) × StandsBehind (front ++ end_of whole ∷ []) j ((before ++ pre) ++ mid)
@@ -104,30 +105,41 @@ fronts_of whole before text [] i (suc j) e cut le within = absurd (omega arith)
 fronts_of whole before text [] (suc i) zero e cut le within = absurd (omega arith)
 fronts_of whole before text (token ∷ front) (suc i) zero e cut le within = absurd (omega arith)
 fronts_of whole before text (token ∷ front) zero zero e cut le within =
-    let found = front_of whole before text (token ∷ front) zero e cut within in
-    (found.0, [], found.1, found.2, found.3,
-     record { index = subst (λ x. IsSomeAnd (slice_get ((token ∷ front) ++ end_of whole ∷ []) zero) (λ t. t.index ≡ byte_len x)) (sym (append-nil (before ++ found.0))) found.3.index })
+    let found = front_of whole before text (token ∷ front) zero e cut within in (
+      found.0,
+      [],
+      found.1,
+      found.2,
+      found.3,
+      record { index = subst (λ x. IsSomeAnd (slice_get ((token ∷ front) ++ end_of whole ∷ []) zero) (λ t. t.index ≡ byte_len x)) (sym (append-nil (before ++ found.0))) found.3.index },
+    )
 fronts_of whole before text (token ∷ front) zero (suc j) e cut le within =
     let skipped = cut.2 in
     let spelling = taken whole cut.0 token cut.1 cut.3 in
     let first : whole ≡ (before ++ skipped.0) ++ cut.0 = e ∙ ap (λ x. before ++ x) skipped.1 ∙ sym (append_assoc before skipped.0 cut.0) in
     let all : whole ≡ ((before ++ skipped.0) ++ spelling.0) ++ cut.1 = first ∙ ap (λ x. (before ++ skipped.0) ++ x) spelling.1 ∙ sym (append_assoc (before ++ skipped.0) spelling.0 cut.1) in
-    let found = front_of whole ((before ++ skipped.0) ++ spelling.0) cut.1 front j all cut.4 (omega arith) in
-    (skipped.0, spelling.0 ++ found.0, found.1,
-     skipped.1 ∙ ap (λ x. skipped.0 ++ x) (spelling.1 ∙ ap (λ x. spelling.0 ++ x) found.2 ∙ sym (append_assoc spelling.0 found.0 found.1)),
-     record { index = front_len whole (before ++ skipped.0) cut.0 token.index first (placed whole cut.0 token cut.1 cut.3) },
-     record { index = subst (λ x. IsSomeAnd (slice_get (front ++ end_of whole ∷ []) j) (λ t. t.index ≡ byte_len x)) (append_assoc (before ++ skipped.0) spelling.0 found.0) found.3.index })
+    let found = front_of whole ((before ++ skipped.0) ++ spelling.0) cut.1 front j all cut.4 (omega arith) in (
+      skipped.0,
+      spelling.0 ++ found.0,
+      found.1,
+      skipped.1 ∙ ap (λ x. skipped.0 ++ x) (spelling.1 ∙ ap (λ x. spelling.0 ++ x) found.2 ∙ sym (append_assoc spelling.0 found.0 found.1)),
+      record { index = front_len whole (before ++ skipped.0) cut.0 token.index first (placed whole cut.0 token cut.1 cut.3) },
+      record { index = subst (λ x. IsSomeAnd (slice_get (front ++ end_of whole ∷ []) j) (λ t. t.index ≡ byte_len x)) (append_assoc (before ++ skipped.0) spelling.0 found.0) found.3.index },
+    )
 fronts_of whole before text (token ∷ front) (suc i) (suc j) e cut le within =
     let skipped = cut.2 in
     let spelling = taken whole cut.0 token cut.1 cut.3 in
     let text_is : text ≡ (skipped.0 ++ spelling.0) ++ cut.1 = skipped.1 ∙ ap (λ x. skipped.0 ++ x) spelling.1 ∙ sym (append_assoc skipped.0 spelling.0 cut.1) in
     let all : whole ≡ (before ++ (skipped.0 ++ spelling.0)) ++ cut.1 = e ∙ ap (λ x. before ++ x) text_is ∙ sym (append_assoc before (skipped.0 ++ spelling.0) cut.1) in
     let found = fronts_of whole (before ++ (skipped.0 ++ spelling.0)) cut.1 front i j all cut.4 (omega arith) (omega arith) in
-    let same = append_assoc before (skipped.0 ++ spelling.0) found.0 in
-    ((skipped.0 ++ spelling.0) ++ found.0, found.1, found.2,
-     text_is ∙ ap (λ x. (skipped.0 ++ spelling.0) ++ x) found.3 ∙ sym (append_assoc (skipped.0 ++ spelling.0) found.0 (found.1 ++ found.2)),
-     record { index = subst (λ x. IsSomeAnd (slice_get (front ++ end_of whole ∷ []) i) (λ t. t.index ≡ byte_len x)) same found.4.index },
-     record { index = subst (λ x. IsSomeAnd (slice_get (front ++ end_of whole ∷ []) j) (λ t. t.index ≡ byte_len (x ++ found.1))) same found.5.index })
+    let same = append_assoc before (skipped.0 ++ spelling.0) found.0 in (
+      (skipped.0 ++ spelling.0) ++ found.0,
+      found.1,
+      found.2,
+      text_is ∙ ap (λ x. (skipped.0 ++ spelling.0) ++ x) found.3 ∙ sym (append_assoc (skipped.0 ++ spelling.0) found.0 (found.1 ++ found.2)),
+      record { index = subst (λ x. IsSomeAnd (slice_get (front ++ end_of whole ∷ []) i) (λ t. t.index ≡ byte_len x)) same found.4.index },
+      record { index = subst (λ x. IsSomeAnd (slice_get (front ++ end_of whole ∷ []) j) (λ t. t.index ≡ byte_len (x ++ found.1))) same found.5.index },
+    )
 
 index_at : (tokens : List TokenView) (i n : ℕ) (front : List ℕ) → byte_len front ≡ n → StandsBehind tokens i front → IsSomeAnd (slice_get tokens i) (λ token. token.index ≡ n)
 index_at tokens i n front e h = subst (λ m. IsSomeAnd (slice_get tokens i) (λ token. token.index ≡ m)) e h.index
@@ -136,14 +148,16 @@ index_at tokens i n front e h = subst (λ m. IsSomeAnd (slice_get tokens i) (λ 
 pub text_between : (text : List ℕ) (tokens : List TokenView) (from until : ℕ) → AreLenientTokens text tokens → from ≤ until → until < length tokens → (between : List ℕ) × IsTextBetween text tokens from until between
 text_between text tokens from until h le within =
     let inside : until < length (h.front ++ end_of text ∷ []) = subst (λ (ts : List TokenView). until < length ts) h.all within in
-    let found = fronts_of text [] text h.front from until refl h.cut le inside in
-    (found.1, subst (λ ts. IsTextBetween text ts from until found.1) (sym h.all) (record {
-      front = found.0;
-      rest = found.2;
-      cut = found.3 ∙ sym (append_assoc found.0 found.1 found.2);
-      begins = found.4.index;
-      ends = index_at _ until _ (found.0 ++ found.1) (byte_len-append found.0 found.1) found.5;
-    }))
+    let found = fronts_of text [] text h.front from until refl h.cut le inside in (
+      found.1,
+      subst (λ ts. IsTextBetween text ts from until found.1) (sym h.all) (record {
+        front = found.0;
+        rest = found.2;
+        cut = found.3 ∙ sym (append_assoc found.0 found.1 found.2);
+        begins = found.4.index;
+        ends = index_at _ until _ (found.0 ++ found.1) (byte_len-append found.0 found.1) found.5;
+      }),
+    )
 
 -- ---- bytes
 
@@ -215,10 +229,12 @@ stretch_of bytes tokens from until first last between utf8 h first_is last_is =
 pub source_stretch : (source : Source) (from until : ℕ) → IsUtf8 source.input.now → IsSource source → from ≤ until → until < length source.tokens.now → (between : List ℕ) × IsTextBetween (text_of_source source) (tokens_of source) from until between × IsStretch source.input.now (get_or source.tokens.now from no_token).index (get_or source.tokens.now until no_token).index between
 source_stretch source from until utf8 is_source le within =
     let size = length-map source.tokens.now token_view in
-    let found = text_between (text_of_source source) (tokens_of source) from until is_source le (omega arith) in
-    (found.0, found.1,
-     stretch_of source.input.now (tokens_of source) from until (token_view (get_or source.tokens.now from no_token)) (token_view (get_or source.tokens.now until no_token)) found.0 utf8 found.1
-     (view_read source.tokens.now from no_token (omega arith)) (view_read source.tokens.now until no_token within))
+    let found = text_between (text_of_source source) (tokens_of source) from until is_source le (omega arith) in (
+      found.0,
+      found.1,
+      stretch_of source.input.now (tokens_of source) from until (token_view (get_or source.tokens.now from no_token)) (token_view (get_or source.tokens.now until no_token)) found.0 utf8 found.1
+          (view_read source.tokens.now from no_token (omega arith)) (view_read source.tokens.now until no_token within),
+    )
 
 -- a source has as many tokens as the code counts
 pub tokens_len : (source : Source) → length (tokens_of source) ≡ length source.tokens.now

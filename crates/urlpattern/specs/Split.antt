@@ -199,15 +199,15 @@ abbrev pub PathnameAt : (text : List ℕ) → List TokenView → (special : Bool
 PathnameAt text tokens special place components =
     (IsTrue (is_slash tokens place) × PathnameFrom text tokens place 0 components)
     ⊎ (IsTrue (is_search_sign tokens place || is_hash_sign tokens place) × (components.pathname ≡ Some (implied_pathname special))
-        × SearchAt text tokens place components)
+    × SearchAt text tokens place components)
     ⊎ (IsTrue (ends_at tokens place) × (components.pathname ≡ None) × (components.search ≡ None) × (components.hash ≡ None))
 
 -- the port follows a colon; without one it is empty
 abbrev pub PortAt : (text : List ℕ) → List TokenView → (special : Bool) → (place : ℕ) → Components → Type 0
 PortAt text tokens special place components =
     (IsTrue (is_colon tokens place)
-        × ((until : ℕ) × EndsAt Port tokens (place + 1) 0 until × Takes text tokens (place + 1) until components.port
-            × PathnameAt text tokens special until components))
+    × ((until : ℕ) × EndsAt Port tokens (place + 1) 0 until × Takes text tokens (place + 1) until components.port
+    × PathnameAt text tokens special until components))
     ⊎ (¬ IsTrue (is_colon tokens place) × (components.port ≡ Some []) × PathnameAt text tokens special place components)
 
 -- the hostname begins there
@@ -221,7 +221,7 @@ abbrev pub UserinfoFrom : (text : List ℕ) → List TokenView → (from until :
 UserinfoFrom text tokens from until components =
     (place : ℕ) × EndsAt Username tokens from 0 place × Takes text tokens from place components.username
     × (((place ≡ until) × (components.password ≡ None))
-        ⊎ ((place < until) × Takes text tokens (place + 1) until components.password))
+    ⊎ ((place < until) × Takes text tokens (place + 1) until components.password))
 
 -- The authority begins there: a username and a password if it ends at the sign for them, and the hostname. Else the
 -- hostname begins where it does, at the depth that was reached at its end.
@@ -229,9 +229,9 @@ abbrev pub AuthorityFrom : (text : List ℕ) → List TokenView → (special : B
 AuthorityFrom text tokens special from components =
     (until : ℕ) × EndsAt Authority tokens from 0 until
     × ((IsTrue (is_at_sign tokens until) × UserinfoFrom text tokens from until components
-            × HostnameFrom text tokens special (until + 1) 0 components)
-        ⊎ (¬ IsTrue (is_at_sign tokens until) × (components.username ≡ None) × (components.password ≡ None)
-            × HostnameFrom text tokens special from (depth_before tokens from 0 until) components))
+    × HostnameFrom text tokens special (until + 1) 0 components)
+    ⊎ (¬ IsTrue (is_at_sign tokens until) × (components.username ≡ None) × (components.password ≡ None)
+    × HostnameFrom text tokens special from (depth_before tokens from 0 until) components))
 
 -- ---- the whole string
 
@@ -241,13 +241,13 @@ pub record IsRelativeSplit (text : List ℕ) (tokens : List TokenView) (componen
   pub no_colon : EndsAt Protocol tokens 0 0 until
   pub is_end : IsTrue (ends_at tokens until)
   pub begins :
-    (IsTrue (is_hash_sign tokens 0) × (components.pathname ≡ None) × (components.search ≡ None) × HashFrom text tokens 1 components)
-    ⊎ (IsTrue (is_search_sign tokens 0) × (components.pathname ≡ None)
-        × SearchFrom text tokens 1 (depth_before tokens 0 0 until) components)
-    ⊎ (¬ IsTrue (is_hash_sign tokens 0 || is_search_sign tokens 0)
-        × PathnameFrom text tokens 0 (depth_before tokens 0 0 until) components)
+      (IsTrue (is_hash_sign tokens 0) × (components.pathname ≡ None) × (components.search ≡ None) × HashFrom text tokens 1 components)
+      ⊎ (IsTrue (is_search_sign tokens 0) × (components.pathname ≡ None)
+      × SearchFrom text tokens 1 (depth_before tokens 0 0 until) components)
+      ⊎ (¬ IsTrue (is_hash_sign tokens 0 || is_search_sign tokens 0)
+      × PathnameFrom text tokens 0 (depth_before tokens 0 0 until) components)
   pub nothing_before : (components.protocol ≡ None) × (components.username ≡ None) × (components.password ≡ None)
-    × (components.hostname ≡ None) × (components.port ≡ None)
+      × (components.hostname ≡ None) × (components.port ≡ None)
 
 -- two slashes follow the place
 abbrev pub has_slashes : List TokenView → ℕ → Bool
@@ -259,10 +259,10 @@ pub record IsAbsoluteSplit (text : List ℕ) (tokens : List TokenView) (special 
   pub protocol_ends : EndsAt Protocol tokens 0 0 colon
   pub protocol : Takes text tokens 0 colon components.protocol
   pub behind :
-    (IsTrue (has_slashes tokens colon) × AuthorityFrom text tokens special (colon + 3) components)
-    ⊎ (IsTrue (not (has_slashes tokens colon) && special) × AuthorityFrom text tokens special (colon + 1) components)
-    ⊎ (IsTrue (not (has_slashes tokens colon) && not special) × (components.username ≡ None) × (components.password ≡ None)
-        × (components.hostname ≡ Some []) × (components.port ≡ Some []) × PathnameFrom text tokens (colon + 1) 0 components)
+      (IsTrue (has_slashes tokens colon) × AuthorityFrom text tokens special (colon + 3) components)
+      ⊎ (IsTrue (not (has_slashes tokens colon) && special) × AuthorityFrom text tokens special (colon + 1) components)
+      ⊎ (IsTrue (not (has_slashes tokens colon) && not special) × (components.username ≡ None) × (components.password ≡ None)
+      × (components.hostname ≡ Some []) × (components.port ≡ Some []) × PathnameFrom text tokens (colon + 1) 0 components)
 
 -- These are the components of the text, whose tokens these are. `IsSpecial` relates the text of a protocol to whether it
 -- is special.
@@ -270,7 +270,7 @@ abbrev pub IsSplit : (IsSpecial : List ℕ → Bool → Type 0) → (text : List
 IsSplit IsSpecial text tokens components =
     IsRelativeSplit text tokens components
     ⊎ ((colon : ℕ) × (special : Bool) × IsAbsoluteSplit text tokens special colon components
-        × IsSomeAnd components.protocol (λ protocol. IsSpecial protocol special))
+    × IsSomeAnd components.protocol (λ protocol. IsSpecial protocol special))
 
 -- no protocol is found in the text
 abbrev pub LacksProtocol : (text : List ℕ) → Type 0

@@ -1,6 +1,5 @@
 -- Words of the private contracts of the splitting of a constructor string. No public contract cites them.
-use Rattle.std.specs.Prelude.{◌≡◌, ℕ, ◌+◌, ◌-◌, ◌*◌, ◌<◌, ◌≤◌, Bool, true, false, List, length, Option, None, IsTrue, option_map}
-use Rattle.std.specs.Borrow.{Bor}
+use Rattle.std.specs.Prelude.{◌≡◌, ℕ, ◌+◌, ◌-◌, ◌*◌, ◌<◌, ◌≤◌, Bool, true, false, List, length, None, IsTrue}
 use Rattle.std.specs.Str.{chars}
 use Rattle.urlpattern.specs.Split.{Components, ends_at, is_seen, is_slash}
 use Rattle.urlpattern.specs.declared.constructor_parser.Place.{Place}

@@ -267,9 +267,7 @@ impl<'t, 'a> Source<'t, 'a> {
                     || self.is_sign(index, b'#')
             }
             Section::Port => {
-                self.is_sign(index, b'/')
-                    || self.is_search_sign(index)
-                    || self.is_sign(index, b'#')
+                self.is_sign(index, b'/') || self.is_search_sign(index) || self.is_sign(index, b'#')
             }
             Section::Pathname => self.is_search_sign(index) || self.is_sign(index, b'#'),
             Section::Search => self.is_sign(index, b'#'),
@@ -707,7 +705,11 @@ pub(crate) fn accepts_special_scheme<R: RegExp>(
     ensures answer { IfOk result (λ accepted. IsTrue accepted ↔ AcceptsSpecialScheme R.answer (matcher_view matcher.now)) }
     ensures memory { IfErr result (λ error. error ≡ errors.OutOfMemory) }
 {
-    accepts_any(alloc, matcher, &["http", "https", "ws", "wss", "ftp", "file"])
+    accepts_any(
+        alloc,
+        matcher,
+        &["http", "https", "ws", "wss", "ftp", "file"],
+    )
 }
 
 /// Whether a matcher accepts one of some texts.

@@ -39,14 +39,14 @@ fn constructor(alloc: Global, question: &ConstructorQuestion) -> Result<Construc
         alloc, pattern, base,
     )?;
     Ok(Constructor {
-        protocol: init.protocol,
-        username: init.username,
-        password: init.password,
-        hostname: init.hostname,
-        port: init.port,
-        pathname: init.pathname,
-        search: init.search,
-        hash: init.hash,
         turns,
+        hash: init.hash,
+        search: init.search,
+        pathname: init.pathname,
+        port: init.port,
+        hostname: init.hostname,
+        password: init.password,
+        username: init.username,
+        protocol: init.protocol,
     })
 }

@@ -417,3 +417,19 @@ fn ten_thousand_closing_brackets(rt: HostRuntime) -> Result<(), Fail> {
     expect_components(&rt, rt.alloc(), None, (&pattern, components))?;
     Ok(())
 }
+
+/// Holds whichever allocation is refused: `rt try --test --fail-alloc N` refuses one.
+#[test]
+fn a_string_without_memory_gives_no_other_answer(rt: HostRuntime) {
+    let pattern = "ht(tp)://user\\:pw@a:1/b?c#d";
+    let answer = UrlPatternInit::parse_constructor_string::<Regex>(rt.alloc(), pattern, None);
+    let is_whole = match &answer {
+        Ok(init) => {
+            text(&init.protocol) == Some("ht(tp)")
+                && text(&init.password) == Some("pw")
+                && text(&init.hash) == Some("d")
+        }
+        Err(error) => matches!(error, Error::OutOfMemory),
+    };
+    assert!(rt; is_whole);
+}

@@ -22,6 +22,6 @@ returns-in_err-part_list-clause-refused g c =
     let p = err_from_is_err_and c.from_residual.result c.from_residual.ensures.1 in
     rw (p.1, p.2)
     (elim c.in_err-part_list.ensures.refuses [
-        inl memory ↦ inl memory
+      | inl memory ↦ inl memory
       | inr refused ↦ inr (rw (← c.default-options.ensures) (refuses_weaker _ protocol_encoding (λ text answer h. (h.0, search rules, h.2)) _ _ _ refused))
     ])

@@ -1,4 +1,4 @@
-use Rattle.std.proofs.Common.{◌≡◌, ◌+◌, ◌<◌, ◌≤◌, Some, codes, length, not, sym, ap, ◌∙◌, inl, inr, arith}
+use Rattle.std.proofs.Common.{Some, codes, not, sym, ap, ◌∙◌, inl, inr, arith}
 use Rattle.std.proofs.lemmas.Bool.{and_from}
 use Rattle.std.proofs.lemmas.Str.{chars-nil}
 use Rattle.urlpattern.specs.Split.{has_slashes}
@@ -29,8 +29,8 @@ returns-then-special-clause-split c =
       protocol_ends = c.requires.ends;
       protocol = c.requires.protocol;
       behind = inr (inl (
-          and_from (not (has_slashes (tokens_of c.args.self.now) c.args.colon.index)) c.args.special no_slashes c.if-special.true,
-          rw c.behind-then-special.ensures.index at c.authority_from-then-special.ensures.split,
+        and_from (not (has_slashes (tokens_of c.args.self.now) c.args.colon.index)) c.args.special no_slashes c.if-special.true,
+        rw c.behind-then-special.ensures.index at c.authority_from-then-special.ensures.split,
       ));
     }
 
@@ -52,11 +52,11 @@ returns-clause-split c =
       protocol_ends = c.requires.ends;
       protocol = c.requires.protocol;
       behind = inr (inr (
-          and_from (not (has_slashes (tokens_of c.args.self.now) c.args.colon.index)) (not c.args.special) no_slashes (ap not c.if-special.false),
-          c.pathname_from.ensures.nothing.1,
-          c.pathname_from.ensures.nothing.2,
-          ap Some chars-nil,
-          ap Some chars-nil,
-          rw (c.behind-2.ensures.index, c.behind-2.ensures.depth) at c.pathname_from.ensures.split,
+        and_from (not (has_slashes (tokens_of c.args.self.now) c.args.colon.index)) (not c.args.special) no_slashes (ap not c.if-special.false),
+        c.pathname_from.ensures.nothing.1,
+        c.pathname_from.ensures.nothing.2,
+        ap Some chars-nil,
+        ap Some chars-nil,
+        rw (c.behind-2.ensures.index, c.behind-2.ensures.depth) at c.pathname_from.ensures.split,
       ));
     }

@@ -1,7 +1,7 @@
-use Rattle.std.proofs.Common.{◌≡◌, ◌+◌, ◌≤◌, ◌&&◌, ◌==◌, ◌<◌, Bool, true, false, cond, not, codes, get_or, length, map, sym, ap, ◌∙◌, arith, rules}
+use Rattle.std.proofs.Common.{◌≡◌, ◌+◌, ◌&&◌, ◌==◌, ◌<◌, true, false, cond, not, codes, get_or, length, sym, ap, ◌∙◌, arith}
 use Rattle.std.proofs.lemmas.Bool.{and_left, and_right, both_ways}
 use Rattle.std.proofs.lemmas.List.{length-map}
-use Rattle.urlpattern.specs.Split.{at, depth_behind, ends_at, is_end, is_ending, is_open, is_sign}
+use Rattle.urlpattern.specs.Split.{at, ends_at, is_end, is_ending, is_open, is_sign}
 use Rattle.urlpattern.specs.Splitting.{is_hostname, text_of_source, tokens_of}
 use Rattle.urlpattern.proofs.TextBetween.{are_closed}
 use Rattle.urlpattern.proofs.SeenLemmas.{cond-bound, depth_behind-bound, way_ends, way_goes, way_stops}
@@ -35,15 +35,15 @@ loop-section-preserved c =
     let inside : c.loop-section.place.index < length (tokens_of c.args.self.now) = omega (arith, c.loop-section.invariant.within) in
     let within = (are_closed (text_of_source c.args.self.now) (tokens_of c.args.self.now) c.requires.source).goes_on c.loop-section.place.index inside not_last in
     let passes : ((not (is_open token.kind) && c.loop-section.place.depth == 0) && is_ending c.args.section (c.loop-section.opened == c.loop-section.closed) (tokens_of c.args.self.now) c.loop-section.place.index) ≡ false =
-        elim c.else-is_seen.branch [
-            else-is_seen-via-then-is_seen+else-is_ending w ↦ and_right _ _ (sym w.is_ending.ensures ∙ w.if-is_ending.false)
-          | else-is_seen-via-else-is_seen w ↦ and_left _ _ (sym c.is_seen-is_seen.ensures ∙ w.if-is_seen.false)
-        ] in
+    elim c.else-is_seen.branch [
+      | else-is_seen-via-then-is_seen+else-is_ending w ↦ and_right _ _ (sym w.is_ending.ensures ∙ w.if-is_ending.false)
+      | else-is_seen-via-else-is_seen w ↦ and_left _ _ (sym c.is_seen-is_seen.ensures ∙ w.if-is_seen.false)
+    ] in
     let seen = c.is_seen-is_seen.ensures in
     let opened : c.count_bracket-opened.result ≡ c.loop-section.opened + cond (is_hostname c.args.section && (not (is_open token.kind) && c.loop-section.place.depth == 0) && at (is_sign (codes "[")) (tokens_of c.args.self.now) c.loop-section.place.index) 1 0 =
-        c.count_bracket-opened.ensures ∙ ap (λ b. c.loop-section.opened + cond (is_hostname c.args.section && b && at (is_sign (codes "[")) (tokens_of c.args.self.now) c.loop-section.place.index) 1 0) seen in
+    c.count_bracket-opened.ensures ∙ ap (λ b. c.loop-section.opened + cond (is_hostname c.args.section && b && at (is_sign (codes "[")) (tokens_of c.args.self.now) c.loop-section.place.index) 1 0) seen in
     let closed : c.count_bracket-closed.result ≡ c.loop-section.closed + cond (is_hostname c.args.section && (not (is_open token.kind) && c.loop-section.place.depth == 0) && at (is_sign (codes "]")) (tokens_of c.args.self.now) c.loop-section.place.index) 1 0 =
-        c.count_bracket-closed.ensures ∙ ap (λ b. c.loop-section.closed + cond (is_hostname c.args.section && b && at (is_sign (codes "]")) (tokens_of c.args.self.now) c.loop-section.place.index) 1 0) seen in
+    c.count_bracket-closed.ensures ∙ ap (λ b. c.loop-section.closed + cond (is_hostname c.args.section && b && at (is_sign (codes "]")) (tokens_of c.args.self.now) c.loop-section.place.index) 1 0) seen in
     let bound = depth_behind-bound token.kind c.loop-section.place.depth in
     let one_opened = cond-bound (is_hostname c.args.section && (not (is_open token.kind) && c.loop-section.place.depth == 0) && at (is_sign (codes "[")) (tokens_of c.args.self.now) c.loop-section.place.index) in
     let one_closed = cond-bound (is_hostname c.args.section && (not (is_open token.kind) && c.loop-section.place.depth == 0) && at (is_sign (codes "]")) (tokens_of c.args.self.now) c.loop-section.place.index) in

@@ -1,4 +1,4 @@
-use Rattle.std.proofs.Common.{◌≡◌, ◌+◌, ◌<◌, ◌≤◌, length, arith}
+use Rattle.std.proofs.Common.{arith}
 use Rattle.urlpattern.specs.Splitting.{tokens_of}
 use Rattle.urlpattern.specs.declared.constructor_parser.Section.TheVariants.{Hostname}
 use Rattle.urlpattern.proofs.SplitLemmas.{slash_seen_before}

@@ -1,4 +1,4 @@
-use Rattle.std.proofs.Common.{◌≡◌, Some, ap, sym, ◌∙◌, inl, inr}
+use Rattle.std.proofs.Common.{Some, ap, sym, ◌∙◌, inl, inr}
 use Rattle.std.proofs.lemmas.Str.{chars-nil}
 use Rattle.urlpattern.proofs.constructor_parser.Source.search_at.Goals as goal
 

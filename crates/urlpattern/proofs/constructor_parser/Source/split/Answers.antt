@@ -1,11 +1,11 @@
-use Rattle.std.proofs.Common.{◌≡◌, ◌+◌, ◌*◌, ◌≤◌, ap, sym, ◌∙◌, inl, inr, arith, rules}
+use Rattle.std.proofs.Common.{ap, sym, ◌∙◌, inl, inr, arith}
 use Rattle.std.proofs.lemmas.Result.{err_from_is_err_and}
 use Rattle.std.specs.Str.{chars}
 use Rattle.urlpattern.specs.Split.{EndsAt, is_colon}
 use Rattle.urlpattern.specs.Splitting.{tokens_of}
 use Rattle.urlpattern.specs.declared.constructor_parser.Section.TheVariants.{Protocol}
 use Rattle.urlpattern.proofs.SplitLemmas.{colon_again, depth_at_end, sign_not_end}
-use Rattle.urlpattern.proofs.TextBetween.{source_closed, tokens_len}
+use Rattle.urlpattern.proofs.TextBetween.{source_closed}
 use Rattle.std.specs.Prelude.{codes}
 use Rattle.urlpattern.proofs.constructor_parser.Source.split.Goals as goal
 
@@ -40,6 +40,6 @@ returns-in_err-special-clause-refused g c =
     let p = err_from_is_err_and c.from_residual.result c.from_residual.ensures.1 in
     rw (p.1, p.2)
     (elim c.in_err-special.ensures.refused [
-        inl memory ↦ inl memory
+      | inl memory ↦ inl memory
       | inr refused ↦ inr (tokens, c.end_of-colon.result.index, chars c.text_between-protocol.result.now, c.requires, again, ap (is_colon tokens) same ∙ colon, c.text_between-protocol.ensures, refused)
     ])

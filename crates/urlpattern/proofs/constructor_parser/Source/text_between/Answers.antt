@@ -1,4 +1,4 @@
-use Rattle.std.proofs.Common.{◌≡◌, ap, ◌∙◌, subst, sym, rules}
+use Rattle.std.proofs.Common.{ap, ◌∙◌, subst, sym, rules}
 use Rattle.std.specs.Str.{chars}
 use Rattle.urlpattern.specs.Split.{IsTextBetween}
 use Rattle.urlpattern.specs.Splitting.{text_of_source, tokens_of}

@@ -1,8 +1,7 @@
-use Rattle.std.proofs.Common.{◌≡◌, ◌+◌, ◌<◌, ◌≤◌, None, Some, codes, length, refl, sym, ap, ◌∙◌, inl, inr, subst, arith}
+use Rattle.std.proofs.Common.{◌≡◌, ◌+◌, codes, refl, sym, ◌∙◌, inl, inr, arith}
 use Rattle.std.proofs.lemmas.Bool.{both_ways}
-use Rattle.std.specs.Str.{chars}
-use Rattle.urlpattern.specs.Split.{EndsAt, HostnameFrom, IsTextBetween, is_colon}
-use Rattle.urlpattern.specs.Splitting.{components_of, text_of_source, tokens_of}
+use Rattle.urlpattern.specs.Split.{EndsAt}
+use Rattle.urlpattern.specs.Splitting.{tokens_of}
 use Rattle.urlpattern.specs.declared.constructor_parser.Section.TheVariants.{Password, Username}
 use Rattle.urlpattern.proofs.SplitLemmas.{password_ends, sign_goes_on, username_alone}
 use Rattle.urlpattern.proofs.TextBetween.{source_closed, tokens_len}
