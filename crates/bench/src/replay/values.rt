@@ -92,8 +92,12 @@ fn processed(alloc: Global, question: &ProcessQuestion) -> Result<String, Error>
         Processed::Hash => process_hash_init(alloc, value, &kind),
         Processed::BaseUrl => process_base_url(alloc, value, &kind),
         Processed::EscapePatternString => escape_pattern_string(alloc, value),
-        Processed::EscapeRegexpString => options_of(alloc, question)?.escape_regexp_string(alloc, value),
-        Processed::SegmentWildcard => options_of(alloc, question)?.generate_segment_wildcard_regexp(alloc),
+        Processed::EscapeRegexpString => options_of(alloc, question)?.escape_regexp_string(
+            alloc, value,
+        ),
+        Processed::SegmentWildcard => options_of(alloc, question)?.generate_segment_wildcard_regexp(
+            alloc,
+        ),
     }
 }
 
@@ -135,11 +139,7 @@ pub fn replay_match_input(alloc: Global, line: &str) -> Result<Outcome, serde_js
 
 /// The library's texts of a match input, of which the URLs are parsed here.
 fn match_input(alloc: Global, question: MatchInputQuestion) -> Result<Option<MatchInput>, Error> {
-    let MatchInputQuestion {
-        string,
-        init,
-        base,
-    } = question;
+    let MatchInputQuestion { string, init, base } = question;
     let input = match (string, init) {
         (Some(text), _) => {
             let Some(url) = joined(alloc, &text, borrowed(&base))? else {

@@ -25,14 +25,18 @@ fn a_port_goes_by_its_protocol(rt: HostRuntime) -> Result<(), Fail> {
     assert_eq!(rt; default.as_str(), "");
     let other = canonicalize_port(alloc, "80", None)?;
     assert_eq!(rt; other.as_str(), "80");
-    assert!(rt; matches!(
-        canonicalize_port(alloc, "65536", None),
-        Err(Error::Url(ParseError::InvalidPort))
-    ));
-    assert!(rt; matches!(
-        canonicalize_port(alloc, "1", Some("1x")),
-        Err(Error::Url(_))
-    ));
+    assert!(rt;
+        matches!(
+            canonicalize_port(alloc, "65536", None),
+            Err(Error::Url(ParseError::InvalidPort))
+        )
+    );
+    assert!(rt;
+        matches!(
+            canonicalize_port(alloc, "1", Some("1x")),
+            Err(Error::Url(_))
+        )
+    );
     Ok(())
 }
 

@@ -8,7 +8,16 @@ use urlpattern::{UrlPatternInit, UrlPatternMatchInput};
 
 /// Eight texts in order.
 fn match_input(alloc: Global, texts: [&str; 8]) -> Result<MatchInput, Fail> {
-    let [protocol, username, password, hostname, port, pathname, search, hash] = texts;
+    let [
+        protocol,
+        username,
+        password,
+        hostname,
+        port,
+        pathname,
+        search,
+        hash,
+    ] = texts;
     Ok(MatchInput {
         protocol: String::from_str(alloc, protocol)?,
         username: String::from_str(alloc, username)?,
