@@ -1,6 +1,7 @@
 //! Replays recorded questions and answers over the library, and prints how many there are and how many differ.
 #![tactic(auto)]
 
+mod engines;
 mod recorded;
 mod replay;
 mod report;

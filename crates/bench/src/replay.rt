@@ -1,13 +1,22 @@
 //! Asks the library what was asked when a case was recorded, and compares the answers.
 
+mod compiled;
+mod constructors;
+mod engines;
+mod matchers;
+mod values;
+
 use crate::recorded;
 use crate::recorded::{
-    Answer, Callback, Case, Component, ComponentQuestion, Heading, Kind, Operation, TokensQuestion,
+    Answer, Callback, Case, Component, ComponentQuestion, Heading, Kind, Operation, Policy,
+    TokensQuestion,
 };
 use std::alloc::{AllocError, Global};
 use url::ParseError;
 use urlpattern::Error;
-use urlpattern::component::{generate_pattern_string, generate_regular_expression_and_name_list};
+use urlpattern::component::{
+    generate_matcher, generate_pattern_string, generate_regular_expression_and_name_list,
+};
 use urlpattern::parser::{Options, Part, PartModifier, PartType, parse_pattern_string};
 use urlpattern::tokenizer::{Token, TokenizePolicy, tokenize};
 
@@ -30,6 +39,14 @@ pub fn replay(alloc: Global, line: &str) -> Result<Outcome, serde_json::Error> {
     match heading.question.operation {
         Operation::Tokenize => replay_tokens(alloc, line),
         Operation::Component => replay_component(alloc, line),
+        Operation::Compile => compiled::replay_compiled(alloc, line),
+        Operation::Engine => engines::replay_engine(alloc, line),
+        Operation::Matches => matchers::replay_matches(alloc, line),
+        Operation::HandMatcher => matchers::replay_hand_matcher(alloc, line),
+        Operation::Canonicalize => values::replay_canonical(alloc, line),
+        Operation::Process => values::replay_processed(alloc, line),
+        Operation::MatchInput => values::replay_match_input(alloc, line),
+        Operation::Constructor => constructors::replay_constructor(alloc, line),
     }
 }
 
@@ -37,7 +54,11 @@ pub fn replay(alloc: Global, line: &str) -> Result<Outcome, serde_json::Error> {
 fn replay_tokens(alloc: Global, line: &str) -> Result<Outcome, serde_json::Error> {
     let Case { question, answer }: Case<TokensQuestion, Vec<recorded::Token>> =
         serde_json::from_str(alloc, line)?;
-    let found = tokenize(alloc, &question.input, TokenizePolicy::Strict);
+    let policy = match question.policy {
+        Policy::Strict => TokenizePolicy::Strict,
+        Policy::Lenient => TokenizePolicy::Lenient,
+    };
+    let found = tokenize(alloc, &question.input, policy);
     let is_same = match (&found, &answer) {
         (Ok(tokens), Answer::Ok(recorded)) => are_same_tokens(tokens, recorded),
         (Err(error), Answer::Err(text)) => prints(alloc, error, text)?,
@@ -50,7 +71,7 @@ fn replay_tokens(alloc: Global, line: &str) -> Result<Outcome, serde_json::Error
     })
 }
 
-/// Replays a case that asks for parts, names, a regular expression and a printed pattern.
+/// Replays a case that asks for parts and what is made of them.
 fn replay_component(alloc: Global, line: &str) -> Result<Outcome, serde_json::Error> {
     let Case { question, answer }: Case<ComponentQuestion, Component> = serde_json::from_str(
         alloc, line,
@@ -94,6 +115,8 @@ fn component(alloc: Global, question: &ComponentQuestion) -> Result<Component, E
     let part_list = parse_pattern_string(alloc, &question.pattern, &options, encode)?;
     let (regexp, names) = generate_regular_expression_and_name_list(alloc, &part_list, &options)?;
     let pattern = generate_pattern_string(alloc, &part_list, &options)?;
+    let matcher = generate_matcher(alloc, &part_list, &options, "u")?;
+    let matcher = matchers::recorded_matcher(alloc, &matcher)?;
     let mut parts = Vec::new(alloc);
     for part in part_list {
         parts.push(recorded_part(alloc, part)?)?;
@@ -103,16 +126,22 @@ fn component(alloc: Global, question: &ComponentQuestion) -> Result<Component, E
         names,
         regexp,
         pattern,
+        matcher,
+    })
+}
+
+/// The options of a component.
+fn options_of_kind(alloc: Global, kind: Kind) -> Result<Options, Error> {
+    Ok(match kind {
+        Kind::Default => Options::default(alloc),
+        Kind::Hostname => Options::hostname(alloc),
+        Kind::Pathname => Options::pathname(alloc)?,
     })
 }
 
 /// The options that a question names.
 fn options_of(alloc: Global, question: &ComponentQuestion) -> Result<Options, Error> {
-    let mut options = match question.kind {
-        Kind::Default => Options::default(alloc),
-        Kind::Hostname => Options::hostname(alloc),
-        Kind::Pathname => Options::pathname(alloc)?,
-    };
+    let mut options = options_of_kind(alloc, question.kind)?;
     options.regex_syntax = question.syntax;
     if question.delimiter.is_some() {
         options.delimiter_code_point = question.delimiter;

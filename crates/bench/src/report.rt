@@ -48,6 +48,14 @@ impl Tally {
 struct Report {
     tokenize: Tally,
     component: Tally,
+    compile: Tally,
+    engine: Tally,
+    matches: Tally,
+    hand_matcher: Tally,
+    canonicalize: Tally,
+    process: Tally,
+    match_input: Tally,
+    constructor: Tally,
     unreadable: u64,
 }
 
@@ -85,6 +93,14 @@ impl Report {
         match operation {
             Operation::Tokenize => &mut self.tokenize,
             Operation::Component => &mut self.component,
+            Operation::Compile => &mut self.compile,
+            Operation::Engine => &mut self.engine,
+            Operation::Matches => &mut self.matches,
+            Operation::HandMatcher => &mut self.hand_matcher,
+            Operation::Canonicalize => &mut self.canonicalize,
+            Operation::Process => &mut self.process,
+            Operation::MatchInput => &mut self.match_input,
+            Operation::Constructor => &mut self.constructor,
         }
     }
 
@@ -92,13 +108,33 @@ impl Report {
     fn print<O: Write>(&self, out: &mut O) -> io::Result<()> {
         self.tokenize.print(out, "tokenize")?;
         self.component.print(out, "component")?;
+        self.compile.print(out, "compile")?;
+        self.engine.print(out, "engine")?;
+        self.matches.print(out, "matches")?;
+        self.hand_matcher.print(out, "hand_matcher")?;
+        self.canonicalize.print(out, "canonicalize")?;
+        self.process.print(out, "process")?;
+        self.match_input.print(out, "match_input")?;
+        self.constructor.print(out, "constructor")?;
         let unreadable = self.unreadable;
         writeln!(out, "lines without a case: {unreadable}")
     }
 
     /// Whether each line holds a case, and none differs.
     fn is_same(&self) -> bool {
-        self.tokenize.differing == 0 && self.component.differing == 0 && self.unreadable == 0
+        let tallies = [
+            &self.tokenize,
+            &self.component,
+            &self.compile,
+            &self.engine,
+            &self.matches,
+            &self.hand_matcher,
+            &self.canonicalize,
+            &self.process,
+            &self.match_input,
+            &self.constructor,
+        ];
+        tallies.iter().all(|tally| tally.differing == 0) && self.unreadable == 0
     }
 }
 
@@ -133,11 +169,33 @@ mod tests {
             "\n",
             r#"{"in":{"op":"tokenize","input":":"},"out":{"err":"out of memory"}}"#,
             "\n",
-            r#"{"in":{"op":"component","kind":"default","syntax":"Rust","pattern":""},"out":{"ok":{"parts":[],"names":[],"regexp":"^","pattern":""}}}"#,
+            r#"{"in":{"op":"component","kind":"default","syntax":"Rust","pattern":""},"out":{"ok":{"parts":[],"names":[],"regexp":"^","pattern":"","matcher":{"kind":"literal","prefix":"","suffix":"","literal":""}}}}"#,
             "\n",
-            r#"{"in":{"op":"component","kind":"default","syntax":"Rust","pattern":""},"out":{"ok":{"parts":[],"names":[],"regexp":"^$","pattern":"{}"}}}"#,
+            r#"{"in":{"op":"component","kind":"default","syntax":"Rust","pattern":""},"out":{"ok":{"parts":[],"names":[],"regexp":"^$","pattern":"{}","matcher":{"kind":"literal","prefix":"","suffix":"","literal":""}}}}"#,
             "\n",
-            r#"{"in":{"op":"component","kind":"default","syntax":"Rust","pattern":""},"out":{"ok":{"parts":[],"names":[],"regexp":"^$","pattern":""}}}"#,
+            r#"{"in":{"op":"component","kind":"default","syntax":"Rust","pattern":""},"out":{"ok":{"parts":[],"names":[],"regexp":"^$","pattern":"","matcher":{"kind":"literal","prefix":"","suffix":"","literal":""}}}}"#,
+            "\n",
+            r#"{"in":{"op":"component","kind":"default","syntax":"Rust","pattern":""},"out":{"ok":{"parts":[],"names":[],"regexp":"^$","pattern":"","matcher":{"kind":"literal","prefix":"","suffix":"","literal":"a"}}}}"#,
+            "\n",
+            r#"{"in":{"op":"matches","kind":"default","pattern":"a*","ignore_case":false,"inputs":["ab","b"]},"out":{"ok":{"matches":[["b"],null],"refused":false}}}"#,
+            "\n",
+            r#"{"in":{"op":"matches","kind":"default","pattern":"a*","ignore_case":false,"inputs":["ab","b"]},"out":{"ok":{"matches":[["b"],[]],"refused":false}}}"#,
+            "\n",
+            r#"{"in":{"op":"matches","kind":"default","pattern":"a{*}?","ignore_case":false,"inputs":["ab","b"]},"out":{"ok":{"matches":[["b"],null],"refused":false}}}"#,
+            "\n",
+            r#"{"in":{"op":"hand_matcher","prefix":"a","suffix":"","ignore_case":false,"literal":"b","inputs":["ab"]},"out":{"ok":[null]}}"#,
+            "\n",
+            r#"{"in":{"op":"engine","engine":"regex","pattern":"b(c)","inputs":["abcd","b"]},"out":{"ok":{"matches":[["c"],null],"pattern_string":"b(c)"}}}"#,
+            "\n",
+            r#"{"in":{"op":"engine","engine":"regex","pattern":"b(c)","inputs":["abcd"]},"out":{"ok":{"matches":[[null]],"pattern_string":"b(c)"}}}"#,
+            "\n",
+            r#"{"in":{"op":"engine","engine":"regex","pattern":"a(","inputs":[]},"out":{"err":"pattern"}}"#,
+            "\n",
+            r#"{"in":{"op":"tokenize","policy":"lenient","input":":"},"out":{"ok":[["InvalidChar",0,":"],["End",1,""]]}}"#,
+            "\n",
+            r#"{"in":{"op":"constructor","pattern":"a","base":null},"out":{"err":"a relative input without a base URL is not valid"}}"#,
+            "\n",
+            r#"{"in":{"op":"constructor","pattern":"a","base":null},"out":{"err":"out of memory"}}"#,
             "\n",
             r#"{"in":{"op":"other"},"out":{"ok":null}}"#,
         );
@@ -147,9 +205,22 @@ mod tests {
             "cases:4: differs\n",
             "cases:5: differs\n",
             "cases:6: differs\n",
-            "cases:8: no case\n",
-            "tokenize: 2 answers and 2 errors, 3 differ\n",
-            "component: 3 answers and 0 errors, 2 differ\n",
+            "cases:8: differs\n",
+            "cases:10: differs\n",
+            "cases:12: differs\n",
+            "cases:14: differs\n",
+            "cases:18: differs\n",
+            "cases:19: no case\n",
+            "tokenize: 3 answers and 2 errors, 3 differ\n",
+            "component: 4 answers and 0 errors, 3 differ\n",
+            "compile: 0 answers and 0 errors, 0 differ\n",
+            "engine: 2 answers and 1 errors, 1 differ\n",
+            "matches: 3 answers and 0 errors, 1 differ\n",
+            "hand_matcher: 1 answers and 0 errors, 1 differ\n",
+            "canonicalize: 0 answers and 0 errors, 0 differ\n",
+            "process: 0 answers and 0 errors, 0 differ\n",
+            "match_input: 0 answers and 0 errors, 0 differ\n",
+            "constructor: 0 answers and 2 errors, 1 differ\n",
             "lines without a case: 1\n",
         );
         let mut report = Report::default();

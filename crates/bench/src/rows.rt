@@ -1,8 +1,14 @@
 //! Worked examples, by what they show.
 
 mod callbacks;
+mod canonical;
+mod compiled;
 mod components;
+mod constructor_strings;
+mod engines;
 mod long_texts;
+mod match_inputs;
+mod matchers;
 mod options;
 mod printed;
 mod refusals;

@@ -1,0 +1,88 @@
+//! Components that are compiled from a pattern: which errors they keep, and what they tell and match.
+
+use regex::Regex;
+use std::alloc::Global;
+use std::test::Fail;
+use urlpattern::component::Component;
+use urlpattern::matcher::InnerMatcher;
+use urlpattern::parser::Options;
+use urlpattern::quirks::EcmaRegexp;
+use urlpattern::regexp::RegExp;
+use urlpattern::{Error, RegexSyntax};
+
+/// The component of a pattern, or of none, whose texts stay as they are.
+fn compiled<R: RegExp>(
+    alloc: Global,
+    pattern: Option<&str>,
+    options: Options,
+) -> Result<Component<R>, Error> {
+    let unchanged = |text: &str| -> Result<String, Error> { Ok(String::from_str(alloc, text)?) };
+    Component::compile(alloc, pattern, unchanged, options)
+}
+
+#[test]
+fn a_bad_regexp_is_kept_as_an_error(rt: HostRuntime) -> Result<(), Fail> {
+    let alloc = rt.alloc();
+    let pattern = Some("/(a[)");
+    let rust: Component<Regex> = compiled(alloc, pattern, Options::pathname(alloc)?)?;
+    assert!(rt; matches!(rust.regexp, Err(Error::RegExp(()))));
+    assert!(rt;
+        matches!(
+            rust.matcher.inner,
+            InnerMatcher::RegExp {
+                regexp: Err(Error::RegExp(()))
+            }
+        )
+    );
+    let ecma: Component<EcmaRegexp> = compiled(alloc, pattern, Options::pathname(alloc)?)?;
+    assert!(rt; matches!(ecma.regexp, Err(Error::RegExp(()))));
+    let kept = match &ecma.matcher.inner {
+        InnerMatcher::RegExp { regexp: Ok(regexp) } => Some(regexp.pattern_string()),
+        _ => None,
+    };
+    assert_eq!(rt; kept, Some("^(?:/(a[))$"));
+    Ok(())
+}
+
+#[test]
+fn a_regexp_of_the_pattern_is_told(rt: HostRuntime) -> Result<(), Fail> {
+    let alloc = rt.alloc();
+    for (pattern, regex_syntax, expected) in [
+        ("([^/]+?)", RegexSyntax::Rust, false),
+        ("([^/]+?)", RegexSyntax::EcmaScript, true),
+        ("/(.*?)", RegexSyntax::Rust, true),
+    ] {
+        let options = Options {
+            regex_syntax,
+            ..Options::pathname(alloc)?
+        };
+        let component: Component<Regex> = compiled(alloc, Some(pattern), options)?;
+        assert_eq!(rt;
+            component.has_regexp_group,
+            expected,
+            "{pattern:?} in {regex_syntax:?}"
+        );
+    }
+    Ok(())
+}
+
+#[test]
+fn regex_runs_on_a_generated_text(rt: HostRuntime) -> Result<(), Fail> {
+    let alloc = rt.alloc();
+    let component: Component<Regex> = compiled(alloc, Some("/:x*"), Options::pathname(alloc)?)?;
+    assert!(rt; component.regexp.is_ok());
+    for (text, expected) in [("/a/b", Some("a/b")), ("", None)] {
+        let captures = component.matcher.matches(alloc, text)?.ok_or("no match")?;
+        assert!(rt; captures.as_slice() == [expected].as_slice(), "at {text:?}");
+    }
+    Ok(())
+}
+
+#[test]
+fn no_pattern_is_an_asterisk(rt: HostRuntime) -> Result<(), Fail> {
+    let alloc = rt.alloc();
+    let component: Component<Regex> = compiled(alloc, None, Options::default(alloc))?;
+    assert_eq!(rt; component.pattern_string.as_str(), "*");
+    assert!(rt; component.matcher.accepts(alloc, "any text")?);
+    Ok(())
+}

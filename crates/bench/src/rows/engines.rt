@@ -1,0 +1,81 @@
+//! Engines of regular expressions: what they refuse, and what their groups capture.
+
+use regex::Regex;
+use std::alloc::Global;
+use std::process::Abort;
+use std::test::Fail;
+use urlpattern::error::{OutOfMemory, RegExpError};
+use urlpattern::quirks::EcmaRegexp;
+use urlpattern::regexp::RegExp;
+
+/// A regular expression, a text that it matches, and what its groups capture.
+type Row<'a> = (&'a str, &'a str, &'a [Option<&'a str>]);
+
+/// Compares what an engine's groups capture. The engine may not refuse the regular expression.
+fn expect_captures<R: RegExp>(rt: &impl Abort, alloc: Global, row: Row<'_>) -> Result<(), Fail> {
+    let (regexp, text, expected) = row;
+    let engine = R::parse(alloc, regexp, "u", true)?;
+    let captures = engine.matches(alloc, text)?.ok_or("no match")?;
+    assert!(rt; captures.as_slice() == expected, "{regexp:?} at {text:?}");
+    Ok(())
+}
+
+#[test]
+fn groups_capture_without_the_whole_match(rt: HostRuntime) -> Result<(), Fail> {
+    let alloc = rt.alloc();
+    let rows: [Row<'_>; 3] = [
+        ("b(c)", "abcd", &[Some("c")]),
+        ("^(a)?$", "a", &[Some("a")]),
+        ("^(a)?$", "", &[None]),
+    ];
+    for row in rows {
+        expect_captures::<Regex>(&rt, alloc, row)?;
+        expect_captures::<EcmaRegexp>(&rt, alloc, row)?;
+    }
+    Ok(())
+}
+
+#[test]
+fn regex_keeps_its_text_and_refuses_a_bad_one(rt: HostRuntime) -> Result<(), Fail> {
+    let alloc = rt.alloc();
+    let regex = <Regex as RegExp>::parse(alloc, "b(c)", "u", false)?;
+    assert_eq!(rt; regex.pattern_string(), "b(c)");
+    for force_eval in [false, true] {
+        let refused = <Regex as RegExp>::parse(alloc, "a(", "u", force_eval);
+        assert!(rt; matches!(refused, Err(RegExpError::Pattern)));
+    }
+    Ok(())
+}
+
+#[test]
+fn ecma_regexp_refuses_a_bad_text_only_when_asked(rt: HostRuntime) -> Result<(), Fail> {
+    let alloc = rt.alloc();
+    let kept = EcmaRegexp::parse(alloc, "a(", "u", false)?;
+    assert_eq!(rt; kept.pattern_string(), "a(");
+    assert!(rt; kept.matches(alloc, "a(")?.is_none());
+    let refused = EcmaRegexp::parse(alloc, "a(", "u", true);
+    assert!(rt; matches!(refused, Err(RegExpError::Pattern)));
+    Ok(())
+}
+
+/// Whether an engine answers as a row says, or memory ran out on the way.
+fn answers_or_wants_memory<R: RegExp>(alloc: Global, row: Row<'_>) -> bool {
+    let (regexp, text, expected) = row;
+    match R::parse(alloc, regexp, "u", true) {
+        Ok(engine) => match engine.matches(alloc, text) {
+            Ok(Some(captures)) => captures.as_slice() == expected,
+            Ok(None) => false,
+            Err(OutOfMemory) => true,
+        },
+        Err(RegExpError::OutOfMemory) => true,
+        Err(RegExpError::Pattern) => false,
+    }
+}
+
+/// Holds whichever allocation is refused: `rt try --test --fail-alloc N` refuses one.
+#[test]
+fn an_engine_without_memory_gives_no_other_answer(rt: HostRuntime) {
+    let row: Row<'_> = ("b(c)", "abcd", &[Some("c")]);
+    assert!(rt; answers_or_wants_memory::<Regex>(rt.alloc(), row));
+    assert!(rt; answers_or_wants_memory::<EcmaRegexp>(rt.alloc(), row));
+}
