@@ -4,11 +4,12 @@ use Rattle.std.specs.Prelude.{◌≡◌, ◌↔◌, ◌⊎◌, ℕ, Bool, true, 
 use Rattle.std.specs.Str.{chars}
 use Rattle.url.specs.Parser.{Parsed, and_then}
 use Rattle.urlpattern.specs.Inheritance.{Values, processed_values, value_of, values_view}
+use Rattle.urlpattern.specs.Patterns.{PatternView}
 use Rattle.urlpattern.specs.SpecialProtocol.{AcceptsSpecialScheme}
 use Rattle.urlpattern.specs.declared.init.UrlPatternInit.{UrlPatternInit}
 use Rattle.urlpattern.specs.declared.init.processing.Component.{Component}
 use Rattle.urlpattern.specs.declared.init.processing.Component.TheVariants.{Protocol, Username, Password, Hostname, Port, Pathname, Search, Hash}
-use Rattle.urlpattern.specs.declared.pattern.UrlPatternOptions.{UrlPatternOptions}
+use Rattle.urlpattern.specs.declared.pattern.options.UrlPatternOptions.{UrlPatternOptions}
 use Rattle.urlpattern_core.specs.Canonical.{IsAnswer, canonical_hash, canonical_hostname, canonical_ipv6_hostname, canonical_opaque_pathname, canonical_password, canonical_pathname, canonical_port, canonical_protocol, canonical_search, canonical_username, default_port, is_special, without_first}
 use Rattle.urlpattern_core.specs.Compiling.{ComponentView}
 use Rattle.urlpattern_core.specs.declared.canonicalize_and_process.ProcessType.TheVariants.{Pattern}
@@ -89,7 +90,7 @@ canonical_encoding canonical = encoding_of (λ bytes returned. IsAnswer (canonic
 
 -- ---- one component
 
--- Which components may be compiled of a text under options and an encoding, by some engine.
+-- Which components are compiled from a text, under options and an encoding, over an engine.
 abbrev pub Compiles : Type 0 → Type 1
 Compiles E = (text : List ℕ) → OptionsView → Encoding → ComponentView E → Type 0
 
@@ -125,3 +126,37 @@ IsComponentRefused IsFrom asked values hierarchical component error =
 abbrev pub HasHierarchicalPath : {E : Type 0} → (answer : E → List ℕ → Option Captures) → Values → (protocol : MatcherView E) → Type 0
 HasHierarchicalPath answer values protocol =
     (values.protocol ≡ Some []) ⊎ AcceptsSpecialScheme answer protocol ⊎ IsTrue (begins_with (is_mark (codes "/")) (unwrap_or values.pathname []))
+
+-- An init is compiled to a pattern: the values that it comes to, with what each component is compiled to.
+pub record IsCompiled {E : Type 0} (IsFrom : Compiles E) (answer : E → List ℕ → Option Captures) (init : UrlPatternInit) (asked : UrlPatternOptions) (pattern : PatternView E) : Type 0 where
+  pub values : Values
+  pub hierarchical : Bool
+  pub are_values : pattern_values init ≡ Ok values
+  pub tells_path : IsTrue hierarchical ↔ HasHierarchicalPath answer values (pattern Protocol).matcher
+  pub are_compiled : (component : Component) → IsComponentCompiled IsFrom asked values hierarchical component (pattern component)
+
+-- the order in which components are compiled, the protocol first
+abbrev pub behind_protocol : List Component
+behind_protocol = Hostname ∷ Pathname ∷ Username ∷ Password ∷ Port ∷ Search ∷ Hash ∷ []
+
+-- one of these components is refused with this error, and those before it are compiled
+abbrev pub FirstRefused : {E : Type 0} → Compiles E → UrlPatternOptions → Values → (hierarchical : Bool) → List Component → ErrorView → Type 0
+FirstRefused IsFrom asked values hierarchical [] error = ⊥
+FirstRefused {E} IsFrom asked values hierarchical (component ∷ components) error =
+    IsComponentRefused IsFrom asked values hierarchical component error
+    ⊎ (((compiled : ComponentView E) × IsComponentCompiled IsFrom asked values hierarchical component compiled)
+    × FirstRefused IsFrom asked values hierarchical components error)
+
+-- the protocol is compiled, and of the components behind it one is refused with this error
+pub record RefusesBehindProtocol {E : Type 0} (IsFrom : Compiles E) (answer : E → List ℕ → Option Captures) (asked : UrlPatternOptions) (values : Values) (error : ErrorView) : Type 0 where
+  pub protocol : ComponentView E
+  pub hierarchical : Bool
+  pub is_compiled : IsComponentCompiled IsFrom asked values hierarchical Protocol protocol
+  pub tells_path : IsTrue hierarchical ↔ HasHierarchicalPath answer values protocol.matcher
+  pub refused : FirstRefused IsFrom asked values hierarchical behind_protocol error
+
+-- an init is refused with this error, that of the first component that is
+abbrev pub RefusesPattern : {E : Type 0} → Compiles E → (answer : E → List ℕ → Option Captures) → UrlPatternInit → UrlPatternOptions → ErrorView → Type 0
+RefusesPattern IsFrom answer init asked error =
+    (values : Values) × (pattern_values init ≡ Ok values)
+    × (IsComponentRefused IsFrom asked values false Protocol error ⊎ RefusesBehindProtocol IsFrom answer asked values error)
