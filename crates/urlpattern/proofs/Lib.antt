@@ -7,3 +7,4 @@ pub mod MatchInputLemmas
 pub mod Encodings
 pub mod SplitExamples
 pub mod SchemeLemmas
+pub mod CompiledLemmas

@@ -1,6 +1,6 @@
 -- What a pattern is that is compiled from an init and options, after the URLPattern Standard, section "The URLPattern
 -- class", at "create a URL pattern".
-use Rattle.std.specs.Prelude.{◌≡◌, ◌↔◌, ◌⊎◌, ℕ, Bool, true, false, ◌&&◌, ◌||◌, ◌==◌, List, [], ◌∷◌, bytes_eq, codes, length, slice_index, Option, Some, None, unwrap_or, Ok, Err, IsOk, IsTrue, if◌then◌else◌}
+use Rattle.std.specs.Prelude.{◌≡◌, ◌↔◌, ◌⊎◌, ℕ, Bool, true, false, not, ◌&&◌, ◌||◌, ◌==◌, List, [], ◌∷◌, bytes_eq, codes, length, slice_index, Option, Some, None, unwrap_or, Ok, Err, IsOk, IsTrue, if◌then◌else◌}
 use Rattle.std.specs.Str.{chars}
 use Rattle.url.specs.Parser.{Parsed, and_then}
 use Rattle.urlpattern.specs.Inheritance.{Values, processed_values, value_of, values_view}
@@ -23,7 +23,7 @@ use Rattle.urlpattern_syntax.specs.Text.{begins_with}
 
 -- ---- the values that are compiled
 
--- the two are the same text, or both are missing
+-- two texts are the same, or both are missing
 abbrev pub is_same : Option (List ℕ) → Option (List ℕ) → Bool
 is_same None None = true
 is_same (Some text) (Some other) = bytes_eq text other
@@ -32,7 +32,7 @@ is_same text other = false
 -- the protocol is special, and the port is its default one; `file` has none
 abbrev pub has_default_port : (protocol port : Option (List ℕ)) → Bool
 has_default_port None port = false
-has_default_port (Some protocol) port = is_special protocol && is_same (default_port protocol) port
+has_default_port (Some protocol) port = is_special protocol && is_same port (default_port protocol)
 
 -- a default port is emptied
 abbrev pub without_default_port : Values → Values
@@ -63,11 +63,13 @@ with_case asked options = record options { syntax = asked.regex_syntax; ignore_c
 abbrev pub is_mark : List ℕ → ℕ → Bool
 is_mark mark c = c == slice_index mark 0
 
--- the pattern of a hostname begins as an IPv6 address does, and is more than a bracket
+-- the pattern of a hostname begins as an IPv6 address does: with a bracket, which may stand behind one open brace or one
+-- backslash; a bracket alone is none
 abbrev pub is_ipv6_pattern : List ℕ → Bool
-is_ipv6_pattern (first ∷ second ∷ rest) =
-    is_mark (codes "[") first || ((is_mark (codes "{") first || is_mark (codes "\\") first) && is_mark (codes "[") second)
-is_ipv6_pattern text = false
+is_ipv6_pattern text =
+    not (bytes_eq text (codes "["))
+    && (begins_with (is_mark (codes "[")) (without_first (slice_index (codes "{") 0) text)
+    || begins_with (is_mark (codes "[")) (without_first (slice_index (codes "\\") 0) text))
 
 -- the canonical value of a text in a hostname's pattern
 abbrev pub canonical_in_hostname : (pattern : List ℕ) → List ℕ → Parsed (List ℕ)
@@ -79,8 +81,8 @@ manner_of asked values hierarchical Username = manner (in_syntax asked default_o
 manner_of asked values hierarchical Password = manner (in_syntax asked default_options) canonical_password
 manner_of asked values hierarchical Hostname = manner (in_syntax asked hostname_options) (canonical_in_hostname (unwrap_or values.hostname []))
 manner_of asked values hierarchical Port = manner (in_syntax asked default_options) (canonical_port None)
-manner_of asked values true Pathname = manner (with_case asked pathname_options) canonical_pathname
-manner_of asked values false Pathname = manner (with_case asked default_options) canonical_opaque_pathname
+manner_of asked values hierarchical Pathname =
+    if hierarchical then manner (with_case asked pathname_options) canonical_pathname else manner (with_case asked default_options) canonical_opaque_pathname
 manner_of asked values hierarchical Search = manner (with_case asked default_options) canonical_search
 manner_of asked values hierarchical Hash = manner (with_case asked default_options) canonical_hash
 
@@ -127,15 +129,20 @@ abbrev pub HasHierarchicalPath : {E : Type 0} → (answer : E → List ℕ → O
 HasHierarchicalPath answer values protocol =
     (values.protocol ≡ Some []) ⊎ AcceptsSpecialScheme answer protocol ⊎ IsTrue (begins_with (is_mark (codes "/")) (unwrap_or values.pathname []))
 
--- An init is compiled to a pattern: the values that it comes to, with what each component is compiled to.
-pub record IsCompiled {E : Type 0} (IsFrom : Compiles E) (answer : E → List ℕ → Option Captures) (init : UrlPatternInit) (asked : UrlPatternOptions) (pattern : PatternView E) : Type 0 where
-  pub values : Values
+-- The values are compiled to this pattern: by its protocol the pathname is hierarchical or not, and each component is compiled.
+pub record AreCompiled {E : Type 0} (IsFrom : Compiles E) (answer : E → List ℕ → Option Captures) (asked : UrlPatternOptions) (values : Values) (pattern : PatternView E) : Type 0 where
   pub hierarchical : Bool
-  pub are_values : pattern_values init ≡ Ok values
   pub tells_path : IsTrue hierarchical ↔ HasHierarchicalPath answer values (pattern Protocol).matcher
   pub are_compiled : (component : Component) → IsComponentCompiled IsFrom asked values hierarchical component (pattern component)
 
--- the order in which components are compiled, the protocol first
+-- the init is compiled to this pattern
+abbrev pub IsCompiled : {E : Type 0} → Compiles E → (answer : E → List ℕ → Option Captures) → UrlPatternInit → UrlPatternOptions → PatternView E → Type 0
+IsCompiled IsFrom answer init asked pattern =
+    (values : Values) × (pattern_values init ≡ Ok values) × AreCompiled IsFrom answer asked values pattern
+
+-- ---- refusals
+
+-- the order in which components are compiled, behind the protocol
 abbrev pub behind_protocol : List Component
 behind_protocol = Hostname ∷ Pathname ∷ Username ∷ Password ∷ Port ∷ Search ∷ Hash ∷ []
 
@@ -147,7 +154,7 @@ FirstRefused {E} IsFrom asked values hierarchical (component ∷ components) err
     ⊎ (((compiled : ComponentView E) × IsComponentCompiled IsFrom asked values hierarchical component compiled)
     × FirstRefused IsFrom asked values hierarchical components error)
 
--- the protocol is compiled, and of the components behind it one is refused with this error
+-- The protocol is compiled, and of the components behind it one is refused with this error.
 pub record RefusesBehindProtocol {E : Type 0} (IsFrom : Compiles E) (answer : E → List ℕ → Option Captures) (asked : UrlPatternOptions) (values : Values) (error : ErrorView) : Type 0 where
   pub protocol : ComponentView E
   pub hierarchical : Bool
@@ -155,8 +162,12 @@ pub record RefusesBehindProtocol {E : Type 0} (IsFrom : Compiles E) (answer : E 
   pub tells_path : IsTrue hierarchical ↔ HasHierarchicalPath answer values protocol.matcher
   pub refused : FirstRefused IsFrom asked values hierarchical behind_protocol error
 
--- an init is refused with this error, that of the first component that is
+-- the values are refused with this error, that of the first component that is refused
+abbrev pub RefusesValues : {E : Type 0} → Compiles E → (answer : E → List ℕ → Option Captures) → UrlPatternOptions → Values → ErrorView → Type 0
+RefusesValues IsFrom answer asked values error =
+    IsComponentRefused IsFrom asked values false Protocol error ⊎ RefusesBehindProtocol IsFrom answer asked values error
+
+-- the init is refused with this error
 abbrev pub RefusesPattern : {E : Type 0} → Compiles E → (answer : E → List ℕ → Option Captures) → UrlPatternInit → UrlPatternOptions → ErrorView → Type 0
 RefusesPattern IsFrom answer init asked error =
-    (values : Values) × (pattern_values init ≡ Ok values)
-    × (IsComponentRefused IsFrom asked values false Protocol error ⊎ RefusesBehindProtocol IsFrom answer asked values error)
+    (values : Values) × (pattern_values init ≡ Ok values) × RefusesValues IsFrom answer asked values error

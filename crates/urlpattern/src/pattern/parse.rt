@@ -1,38 +1,90 @@
 //! Compiles a pattern from an init.
 
-ghost use Rattle.std.specs.Prelude.{◌≡◌, ◌↔◌, [], codes, length, option_map, unwrap_or, IfErr, IfOk, IsTrue, Some};
+ghost use Rattle.std.specs.Prelude.{◌≡◌, ◌↔◌, [], codes, length, option_copied, option_map, unwrap_or, IfErr, IfOk, IfSome, IsAscii, IsTrue, Some};
 ghost use Rattle.std.specs.Fn.{FnReturnsAt};
 ghost use Rattle.std.specs.Str.{chars};
-ghost use Rattle.urlpattern.specs.Compiled.{HasEngine, HasHierarchicalPath, IsComponentCompiled, IsComponentRefused, IsRefusedFrom, canonical_in_hostname, has_default_port, is_ipv6_pattern, is_mark, is_same, manner_of};
+ghost use Rattle.urlpattern.specs.Compiled.{AreCompiled, FirstRefused, HasEngine, HasHierarchicalPath, IsCompiled, IsComponentCompiled, IsComponentRefused, IsRefusedFrom, RefusesPattern, RefusesValues, behind_protocol, canonical_in_hostname, has_default_port, is_ipv6_pattern, is_mark, is_same, manner_of, pattern_of, pattern_values, without_default_port};
 ghost use Rattle.urlpattern.specs.Inheritance.{values_view};
+ghost use Rattle.urlpattern.specs.Patterns.{pattern_view};
+ghost use Rattle.urlpattern.specs.declared.init.processing.Component.{Component};
 ghost use Rattle.urlpattern_core.specs.Canonical.{IsAnswer};
 ghost use Rattle.urlpattern_core.specs.Compiling.{IsCompiledFrom, component_view, pattern_text};
 ghost use Rattle.urlpattern_core.specs.Matchers.{matcher_view};
 ghost use Rattle.urlpattern_syntax.specs.declared.error.Error.TheVariants as errors;
 ghost use Rattle.urlpattern_syntax.specs.Options.{options_view};
-ghost use Rattle.urlpattern_syntax.specs.Parsing.{MemoryOr, name_view};
+ghost use Rattle.urlpattern_syntax.specs.Parsing.{MemoryOr};
 ghost use Rattle.urlpattern_syntax.specs.Reading.{encoding_of};
 ghost use Rattle.urlpattern_syntax.specs.Text.{begins_with, text_of};
 
-use super::UrlPatternOptions;
+use super::{UrlPattern, UrlPatternOptions};
 use crate::constructor_parser::accepts_special_scheme;
-use crate::init::{Component, UrlPatternInit, given};
+use crate::init::{Component, UrlPatternInit, given, process};
 use std::alloc::Global;
 use urlpattern_core::Error;
 use urlpattern_core::canonicalize_and_process::{
-    Canonicalizer, begins_with_slash, canonicalize_ipv6_hostname, is_special_scheme,
-    special_scheme_default_port,
+    Canonicalizer, ProcessType, begins_with_slash, canonicalize_ipv6_hostname, is_special_scheme,
+    special_scheme_default_port, without_first,
 };
 use urlpattern_core::component;
 use urlpattern_core::parser::Options;
 use urlpattern_core::regexp::RegExp;
 
-/// Whether two texts are the same, or both are missing.
-fn is_same(text: Option<&str>, other: &Option<String>) -> bool
-    ensures { result ≡ is_same (name_view text.entry) (option_map text_of other.now) }
+impl<R: RegExp> UrlPattern<R> {
+    /// Compiles a pattern from an init: from its own texts, and from what they inherit from its base URL.
+    ///
+    /// The error is that of the first component that is refused, or that memory ran out. Components are compiled in the
+    /// order protocol, hostname, pathname, username, password, port, search, hash. A component is refused for its text, by
+    /// `url` for a fixed text in it, or by the engine for its regular expression.
+    ///
+    /// <https://urlpattern.spec.whatwg.org/#url-pattern-create>
+    pub fn parse(
+        alloc: Global,
+        init: UrlPatternInit,
+        options: UrlPatternOptions,
+    ) -> Result<Self, Error>
+        ensures compiled { IfOk result (λ pattern. IsCompiled (IsCompiledFrom R.IsMade R.MayRefuse R.syntax_of) R.answer init options (pattern_view pattern)) }
+        ensures refused { IfErr result (MemoryOr (RefusesPattern (IsCompiledFrom R.IsMade R.MayRefuse R.syntax_of) R.answer init options)) }
+    {
+        let values = pattern_values(alloc, &init)?;
+        let canonicalizer = Canonicalizer::shared(alloc)?;
+        let compiler = Compiler {
+            alloc,
+            canonicalizer,
+            values: &values,
+            options: &options,
+        };
+        compiler.pattern()
+    }
+}
+
+/// The values that an init comes to as a pattern, where a default port is emptied.
+///
+/// The error is that memory ran out.
+fn pattern_values(alloc: Global, init: &UrlPatternInit) -> Result<UrlPatternInit, Error>
+    ensures ok { IfOk result (λ values. pattern_values init.now ≡ Ok (values_view values)) }
+    ensures memory { IfErr result (λ error. error ≡ errors.OutOfMemory) }
 {
-    match (text, other) {
-        (Some(text), Some(other)) => text == other.as_str(),
+    let values = process(alloc, init, &ProcessType::Pattern)?;
+    Ok(without_default_port(alloc, values))
+}
+
+/// The values, where a default port is emptied.
+fn without_default_port(alloc: Global, mut values: UrlPatternInit) -> UrlPatternInit
+    ensures { values_view result ≡ without_default_port (values_view values) }
+{
+    if has_default_port(&values) {
+        values.port = Some(String::new(alloc));
+    }
+    values
+}
+
+/// Whether the port of an init is this one, or both are missing.
+fn is_port(port: &Option<String>, default: Option<&str>) -> bool
+    requires { IfSome (option_copied default) IsAscii }
+    ensures { result ≡ is_same (option_map text_of port.now) (option_copied default.entry) }
+{
+    match (port, default) {
+        (Some(port), Some(default)) => port.as_str() == default,
         (None, None) => true,
         _ => false,
     }
@@ -45,10 +97,17 @@ fn has_default_port(values: &UrlPatternInit) -> bool
     match &values.protocol {
         Some(protocol) => {
             is_special_scheme(protocol)
-                && is_same(special_scheme_default_port(protocol), &values.port)
+                && is_port(&values.port, special_scheme_default_port(protocol))
         }
         None => false,
     }
+}
+
+/// Whether the text begins with an opening square bracket.
+fn begins_with_bracket(text: &str) -> bool
+    ensures { result ≡ begins_with (is_mark (codes "[")) (chars text.now) }
+{
+    matches!(text.as_bytes(), [b'[', ..])
 }
 
 /// Whether the pattern of a hostname begins as an IPv6 address does.
@@ -57,10 +116,19 @@ fn has_default_port(values: &UrlPatternInit) -> bool
 fn is_ipv6_pattern(pattern: &str) -> bool
     ensures { result ≡ is_ipv6_pattern (chars pattern.now) }
 {
-    matches!(
-        pattern.as_bytes(),
-        [b'[', _, ..] | [b'{' | b'\\', b'[', ..]
-    )
+    pattern != "["
+        && (begins_with_bracket(without_first(pattern, b'{'))
+            || begins_with_bracket(without_first(pattern, b'\\')))
+}
+
+/// The pattern text of a component, if it has one.
+fn pattern_of(values: &UrlPatternInit, component: Component) -> Option<&str>
+    ensures { pattern_text result ≡ pattern_of (values_view values.now) component }
+{
+    match given(values, component) {
+        Some(text) => Some(text),
+        None => None,
+    }
 }
 
 /// The component of a pattern text. A regular expression that the engine refuses is an error.
@@ -94,6 +162,55 @@ struct Compiler<'a> {
 }
 
 impl Compiler<'_> {
+    /// The pattern: the protocol is compiled first, and tells whether the pathname is hierarchical.
+    ///
+    /// The error is that of the first component that is refused, or that memory ran out.
+    fn pattern<R: RegExp>(&self) -> Result<UrlPattern<R>, Error>
+        ensures compiled { IfOk result (λ pattern. AreCompiled (IsCompiledFrom R.IsMade R.MayRefuse R.syntax_of) R.answer
+            self.now.options.now (values_view self.now.values.now) (pattern_view pattern)) }
+        ensures refused { IfErr result (MemoryOr (RefusesValues (IsCompiledFrom R.IsMade R.MayRefuse R.syntax_of) R.answer
+            self.now.options.now (values_view self.now.values.now))) }
+    {
+        let protocol = self.component(Component::Protocol, false)?;
+        let hierarchical = self.is_hierarchical(&protocol)?;
+        self.behind_protocol(protocol, hierarchical)
+    }
+
+    /// The pattern with this protocol.
+    ///
+    /// The error is that of the first component that is refused, or that memory ran out.
+    fn behind_protocol<R: RegExp>(
+        &self,
+        protocol: component::Component<R>,
+        hierarchical: bool,
+    ) -> Result<UrlPattern<R>, Error>
+        requires { IsComponentCompiled (IsCompiledFrom R.IsMade R.MayRefuse R.syntax_of)
+            self.now.options.now (values_view self.now.values.now) hierarchical Component.Protocol (component_view protocol) }
+        ensures protocol { IfOk result (λ pattern. component_view pattern.protocol ≡ component_view protocol) }
+        ensures compiled { IfOk result (λ pattern. (component : Component) → IsComponentCompiled (IsCompiledFrom R.IsMade R.MayRefuse R.syntax_of)
+            self.now.options.now (values_view self.now.values.now) hierarchical component (pattern_view pattern component)) }
+        ensures refused { IfErr result (MemoryOr (FirstRefused (IsCompiledFrom R.IsMade R.MayRefuse R.syntax_of)
+            self.now.options.now (values_view self.now.values.now) hierarchical behind_protocol)) }
+    {
+        let hostname = self.component(Component::Hostname, hierarchical)?;
+        let pathname = self.component(Component::Pathname, hierarchical)?;
+        let username = self.component(Component::Username, hierarchical)?;
+        let password = self.component(Component::Password, hierarchical)?;
+        let port = self.component(Component::Port, hierarchical)?;
+        let search = self.component(Component::Search, hierarchical)?;
+        let hash = self.component(Component::Hash, hierarchical)?;
+        Ok(UrlPattern {
+            protocol,
+            username,
+            password,
+            hostname,
+            port,
+            pathname,
+            search,
+            hash,
+        })
+    }
+
     /// The component of the pattern.
     ///
     /// The error is that its text or its regular expression is refused, or that memory ran out.
@@ -111,10 +228,7 @@ impl Compiler<'_> {
         let canonicalize = |text: &str| -> Result<String, Error>
             ensures { IsAnswer ((manner_of self.entry.now.options.now (values_view self.entry.now.values.now) hierarchical component).canonical (chars text.now)) (length text.now) result }
         { self.canonical(component, hierarchical, text) };
-        let pattern = match given(self.values, component) {
-            Some(text) => Some(text.as_str()),
-            None => None,
-        };
+        let pattern = pattern_of(self.values, component);
         compile_component(self.alloc, pattern, canonicalize, options)
     }
 
