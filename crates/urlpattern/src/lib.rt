@@ -16,3 +16,4 @@ pub use urlpattern_core::{
     Error, RegexSyntax, canonicalize_and_process, component, error, laws, matcher, parser, regexp,
     tokenizer,
 };
+pub use urlpattern_plain::UrlPatternOptions;
