@@ -14,7 +14,7 @@ use Rattle.urlpattern.specs.declared.init.processing.Component.{Component as Nam
 use Rattle.urlpattern.specs.declared.init.processing.Component.TheVariants.{Protocol, Username, Password, Hostname, Port, Pathname, Search, Hash}
 use Rattle.urlpattern.specs.declared.init.UrlPatternInit.{UrlPatternInit}
 use Rattle.urlpattern.specs.declared.pattern.UrlPattern.{UrlPattern}
-use Rattle.urlpattern.specs.declared.pattern.options.UrlPatternOptions.{UrlPatternOptions}
+use Rattle.urlpattern_plain.specs.declared.options.UrlPatternOptions.{UrlPatternOptions}
 use Rattle.urlpattern_laws.specs.PartMeaning.{Captures}
 use Rattle.urlpattern_core.proofs.MarkLemmas.{bytes_eq-chars}
 use Rattle.urlpattern_core.specs.Canonical.{default_port, is_special, without_first}

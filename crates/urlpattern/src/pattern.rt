@@ -6,12 +6,10 @@ ghost use Rattle.urlpattern.specs.Inheritance.{components};
 ghost use Rattle.urlpattern.specs.Patterns.{pattern_view};
 ghost use Rattle.urlpattern.specs.declared.init.processing.Component.TheVariants as names;
 
-mod options;
 mod parse;
 
 use crate::component::Component;
 use crate::regexp::RegExp;
-pub use options::UrlPatternOptions;
 
 /// A pattern that URLs are matched against, compiled component by component.
 ///

@@ -16,7 +16,7 @@ ghost use Rattle.urlpattern_syntax.specs.Parsing.{MemoryOr};
 ghost use Rattle.urlpattern_syntax.specs.Reading.{encoding_of};
 ghost use Rattle.urlpattern_syntax.specs.Text.{begins_with, text_of};
 
-use super::{UrlPattern, UrlPatternOptions};
+use super::UrlPattern;
 use crate::constructor_parser::accepts_special_scheme;
 use crate::init::{Component, UrlPatternInit, given, process};
 use std::alloc::Global;
@@ -28,6 +28,7 @@ use urlpattern_core::canonicalize_and_process::{
 use urlpattern_core::component;
 use urlpattern_core::parser::Options;
 use urlpattern_core::regexp::RegExp;
+use urlpattern_plain::UrlPatternOptions;
 
 impl<R: RegExp> UrlPattern<R> {
     /// Compiles a pattern from an init: from its own texts, and from what they inherit from its base URL.
@@ -64,8 +65,11 @@ fn pattern_values(alloc: Global, init: &UrlPatternInit) -> Result<UrlPatternInit
     ensures ok { IfOk result (λ values. pattern_values init.now ≡ Ok (values_view values)) }
     ensures memory { IfErr result (λ error. error ≡ errors.OutOfMemory) }
 {
-    let values = process(alloc, init, &ProcessType::Pattern)?;
-    Ok(without_default_port(alloc, values))
+    // Nothing is asked of `url` about a pattern, so the only error is that memory ran out.
+    match process(alloc, init, &ProcessType::Pattern) {
+        Ok(values) => Ok(without_default_port(alloc, values)),
+        Err(_) => Err(Error::OutOfMemory),
+    }
 }
 
 /// The values, where a default port is emptied.
