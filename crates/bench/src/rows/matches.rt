@@ -89,14 +89,14 @@ fn matched(alloc: Global, pattern: &UrlPattern, text: &str) -> Result<UrlPattern
 /// Compares the text of a component and what its groups capture.
 fn expect_result(
     rt: &impl Abort,
-    result: &UrlPatternComponentResult,
+    found: &UrlPatternComponentResult,
     input: &str,
     groups: Groups<'_>,
 ) {
-    assert_eq!(rt; result.input.as_str(), input);
-    assert_eq!(rt; result.groups.len(), groups.len(), "at {input:?}");
+    assert_eq!(rt; found.input.as_str(), input);
+    assert_eq!(rt; found.groups.len(), groups.len(), "at {input:?}");
     for (name, expected) in groups {
-        match result.groups.get(*name) {
+        match found.groups.get(*name) {
             Some(Some(text)) => assert_eq!(rt; Some(text.as_str()), *expected, "of {name:?}"),
             Some(None) => assert!(rt; expected.is_none(), "of {name:?}"),
             None => assert!(rt; false, "no group {name:?}"),
