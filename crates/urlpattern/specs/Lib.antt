@@ -13,6 +13,8 @@ pub use Rattle.urlpattern_laws.specs.Dialect
 pub use Rattle.urlpattern_syntax.specs.ErrorText
 pub use Rattle.urlpattern_syntax.specs.Errors
 pub mod Inheritance
+pub mod Eight
+pub mod Match
 pub mod MatchInput
 pub mod Patterns
 pub use Rattle.urlpattern_laws.specs.Laws

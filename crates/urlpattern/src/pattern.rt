@@ -6,10 +6,15 @@ ghost use Rattle.urlpattern.specs.Inheritance.{components};
 ghost use Rattle.urlpattern.specs.Patterns.{pattern_view};
 ghost use Rattle.urlpattern.specs.declared.init.processing.Component.TheVariants as names;
 
+mod eight;
+mod groups;
+mod matching;
 mod parse;
+mod result;
 
 use crate::component::Component;
 use crate::regexp::RegExp;
+pub use result::{UrlPatternComponentResult, UrlPatternResult};
 
 /// A pattern that URLs are matched against, compiled component by component.
 ///
