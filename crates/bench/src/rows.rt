@@ -11,6 +11,7 @@ mod match_inputs;
 mod matchers;
 mod matches;
 mod options;
+mod patterns;
 mod printed;
 mod refusals;
 mod tokens;
