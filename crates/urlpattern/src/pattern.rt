@@ -13,6 +13,7 @@ mod result;
 
 use crate::component::Component;
 use crate::regexp::RegExp;
+pub(crate) use eight::Eight;
 pub use result::{UrlPatternComponentResult, UrlPatternResult};
 
 /// A pattern that URLs are matched against, compiled component by component.
