@@ -9,6 +9,7 @@ mod engines;
 mod long_texts;
 mod match_inputs;
 mod matchers;
+mod meanings;
 mod options;
 mod printed;
 mod refusals;

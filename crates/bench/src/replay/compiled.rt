@@ -67,6 +67,6 @@ fn is_same<R: RegExp>(component: &Component<R>, recorded: &CompileAnswer) -> boo
 fn is_kept<R: RegExp>(kept: &Result<R, Error>, recorded: &Value) -> bool {
     match kept {
         Ok(engine) => recorded.as_str() == Some(engine.pattern_string()),
-        Err(_) => recorded.is_object(),
+        Err(error) => matches!(error, Error::RegExp(())) && recorded.is_object(),
     }
 }

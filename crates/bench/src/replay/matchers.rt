@@ -9,12 +9,12 @@ use crate::replay::engines::are_same_captures;
 use crate::replay::{Outcome, options_of_kind, prints};
 use regex::Regex;
 use std::alloc::{AllocError, Global};
-use urlpattern::Error;
 use urlpattern::component::generate_matcher;
 use urlpattern::matcher::{InnerMatcher, Matcher};
 use urlpattern::parser::parse_pattern_string;
 use urlpattern::quirks::EcmaRegexp;
 use urlpattern::regexp::RegExp;
+use urlpattern::{Error, RegexSyntax};
 
 /// Replays a case that asks the matcher of a pattern for its answers, over both engines.
 pub fn replay_matches(alloc: Global, line: &str) -> Result<Outcome, serde_json::Error> {
@@ -39,11 +39,16 @@ fn is_recorded<R: RegExp>(
     Ok(match (matcher_of::<R>(alloc, question), answer) {
         (Ok(matcher), Answer::Ok(recorded)) => {
             are_answers(alloc, &matcher, &question.inputs, &recorded.matches)
-                && (recorded.refused || !keeps_error(&matcher))
+                && keeps_error(&matcher) == (recorded.refused && is_regex::<R>())
         }
         (Err(error), Answer::Err(text)) => prints(alloc, &error, text)?,
         _ => false,
     })
+}
+
+/// Whether an engine is that of the recorded answers, which refuses texts unasked.
+fn is_regex<R: RegExp>() -> bool {
+    matches!(R::syntax(), RegexSyntax::Rust)
 }
 
 /// Whether a matcher keeps an error in place of a regular expression.
