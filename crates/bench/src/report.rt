@@ -1,6 +1,6 @@
 //! The run over files of cases, and what it prints.
 
-use crate::recorded::Operation;
+use crate::recorded::{Fault, Operation};
 use crate::replay::{Outcome, replay};
 use std::alloc::Global;
 use std::io::Write;
@@ -76,10 +76,8 @@ impl Report {
                         writeln!(out, "{path}:{number}: differs")?;
                     }
                 }
-                Err(error) if error.is_memory() => return Err(io::Error::from(
-                    io::ErrorKind::OutOfMemory,
-                )),
-                Err(_) => {
+                Err(Fault::OutOfMemory) => return Err(io::Error::from(io::ErrorKind::OutOfMemory)),
+                Err(Fault::NoCase) => {
                     self.unreadable = self.unreadable.saturating_add(1);
                     writeln!(out, "{path}:{number}: no case")?;
                 }
