@@ -167,6 +167,9 @@ mod tests {
     use std::process::Abort;
     use std::test::Fail;
 
+    /// A pattern of one name.
+    const USERS: &str = "https://example.com/users/:id";
+
     /// A writer of which each write fails, and that counts them.
     #[derive(Drop)]
     struct Broken {
@@ -301,12 +304,7 @@ mod tests {
         expect_run(
             &rt,
             rt.alloc(),
-            &[
-                "match",
-                "https://example.com/users/:id",
-                "-",
-                "https://example.com/users/123",
-            ],
+            &["match", USERS, "-", "https://example.com/users/123"],
             0,
             printed,
             "",
@@ -318,7 +316,7 @@ mod tests {
     fn says_that_there_is_no_match(rt: HostRuntime) -> Result<(), Fail> {
         let inputs = ["https://example.com/x", "nonsense"];
         for input in inputs {
-            let line = ["match", "https://example.com/users/:id", "-", input];
+            let line = ["match", USERS, "-", input];
             expect_run(&rt, rt.alloc(), &line, 1, "no match\n", "")?;
         }
         Ok(())
