@@ -4,6 +4,9 @@ pub mod TextBetween
 pub mod SplitLemmas
 pub mod InheritanceLemmas
 pub mod MatchInputLemmas
+pub mod Each
+pub mod GroupLemmas
+pub mod MatchSteps
 pub mod Encodings
 pub mod SplitExamples
 pub mod SchemeLemmas

@@ -12,7 +12,10 @@ pub use Rattle.urlpattern_laws.specs.Dialect
 pub use Rattle.urlpattern_syntax.specs.ErrorText
 pub use Rattle.urlpattern_syntax.specs.Errors
 pub mod Inheritance
+pub mod Eight
+pub mod Match
 pub mod MatchInput
+pub mod Patterns
 pub use Rattle.urlpattern_laws.specs.Laws
 pub use Rattle.urlpattern_laws.specs.Matching
 pub use Rattle.urlpattern_laws.specs.PartMeaning

@@ -7,9 +7,11 @@
 
 mod constructor_parser;
 mod init;
+mod pattern;
 pub mod quirks;
 
 pub use init::{UrlPatternInit, UrlPatternMatchInput};
+pub use pattern::{UrlPattern, UrlPatternComponentResult, UrlPatternResult};
 pub use urlpattern_core::{
     Error, RegexSyntax, canonicalize_and_process, component, error, laws, matcher, parser, regexp,
     tokenizer,

@@ -52,7 +52,7 @@ impl MatchInput {
     }
 
     /// The texts of a URL.
-    fn of_url(alloc: Global, url: &Url) -> Result<Self, AllocError>
+    pub(crate) fn of_url(alloc: Global, url: &Url) -> Result<Self, AllocError>
         ensures { IfOk result (λ texts. texts_view texts ≡ texts_of_url url.now) }
     {
         let copy = |component: Component| -> Result<String, AllocError> {
