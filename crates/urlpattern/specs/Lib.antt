@@ -16,6 +16,7 @@ pub mod Eight
 pub mod Match
 pub mod MatchInput
 pub mod Patterns
+pub mod Theorem
 pub use Rattle.urlpattern_laws.specs.Laws
 pub use Rattle.urlpattern_laws.specs.Matching
 pub use Rattle.urlpattern_laws.specs.PartMeaning

@@ -9,6 +9,7 @@ mod constructor_parser;
 mod init;
 mod pattern;
 pub mod quirks;
+pub mod theorem;
 
 pub use init::{UrlPatternInit, UrlPatternMatchInput};
 pub use pattern::{UrlPattern, UrlPatternComponentResult, UrlPatternResult};
