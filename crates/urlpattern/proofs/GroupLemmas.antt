@@ -30,9 +30,9 @@ text-eq x y =
     ⊎_elim
     (λ same. (bytes_decides (text_of x) (text_of y)).1 (text-same x y ((bytes_decides (string_bytes x) (string_bytes y)).0 same)) ∙ sym same)
     (λ other. ⊎_elim
-        (λ alike. absurd (false≢true (sym other ∙ (bytes_decides (string_bytes x) (string_bytes y)).1 (bytes-same x y ((bytes_decides (text_of x) (text_of y)).0 alike)))))
-        (λ unlike. unlike ∙ sym other)
-        (cases_Bool (bytes_eq (text_of x) (text_of y))))
+    (λ alike. absurd (false≢true (sym other ∙ (bytes_decides (string_bytes x) (string_bytes y)).1 (bytes-same x y ((bytes_decides (text_of x) (text_of y)).0 alike)))))
+    (λ unlike. unlike ∙ sym other)
+    (cases_Bool (bytes_eq (text_of x) (text_of y))))
     (cases_Bool (string_eq x y))
 
 -- tests that answer alike find the same
@@ -57,13 +57,13 @@ pub group_in-put : {S : Type 0} (old new : HashMap (String Global) (Option (Stri
 group_in-put old new key capture put name =
     ⊎_elim
     (λ same.
-        ap (option_map (option_map text_of)) (lookup-alike (λ k. bytes_eq name (text_of k)) (string_eq key) (λ k. tests-key name key k same) new.entries ∙ put.1)
-        ∙ sym (cond-true (bytes_eq name (text_of key)) (Some (option_map text_of capture)) (group_in old name) same))
+    ap (option_map (option_map text_of)) (lookup-alike (λ k. bytes_eq name (text_of k)) (string_eq key) (λ k. tests-key name key k same) new.entries ∙ put.1)
+    ∙ sym (cond-true (bytes_eq name (text_of key)) (Some (option_map text_of capture)) (group_in old name) same))
     (λ other.
-        let apart : AreApart (string_eq key) (λ k. bytes_eq name (text_of k)) = λ k same.
-        ap (bytes_eq name) (sym (text-same key k ((bytes_decides (string_bytes key) (string_bytes k)).0 same))) ∙ other in
-        ap (option_map (option_map text_of)) (other_entries string_eq (string_eq key) old.entries new.entries put.3 (λ k. bytes_eq name (text_of k)) (λ x y is. tests-key name x y is) apart)
-        ∙ sym (cond-false (bytes_eq name (text_of key)) (Some (option_map text_of capture)) (group_in old name) other))
+    let apart : AreApart (string_eq key) (λ k. bytes_eq name (text_of k)) = λ k same.
+    ap (bytes_eq name) (sym (text-same key k ((bytes_decides (string_bytes key) (string_bytes k)).0 same))) ∙ other in
+    ap (option_map (option_map text_of)) (other_entries string_eq (string_eq key) old.entries new.entries put.3 (λ k. bytes_eq name (text_of k)) (λ x y is. tests-key name x y is) apart)
+    ∙ sym (cond-false (bytes_eq name (text_of key)) (Some (option_map text_of capture)) (group_in old name) other))
     (cases_Bool (bytes_eq name (text_of key)))
 
 -- ---- names beside captures

@@ -1,18 +1,20 @@
 -- What it means that a pattern matches an input, and the groups of a match, after the URLPattern Standard, section
 -- "Matching", at "match".
-use Rattle.std.specs.Prelude.{◌≡◌, ◌⊎◌, ℕ, List, reverse, zip, bytes_eq, Option, Some, None, option_map, Ok}
+use Rattle.std.specs.Prelude.{◌≡◌, ◌≤◌, ◌⊎◌, ℕ, List, reverse, zip, bytes_eq, Option, Some, None, option_map, Ok, String}
 use Rattle.std.specs.HashMap.{HashMap, get_by}
 use Rattle.std.specs.Map.{lookup}
-use Rattle.std.specs.Prelude.{String}
 use Rattle.std.specs.declared.alloc.Global.{Global}
 use Rattle.urlpattern.specs.declared.init.processing.Component.{Component}
 use Rattle.urlpattern.specs.declared.init.processing.Component.TheVariants.{Protocol, Username, Password, Hostname, Port, Pathname, Search, Hash}
 use Rattle.urlpattern.specs.declared.init.UrlPatternMatchInput.{UrlPatternMatchInput}
+use Rattle.urlpattern.specs.declared.init.UrlPatternMatchInput.TheVariants.{Init, Url as UrlInput}
 use Rattle.urlpattern.specs.declared.pattern.result.UrlPatternComponentResult.{UrlPatternComponentResult}
 use Rattle.urlpattern.specs.declared.pattern.result.UrlPatternResult.{UrlPatternResult}
-use Rattle.urlpattern.specs.Inheritance.{Texts}
+use Rattle.urlpattern.specs.Inheritance.{Texts, asked_bytes, values_view}
 use Rattle.urlpattern.specs.MatchInput.{IsNoInput, input_texts}
 use Rattle.urlpattern.specs.Patterns.{PatternView}
+use Rattle.urlpattern_core.specs.Canonical.{long_text}
+use Rattle.urlpattern_core.specs.declared.canonicalize_and_process.ProcessType.TheVariants.{Url}
 use Rattle.urlpattern_laws.specs.Matching.{Answers, IsMatched}
 use Rattle.urlpattern_laws.specs.PartMeaning.{Captures}
 use Rattle.urlpattern_syntax.specs.Text.{text_of}
@@ -99,3 +101,13 @@ HasMatch answer pattern input = (texts : Texts) × (input_texts input ≡ Ok tex
 abbrev pub HasNoMatch : {E : Type 0} → (answer : E → List ℕ → Option Captures) → PatternView E → UrlPatternMatchInput → Type 0
 HasNoMatch answer pattern input =
     IsNoInput input ⊎ ((texts : Texts) × (input_texts input ≡ Ok texts) × IsRefused answer pattern texts)
+
+-- ---- words of laws
+
+abbrev pub IsSameResult : (result other : ResultView) → Type 0
+IsSameResult result other = (result.input ≡ other.input) × ((name : List ℕ) → result.group name ≡ other.group name)
+
+-- the texts about which `url` is asked are longer than it is sure to take
+abbrev pub IsLongInput : UrlPatternMatchInput → Type 0
+IsLongInput (Init init) = long_text ≤ asked_bytes Url (values_view init) init.base_url
+IsLongInput (UrlInput url) = ⊥

@@ -7,6 +7,7 @@
 
 mod constructor_parser;
 mod init;
+pub mod laws;
 mod pattern;
 pub mod quirks;
 pub mod theorem;
@@ -14,6 +15,6 @@ pub mod theorem;
 pub use init::{UrlPatternInit, UrlPatternMatchInput};
 pub use pattern::{UrlPattern, UrlPatternComponentResult, UrlPatternResult};
 pub use urlpattern_core::{
-    Error, RegexSyntax, canonicalize_and_process, component, error, laws, matcher, parser, regexp,
+    Error, RegexSyntax, canonicalize_and_process, component, error, matcher, parser, regexp,
     tokenizer,
 };

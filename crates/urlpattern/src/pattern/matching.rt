@@ -229,11 +229,7 @@ impl<R: RegExp> UrlPattern<R> {
     }
 
     /// What the groups of the components capture, by name.
-    fn groups(
-        &self,
-        alloc: Global,
-        captures: &Eight<Captured<'_>>,
-    ) -> Result<Eight<Groups>, Error>
+    fn groups(&self, alloc: Global, captures: &Eight<Captured<'_>>) -> Result<Eight<Groups>, Error>
         ensures groups { IfOk result (λ groups. (name : Name) →
             AreGroups (pattern_view self.now name).group_name_list (captures_of (at captures.now name)) (at groups name)) }
         ensures memory { IfErr result (λ error. error ≡ errors.OutOfMemory) }
