@@ -10,6 +10,7 @@ mod long_texts;
 mod match_inputs;
 mod matchers;
 mod matches;
+mod meanings;
 mod options;
 mod printed;
 mod refusals;

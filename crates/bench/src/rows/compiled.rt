@@ -86,3 +86,28 @@ fn no_pattern_is_an_asterisk(rt: HostRuntime) -> Result<(), Fail> {
     assert!(rt; component.matcher.accepts(alloc, "any text")?);
     Ok(())
 }
+
+/// Whether a component is compiled as expected and answers so.
+fn is_as_expected<R: RegExp>(alloc: Global) -> Result<bool, Error> {
+    let component: Component<R> = compiled(alloc, Some("/:x*/(b+)"), Options::pathname(alloc)?)?;
+    let captures = component.matcher.matches(alloc, "/a/a/b")?;
+    let expected: &[Option<&str>] = &[Some("a/a"), Some("b")];
+    Ok(
+        component.pattern_string.as_str() == "/:x*/(b+)"
+            && component.group_name_list.len() == 2
+            && component.has_regexp_group
+            && component.regexp.is_ok()
+            && captures.as_ref().map(|captures| captures.as_slice()) == Some(expected),
+    )
+}
+
+/// Holds whichever allocation is refused: `rt try --test --fail-alloc N` refuses one.
+#[test]
+fn a_component_without_memory_gives_no_other_answer(rt: HostRuntime) {
+    for answer in [
+        is_as_expected::<Regex>(rt.alloc()),
+        is_as_expected::<EcmaRegexp>(rt.alloc()),
+    ] {
+        assert!(rt; matches!(&answer, Ok(true) | Err(Error::OutOfMemory)));
+    }
+}

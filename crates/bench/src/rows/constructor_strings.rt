@@ -137,16 +137,16 @@ fn strings_with_a_protocol(rt: HostRuntime) -> Result<(), Fail> {
             ],
         ),
         (
-            "https://user:pw@example.com",
+            "https://user:pw@example.com:8080/a?b#c",
             [
                 Some("https"),
                 Some("user:pw"),
                 None,
                 Some("example.com"),
-                Some(""),
-                None,
-                None,
-                None,
+                Some("8080"),
+                Some("/a"),
+                Some("b"),
+                Some("c"),
             ],
         ),
         (

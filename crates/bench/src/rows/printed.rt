@@ -153,12 +153,14 @@ fn an_empty_text_does_not_part_a_name_from_a_regexp(rt: HostRuntime) -> Result<(
 }
 
 #[test]
-fn a_line_feed_is_printed_and_not_read(rt: HostRuntime) -> Result<(), Fail> {
+fn a_line_feed_or_a_tab_is_printed_and_not_read(rt: HostRuntime) -> Result<(), Fail> {
     let alloc = rt.alloc();
     let options = Options::default(alloc);
-    let parts = expect_printed(&rt, alloc, &options, "\\\na", "\na")?;
-    expect_one_part(&rt, &parts, (PartType::FixedText, "", "\na"));
-    let again = parts_of(alloc, "\na", &options)?;
-    expect_one_part(&rt, &again, (PartType::FixedText, "", "a"));
+    for (pattern, printed) in [("\\\na", "\na"), ("\\\ta", "\ta")] {
+        let parts = expect_printed(&rt, alloc, &options, pattern, printed)?;
+        expect_one_part(&rt, &parts, (PartType::FixedText, "", printed));
+        let again = parts_of(alloc, printed, &options)?;
+        expect_one_part(&rt, &again, (PartType::FixedText, "", "a"));
+    }
     Ok(())
 }
