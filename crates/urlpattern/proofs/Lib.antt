@@ -11,3 +11,4 @@ pub mod MatchSteps
 pub mod Encodings
 pub mod SplitExamples
 pub mod SchemeLemmas
+pub mod CompiledLemmas

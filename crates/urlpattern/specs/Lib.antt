@@ -1,4 +1,5 @@
 pub mod EcmaRegexps
+pub mod Compiled
 pub mod ConstructorString
 pub mod SpecialProtocol
 pub mod Split

@@ -18,3 +18,4 @@ pub use urlpattern_core::{
     Error, RegexSyntax, canonicalize_and_process, component, error, matcher, parser, regexp,
     tokenizer,
 };
+pub use urlpattern_plain::UrlPatternOptions;

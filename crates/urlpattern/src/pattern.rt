@@ -9,6 +9,7 @@ ghost use Rattle.urlpattern.specs.declared.init.processing.Component.TheVariants
 mod eight;
 mod groups;
 mod matching;
+mod parse;
 mod result;
 
 use crate::component::Component;

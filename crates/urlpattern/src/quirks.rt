@@ -1,4 +1,4 @@
-//! Types and calls for browsers: an engine in ECMAScript's syntax, and the texts of a match input.
+//! Types and calls for browsers: an engine in ECMAScript's syntax, plain data, and the texts of a match input.
 
 mod ecma_regexp;
 mod match_input;
@@ -7,3 +7,6 @@ pub use crate::Error;
 pub use crate::component::Component;
 pub use ecma_regexp::EcmaRegexp;
 pub use match_input::{MatchInput, parse_match_input};
+pub use urlpattern_plain::{
+    InnerMatcher, Inputs, Matcher, StringOrInit, UrlPattern, UrlPatternComponent, UrlPatternInit,
+};

@@ -1,0 +1,156 @@
+-- The plain values, without where they lie in memory. Texts are their bytes in UTF-8.
+use Rattle.std.specs.Prelude.{ℕ, Bool, List, [], Option, option_map, map, IfSome, ⊤, string_bytes}
+use Rattle.std.specs.Char.{IsScalar}
+use Rattle.std.specs.Cow.{cow_str_bytes}
+use Rattle.urlpattern_plain.specs.declared.init.UrlPatternInit.{UrlPatternInit}
+use Rattle.urlpattern_plain.specs.declared.input.StringOrInit.{StringOrInit}
+use Rattle.urlpattern_plain.specs.declared.input.StringOrInit.TheVariants as inputs
+use Rattle.urlpattern_plain.specs.declared.match_input.MatchInput.{MatchInput}
+use Rattle.urlpattern_plain.specs.declared.matcher.InnerMatcher.{InnerMatcher}
+use Rattle.urlpattern_plain.specs.declared.matcher.InnerMatcher.TheVariants as matchers
+use Rattle.urlpattern_plain.specs.declared.matcher.Matcher.{Matcher}
+use Rattle.urlpattern_plain.specs.declared.pattern.UrlPattern.{UrlPattern}
+use Rattle.urlpattern_plain.specs.declared.pattern.UrlPatternComponent.{UrlPatternComponent}
+
+-- ---- what is given
+
+pub record InitView : Type 0 where
+  pub protocol : Option (List ℕ)
+  pub username : Option (List ℕ)
+  pub password : Option (List ℕ)
+  pub hostname : Option (List ℕ)
+  pub port : Option (List ℕ)
+  pub pathname : Option (List ℕ)
+  pub search : Option (List ℕ)
+  pub hash : Option (List ℕ)
+  pub base_url : Option (List ℕ)
+
+abbrev pub init_view : UrlPatternInit → InitView
+init_view init = record {
+  protocol = option_map string_bytes init.protocol;
+  username = option_map string_bytes init.username;
+  password = option_map string_bytes init.password;
+  hostname = option_map string_bytes init.hostname;
+  port = option_map string_bytes init.port;
+  pathname = option_map string_bytes init.pathname;
+  search = option_map string_bytes init.search;
+  hash = option_map string_bytes init.hash;
+  base_url = option_map string_bytes init.base_url;
+}
+
+-- one text, or an init
+pub data InputView : Type 0 where
+  text : List ℕ → InputView
+  init : InitView → InputView
+
+abbrev pub input_view : StringOrInit → InputView
+input_view (inputs.String string) = text (cow_str_bytes string)
+input_view (inputs.Init values) = init (init_view values)
+
+-- ---- what is matched
+
+pub record MatchInputView : Type 0 where
+  pub protocol : List ℕ
+  pub username : List ℕ
+  pub password : List ℕ
+  pub hostname : List ℕ
+  pub port : List ℕ
+  pub pathname : List ℕ
+  pub search : List ℕ
+  pub hash : List ℕ
+
+abbrev pub match_input_view : MatchInput → MatchInputView
+match_input_view input = record {
+  protocol = string_bytes input.protocol;
+  username = string_bytes input.username;
+  password = string_bytes input.password;
+  hostname = string_bytes input.hostname;
+  port = string_bytes input.port;
+  pathname = string_bytes input.pathname;
+  search = string_bytes input.search;
+  hash = string_bytes input.hash;
+}
+
+abbrev pub empty_match_input : MatchInputView
+empty_match_input = record { protocol = []; username = []; password = []; hostname = []; port = []; pathname = []; search = []; hash = [] }
+
+-- ---- what a pattern is
+
+pub data InnerView : Type 0 where
+  literal : List ℕ → InnerView
+  single_capture : (filter : Option ℕ) → (allow_empty : Bool) → InnerView
+  regexp : List ℕ → InnerView
+
+abbrev pub inner_view : InnerMatcher → InnerView
+inner_view (matchers.Literal bytes) = literal (string_bytes bytes)
+inner_view (matchers.SingleCapture filter allow_empty) = single_capture filter allow_empty
+inner_view (matchers.RegExp bytes) = regexp (string_bytes bytes)
+
+pub record MatcherView : Type 0 where
+  pub prefix : List ℕ
+  pub suffix : List ℕ
+  pub inner : InnerView
+
+abbrev pub matcher_view : Matcher → MatcherView
+matcher_view matcher = record {
+  prefix = string_bytes matcher.prefix;
+  suffix = string_bytes matcher.suffix;
+  inner = inner_view matcher.inner;
+}
+
+pub record ComponentView : Type 0 where
+  pub pattern_string : List ℕ
+  pub regexp_string : List ℕ
+  pub matcher : MatcherView
+  pub group_name_list : List (List ℕ)
+
+abbrev pub component_view : UrlPatternComponent → ComponentView
+component_view component = record {
+  pattern_string = string_bytes component.pattern_string;
+  regexp_string = string_bytes component.regexp_string;
+  matcher = matcher_view component.matcher;
+  group_name_list = map string_bytes component.group_name_list.items;
+}
+
+pub record PatternView : Type 0 where
+  pub protocol : ComponentView
+  pub username : ComponentView
+  pub password : ComponentView
+  pub hostname : ComponentView
+  pub port : ComponentView
+  pub pathname : ComponentView
+  pub search : ComponentView
+  pub hash : ComponentView
+  pub has_regexp_groups : Bool
+
+abbrev pub pattern_view : UrlPattern → PatternView
+pattern_view pattern = record {
+  protocol = component_view pattern.protocol;
+  username = component_view pattern.username;
+  password = component_view pattern.password;
+  hostname = component_view pattern.hostname;
+  port = component_view pattern.port;
+  pathname = component_view pattern.pathname;
+  search = component_view pattern.search;
+  hash = component_view pattern.hash;
+  has_regexp_groups = pattern.has_regexp_groups;
+}
+
+-- ---- numbers that are characters
+
+-- the filter, if there is one, is a character
+abbrev pub HasFilter : InnerView → Type 0
+HasFilter (literal bytes) = ⊤
+HasFilter (single_capture filter allow_empty) = IfSome filter IsScalar
+HasFilter (regexp bytes) = ⊤
+
+-- each filter is a character
+pub record HasFilters (pattern : PatternView) : Type 0 where
+  pub protocol : HasFilter pattern.protocol.matcher.inner
+  pub username : HasFilter pattern.username.matcher.inner
+  pub password : HasFilter pattern.password.matcher.inner
+  pub hostname : HasFilter pattern.hostname.matcher.inner
+  pub port : HasFilter pattern.port.matcher.inner
+  pub pathname : HasFilter pattern.pathname.matcher.inner
+  pub search : HasFilter pattern.search.matcher.inner
+  pub hash : HasFilter pattern.hash.matcher.inner
