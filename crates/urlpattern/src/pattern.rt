@@ -12,8 +12,8 @@ mod matching;
 mod parse;
 mod result;
 
-use crate::component::Component;
-use crate::regexp::RegExp;
+use urlpattern_core::component::Component;
+use urlpattern_core::regexp::RegExp;
 pub use result::{UrlPatternComponentResult, UrlPatternResult};
 
 /// A pattern that URLs are matched against, compiled component by component.
@@ -104,13 +104,13 @@ impl<R: RegExp> UrlPattern<R> {
     pub fn has_regexp_groups(&self) -> bool
         ensures { result ≡ list_any (λ component. (pattern_view self.now component).has_regexp_group) components }
     {
-        self.protocol.has_regexp_group
-            || self.username.has_regexp_group
-            || self.password.has_regexp_group
-            || self.hostname.has_regexp_group
-            || self.port.has_regexp_group
-            || self.pathname.has_regexp_group
+        self.pathname.has_regexp_group
             || self.search.has_regexp_group
             || self.hash.has_regexp_group
+            || self.hostname.has_regexp_group
+            || self.port.has_regexp_group
+            || self.protocol.has_regexp_group
+            || self.username.has_regexp_group
+            || self.password.has_regexp_group
     }
 }

@@ -33,8 +33,8 @@ use urlpattern_plain::UrlPatternOptions;
 impl<R: RegExp> UrlPattern<R> {
     /// Compiles a pattern from an init: from its own texts, and from what they inherit from its base URL.
     ///
-    /// The error is that of the first component that is refused, or that memory ran out. Components are compiled in the
-    /// order protocol, hostname, pathname, username, password, port, search, hash. A component is refused for its text, by
+    /// The error is that of the first component that is refused, or that memory ran out. The protocol is compiled first, then
+    /// the hostname and the pathname, and then the others as they stand in a URL. A component is refused for its text, by
     /// `url` for a fixed text in it, or by the engine for its regular expression.
     ///
     /// <https://urlpattern.spec.whatwg.org/#url-pattern-create>
