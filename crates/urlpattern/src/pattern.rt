@@ -12,9 +12,10 @@ mod matching;
 mod parse;
 mod result;
 
+pub(crate) use eight::Eight;
+pub use result::{UrlPatternComponentResult, UrlPatternResult};
 use urlpattern_core::component::Component;
 use urlpattern_core::regexp::RegExp;
-pub use result::{UrlPatternComponentResult, UrlPatternResult};
 
 /// A pattern that URLs are matched against, compiled component by component.
 ///
