@@ -1,11 +1,13 @@
 //! Types and calls for browsers: an engine in ECMAScript's syntax, plain data, and the texts of a match input.
 
 mod ecma_regexp;
+mod inputs;
 mod match_input;
 
 pub use crate::Error;
 pub use crate::component::Component;
 pub use ecma_regexp::EcmaRegexp;
+pub use inputs::{process_construct_pattern_input, process_match_input};
 pub use match_input::{MatchInput, parse_match_input};
 pub use urlpattern_plain::{
     InnerMatcher, Inputs, Matcher, StringOrInit, UrlPattern, UrlPatternComponent, UrlPatternInit,
