@@ -6,7 +6,8 @@ mod match_input;
 pub use crate::Error;
 pub use crate::component::Component;
 pub use ecma_regexp::EcmaRegexp;
-pub use match_input::{MatchInput, parse_match_input};
+pub use match_input::parse_match_input;
 pub use urlpattern_plain::{
-    InnerMatcher, Inputs, Matcher, StringOrInit, UrlPattern, UrlPatternComponent, UrlPatternInit,
+    InnerMatcher, Inputs, MatchInput, Matcher, StringOrInit, UrlPattern, UrlPatternComponent,
+    UrlPatternInit,
 };

@@ -40,12 +40,12 @@ init_view init = record {
 
 -- one text, or an init
 pub data InputView : Type 0 where
-  text : List ℕ → InputView
-  init : InitView → InputView
+  of_text : List ℕ → InputView
+  of_init : InitView → InputView
 
 abbrev pub input_view : StringOrInit → InputView
-input_view (inputs.String string) = text (cow_str_bytes string)
-input_view (inputs.Init values) = init (init_view values)
+input_view (inputs.String string) = of_text (cow_str_bytes string)
+input_view (inputs.Init values) = of_init (init_view values)
 
 -- ---- what is matched
 

@@ -1,6 +1,18 @@
 //! What a component is matched with, as plain data.
 
+ghost use Rattle.std.specs.Prelude.{◌≡◌, IfErr, IfOk, option_map};
+ghost use Rattle.serde_json.specs.View.{view};
+ghost use Rattle.urlpattern_plain.specs.Json.{capture_read, inner_read, matcher_read, matcher_tree};
+ghost use Rattle.urlpattern_plain.specs.Steps.{Gives};
+ghost use Rattle.urlpattern_plain.specs.Values.{inner_view, matcher_view};
+ghost use Rattle.urlpattern_syntax.specs.declared.error.Error.TheVariants as errors;
+
+use crate::reading::{Unread, flag_field, optional_character_field, text_field, text_of, told};
+use crate::writing::filter_value;
 use serde::{Deserialize, Serialize};
+use serde_json::{Value, json};
+use std::alloc::{AllocError, Global};
+use urlpattern_syntax::error::Error;
 
 /// What a text is matched with: its prefix, its suffix, and what stands between them.
 #[derive(Debug, Clone, PartialEq, Eq, Drop, Serialize, Deserialize)]
@@ -36,4 +48,104 @@ pub enum InnerMatcher {
         /// The regular expression, empty if an engine refused it.
         regexp: String,
     },
+}
+
+impl Matcher {
+    /// The JSON of the matcher: an object with `prefix`, `suffix` and `kind`, and the keys of its kind.
+    ///
+    /// The error is that memory ran out.
+    pub fn to_json_value(&self, alloc: Global) -> Result<Value, Error>
+        ensures tree { IfOk result (λ tree. view tree ≡ matcher_tree (matcher_view self.now)) }
+        ensures memory { IfErr result (λ error. error ≡ errors.OutOfMemory) }
+    {
+        Ok(self.tree(alloc)?)
+    }
+
+    pub(crate) fn tree(&self, alloc: Global) -> Result<Value, AllocError>
+        ensures { IfOk result (λ tree. view tree ≡ matcher_tree (matcher_view self.now)) }
+    {
+        match &self.inner {
+            InnerMatcher::Literal { literal } => json!(in alloc; {
+                "prefix": &self.prefix,
+                "suffix": &self.suffix,
+                "kind": "literal",
+                "literal": literal
+            }),
+            InnerMatcher::SingleCapture {
+                filter,
+                allow_empty,
+            } => {
+                let filter = filter_value(alloc, *filter)?;
+                let allow_empty = *allow_empty;
+                json!(in alloc; {
+                    "prefix": &self.prefix,
+                    "suffix": &self.suffix,
+                    "kind": "singleCapture",
+                    "filter": filter,
+                    "allowEmpty": allow_empty
+                })
+            }
+            InnerMatcher::RegExp { regexp } => json!(in alloc; {
+                "prefix": &self.prefix,
+                "suffix": &self.suffix,
+                "kind": "regExp",
+                "regexp": regexp
+            }),
+        }
+    }
+
+    /// The matcher that the JSON stands for: an object with `prefix`, `suffix` and `kind`, and the keys of its kind.
+    /// Other keys are passed over. None if it stands for none.
+    ///
+    /// The error is that memory ran out.
+    pub fn from_json_value(alloc: Global, value: &Value) -> Result<Option<Self>, Error>
+        ensures read { IfOk result (λ found. option_map matcher_view found ≡ matcher_read (view value.now)) }
+        ensures memory { IfErr result (λ error. error ≡ errors.OutOfMemory) }
+    {
+        told(Self::read(alloc, value))
+    }
+
+    #[tactic(auto, unfolding(crate::specs::Json::matcher_read))]
+    pub(crate) fn read(alloc: Global, value: &Value) -> Result<Self, Unread>
+        ensures { Gives matcher_view result (matcher_read (view value.now)) }
+    {
+        Ok(Self {
+            prefix: text_field(alloc, value, "prefix")?,
+            suffix: text_field(alloc, value, "suffix")?,
+            inner: InnerMatcher::read(alloc, value)?,
+        })
+    }
+}
+
+impl InnerMatcher {
+    /// By the kind that the object tells.
+    #[tactic(auto, unfolding(crate::specs::Json::inner_read))]
+    fn read(alloc: Global, value: &Value) -> Result<Self, Unread>
+        ensures { Gives inner_view result (inner_read (view value.now)) }
+    {
+        let kind = text_of(value, "kind")?;
+        if kind == "literal" {
+            let literal = text_field(alloc, value, "literal")?;
+            Ok(InnerMatcher::Literal { literal })
+        } else if kind == "singleCapture" {
+            Self::read_capture(value)
+        } else if kind == "regExp" {
+            let regexp = text_field(alloc, value, "regexp")?;
+            Ok(InnerMatcher::RegExp { regexp })
+        } else {
+            Err(Unread::Shape)
+        }
+    }
+
+    #[tactic(auto, unfolding(crate::specs::Json::capture_read))]
+    fn read_capture(value: &Value) -> Result<Self, Unread>
+        ensures { Gives inner_view result (capture_read (view value.now)) }
+    {
+        let filter = optional_character_field(value, "filter")?;
+        let allow_empty = flag_field(value, "allowEmpty")?;
+        Ok(InnerMatcher::SingleCapture {
+            filter,
+            allow_empty,
+        })
+    }
 }
