@@ -9,6 +9,7 @@ mod engines;
 mod long_texts;
 mod match_inputs;
 mod matchers;
+mod matches;
 mod options;
 mod printed;
 mod refusals;

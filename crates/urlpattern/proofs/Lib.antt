@@ -4,6 +4,11 @@ pub mod TextBetween
 pub mod SplitLemmas
 pub mod InheritanceLemmas
 pub mod MatchInputLemmas
+pub mod Each
+pub mod GroupLemmas
+pub mod MatchLaws
+pub mod MatchSteps
 pub mod Encodings
 pub mod SplitExamples
 pub mod SchemeLemmas
+pub mod CompiledLemmas

@@ -1,4 +1,5 @@
 pub mod EcmaRegexps
+pub mod Compiled
 pub mod ConstructorString
 pub mod SpecialProtocol
 pub mod Split
@@ -12,7 +13,10 @@ pub use Rattle.urlpattern_laws.specs.Dialect
 pub use Rattle.urlpattern_syntax.specs.ErrorText
 pub use Rattle.urlpattern_syntax.specs.Errors
 pub mod Inheritance
+pub mod Eight
+pub mod Match
 pub mod MatchInput
+pub mod Patterns
 pub use Rattle.urlpattern_laws.specs.Laws
 pub use Rattle.urlpattern_laws.specs.Matching
 pub use Rattle.urlpattern_laws.specs.PartMeaning

@@ -3,7 +3,7 @@
 //! <https://urlpattern.spec.whatwg.org/#process-a-urlpatterninit>
 mod processing;
 
-pub(crate) use processing::{Component, process, url_text};
+pub(crate) use processing::{Component, given, process, url_text};
 use url::Url;
 
 /// The components of a URL pattern, each with its own pattern, or those of a URL to be matched.

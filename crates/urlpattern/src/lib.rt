@@ -7,11 +7,14 @@
 
 mod constructor_parser;
 mod init;
+pub mod laws;
+mod pattern;
 pub mod quirks;
 
 pub use init::{UrlPatternInit, UrlPatternMatchInput};
+pub use pattern::{UrlPattern, UrlPatternComponentResult, UrlPatternResult};
 pub use urlpattern_core::{
-    Error, RegexSyntax, canonicalize_and_process, component, error, laws, matcher, parser, regexp,
+    Error, RegexSyntax, canonicalize_and_process, component, error, matcher, parser, regexp,
     tokenizer,
 };
 pub use urlpattern_plain::UrlPatternOptions;

@@ -1,7 +1,7 @@
 //! Types and calls for browsers: an engine in ECMAScript's syntax, plain data, and the texts of a match input.
 
 mod ecma_regexp;
-mod match_input;
+pub(crate) mod match_input;
 
 pub use crate::Error;
 pub use crate::component::Component;

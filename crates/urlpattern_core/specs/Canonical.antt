@@ -164,6 +164,11 @@ abbrev pub without_first : ℕ → List ℕ → List ℕ
 without_first mark [] = []
 without_first mark (c ∷ text) = if c == mark then text else c ∷ text
 
+-- of so many bytes, those about which `url` is asked: none for a pattern
+abbrev pub bytes_asked : ProcessType → ℕ → ℕ
+bytes_asked Pattern bytes = 0
+bytes_asked Url bytes = bytes
+
 -- a value stays as it is for a pattern, and is made canonical for a URL
 abbrev pub processed : ProcessType → (List ℕ → Parsed (List ℕ)) → List ℕ → Parsed (List ℕ)
 processed Pattern make_canonical text = Ok text

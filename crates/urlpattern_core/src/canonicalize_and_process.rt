@@ -11,7 +11,7 @@ ghost use Rattle.urlpattern_syntax.specs.Parsing.{MemoryOr};
 ghost use Rattle.urlpattern_syntax.specs.Text.{begins_with, is_among, text_of};
 ghost use Rattle.urlpattern_syntax.specs.declared.error.Error.TheVariants as errors;
 ghost use Rattle.urlpattern_core.specs.Asking.{IsRefusal, IsToldAs};
-ghost use Rattle.urlpattern_core.specs.Canonical.{IsAnswer, Tells, canonical_hash, canonical_hostname, canonical_ipv6_hostname, canonical_opaque_pathname, canonical_password, canonical_pathname, canonical_port, canonical_protocol, canonical_search, canonical_username, default_port, dummy_of_scheme, dummy_url, is_hierarchical, is_hierarchical_under, is_ipv6_character, is_special, opaque_url, path_of, scheme_for_port, without_first, without_guard, without_last, processed_base, processed_hash, processed_hostname, processed_password, processed_pathname, processed_port, processed_protocol, processed_search, processed_username};
+ghost use Rattle.urlpattern_core.specs.Canonical.{IsAnswer, Tells, bytes_asked, canonical_hash, canonical_hostname, canonical_ipv6_hostname, canonical_opaque_pathname, canonical_password, canonical_pathname, canonical_port, canonical_protocol, canonical_search, canonical_username, default_port, dummy_of_scheme, dummy_url, is_hierarchical, is_hierarchical_under, is_ipv6_character, is_special, opaque_url, path_of, scheme_for_port, without_first, without_guard, without_last, processed_base, processed_hash, processed_hostname, processed_password, processed_pathname, processed_port, processed_protocol, processed_search, processed_username};
 
 use crate::error::Error;
 use std::alloc::Global;
@@ -38,7 +38,9 @@ fn refusal(error: ParseError, bytes: usize) -> Error
 }
 
 /// What `url` answers to a question about texts of this many bytes at most.
-fn told<T>(answer: ParseResult<T>, bytes: usize) -> Result<T, Error>
+///
+/// The error is the refusal of `url`, or that memory ran out.
+pub fn told<T>(answer: ParseResult<T>, bytes: usize) -> Result<T, Error>
     ensures { MatchResult answer (λ value. result ≡ Ok value) (λ reason. IsErrAnd result (MemoryOr (IsRefusal reason bytes))) }
 {
     match answer {
@@ -242,7 +244,7 @@ impl Canonicalizer {
     ///
     /// The error is the refusal of `url` for a URL, or that memory ran out.
     pub fn process_protocol(&self, value: &str, kind: &ProcessType) -> Result<String, Error>
-        ensures { IsAnswer (processed_protocol kind.now (chars value.now)) (length value.now) result }
+        ensures { IsAnswer (processed_protocol kind.now (chars value.now)) (bytes_asked kind.now (length value.now)) result }
     {
         let value = without_colon(value);
         match kind {
@@ -255,7 +257,7 @@ impl Canonicalizer {
     ///
     /// The error is the refusal of `url` for a URL, or that memory ran out.
     pub fn process_username(&self, value: &str, kind: &ProcessType) -> Result<String, Error>
-        ensures { IsAnswer (processed_username kind.now (chars value.now)) (length value.now) result }
+        ensures { IsAnswer (processed_username kind.now (chars value.now)) (bytes_asked kind.now (length value.now)) result }
     {
         match kind {
             ProcessType::Pattern => self.kept(value),
@@ -267,7 +269,7 @@ impl Canonicalizer {
     ///
     /// The error is the refusal of `url` for a URL, or that memory ran out.
     pub fn process_password(&self, value: &str, kind: &ProcessType) -> Result<String, Error>
-        ensures { IsAnswer (processed_password kind.now (chars value.now)) (length value.now) result }
+        ensures { IsAnswer (processed_password kind.now (chars value.now)) (bytes_asked kind.now (length value.now)) result }
     {
         match kind {
             ProcessType::Pattern => self.kept(value),
@@ -279,7 +281,7 @@ impl Canonicalizer {
     ///
     /// The error is the refusal of `url` for a URL, or that memory ran out.
     pub fn process_hostname(&self, value: &str, kind: &ProcessType) -> Result<String, Error>
-        ensures { IsAnswer (processed_hostname kind.now (chars value.now)) (length value.now) result }
+        ensures { IsAnswer (processed_hostname kind.now (chars value.now)) (bytes_asked kind.now (length value.now)) result }
     {
         match kind {
             ProcessType::Pattern => self.kept(value),
@@ -297,7 +299,7 @@ impl Canonicalizer {
         kind: &ProcessType,
     ) -> Result<String, Error>
         ensures { IsAnswer (processed_port kind.now (option_map chars (option_copied protocol.entry)) (chars value.now))
-            (max (length value.now) (length (unwrap_or (option_copied protocol.entry) []))) result }
+            (bytes_asked kind.now (max (length value.now) (length (unwrap_or (option_copied protocol.entry) [])))) result }
     {
         match kind {
             ProcessType::Pattern => self.kept(value),
@@ -314,7 +316,7 @@ impl Canonicalizer {
         protocol: Option<&str>,
         kind: &ProcessType,
     ) -> Result<String, Error>
-        ensures { IsAnswer (processed_pathname kind.now (option_map chars (option_copied protocol.entry)) (chars value.now)) (length value.now) result }
+        ensures { IsAnswer (processed_pathname kind.now (option_map chars (option_copied protocol.entry)) (chars value.now)) (bytes_asked kind.now (length value.now)) result }
     {
         match kind {
             ProcessType::Pattern => self.kept(value),
@@ -326,7 +328,7 @@ impl Canonicalizer {
     ///
     /// The error is the refusal of `url` for a URL, or that memory ran out.
     pub fn process_search(&self, value: &str, kind: &ProcessType) -> Result<String, Error>
-        ensures { IsAnswer (processed_search kind.now (chars value.now)) (length value.now) result }
+        ensures { IsAnswer (processed_search kind.now (chars value.now)) (bytes_asked kind.now (length value.now)) result }
     {
         let value = without_first(value, b'?');
         match kind {
@@ -339,7 +341,7 @@ impl Canonicalizer {
     ///
     /// The error is the refusal of `url` for a URL, or that memory ran out.
     pub fn process_hash(&self, value: &str, kind: &ProcessType) -> Result<String, Error>
-        ensures { IsAnswer (processed_hash kind.now (chars value.now)) (length value.now) result }
+        ensures { IsAnswer (processed_hash kind.now (chars value.now)) (bytes_asked kind.now (length value.now)) result }
     {
         let value = without_first(value, b'#');
         match kind {
@@ -606,7 +608,7 @@ pub fn process_protocol_init(
     value: &str,
     kind: &ProcessType,
 ) -> Result<String, Error>
-    ensures { IsAnswer (processed_protocol kind.now (chars value.now)) (length value.now) result }
+    ensures { IsAnswer (processed_protocol kind.now (chars value.now)) (bytes_asked kind.now (length value.now)) result }
 {
     Canonicalizer::new(alloc).process_protocol(value, kind)
 }
@@ -621,7 +623,7 @@ pub fn process_username_init(
     value: &str,
     kind: &ProcessType,
 ) -> Result<String, Error>
-    ensures { IsAnswer (processed_username kind.now (chars value.now)) (length value.now) result }
+    ensures { IsAnswer (processed_username kind.now (chars value.now)) (bytes_asked kind.now (length value.now)) result }
 {
     Canonicalizer::new(alloc).process_username(value, kind)
 }
@@ -636,7 +638,7 @@ pub fn process_password_init(
     value: &str,
     kind: &ProcessType,
 ) -> Result<String, Error>
-    ensures { IsAnswer (processed_password kind.now (chars value.now)) (length value.now) result }
+    ensures { IsAnswer (processed_password kind.now (chars value.now)) (bytes_asked kind.now (length value.now)) result }
 {
     Canonicalizer::new(alloc).process_password(value, kind)
 }
@@ -651,7 +653,7 @@ pub fn process_hostname_init(
     value: &str,
     kind: &ProcessType,
 ) -> Result<String, Error>
-    ensures { IsAnswer (processed_hostname kind.now (chars value.now)) (length value.now) result }
+    ensures { IsAnswer (processed_hostname kind.now (chars value.now)) (bytes_asked kind.now (length value.now)) result }
 {
     Canonicalizer::new(alloc).process_hostname(value, kind)
 }
@@ -668,7 +670,7 @@ pub fn process_port_init(
     kind: &ProcessType,
 ) -> Result<String, Error>
     ensures { IsAnswer (processed_port kind.now (option_map chars (option_copied protocol.entry)) (chars value.now))
-        (max (length value.now) (length (unwrap_or (option_copied protocol.entry) []))) result }
+        (bytes_asked kind.now (max (length value.now) (length (unwrap_or (option_copied protocol.entry) [])))) result }
 {
     Canonicalizer::new(alloc).process_port(value, protocol, kind)
 }
@@ -684,7 +686,7 @@ pub fn process_pathname_init(
     protocol: Option<&str>,
     kind: &ProcessType,
 ) -> Result<String, Error>
-    ensures { IsAnswer (processed_pathname kind.now (option_map chars (option_copied protocol.entry)) (chars value.now)) (length value.now) result }
+    ensures { IsAnswer (processed_pathname kind.now (option_map chars (option_copied protocol.entry)) (chars value.now)) (bytes_asked kind.now (length value.now)) result }
 {
     Canonicalizer::new(alloc).process_pathname(value, protocol, kind)
 }
@@ -695,7 +697,7 @@ pub fn process_pathname_init(
 ///
 /// <https://urlpattern.spec.whatwg.org/#process-search-for-init>
 pub fn process_search_init(alloc: Global, value: &str, kind: &ProcessType) -> Result<String, Error>
-    ensures { IsAnswer (processed_search kind.now (chars value.now)) (length value.now) result }
+    ensures { IsAnswer (processed_search kind.now (chars value.now)) (bytes_asked kind.now (length value.now)) result }
 {
     Canonicalizer::new(alloc).process_search(value, kind)
 }
@@ -706,7 +708,7 @@ pub fn process_search_init(alloc: Global, value: &str, kind: &ProcessType) -> Re
 ///
 /// <https://urlpattern.spec.whatwg.org/#process-hash-for-init>
 pub fn process_hash_init(alloc: Global, value: &str, kind: &ProcessType) -> Result<String, Error>
-    ensures { IsAnswer (processed_hash kind.now (chars value.now)) (length value.now) result }
+    ensures { IsAnswer (processed_hash kind.now (chars value.now)) (bytes_asked kind.now (length value.now)) result }
 {
     Canonicalizer::new(alloc).process_hash(value, kind)
 }

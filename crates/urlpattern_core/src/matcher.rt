@@ -9,8 +9,11 @@ ghost use Rattle.urlpattern_laws.specs.Matching.{Answers, AsksEngine, IsMatched,
 ghost use Rattle.urlpattern_syntax.specs.declared.error.Error.TheVariants as errors;
 ghost use Rattle.urlpattern_syntax.specs.Text.{lacks, text_of};
 
+mod look;
+
 use crate::error::Error;
 use crate::regexp::RegExp;
+pub use look::Look;
 use std::alloc::Global;
 
 /// What a text is matched with: its prefix, its suffix, and what stands between them.

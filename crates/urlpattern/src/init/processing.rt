@@ -81,7 +81,7 @@ pub(crate) fn url_text(url: &Url, component: Component) -> &str
 }
 
 /// What an init has for a component.
-fn given(init: &UrlPatternInit, component: Component) -> &Option<String>
+pub(crate) fn given(init: &UrlPatternInit, component: Component) -> &Option<String>
     ensures { option_map text_of result.now ≡ value_of component (values_view init.now) }
 {
     match component {

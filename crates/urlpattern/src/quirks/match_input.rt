@@ -14,7 +14,7 @@ use urlpattern_core::canonicalize_and_process::ProcessType;
 use urlpattern_plain::MatchInput;
 
 /// The texts of a URL.
-fn of_url(alloc: Global, url: &Url) -> Result<MatchInput, AllocError>
+pub(crate) fn of_url(alloc: Global, url: &Url) -> Result<MatchInput, AllocError>
     ensures { IfOk result (λ texts. texts_view texts ≡ texts_of_url url.now) }
 {
     let copy = |component: Component| -> Result<String, AllocError> {

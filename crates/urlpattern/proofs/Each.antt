@@ -1,0 +1,18 @@
+-- Facts on each component, by the eight of them.
+use Rattle.std.specs.Prelude.{Option, Some, None, IfNone}
+use Rattle.urlpattern.specs.declared.init.processing.Component.{Component}
+use Rattle.urlpattern.specs.declared.init.processing.Component.TheVariants.{Protocol, Username, Password, Hostname, Port, Pathname, Search, Hash}
+
+pub each : (P : Component → Type 0) → P Protocol → P Username → P Password → P Hostname → P Port → P Pathname → P Search → P Hash → (name : Component) → P name
+each P protocol username password hostname port pathname search hash Protocol = protocol
+each P protocol username password hostname port pathname search hash Username = username
+each P protocol username password hostname port pathname search hash Password = password
+each P protocol username password hostname port pathname search hash Hostname = hostname
+each P protocol username password hostname port pathname search hash Port = port
+each P protocol username password hostname port pathname search hash Pathname = pathname
+each P protocol username password hostname port pathname search hash Search = search
+each P protocol username password hostname port pathname search hash Hash = hash
+
+pub if_none : {A : Type 0} (P : Type 0) (x : Option A) → P → IfNone x P
+if_none P None p = p
+if_none P (Some x) p = tt

@@ -1,0 +1,13 @@
+-- What a matcher sees in a text before an engine is asked: what a clause sees of it.
+use Rattle.std.specs.Prelude.{ℕ, List, [], ◌∷◌, Option, Some, None}
+use Rattle.std.specs.Str.{chars}
+use Rattle.urlpattern_core.specs.declared.matcher.look.Look.{Look}
+use Rattle.urlpattern_core.specs.declared.matcher.look.Look.TheVariants as looks
+use Rattle.urlpattern_laws.specs.PartMeaning.{Captures}
+
+-- what it comes to where engines' values answer in this way: captures, or None where the text is not matched
+abbrev pub look_answer : {E : Type 0} → (answer : E → List ℕ → Option Captures) → Option (Look E) → Option Captures
+look_answer answer None = None
+look_answer answer (Some looks.Matched) = Some []
+look_answer answer (Some (looks.Captured text)) = Some (Some (chars text.now) ∷ [])
+look_answer answer (Some (looks.Asks engine middle)) = answer engine.now (chars middle.now)

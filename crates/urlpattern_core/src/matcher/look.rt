@@ -1,0 +1,58 @@
+//! What a matcher sees in a text before an engine is asked.
+
+ghost use Rattle.std.specs.Str.{chars};
+ghost use Rattle.urlpattern_core.specs.Looks.{look_answer};
+ghost use Rattle.urlpattern_core.specs.Matchers.{matcher_view};
+ghost use Rattle.urlpattern_laws.specs.Matching.{Answers};
+
+use super::{InnerMatcher, Matcher};
+use crate::regexp::RegExp;
+
+/// What a matcher sees in a text before an engine is asked.
+#[derive(Drop)]
+pub enum Look<'a, R> {
+    /// The text is matched, and there are no groups.
+    Matched,
+    /// The text is matched, and the one group captures this.
+    Captured(&'a str),
+    /// The text is matched if an engine matches what stands between prefix and suffix.
+    Asks {
+        /// The value of the engine.
+        engine: &'a R,
+        /// What stands between prefix and suffix.
+        middle: &'a str,
+    },
+}
+
+impl<R: RegExp> Matcher<R> {
+    /// What is seen in a text, without memory. None is asked for and no engine is asked; None means that the text is not
+    /// matched.
+    pub fn look<'a>(&'a self, input: &'a str) -> Option<Look<'a, R>>
+        ensures { Answers R.answer (matcher_view self.now) (chars input.now) (look_answer R.answer result) }
+    {
+        let middle = self.middle(input)?;
+        match &self.inner {
+            InnerMatcher::Literal { literal } => {
+                if self.is_same(middle, literal) {
+                    Some(Look::Matched)
+                } else {
+                    None
+                }
+            }
+            InnerMatcher::SingleCapture {
+                filter,
+                allow_empty,
+            } => {
+                if self.is_captured(middle, *filter, *allow_empty) {
+                    Some(Look::Captured(middle))
+                } else {
+                    None
+                }
+            }
+            InnerMatcher::RegExp { regexp } => match regexp {
+                Ok(engine) => Some(Look::Asks { engine, middle }),
+                Err(_) => None,
+            },
+        }
+    }
+}
