@@ -2,11 +2,13 @@
 
 mod ecma_regexp;
 pub(crate) mod match_input;
+mod parsing;
 
 pub use crate::Error;
 pub use crate::component::Component;
 pub use ecma_regexp::EcmaRegexp;
 pub use match_input::parse_match_input;
+pub use parsing::{parse_pattern, parse_pattern_as_lib};
 pub use urlpattern_plain::{
     InnerMatcher, Inputs, MatchInput, Matcher, StringOrInit, UrlPattern, UrlPatternComponent,
     UrlPatternInit,

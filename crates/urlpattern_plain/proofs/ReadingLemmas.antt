@@ -1,11 +1,11 @@
 -- Reading item by item.
-use Rattle.std.proofs.Common.{◌≡◌, ℕ, suc, Bool, true, false, is_some, codes, ◌+◌, ◌<◌, ◌≤◌, List, [], ◌∷◌, ◌++◌, length, get_or, drop, Option, None, Some, Result, Ok, Err, refl, sym, ap, ◌∙◌, append_assoc, add-one, drop-cons, arith, option_map}
+use Rattle.std.proofs.Common.{◌≡◌, ℕ, suc, true, is_some, codes, ◌+◌, ◌<◌, List, [], ◌∷◌, ◌++◌, length, get_or, drop, Option, None, Some, refl, sym, ap, ◌∙◌, append_assoc, add-one, drop-cons, option_map}
 use Rattle.std.proofs.lemmas.Bool.{false≢true}
 use Rattle.std.proofs.lemmas.List.{append-nil, nil_from_length}
 use Rattle.std.proofs.lemmas.Str.{IsUtf8-past_char, chars-nil, chars_past_char}
 use Rattle.std.specs.Char.{encode_utf8}
 use Rattle.std.specs.Str.{IsUtf8, chars}
-use Rattle.serde_json.specs.Data.{Data, null, boolean, number, string, array, object, Items, no_items, item, Members}
+use Rattle.serde_json.specs.Data.{Data, null, boolean, number, string, array, object, Items, item, Members}
 use Rattle.serde_json.specs.Find.{as_object, as_str}
 use Rattle.serde_json.specs.View.{items_view, view}
 use Rattle.serde_json.specs.declared.value.Value.{Value}

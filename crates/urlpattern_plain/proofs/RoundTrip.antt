@@ -1,13 +1,12 @@
 -- Reading undoes writing.
 use Rattle.std.proofs.Common.{◌≡◌, ℕ, Bool, List, [], ◌∷◌, Option, None, Some, refl, ap, ◌∙◌, codes, map, option_map}
 use Rattle.std.specs.Prelude.{IfSome}
-use Rattle.std.specs.Char.{IsScalar, encode_utf8}
-use Rattle.std.specs.Str.{chars}
-use Rattle.serde_json.specs.Data.{Data, Members, boolean, no_members, string}
-use Rattle.serde_json.specs.Find.{as_bool, as_object, as_str, get}
+use Rattle.std.specs.Char.{IsScalar}
+use Rattle.serde_json.specs.Data.{Data, no_members, string}
+use Rattle.serde_json.specs.Find.{as_str}
 use Rattle.serde_json.specs.View.{items_of}
 use Rattle.urlpattern_plain.specs.declared.options.UrlPatternOptions.{UrlPatternOptions}
-use Rattle.urlpattern_plain.specs.Json.{◌>>=◌, capture_read, character_read, component_read, component_tree, filter_tree, flag_read, found_read, init_read, init_tree, inner_members, inner_read, input_read, input_tree, match_input_read, match_input_tree, matcher_read, matcher_tree, member_read, object_of, only, optional_read, options_read, options_tree, pattern_read, pattern_tree, text_read, texts_of_items, texts_read}
+use Rattle.urlpattern_plain.specs.Json.{capture_read, character_read, component_read, component_tree, filter_tree, flag_read, found_read, init_read, init_tree, inner_read, input_read, input_tree, match_input_read, match_input_tree, matcher_read, matcher_tree, member_read, only, optional_read, options_read, options_tree, pattern_read, pattern_tree, text_read, texts_of_items, texts_read}
 use Rattle.urlpattern_plain.specs.Values.{ComponentView, HasFilter, HasFilters, InitView, InnerView, InputView, MatchInputView, MatcherView, PatternView, literal, of_init, of_text, regexp, single_capture}
 use Rattle.urlpattern_plain.proofs.ReadingLemmas.{init_from}
 use Rattle.urlpattern_plain.proofs.TreeLemmas.{get_member-all_with, last_of, newer, newer-none, optional_string}

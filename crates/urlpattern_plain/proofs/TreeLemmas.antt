@@ -2,7 +2,7 @@
 use Rattle.std.proofs.Common.{◌≡◌, ℕ, Bool, true, false, cond, true≢false, List, [], ◌∷◌, Option, None, Some, bytes_eq, refl, sym, ap, ◌∙◌, option_map}
 use Rattle.std.proofs.lemmas.Slice.Eq.{bytes_eq-Decides}
 use Rattle.serde_json.proofs.Views.{get_member-put, get_member-put_other}
-use Rattle.serde_json.specs.Data.{Data, Members, no_members, put, string}
+use Rattle.serde_json.specs.Data.{Data, Members, put, string}
 use Rattle.serde_json.specs.Find.{as_str, get_member}
 use Rattle.urlpattern_plain.specs.Json.{all_with, found_read, with}
 

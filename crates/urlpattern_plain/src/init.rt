@@ -13,7 +13,7 @@ use crate::writing::put_optional;
 use serde::{Deserialize, Serialize};
 use serde_json::{Map, Value};
 use std::alloc::{AllocError, Global};
-use urlpattern_syntax::error::Error;
+use urlpattern_core::Error;
 
 /// The patterns of a URL's components, or its texts, and the text of a base URL. What is not given is None.
 ///

@@ -12,7 +12,7 @@ use crate::reading::{Unread, told};
 use serde_json::Value;
 use std::alloc::Global;
 use std::borrow::CowStr;
-use urlpattern_syntax::error::Error;
+use urlpattern_core::Error;
 
 /// What a pattern, or what is matched against one, is given as.
 ///

@@ -10,7 +10,7 @@ use crate::reading::{Unread, text_field, told};
 use serde::{Deserialize, Serialize};
 use serde_json::{Value, json};
 use std::alloc::{AllocError, Global};
-use urlpattern_syntax::error::Error;
+use urlpattern_core::Error;
 
 /// The texts of the components that a pattern is matched against.
 #[derive(Debug, Clone, PartialEq, Eq, Drop, Serialize, Deserialize)]

@@ -3,16 +3,20 @@
 ghost use Rattle.std.specs.Prelude.{◌≡◌, IfErr, IfOk, option_map};
 ghost use Rattle.serde_json.specs.View.{view};
 ghost use Rattle.urlpattern_plain.specs.Json.{capture_read, inner_read, matcher_read, matcher_tree};
+ghost use Rattle.urlpattern_core.specs.Matchers as compiled;
+ghost use Rattle.urlpattern_plain.specs.Plain.{engine_text, plain_inner, plain_matcher};
 ghost use Rattle.urlpattern_plain.specs.Steps.{Gives};
-ghost use Rattle.urlpattern_plain.specs.Values.{inner_view, matcher_view};
+ghost use Rattle.urlpattern_plain.specs.Values.{inner_by, inner_view, matcher_by, matcher_view};
 ghost use Rattle.urlpattern_syntax.specs.declared.error.Error.TheVariants as errors;
+ghost use Rattle.urlpattern_syntax.specs.Text.{text_of};
 
 use crate::reading::{Unread, flag_field, optional_character_field, text_field, text_of, told};
 use crate::writing::filter_value;
 use serde::{Deserialize, Serialize};
 use serde_json::{Value, json};
 use std::alloc::{AllocError, Global};
-use urlpattern_syntax::error::Error;
+use urlpattern_core::regexp::RegExp;
+use urlpattern_core::{Error, matcher};
 
 /// What a text is matched with: its prefix, its suffix, and what stands between them.
 #[derive(Debug, Clone, PartialEq, Eq, Drop, Serialize, Deserialize)]
@@ -51,6 +55,24 @@ pub enum InnerMatcher {
 }
 
 impl Matcher {
+    /// The plain value of a matcher.
+    ///
+    /// The error is that memory ran out.
+    pub fn from_matcher<R: RegExp>(
+        alloc: Global,
+        matcher: matcher::Matcher<R>,
+    ) -> Result<Self, Error>
+        ensures plain { IfOk result (λ plain. matcher_by text_of plain ≡ plain_matcher R.text_made_of (compiled.matcher_view matcher)) }
+        ensures memory { IfErr result (λ error. error ≡ errors.OutOfMemory) }
+    {
+        let inner = InnerMatcher::from_inner(alloc, matcher.inner)?;
+        Ok(Self {
+            prefix: matcher.prefix,
+            suffix: matcher.suffix,
+            inner,
+        })
+    }
+
     /// The JSON of the matcher: an object with `prefix`, `suffix` and `kind`, and the keys of its kind.
     ///
     /// The error is that memory ran out.
@@ -118,6 +140,33 @@ impl Matcher {
 }
 
 impl InnerMatcher {
+    /// The plain value of what stands between prefix and suffix: an engine's value becomes its text, and the empty text
+    /// stands where an error is kept.
+    ///
+    /// The error is that memory ran out.
+    pub fn from_inner<R: RegExp>(
+        alloc: Global,
+        inner: matcher::InnerMatcher<R>,
+    ) -> Result<Self, Error>
+        ensures plain { IfOk result (λ plain. inner_by text_of plain ≡ plain_inner R.text_made_of (compiled.inner_view inner)) }
+        ensures memory { IfErr result (λ error. error ≡ errors.OutOfMemory) }
+    {
+        match inner {
+            matcher::InnerMatcher::Literal { literal } => Ok(InnerMatcher::Literal { literal }),
+            matcher::InnerMatcher::SingleCapture {
+                filter,
+                allow_empty,
+            } => Ok(InnerMatcher::SingleCapture {
+                filter,
+                allow_empty,
+            }),
+            matcher::InnerMatcher::RegExp { regexp } => {
+                let regexp = engine_text(alloc, &regexp)?;
+                Ok(InnerMatcher::RegExp { regexp })
+            }
+        }
+    }
+
     /// By the kind that the object tells.
     #[tactic(auto, unfolding(crate::specs::Json::inner_read))]
     fn read(alloc: Global, value: &Value) -> Result<Self, Unread>
@@ -147,5 +196,19 @@ impl InnerMatcher {
             filter,
             allow_empty,
         })
+    }
+}
+
+/// The text that an engine's value was made of, or the empty text where an error is kept.
+pub(crate) fn engine_text<R: RegExp>(
+    alloc: Global,
+    engine: &Result<R, Error>,
+) -> Result<String, Error>
+    ensures text { IfOk result (λ text. text_of text ≡ engine_text R.text_made_of (compiled.engine_view engine.now)) }
+    ensures memory { IfErr result (λ error. error ≡ errors.OutOfMemory) }
+{
+    match engine {
+        Ok(engine) => Ok(String::from_str(alloc, engine.pattern_string())?),
+        Err(_) => Ok(String::new(alloc)),
     }
 }

@@ -11,8 +11,7 @@ use crate::reading::{Unread, flag_field, told};
 use serde::{Deserialize, Serialize};
 use serde_json::{Value, json};
 use std::alloc::Global;
-use urlpattern_syntax::error::Error;
-use urlpattern_syntax::parser::RegexSyntax;
+use urlpattern_core::{Error, RegexSyntax};
 
 /// How a whole pattern is built. The default is the syntax of Rust's `regex`, with case kept.
 ///

@@ -3,17 +3,22 @@
 ghost use Rattle.std.specs.Prelude.{◌≡◌, IfErr, IfOk, option_map};
 ghost use Rattle.serde_json.specs.View.{view};
 ghost use Rattle.urlpattern_plain.specs.Json.{component_read, component_tree, matcher_read, member_read, pattern_read, pattern_tree};
+ghost use Rattle.urlpattern_core.specs.Compiling as compiled;
+ghost use Rattle.urlpattern_plain.specs.Plain.{plain_component};
 ghost use Rattle.urlpattern_plain.specs.Steps.{Gives};
-ghost use Rattle.urlpattern_plain.specs.Values.{component_view, matcher_view, pattern_view};
+ghost use Rattle.urlpattern_plain.specs.Values.{component_by, component_view, matcher_view, pattern_view};
 ghost use Rattle.urlpattern_syntax.specs.declared.error.Error.TheVariants as errors;
+ghost use Rattle.urlpattern_syntax.specs.Text.{text_of};
 
-use crate::matcher::Matcher;
+use crate::matcher::{Matcher, engine_text};
 use crate::reading::{Unread, flag_field, member, text_field, texts_field, told};
 use crate::writing::texts_value;
 use serde::{Deserialize, Serialize};
 use serde_json::{Value, json};
 use std::alloc::{AllocError, Global};
-use urlpattern_syntax::error::Error;
+use urlpattern_core::Error;
+use urlpattern_core::component::Component;
+use urlpattern_core::regexp::RegExp;
 
 /// A pattern for each of a URL's components.
 #[derive(Debug, Clone, PartialEq, Eq, Drop, Serialize, Deserialize)]
@@ -119,6 +124,24 @@ impl UrlPattern {
 }
 
 impl UrlPatternComponent {
+    /// The plain value of a component: an engine's value becomes its text, and the empty text stands where an error is
+    /// kept.
+    ///
+    /// The error is that memory ran out.
+    pub fn from_component<R: RegExp>(alloc: Global, component: Component<R>) -> Result<Self, Error>
+        ensures plain { IfOk result (λ plain. component_by text_of plain ≡ plain_component R.text_made_of (compiled.component_view component)) }
+        ensures memory { IfErr result (λ error. error ≡ errors.OutOfMemory) }
+    {
+        let regexp_string = engine_text(alloc, &component.regexp)?;
+        let matcher = Matcher::from_matcher(alloc, component.matcher)?;
+        Ok(Self {
+            pattern_string: component.pattern_string,
+            regexp_string,
+            matcher,
+            group_name_list: component.group_name_list,
+        })
+    }
+
     /// The JSON of the component: an object with `patternString`, `regexpString`, `matcher` and `groupNameList`.
     ///
     /// The error is that memory ran out.

@@ -9,7 +9,7 @@ ghost use Rattle.urlpattern_plain.specs.declared.reading.Unread.TheVariants as u
 
 use serde_json::Value;
 use std::alloc::{AllocError, AllocFailed, Global};
-use urlpattern_syntax::error::Error;
+use urlpattern_core::Error;
 
 /// Why no value was read.
 #[derive(Drop)]
