@@ -1,0 +1,3 @@
+pub mod TreeLemmas
+pub mod ReadingLemmas
+pub mod RoundTrip
