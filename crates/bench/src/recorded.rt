@@ -119,7 +119,10 @@ pub fn list<'a>(object: &'a Value, name: &str) -> Result<&'a [Value], Fault> {
 
 /// The character of a field, or None where it is missing or null.
 pub fn character(object: &Value, name: &str) -> Option<char> {
-    optional_text(object, name).and_then(|text| text.chars().next())
+    match optional_text(object, name) {
+        Some(text) => text.chars().next(),
+        None => None,
+    }
 }
 
 /// Whether a field is there and true.
@@ -134,14 +137,15 @@ pub fn has_text(object: &Value, name: &str, text: &str) -> bool {
 
 /// Whether a field is a list of these texts.
 pub fn has_texts(object: &Value, name: &str, texts: &[String]) -> bool {
-    match list(object, name) {
-        Ok(recorded) => {
-            recorded.len() == texts.len()
-                && recorded.iter().zip(texts).all(|(recorded, text)| recorded.as_str()
-                    == Some(text.as_str()))
+    let Ok(recorded) = list(object, name) else {
+        return false;
+    };
+    for (recorded, text) in recorded.iter().zip(texts) {
+        if recorded.as_str() != Some(text.as_str()) {
+            return false;
         }
-        Err(_) => false,
     }
+    recorded.len() == texts.len()
 }
 
 /// The options that a question names.

@@ -120,7 +120,7 @@ impl Report {
 
     /// Whether each line holds a case, and none differs.
     fn is_same(&self) -> bool {
-        let tallies = [
+        for tally in [
             &self.tokenize,
             &self.component,
             &self.compile,
@@ -131,8 +131,12 @@ impl Report {
             &self.process,
             &self.match_input,
             &self.constructor,
-        ];
-        tallies.iter().all(|tally| tally.differing == 0) && self.unreadable == 0
+        ] {
+            if tally.differing != 0 {
+                return false;
+            }
+        }
+        self.unreadable == 0
     }
 }
 

@@ -10,6 +10,7 @@ use std::alloc::Global;
 use urlpattern::Error;
 use urlpattern::component::Component;
 use urlpattern::matcher::InnerMatcher;
+use urlpattern::parser::Options;
 use urlpattern::quirks::EcmaRegexp;
 use urlpattern::regexp::RegExp;
 
@@ -29,19 +30,23 @@ fn is_same_over<R: RegExp>(
     answer: Answer<'_>,
 ) -> Result<bool, Fault> {
     let options = options_of(alloc, question)?;
-    let pattern = text(question, "pattern")?;
-    let unchanged = |text: &str| -> Result<String, Error> { Ok(String::from_str(alloc, text)?) };
-    let found: Result<Component<R>, Error> = Component::compile(
-        alloc,
-        Some(pattern),
-        unchanged,
-        options,
-    );
+    let pattern = Some(text(question, "pattern")?);
+    let found: Result<Component<R>, Error> = component_of(alloc, pattern, options);
     Ok(match (found, answer) {
         (Ok(component), Answer::Ok(recorded)) => is_component(&component, recorded),
         (Err(error), Answer::Err(text)) => prints(alloc, &error, text)?,
         _ => false,
     })
+}
+
+/// The component of a pattern, or of none, whose texts stay as they are.
+pub fn component_of<R: RegExp>(
+    alloc: Global,
+    pattern: Option<&str>,
+    options: Options,
+) -> Result<Component<R>, Error> {
+    let unchanged = |text: &str| -> Result<String, Error> { Ok(String::from_str(alloc, text)?) };
+    Component::compile(alloc, pattern, unchanged, options)
 }
 
 /// Whether a component is the recorded one.

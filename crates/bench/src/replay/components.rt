@@ -16,7 +16,7 @@ use urlpattern::parser::{Options, Part, PartModifier, PartType, parse_pattern_st
 
 /// What becomes of each text of a pattern.
 #[derive(Clone, Copy, Drop)]
-enum Callback {
+pub enum Callback {
     /// It stays.
     Keep,
     /// It becomes empty.
@@ -59,8 +59,7 @@ impl Callback {
 pub fn is_same(alloc: Global, question: &Value, answer: Answer<'_>) -> Result<bool, Fault> {
     let options = options_of(alloc, question)?;
     let callback = Callback::of(question)?;
-    let encode = |text: &str| -> Result<String, Error> { callback.encode(alloc, text) };
-    let found = parse_pattern_string(alloc, text(question, "pattern")?, &options, encode);
+    let found = parts_of(alloc, text(question, "pattern")?, &options, callback);
     Ok(match (found, answer) {
         (Ok(parts), Answer::Ok(recorded)) => {
             matches!(is_component(alloc, &parts, &options, recorded), Ok(true))
@@ -68,6 +67,17 @@ pub fn is_same(alloc: Global, question: &Value, answer: Answer<'_>) -> Result<bo
         (Err(error), Answer::Err(text)) => prints(alloc, &error, text)?,
         _ => false,
     })
+}
+
+/// The parts of a pattern.
+pub fn parts_of(
+    alloc: Global,
+    pattern: &str,
+    options: &Options,
+    callback: Callback,
+) -> Result<Vec<Part>, Error> {
+    let encode = |text: &str| -> Result<String, Error> { callback.encode(alloc, text) };
+    parse_pattern_string(alloc, pattern, options, encode)
 }
 
 /// Whether parts, and what is made of them, are the recorded ones.
@@ -91,16 +101,15 @@ fn is_component(
 
 /// Whether the parts are the recorded ones.
 fn are_parts(parts: &[Part], recorded: &Value) -> bool {
-    match list(recorded, "parts") {
-        Ok(recorded) => {
-            parts.len() == recorded.len()
-                && parts
-                    .iter()
-                    .zip(recorded)
-                    .all(|(part, recorded)| is_part(part, recorded))
+    let Ok(recorded) = list(recorded, "parts") else {
+        return false;
+    };
+    for (part, recorded) in parts.iter().zip(recorded) {
+        if !is_part(part, recorded) {
+            return false;
         }
-        Err(_) => false,
     }
+    parts.len() == recorded.len()
 }
 
 /// Whether a part has the recorded fields.

@@ -64,11 +64,12 @@ fn are_answers<R: RegExp>(alloc: Global, engine: &R, inputs: &[Value], recorded:
 pub fn are_captures(found: &Option<Vec<Option<&str>>>, recorded: &Value) -> bool {
     match (found, recorded) {
         (Some(found), Value::Array(recorded)) => {
+            for (text, expected) in found.iter().zip(recorded) {
+                if *text != expected.as_str() {
+                    return false;
+                }
+            }
             found.len() == recorded.len()
-                && found
-                    .iter()
-                    .zip(recorded)
-                    .all(|(text, expected)| *text == expected.as_str())
         }
         (None, Value::Null) => true,
         _ => false,

@@ -1,5 +1,6 @@
 //! Asks matchers what they were asked when a case was recorded.
 
+use super::components::{Callback, parts_of};
 use super::engines::are_captures;
 use super::prints;
 use crate::engines::KeptText;
@@ -11,7 +12,7 @@ use serde_json::Value;
 use std::alloc::Global;
 use urlpattern::component::generate_matcher;
 use urlpattern::matcher::{InnerMatcher, Matcher};
-use urlpattern::parser::{Options, parse_pattern_string};
+use urlpattern::parser::Options;
 use urlpattern::quirks::EcmaRegexp;
 use urlpattern::regexp::RegExp;
 use urlpattern::{Error, RegexSyntax};
@@ -52,8 +53,7 @@ fn matcher_of<R: RegExp>(
     pattern: &str,
     options: &Options,
 ) -> Result<Matcher<R>, Error> {
-    let unchanged = |text: &str| -> Result<String, Error> { Ok(String::from_str(alloc, text)?) };
-    let parts = parse_pattern_string(alloc, pattern, options, unchanged)?;
+    let parts = parts_of(alloc, pattern, options, Callback::Keep)?;
     let flags = if options.ignore_case { "ui" } else { "u" };
     generate_matcher(alloc, &parts, options, flags)
 }

@@ -24,16 +24,15 @@ pub fn is_same(alloc: Global, question: &Value, answer: Answer<'_>) -> Result<bo
 
 /// Whether the tokens are the recorded ones.
 fn are_tokens(tokens: &[Token<'_>], recorded: &Value) -> bool {
-    match recorded.as_array() {
-        Some(recorded) => {
-            tokens.len() == recorded.len()
-                && tokens
-                    .iter()
-                    .zip(recorded)
-                    .all(|(token, recorded)| is_token(token, recorded))
+    let Value::Array(recorded) = recorded else {
+        return false;
+    };
+    for (token, recorded) in tokens.iter().zip(recorded) {
+        if !is_token(token, recorded) {
+            return false;
         }
-        None => false,
     }
+    tokens.len() == recorded.len()
 }
 
 /// Whether a token has the recorded kind, place and value.

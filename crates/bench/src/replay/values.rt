@@ -1,7 +1,7 @@
 //! Replays what was asked of values: canonical ones, those of an init, and the texts of a match input.
 
 use super::prints;
-use crate::recorded::{Answer, Fault, has_text, optional_text, options_of, text};
+use crate::recorded::{Answer, Fault, field, has_text, optional_text, options_of, text};
 use serde_json::Value;
 use std::alloc::{AllocError, Global};
 use url::{ParseError, Url};
@@ -118,14 +118,18 @@ fn match_input(
     question: &Value,
 ) -> Result<Result<Option<MatchInput>, Error>, Fault> {
     let base = optional_text(question, "base");
-    let input = match (optional_text(question, "string"), question.get("init")) {
-        (Some(text), _) => joined(alloc, text, base)?.map(UrlPatternMatchInput::Url),
-        (None, Some(_)) if base.is_some() => return Ok(Err(Error::BaseUrlWithInit)),
-        (None, Some(init)) => parsed_init(alloc, init)?.map(UrlPatternMatchInput::Init),
-        (None, None) => return Err(Fault::NoCase),
-    };
-    Ok(match input {
-        Some(input) => parse_match_input(alloc, input),
+    if let Some(text) = optional_text(question, "string") {
+        return Ok(match joined(alloc, text, base)? {
+            Some(url) => parse_match_input(alloc, UrlPatternMatchInput::Url(url)),
+            None => Ok(None),
+        });
+    }
+    let init = field(question, "init")?;
+    if base.is_some() {
+        return Ok(Err(Error::BaseUrlWithInit));
+    }
+    Ok(match parsed_init(alloc, init)? {
+        Some(init) => parse_match_input(alloc, UrlPatternMatchInput::Init(init)),
         None => Ok(None),
     })
 }

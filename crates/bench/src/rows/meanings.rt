@@ -45,14 +45,8 @@ fn repeated_wildcards_are_one_capture(rt: HostRuntime) -> Result<(), Fail> {
         expect_capture(&rt, alloc, &default, row)?;
     }
     let pathname = Options::pathname(alloc)?;
-    let rows: [Row<'_>; 3] = [
-        ("/:x*", "/a/b", Some("a/b")),
-        ("/:x*", "", None),
-        ("{a/:x/b}+", "a/1/ba/2/b", Some("1/ba/2")),
-    ];
-    for row in rows {
-        expect_capture(&rt, alloc, &pathname, row)?;
-    }
+    let row = ("{a/:x/b}+", "a/1/ba/2/b", Some("1/ba/2"));
+    expect_capture(&rt, alloc, &pathname, row)?;
     Ok(())
 }
 
