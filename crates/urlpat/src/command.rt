@@ -31,7 +31,7 @@ const MATCH_USAGE: &str = "       urlpat match PATTERN BASE INPUT\n";
 
 /// An answer: what is printed, and the status to end with.
 #[derive(Drop)]
-struct Answer {
+struct Printed {
     text: String,
     status: u8,
 }
@@ -92,18 +92,18 @@ fn tell<Err: Write>(failure: &Failure, err: &mut Err) -> io::Result<()>
 }
 
 /// What the words ask for.
-fn answer(alloc: Global, words: &[String]) -> Result<Answer, Failure>
+fn answer(alloc: Global, words: &[String]) -> Result<Printed, Failure>
     ensures { IfOk result (λ answer. (answer.status ≡ DONE) ⊎ (answer.status ≡ NO_MATCH)) }
 {
     match words {
-        [command, kind, pattern] if command.as_str() == "component" => Ok(Answer {
+        [command, kind, pattern] if command.as_str() == "component" => Ok(Printed {
             text: component(alloc, kind, pattern)?,
             status: DONE,
         }),
         [command, pattern, base, input] if command.as_str() == "match" => {
             match matched_groups(alloc, pattern, base, input)? {
-                Some(text) => Ok(Answer { text, status: DONE }),
-                None => Ok(Answer {
+                Some(text) => Ok(Printed { text, status: DONE }),
+                None => Ok(Printed {
                     text: String::from_str(alloc, "no match\n")?,
                     status: NO_MATCH,
                 }),

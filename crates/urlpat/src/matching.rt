@@ -28,23 +28,23 @@ pub fn matched_groups(
     let Some((input, _)) = process_match_input(alloc, input, base)? else {
         return Ok(None);
     };
-    let Some(result) = pattern.exec(alloc, input)? else {
+    let Some(found) = pattern.exec(alloc, input)? else {
         return Ok(None);
     };
-    Ok(Some(groups_report(alloc, &result)?))
+    Ok(Some(groups_report(alloc, &found)?))
 }
 
 /// A line for each group of a match.
-fn groups_report(alloc: Global, result: &UrlPatternResult) -> Result<String, AllocError> {
+fn groups_report(alloc: Global, found: &UrlPatternResult) -> Result<String, AllocError> {
     let components = [
-        ("protocol", &result.protocol),
-        ("username", &result.username),
-        ("password", &result.password),
-        ("hostname", &result.hostname),
-        ("port", &result.port),
-        ("pathname", &result.pathname),
-        ("search", &result.search),
-        ("hash", &result.hash),
+        ("protocol", &found.protocol),
+        ("username", &found.username),
+        ("password", &found.password),
+        ("hostname", &found.hostname),
+        ("port", &found.port),
+        ("pathname", &found.pathname),
+        ("search", &found.search),
+        ("hash", &found.hash),
     ];
     let mut text = String::new(alloc);
     for (name, component) in components {
@@ -58,9 +58,9 @@ fn push_groups(
     alloc: Global,
     text: &mut String,
     component: &str,
-    result: &UrlPatternComponentResult,
+    found: &UrlPatternComponentResult,
 ) -> Result<(), AllocError> {
-    let mut groups = result.groups.iter().collect::<Vec<(&String, &Option<String>)>>(alloc)?;
+    let mut groups = found.groups.iter().collect::<Vec<(&String, &Option<String>)>>(alloc)?;
     groups.sort_unstable_by(|(name, _), (other, _)| name.cmp(other));
     for (name, capture) in groups {
         push_group(text, component, name, capture.as_deref())?;
