@@ -12,6 +12,7 @@ mod matchers;
 mod matches;
 mod meanings;
 mod options;
+mod patterns;
 mod printed;
 mod refusals;
 mod tokens;

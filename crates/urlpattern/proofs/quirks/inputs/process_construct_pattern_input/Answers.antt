@@ -1,7 +1,18 @@
+use Rattle.std.proofs.Common.{List, ℕ, subst}
+use Rattle.std.specs.Prelude.{IfErr, IfOk, option_copied}
+use Rattle.std.specs.Str.{chars}
+use Rattle.urlpattern.specs.Inputs.{IsInitOfString, RefusesText}
+use Rattle.urlpattern_syntax.specs.Parsing.{MemoryOr}
 use Rattle.urlpattern.proofs.quirks.inputs.process_construct_pattern_input.Goals as goal
 
-pub returns-in-String-clause-refused : goal.returns-in-String-clause-refused
-returns-in-String-clause-refused c = rw (c.in-String.is, ← c.as_str.ensures.value) c.construct_from_string.ensures.refused
-
 pub returns-in-String-clause-constructed : goal.returns-in-String-clause-constructed
-returns-in-String-clause-constructed c = rw (c.in-String.is, ← c.as_str.ensures.value) c.construct_from_string.ensures.constructed
+returns-in-String-clause-constructed c =
+    rw c.in-String.is
+    (subst (λ (bytes : List ℕ). IfOk c.construct_from_string.result (IsInitOfString (chars bytes) (option_copied c.args.base_url))) c.as_str.ensures.value
+    c.construct_from_string.ensures.constructed)
+
+pub returns-in-String-clause-refused : goal.returns-in-String-clause-refused
+returns-in-String-clause-refused c =
+    rw c.in-String.is
+    (subst (λ (bytes : List ℕ). IfErr c.construct_from_string.result (MemoryOr (RefusesText (chars bytes) (option_copied c.args.base_url)))) c.as_str.ensures.value
+    c.construct_from_string.ensures.refused)
