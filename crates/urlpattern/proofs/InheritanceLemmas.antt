@@ -1,22 +1,27 @@
 -- Lemmas on the values of an init.
-use Rattle.std.proofs.Common.{◌≡◌, ◌≢◌, ℕ, zero, suc, Bool, true, false, ◌==◌, ◌<◌, ◌≤◌, ◌+◌, ◌||◌, List, [], ◌∷◌, length, get_or, take, Ok, Err, None, Some, Option, Result, String, subst, refl, ap, ◌∙◌, arith}
+use Rattle.std.proofs.Common.{◌≡◌, ◌≢◌, ℕ, zero, suc, Bool, true, false, ◌==◌, ◌<◌, ◌≤◌, ◌+◌, ◌||◌, List, [], ◌∷◌, length, get_or, take, Ok, Err, None, Some, Option, Result, String, subst, refl, ap, ◌∙◌, arith, map, inl, inr}
 use Rattle.std.specs.List.{list_any}
-use Rattle.std.specs.Prelude.{if◌then◌else◌, option_map, string_bytes, unwrap_or}
+use Rattle.std.specs.Prelude.{if◌then◌else◌, option_map, string_bytes, sum, unwrap_or}
 use Rattle.url.specs.declared.error.ParseError.{ParseError}
 use Rattle.url.specs.Parser.{Parsed, and_then}
 use Rattle.std.specs.Str.{chars, IsUtf8}
 use Rattle.std.specs.declared.alloc.Global.{Global}
 use Rattle.url.specs.Parts.{Parts, cannot_be_a_base}
-use Rattle.urlpattern_core.proofs.CanonicalLemmas.{answers-more}
-use Rattle.urlpattern_core.specs.Canonical.{IsAnswer, processed_base, processed_pathname}
+use Rattle.urlpattern_core.proofs.CanonicalLemmas.{answers-more, dummy_is_parsed, memory_alone}
+use Rattle.urlpattern_core.specs.Canonical.{IsAnswer, Tells, bytes_asked, dummy_url, processed_base, processed_pathname}
 use Rattle.urlpattern_syntax.proofs.StringTexts.{text-nil}
 use Rattle.urlpattern_syntax.proofs.TextLemmas.{byte_len-chars}
 use Rattle.urlpattern_syntax.specs.declared.error.Error.{Error}
 use Rattle.urlpattern_syntax.specs.Text.{byte_len, text_of}
 use Rattle.urlpattern.specs.declared.init.processing.Component.{Component}
 use Rattle.urlpattern.specs.declared.init.processing.Component.TheVariants.{Protocol, Username, Password, Hostname, Port, Pathname, Search, Hash}
-use Rattle.urlpattern.specs.Inheritance.{Values, asked_bytes, bytes_of, given_bytes, is_absolute, is_slash, processed_values, put_before, up_to_last_slash, value_or_refusal}
+use Rattle.urlpattern.specs.Inheritance.{Values, asked_bytes, bytes_of, component_value, components, given_bytes, given_text, is_absolute, is_slash, processed_text, processed_values, protocol_bytes, put_before, up_to_last_slash, value_of, value_or_refusal}
 use Rattle.urlpattern_core.specs.declared.canonicalize_and_process.ProcessType.{ProcessType}
+use Rattle.urlpattern_core.specs.declared.canonicalize_and_process.ProcessType.TheVariants.{Pattern, Url}
+use Rattle.urlpattern_syntax.specs.declared.error.Error.TheVariants as errors
+use Rattle.urlpattern_syntax.specs.Errors.{ErrorView, error_view}
+use Rattle.urlpattern_syntax.specs.Errors.{ErrorView as views}
+use Rattle.urlpattern_syntax.specs.Parsing.{MemoryOr}
 
 -- ---- the path up to its last slash
 
@@ -128,30 +133,113 @@ processed mode values base protocol username password hostname port pathname sea
 
 -- ---- the bytes of the texts
 
+pub asked-mono : (mode : ProcessType) (few many : ℕ) → few ≤ many → bytes_asked mode few ≤ bytes_asked mode many
+asked-mono Pattern few many more = omega arith
+asked-mono Url few many more = more
+
+-- an answer about more bytes
+pub answers-asked : (mode : ProcessType) (asked : Parsed (List ℕ)) (few many : ℕ) (result : Result (String Global) Error) → few ≤ many
+    → IsAnswer asked (bytes_asked mode few) result → IsAnswer asked (bytes_asked mode many) result
+answers-asked mode asked few many result more answer =
+    answers-more asked (bytes_asked mode few) (bytes_asked mode many) result (asked-mono mode few many more) answer
+
+-- the bytes of all texts
+all_bytes : ProcessType → Values → Option Parts → ℕ
+all_bytes mode values base =
+    protocol_bytes (value_or_refusal mode values base None Protocol) + sum (map (given_bytes mode values base) components)
+
+given-all : (mode : ProcessType) (values : Values) (base : Option Parts) (component : Component)
+    → 0 + given_bytes mode values base component ≤ all_bytes mode values base
+unfolding all_bytes
+given-all mode values base Protocol = omega arith
+given-all mode values base Username = omega arith
+given-all mode values base Password = omega arith
+given-all mode values base Hostname = omega arith
+given-all mode values base Port = omega arith
+given-all mode values base Pathname = omega arith
+given-all mode values base Search = omega arith
+given-all mode values base Hash = omega arith
+
+under-all : (mode : ProcessType) (values : Values) (base : Option Parts) (component : Component) (protocol : Option (List ℕ))
+    → value_or_refusal mode values base None Protocol ≡ Ok protocol
+    → bytes_of protocol + given_bytes mode values base component ≤ all_bytes mode values base
+unfolding all_bytes
+under-all mode values base Protocol protocol e = rw e (omega arith)
+under-all mode values base Username protocol e = rw e (omega arith)
+under-all mode values base Password protocol e = rw e (omega arith)
+under-all mode values base Hostname protocol e = rw e (omega arith)
+under-all mode values base Port protocol e = rw e (omega arith)
+under-all mode values base Pathname protocol e = rw e (omega arith)
+under-all mode values base Search protocol e = rw e (omega arith)
+under-all mode values base Hash protocol e = rw e (omega arith)
+
 pub given-le : (mode : ProcessType) (values : Values) (base : Option Parts) (component : Component)
-    → given_bytes mode values base component ≤ asked_bytes mode values base
-unfolding asked_bytes
-given-le mode values base Protocol = omega arith
-given-le mode values base Username = omega arith
-given-le mode values base Password = omega arith
-given-le mode values base Hostname = omega arith
-given-le mode values base Port = omega arith
-given-le mode values base Pathname = omega arith
-given-le mode values base Search = omega arith
-given-le mode values base Hash = omega arith
+    → bytes_asked mode (0 + given_bytes mode values base component) ≤ asked_bytes mode values base
+unfolding asked_bytes all_bytes
+given-le mode values base component =
+    asked-mono mode (0 + given_bytes mode values base component) (all_bytes mode values base) (given-all mode values base component)
 
 pub asked-le : (mode : ProcessType) (values : Values) (base : Option Parts) (component : Component) (protocol : Option (List ℕ))
     → value_or_refusal mode values base None Protocol ≡ Ok protocol
-    → bytes_of protocol + given_bytes mode values base component ≤ asked_bytes mode values base
+    → bytes_asked mode (bytes_of protocol + given_bytes mode values base component) ≤ asked_bytes mode values base
+unfolding asked_bytes all_bytes
+asked-le mode values base component protocol e =
+    asked-mono mode (bytes_of protocol + given_bytes mode values base component) (all_bytes mode values base) (under-all mode values base component protocol e)
+
+-- ---- a pattern is never refused
+
+pattern-text : (protocol : Option (List ℕ)) (component : Component) (text : List ℕ) → (value : List ℕ) × (processed_text Pattern protocol component text ≡ Ok value)
+pattern-text protocol Protocol text = (_, refl)
+pattern-text protocol Username text = (_, refl)
+pattern-text protocol Password text = (_, refl)
+pattern-text protocol Hostname text = (_, refl)
+pattern-text protocol Port text = (_, refl)
+pattern-text protocol Pathname text = (_, refl)
+pattern-text protocol Search text = (_, refl)
+pattern-text protocol Hash text = (_, refl)
+
+pattern-given : (values : Values) (base : Option Parts) (protocol : Option (List ℕ)) (component : Component) (given : Option (List ℕ))
+    → (value : Option (List ℕ)) × (component_value Pattern values base protocol component given ≡ Ok value)
+pattern-given values base protocol component None = (_, refl)
+pattern-given values base protocol component (Some text) =
+    let found = pattern-text protocol component (given_text Pattern base component text) in
+    (Some found.0, ap (λ parsed. and_then parsed (λ value. Ok (Some value))) found.1)
+
+pattern-value : (values : Values) (base : Option Parts) (protocol : Option (List ℕ)) (component : Component)
+    → (value : Option (List ℕ)) × (value_or_refusal Pattern values base protocol component ≡ Ok value)
+pattern-value values base protocol component = pattern-given values base protocol component (value_of component values)
+
+pattern-processed : (values : Values) (base : Option Parts) → (found : Values) × (processed_values Pattern values base ≡ Ok found)
+pattern-processed values base =
+    let protocol = pattern-value values base None Protocol in
+    let username = pattern-value values base protocol.0 Username in
+    let password = pattern-value values base protocol.0 Password in
+    let hostname = pattern-value values base protocol.0 Hostname in
+    let port = pattern-value values base protocol.0 Port in
+    let pathname = pattern-value values base protocol.0 Pathname in
+    let search = pattern-value values base protocol.0 Search in
+    let hash = pattern-value values base protocol.0 Hash in
+    (
+      _,
+      processed Pattern values base protocol.0 username.0 password.0 hostname.0 port.0 pathname.0 search.0 hash.0
+      protocol.1 username.1 password.1 hostname.1 port.1 pathname.1 search.1 hash.1,
+    )
+
+never-told : (asked : Parsed Values) (found : Values) (view : ErrorView) → asked ≡ Ok found → ¬ Tells asked 0 view
+never-told asked found (views.Url reason) is refused =
+    elim refused.1 [ inl same ↦ absurd cc | inr long ↦ absurd (omega (arith, long.1)) ]
+never-told asked found view is refused = absurd refused
+
+-- so an error is want of memory
+pub pattern-memory : (values : Values) (base : Option Parts) (error : Error)
+    → MemoryOr (Tells (processed_values Pattern values base) (asked_bytes Pattern values base)) error → error ≡ errors.OutOfMemory
 unfolding asked_bytes
-asked-le mode values base Protocol protocol e = rw e (omega arith)
-asked-le mode values base Username protocol e = rw e (omega arith)
-asked-le mode values base Password protocol e = rw e (omega arith)
-asked-le mode values base Hostname protocol e = rw e (omega arith)
-asked-le mode values base Port protocol e = rw e (omega arith)
-asked-le mode values base Pathname protocol e = rw e (omega arith)
-asked-le mode values base Search protocol e = rw e (omega arith)
-asked-le mode values base Hash protocol e = rw e (omega arith)
+pattern-memory values base error told =
+    let found = pattern-processed values base in
+    elim told [
+      | inl memory ↦ memory_alone dummy_url dummy_is_parsed.0 0 (Err error) dummy_is_parsed.1 (omega arith) (inl memory)
+      | inr refused ↦ absurd (never-told (processed_values Pattern values base) found.0 (error_view error) found.1 refused)
+    ]
 
 -- ---- what is put before a pathname
 
@@ -175,12 +263,12 @@ put_before-none mode (Some url) text none = absurd (none url refl)
 
 -- an answer about the bytes of a text, as one about the text
 pub answers-text : (mode : ProcessType) (protocol : Option (List ℕ)) (bytes text : List ℕ) (result : Result (String Global) Error) → IsUtf8 bytes
-    → chars bytes ≡ text → IsAnswer (processed_pathname mode protocol (chars bytes)) (length bytes) result
-    → IsAnswer (processed_pathname mode protocol text) (byte_len text) result
+    → chars bytes ≡ text → IsAnswer (processed_pathname mode protocol (chars bytes)) (bytes_asked mode (length bytes)) result
+    → IsAnswer (processed_pathname mode protocol text) (bytes_asked mode (byte_len text)) result
 answers-text mode protocol bytes text result u e answer =
-    let Answered : List ℕ → Type 0 = λ t. IsAnswer (processed_pathname mode protocol t) (byte_len t) result in
+    let Answered : List ℕ → Type 0 = λ t. IsAnswer (processed_pathname mode protocol t) (bytes_asked mode (byte_len t)) result in
     subst Answered e
-    (answers-more (processed_pathname mode protocol (chars bytes)) (length bytes) (byte_len (chars bytes)) result
+    (answers-asked mode (processed_pathname mode protocol (chars bytes)) (length bytes) (byte_len (chars bytes)) result
     (let size = byte_len-chars bytes u in omega arith) answer)
 
 -- ---- a text, or the empty one

@@ -12,3 +12,4 @@ pub mod Encodings
 pub mod SplitExamples
 pub mod SchemeLemmas
 pub mod CompiledLemmas
+pub mod InputLemmas

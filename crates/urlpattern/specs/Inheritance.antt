@@ -11,7 +11,7 @@ use Rattle.url.specs.Parts.{Parts, cannot_be_a_base, host_or_empty, text_between
 use Rattle.urlpattern.specs.declared.init.processing.Component.{Component}
 use Rattle.urlpattern.specs.declared.init.processing.Component.TheVariants.{Protocol, Username, Password, Hostname, Port, Pathname, Search, Hash}
 use Rattle.urlpattern.specs.declared.init.UrlPatternInit.{UrlPatternInit}
-use Rattle.urlpattern_core.specs.Canonical.{processed_base, processed_hash, processed_hostname, processed_password, processed_pathname, processed_port, processed_protocol, processed_search, processed_username, without_first}
+use Rattle.urlpattern_core.specs.Canonical.{bytes_asked, processed_base, processed_hash, processed_hostname, processed_password, processed_pathname, processed_port, processed_protocol, processed_search, processed_username, without_first}
 use Rattle.urlpattern_core.specs.declared.canonicalize_and_process.ProcessType.{ProcessType}
 use Rattle.urlpattern_core.specs.declared.canonicalize_and_process.ProcessType.TheVariants.{Pattern, Url}
 use Rattle.urlpattern_syntax.specs.Text.{begins_with, byte_len, text_of}
@@ -187,10 +187,10 @@ abbrev pub protocol_bytes : Parsed (Option (List ℕ)) → ℕ
 protocol_bytes (Ok protocol) = bytes_of protocol
 protocol_bytes (Err reason) = 0
 
--- the bytes of all texts about which `url` is asked
+-- the bytes of all texts about which `url` is asked, of which a pattern has none
 unfoldable pub asked_bytes : ProcessType → Values → Option Parts → ℕ
 asked_bytes mode values base =
-    protocol_bytes (value_or_refusal mode values base None Protocol) + sum (map (given_bytes mode values base) components)
+    bytes_asked mode (protocol_bytes (value_or_refusal mode values base None Protocol) + sum (map (given_bytes mode values base) components))
 
 -- ---- texts that are all there
 

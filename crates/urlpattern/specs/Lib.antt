@@ -9,10 +9,12 @@ pub use Rattle.urlpattern_core.specs.Compiling
 pub use Rattle.urlpattern_core.specs.Engines
 pub use Rattle.urlpattern_core.specs.Matchers
 pub use Rattle.urlpattern_core.specs.Canonical
+pub use Rattle.urlpattern_plain.specs.Values
 pub use Rattle.urlpattern_laws.specs.Dialect
 pub use Rattle.urlpattern_syntax.specs.ErrorText
 pub use Rattle.urlpattern_syntax.specs.Errors
 pub mod Inheritance
+pub mod Inputs
 pub mod Eight
 pub mod Match
 pub mod MatchInput

@@ -5,7 +5,7 @@ ghost use Rattle.std.specs.Str.{chars};
 ghost use Rattle.urlpattern_syntax.specs.declared.error.Error.TheVariants as errors;
 ghost use Rattle.urlpattern_syntax.specs.Parsing.{MemoryOr};
 ghost use Rattle.urlpattern_syntax.specs.Text.{byte_len, text_of};
-ghost use Rattle.urlpattern_core.specs.Canonical.{IsAnswer, Tells, processed_pathname};
+ghost use Rattle.urlpattern_core.specs.Canonical.{IsAnswer, Tells, bytes_asked, processed_pathname};
 ghost use Rattle.urlpattern.specs.Inheritance as spec;
 ghost use Rattle.urlpattern.specs.Inheritance.{asked_bytes, bytes_of, given_bytes, given_text, is_inheritable, missing, must_lack, processed_text, processed_values, up_to_last_slash, value_of, value_or_refusal, values_view};
 
@@ -184,7 +184,7 @@ impl Processing<'_> {
             (option_map text_of protocol.now) component ≡ Ok (option_map text_of value)) }
         ensures err { IfErr result (MemoryOr (Tells (value_or_refusal self.now.kind.now (values_view self.now.init.now) self.now.init.now.base_url
             (option_map text_of protocol.now) component)
-            (bytes_of (option_map text_of protocol.now) + given_bytes self.now.kind.now (values_view self.now.init.now) self.now.init.now.base_url component))) }
+            (bytes_asked self.now.kind.now (bytes_of (option_map text_of protocol.now) + given_bytes self.now.kind.now (values_view self.now.init.now) self.now.init.now.base_url component)))) }
     {
         match protocol {
             Some(protocol) => self.value(component, Some(protocol)),
@@ -198,7 +198,7 @@ impl Processing<'_> {
             (option_map chars (option_copied protocol.entry)) component ≡ Ok (option_map text_of value)) }
         ensures err { IfErr result (MemoryOr (Tells (value_or_refusal self.now.kind.now (values_view self.now.init.now) self.now.init.now.base_url
             (option_map chars (option_copied protocol.entry)) component)
-            (length (unwrap_or (option_copied protocol.entry) []) + given_bytes self.now.kind.now (values_view self.now.init.now) self.now.init.now.base_url component))) }
+            (bytes_asked self.now.kind.now (length (unwrap_or (option_copied protocol.entry) []) + given_bytes self.now.kind.now (values_view self.now.init.now) self.now.init.now.base_url component)))) }
     {
         match given(self.init, component) {
             Some(text) => Ok(Some(self.processed(component, text, protocol)?)),
@@ -248,7 +248,7 @@ impl Processing<'_> {
     ) -> Result<String, Error>
         ensures { IsAnswer (processed_text self.now.kind.now (option_map chars (option_copied protocol.entry)) component
             (given_text self.now.kind.now self.now.init.now.base_url component (chars text.now)))
-            (length (unwrap_or (option_copied protocol.entry) []) + byte_len (given_text self.now.kind.now self.now.init.now.base_url component (chars text.now)))
+            (bytes_asked self.now.kind.now (length (unwrap_or (option_copied protocol.entry) []) + byte_len (given_text self.now.kind.now self.now.init.now.base_url component (chars text.now))))
             result }
     {
         let values = &self.canonicalizer;
@@ -268,7 +268,7 @@ impl Processing<'_> {
     fn processed_pathname(&self, text: &str, protocol: Option<&str>) -> Result<String, Error>
         ensures { IsAnswer (processed_pathname self.now.kind.now (option_map chars (option_copied protocol.entry))
             (given_text self.now.kind.now self.now.init.now.base_url Component.Pathname (chars text.now)))
-            (byte_len (given_text self.now.kind.now self.now.init.now.base_url Component.Pathname (chars text.now))) result }
+            (bytes_asked self.now.kind.now (byte_len (given_text self.now.kind.now self.now.init.now.base_url Component.Pathname (chars text.now)))) result }
     {
         match &self.init.base_url {
             Some(base) if !is_absolute(text, self.kind) && !base.cannot_be_a_base() => {

@@ -65,11 +65,8 @@ fn pattern_values(alloc: Global, init: &UrlPatternInit) -> Result<UrlPatternInit
     ensures ok { IfOk result (λ values. pattern_values init.now ≡ Ok (values_view values)) }
     ensures memory { IfErr result (λ error. error ≡ errors.OutOfMemory) }
 {
-    // Nothing is asked of `url` about a pattern, so the only error is that memory ran out.
-    match process(alloc, init, &ProcessType::Pattern) {
-        Ok(values) => Ok(without_default_port(alloc, values)),
-        Err(_) => Err(Error::OutOfMemory),
-    }
+    let values = process(alloc, init, &ProcessType::Pattern)?;
+    Ok(without_default_port(alloc, values))
 }
 
 /// The values, where a default port is emptied.

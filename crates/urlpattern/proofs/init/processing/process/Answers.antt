@@ -1,9 +1,10 @@
-use Rattle.std.proofs.Common.{◌+◌, None, arith}
+use Rattle.std.proofs.Common.{◌+◌, None}
 use Rattle.std.proofs.lemmas.Result.{err_from_is_err_and}
 use Rattle.urlpattern_core.proofs.CanonicalLemmas.{tells-more, tells-through}
 use Rattle.urlpattern.proofs.InheritanceLemmas.{given-le, refused-protocol}
 use Rattle.urlpattern.specs.declared.init.processing.Component.TheVariants.{Protocol}
 use Rattle.urlpattern.specs.Inheritance.{asked_bytes, given_bytes, processed_values, value_or_refusal, values_view}
+use Rattle.urlpattern_core.specs.Canonical.{bytes_asked}
 use Rattle.urlpattern.proofs.init.processing.process.Goals as goal
 
 pub returns-in_err-protocol-clause-err : goal.returns-in_err-protocol-clause-err
@@ -13,9 +14,8 @@ returns-in_err-protocol-clause-err c =
     let values = values_view c.args.init.now in
     let base = c.args.init.now.base_url in
     let error = c.in_err-protocol.field-0.0 in
-    let le = given-le mode values base Protocol in
     rw (p.1, p.2)
     (tells-through (value_or_refusal mode values base None Protocol) (processed_values mode values base) (asked_bytes mode values base) error
     (λ reason refused. refused-protocol mode values base reason refused)
-    (tells-more (value_or_refusal mode values base None Protocol) (0 + given_bytes mode values base Protocol) (asked_bytes mode values base) error
-    (omega arith) c.in_err-protocol.ensures.err))
+    (tells-more (value_or_refusal mode values base None Protocol) (bytes_asked mode (0 + given_bytes mode values base Protocol)) (asked_bytes mode values base) error
+    (given-le mode values base Protocol) c.in_err-protocol.ensures.err))

@@ -1,0 +1,10 @@
+use Rattle.std.specs.Prelude.{option_copied}
+use Rattle.urlpattern.proofs.InputLemmas.{refused_by_url}
+use Rattle.urlpattern.specs.Inputs.{parsed_base, text_bytes}
+use Rattle.urlpattern.proofs.quirks.inputs.match_init.Goals as goal
+
+pub returns-in-Err-Url-clause-found : goal.returns-in-Err-Url-clause-found
+returns-in-Err-Url-clause-found c =
+    rw (← c.borrowed.ensures)
+    (refused_by_url (parsed_base (option_copied c.borrowed.result)) (text_bytes (option_copied c.borrowed.result)) c.in-Err-Url.field-0 c.in-Err-Url.field-0-0
+    c.in-Err-Url.field-0-is c.in-Err-Url.ensures.err)

@@ -1,0 +1,118 @@
+-- The inputs of a browser: what a pattern is constructed from, and what it is matched against, after the URLPattern
+-- Standard, sections "Constructor", and "Matching", at "match".
+use Rattle.std.specs.Prelude.{◌≡◌, ⊤, ℕ, ◌≤◌, ◌⊎◌, List, [], length, max, Option, None, Some, Ok, Err, String, option_map, string_bytes, unwrap_or}
+use Rattle.std.specs.Cow.{cow_str_bytes}
+use Rattle.std.specs.Str.{chars}
+use Rattle.std.specs.declared.alloc.Global.{Global}
+use Rattle.url.specs.declared.error.ParseError.{ParseError}
+use Rattle.url.specs.Parser.{Parsed, and_then, parse_url}
+use Rattle.url.specs.Parts.{Parts}
+use Rattle.urlpattern.specs.ConstructorString.{HasProtocolOrBase, RefusesString, SplitsInto, init_components}
+use Rattle.urlpattern.specs.Inheritance.{Values, values_view}
+use Rattle.urlpattern.specs.SpecialProtocol.{IsSpecialBy}
+use Rattle.urlpattern.specs.declared.init.UrlPatternInit.{UrlPatternInit}
+use Rattle.urlpattern.specs.declared.init.UrlPatternMatchInput.{UrlPatternMatchInput}
+use Rattle.urlpattern.specs.declared.init.UrlPatternMatchInput.TheVariants as match_inputs
+use Rattle.urlpattern_core.specs.Canonical.{Tells, long_text}
+use Rattle.urlpattern_core.specs.Engines.{IsRegexOf, regex_answer}
+use Rattle.urlpattern_plain.specs.declared.init.UrlPatternInit.{UrlPatternInit as PlainInit}
+use Rattle.urlpattern_plain.specs.declared.input.StringOrInit.{StringOrInit}
+use Rattle.urlpattern_plain.specs.declared.input.StringOrInit.TheVariants as inputs
+use Rattle.urlpattern_plain.specs.Values.{input_view}
+use Rattle.urlpattern_syntax.specs.Errors.{ErrorView}
+use Rattle.urlpattern_syntax.specs.Errors.{ErrorView as views}
+use Rattle.urlpattern_syntax.specs.Text.{text_of}
+
+-- ---- URLs: texts are their bytes
+
+-- the URL of a text that may be missing
+abbrev pub parsed_base : Option (List ℕ) → Parsed (Option Parts)
+parsed_base None = Ok None
+parsed_base (Some text) = and_then (parse_url None text) (λ url. Ok (Some url))
+
+-- the URL of a text, under the base URL beside it
+abbrev pub parsed_text : (base : Option (List ℕ)) → (text : List ℕ) → Parsed Parts
+parsed_text base text = and_then (parsed_base base) (λ url. parse_url url text)
+
+abbrev pub text_bytes : Option (List ℕ) → ℕ
+text_bytes text = length (unwrap_or text [])
+
+-- ---- inits
+
+abbrev pub plain_values : PlainInit → Values
+plain_values init = record {
+  protocol = option_map text_of init.protocol;
+  username = option_map text_of init.username;
+  password = option_map text_of init.password;
+  hostname = option_map text_of init.hostname;
+  port = option_map text_of init.port;
+  pathname = option_map text_of init.pathname;
+  search = option_map text_of init.search;
+  hash = option_map text_of init.hash;
+}
+
+abbrev pub plain_base : PlainInit → Option (List ℕ)
+plain_base init = option_map string_bytes init.base_url
+
+-- The init has the texts of the plain one, and its base URL.
+pub record IsInitOf (plain : PlainInit) (init : UrlPatternInit) : Type 0 where
+  pub has_texts : values_view init ≡ plain_values plain
+  pub has_base : parsed_base (plain_base plain) ≡ Ok init.base_url
+
+-- both an init and a base URL beside it are given
+abbrev pub HasInitAndBase : StringOrInit → (base : Option (List ℕ)) → Type 0
+HasInitAndBase (inputs.Init plain) (Some base) = ⊤
+HasInitAndBase input base = ⊥
+
+-- ---- what a pattern is constructed from
+
+-- The init of a constructor string with this base URL, where the protocol's engine is the crate `regex`
+pub record IsInitOfString (text : List ℕ) (base : Option (List ℕ)) (init : UrlPatternInit) : Type 0 where
+  pub turns : ℕ
+  pub has_base : parsed_base base ≡ Ok init.base_url
+  pub is_split : SplitsInto (IsSpecialBy (λ regex regexp flags. IsRegexOf regexp regex) (λ regexp flags. ⊤) regex_answer) text (init_components init) turns
+  pub is_complete : HasProtocolOrBase init
+
+-- the init that a pattern is constructed from
+abbrev pub IsConstructedFrom : StringOrInit → (base : Option (List ℕ)) → UrlPatternInit → Type 0
+IsConstructedFrom (inputs.String text) base init = IsInitOfString (chars (cow_str_bytes text)) base init
+IsConstructedFrom (inputs.Init plain) None init = IsInitOf plain init
+IsConstructedFrom (inputs.Init plain) (Some base) init = ⊥
+
+-- a constructor string is refused with this error, that of its base URL or its own
+abbrev pub RefusesText : (text : List ℕ) → (base : Option (List ℕ)) → ErrorView → Type 0
+RefusesText text base error =
+    Tells (parsed_base base) (text_bytes base) error
+    ⊎ ((url : Option Parts) × (parsed_base base ≡ Ok url) × RefusesString text url error)
+
+-- no pattern is constructed, for this error
+abbrev pub RefusesInput : StringOrInit → (base : Option (List ℕ)) → ErrorView → Type 0
+RefusesInput (inputs.String text) base error = RefusesText (chars (cow_str_bytes text)) base error
+RefusesInput (inputs.Init plain) None error = Tells (parsed_base (plain_base plain)) (text_bytes (plain_base plain)) error
+RefusesInput (inputs.Init plain) (Some base) error = error ≡ views.BaseUrlWithInit
+
+-- ---- what a pattern is matched against
+
+abbrev pub IsMatchInput : StringOrInit → (base : Option (List ℕ)) → UrlPatternMatchInput → Type 0
+IsMatchInput (inputs.String text) base (match_inputs.Url url) = parsed_text base (cow_str_bytes text) ≡ Ok url
+IsMatchInput (inputs.Init plain) None (match_inputs.Init init) = IsInitOf plain init
+IsMatchInput input base matched = ⊥
+
+-- The input again, with the text of the base URL beside it.
+pub record AreInputs (input : StringOrInit) (base : Option (List ℕ)) (again : StringOrInit × Option (String Global)) : Type 0 where
+  pub same_input : input_view again.0 ≡ input_view input
+  pub same_base : option_map text_of again.1 ≡ option_map chars base
+
+-- what was found to match against, and the input again
+abbrev pub IsFound : StringOrInit → (base : Option (List ℕ)) → UrlPatternMatchInput × (StringOrInit × Option (String Global)) → Type 0
+IsFound input base found = IsMatchInput input base found.0 × AreInputs input base found.1
+
+-- `url` refuses a text, or the texts are too long
+abbrev pub IsRefusedByUrl : {T : Type 0} → Parsed T → (bytes : ℕ) → Type 0
+IsRefusedByUrl asked bytes = ((reason : ParseError) × (asked ≡ Err reason)) ⊎ (long_text ≤ bytes)
+
+-- the input is none that a pattern may be matched against
+abbrev pub IsNoInputOf : StringOrInit → (base : Option (List ℕ)) → Type 0
+IsNoInputOf (inputs.String text) base = IsRefusedByUrl (parsed_text base (cow_str_bytes text)) (max (length (cow_str_bytes text)) (text_bytes base))
+IsNoInputOf (inputs.Init plain) None = IsRefusedByUrl (parsed_base (plain_base plain)) (text_bytes (plain_base plain))
+IsNoInputOf (inputs.Init plain) (Some base) = ⊥

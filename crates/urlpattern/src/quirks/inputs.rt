@@ -1,0 +1,255 @@
+//! What a pattern is constructed from, and what it is matched against.
+ghost use Rattle.std.specs.Prelude.{◌≡◌, None, Ok, Some, length, max, option_copied, option_map, string_bytes, IfErr, IfOk, MatchOption};
+ghost use Rattle.std.specs.Cow.{cow_str_bytes};
+ghost use Rattle.std.specs.Str.{chars};
+ghost use Rattle.url.specs.Parser as url_spec;
+ghost use Rattle.urlpattern.specs.Inheritance.{values_view};
+ghost use Rattle.urlpattern.specs.Inputs.{AreInputs, HasInitAndBase, IsConstructedFrom, IsFound, IsInitOf, IsInitOfString, IsNoInputOf, IsRefusedByUrl, RefusesInput, RefusesText, parsed_base, parsed_text, plain_base, plain_values, text_bytes};
+ghost use Rattle.urlpattern_core.specs.Canonical.{Tells};
+ghost use Rattle.urlpattern_plain.specs.declared.input.StringOrInit.TheVariants as plain_inputs;
+ghost use Rattle.urlpattern_syntax.specs.declared.error.Error.TheVariants as errors;
+ghost use Rattle.urlpattern_syntax.specs.Errors.{ErrorView as views};
+ghost use Rattle.urlpattern_syntax.specs.Parsing.{MemoryOr, name_view};
+ghost use Rattle.urlpattern_syntax.specs.Text.{text_of};
+
+use crate::init;
+use crate::init::UrlPatternMatchInput;
+use regex::Regex;
+use std::alloc::Global;
+use std::borrow::CowStr;
+use url::Url;
+use urlpattern_core::Error;
+use urlpattern_core::canonicalize_and_process::told;
+use urlpattern_plain::{Inputs, StringOrInit, UrlPatternInit};
+
+/// The init of a pattern: of a constructor string, with a base URL if there is one, or of components one by one.
+///
+/// The error is that `url` refuses the base URL, that a constructor string is refused, that a base URL is given beside
+/// components, or that memory ran out.
+///
+/// <https://urlpattern.spec.whatwg.org/#url-pattern-create>
+pub fn process_construct_pattern_input(
+    alloc: Global,
+    input: StringOrInit<'_>,
+    base_url: Option<&str>,
+) -> Result<init::UrlPatternInit, Error>
+    ensures constructed { IfOk result (IsConstructedFrom input.entry (option_copied base_url.entry)) }
+    ensures refused { IfErr result (MemoryOr (RefusesInput input.entry (option_copied base_url.entry))) }
+{
+    match input {
+        StringOrInit::String(text) => construct_from_string(alloc, text.as_str(), base_url),
+        StringOrInit::Init(init) => match base_url {
+            Some(_) => Err(Error::BaseUrlWithInit),
+            None => init_of(alloc, init),
+        },
+    }
+}
+
+/// The init of a constructor string, whose base URL is parsed first.
+fn construct_from_string(
+    alloc: Global,
+    text: &str,
+    base_url: Option<&str>,
+) -> Result<init::UrlPatternInit, Error>
+    ensures constructed { IfOk result (IsInitOfString (chars text.now) (option_copied base_url.entry)) }
+    ensures refused { IfErr result (MemoryOr (RefusesText (chars text.now) (option_copied base_url.entry))) }
+{
+    let base_url = parse_base(alloc, base_url)?;
+    init::UrlPatternInit::parse_constructor_string::<Regex>(alloc, text, base_url)
+}
+
+/// The init of components one by one, with their base URL.
+fn init_of(alloc: Global, init: UrlPatternInit) -> Result<init::UrlPatternInit, Error>
+    ensures init { IfOk result (IsInitOf init) }
+    ensures refused { IfErr result (MemoryOr (Tells (parsed_base (plain_base init)) (text_bytes (plain_base init)))) }
+{
+    let base_url = parse_base(alloc, borrowed(&init.base_url))?;
+    Ok(init::UrlPatternInit {
+        protocol: init.protocol,
+        username: init.username,
+        password: init.password,
+        hostname: init.hostname,
+        port: init.port,
+        pathname: init.pathname,
+        search: init.search,
+        hash: init.hash,
+        base_url,
+    })
+}
+
+/// What a pattern is matched against, and the input again with the text of the base URL beside it. None if `url` refuses
+/// the text or a base URL.
+///
+/// The error is that a base URL is given beside an init, or that memory ran out.
+///
+/// <https://urlpattern.spec.whatwg.org/#url-pattern-match>
+pub fn process_match_input<'a>(
+    alloc: Global,
+    input: StringOrInit<'a>,
+    base_url: Option<&str>,
+) -> Result<Option<(UrlPatternMatchInput, Inputs<'a>)>, Error>
+    ensures found { IfOk result (λ found. MatchOption found (IsNoInputOf input.entry (option_copied base_url.entry)) (IsFound input.entry (option_copied base_url.entry))) }
+    ensures refused { IfErr result (MemoryOr (λ error. (error ≡ views.BaseUrlWithInit) × HasInitAndBase input.entry (option_copied base_url.entry))) }
+{
+    match input {
+        StringOrInit::String(text) => match_text(alloc, text, base_url),
+        StringOrInit::Init(init) => match base_url {
+            Some(_) => Err(Error::BaseUrlWithInit),
+            None => match_init(alloc, init),
+        },
+    }
+}
+
+/// The URL of a text, and the text again with that of its base URL. None if `url` refuses one of them.
+///
+/// The error is that memory ran out.
+fn match_text<'a>(
+    alloc: Global,
+    text: CowStr<'a>,
+    base_url: Option<&str>,
+) -> Result<Option<(UrlPatternMatchInput, Inputs<'a>)>, Error>
+    ensures found { IfOk result (λ found. MatchOption found (IsNoInputOf (plain_inputs.String text.entry) (option_copied base_url.entry))
+        (IsFound (plain_inputs.String text.entry) (option_copied base_url.entry))) }
+    ensures memory { IfErr result (λ error. error ≡ errors.OutOfMemory) }
+{
+    match parse_text(alloc, text.as_str(), base_url) {
+        Ok(url) => {
+            let base_url = owned(alloc, base_url)?;
+            let inputs = (StringOrInit::String(text), base_url);
+            Ok(Some((UrlPatternMatchInput::Url(url), inputs)))
+        }
+        Err(Error::Url(_)) => Ok(None),
+        Err(_) => Err(Error::OutOfMemory),
+    }
+}
+
+/// An init with its base URL, and the init again. None if `url` refuses the base URL.
+///
+/// The error is that memory ran out.
+fn match_init<'a>(
+    alloc: Global,
+    init: UrlPatternInit,
+) -> Result<Option<(UrlPatternMatchInput, Inputs<'a>)>, Error>
+    ensures found { IfOk result (λ found. MatchOption found (IsNoInputOf (plain_inputs.Init init) None) (IsFound (plain_inputs.Init init) None)) }
+    ensures memory { IfErr result (λ error. error ≡ errors.OutOfMemory) }
+{
+    match parse_base(alloc, borrowed(&init.base_url)) {
+        Ok(base_url) => {
+            let copy = copied_init(alloc, &init, base_url)?;
+            let inputs = (StringOrInit::Init(init), None);
+            Ok(Some((UrlPatternMatchInput::Init(copy), inputs)))
+        }
+        Err(Error::Url(_)) => Ok(None),
+        Err(_) => Err(Error::OutOfMemory),
+    }
+}
+
+/// A copy of an init, with this base URL.
+///
+/// The error is that memory ran out.
+fn copied_init(
+    alloc: Global,
+    init: &UrlPatternInit,
+    base_url: Option<Url>,
+) -> Result<init::UrlPatternInit, Error>
+    ensures texts { IfOk result (λ copy. values_view copy ≡ plain_values init.now) }
+    ensures base { IfOk result (λ copy. copy.base_url ≡ base_url) }
+    ensures memory { IfErr result (λ error. error ≡ errors.OutOfMemory) }
+{
+    Ok(init::UrlPatternInit {
+        protocol: copied(alloc, &init.protocol)?,
+        username: copied(alloc, &init.username)?,
+        password: copied(alloc, &init.password)?,
+        hostname: copied(alloc, &init.hostname)?,
+        port: copied(alloc, &init.port)?,
+        pathname: copied(alloc, &init.pathname)?,
+        search: copied(alloc, &init.search)?,
+        hash: copied(alloc, &init.hash)?,
+        base_url,
+    })
+}
+
+/// A copy of a text, if there is one.
+///
+/// The error is that memory ran out.
+fn copied(alloc: Global, text: &Option<String>) -> Result<Option<String>, Error>
+    ensures ok { IfOk result (λ copy. option_map text_of copy ≡ option_map text_of text.now) }
+    ensures memory { IfErr result (λ error. error ≡ errors.OutOfMemory) }
+{
+    match text {
+        Some(text) => Ok(Some(String::from_str(alloc, text)?)),
+        None => Ok(None),
+    }
+}
+
+/// A text that is lent, if there is one.
+fn borrowed(text: &Option<String>) -> Option<&str>
+    ensures { option_copied result ≡ option_map string_bytes text.now }
+{
+    match text {
+        Some(text) => Some(text),
+        None => None,
+    }
+}
+
+/// A text of one's own, if there is one.
+///
+/// The error is that memory ran out.
+fn owned(alloc: Global, text: Option<&str>) -> Result<Option<String>, Error>
+    ensures ok { IfOk result (λ owned. option_map text_of owned ≡ name_view text.entry) }
+    ensures memory { IfErr result (λ error. error ≡ errors.OutOfMemory) }
+{
+    match text {
+        Some(text) => Ok(Some(String::from_str(alloc, text)?)),
+        None => Ok(None),
+    }
+}
+
+/// The URL of a text, under a base URL if there is one.
+///
+/// The error is the refusal of `url`, or that memory ran out.
+fn parse_text(alloc: Global, text: &str, base_url: Option<&str>) -> Result<Url, Error>
+    ensures ok { IfOk result (λ url. parsed_text (option_copied base_url.entry) text.now ≡ Ok url) }
+    ensures err { IfErr result (MemoryOr (Tells (parsed_text (option_copied base_url.entry) text.now) (max (length text.now) (text_bytes (option_copied base_url.entry))))) }
+{
+    match base_url {
+        Some(base) => {
+            let url = parse_url(alloc, base)?;
+            join(&url, text, text.len().max(base.len()))
+        }
+        None => parse_url(alloc, text),
+    }
+}
+
+/// The URL of a text, if there is one.
+///
+/// The error is the refusal of `url`, or that memory ran out.
+fn parse_base(alloc: Global, text: Option<&str>) -> Result<Option<Url>, Error>
+    ensures ok { IfOk result (λ base. parsed_base (option_copied text.entry) ≡ Ok base) }
+    ensures err { IfErr result (MemoryOr (Tells (parsed_base (option_copied text.entry)) (text_bytes (option_copied text.entry)))) }
+{
+    match text {
+        Some(text) => Ok(Some(parse_url(alloc, text)?)),
+        None => Ok(None),
+    }
+}
+
+/// The URL of a text.
+///
+/// The error is the refusal of `url`, or that memory ran out.
+fn parse_url(alloc: Global, text: &str) -> Result<Url, Error>
+    ensures ok { IfOk result (λ url. url_spec.parse_url None text.now ≡ Ok url) }
+    ensures err { IfErr result (MemoryOr (Tells (url_spec.parse_url None text.now) (length text.now))) }
+{
+    told(Url::parse(alloc, text), text.len())
+}
+
+/// The URL of a text under a base URL, where neither text has more than so many bytes.
+///
+/// The error is the refusal of `url`, or that memory ran out.
+fn join(base: &Url, text: &str, bytes: usize) -> Result<Url, Error>
+    ensures ok { IfOk result (λ url. url_spec.parse_url (Some base.now) text.now ≡ Ok url) }
+    ensures err { IfErr result (MemoryOr (Tells (url_spec.parse_url (Some base.now) text.now) bytes)) }
+{
+    told(base.join(text), bytes)
+}
