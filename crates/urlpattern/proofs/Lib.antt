@@ -6,6 +6,7 @@ pub mod InheritanceLemmas
 pub mod MatchInputLemmas
 pub mod Each
 pub mod GroupLemmas
+pub mod MatchExamples
 pub mod MatchLaws
 pub mod MatchSteps
 pub mod Encodings

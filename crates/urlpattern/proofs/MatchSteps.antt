@@ -9,7 +9,7 @@ use Rattle.urlpattern.specs.declared.pattern.eight.Eight.{Eight}
 use Rattle.urlpattern.specs.declared.pattern.result.UrlPatternResult.{UrlPatternResult}
 use Rattle.urlpattern.specs.Eight.{HaveGroups, at}
 use Rattle.urlpattern.specs.Inheritance.{Texts}
-use Rattle.urlpattern.specs.Match.{AreMatched, HasMatch, HasNoMatch, IsMatch, IsMatchOf, IsRefused, ResultView, group_in, result_view, text_at}
+use Rattle.urlpattern.specs.Match.{AreAnswers, AreMatched, HasMatch, HasNoMatch, IsMatch, IsMatchOf, IsRefused, IsResultOf, ResultView, group_in, result_view, text_at}
 use Rattle.urlpattern.specs.MatchInput.{input_texts}
 use Rattle.urlpattern.specs.Patterns.{PatternView}
 use Rattle.urlpattern_laws.specs.PartMeaning.{Captures}
@@ -47,4 +47,14 @@ match-of_groups answer pattern texts groups result (captures, answers, are_group
   captures = captures;
   are_answers = answers;
   are_results = λ name. record { has_input = inputs name; has_groups = λ group. have name group ∙ are_groups name group };
+}
+
+-- results of texts are a match of these where the texts are answered
+pub match-of_results : {E : Type 0} (answer : E → List ℕ → Option Captures) (pattern : PatternView E) (asked told texts : Texts) (captures : Component → Captures) (result : Component → ResultView) →
+    asked ≡ texts → told ≡ asked → AreAnswers answer pattern asked captures →
+    ((name : Component) → IsResultOf (pattern name).group_name_list (captures name) (text_at told name) (result name)) → IsMatchOf answer pattern texts result
+match-of_results answer pattern asked told texts captures result is_asked is_told answers results = record {
+  captures = captures;
+  are_answers = subst (λ (t : Texts). AreAnswers answer pattern t captures) is_asked answers;
+  are_results = λ name. subst (λ (t : Texts). IsResultOf (pattern name).group_name_list (captures name) (text_at t name) (result name)) (is_told ∙ is_asked) (results name);
 }

@@ -21,8 +21,8 @@ use Rattle.urlpattern_syntax.specs.Text.{text_of}
 
 -- ---- groups
 
--- what the group of a name captures, if there is one: names stand beside captures, what is left over on either side is
--- dropped, and of equal names the last counts
+-- what the group of a name captures, if there is one: names stand beside captures, names or captures that have none beside
+-- them are passed over, and of equal names the last counts
 abbrev pub group_of : (names : List (List ℕ)) → Captures → (name : List ℕ) → Option (Option (List ℕ))
 group_of names captures name = lookup (bytes_eq name) (reverse (zip names captures))
 

@@ -14,6 +14,7 @@ mod result;
 
 use crate::component::Component;
 use crate::regexp::RegExp;
+pub(crate) use eight::Eight;
 pub use result::{UrlPatternComponentResult, UrlPatternResult};
 
 /// A pattern that URLs are matched against, compiled component by component.
@@ -104,13 +105,17 @@ impl<R: RegExp> UrlPattern<R> {
     pub fn has_regexp_groups(&self) -> bool
         ensures { result ≡ list_any (λ component. (pattern_view self.now component).has_regexp_group) components }
     {
-        self.protocol.has_regexp_group
-            || self.username.has_regexp_group
-            || self.password.has_regexp_group
-            || self.hostname.has_regexp_group
-            || self.port.has_regexp_group
-            || self.pathname.has_regexp_group
-            || self.search.has_regexp_group
-            || self.hash.has_regexp_group
+        [
+            &self.protocol,
+            &self.username,
+            &self.password,
+            &self.hostname,
+            &self.port,
+            &self.pathname,
+            &self.search,
+            &self.hash,
+        ]
+        .iter()
+        .any(|component| component.has_regexp_group)
     }
 }

@@ -3,7 +3,7 @@
 
 mod ecma_regexp;
 mod inputs;
-pub(crate) mod match_input;
+mod match_input;
 mod parsing;
 
 pub use crate::Error;

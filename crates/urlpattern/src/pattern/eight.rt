@@ -1,29 +1,30 @@
 //! Eight values, one for each component.
-ghost use Rattle.std.specs.Prelude.{◌≡◌};
+ghost use Rattle.std.specs.Prelude.{◌≡◌, IfOk};
 ghost use Rattle.urlpattern.specs.Eight.{borrowed_texts};
 ghost use Rattle.urlpattern.specs.Inheritance.{texts_of_url};
 ghost use Rattle.urlpattern.specs.MatchInput.{texts_view};
 
 use crate::init::{Component, url_text};
 use crate::quirks::MatchInput;
+use std::alloc::{AllocError, Global};
 use url::Url;
 
 /// A value for each component.
 #[derive(Drop)]
-pub(super) struct Eight<T> {
-    pub(super) protocol: T,
-    pub(super) username: T,
-    pub(super) password: T,
-    pub(super) hostname: T,
-    pub(super) port: T,
-    pub(super) pathname: T,
-    pub(super) search: T,
-    pub(super) hash: T,
+pub(crate) struct Eight<T> {
+    pub(crate) protocol: T,
+    pub(crate) username: T,
+    pub(crate) password: T,
+    pub(crate) hostname: T,
+    pub(crate) port: T,
+    pub(crate) pathname: T,
+    pub(crate) search: T,
+    pub(crate) hash: T,
 }
 
 impl<'a> Eight<&'a str> {
     /// The texts of a URL.
-    pub(super) fn of_url(url: &'a Url) -> Self
+    pub(crate) fn of_url(url: &'a Url) -> Self
         ensures { borrowed_texts result ≡ texts_of_url url.now }
     {
         Self {
@@ -39,7 +40,7 @@ impl<'a> Eight<&'a str> {
     }
 
     /// The texts of an input that has its own.
-    pub(super) fn of_input(input: &'a MatchInput) -> Self
+    pub(crate) fn of_input(input: &'a MatchInput) -> Self
         ensures { borrowed_texts result ≡ texts_view input.now }
     {
         Self {
@@ -52,5 +53,22 @@ impl<'a> Eight<&'a str> {
             search: &input.search,
             hash: &input.hash,
         }
+    }
+
+    /// Copies of the texts.
+    pub(crate) fn copied(&self, alloc: Global) -> Result<MatchInput, AllocError>
+        ensures { IfOk result (λ copies. texts_view copies ≡ borrowed_texts self.now) }
+    {
+        let copy = |text: &str| -> Result<String, AllocError> { String::from_str(alloc, text) };
+        Ok(MatchInput {
+            protocol: copy(self.protocol)?,
+            username: copy(self.username)?,
+            password: copy(self.password)?,
+            hostname: copy(self.hostname)?,
+            port: copy(self.port)?,
+            pathname: copy(self.pathname)?,
+            search: copy(self.search)?,
+            hash: copy(self.hash)?,
+        })
     }
 }

@@ -6,7 +6,7 @@ ghost use Rattle.std.specs.Str.{chars};
 ghost use Rattle.urlpattern.specs.declared.init.processing.Component.{Component as Name};
 ghost use Rattle.urlpattern.specs.Eight.{at, borrowed_texts, captures_of, AreGroups, HaveGroups};
 ghost use Rattle.urlpattern.specs.Inheritance.{texts_of_url, Texts};
-ghost use Rattle.urlpattern.specs.Match.{AreAnswers, AreMatched, HasMatch, HasNoMatch, IsMatch, IsMatchOf, IsRefused, result_view, text_at};
+ghost use Rattle.urlpattern.specs.Match.{AreAnswers, AreMatched, HasMatch, HasNoMatch, IsMatch, IsMatchOf, IsRefused, IsResultOf, result_view, text_at};
 ghost use Rattle.urlpattern.specs.MatchInput.{texts_view};
 ghost use Rattle.urlpattern.specs.Patterns.{pattern_view};
 ghost use Rattle.urlpattern_core.specs.Captured.{capture_view};
@@ -23,7 +23,7 @@ use super::result::UrlPatternResult;
 use crate::component::Component;
 use crate::init::UrlPatternMatchInput;
 use crate::matcher::Look;
-use crate::quirks::{MatchInput, match_input, parse_match_input};
+use crate::quirks::{MatchInput, parse_match_input};
 use crate::regexp::RegExp;
 use std::alloc::Global;
 use std::slice;
@@ -136,13 +136,21 @@ impl<R: RegExp> UrlPattern<R> {
         ensures matched { IfOk result (λ found. IfSome found (λ result. IsMatchOf R.answer (pattern_view self.now) (texts_of_url url.now) (result_view result))) }
         ensures memory { IfErr result (λ error. error ≡ errors.OutOfMemory) }
     {
-        match self.matched_groups(alloc, Eight::of_url(url))? {
-            Some(groups) => {
-                let texts = match_input::of_url(alloc, url)?;
-                Ok(Some(UrlPatternResult::new(texts, groups)))
-            }
+        match self.answer(alloc, Eight::of_url(url))? {
+            Some(answer) => Ok(Some(self.copied(alloc, &answer)?)),
             None => Ok(None),
         }
+    }
+
+    /// What an answer tells, with copies of its texts.
+    fn copied(&self, alloc: Global, answer: &Match<'_>) -> Result<UrlPatternResult, Error>
+        ensures results { IfOk result (λ copy. (name : Name) →
+            IsResultOf (pattern_view self.now name).group_name_list (captures_of (at answer.now.captures name)) (text_at (borrowed_texts answer.now.texts) name) (result_view copy name)) }
+        ensures memory { IfErr result (λ error. error ≡ errors.OutOfMemory) }
+    {
+        let groups = self.groups(alloc, &answer.captures)?;
+        let texts = answer.texts.copied(alloc)?;
+        Ok(UrlPatternResult::new(texts, groups))
     }
 
     /// The match of texts that are there, which are moved.

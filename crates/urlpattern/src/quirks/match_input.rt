@@ -1,12 +1,12 @@
 //! The texts that a pattern is matched against.
 ghost use Rattle.std.specs.Prelude.{◌≡◌, [], None, Some, Ok, option_map, unwrap_or, string_bytes, MatchOption, IfOk, IfErr};
-ghost use Rattle.std.specs.Str.{chars};
 ghost use Rattle.urlpattern_syntax.specs.declared.error.Error.TheVariants as errors;
 ghost use Rattle.urlpattern_syntax.specs.Text.{text_of};
 ghost use Rattle.urlpattern.specs.Inheritance.{texts_of_url, texts_of_values, values_view};
 ghost use Rattle.urlpattern.specs.MatchInput.{IsNoInput, input_texts, texts_view};
 
-use crate::init::{Component, UrlPatternInit, UrlPatternMatchInput, process, url_text};
+use crate::init::{UrlPatternInit, UrlPatternMatchInput, process};
+use crate::pattern::Eight;
 use std::alloc::{AllocError, Global};
 use url::Url;
 use urlpattern_core::Error;
@@ -14,22 +14,10 @@ use urlpattern_core::canonicalize_and_process::ProcessType;
 use urlpattern_plain::MatchInput;
 
 /// The texts of a URL.
-pub(crate) fn of_url(alloc: Global, url: &Url) -> Result<MatchInput, AllocError>
+fn of_url(alloc: Global, url: &Url) -> Result<MatchInput, AllocError>
     ensures { IfOk result (λ texts. texts_view texts ≡ texts_of_url url.now) }
 {
-    let copy = |component: Component| -> Result<String, AllocError> {
-        String::from_str(alloc, url_text(url, component))
-    };
-    Ok(MatchInput {
-        protocol: copy(Component::Protocol)?,
-        username: copy(Component::Username)?,
-        password: copy(Component::Password)?,
-        hostname: copy(Component::Hostname)?,
-        port: copy(Component::Port)?,
-        pathname: copy(Component::Pathname)?,
-        search: copy(Component::Search)?,
-        hash: copy(Component::Hash)?,
-    })
+    Eight::of_url(url).copied(alloc)
 }
 
 /// The values that an init came to.
