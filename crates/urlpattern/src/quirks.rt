@@ -1,4 +1,5 @@
-//! Types and calls for browsers: an engine in ECMAScript's syntax, plain data, and the texts of a match input.
+//! Types and calls for browsers: an engine in ECMAScript's syntax, plain data, inits and inputs as they are given, and the
+//! texts of a match input.
 
 mod ecma_regexp;
 mod inputs;

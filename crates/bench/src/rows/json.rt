@@ -3,7 +3,7 @@
 use serde::de::DeserializeOwned;
 use serde::Serialize;
 use serde_json::Value;
-use std::alloc::Global;
+use std::alloc::{AllocError, Global};
 use std::borrow::CowStr;
 use std::process::Abort;
 use std::test::Fail;
@@ -19,12 +19,12 @@ fn tree(alloc: Global, text: &str) -> Result<Value, Fail> {
 }
 
 /// A copy of a text.
-fn string(alloc: Global, text: &str) -> Result<String, Fail> {
-    Ok(String::from_str(alloc, text)?)
+fn string(alloc: Global, text: &str) -> Result<String, AllocError> {
+    String::from_str(alloc, text)
 }
 
 /// A matcher with this between its prefix and its suffix.
-fn matcher(alloc: Global, inner: InnerMatcher) -> Result<Matcher, Fail> {
+fn matcher(alloc: Global, inner: InnerMatcher) -> Result<Matcher, AllocError> {
     Ok(Matcher {
         prefix: string(alloc, "/users/")?,
         suffix: string(alloc, "")?,
@@ -33,7 +33,7 @@ fn matcher(alloc: Global, inner: InnerMatcher) -> Result<Matcher, Fail> {
 }
 
 /// A component with this matcher and a group.
-fn component(alloc: Global, matcher: Matcher) -> Result<UrlPatternComponent, Fail> {
+fn component(alloc: Global, matcher: Matcher) -> Result<UrlPatternComponent, AllocError> {
     Ok(UrlPatternComponent {
         pattern_string: string(alloc, "/users/:id")?,
         regexp_string: string(alloc, "^/users(?:/([^/]+?))$")?,
@@ -57,7 +57,7 @@ const SEGMENT: &str = r#"{"prefix":"/users/","suffix":"","kind":"singleCapture",
 const COMPONENT: &str = r#"{"patternString":"/users/:id","regexpString":"^/users(?:/([^/]+?))$","matcher":{"prefix":"/users/","suffix":"","kind":"singleCapture","filter":"/","allowEmpty":false},"groupNameList":["id"]}"#;
 
 /// A pattern of which each component is the same.
-fn pattern(alloc: Global) -> Result<UrlPattern, Fail> {
+fn pattern(alloc: Global) -> Result<UrlPattern, AllocError> {
     let component = component(alloc, matcher(alloc, segment())?)?;
     Ok(UrlPattern {
         protocol: component.clone()?,
@@ -73,7 +73,7 @@ fn pattern(alloc: Global) -> Result<UrlPattern, Fail> {
 }
 
 /// An init with a pathname and a base URL.
-fn init(alloc: Global) -> Result<UrlPatternInit, Fail> {
+fn init(alloc: Global) -> Result<UrlPatternInit, AllocError> {
     Ok(UrlPatternInit {
         pathname: Some(string(alloc, "/a")?),
         base_url: Some(string(alloc, "https://example.com/")?),
@@ -134,20 +134,23 @@ fn a_tree_of_another_shape_is_no_options(rt: HostRuntime) -> Result<(), Fail> {
     Ok(())
 }
 
+/// The input that a text of JSON stands for.
+fn input(alloc: Global, text: &str) -> Result<Option<StringOrInit<'static>>, Fail> {
+    Ok(StringOrInit::from_json_value(alloc, &tree(alloc, text)?)?)
+}
+
 #[test]
 fn an_input_is_a_text_or_an_init(rt: HostRuntime) -> Result<(), Fail> {
     let alloc = rt.alloc();
-    let read = |text: &str| -> Result<Option<StringOrInit<'static>>, Fail> {
-        Ok(StringOrInit::from_json_value(alloc, &tree(alloc, text)?)?)
-    };
-    assert_eq!(rt; read("\"a\"")?, Some(StringOrInit::String(CowStr::Owned(string(alloc, "a")?))));
+    let text = StringOrInit::String(CowStr::Owned(string(alloc, "a")?));
+    assert_eq!(rt; input(alloc, "\"a\"")?, Some(text));
     let base = UrlPatternInit {
         base_url: Some(string(alloc, "x")?),
         ..UrlPatternInit::default()
     };
-    assert_eq!(rt; read(r#"{"baseURL":"x"}"#)?, Some(StringOrInit::Init(base)));
-    assert!(rt; read("5")?.is_none());
-    assert!(rt; read(r#"{"pathname":5}"#)?.is_none());
+    assert_eq!(rt; input(alloc, r#"{"baseURL":"x"}"#)?, Some(StringOrInit::Init(base)));
+    assert!(rt; input(alloc, "5")?.is_none());
+    assert!(rt; input(alloc, r#"{"pathname":5}"#)?.is_none());
     Ok(())
 }
 
@@ -187,9 +190,7 @@ fn a_matcher_tells_its_kind(rt: HostRuntime) -> Result<(), Fail> {
 #[test]
 fn a_filter_is_one_character_or_none(rt: HostRuntime) -> Result<(), Fail> {
     let alloc = rt.alloc();
-    let read = |text: &str| -> Result<Option<Matcher>, Fail> {
-        Ok(Matcher::from_json_value(alloc, &tree(alloc, text)?)?)
-    };
+    let read = |text: &str| -> Result<Option<Matcher>, Fail> { Ok(Matcher::from_json_value(alloc, &tree(alloc, text)?)?) };
     let any = InnerMatcher::SingleCapture {
         filter: None,
         allow_empty: true,
