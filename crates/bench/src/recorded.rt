@@ -53,6 +53,8 @@ pub enum Operation {
     MatchInput,
     /// The components of a constructor string.
     Constructor,
+    /// A pattern, and what it answers to inputs.
+    Pattern,
 }
 
 impl Operation {
@@ -69,6 +71,7 @@ impl Operation {
             "process" => Operation::Process,
             "match_input" => Operation::MatchInput,
             "constructor" => Operation::Constructor,
+            "pattern" => Operation::Pattern,
             _ => return Err(Fault::NoCase),
         })
     }

@@ -5,6 +5,7 @@ pub mod components;
 mod constructors;
 mod engines;
 mod matchers;
+mod patterns;
 mod tokens;
 mod values;
 
@@ -41,6 +42,7 @@ pub fn replay(alloc: Global, line: &str) -> Result<Outcome, Fault> {
         Operation::Process => values::is_same_processed(alloc, question, answer),
         Operation::MatchInput => values::is_same_match_input(alloc, question, answer),
         Operation::Constructor => constructors::is_same(alloc, question, answer),
+        Operation::Pattern => patterns::is_same(alloc, question, answer),
     }?;
     Ok(Outcome {
         operation,

@@ -56,6 +56,7 @@ struct Report {
     process: Tally,
     match_input: Tally,
     constructor: Tally,
+    pattern: Tally,
     unreadable: u64,
 }
 
@@ -99,6 +100,7 @@ impl Report {
             Operation::Process => &mut self.process,
             Operation::MatchInput => &mut self.match_input,
             Operation::Constructor => &mut self.constructor,
+            Operation::Pattern => &mut self.pattern,
         }
     }
 
@@ -114,6 +116,7 @@ impl Report {
         self.process.print(out, "process")?;
         self.match_input.print(out, "match_input")?;
         self.constructor.print(out, "constructor")?;
+        self.pattern.print(out, "pattern")?;
         let unreadable = self.unreadable;
         writeln!(out, "lines without a case: {unreadable}")
     }
@@ -131,6 +134,7 @@ impl Report {
             &self.process,
             &self.match_input,
             &self.constructor,
+            &self.pattern,
         ] {
             if tally.differing != 0 {
                 return false;
@@ -246,6 +250,7 @@ mod tests {
             "process: 2 answers and 0 errors, 1 differ\n",
             "match_input: 2 answers and 0 errors, 1 differ\n",
             "constructor: 0 answers and 2 errors, 1 differ\n",
+            "pattern: 0 answers and 0 errors, 0 differ\n",
             "lines without a case: 1\n",
         );
         let mut report = Report::default();

@@ -179,7 +179,7 @@ fn parsed_init(alloc: Global, fields: &Value) -> Result<Option<UrlPatternInit>, 
 }
 
 /// A copy of the text of a field, or None where it is missing or null.
-fn owned(alloc: Global, fields: &Value, name: &str) -> Result<Option<String>, AllocError> {
+pub fn owned(alloc: Global, fields: &Value, name: &str) -> Result<Option<String>, AllocError> {
     match optional_text(fields, name) {
         Some(text) => Ok(Some(String::from_str(alloc, text)?)),
         None => Ok(None),

@@ -1,0 +1,174 @@
+//! Builds the patterns that were built when a case was recorded, and matches what was matched.
+
+use super::prints;
+use super::values::owned;
+use crate::recorded::{Answer, Fault, field, has_text, is_set, list, optional_text};
+use regex::Regex;
+use serde_json::Value;
+use std::alloc::{AllocError, Global};
+use std::borrow::CowStr;
+use urlpattern::quirks::{
+    EcmaRegexp, StringOrInit, UrlPatternInit, process_construct_pattern_input, process_match_input,
+};
+use urlpattern::regexp::RegExp;
+use urlpattern::{
+    Error, UrlPattern, UrlPatternComponentResult, UrlPatternOptions, UrlPatternResult,
+};
+
+/// Whether a pattern and what it answers to the inputs are what was recorded.
+pub fn is_same(alloc: Global, question: &Value, answer: Answer<'_>) -> Result<bool, Fault> {
+    match optional_text(question, "engine") {
+        Some("regex") | None => is_same_over::<Regex>(alloc, question, answer),
+        Some("ecma") => is_same_over::<EcmaRegexp>(alloc, question, answer),
+        Some(_) => Err(Fault::NoCase),
+    }
+}
+
+/// The same over one engine.
+fn is_same_over<R: RegExp>(
+    alloc: Global,
+    question: &Value,
+    answer: Answer<'_>,
+) -> Result<bool, Fault> {
+    let found = built::<R>(alloc, given(alloc, question)?, question);
+    Ok(match (found, answer) {
+        (Ok(pattern), Answer::Ok(recorded)) => {
+            has_same_texts(&pattern, recorded) && has_same_results(alloc, &pattern, question, recorded)?
+        }
+        (Err(error), Answer::Err(text)) => prints(alloc, &error, text)?,
+        _ => false,
+    })
+}
+
+/// What is given: a text, or an init.
+fn given<'a>(alloc: Global, fields: &'a Value) -> Result<StringOrInit<'a>, Fault> {
+    if let Some(text) = optional_text(fields, "string") {
+        return Ok(StringOrInit::String(CowStr::Borrowed(text)));
+    }
+    let init = field(fields, "init")?;
+    Ok(StringOrInit::Init(UrlPatternInit {
+        protocol: owned(alloc, init, "protocol")?,
+        username: owned(alloc, init, "username")?,
+        password: owned(alloc, init, "password")?,
+        hostname: owned(alloc, init, "hostname")?,
+        port: owned(alloc, init, "port")?,
+        pathname: owned(alloc, init, "pathname")?,
+        search: owned(alloc, init, "search")?,
+        hash: owned(alloc, init, "hash")?,
+        base_url: owned(alloc, init, "baseURL")?,
+    }))
+}
+
+/// The pattern of what is given, under the options of a question.
+fn built<R: RegExp>(
+    alloc: Global,
+    input: StringOrInit<'_>,
+    question: &Value,
+) -> Result<UrlPattern<R>, Error> {
+    let init = process_construct_pattern_input(alloc, input, optional_text(question, "base"))?;
+    let options = UrlPatternOptions {
+        ignore_case: match question.get("options") {
+            Some(options) => is_set(options, "ignoreCase"),
+            None => false,
+        },
+        ..UrlPatternOptions::default()
+    };
+    UrlPattern::<R>::parse(alloc, init, options)
+}
+
+/// Whether the texts of a pattern are the recorded ones.
+fn has_same_texts<R: RegExp>(pattern: &UrlPattern<R>, recorded: &Value) -> bool {
+    has_text(recorded, "protocol", pattern.protocol())
+        && has_text(recorded, "username", pattern.username())
+        && has_text(recorded, "password", pattern.password())
+        && has_text(recorded, "hostname", pattern.hostname())
+        && has_text(recorded, "port", pattern.port())
+        && has_text(recorded, "pathname", pattern.pathname())
+        && has_text(recorded, "search", pattern.search())
+        && has_text(recorded, "hash", pattern.hash())
+        && is_set(recorded, "has_regexp_groups") == pattern.has_regexp_groups()
+}
+
+/// Whether what comes of each input of a question is the recorded result.
+fn has_same_results<R: RegExp>(
+    alloc: Global,
+    pattern: &UrlPattern<R>,
+    question: &Value,
+    recorded: &Value,
+) -> Result<bool, Fault> {
+    if question.get("inputs").is_none() {
+        return Ok(true);
+    }
+    let inputs = list(question, "inputs")?;
+    let results = list(recorded, "results")?;
+    for (input, expected) in inputs.iter().zip(results) {
+        let input_given = given(alloc, input)?;
+        let found = matched(alloc, pattern, input_given, optional_text(input, "base"));
+        if !is_same_result(alloc, found, expected)? {
+            return Ok(false);
+        }
+    }
+    Ok(inputs.len() == results.len())
+}
+
+/// The match of an input, None where there is none.
+fn matched<R: RegExp>(
+    alloc: Global,
+    pattern: &UrlPattern<R>,
+    input: StringOrInit<'_>,
+    base: Option<&str>,
+) -> Result<Option<UrlPatternResult>, Error> {
+    match process_match_input(alloc, input, base)? {
+        Some((input, _)) => pattern.exec(alloc, input),
+        None => Ok(None),
+    }
+}
+
+/// Whether the outcome of a match is the recorded one: null where there is none.
+fn is_same_result(
+    alloc: Global,
+    found: Result<Option<UrlPatternResult>, Error>,
+    recorded: &Value,
+) -> Result<bool, AllocError> {
+    match found {
+        Ok(Some(found)) => Ok(are_same_components(&found, recorded)),
+        Ok(None) => Ok(recorded.is_null()),
+        Err(error) => match optional_text(recorded, "err") {
+            Some(text) => prints(alloc, &error, text),
+            None => Ok(false),
+        },
+    }
+}
+
+/// Whether the results of all components are the recorded ones.
+fn are_same_components(found: &UrlPatternResult, recorded: &Value) -> bool {
+    is_same_component(&found.protocol, recorded, "protocol")
+        && is_same_component(&found.username, recorded, "username")
+        && is_same_component(&found.password, recorded, "password")
+        && is_same_component(&found.hostname, recorded, "hostname")
+        && is_same_component(&found.port, recorded, "port")
+        && is_same_component(&found.pathname, recorded, "pathname")
+        && is_same_component(&found.search, recorded, "search")
+        && is_same_component(&found.hash, recorded, "hash")
+}
+
+/// Whether the result of a component is the recorded one.
+fn is_same_component(found: &UrlPatternComponentResult, recorded: &Value, name: &str) -> bool {
+    let Some(recorded) = recorded.get(name) else {
+        return false;
+    };
+    let Some(groups) = recorded.get("groups").and_then(Value::as_object) else {
+        return false;
+    };
+    for (group, captured) in &found.groups {
+        let is_same = match (groups.get(group.as_str()), captured) {
+            (Some(expected), Some(text)) => expected.as_str() == Some(text.as_str()),
+            (Some(expected), None) => expected.is_null(),
+            (None, _) => false,
+        };
+        if !is_same {
+            return false;
+        }
+    }
+    has_text(recorded, "input", &found.input) && groups.len() == found.groups.len()
+}
