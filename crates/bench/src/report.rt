@@ -1,6 +1,6 @@
 //! The run over files of cases, and what it prints.
 
-use crate::recorded::Operation;
+use crate::recorded::{Fault, Operation};
 use crate::replay::{Outcome, replay};
 use std::alloc::Global;
 use std::io::Write;
@@ -56,6 +56,7 @@ struct Report {
     process: Tally,
     match_input: Tally,
     constructor: Tally,
+    quirks_pattern: Tally,
     unreadable: u64,
 }
 
@@ -76,10 +77,8 @@ impl Report {
                         writeln!(out, "{path}:{number}: differs")?;
                     }
                 }
-                Err(error) if error.is_memory() => return Err(io::Error::from(
-                    io::ErrorKind::OutOfMemory,
-                )),
-                Err(_) => {
+                Err(Fault::OutOfMemory) => return Err(io::Error::from(io::ErrorKind::OutOfMemory)),
+                Err(Fault::NoCase) => {
                     self.unreadable = self.unreadable.saturating_add(1);
                     writeln!(out, "{path}:{number}: no case")?;
                 }
@@ -101,6 +100,7 @@ impl Report {
             Operation::Process => &mut self.process,
             Operation::MatchInput => &mut self.match_input,
             Operation::Constructor => &mut self.constructor,
+            Operation::QuirksPattern => &mut self.quirks_pattern,
         }
     }
 
@@ -116,13 +116,14 @@ impl Report {
         self.process.print(out, "process")?;
         self.match_input.print(out, "match_input")?;
         self.constructor.print(out, "constructor")?;
+        self.quirks_pattern.print(out, "quirks_pattern")?;
         let unreadable = self.unreadable;
         writeln!(out, "lines without a case: {unreadable}")
     }
 
     /// Whether each line holds a case, and none differs.
     fn is_same(&self) -> bool {
-        let tallies = [
+        for tally in [
             &self.tokenize,
             &self.component,
             &self.compile,
@@ -133,8 +134,13 @@ impl Report {
             &self.process,
             &self.match_input,
             &self.constructor,
-        ];
-        tallies.iter().all(|tally| tally.differing == 0) && self.unreadable == 0
+            &self.quirks_pattern,
+        ] {
+            if tally.differing != 0 {
+                return false;
+            }
+        }
+        self.unreadable == 0
     }
 }
 
@@ -185,6 +191,12 @@ mod tests {
             "\n",
             r#"{"in":{"op":"hand_matcher","prefix":"a","suffix":"","ignore_case":false,"literal":"b","inputs":["ab"]},"out":{"ok":[null]}}"#,
             "\n",
+            r#"{"in":{"op":"compile","kind":"pathname","pattern":"/(.*?)"},"out":{"ok":{"has_regexp_group":true,"inner_regexp":"^(?:/(.*?))$","names":["0"],"pattern":"/(.*?)","regexp":"^(?:/(.*?))$"}}}"#,
+            "\n",
+            r#"{"in":{"op":"compile","kind":"pathname","pattern":"/(.*?)"},"out":{"ok":{"has_regexp_group":true,"inner_regexp":null,"names":["0"],"pattern":"/(.*?)","regexp":"^(?:/(.*?))$"}}}"#,
+            "\n",
+            r#"{"in":{"op":"compile","kind":"pathname","pattern":"/(a[)"},"out":{"ok":{"has_regexp_group":true,"inner_regexp":{"kept":"regexp error"},"names":["0"],"pattern":"/(a[)","regexp":"^(?:/(a[))$"}}}"#,
+            "\n",
             r#"{"in":{"op":"engine","engine":"regex","pattern":"b(c)","inputs":["abcd","b"]},"out":{"ok":{"matches":[["c"],null],"pattern_string":"b(c)"}}}"#,
             "\n",
             r#"{"in":{"op":"engine","engine":"regex","pattern":"b(c)","inputs":["abcd"]},"out":{"ok":{"matches":[[null]],"pattern_string":"b(c)"}}}"#,
@@ -196,6 +208,18 @@ mod tests {
             r#"{"in":{"op":"constructor","pattern":"a","base":null},"out":{"err":"a relative input without a base URL is not valid"}}"#,
             "\n",
             r#"{"in":{"op":"constructor","pattern":"a","base":null},"out":{"err":"out of memory"}}"#,
+            "\n",
+            r#"{"in":{"op":"canonicalize","which":"protocol","value":"HTTP"},"out":{"ok":"HTTP"}}"#,
+            "\n",
+            r#"{"in":{"op":"canonicalize","which":"port","value":"1","protocol":"1x"},"out":{"err":"*"}}"#,
+            "\n",
+            r#"{"in":{"op":"process","which":"search","value":"?a"},"out":{"ok":"a"}}"#,
+            "\n",
+            r#"{"in":{"op":"process","which":"search","value":"?a"},"out":{"ok":"?a"}}"#,
+            "\n",
+            r#"{"in":{"op":"match_input","string":"nonsense"},"out":{"ok":null}}"#,
+            "\n",
+            r#"{"in":{"op":"match_input","init":{},"base":"https://example.com/"},"out":{"ok":null}}"#,
             "\n",
             r#"{"in":{"op":"other"},"out":{"ok":null}}"#,
         );
@@ -209,17 +233,22 @@ mod tests {
             "cases:10: differs\n",
             "cases:12: differs\n",
             "cases:14: differs\n",
-            "cases:18: differs\n",
-            "cases:19: no case\n",
+            "cases:15: differs\n",
+            "cases:17: differs\n",
+            "cases:21: differs\n",
+            "cases:22: differs\n",
+            "cases:25: differs\n",
+            "cases:27: differs\n",
+            "cases:28: no case\n",
             "tokenize: 3 answers and 2 errors, 3 differ\n",
             "component: 4 answers and 0 errors, 3 differ\n",
-            "compile: 0 answers and 0 errors, 0 differ\n",
+            "compile: 3 answers and 0 errors, 2 differ\n",
             "engine: 2 answers and 1 errors, 1 differ\n",
             "matches: 3 answers and 0 errors, 1 differ\n",
             "hand_matcher: 1 answers and 0 errors, 1 differ\n",
-            "canonicalize: 0 answers and 0 errors, 0 differ\n",
-            "process: 0 answers and 0 errors, 0 differ\n",
-            "match_input: 0 answers and 0 errors, 0 differ\n",
+            "canonicalize: 1 answers and 1 errors, 1 differ\n",
+            "process: 2 answers and 0 errors, 1 differ\n",
+            "match_input: 2 answers and 0 errors, 1 differ\n",
             "constructor: 0 answers and 2 errors, 1 differ\n",
             "lines without a case: 1\n",
         );

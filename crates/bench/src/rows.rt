@@ -11,6 +11,7 @@ mod long_texts;
 mod match_inputs;
 mod matchers;
 mod matches;
+mod meanings;
 mod options;
 mod plain_patterns;
 mod printed;
@@ -18,12 +19,13 @@ mod refusals;
 mod tokens;
 mod values;
 
+use crate::replay;
+use crate::replay::components::Callback;
 use std::alloc::Global;
 use urlpattern::Error;
-use urlpattern::parser::{Options, Part, parse_pattern_string};
+use urlpattern::parser::{Options, Part};
 
 /// The parts of a pattern whose texts stay as they are.
 fn parts_of(alloc: Global, pattern: &str, options: &Options) -> Result<Vec<Part>, Error> {
-    let unchanged = |text: &str| -> Result<String, Error> { Ok(String::from_str(alloc, text)?) };
-    parse_pattern_string(alloc, pattern, options, unchanged)
+    replay::components::parts_of(alloc, pattern, options, Callback::Keep)
 }

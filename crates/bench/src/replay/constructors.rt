@@ -1,52 +1,63 @@
 //! Asks for the components of a constructor string.
 
-use crate::recorded::{Answer, Case, Constructor, ConstructorQuestion, Operation};
-use crate::replay::{Outcome, prints};
+use super::prints;
+use crate::recorded::{Answer, Fault, optional_text, text};
 use regex::Regex;
+use serde_json::Value;
 use std::alloc::Global;
 use url::Url;
 use urlpattern::{Error, UrlPatternInit};
 
-/// Replays a case that asks for the components of a constructor string.
-pub fn replay_constructor(alloc: Global, line: &str) -> Result<Outcome, serde_json::Error> {
-    let Case { question, answer }: Case<ConstructorQuestion, Constructor> = serde_json::from_str(
-        alloc, line,
-    )?;
-    let found = constructor(alloc, &question);
-    let is_same = match (&found, &answer) {
-        (Ok(constructor), Answer::Ok(recorded)) => constructor == recorded,
-        (Err(error), Answer::Err(text)) => prints(alloc, error, text)?,
+/// Whether the components of a constructor string are the recorded ones, and the looks at a token as many.
+pub fn is_same(alloc: Global, question: &Value, answer: Answer<'_>) -> Result<bool, Fault> {
+    let found = constructor(
+        alloc,
+        text(question, "pattern")?,
+        optional_text(question, "base"),
+    );
+    Ok(match (found, answer) {
+        (Ok((init, turns)), Answer::Ok(recorded)) => {
+            is_init(&init, recorded)
+                && recorded.get("turns").and_then(Value::as_u64) == Some(turns as u64)
+        }
+        (Err(error), Answer::Err(text)) => prints(alloc, &error, text)?,
         _ => false,
-    };
-    Ok(Outcome {
-        operation: Operation::Constructor,
-        is_error: matches!(answer, Answer::Err(_)),
-        is_same,
     })
 }
 
-/// The library's answer to a question, in the form of the recorded ones.
-fn constructor(alloc: Global, question: &ConstructorQuestion) -> Result<Constructor, Error> {
-    let base = match &question.base {
+/// The components of a constructor string, and the number of looks at a token.
+fn constructor(
+    alloc: Global,
+    pattern: &str,
+    base: Option<&str>,
+) -> Result<(UrlPatternInit, usize), Error> {
+    let base = match base {
         Some(base) => match Url::parse(alloc, base) {
             Ok(base) => Some(base),
             Err(error) => return Err(Error::Url(error)),
         },
         None => None,
     };
-    let pattern = &question.pattern;
-    let (init, turns) = UrlPatternInit::parse_constructor_string_counted::<Regex>(
-        alloc, pattern, base,
-    )?;
-    Ok(Constructor {
-        turns,
-        hash: init.hash,
-        search: init.search,
-        pathname: init.pathname,
-        port: init.port,
-        hostname: init.hostname,
-        password: init.password,
-        username: init.username,
-        protocol: init.protocol,
-    })
+    UrlPatternInit::parse_constructor_string_counted::<Regex>(alloc, pattern, base)
+}
+
+/// Whether the components are the recorded ones, null where one is missing.
+fn is_init(init: &UrlPatternInit, recorded: &Value) -> bool {
+    is_component(&init.protocol, recorded, "protocol")
+        && is_component(&init.username, recorded, "username")
+        && is_component(&init.password, recorded, "password")
+        && is_component(&init.hostname, recorded, "hostname")
+        && is_component(&init.port, recorded, "port")
+        && is_component(&init.pathname, recorded, "pathname")
+        && is_component(&init.search, recorded, "search")
+        && is_component(&init.hash, recorded, "hash")
+}
+
+/// Whether a component is the recorded one.
+fn is_component(component: &Option<String>, recorded: &Value, name: &str) -> bool {
+    let recorded = optional_text(recorded, name);
+    match component {
+        Some(text) => recorded == Some(text.as_str()),
+        None => recorded.is_none(),
+    }
 }

@@ -1,70 +1,77 @@
 //! Asks an engine what was asked when a case was recorded.
 
-use crate::recorded::{Answer, Captures, Case, Engine, EngineAnswer, EngineQuestion, Operation};
-use crate::replay::Outcome;
+use crate::recorded::{Answer, Fault, has_text, is_set, list, text};
 use regex::Regex;
+use serde_json::Value;
 use std::alloc::Global;
 use urlpattern::error::RegExpError;
 use urlpattern::quirks::EcmaRegexp;
 use urlpattern::regexp::RegExp;
 
-/// Replays a case that asks an engine for its answers.
-pub fn replay_engine(alloc: Global, line: &str) -> Result<Outcome, serde_json::Error> {
-    let Case { question, answer }: Case<EngineQuestion, EngineAnswer> = serde_json::from_str(
-        alloc, line,
-    )?;
-    let is_same = match question.engine {
-        Engine::Regex => answers::<Regex>(alloc, &question, &answer),
-        Engine::Ecma => answers::<EcmaRegexp>(alloc, &question, &answer),
-    };
-    Ok(Outcome {
-        operation: Operation::Engine,
-        is_error: matches!(answer, Answer::Err(_)),
-        is_same,
-    })
-}
-
-/// Whether an engine answers what was recorded.
-fn answers<R: RegExp>(
-    alloc: Global,
-    question: &EngineQuestion,
-    answer: &Answer<EngineAnswer>,
-) -> bool {
-    match (
-        R::parse(alloc, &question.pattern, "u", question.force_eval),
-        answer,
-    ) {
-        (Ok(engine), Answer::Ok(recorded)) => {
-            engine.pattern_string() == recorded.pattern_string.as_str()
-                && is_same(alloc, &engine, &question.inputs, &recorded.matches)
-        }
-        (Err(RegExpError::Pattern), Answer::Err(text)) => text.as_str() == "pattern",
-        _ => false,
+/// Whether an engine's answers are the recorded ones.
+pub fn is_same(alloc: Global, question: &Value, answer: Answer<'_>) -> Result<bool, Fault> {
+    match text(question, "engine")? {
+        "regex" => is_same_over::<Regex>(alloc, question, answer),
+        "ecma" => is_same_over::<EcmaRegexp>(alloc, question, answer),
+        _ => Err(Fault::NoCase),
     }
 }
 
+/// Whether the answers of this engine are the recorded ones.
+fn is_same_over<R: RegExp>(
+    alloc: Global,
+    question: &Value,
+    answer: Answer<'_>,
+) -> Result<bool, Fault> {
+    let found = R::parse(
+        alloc,
+        text(question, "pattern")?,
+        "u",
+        is_set(question, "force_eval"),
+    );
+    Ok(match (found, answer) {
+        (Ok(engine), Answer::Ok(recorded)) => {
+            has_text(recorded, "pattern_string", engine.pattern_string())
+                && are_answers(
+                    alloc,
+                    &engine,
+                    list(question, "inputs")?,
+                    list(recorded, "matches")?,
+                )
+        }
+        (Err(RegExpError::Pattern), Answer::Err(text)) => text == "pattern",
+        _ => false,
+    })
+}
+
 /// Whether an engine answers each text as recorded.
-fn is_same<R: RegExp>(alloc: Global, engine: &R, inputs: &[String], recorded: &[Captures]) -> bool {
+fn are_answers<R: RegExp>(alloc: Global, engine: &R, inputs: &[Value], recorded: &[Value]) -> bool {
     for (input, expected) in inputs.iter().zip(recorded) {
+        let Some(input) = input.as_str() else {
+            return false;
+        };
         let Ok(found) = engine.matches(alloc, input) else {
             return false;
         };
-        if !are_same_captures(&found, expected) {
+        if !are_captures(&found, expected) {
             return false;
         }
     }
     inputs.len() == recorded.len()
 }
 
-/// Whether captures are the recorded ones.
-pub fn are_same_captures(found: &Option<Vec<Option<&str>>>, recorded: &Captures) -> bool {
+/// Whether captures are the recorded ones: null where nothing is matched, and for a group that took no part.
+pub fn are_captures(found: &Option<Vec<Option<&str>>>, recorded: &Value) -> bool {
     match (found, recorded) {
-        (Some(found), Some(recorded)) => {
+        (Some(found), Value::Array(recorded)) => {
+            for (text, expected) in found.iter().zip(recorded) {
+                if *text != expected.as_str() {
+                    return false;
+                }
+            }
             found.len() == recorded.len()
-                && found.iter().zip(recorded).all(|(text, expected)| *text
-                    == expected.as_ref().map(|text| text.as_str()))
         }
-        (None, None) => true,
+        (None, Value::Null) => true,
         _ => false,
     }
 }

@@ -1,49 +1,61 @@
 //! Asks matchers what they were asked when a case was recorded.
 
+use super::components::{Callback, parts_of};
+use super::engines::are_captures;
+use super::prints;
 use crate::engines::KeptText;
-use crate::recorded;
 use crate::recorded::{
-    Answer, Captures, Case, HandMatcherQuestion, MatchesAnswer, MatchesQuestion, Operation,
+    Answer, Fault, character, field, has_text, is_set, list, optional_text, options_of, text,
 };
-use crate::replay::engines::are_same_captures;
-use crate::replay::{Outcome, options_of_kind, prints};
 use regex::Regex;
-use std::alloc::{AllocError, Global};
-use urlpattern::Error;
+use serde_json::Value;
+use std::alloc::Global;
 use urlpattern::component::generate_matcher;
 use urlpattern::matcher::{InnerMatcher, Matcher};
-use urlpattern::parser::parse_pattern_string;
+use urlpattern::parser::Options;
 use urlpattern::quirks::EcmaRegexp;
 use urlpattern::regexp::RegExp;
+use urlpattern::{Error, RegexSyntax};
 
-/// Replays a case that asks the matcher of a pattern for its answers, over both engines.
-pub fn replay_matches(alloc: Global, line: &str) -> Result<Outcome, serde_json::Error> {
-    let Case { question, answer }: Case<MatchesQuestion, MatchesAnswer> = serde_json::from_str(
-        alloc, line,
-    )?;
-    let is_same = is_recorded::<Regex>(alloc, &question, &answer)?
-        && is_recorded::<EcmaRegexp>(alloc, &question, &answer)?;
-    Ok(Outcome {
-        operation: Operation::Matches,
-        is_error: matches!(answer, Answer::Err(_)),
-        is_same,
-    })
+/// Whether the matcher of a pattern answers what was recorded, over both engines.
+pub fn is_same(alloc: Global, question: &Value, answer: Answer<'_>) -> Result<bool, Fault> {
+    Ok(
+        is_same_over::<Regex>(alloc, question, answer)?
+            && is_same_over::<EcmaRegexp>(alloc, question, answer)?,
+    )
 }
 
 /// Whether the matcher of a pattern over an engine answers what was recorded.
-fn is_recorded<R: RegExp>(
+fn is_same_over<R: RegExp>(
     alloc: Global,
-    question: &MatchesQuestion,
-    answer: &Answer<MatchesAnswer>,
-) -> Result<bool, AllocError> {
-    Ok(match (matcher_of::<R>(alloc, question), answer) {
+    question: &Value,
+    answer: Answer<'_>,
+) -> Result<bool, Fault> {
+    let options = options_of(alloc, question)?;
+    let found: Result<Matcher<R>, Error> = matcher_of(alloc, text(question, "pattern")?, &options);
+    Ok(match (found, answer) {
         (Ok(matcher), Answer::Ok(recorded)) => {
-            are_answers(alloc, &matcher, &question.inputs, &recorded.matches)
-                && (recorded.refused || !keeps_error(&matcher))
+            are_answers(
+                alloc,
+                &matcher,
+                list(question, "inputs")?,
+                list(recorded, "matches")?,
+            ) && keeps_error(&matcher) == (is_set(recorded, "refused") && is_regex::<R>())
         }
         (Err(error), Answer::Err(text)) => prints(alloc, &error, text)?,
         _ => false,
     })
+}
+
+/// The matcher of a pattern.
+fn matcher_of<R: RegExp>(
+    alloc: Global,
+    pattern: &str,
+    options: &Options,
+) -> Result<Matcher<R>, Error> {
+    let parts = parts_of(alloc, pattern, options, Callback::Keep)?;
+    let flags = if options.ignore_case { "ui" } else { "u" };
+    generate_matcher(alloc, &parts, options, flags)
 }
 
 /// Whether a matcher keeps an error in place of a regular expression.
@@ -51,61 +63,46 @@ fn keeps_error<R>(matcher: &Matcher<R>) -> bool {
     matches!(matcher.inner, InnerMatcher::RegExp { regexp: Err(_) })
 }
 
-/// Replays a case that asks a matcher made by hand for its answers.
-pub fn replay_hand_matcher(alloc: Global, line: &str) -> Result<Outcome, serde_json::Error> {
-    let Case { question, answer }: Case<HandMatcherQuestion, Vec<Captures>> = serde_json::from_str(
-        alloc, line,
-    )?;
-    let HandMatcherQuestion {
-        prefix,
-        suffix,
-        ignore_case,
-        literal,
-        filter,
-        allow_empty,
-        inputs,
-    } = question;
-    let matcher: Matcher<KeptText> = Matcher {
-        prefix,
-        suffix,
-        inner: match literal {
-            Some(literal) => InnerMatcher::Literal { literal },
-            None => InnerMatcher::SingleCapture {
-                filter,
-                allow_empty,
-            },
-        },
-        ignore_case,
-    };
-    let is_same = match &answer {
-        Answer::Ok(recorded) => are_answers(alloc, &matcher, &inputs, recorded),
-        Answer::Err(_) => false,
-    };
-    Ok(Outcome {
-        operation: Operation::HandMatcher,
-        is_error: matches!(answer, Answer::Err(_)),
-        is_same,
-    })
+/// Whether an engine is that of the recorded answers, which refuses texts unasked.
+fn is_regex<R: RegExp>() -> bool {
+    matches!(R::syntax(), RegexSyntax::Rust)
 }
 
-/// The matcher of a pattern.
-fn matcher_of<R: RegExp>(alloc: Global, question: &MatchesQuestion) -> Result<Matcher<R>, Error> {
-    let mut options = options_of_kind(alloc, question.kind)?;
-    options.ignore_case = question.ignore_case;
-    let unchanged = |text: &str| -> Result<String, Error> { Ok(String::from_str(alloc, text)?) };
-    let parts = parse_pattern_string(alloc, &question.pattern, &options, unchanged)?;
-    let flags = if question.ignore_case { "ui" } else { "u" };
-    generate_matcher(alloc, &parts, &options, flags)
+/// Whether a matcher made by hand answers what was recorded.
+pub fn is_same_by_hand(alloc: Global, question: &Value, answer: Answer<'_>) -> Result<bool, Fault> {
+    let matcher: Matcher<KeptText> = Matcher {
+        prefix: String::from_str(alloc, text(question, "prefix")?)?,
+        suffix: String::from_str(alloc, text(question, "suffix")?)?,
+        inner: match optional_text(question, "literal") {
+            Some(literal) => InnerMatcher::Literal {
+                literal: String::from_str(alloc, literal)?,
+            },
+            None => InnerMatcher::SingleCapture {
+                filter: character(question, "filter"),
+                allow_empty: is_set(question, "allow_empty"),
+            },
+        },
+        ignore_case: is_set(question, "ignore_case"),
+    };
+    Ok(match answer {
+        Answer::Ok(Value::Array(recorded)) => {
+            are_answers(alloc, &matcher, list(question, "inputs")?, recorded)
+        }
+        _ => false,
+    })
 }
 
 /// Whether a matcher answers each text as recorded.
 fn are_answers<R: RegExp>(
     alloc: Global,
     matcher: &Matcher<R>,
-    inputs: &[String],
-    recorded: &[Captures],
+    inputs: &[Value],
+    recorded: &[Value],
 ) -> bool {
     for (input, expected) in inputs.iter().zip(recorded) {
+        let Some(input) = input.as_str() else {
+            return false;
+        };
         if !answers(alloc, matcher, input, expected) {
             return false;
         }
@@ -114,55 +111,44 @@ fn are_answers<R: RegExp>(
 }
 
 /// Whether a matcher answers a text as recorded.
-fn answers<R: RegExp>(
-    alloc: Global,
-    matcher: &Matcher<R>,
-    input: &str,
-    expected: &Captures,
-) -> bool {
+fn answers<R: RegExp>(alloc: Global, matcher: &Matcher<R>, input: &str, expected: &Value) -> bool {
     let (Ok(found), Ok(is_accepted)) = (
         matcher.matches(alloc, input),
         matcher.accepts(alloc, input),
     ) else {
         return false;
     };
-    is_accepted == expected.is_some() && are_same_captures(&found, expected)
+    is_accepted == !expected.is_null() && are_captures(&found, expected)
 }
 
-/// A matcher in the form of the recorded ones.
-pub fn recorded_matcher(
-    alloc: Global,
-    matcher: &Matcher<KeptText>,
-) -> Result<recorded::Matcher, AllocError> {
-    let mut shown = recorded::Matcher {
-        kind: String::new(alloc),
-        prefix: matcher.prefix.clone()?,
-        suffix: matcher.suffix.clone()?,
-        literal: None,
-        filter: None,
-        allow_empty: None,
-        regexp: None,
+/// Whether a matcher is that of a recorded component.
+pub fn is_matcher(matcher: &Matcher<KeptText>, component: &Value) -> bool {
+    let Ok(recorded) = field(component, "matcher") else {
+        return false;
     };
-    let kind = match &matcher.inner {
+    has_text(recorded, "prefix", &matcher.prefix)
+        && has_text(recorded, "suffix", &matcher.suffix)
+        && is_inner(&matcher.inner, recorded)
+}
+
+/// Whether what stands between prefix and suffix is that of a recorded matcher.
+fn is_inner(inner: &InnerMatcher<KeptText>, recorded: &Value) -> bool {
+    match inner {
         InnerMatcher::Literal { literal } => {
-            shown.literal = Some(literal.clone()?);
-            "literal"
+            has_text(recorded, "kind", "literal") && has_text(recorded, "literal", literal)
         }
         InnerMatcher::SingleCapture {
             filter,
             allow_empty,
         } => {
-            shown.filter = *filter;
-            shown.allow_empty = Some(*allow_empty);
-            "singleCapture"
+            has_text(recorded, "kind", "singleCapture")
+                && character(recorded, "filter") == *filter
+                && is_set(recorded, "allowEmpty") == *allow_empty
         }
-        InnerMatcher::RegExp { regexp } => {
-            if let Ok(engine) = regexp {
-                shown.regexp = Some(String::from_str(alloc, engine.pattern_string())?);
-            }
-            "regExp"
+        InnerMatcher::RegExp { regexp: Ok(engine) } => {
+            has_text(recorded, "kind", "regExp")
+                && has_text(recorded, "regexp", engine.pattern_string())
         }
-    };
-    shown.kind.push_str(kind)?;
-    Ok(shown)
+        InnerMatcher::RegExp { regexp: Err(_) } => false,
+    }
 }

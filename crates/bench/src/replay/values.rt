@@ -1,10 +1,8 @@
 //! Replays what was asked of values: canonical ones, those of an init, and the texts of a match input.
 
-use super::{Outcome, prints};
-use crate::recorded::{
-    Answer, Canonical, CanonicalQuestion, Case, Init, Kind, MatchInputQuestion, Mode, Operation,
-    ProcessQuestion, Processed,
-};
+use super::prints;
+use crate::recorded::{Answer, Fault, field, has_text, optional_text, options_of, text};
+use serde_json::Value;
 use std::alloc::{AllocError, Global};
 use url::{ParseError, Url};
 use urlpattern::canonicalize_and_process::{
@@ -15,148 +13,125 @@ use urlpattern::canonicalize_and_process::{
     process_pathname_init, process_port_init, process_protocol_init, process_search_init,
     process_username_init,
 };
-use urlpattern::parser::Options;
 use urlpattern::quirks::{MatchInput, parse_match_input};
 use urlpattern::{Error, UrlPatternInit, UrlPatternMatchInput};
 
-/// Replays a case that asks for a canonical value.
-pub fn replay_canonical(alloc: Global, line: &str) -> Result<Outcome, serde_json::Error> {
-    let Case { question, answer }: Case<CanonicalQuestion, String> = serde_json::from_str(
-        alloc, line,
-    )?;
-    let found = canonical(alloc, &question);
-    text_outcome(alloc, Operation::Canonicalize, &found, &answer)
-}
-
-/// Replays a case that asks for a value of an init, or for an escaped text.
-pub fn replay_processed(alloc: Global, line: &str) -> Result<Outcome, serde_json::Error> {
-    let Case { question, answer }: Case<ProcessQuestion, String> = serde_json::from_str(
-        alloc, line,
-    )?;
-    let found = processed(alloc, &question);
-    text_outcome(alloc, Operation::Process, &found, &answer)
-}
-
-/// What came of a case whose answer is a text.
-fn text_outcome(
+/// Whether a canonical value is the recorded one.
+pub fn is_same_canonical(
     alloc: Global,
-    operation: Operation,
+    question: &Value,
+    answer: Answer<'_>,
+) -> Result<bool, Fault> {
+    let value = text(question, "value")?;
+    let protocol = optional_text(question, "protocol");
+    let found = match text(question, "which")? {
+        "protocol" => canonicalize_protocol(alloc, value),
+        "username" => canonicalize_username(alloc, value),
+        "password" => canonicalize_password(alloc, value),
+        "hostname" => canonicalize_hostname(alloc, value),
+        "ipv6_hostname" => canonicalize_ipv6_hostname(alloc, value),
+        "port" => canonicalize_port(alloc, value, protocol),
+        "pathname" => canonicalize_pathname(alloc, value),
+        "opaque_pathname" => canonicalize_an_opaque_pathname(alloc, value),
+        "search" => canonicalize_search(alloc, value),
+        "hash" => canonicalize_hash(alloc, value),
+        _ => return Err(Fault::NoCase),
+    };
+    is_same_text(alloc, &found, answer)
+}
+
+/// Whether a value of an init, or an escaped text, is the recorded one.
+pub fn is_same_processed(
+    alloc: Global,
+    question: &Value,
+    answer: Answer<'_>,
+) -> Result<bool, Fault> {
+    let value = text(question, "value")?;
+    let protocol = optional_text(question, "protocol");
+    let options = options_of(alloc, question)?;
+    let kind = match optional_text(question, "mode") {
+        Some("pattern") | None => ProcessType::Pattern,
+        Some("url") => ProcessType::Url,
+        Some(_) => return Err(Fault::NoCase),
+    };
+    let found = match text(question, "which")? {
+        "protocol" => process_protocol_init(alloc, value, &kind),
+        "username" => process_username_init(alloc, value, &kind),
+        "password" => process_password_init(alloc, value, &kind),
+        "hostname" => process_hostname_init(alloc, value, &kind),
+        "port" => process_port_init(alloc, value, protocol, &kind),
+        "pathname" => process_pathname_init(alloc, value, protocol, &kind),
+        "search" => process_search_init(alloc, value, &kind),
+        "hash" => process_hash_init(alloc, value, &kind),
+        "base_url" => process_base_url(alloc, value, &kind),
+        "escape_pattern_string" => escape_pattern_string(alloc, value),
+        "escape_regexp_string" => options.escape_regexp_string(alloc, value),
+        "segment_wildcard" => options.generate_segment_wildcard_regexp(alloc),
+        _ => return Err(Fault::NoCase),
+    };
+    is_same_text(alloc, &found, answer)
+}
+
+/// Whether a text, or why there is none, is what was recorded.
+fn is_same_text(
+    alloc: Global,
     found: &Result<String, Error>,
-    answer: &Answer<String>,
-) -> Result<Outcome, serde_json::Error> {
-    let is_same = match (found, answer) {
-        (Ok(text), Answer::Ok(recorded)) => text.as_str() == recorded.as_str(),
+    answer: Answer<'_>,
+) -> Result<bool, Fault> {
+    Ok(match (found, answer) {
+        (Ok(text), Answer::Ok(recorded)) => recorded.as_str() == Some(text.as_str()),
         (Err(error), Answer::Err(text)) => prints(alloc, error, text)?,
         _ => false,
-    };
-    Ok(Outcome {
-        operation,
-        is_error: matches!(answer, Answer::Err(_)),
-        is_same,
     })
 }
 
-/// The library's canonical value.
-fn canonical(alloc: Global, question: &CanonicalQuestion) -> Result<String, Error> {
-    let value = question.value.as_str();
-    match question.which {
-        Canonical::Protocol => canonicalize_protocol(alloc, value),
-        Canonical::Username => canonicalize_username(alloc, value),
-        Canonical::Password => canonicalize_password(alloc, value),
-        Canonical::Hostname => canonicalize_hostname(alloc, value),
-        Canonical::Ipv6Hostname => canonicalize_ipv6_hostname(alloc, value),
-        Canonical::Port => canonicalize_port(alloc, value, borrowed(&question.protocol)),
-        Canonical::Pathname => canonicalize_pathname(alloc, value),
-        Canonical::OpaquePathname => canonicalize_an_opaque_pathname(alloc, value),
-        Canonical::Search => canonicalize_search(alloc, value),
-        Canonical::Hash => canonicalize_hash(alloc, value),
-    }
-}
-
-/// The library's value of an init, or its escaped text.
-fn processed(alloc: Global, question: &ProcessQuestion) -> Result<String, Error> {
-    let value = question.value.as_str();
-    let protocol = borrowed(&question.protocol);
-    let kind = match question.mode {
-        Mode::Pattern => ProcessType::Pattern,
-        Mode::Url => ProcessType::Url,
-    };
-    match question.which {
-        Processed::Protocol => process_protocol_init(alloc, value, &kind),
-        Processed::Username => process_username_init(alloc, value, &kind),
-        Processed::Password => process_password_init(alloc, value, &kind),
-        Processed::Hostname => process_hostname_init(alloc, value, &kind),
-        Processed::Port => process_port_init(alloc, value, protocol, &kind),
-        Processed::Pathname => process_pathname_init(alloc, value, protocol, &kind),
-        Processed::Search => process_search_init(alloc, value, &kind),
-        Processed::Hash => process_hash_init(alloc, value, &kind),
-        Processed::BaseUrl => process_base_url(alloc, value, &kind),
-        Processed::EscapePatternString => escape_pattern_string(alloc, value),
-        Processed::EscapeRegexpString => options_of(alloc, question)?.escape_regexp_string(
-            alloc, value,
-        ),
-        Processed::SegmentWildcard => options_of(alloc, question)?.generate_segment_wildcard_regexp(
-            alloc,
-        ),
-    }
-}
-
-/// The options that a question names.
-fn options_of(alloc: Global, question: &ProcessQuestion) -> Result<Options, Error> {
-    let mut options = match question.kind {
-        Kind::Default => Options::default(alloc),
-        Kind::Hostname => Options::hostname(alloc),
-        Kind::Pathname => Options::pathname(alloc)?,
-    };
-    options.regex_syntax = question.syntax;
-    Ok(options)
-}
-
-/// The text, borrowed.
-fn borrowed(text: &Option<String>) -> Option<&str> {
-    match text {
-        Some(text) => Some(text.as_str()),
-        None => None,
-    }
-}
-
-/// Replays a case that asks for the texts of a match input.
-pub fn replay_match_input(alloc: Global, line: &str) -> Result<Outcome, serde_json::Error> {
-    let Case { question, answer }: Case<MatchInputQuestion, Option<MatchInput>> =
-        serde_json::from_str(alloc, line)?;
-    let found = match_input(alloc, question);
-    let is_same = match (&found, &answer) {
-        (Ok(found), Answer::Ok(recorded)) => found == recorded,
+/// Whether the texts of a match input are the recorded ones: null where there is none.
+pub fn is_same_match_input(
+    alloc: Global,
+    question: &Value,
+    answer: Answer<'_>,
+) -> Result<bool, Fault> {
+    let found = match_input(alloc, question)?;
+    Ok(match (&found, answer) {
+        (Ok(Some(input)), Answer::Ok(recorded)) => is_match_input(input, recorded),
+        (Ok(None), Answer::Ok(recorded)) => recorded.is_null(),
         (Err(error), Answer::Err(text)) => prints(alloc, error, text)?,
         _ => false,
-    };
-    Ok(Outcome {
-        operation: Operation::MatchInput,
-        is_error: matches!(answer, Answer::Err(_)),
-        is_same,
     })
+}
+
+/// Whether the eight texts are the recorded ones.
+fn is_match_input(input: &MatchInput, recorded: &Value) -> bool {
+    has_text(recorded, "protocol", &input.protocol)
+        && has_text(recorded, "username", &input.username)
+        && has_text(recorded, "password", &input.password)
+        && has_text(recorded, "hostname", &input.hostname)
+        && has_text(recorded, "port", &input.port)
+        && has_text(recorded, "pathname", &input.pathname)
+        && has_text(recorded, "search", &input.search)
+        && has_text(recorded, "hash", &input.hash)
 }
 
 /// The library's texts of a match input, of which the URLs are parsed here.
-fn match_input(alloc: Global, question: MatchInputQuestion) -> Result<Option<MatchInput>, Error> {
-    let MatchInputQuestion { string, init, base } = question;
-    let input = match (string, init) {
-        (Some(text), _) => {
-            let Some(url) = joined(alloc, &text, borrowed(&base))? else {
-                return Ok(None);
-            };
-            UrlPatternMatchInput::Url(url)
-        }
-        (None, Some(_)) if base.is_some() => return Err(Error::BaseUrlWithInit),
-        (None, Some(init)) => {
-            let Some(init) = parsed_init(alloc, init)? else {
-                return Ok(None);
-            };
-            UrlPatternMatchInput::Init(init)
-        }
-        (None, None) => return Ok(None),
-    };
-    parse_match_input(alloc, input)
+fn match_input(
+    alloc: Global,
+    question: &Value,
+) -> Result<Result<Option<MatchInput>, Error>, Fault> {
+    let base = optional_text(question, "base");
+    if let Some(text) = optional_text(question, "string") {
+        return Ok(match joined(alloc, text, base)? {
+            Some(url) => parse_match_input(alloc, UrlPatternMatchInput::Url(url)),
+            None => Ok(None),
+        });
+    }
+    let init = field(question, "init")?;
+    if base.is_some() {
+        return Ok(Err(Error::BaseUrlWithInit));
+    }
+    Ok(match parsed_init(alloc, init)? {
+        Some(init) => parse_match_input(alloc, UrlPatternMatchInput::Init(init)),
+        None => Ok(None),
+    })
 }
 
 /// The URL of a text, read against a base if there is one. None if `url` refuses either.
@@ -179,9 +154,9 @@ fn accepted(answer: Result<Url, ParseError>) -> Result<Option<Url>, AllocError> 
     }
 }
 
-/// The init, with its base URL parsed. None if that is refused.
-fn parsed_init(alloc: Global, recorded: Init) -> Result<Option<UrlPatternInit>, AllocError> {
-    let base_url = match borrowed(&recorded.base_url) {
+/// The init of these fields, with its base URL parsed. None if that is refused.
+fn parsed_init(alloc: Global, fields: &Value) -> Result<Option<UrlPatternInit>, AllocError> {
+    let base_url = match optional_text(fields, "baseURL") {
         Some(base) => {
             let Some(url) = accepted(Url::parse(alloc, base))? else {
                 return Ok(None);
@@ -191,14 +166,22 @@ fn parsed_init(alloc: Global, recorded: Init) -> Result<Option<UrlPatternInit>, 
         None => None,
     };
     Ok(Some(UrlPatternInit {
-        protocol: recorded.protocol,
-        username: recorded.username,
-        password: recorded.password,
-        hostname: recorded.hostname,
-        port: recorded.port,
-        pathname: recorded.pathname,
-        search: recorded.search,
-        hash: recorded.hash,
+        protocol: owned(alloc, fields, "protocol")?,
+        username: owned(alloc, fields, "username")?,
+        password: owned(alloc, fields, "password")?,
+        hostname: owned(alloc, fields, "hostname")?,
+        port: owned(alloc, fields, "port")?,
+        pathname: owned(alloc, fields, "pathname")?,
+        search: owned(alloc, fields, "search")?,
+        hash: owned(alloc, fields, "hash")?,
         base_url,
     }))
+}
+
+/// A copy of the text of a field, or None where it is missing or null.
+fn owned(alloc: Global, fields: &Value, name: &str) -> Result<Option<String>, AllocError> {
+    match optional_text(fields, name) {
+        Some(text) => Ok(Some(String::from_str(alloc, text)?)),
+        None => Ok(None),
+    }
 }

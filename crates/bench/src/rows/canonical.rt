@@ -4,11 +4,12 @@ use std::test::Fail;
 use url::ParseError;
 use urlpattern::Error;
 use urlpattern::canonicalize_and_process::{
-    ProcessType, canonicalize_hash, canonicalize_password, canonicalize_pathname,
-    canonicalize_port, canonicalize_protocol, canonicalize_search, canonicalize_username,
-    escape_pattern_string, process_base_url, process_hash_init, process_hostname_init,
-    process_password_init, process_pathname_init, process_port_init, process_protocol_init,
-    process_search_init, process_username_init,
+    ProcessType, canonicalize_an_opaque_pathname, canonicalize_hash, canonicalize_hostname,
+    canonicalize_ipv6_hostname, canonicalize_password, canonicalize_pathname, canonicalize_port,
+    canonicalize_protocol, canonicalize_search, canonicalize_username, escape_pattern_string,
+    process_base_url, process_hash_init, process_hostname_init, process_password_init,
+    process_pathname_init, process_port_init, process_protocol_init, process_search_init,
+    process_username_init,
 };
 
 #[test]
@@ -107,4 +108,28 @@ fn a_plain_value_is_the_same_in_either_mode(rt: HostRuntime) -> Result<(), Fail>
         assert_eq!(rt; port.as_str(), "8080", "for {kind:?}");
     }
     Ok(())
+}
+
+/// Holds whichever allocation is refused: `rt try --test --fail-alloc N` refuses one.
+#[test]
+fn a_value_without_memory_gives_no_other_answer(rt: HostRuntime) {
+    let alloc = rt.alloc();
+    for (answer, expected) in [
+        (canonicalize_protocol(alloc, "HTTP"), "http"),
+        (canonicalize_username(alloc, "a b"), "a%20b"),
+        (canonicalize_password(alloc, "a b"), "a%20b"),
+        (canonicalize_hostname(alloc, "EXAMPLE.Com."), "example.com."),
+        (canonicalize_ipv6_hostname(alloc, "[FE80::1]"), "[fe80::1]"),
+        (canonicalize_port(alloc, "443", Some("ftp")), "443"),
+        (canonicalize_pathname(alloc, "a/../b"), "/b"),
+        (canonicalize_an_opaque_pathname(alloc, "é"), "%C3%A9"),
+        (canonicalize_search(alloc, "a b"), "a%20b"),
+        (canonicalize_hash(alloc, "a b"), "a%20b"),
+        (escape_pattern_string(alloc, "a(b):c"), "a\\(b\\)\\:c"),
+    ] {
+        match answer {
+            Ok(text) => assert_eq!(rt; text.as_str(), expected),
+            Err(error) => assert!(rt; matches!(error, Error::OutOfMemory), "not {expected:?}"),
+        }
+    }
 }

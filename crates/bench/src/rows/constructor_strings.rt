@@ -137,16 +137,16 @@ fn strings_with_a_protocol(rt: HostRuntime) -> Result<(), Fail> {
             ],
         ),
         (
-            "https://user:pw@example.com",
+            "https://user:pw@example.com:8080/a?b#c",
             [
                 Some("https"),
                 Some("user:pw"),
                 None,
                 Some("example.com"),
-                Some(""),
-                None,
-                None,
-                None,
+                Some("8080"),
+                Some("/a"),
+                Some("b"),
+                Some("c"),
             ],
         ),
         (
@@ -310,10 +310,8 @@ fn strings_without_a_protocol(rt: HostRuntime) -> Result<(), Fail> {
 #[test]
 fn the_base_is_kept(rt: HostRuntime) -> Result<(), Fail> {
     let (init, _) = parse(rt.alloc(), "foo", Some("https://example.com/a"))?;
-    assert_eq!(rt;
-        init.base_url.as_ref().map(|base| base.as_str()),
-        Some("https://example.com/a")
-    );
+    let base_url = init.base_url.ok_or("no base")?;
+    assert_eq!(rt; base_url.as_str(), "https://example.com/a");
     Ok(())
 }
 

@@ -40,7 +40,8 @@ fn a_thousand_names(rt: HostRuntime) -> Result<(), Fail> {
     }
     let parts = parts_of(alloc, &pattern, &Options::default(alloc))?;
     assert_eq!(rt; parts.len(), 1_000);
-    assert_eq!(rt; parts.last().map(|part| part.name.as_str()), Some("a1000"));
+    let last = parts.last().ok_or("no parts")?;
+    assert_eq!(rt; last.name.as_str(), "a1000");
     Ok(())
 }
 

@@ -2,9 +2,9 @@
 
 use std::alloc::Global;
 use std::test::Fail;
-use url::Url;
+use url::{ParseError, Url};
 use urlpattern::quirks::{MatchInput, parse_match_input};
-use urlpattern::{UrlPatternInit, UrlPatternMatchInput};
+use urlpattern::{Error, UrlPatternInit, UrlPatternMatchInput};
 
 /// Eight texts in order.
 fn match_input(alloc: Global, texts: [&str; 8]) -> Result<MatchInput, Fail> {
@@ -107,4 +107,31 @@ fn the_default_texts_are_empty(rt: HostRuntime) -> Result<(), Fail> {
     let expected = match_input(alloc, ["", "", "", "", "", "", "", ""])?;
     assert_eq!(rt; MatchInput::default(alloc), expected);
     Ok(())
+}
+
+/// Whether the texts of an init under a base URL are as expected.
+fn is_as_expected(alloc: Global) -> Result<bool, Error> {
+    let base_url = match Url::parse(alloc, "https://u:p@example.com:8080/a/b?q#f") {
+        Ok(url) => url,
+        Err(ParseError::OutOfMemory) => return Err(Error::OutOfMemory),
+        Err(_) => return Ok(false),
+    };
+    let init = UrlPatternInit {
+        pathname: Some(String::from_str(alloc, "c")?),
+        base_url: Some(base_url),
+        ..UrlPatternInit::default()
+    };
+    Ok(
+        match parse_match_input(alloc, UrlPatternMatchInput::Init(init))? {
+            Some(texts) => texts.username.as_str() == "u" && texts.pathname.as_str() == "/a/c",
+            None => false,
+        },
+    )
+}
+
+/// Holds whichever allocation is refused: `rt try --test --fail-alloc N` refuses one.
+#[test]
+fn an_input_without_memory_gives_no_other_answer(rt: HostRuntime) {
+    let answer = is_as_expected(rt.alloc());
+    assert!(rt; matches!(&answer, Ok(true) | Err(Error::OutOfMemory)));
 }

@@ -1,11 +1,13 @@
 //! The printed pattern of a list of parts, and what it is read as.
 
 use super::parts_of;
+use crate::replay::components;
+use crate::replay::components::Callback;
 use std::alloc::Global;
 use std::process::Abort;
 use std::test::Fail;
 use urlpattern::component::generate_pattern_string;
-use urlpattern::parser::{Options, Part, PartType, parse_pattern_string};
+use urlpattern::parser::{Options, Part, PartType};
 use urlpattern::{Error, RegexSyntax};
 
 /// Compares the printed pattern of the parts of a pattern, and gives these parts.
@@ -140,10 +142,8 @@ fn neighbouring_texts_are_read_as_one(rt: HostRuntime) -> Result<(), Fail> {
 fn an_empty_text_does_not_part_a_name_from_a_regexp(rt: HostRuntime) -> Result<(), Fail> {
     let alloc = rt.alloc();
     let options = Options::default(alloc);
-    let without_line_feed = |text: &str| -> Result<String, Error> {
-        Ok(String::from_str(alloc, if text == "\n" { "" } else { text })?)
-    };
-    let parts = parse_pattern_string(alloc, ":x\\\n(abc)", &options, without_line_feed)?;
+    let pattern = ":x\\\n(abc)";
+    let parts = components::parts_of(alloc, pattern, &options, Callback::EmptyLineFeed)?;
     assert_eq!(rt; parts.len(), 3);
     let printed = generate_pattern_string(alloc, &parts, &options)?;
     assert_eq!(rt; printed.as_str(), ":x(abc)");
@@ -153,12 +153,14 @@ fn an_empty_text_does_not_part_a_name_from_a_regexp(rt: HostRuntime) -> Result<(
 }
 
 #[test]
-fn a_line_feed_is_printed_and_not_read(rt: HostRuntime) -> Result<(), Fail> {
+fn a_line_feed_or_a_tab_is_printed_and_not_read(rt: HostRuntime) -> Result<(), Fail> {
     let alloc = rt.alloc();
     let options = Options::default(alloc);
-    let parts = expect_printed(&rt, alloc, &options, "\\\na", "\na")?;
-    expect_one_part(&rt, &parts, (PartType::FixedText, "", "\na"));
-    let again = parts_of(alloc, "\na", &options)?;
-    expect_one_part(&rt, &again, (PartType::FixedText, "", "a"));
+    for (pattern, printed) in [("\\\na", "\na"), ("\\\ta", "\ta")] {
+        let parts = expect_printed(&rt, alloc, &options, pattern, printed)?;
+        expect_one_part(&rt, &parts, (PartType::FixedText, "", printed));
+        let again = parts_of(alloc, printed, &options)?;
+        expect_one_part(&rt, &again, (PartType::FixedText, "", "a"));
+    }
     Ok(())
 }

@@ -1,0 +1,143 @@
+//! Asks for the parts of a pattern and what is made of them.
+
+use super::matchers::is_matcher;
+use super::prints;
+use crate::engines::KeptText;
+use crate::recorded::{Answer, Fault, has_text, has_texts, list, optional_text, options_of, text};
+use serde_json::Value;
+use std::alloc::Global;
+use url::ParseError;
+use urlpattern::Error;
+use urlpattern::component::{
+    generate_matcher, generate_pattern_string, generate_regular_expression_and_name_list,
+};
+use urlpattern::matcher::Matcher;
+use urlpattern::parser::{Options, Part, PartModifier, PartType, parse_pattern_string};
+
+/// What becomes of each text of a pattern.
+#[derive(Clone, Copy, Drop)]
+pub enum Callback {
+    /// It stays.
+    Keep,
+    /// It becomes empty.
+    Empty,
+    /// It stands twice.
+    Double,
+    /// It is refused as a port would be.
+    Refuse,
+    /// It becomes empty if it is a line feed.
+    EmptyLineFeed,
+}
+
+impl Callback {
+    /// The callback that a question names.
+    fn of(question: &Value) -> Result<Callback, Fault> {
+        Ok(match optional_text(question, "callback") {
+            Some("keep") | None => Callback::Keep,
+            Some("empty") => Callback::Empty,
+            Some("double") => Callback::Double,
+            Some("refuse") => Callback::Refuse,
+            Some("empty_line_feed") => Callback::EmptyLineFeed,
+            Some(_) => return Err(Fault::NoCase),
+        })
+    }
+
+    /// What becomes of a text.
+    fn encode(self, alloc: Global, text: &str) -> Result<String, Error> {
+        match self {
+            Callback::Keep => Ok(String::from_str(alloc, text)?),
+            Callback::Empty => Ok(String::new(alloc)),
+            Callback::Double => Ok(format!(in alloc; "{text}{text}")?),
+            Callback::Refuse => Err(Error::Url(ParseError::InvalidPort)),
+            Callback::EmptyLineFeed if text == "\n" => Ok(String::new(alloc)),
+            Callback::EmptyLineFeed => Ok(String::from_str(alloc, text)?),
+        }
+    }
+}
+
+/// Whether the parts of a pattern, and what is made of them, are the recorded ones.
+pub fn is_same(alloc: Global, question: &Value, answer: Answer<'_>) -> Result<bool, Fault> {
+    let options = options_of(alloc, question)?;
+    let callback = Callback::of(question)?;
+    let found = parts_of(alloc, text(question, "pattern")?, &options, callback);
+    Ok(match (found, answer) {
+        (Ok(parts), Answer::Ok(recorded)) => {
+            matches!(is_component(alloc, &parts, &options, recorded), Ok(true))
+        }
+        (Err(error), Answer::Err(text)) => prints(alloc, &error, text)?,
+        _ => false,
+    })
+}
+
+/// The parts of a pattern.
+pub fn parts_of(
+    alloc: Global,
+    pattern: &str,
+    options: &Options,
+    callback: Callback,
+) -> Result<Vec<Part>, Error> {
+    let encode = |text: &str| -> Result<String, Error> { callback.encode(alloc, text) };
+    parse_pattern_string(alloc, pattern, options, encode)
+}
+
+/// Whether parts, and what is made of them, are the recorded ones.
+fn is_component(
+    alloc: Global,
+    parts: &[Part],
+    options: &Options,
+    recorded: &Value,
+) -> Result<bool, Error> {
+    let (regexp, names) = generate_regular_expression_and_name_list(alloc, parts, options)?;
+    let pattern = generate_pattern_string(alloc, parts, options)?;
+    let matcher: Matcher<KeptText> = generate_matcher(alloc, parts, options, "u")?;
+    Ok(
+        are_parts(parts, recorded)
+            && has_text(recorded, "regexp", &regexp)
+            && has_texts(recorded, "names", &names)
+            && has_text(recorded, "pattern", &pattern)
+            && is_matcher(&matcher, recorded),
+    )
+}
+
+/// Whether the parts are the recorded ones.
+fn are_parts(parts: &[Part], recorded: &Value) -> bool {
+    let Ok(recorded) = list(recorded, "parts") else {
+        return false;
+    };
+    for (part, recorded) in parts.iter().zip(recorded) {
+        if !is_part(part, recorded) {
+            return false;
+        }
+    }
+    parts.len() == recorded.len()
+}
+
+/// Whether a part has the recorded fields.
+fn is_part(part: &Part, recorded: &Value) -> bool {
+    has_text(recorded, "kind", kind_name(&part.kind))
+        && has_text(recorded, "value", &part.value)
+        && has_text(recorded, "modifier", modifier_name(&part.modifier))
+        && has_text(recorded, "name", &part.name)
+        && has_text(recorded, "prefix", &part.prefix)
+        && has_text(recorded, "suffix", &part.suffix)
+}
+
+/// The name of the kind of a part.
+fn kind_name(kind: &PartType) -> &'static str {
+    match kind {
+        PartType::FixedText => "FixedText",
+        PartType::Regexp => "Regexp",
+        PartType::SegmentWildcard => "SegmentWildcard",
+        PartType::FullWildcard => "FullWildcard",
+    }
+}
+
+/// The name of a modifier.
+fn modifier_name(modifier: &PartModifier) -> &'static str {
+    match modifier {
+        PartModifier::None => "None",
+        PartModifier::Optional => "Optional",
+        PartModifier::ZeroOrMore => "ZeroOrMore",
+        PartModifier::OneOrMore => "OneOrMore",
+    }
+}
