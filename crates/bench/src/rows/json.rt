@@ -1,7 +1,7 @@
 //! The JSON of plain values, by their own calls and by serde's.
 
-use serde::de::DeserializeOwned;
 use serde::Serialize;
+use serde::de::DeserializeOwned;
 use serde_json::Value;
 use std::alloc::{AllocError, Global};
 use std::borrow::CowStr;
@@ -51,10 +51,12 @@ fn segment() -> InnerMatcher {
 }
 
 /// The JSON of a matcher with that capture.
-const SEGMENT: &str = r#"{"prefix":"/users/","suffix":"","kind":"singleCapture","filter":"/","allowEmpty":false}"#;
+const SEGMENT: &str =
+    r#"{"prefix":"/users/","suffix":"","kind":"singleCapture","filter":"/","allowEmpty":false}"#;
 
 /// The JSON of a component with that matcher.
-const COMPONENT: &str = r#"{"patternString":"/users/:id","regexpString":"^/users(?:/([^/]+?))$","matcher":{"prefix":"/users/","suffix":"","kind":"singleCapture","filter":"/","allowEmpty":false},"groupNameList":["id"]}"#;
+const COMPONENT: &str =
+    r#"{"patternString":"/users/:id","regexpString":"^/users(?:/([^/]+?))$","matcher":{"prefix":"/users/","suffix":"","kind":"singleCapture","filter":"/","allowEmpty":false},"groupNameList":["id"]}"#;
 
 /// A pattern of which each component is the same.
 fn pattern(alloc: Global) -> Result<UrlPattern, AllocError> {
@@ -148,7 +150,10 @@ fn an_input_is_a_text_or_an_init(rt: HostRuntime) -> Result<(), Fail> {
         base_url: Some(string(alloc, "x")?),
         ..UrlPatternInit::default()
     };
-    assert_eq!(rt; input(alloc, r#"{"baseURL":"x"}"#)?, Some(StringOrInit::Init(base)));
+    assert_eq!(rt;
+        input(alloc, r#"{"baseURL":"x"}"#)?,
+        Some(StringOrInit::Init(base))
+    );
     assert!(rt; input(alloc, "5")?.is_none());
     assert!(rt; input(alloc, r#"{"pathname":5}"#)?.is_none());
     Ok(())
@@ -160,7 +165,13 @@ fn an_init_writes_what_is_given(rt: HostRuntime) -> Result<(), Fail> {
     let written = UrlPatternInit::default().to_json_value(alloc)?;
     assert_eq!(rt; written, tree(alloc, "{}")?);
     let written = init(alloc)?.to_json_value(alloc)?;
-    assert_eq!(rt; written, tree(alloc, r#"{"pathname":"/a","baseURL":"https://example.com/"}"#)?);
+    assert_eq!(rt;
+        written,
+        tree(
+            alloc,
+            r#"{"pathname":"/a","baseURL":"https://example.com/"}"#
+        )?
+    );
     let read = UrlPatternInit::from_json_value(alloc, &tree(alloc, r#"{"port":null,"x":1}"#)?)?;
     assert_eq!(rt; read, Some(UrlPatternInit::default()));
     assert!(rt; UrlPatternInit::from_json_value(alloc, &tree(alloc, "[]")?)?.is_none());
@@ -190,7 +201,9 @@ fn a_matcher_tells_its_kind(rt: HostRuntime) -> Result<(), Fail> {
 #[test]
 fn a_filter_is_one_character_or_none(rt: HostRuntime) -> Result<(), Fail> {
     let alloc = rt.alloc();
-    let read = |text: &str| -> Result<Option<Matcher>, Fail> { Ok(Matcher::from_json_value(alloc, &tree(alloc, text)?)?) };
+    let read = |text: &str| -> Result<Option<Matcher>, Fail> {
+        Ok(Matcher::from_json_value(alloc, &tree(alloc, text)?)?)
+    };
     let any = InnerMatcher::SingleCapture {
         filter: None,
         allow_empty: true,
@@ -200,7 +213,8 @@ fn a_filter_is_one_character_or_none(rt: HostRuntime) -> Result<(), Fail> {
         suffix: string(alloc, "")?,
         inner: any,
     });
-    let null = r#"{"prefix":"","suffix":"","kind":"singleCapture","filter":null,"allowEmpty":true}"#;
+    let null =
+        r#"{"prefix":"","suffix":"","kind":"singleCapture","filter":null,"allowEmpty":true}"#;
     assert_eq!(rt; read(null)?, expected);
     let missing = r#"{"prefix":"","suffix":"","kind":"singleCapture","allowEmpty":true}"#;
     assert_eq!(rt; read(missing)?, expected);
@@ -262,7 +276,8 @@ fn serde_writes_and_reads_the_same_trees(rt: HostRuntime) -> Result<(), Fail> {
     expect_derived(&rt, alloc, &UrlPatternInit::default(), "{}")?;
     let text = r#"{"regexSyntax":"Rust","ignoreCase":false}"#;
     expect_derived(&rt, alloc, &UrlPatternOptions::default(), text)?;
-    let text = r#"{"protocol":"","username":"","password":"","hostname":"","port":"","pathname":"","search":"","hash":""}"#;
+    let text =
+        r#"{"protocol":"","username":"","password":"","hostname":"","port":"","pathname":"","search":"","hash":""}"#;
     expect_derived(&rt, alloc, &MatchInput::default(alloc), text)?;
     let ignoring: UrlPatternOptions = serde_json::from_str(alloc, r#"{"ignoreCase":true}"#)?;
     assert!(rt; ignoring.ignore_case);

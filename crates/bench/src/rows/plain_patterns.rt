@@ -25,10 +25,18 @@ fn a_pattern_has_the_json_of_its_pathname(rt: HostRuntime) -> Result<(), Fail> {
     let init = pathname(alloc, "/users/:id")?;
     let pattern = parse_pattern::<Regex>(alloc, init, UrlPatternOptions::default())?;
     assert!(rt; !pattern.has_regexp_groups);
-    let text = r#"{"patternString":"/users/:id","regexpString":"^/users(?:/([^/]+?))$","matcher":{"prefix":"/users/","suffix":"","kind":"singleCapture","filter":"/","allowEmpty":false},"groupNameList":["id"]}"#;
-    assert_eq!(rt; pattern.pathname.to_json_value(alloc)?, Value::from_str(alloc, text)?);
-    let any = r#"{"patternString":"*","regexpString":"^(.*)$","matcher":{"prefix":"","suffix":"","kind":"singleCapture","filter":null,"allowEmpty":true},"groupNameList":["0"]}"#;
-    assert_eq!(rt; pattern.protocol.to_json_value(alloc)?, Value::from_str(alloc, any)?);
+    let text =
+        r#"{"patternString":"/users/:id","regexpString":"^/users(?:/([^/]+?))$","matcher":{"prefix":"/users/","suffix":"","kind":"singleCapture","filter":"/","allowEmpty":false},"groupNameList":["id"]}"#;
+    assert_eq!(rt;
+        pattern.pathname.to_json_value(alloc)?,
+        Value::from_str(alloc, text)?
+    );
+    let any =
+        r#"{"patternString":"*","regexpString":"^(.*)$","matcher":{"prefix":"","suffix":"","kind":"singleCapture","filter":null,"allowEmpty":true},"groupNameList":["0"]}"#;
+    assert_eq!(rt;
+        pattern.protocol.to_json_value(alloc)?,
+        Value::from_str(alloc, any)?
+    );
     Ok(())
 }
 
@@ -39,8 +47,12 @@ fn a_pattern_for_the_library_becomes_plain_piece_by_piece(rt: HostRuntime) -> Re
     let pattern = parse_pattern_as_lib::<Regex>(alloc, init, UrlPatternOptions::default())?;
     assert_eq!(rt; pattern.pathname(), "/users/:id");
     let matcher = Matcher::from_matcher(alloc, pattern.pathname.matcher)?;
-    let text = r#"{"prefix":"/users/","suffix":"","kind":"singleCapture","filter":"/","allowEmpty":false}"#;
-    assert_eq!(rt; matcher.to_json_value(alloc)?, Value::from_str(alloc, text)?);
+    let text =
+        r#"{"prefix":"/users/","suffix":"","kind":"singleCapture","filter":"/","allowEmpty":false}"#;
+    assert_eq!(rt;
+        matcher.to_json_value(alloc)?,
+        Value::from_str(alloc, text)?
+    );
     let inner = InnerMatcher::from_inner(alloc, pattern.search.matcher.inner)?;
     let any = InnerMatcher::SingleCapture {
         filter: None,
@@ -55,8 +67,12 @@ fn a_refused_regular_expression_is_an_empty_text(rt: HostRuntime) -> Result<(), 
     let alloc = rt.alloc();
     let unchanged = |text: &str| -> Result<String, Error> { Ok(String::from_str(alloc, text)?) };
     let options = Options::pathname(alloc)?;
-    let component: Component<EcmaRegexp> =
-        Component::compile(alloc, Some("/(a[)"), unchanged, options)?;
+    let component: Component<EcmaRegexp> = Component::compile(
+        alloc,
+        Some("/(a[)"),
+        unchanged,
+        options,
+    )?;
     let plain = UrlPatternComponent::from_component(alloc, component)?;
     assert_eq!(rt; plain.pattern_string.as_str(), "/(a[)");
     assert_eq!(rt; plain.regexp_string.as_str(), "");

@@ -20,14 +20,13 @@ use super::UrlPattern;
 use crate::constructor_parser::accepts_special_scheme;
 use crate::init::{Component, UrlPatternInit, given, process};
 use std::alloc::Global;
-use urlpattern_core::Error;
 use urlpattern_core::canonicalize_and_process::{
     Canonicalizer, ProcessType, begins_with_slash, canonicalize_ipv6_hostname, is_special_scheme,
     special_scheme_default_port, without_first,
 };
-use urlpattern_core::component;
 use urlpattern_core::parser::Options;
 use urlpattern_core::regexp::RegExp;
+use urlpattern_core::{Error, component};
 use urlpattern_plain::UrlPatternOptions;
 
 impl<R: RegExp> UrlPattern<R> {
@@ -298,10 +297,7 @@ impl Compiler<'_> {
     /// Whether the pathname of the pattern is hierarchical, by what its protocol was compiled to.
     ///
     /// The error is that memory ran out.
-    fn is_hierarchical<R: RegExp>(
-        &self,
-        protocol: &component::Component<R>,
-    ) -> Result<bool, Error>
+    fn is_hierarchical<R: RegExp>(&self, protocol: &component::Component<R>) -> Result<bool, Error>
         ensures tells { IfOk result (λ hierarchical. IsTrue hierarchical ↔ HasHierarchicalPath R.answer (values_view self.now.values.now) (component_view protocol.now).matcher) }
         ensures memory { IfErr result (λ error. error ≡ errors.OutOfMemory) }
     {
