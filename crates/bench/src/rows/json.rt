@@ -56,7 +56,7 @@ const SEGMENT: &str =
 
 /// The JSON of a component with that matcher.
 const COMPONENT: &str =
-    r#"{"patternString":"/users/:id","regexpString":"^/users(?:/([^/]+?))$","matcher":{"prefix":"/users/","suffix":"","kind":"singleCapture","filter":"/","allowEmpty":false},"groupNameList":["id"]}"#;
+    r#"{"groupNameList":["id"],"matcher":{"kind":"singleCapture","filter":"/","allowEmpty":false,"prefix":"/users/","suffix":""},"regexpString":"^/users(?:/([^/]+?))$","patternString":"/users/:id"}"#;
 
 /// A pattern of which each component is the same.
 fn pattern(alloc: Global) -> Result<UrlPattern, AllocError> {

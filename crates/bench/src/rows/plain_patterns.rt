@@ -26,7 +26,7 @@ fn a_pattern_has_the_json_of_its_pathname(rt: HostRuntime) -> Result<(), Fail> {
     let pattern = parse_pattern::<Regex>(alloc, init, UrlPatternOptions::default())?;
     assert!(rt; !pattern.has_regexp_groups);
     let text =
-        r#"{"patternString":"/users/:id","regexpString":"^/users(?:/([^/]+?))$","matcher":{"prefix":"/users/","suffix":"","kind":"singleCapture","filter":"/","allowEmpty":false},"groupNameList":["id"]}"#;
+        r#"{"groupNameList":["id"],"matcher":{"kind":"singleCapture","filter":"/","allowEmpty":false,"prefix":"/users/","suffix":""},"regexpString":"^/users(?:/([^/]+?))$","patternString":"/users/:id"}"#;
     assert_eq!(rt;
         pattern.pathname.to_json_value(alloc)?,
         Value::from_str(alloc, text)?
