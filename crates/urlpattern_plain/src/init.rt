@@ -45,7 +45,8 @@ pub struct UrlPatternInit {
     #[serde(skip_serializing_if = "Option::is_none")]
     pub hash: Option<String>,
     /// The base URL, which is `baseURL` in JSON.
-    #[serde(rename = "baseURL", skip_serializing_if = "Option::is_none")]
+    #[serde(skip_serializing_if = "Option::is_none")]
+    #[serde(rename = "baseURL")]
     pub base_url: Option<String>,
 }
 

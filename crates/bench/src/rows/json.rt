@@ -52,11 +52,11 @@ fn segment() -> InnerMatcher {
 
 /// The JSON of a matcher with that capture.
 const SEGMENT: &str =
-    r#"{"prefix":"/users/","suffix":"","kind":"singleCapture","filter":"/","allowEmpty":false}"#;
+    r#"{"kind":"singleCapture","allowEmpty":false,"filter":"/","prefix":"/users/","suffix":""}"#;
 
 /// The JSON of a component with that matcher.
 const COMPONENT: &str =
-    r#"{"patternString":"/users/:id","regexpString":"^/users(?:/([^/]+?))$","matcher":{"prefix":"/users/","suffix":"","kind":"singleCapture","filter":"/","allowEmpty":false},"groupNameList":["id"]}"#;
+    r#"{"groupNameList":["id"],"matcher":{"kind":"singleCapture","allowEmpty":false,"filter":"/","prefix":"/users/","suffix":""},"regexpString":"^/users(?:/([^/]+?))$","patternString":"/users/:id"}"#;
 
 /// A pattern of which each component is the same.
 fn pattern(alloc: Global) -> Result<UrlPattern, AllocError> {

@@ -26,13 +26,13 @@ fn a_pattern_has_the_json_of_its_pathname(rt: HostRuntime) -> Result<(), Fail> {
     let pattern = parse_pattern::<Regex>(alloc, init, UrlPatternOptions::default())?;
     assert!(rt; !pattern.has_regexp_groups);
     let text =
-        r#"{"patternString":"/users/:id","regexpString":"^/users(?:/([^/]+?))$","matcher":{"prefix":"/users/","suffix":"","kind":"singleCapture","filter":"/","allowEmpty":false},"groupNameList":["id"]}"#;
+        r#"{"groupNameList":["id"],"matcher":{"kind":"singleCapture","allowEmpty":false,"filter":"/","prefix":"/users/","suffix":""},"regexpString":"^/users(?:/([^/]+?))$","patternString":"/users/:id"}"#;
     assert_eq!(rt;
         pattern.pathname.to_json_value(alloc)?,
         Value::from_str(alloc, text)?
     );
     let any =
-        r#"{"patternString":"*","regexpString":"^(.*)$","matcher":{"prefix":"","suffix":"","kind":"singleCapture","filter":null,"allowEmpty":true},"groupNameList":["0"]}"#;
+        r#"{"groupNameList":["0"],"matcher":{"kind":"singleCapture","allowEmpty":true,"filter":null,"prefix":"","suffix":""},"regexpString":"^(.*)$","patternString":"*"}"#;
     assert_eq!(rt;
         pattern.protocol.to_json_value(alloc)?,
         Value::from_str(alloc, any)?
@@ -48,7 +48,7 @@ fn a_pattern_for_the_library_becomes_plain_piece_by_piece(rt: HostRuntime) -> Re
     assert_eq!(rt; pattern.pathname(), "/users/:id");
     let matcher = Matcher::from_matcher(alloc, pattern.pathname.matcher)?;
     let text =
-        r#"{"prefix":"/users/","suffix":"","kind":"singleCapture","filter":"/","allowEmpty":false}"#;
+        r#"{"kind":"singleCapture","allowEmpty":false,"filter":"/","prefix":"/users/","suffix":""}"#;
     assert_eq!(rt;
         matcher.to_json_value(alloc)?,
         Value::from_str(alloc, text)?
