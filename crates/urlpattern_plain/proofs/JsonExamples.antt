@@ -32,6 +32,7 @@ no_options = refl
 -- a segment between `/` and nothing
 segment : matcher_tree (record { prefix = codes "/"; suffix = []; inner = single_capture (Some 47) false })
     ≡ object (member (codes "allowEmpty") (boolean false) (member (codes "filter") (string (codes "/")) (member (codes "kind") (string (codes "singleCapture")) (member (codes "prefix") (string (codes "/")) (member (codes "suffix") (string []) no_members)))))
+unfolding lib.Utf8.encode
 segment = refl
 
 -- two characters are no filter
