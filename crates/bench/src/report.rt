@@ -255,6 +255,7 @@ mod tests {
             "match_input: 2 answers and 0 errors, 1 differ\n",
             "constructor: 0 answers and 2 errors, 1 differ\n",
             "pattern: 0 answers and 0 errors, 0 differ\n",
+            "quirks_pattern: 0 answers and 0 errors, 0 differ\n",
             "lines without a case: 1\n",
         );
         let mut report = Report::default();

@@ -181,7 +181,10 @@ pub fn run<R: Files + AllocGlobal + Clock, O: Write>(
     paths: &[String],
     out: &mut O,
 ) -> io::Result<()> {
-    writeln!(out, "name\tparse\texec\tmiss\texec of Url\ttest of Url\tUrl::parse")?;
+    writeln!(
+        out,
+        "name\tparse\texec\tmiss\texec of Url\ttest of Url\tUrl::parse"
+    )?;
     for path in paths {
         let text = fs::read_to_string(rt, path)?;
         for line in text.lines() {

@@ -6,10 +6,10 @@ ghost use Rattle.urlpat.specs.Kinds.{IsKind, IsNamed};
 ghost use Rattle.urlpattern.specs.Options.{options_view};
 ghost use Rattle.urlpat.specs.Report.{component_lines, failure_lines};
 
+use crate::matching::matched_groups;
 use std::alloc::{AllocError, Global};
 use std::io;
 use std::io::Write;
-use crate::matching::matched_groups;
 use urlpattern::Error;
 use urlpattern::component::{generate_pattern_string, generate_regular_expression_and_name_list};
 use urlpattern::parser::{Options, parse_pattern_string};

@@ -6,7 +6,9 @@ ghost use Rattle.urlpat.specs.Report.{group_line};
 use std::alloc::{AllocError, Global};
 use std::borrow::CowStr;
 use urlpattern::quirks::{StringOrInit, process_construct_pattern_input, process_match_input};
-use urlpattern::{Error, UrlPattern, UrlPatternComponentResult, UrlPatternOptions, UrlPatternResult};
+use urlpattern::{
+    Error, UrlPattern, UrlPatternComponentResult, UrlPatternOptions, UrlPatternResult,
+};
 
 /// The word that stands for no base URL.
 const NO_BASE: &str = "-";
@@ -60,7 +62,10 @@ fn push_groups(
     component: &str,
     found: &UrlPatternComponentResult,
 ) -> Result<(), AllocError> {
-    let mut groups = found.groups.iter().collect::<Vec<(&String, &Option<String>)>>(alloc)?;
+    let mut groups = found
+        .groups
+        .iter()
+        .collect::<Vec<(&String, &Option<String>)>>(alloc)?;
     groups.sort_unstable_by(|(name, _), (other, _)| name.cmp(other));
     for (name, capture) in groups {
         push_group(text, component, name, capture.as_deref())?;

@@ -7,7 +7,7 @@ use Rattle.urlpattern_plain.specs.Values.{single_capture}
 use Rattle.urlpattern_syntax.specs.declared.parser.RegexSyntax.TheVariants.{Rust}
 
 -- nothing given, nothing written
-no_init : init_tree (record { protocol = None; username = None; password = None; hostname = None; port = None; pathname = None; search = None; hash = None; base_url = None }) ≡ object no_members
+no_init : init_tree (record { base_url = None; hash = None; search = None; pathname = None; port = None; hostname = None; password = None; username = None; protocol = None }) ≡ object no_members
 no_init = refl
 
 -- an array stands for no init
@@ -32,6 +32,7 @@ no_options = refl
 -- a segment between `/` and nothing
 segment : matcher_tree (record { prefix = codes "/"; suffix = []; inner = single_capture (Some 47) false })
     ≡ object (member (codes "allowEmpty") (boolean false) (member (codes "filter") (string (codes "/")) (member (codes "kind") (string (codes "singleCapture")) (member (codes "prefix") (string (codes "/")) (member (codes "suffix") (string []) no_members)))))
+unfolding lib.Utf8.encode
 segment = refl
 
 -- two characters are no filter

@@ -52,7 +52,7 @@ fn segment() -> InnerMatcher {
 
 /// The JSON of a matcher with that capture.
 const SEGMENT: &str =
-    r#"{"prefix":"/users/","suffix":"","kind":"singleCapture","filter":"/","allowEmpty":false}"#;
+    r#"{"kind":"singleCapture","allowEmpty":false,"filter":"/","prefix":"/users/","suffix":""}"#;
 
 /// The JSON of a component with that matcher.
 const COMPONENT: &str =

@@ -32,7 +32,7 @@ fn a_pattern_has_the_json_of_its_pathname(rt: HostRuntime) -> Result<(), Fail> {
         Value::from_str(alloc, text)?
     );
     let any =
-        r#"{"patternString":"*","regexpString":"^(.*)$","matcher":{"prefix":"","suffix":"","kind":"singleCapture","filter":null,"allowEmpty":true},"groupNameList":["0"]}"#;
+        r#"{"groupNameList":["0"],"matcher":{"kind":"singleCapture","allowEmpty":true,"filter":null,"prefix":"","suffix":""},"regexpString":"^(.*)$","patternString":"*"}"#;
     assert_eq!(rt;
         pattern.protocol.to_json_value(alloc)?,
         Value::from_str(alloc, any)?
@@ -48,7 +48,7 @@ fn a_pattern_for_the_library_becomes_plain_piece_by_piece(rt: HostRuntime) -> Re
     assert_eq!(rt; pattern.pathname(), "/users/:id");
     let matcher = Matcher::from_matcher(alloc, pattern.pathname.matcher)?;
     let text =
-        r#"{"prefix":"/users/","suffix":"","kind":"singleCapture","filter":"/","allowEmpty":false}"#;
+        r#"{"kind":"singleCapture","allowEmpty":false,"filter":"/","prefix":"/users/","suffix":""}"#;
     assert_eq!(rt;
         matcher.to_json_value(alloc)?,
         Value::from_str(alloc, text)?
