@@ -1,4 +1,5 @@
-//! Replays recorded questions and answers over the library, and prints how many there are and how many differ.
+//! Replays recorded questions and answers over the library, and prints how many there are and how many differ. Behind the
+//! word `time` it times the library's calls.
 #![tactic(auto)]
 
 mod engines;
@@ -7,9 +8,13 @@ mod replay;
 mod report;
 #[cfg(test)]
 mod rows;
+mod timing;
 
 use std::process::ExitCode;
 use std::{env, io};
+
+/// The word that asks for times.
+const TIME: &str = "time";
 
 /// The status of a run in which each answer is the recorded one.
 const SAME: u8 = 0;
@@ -21,18 +26,25 @@ const DIFFERENT: u8 = 1;
 const FAILED: u8 = 2;
 
 fn main(rt: HostRuntime) -> ExitCode {
-    ExitCode::from(match replay_files(&rt) {
+    ExitCode::from(match run(&rt) {
         Ok(true) => SAME,
         Ok(false) => DIFFERENT,
         Err(_) => FAILED,
     })
 }
 
-/// Replays the files that the words name. Says whether each answer is the recorded one.
-fn replay_files(rt: &HostRuntime) -> io::Result<bool> {
+/// Replays the files that the words name, and says whether each answer is the recorded one. Behind the word `time` the
+/// files hold pairs that are timed.
+fn run(rt: &HostRuntime) -> io::Result<bool> {
     let mut words = env::args(rt)?;
     // The first word is the program's own name.
     let _ = words.next();
-    let paths = words.collect::<Vec<String>>(rt.alloc())?;
-    report::run(rt, &paths, &mut rt.stdout())
+    let words = words.collect::<Vec<String>>(rt.alloc())?;
+    match words.as_slice() {
+        [command, paths @ ..] if command.as_str() == TIME => {
+            timing::run(rt, paths, &mut rt.stdout())?;
+            Ok(true)
+        }
+        paths => report::run(rt, paths, &mut rt.stdout()),
+    }
 }

@@ -55,6 +55,8 @@ pub enum Operation {
     Constructor,
     /// A pattern, and what it answers to inputs.
     Pattern,
+    /// A pattern as plain data.
+    QuirksPattern,
 }
 
 impl Operation {
@@ -72,6 +74,7 @@ impl Operation {
             "match_input" => Operation::MatchInput,
             "constructor" => Operation::Constructor,
             "pattern" => Operation::Pattern,
+            "quirks_pattern" => Operation::QuirksPattern,
             _ => return Err(Fault::NoCase),
         })
     }

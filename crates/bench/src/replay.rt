@@ -6,6 +6,7 @@ mod constructors;
 mod engines;
 mod matchers;
 mod patterns;
+mod plain;
 mod tokens;
 mod values;
 
@@ -43,6 +44,7 @@ pub fn replay(alloc: Global, line: &str) -> Result<Outcome, Fault> {
         Operation::MatchInput => values::is_same_match_input(alloc, question, answer),
         Operation::Constructor => constructors::is_same(alloc, question, answer),
         Operation::Pattern => patterns::is_same(alloc, question, answer),
+        Operation::QuirksPattern => plain::is_same(alloc, question, answer),
     }?;
     Ok(Outcome {
         operation,

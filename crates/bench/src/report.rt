@@ -57,6 +57,7 @@ struct Report {
     match_input: Tally,
     constructor: Tally,
     pattern: Tally,
+    quirks_pattern: Tally,
     unreadable: u64,
 }
 
@@ -101,6 +102,7 @@ impl Report {
             Operation::MatchInput => &mut self.match_input,
             Operation::Constructor => &mut self.constructor,
             Operation::Pattern => &mut self.pattern,
+            Operation::QuirksPattern => &mut self.quirks_pattern,
         }
     }
 
@@ -117,6 +119,7 @@ impl Report {
         self.match_input.print(out, "match_input")?;
         self.constructor.print(out, "constructor")?;
         self.pattern.print(out, "pattern")?;
+        self.quirks_pattern.print(out, "quirks_pattern")?;
         let unreadable = self.unreadable;
         writeln!(out, "lines without a case: {unreadable}")
     }
@@ -135,6 +138,7 @@ impl Report {
             &self.match_input,
             &self.constructor,
             &self.pattern,
+            &self.quirks_pattern,
         ] {
             if tally.differing != 0 {
                 return false;
@@ -251,6 +255,7 @@ mod tests {
             "match_input: 2 answers and 0 errors, 1 differ\n",
             "constructor: 0 answers and 2 errors, 1 differ\n",
             "pattern: 0 answers and 0 errors, 0 differ\n",
+            "quirks_pattern: 0 answers and 0 errors, 0 differ\n",
             "lines without a case: 1\n",
         );
         let mut report = Report::default();

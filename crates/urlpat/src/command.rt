@@ -1,11 +1,12 @@
 //! The commands of the program: what its words ask for, and what it prints.
 
 ghost use Rattle.std.specs.Io.KnownBytes.{Appends};
-ghost use Rattle.std.specs.Prelude.{◌≡◌, ◌⊎◌, map, string_bytes, IfOk, IfSome, OnOk, Ok, None};
+ghost use Rattle.std.specs.Prelude.{◌≡◌, ◌≢◌, ◌⊎◌, map, string_bytes, IfOk, IfSome, OnOk, Ok, None};
 ghost use Rattle.urlpat.specs.Kinds.{IsKind, IsNamed};
 ghost use Rattle.urlpattern.specs.Options.{options_view};
 ghost use Rattle.urlpat.specs.Report.{component_lines, failure_lines};
 
+use crate::matching::matched_groups;
 use std::alloc::{AllocError, Global};
 use std::io;
 use std::io::Write;
@@ -16,6 +17,9 @@ use urlpattern::parser::{Options, parse_pattern_string};
 /// The status of a run that gave its answer.
 pub const DONE: u8 = 0;
 
+/// The status of a run whose input is not matched.
+pub const NO_MATCH: u8 = 1;
+
 /// The status of every other run.
 pub const FAILED: u8 = 2;
 
@@ -24,6 +28,13 @@ const COMPONENT_USAGE: &str = "usage: urlpat component default|hostname|pathname
 
 /// How a match is asked for.
 const MATCH_USAGE: &str = "       urlpat match PATTERN BASE INPUT\n";
+
+/// An answer: what is printed, and the status to end with.
+#[derive(Drop)]
+struct Printed {
+    text: String,
+    status: u8,
+}
 
 /// Why there is no answer.
 #[derive(Drop)]
@@ -55,12 +66,12 @@ pub fn run<Out: Write, Err: Write>(
     out: &mut Out,
     err: &mut Err,
 ) -> u8
-    ensures status { (result ≡ DONE) ⊎ (result ≡ FAILED) }
-    ensures quiet { result ≡ DONE → err.new ≡ err.old }
+    ensures status { (result ≡ DONE) ⊎ (result ≡ NO_MATCH) ⊎ (result ≡ FAILED) }
+    ensures quiet { result ≢ FAILED → err.new ≡ err.old }
 {
     match answer(alloc, words) {
-        Ok(text) => match out.write_all(text.as_bytes()) {
-            Ok(()) => DONE,
+        Ok(answer) => match out.write_all(answer.text.as_bytes()) {
+            Ok(()) => answer.status,
             Err(_) => FAILED,
         },
         Err(failure) => {
@@ -80,11 +91,23 @@ fn tell<Err: Write>(failure: &Failure, err: &mut Err) -> io::Result<()>
     }
 }
 
-/// The text that the words ask for.
-fn answer(alloc: Global, words: &[String]) -> Result<String, Failure> {
+/// What the words ask for.
+fn answer(alloc: Global, words: &[String]) -> Result<Printed, Failure>
+    ensures { IfOk result (λ answer. (answer.status ≡ DONE) ⊎ (answer.status ≡ NO_MATCH)) }
+{
     match words {
-        [command, kind, pattern] if command.as_str() == "component" => {
-            component(alloc, kind, pattern)
+        [command, kind, pattern] if command.as_str() == "component" => Ok(Printed {
+            text: component(alloc, kind, pattern)?,
+            status: DONE,
+        }),
+        [command, pattern, base, input] if command.as_str() == "match" => {
+            match matched_groups(alloc, pattern, base, input)? {
+                Some(text) => Ok(Printed { text, status: DONE }),
+                None => Ok(Printed {
+                    text: String::from_str(alloc, "no match\n")?,
+                    status: NO_MATCH,
+                }),
+            }
         }
         _ => Err(Failure::Usage),
     }
@@ -143,6 +166,9 @@ mod tests {
     use std::io;
     use std::process::Abort;
     use std::test::Fail;
+
+    /// A pattern of one name.
+    const USERS: &str = "https://example.com/users/:id";
 
     /// A writer of which each write fails, and that counts them.
     #[derive(Drop)]
@@ -204,7 +230,7 @@ mod tests {
             &["component", "pathname"],
             &["component", "search", "/"],
             &["component", "pathname", "/", "/"],
-            &["other", "pathname", "/"],
+            &["match", "/", "-"],
         ];
         for line in lines {
             expect_run(&rt, rt.alloc(), line, 2, "", &usage)?;
@@ -269,6 +295,41 @@ mod tests {
             printed,
             "",
         )?;
+        Ok(())
+    }
+
+    #[test]
+    fn prints_the_groups_of_a_match(rt: HostRuntime) -> Result<(), Fail> {
+        let printed = "username 0=\npassword 0=\npathname id=123\nsearch 0=\nhash 0=\n";
+        expect_run(
+            &rt,
+            rt.alloc(),
+            &["match", USERS, "-", "https://example.com/users/123"],
+            0,
+            printed,
+            "",
+        )?;
+        Ok(())
+    }
+
+    #[test]
+    fn says_that_there_is_no_match(rt: HostRuntime) -> Result<(), Fail> {
+        let inputs = ["https://example.com/x", "nonsense"];
+        for input in inputs {
+            let line = ["match", USERS, "-", input];
+            expect_run(&rt, rt.alloc(), &line, 1, "no match\n", "")?;
+        }
+        Ok(())
+    }
+
+    #[test]
+    fn tells_why_a_pattern_or_its_base_is_refused(rt: HostRuntime) -> Result<(), Fail> {
+        let relative = "a relative input without a base URL is not valid\n";
+        let line = ["match", "/users/:id", "-", "https://example.com/x"];
+        expect_run(&rt, rt.alloc(), &line, 2, "", relative)?;
+        let unread = "relative URL without a base\n";
+        let line = ["match", "/users/:id", "nonsense", "https://example.com/x"];
+        expect_run(&rt, rt.alloc(), &line, 2, "", unread)?;
         Ok(())
     }
 

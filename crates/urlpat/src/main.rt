@@ -1,7 +1,8 @@
-//! Reads a pattern of one component of a URL and prints the names of its groups and its regular expression.
+//! Matches a URL against a pattern and prints what the groups capture, or shows what the pattern of one component is compiled to.
 #![tactic(auto)]
 
 mod command;
+mod matching;
 
 use std::env;
 use std::process::ExitCode;

@@ -98,13 +98,12 @@ pub compiled_weaker : {E : Type 0} (IsMade : E → List ℕ → List ℕ → Typ
     → IfOk result (λ compiled. HasEngine (component_view compiled))
     → IfOk result (λ compiled. IsCompiledFrom IsMade MayRefuse syntax pattern manner weak (component_view compiled) × HasEngine (component_view compiled))
 compiled_weaker IsMade MayRefuse syntax strong weak h text pattern options manner (Err error) e f compiled engine = tt
-compiled_weaker {E} IsMade MayRefuse syntax strong weak h text pattern options manner (Ok made) e f compiled engine =
-    (
-      subst (λ o. IsCompiledFrom IsMade MayRefuse syntax pattern o weak (component_view made)) f
+compiled_weaker {E} IsMade MayRefuse syntax strong weak h text pattern options manner (Ok made) e f compiled engine = (
+  subst (λ o. IsCompiledFrom IsMade MayRefuse syntax pattern o weak (component_view made)) f
       (subst (λ t. IsCompiledFrom IsMade MayRefuse syntax t options weak (component_view made)) e
       (compiled.0, reads_weaker strong weak h text options compiled.0 compiled.1, compiled.2)),
-      engine,
-    )
+  engine,
+)
 
 refused_weaker-view : {E : Type 0} (IsMade : E → List ℕ → List ℕ → Type 0) (MayRefuse : List ℕ → List ℕ → Bool → Type 0) (syntax : RegexSyntax)
     (strong weak : Encoding) → Weakens strong weak → (text pattern : List ℕ) (options manner : OptionsView) (error : ErrorView)

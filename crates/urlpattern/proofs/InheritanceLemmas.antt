@@ -218,11 +218,10 @@ pattern-processed values base =
     let port = pattern-value values base protocol.0 Port in
     let pathname = pattern-value values base protocol.0 Pathname in
     let search = pattern-value values base protocol.0 Search in
-    let hash = pattern-value values base protocol.0 Hash in
-    (
+    let hash = pattern-value values base protocol.0 Hash in (
       _,
       processed Pattern values base protocol.0 username.0 password.0 hostname.0 port.0 pathname.0 search.0 hash.0
-      protocol.1 username.1 password.1 hostname.1 port.1 pathname.1 search.1 hash.1,
+          protocol.1 username.1 password.1 hostname.1 port.1 pathname.1 search.1 hash.1,
     )
 
 never-told : (asked : Parsed Values) (found : Values) (view : ErrorView) → asked ≡ Ok found → ¬ Tells asked 0 view

@@ -176,7 +176,7 @@ open_tokens = letters 0 (codes "a#b") ++ one Open 3 (codes "{") ++ letters 4 (co
 
 -- at End a group is open, and at that depth no token of the text is seen a second time
 pub depth_is_kept : IsRelativeSplit (codes "a#b{c") open_tokens
-    (record { protocol = None; username = None; password = None; hostname = None; port = None; pathname = Some (codes "a#b{c"); search = None; hash = None })
+    (record { pathname = Some (codes "a#b{c"); protocol = None; username = None; password = None; port = None; hostname = None; search = None; hash = None })
 unfolding byte_len encode_utf8
 depth_is_kept = record {
   until = 5;

@@ -19,6 +19,8 @@ pub mod Eight
 pub mod Match
 pub mod MatchInput
 pub mod Patterns
+pub mod Theorem
+pub mod Quirks
 pub use Rattle.urlpattern_laws.specs.Laws
 pub use Rattle.urlpattern_laws.specs.Matching
 pub use Rattle.urlpattern_laws.specs.PartMeaning
@@ -33,3 +35,6 @@ pub use Rattle.urlpattern_syntax.specs.RegexpText
 pub use Rattle.urlpattern_syntax.specs.Text
 pub use Rattle.urlpattern_syntax.specs.Tokens
 pub use Rattle.urlpattern_syntax.specs.declared.parser.RegexSyntax
+pub use Rattle.urlpattern_plain.specs.Json
+pub use Rattle.urlpattern_plain.specs.Plain
+pub use Rattle.urlpattern_plain.specs.Values

@@ -1,13 +1,13 @@
 -- The texts of a match input, after the URLPattern Standard, section "Matching", at "perform a match".
-use Rattle.std.specs.Prelude.{◌≡◌, ◌≤◌, ◌⊎◌, [], Ok, Err}
+use Rattle.std.specs.Prelude.{◌≡◌, ◌≤◌, ◌⊎◌, Ok, Err}
 use Rattle.url.specs.declared.error.ParseError.{ParseError}
 use Rattle.url.specs.Parser.{Parsed, and_then}
 use Rattle.urlpattern.specs.declared.init.UrlPatternMatchInput.{UrlPatternMatchInput}
 use Rattle.urlpattern.specs.declared.init.UrlPatternMatchInput.TheVariants.{Init, Url as UrlInput}
-use Rattle.urlpattern.specs.declared.quirks.match_input.MatchInput.{MatchInput}
 use Rattle.urlpattern.specs.Inheritance.{Texts, asked_bytes, processed_values, texts_of_url, texts_of_values, values_view}
 use Rattle.urlpattern_core.specs.Canonical.{long_text}
 use Rattle.urlpattern_core.specs.declared.canonicalize_and_process.ProcessType.TheVariants.{Url}
+use Rattle.urlpattern_plain.specs.declared.match_input.MatchInput.{MatchInput}
 use Rattle.urlpattern_syntax.specs.Text.{text_of}
 
 abbrev pub texts_view : MatchInput → Texts
@@ -21,9 +21,6 @@ texts_view input = record {
   search = text_of input.search;
   hash = text_of input.hash;
 }
-
-abbrev pub no_texts : Texts
-no_texts = record { protocol = []; username = []; password = []; hostname = []; port = []; pathname = []; search = []; hash = [] }
 
 -- the eight texts of a match input: those of the URL, or those that the init comes to
 abbrev pub input_texts : UrlPatternMatchInput → Parsed Texts

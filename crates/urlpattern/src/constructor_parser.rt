@@ -98,15 +98,15 @@ impl<'a> Split<'a> {
         ensures turns { result.turns ≡ turns }
     {
         Split {
-            protocol: None,
-            username: None,
-            password: None,
-            hostname: None,
-            port: None,
-            pathname: None,
-            search: None,
-            hash: None,
             turns,
+            hash: None,
+            search: None,
+            pathname: None,
+            port: None,
+            hostname: None,
+            password: None,
+            username: None,
+            protocol: None,
         }
     }
 

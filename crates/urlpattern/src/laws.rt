@@ -17,6 +17,7 @@ pub use urlpattern_core::laws::{
     printed_patterns_fail_by_the_encoding_alone, printed_patterns_read_back,
     read_parts_are_pattern_parts, readings_are_one, tokens_are_one, tokens_lose_nothing,
 };
+pub use urlpattern_plain::laws::reading_undoes_writing;
 
 /// A test of a pattern is true exactly where there is a match, and then there is one match. It is not false there, unless
 /// the texts of an init are longer than `url` takes.

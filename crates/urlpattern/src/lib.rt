@@ -10,6 +10,7 @@ mod init;
 pub mod laws;
 mod pattern;
 pub mod quirks;
+pub mod theorem;
 
 pub use init::{UrlPatternInit, UrlPatternMatchInput};
 pub use pattern::{UrlPattern, UrlPatternComponentResult, UrlPatternResult};

@@ -12,10 +12,10 @@ mod matching;
 mod parse;
 mod result;
 
-use crate::component::Component;
-use crate::regexp::RegExp;
 pub(crate) use eight::Eight;
 pub use result::{UrlPatternComponentResult, UrlPatternResult};
+use urlpattern_core::component::Component;
+use urlpattern_core::regexp::RegExp;
 
 /// A pattern that URLs are matched against, compiled component by component.
 ///

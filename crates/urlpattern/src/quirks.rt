@@ -1,14 +1,18 @@
-//! Types and calls for browsers: an engine in ECMAScript's syntax, plain data, and the texts of a match input.
+//! Types and calls for browsers: an engine in ECMAScript's syntax, plain data, inits and inputs as they are given, and the
+//! texts of a match input.
 
 mod ecma_regexp;
 mod inputs;
 mod match_input;
+mod parsing;
 
 pub use crate::Error;
 pub use crate::component::Component;
 pub use ecma_regexp::EcmaRegexp;
 pub use inputs::{process_construct_pattern_input, process_match_input};
-pub use match_input::{MatchInput, parse_match_input};
+pub use match_input::parse_match_input;
+pub use parsing::{parse_pattern, parse_pattern_as_lib};
 pub use urlpattern_plain::{
-    InnerMatcher, Inputs, Matcher, StringOrInit, UrlPattern, UrlPatternComponent, UrlPatternInit,
+    InnerMatcher, Inputs, MatchInput, Matcher, StringOrInit, UrlPattern, UrlPatternComponent,
+    UrlPatternInit,
 };

@@ -1,1 +1,4 @@
 pub mod Values
+pub mod Json
+pub mod Plain
+pub mod Steps

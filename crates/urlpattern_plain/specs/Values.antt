@@ -1,7 +1,8 @@
--- The plain values, without where they lie in memory. Texts are their bytes in UTF-8.
-use Rattle.std.specs.Prelude.{ℕ, Bool, List, [], Option, option_map, map, IfSome, ⊤, string_bytes}
+-- The plain values, without where they lie in memory. Texts are seen as their bytes in UTF-8, which are those of JSON.
+use Rattle.std.specs.Prelude.{ℕ, Bool, List, [], Option, option_map, map, IfSome, ⊤, String, string_bytes}
 use Rattle.std.specs.Char.{IsScalar}
 use Rattle.std.specs.Cow.{cow_str_bytes}
+use Rattle.std.specs.declared.alloc.Global.{Global}
 use Rattle.urlpattern_plain.specs.declared.init.UrlPatternInit.{UrlPatternInit}
 use Rattle.urlpattern_plain.specs.declared.input.StringOrInit.{StringOrInit}
 use Rattle.urlpattern_plain.specs.declared.input.StringOrInit.TheVariants as inputs
@@ -40,12 +41,12 @@ init_view init = record {
 
 -- one text, or an init
 pub data InputView : Type 0 where
-  text : List ℕ → InputView
-  init : InitView → InputView
+  of_text : List ℕ → InputView
+  of_init : InitView → InputView
 
 abbrev pub input_view : StringOrInit → InputView
-input_view (inputs.String string) = text (cow_str_bytes string)
-input_view (inputs.Init values) = init (init_view values)
+input_view (inputs.String string) = of_text (cow_str_bytes string)
+input_view (inputs.Init values) = of_init (init_view values)
 
 -- ---- what is matched
 
@@ -81,22 +82,29 @@ pub data InnerView : Type 0 where
   single_capture : (filter : Option ℕ) → (allow_empty : Bool) → InnerView
   regexp : List ℕ → InnerView
 
+-- the value, with each text seen by this function
+abbrev pub inner_by : (String Global → List ℕ) → InnerMatcher → InnerView
+inner_by seen (matchers.Literal string) = literal (seen string)
+inner_by seen (matchers.SingleCapture filter allow_empty) = single_capture filter allow_empty
+inner_by seen (matchers.RegExp string) = regexp (seen string)
+
 abbrev pub inner_view : InnerMatcher → InnerView
-inner_view (matchers.Literal bytes) = literal (string_bytes bytes)
-inner_view (matchers.SingleCapture filter allow_empty) = single_capture filter allow_empty
-inner_view (matchers.RegExp bytes) = regexp (string_bytes bytes)
+inner_view inner = inner_by string_bytes inner
 
 pub record MatcherView : Type 0 where
   pub prefix : List ℕ
   pub suffix : List ℕ
   pub inner : InnerView
 
-abbrev pub matcher_view : Matcher → MatcherView
-matcher_view matcher = record {
-  prefix = string_bytes matcher.prefix;
-  suffix = string_bytes matcher.suffix;
-  inner = inner_view matcher.inner;
+abbrev pub matcher_by : (String Global → List ℕ) → Matcher → MatcherView
+matcher_by seen matcher = record {
+  prefix = seen matcher.prefix;
+  suffix = seen matcher.suffix;
+  inner = inner_by seen matcher.inner;
 }
+
+abbrev pub matcher_view : Matcher → MatcherView
+matcher_view matcher = matcher_by string_bytes matcher
 
 pub record ComponentView : Type 0 where
   pub pattern_string : List ℕ
@@ -104,13 +112,16 @@ pub record ComponentView : Type 0 where
   pub matcher : MatcherView
   pub group_name_list : List (List ℕ)
 
-abbrev pub component_view : UrlPatternComponent → ComponentView
-component_view component = record {
-  pattern_string = string_bytes component.pattern_string;
-  regexp_string = string_bytes component.regexp_string;
-  matcher = matcher_view component.matcher;
-  group_name_list = map string_bytes component.group_name_list.items;
+abbrev pub component_by : (String Global → List ℕ) → UrlPatternComponent → ComponentView
+component_by seen component = record {
+  pattern_string = seen component.pattern_string;
+  regexp_string = seen component.regexp_string;
+  matcher = matcher_by seen component.matcher;
+  group_name_list = map seen component.group_name_list.items;
 }
+
+abbrev pub component_view : UrlPatternComponent → ComponentView
+component_view component = component_by string_bytes component
 
 pub record PatternView : Type 0 where
   pub protocol : ComponentView
@@ -123,18 +134,21 @@ pub record PatternView : Type 0 where
   pub hash : ComponentView
   pub has_regexp_groups : Bool
 
-abbrev pub pattern_view : UrlPattern → PatternView
-pattern_view pattern = record {
-  protocol = component_view pattern.protocol;
-  username = component_view pattern.username;
-  password = component_view pattern.password;
-  hostname = component_view pattern.hostname;
-  port = component_view pattern.port;
-  pathname = component_view pattern.pathname;
-  search = component_view pattern.search;
-  hash = component_view pattern.hash;
+abbrev pub pattern_by : (String Global → List ℕ) → UrlPattern → PatternView
+pattern_by seen pattern = record {
+  protocol = component_by seen pattern.protocol;
+  username = component_by seen pattern.username;
+  password = component_by seen pattern.password;
+  hostname = component_by seen pattern.hostname;
+  port = component_by seen pattern.port;
+  pathname = component_by seen pattern.pathname;
+  search = component_by seen pattern.search;
+  hash = component_by seen pattern.hash;
   has_regexp_groups = pattern.has_regexp_groups;
 }
+
+abbrev pub pattern_view : UrlPattern → PatternView
+pattern_view pattern = pattern_by string_bytes pattern
 
 -- ---- numbers that are characters
 

@@ -3,10 +3,13 @@
 
 mod init;
 mod input;
+pub mod laws;
 mod match_input;
 mod matcher;
 mod options;
 mod pattern;
+mod reading;
+mod writing;
 
 pub use init::UrlPatternInit;
 pub use input::{Inputs, StringOrInit};

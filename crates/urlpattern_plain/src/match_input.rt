@@ -1,9 +1,16 @@
 //! The texts that a pattern is matched against.
-ghost use Rattle.std.specs.Prelude.{◌≡◌};
+ghost use Rattle.std.specs.Prelude.{◌≡◌, IfErr, IfOk, option_map};
+ghost use Rattle.serde_json.specs.View.{view};
+ghost use Rattle.urlpattern_plain.specs.Json.{match_input_read, match_input_tree};
+ghost use Rattle.urlpattern_plain.specs.Steps.{Gives};
 ghost use Rattle.urlpattern_plain.specs.Values.{empty_match_input, match_input_view};
+ghost use Rattle.urlpattern_syntax.specs.declared.error.Error.TheVariants as errors;
 
+use crate::reading::{Unread, text_field, told};
 use serde::{Deserialize, Serialize};
-use std::alloc::Global;
+use serde_json::{Value, json};
+use std::alloc::{AllocError, Global};
+use urlpattern_core::Error;
 
 /// The texts of the components that a pattern is matched against.
 #[derive(Debug, Clone, PartialEq, Eq, Drop, Serialize, Deserialize)]
@@ -41,5 +48,57 @@ impl MatchInput {
             search: String::new(alloc),
             hash: String::new(alloc),
         }
+    }
+
+    /// The JSON of the input: an object with a key for each text.
+    ///
+    /// The error is that memory ran out.
+    pub fn to_json_value(&self, alloc: Global) -> Result<Value, Error>
+        ensures tree { IfOk result (λ tree. view tree ≡ match_input_tree (match_input_view self.now)) }
+        ensures memory { IfErr result (λ error. error ≡ errors.OutOfMemory) }
+    {
+        Ok(self.tree(alloc)?)
+    }
+
+    fn tree(&self, alloc: Global) -> Result<Value, AllocError>
+        ensures { IfOk result (λ tree. view tree ≡ match_input_tree (match_input_view self.now)) }
+    {
+        json!(in alloc; {
+            "protocol": &self.protocol,
+            "username": &self.username,
+            "password": &self.password,
+            "hostname": &self.hostname,
+            "port": &self.port,
+            "pathname": &self.pathname,
+            "search": &self.search,
+            "hash": &self.hash
+        })
+    }
+
+    /// The input that the JSON stands for: an object with a text for each key. Other keys are passed over. None if it
+    /// stands for none.
+    ///
+    /// The error is that memory ran out.
+    pub fn from_json_value(alloc: Global, value: &Value) -> Result<Option<Self>, Error>
+        ensures read { IfOk result (λ found. option_map match_input_view found ≡ match_input_read (view value.now)) }
+        ensures memory { IfErr result (λ error. error ≡ errors.OutOfMemory) }
+    {
+        told(Self::read(alloc, value))
+    }
+
+    #[tactic(auto, unfolding(crate::specs::Json::match_input_read))]
+    fn read(alloc: Global, value: &Value) -> Result<Self, Unread>
+        ensures { Gives match_input_view result (match_input_read (view value.now)) }
+    {
+        Ok(Self {
+            protocol: text_field(alloc, value, "protocol")?,
+            username: text_field(alloc, value, "username")?,
+            password: text_field(alloc, value, "password")?,
+            hostname: text_field(alloc, value, "hostname")?,
+            port: text_field(alloc, value, "port")?,
+            pathname: text_field(alloc, value, "pathname")?,
+            search: text_field(alloc, value, "search")?,
+            hash: text_field(alloc, value, "hash")?,
+        })
     }
 }

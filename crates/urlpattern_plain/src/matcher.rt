@@ -1,6 +1,22 @@
 //! What a component is matched with, as plain data.
 
+ghost use Rattle.std.specs.Prelude.{◌≡◌, IfErr, IfOk, option_map};
+ghost use Rattle.serde_json.specs.View.{view};
+ghost use Rattle.urlpattern_plain.specs.Json.{capture_read, inner_read, matcher_read, matcher_tree};
+ghost use Rattle.urlpattern_core.specs.Matchers as compiled;
+ghost use Rattle.urlpattern_plain.specs.Plain.{engine_text, plain_inner, plain_matcher};
+ghost use Rattle.urlpattern_plain.specs.Steps.{Gives};
+ghost use Rattle.urlpattern_plain.specs.Values.{inner_by, inner_view, matcher_by, matcher_view};
+ghost use Rattle.urlpattern_syntax.specs.declared.error.Error.TheVariants as errors;
+ghost use Rattle.urlpattern_syntax.specs.Text.{text_of};
+
+use crate::reading::{Unread, flag_field, optional_character_field, text_field, text_of, told};
+use crate::writing::filter_value;
 use serde::{Deserialize, Serialize};
+use serde_json::{Value, json};
+use std::alloc::{AllocError, Global};
+use urlpattern_core::regexp::RegExp;
+use urlpattern_core::{Error, matcher};
 
 /// What a text is matched with: its prefix, its suffix, and what stands between them.
 #[derive(Debug, Clone, PartialEq, Eq, Drop, Serialize, Deserialize)]
@@ -36,4 +52,163 @@ pub enum InnerMatcher {
         /// The regular expression, empty if an engine refused it.
         regexp: String,
     },
+}
+
+impl Matcher {
+    /// The plain value of a matcher.
+    ///
+    /// The error is that memory ran out.
+    pub fn from_matcher<R: RegExp>(
+        alloc: Global,
+        matcher: matcher::Matcher<R>,
+    ) -> Result<Self, Error>
+        ensures plain { IfOk result (λ plain. matcher_by text_of plain ≡ plain_matcher R.text_made_of (compiled.matcher_view matcher)) }
+        ensures memory { IfErr result (λ error. error ≡ errors.OutOfMemory) }
+    {
+        let inner = InnerMatcher::from_inner(alloc, matcher.inner)?;
+        Ok(Self {
+            prefix: matcher.prefix,
+            suffix: matcher.suffix,
+            inner,
+        })
+    }
+
+    /// The JSON of the matcher: an object with `prefix`, `suffix` and `kind`, and the keys of its kind.
+    ///
+    /// The error is that memory ran out.
+    pub fn to_json_value(&self, alloc: Global) -> Result<Value, Error>
+        ensures tree { IfOk result (λ tree. view tree ≡ matcher_tree (matcher_view self.now)) }
+        ensures memory { IfErr result (λ error. error ≡ errors.OutOfMemory) }
+    {
+        Ok(self.tree(alloc)?)
+    }
+
+    pub(crate) fn tree(&self, alloc: Global) -> Result<Value, AllocError>
+        ensures { IfOk result (λ tree. view tree ≡ matcher_tree (matcher_view self.now)) }
+    {
+        match &self.inner {
+            InnerMatcher::Literal { literal } => json!(in alloc; {
+                "prefix": &self.prefix,
+                "suffix": &self.suffix,
+                "kind": "literal",
+                "literal": literal
+            }),
+            InnerMatcher::SingleCapture {
+                filter,
+                allow_empty,
+            } => {
+                let filter = filter_value(alloc, *filter)?;
+                let allow_empty = *allow_empty;
+                json!(in alloc; {
+                    "prefix": &self.prefix,
+                    "suffix": &self.suffix,
+                    "kind": "singleCapture",
+                    "filter": filter,
+                    "allowEmpty": allow_empty
+                })
+            }
+            InnerMatcher::RegExp { regexp } => json!(in alloc; {
+                "prefix": &self.prefix,
+                "suffix": &self.suffix,
+                "kind": "regExp",
+                "regexp": regexp
+            }),
+        }
+    }
+
+    /// The matcher that the JSON stands for: an object with `prefix`, `suffix` and `kind`, and the keys of its kind.
+    /// Other keys are passed over. None if it stands for none.
+    ///
+    /// The error is that memory ran out.
+    pub fn from_json_value(alloc: Global, value: &Value) -> Result<Option<Self>, Error>
+        ensures read { IfOk result (λ found. option_map matcher_view found ≡ matcher_read (view value.now)) }
+        ensures memory { IfErr result (λ error. error ≡ errors.OutOfMemory) }
+    {
+        told(Self::read(alloc, value))
+    }
+
+    #[tactic(auto, unfolding(crate::specs::Json::matcher_read))]
+    pub(crate) fn read(alloc: Global, value: &Value) -> Result<Self, Unread>
+        ensures { Gives matcher_view result (matcher_read (view value.now)) }
+    {
+        Ok(Self {
+            prefix: text_field(alloc, value, "prefix")?,
+            suffix: text_field(alloc, value, "suffix")?,
+            inner: InnerMatcher::read(alloc, value)?,
+        })
+    }
+}
+
+impl InnerMatcher {
+    /// The plain value of what stands between prefix and suffix: an engine's value becomes its text, and the empty text
+    /// stands where an error is kept.
+    ///
+    /// The error is that memory ran out.
+    pub fn from_inner<R: RegExp>(
+        alloc: Global,
+        inner: matcher::InnerMatcher<R>,
+    ) -> Result<Self, Error>
+        ensures plain { IfOk result (λ plain. inner_by text_of plain ≡ plain_inner R.text_made_of (compiled.inner_view inner)) }
+        ensures memory { IfErr result (λ error. error ≡ errors.OutOfMemory) }
+    {
+        match inner {
+            matcher::InnerMatcher::Literal { literal } => Ok(InnerMatcher::Literal { literal }),
+            matcher::InnerMatcher::SingleCapture {
+                filter,
+                allow_empty,
+            } => Ok(InnerMatcher::SingleCapture {
+                filter,
+                allow_empty,
+            }),
+            matcher::InnerMatcher::RegExp { regexp } => {
+                let regexp = engine_text(alloc, &regexp)?;
+                Ok(InnerMatcher::RegExp { regexp })
+            }
+        }
+    }
+
+    /// By the kind that the object tells.
+    #[tactic(auto, unfolding(crate::specs::Json::inner_read))]
+    fn read(alloc: Global, value: &Value) -> Result<Self, Unread>
+        ensures { Gives inner_view result (inner_read (view value.now)) }
+    {
+        let kind = text_of(value, "kind")?;
+        if kind == "literal" {
+            let literal = text_field(alloc, value, "literal")?;
+            Ok(InnerMatcher::Literal { literal })
+        } else if kind == "singleCapture" {
+            Self::read_capture(value)
+        } else if kind == "regExp" {
+            let regexp = text_field(alloc, value, "regexp")?;
+            Ok(InnerMatcher::RegExp { regexp })
+        } else {
+            Err(Unread::Shape)
+        }
+    }
+
+    #[tactic(auto, unfolding(crate::specs::Json::capture_read))]
+    fn read_capture(value: &Value) -> Result<Self, Unread>
+        ensures { Gives inner_view result (capture_read (view value.now)) }
+    {
+        let filter = optional_character_field(value, "filter")?;
+        let allow_empty = flag_field(value, "allowEmpty")?;
+        Ok(InnerMatcher::SingleCapture {
+            filter,
+            allow_empty,
+        })
+    }
+}
+
+/// The text that an engine's value was made of, or the empty text where an error is kept.
+pub(crate) fn engine_text<R: RegExp>(
+    alloc: Global,
+    engine: &Result<R, Error>,
+) -> Result<String, Error>
+    ensures text { IfOk result (λ text. text_of text ≡ engine_text R.text_made_of (compiled.engine_view engine.now)) }
+    ensures memory { IfErr result (λ error. error ≡ errors.OutOfMemory) }
+{
+    match engine {
+        Ok(engine) => Ok(String::from_str(alloc, engine.pattern_string())?),
+        Err(_) => Ok(String::new(alloc)),
+    }
 }

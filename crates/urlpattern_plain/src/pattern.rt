@@ -1,7 +1,24 @@
 //! A whole pattern as plain data.
 
-use crate::matcher::Matcher;
+ghost use Rattle.std.specs.Prelude.{◌≡◌, IfErr, IfOk, option_map};
+ghost use Rattle.serde_json.specs.View.{view};
+ghost use Rattle.urlpattern_plain.specs.Json.{component_read, component_tree, matcher_read, member_read, pattern_read, pattern_tree};
+ghost use Rattle.urlpattern_core.specs.Compiling as compiled;
+ghost use Rattle.urlpattern_plain.specs.Plain.{plain_component};
+ghost use Rattle.urlpattern_plain.specs.Steps.{Gives};
+ghost use Rattle.urlpattern_plain.specs.Values.{component_by, component_view, matcher_view, pattern_view};
+ghost use Rattle.urlpattern_syntax.specs.declared.error.Error.TheVariants as errors;
+ghost use Rattle.urlpattern_syntax.specs.Text.{text_of};
+
+use crate::matcher::{Matcher, engine_text};
+use crate::reading::{Unread, flag_field, member, text_field, texts_field, told};
+use crate::writing::texts_value;
 use serde::{Deserialize, Serialize};
+use serde_json::{Value, json};
+use std::alloc::{AllocError, Global};
+use urlpattern_core::Error;
+use urlpattern_core::component::Component;
+use urlpattern_core::regexp::RegExp;
 
 /// A pattern for each of a URL's components.
 #[derive(Debug, Clone, PartialEq, Eq, Drop, Serialize, Deserialize)]
@@ -39,4 +56,149 @@ pub struct UrlPatternComponent {
     pub matcher: Matcher,
     /// The names of the groups, in the order of their captures.
     pub group_name_list: Vec<String>,
+}
+
+impl UrlPattern {
+    /// The JSON of the pattern: an object with a key for each component, and `hasRegexpGroups`.
+    ///
+    /// The error is that memory ran out.
+    pub fn to_json_value(&self, alloc: Global) -> Result<Value, Error>
+        ensures tree { IfOk result (λ tree. view tree ≡ pattern_tree (pattern_view self.now)) }
+        ensures memory { IfErr result (λ error. error ≡ errors.OutOfMemory) }
+    {
+        Ok(self.tree(alloc)?)
+    }
+
+    fn tree(&self, alloc: Global) -> Result<Value, AllocError>
+        ensures { IfOk result (λ tree. view tree ≡ pattern_tree (pattern_view self.now)) }
+    {
+        let protocol = self.protocol.tree(alloc)?;
+        let username = self.username.tree(alloc)?;
+        let password = self.password.tree(alloc)?;
+        let hostname = self.hostname.tree(alloc)?;
+        let port = self.port.tree(alloc)?;
+        let pathname = self.pathname.tree(alloc)?;
+        let search = self.search.tree(alloc)?;
+        let hash = self.hash.tree(alloc)?;
+        json!(in alloc; {
+            "protocol": protocol,
+            "username": username,
+            "password": password,
+            "hostname": hostname,
+            "port": port,
+            "pathname": pathname,
+            "search": search,
+            "hash": hash,
+            "hasRegexpGroups": self.has_regexp_groups
+        })
+    }
+
+    /// The pattern that the JSON stands for: an object with a component for each key, and `hasRegexpGroups`. Other keys
+    /// are passed over. None if it stands for none.
+    ///
+    /// The error is that memory ran out.
+    pub fn from_json_value(alloc: Global, value: &Value) -> Result<Option<Self>, Error>
+        ensures read { IfOk result (λ found. option_map pattern_view found ≡ pattern_read (view value.now)) }
+        ensures memory { IfErr result (λ error. error ≡ errors.OutOfMemory) }
+    {
+        told(Self::read(alloc, value))
+    }
+
+    #[tactic(auto, unfolding(crate::specs::Json::pattern_read))]
+    fn read(alloc: Global, value: &Value) -> Result<Self, Unread>
+        ensures { Gives pattern_view result (pattern_read (view value.now)) }
+    {
+        let has_regexp_groups = flag_field(value, "hasRegexpGroups")?;
+        Ok(Self {
+            protocol: component_field(alloc, value, "protocol")?,
+            username: component_field(alloc, value, "username")?,
+            password: component_field(alloc, value, "password")?,
+            hostname: component_field(alloc, value, "hostname")?,
+            port: component_field(alloc, value, "port")?,
+            pathname: component_field(alloc, value, "pathname")?,
+            search: component_field(alloc, value, "search")?,
+            hash: component_field(alloc, value, "hash")?,
+            has_regexp_groups,
+        })
+    }
+}
+
+impl UrlPatternComponent {
+    /// The plain value of a component: an engine's value becomes its text, and the empty text stands where an error is
+    /// kept.
+    ///
+    /// The error is that memory ran out.
+    pub fn from_component<R: RegExp>(alloc: Global, component: Component<R>) -> Result<Self, Error>
+        ensures plain { IfOk result (λ plain. component_by text_of plain ≡ plain_component R.text_made_of (compiled.component_view component)) }
+        ensures memory { IfErr result (λ error. error ≡ errors.OutOfMemory) }
+    {
+        let regexp_string = engine_text(alloc, &component.regexp)?;
+        let matcher = Matcher::from_matcher(alloc, component.matcher)?;
+        Ok(Self {
+            pattern_string: component.pattern_string,
+            regexp_string,
+            matcher,
+            group_name_list: component.group_name_list,
+        })
+    }
+
+    /// The JSON of the component: an object with `patternString`, `regexpString`, `matcher` and `groupNameList`.
+    ///
+    /// The error is that memory ran out.
+    pub fn to_json_value(&self, alloc: Global) -> Result<Value, Error>
+        ensures tree { IfOk result (λ tree. view tree ≡ component_tree (component_view self.now)) }
+        ensures memory { IfErr result (λ error. error ≡ errors.OutOfMemory) }
+    {
+        Ok(self.tree(alloc)?)
+    }
+
+    fn tree(&self, alloc: Global) -> Result<Value, AllocError>
+        ensures { IfOk result (λ tree. view tree ≡ component_tree (component_view self.now)) }
+    {
+        let matcher = self.matcher.tree(alloc)?;
+        let names = texts_value(alloc, &self.group_name_list)?;
+        json!(in alloc; {
+            "patternString": &self.pattern_string,
+            "regexpString": &self.regexp_string,
+            "matcher": matcher,
+            "groupNameList": names
+        })
+    }
+
+    /// The component that the JSON stands for: an object with `patternString`, `regexpString`, `matcher` and
+    /// `groupNameList`. Other keys are passed over. None if it stands for none.
+    ///
+    /// The error is that memory ran out.
+    pub fn from_json_value(alloc: Global, value: &Value) -> Result<Option<Self>, Error>
+        ensures read { IfOk result (λ found. option_map component_view found ≡ component_read (view value.now)) }
+        ensures memory { IfErr result (λ error. error ≡ errors.OutOfMemory) }
+    {
+        told(Self::read(alloc, value))
+    }
+
+    #[tactic(auto, unfolding(crate::specs::Json::component_read))]
+    fn read(alloc: Global, value: &Value) -> Result<Self, Unread>
+        ensures { Gives component_view result (component_read (view value.now)) }
+    {
+        Ok(Self {
+            pattern_string: text_field(alloc, value, "patternString")?,
+            regexp_string: text_field(alloc, value, "regexpString")?,
+            matcher: matcher_field(alloc, value, "matcher")?,
+            group_name_list: texts_field(alloc, value, "groupNameList")?,
+        })
+    }
+}
+
+/// The component of a member.
+fn component_field(alloc: Global, tree: &Value, name: &str) -> Result<UrlPatternComponent, Unread>
+    ensures { Gives component_view result (member_read component_read name.now (view tree.now)) }
+{
+    UrlPatternComponent::read(alloc, member(tree, name)?)
+}
+
+/// The matcher of a member.
+fn matcher_field(alloc: Global, tree: &Value, name: &str) -> Result<Matcher, Unread>
+    ensures { Gives matcher_view result (member_read matcher_read name.now (view tree.now)) }
+{
+    Matcher::read(alloc, member(tree, name)?)
 }

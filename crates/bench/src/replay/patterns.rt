@@ -33,7 +33,8 @@ fn is_same_over<R: RegExp>(
     let found = built::<R>(alloc, given(alloc, question)?, question);
     Ok(match (found, answer) {
         (Ok(pattern), Answer::Ok(recorded)) => {
-            has_same_texts(&pattern, recorded) && has_same_results(alloc, &pattern, question, recorded)?
+            has_same_texts(&pattern, recorded)
+                && has_same_results(alloc, &pattern, question, recorded)?
         }
         (Err(error), Answer::Err(text)) => prints(alloc, &error, text)?,
         _ => false,

@@ -11,7 +11,7 @@ use urlpattern::parser::Options;
 use urlpattern::regexp::RegExp;
 use urlpattern::{
     Error, UrlPattern, UrlPatternComponentResult, UrlPatternInit, UrlPatternMatchInput,
-    UrlPatternResult,
+    UrlPatternOptions, UrlPatternResult,
 };
 
 /// What the groups of a component are expected to capture, by name.
@@ -30,11 +30,6 @@ fn compiled(
 /// The component of a path.
 fn path(alloc: Global, pattern: &str) -> Result<Component<Regex>, Error> {
     compiled(alloc, Some(pattern), Options::pathname(alloc)?)
-}
-
-/// A component that takes any text, in the group `0`.
-fn anything(alloc: Global) -> Result<Component<Regex>, Error> {
-    compiled(alloc, None, Options::default(alloc))
 }
 
 /// A component that is put together by hand: an engine, or none, is asked for the whole text.
@@ -63,15 +58,11 @@ fn by_hand(
 
 /// A pattern with this component for the path, whose other components take any text.
 fn with_pathname(alloc: Global, pathname: Component<Regex>) -> Result<UrlPattern, Error> {
+    let init = UrlPatternInit::default();
+    let pattern: UrlPattern = UrlPattern::parse(alloc, init, UrlPatternOptions::default())?;
     Ok(UrlPattern {
-        protocol: anything(alloc)?,
-        username: anything(alloc)?,
-        password: anything(alloc)?,
-        hostname: anything(alloc)?,
-        port: anything(alloc)?,
         pathname,
-        search: anything(alloc)?,
-        hash: anything(alloc)?,
+        ..pattern
     })
 }
 
@@ -80,10 +71,32 @@ fn url(alloc: Global, text: &str) -> Result<UrlPatternMatchInput, Fail> {
     Ok(UrlPatternMatchInput::Url(Url::parse(alloc, text)?))
 }
 
-/// The match of a URL's text.
-fn matched(alloc: Global, pattern: &UrlPattern, text: &str) -> Result<UrlPatternResult, Fail> {
-    let found = pattern.exec(alloc, url(alloc, text)?)?;
-    Ok(found.ok_or("no match")?)
+/// What a pattern with this component for the path tells of an input: whether it matches, and its match.
+fn told(
+    alloc: Global,
+    pathname: Component<Regex>,
+    input: UrlPatternMatchInput,
+) -> Result<(bool, Option<UrlPatternResult>), Error> {
+    let copy = input.clone()?;
+    let pattern = with_pathname(alloc, pathname)?;
+    let is_matched = pattern.test(alloc, copy)?;
+    let found = pattern.exec(alloc, input)?;
+    Ok((is_matched, found))
+}
+
+/// The match of a URL's text, which a test tells too.
+fn matched(
+    alloc: Global,
+    pathname: Component<Regex>,
+    text: &str,
+) -> Result<UrlPatternResult, Fail> {
+    let (is_matched, found) = told(alloc, pathname, url(alloc, text)?)?;
+    let found = found.ok_or("no match")?;
+    if is_matched {
+        Ok(found)
+    } else {
+        Err("a test tells no match")?
+    }
 }
 
 /// Compares the text of a component and what its groups capture.
@@ -107,44 +120,29 @@ fn expect_result(
 #[test]
 fn a_segment_of_the_path_is_captured(rt: HostRuntime) -> Result<(), Fail> {
     let alloc = rt.alloc();
-    let pattern = with_pathname(alloc, path(alloc, "/users/:id")?)?;
-    let result = matched(
-        alloc,
-        &pattern,
-        "https://u:p@example.com:8080/users/123?q#f",
-    )?;
-    expect_result(&rt, &result.protocol, "https", &[("0", Some("https"))]);
-    expect_result(&rt, &result.username, "u", &[("0", Some("u"))]);
-    expect_result(&rt, &result.password, "p", &[("0", Some("p"))]);
-    expect_result(
-        &rt,
-        &result.hostname,
-        "example.com",
-        &[("0", Some("example.com"))],
-    );
-    expect_result(&rt, &result.port, "8080", &[("0", Some("8080"))]);
-    expect_result(&rt, &result.pathname, "/users/123", &[("id", Some("123"))]);
-    expect_result(&rt, &result.search, "q", &[("0", Some("q"))]);
-    expect_result(&rt, &result.hash, "f", &[("0", Some("f"))]);
+    let pathname = path(alloc, "/users/:id")?;
+    let text = "https://u:p@example.com:8080/users/123?q#f";
+    let found = matched(alloc, pathname, text)?;
+    expect_result(&rt, &found.protocol, "https", &[("0", Some("https"))]);
+    expect_result(&rt, &found.username, "u", &[("0", Some("u"))]);
+    expect_result(&rt, &found.password, "p", &[("0", Some("p"))]);
+    let hostname = "example.com";
+    expect_result(&rt, &found.hostname, hostname, &[("0", Some(hostname))]);
+    expect_result(&rt, &found.port, "8080", &[("0", Some("8080"))]);
+    expect_result(&rt, &found.pathname, "/users/123", &[("id", Some("123"))]);
+    expect_result(&rt, &found.search, "q", &[("0", Some("q"))]);
+    expect_result(&rt, &found.hash, "f", &[("0", Some("f"))]);
     Ok(())
 }
 
 #[test]
 fn one_component_that_does_not_match_is_no_match(rt: HostRuntime) -> Result<(), Fail> {
     let alloc = rt.alloc();
-    let pattern = with_pathname(alloc, path(alloc, "/users/:id")?)?;
-    for (text, expected) in [
-        ("https://example.com/users/123", true),
-        ("https://example.com/users", false),
-        ("https://example.com/users/1/2", false),
-    ] {
-        assert_eq!(rt;
-            pattern.test(alloc, url(alloc, text)?)?,
-            expected,
-            "at {text:?}"
-        );
-        let found = pattern.exec(alloc, url(alloc, text)?)?;
-        assert_eq!(rt; found.is_some(), expected, "at {text:?}");
+    for text in ["https://example.com/users", "https://example.com/users/1/2"] {
+        let pathname = path(alloc, "/users/:id")?;
+        let (is_matched, found) = told(alloc, pathname, url(alloc, text)?)?;
+        assert!(rt; !is_matched, "at {text:?}");
+        assert!(rt; found.is_none(), "at {text:?}");
     }
     Ok(())
 }
@@ -152,65 +150,69 @@ fn one_component_that_does_not_match_is_no_match(rt: HostRuntime) -> Result<(), 
 #[test]
 fn an_init_is_matched_with_what_it_inherits(rt: HostRuntime) -> Result<(), Fail> {
     let alloc = rt.alloc();
-    let pattern = with_pathname(alloc, path(alloc, "/a/*")?)?;
     let init = UrlPatternInit {
         pathname: Some(String::from_str(alloc, "b")?),
         base_url: Some(Url::parse(alloc, "https://example.com/a/x")?),
         ..UrlPatternInit::default()
     };
-    assert!(rt; pattern.test(alloc, UrlPatternMatchInput::Init(init.clone()?))?);
-    let found = pattern.exec(alloc, UrlPatternMatchInput::Init(init))?;
-    let result = found.ok_or("no match")?;
-    expect_result(&rt, &result.pathname, "/a/b", &[("0", Some("b"))]);
-    expect_result(
-        &rt,
-        &result.hostname,
-        "example.com",
-        &[("0", Some("example.com"))],
-    );
+    let pathname = path(alloc, "/a/*")?;
+    let (is_matched, found) = told(alloc, pathname, UrlPatternMatchInput::Init(init))?;
+    assert!(rt; is_matched);
+    let found = found.ok_or("no match")?;
+    expect_result(&rt, &found.pathname, "/a/b", &[("0", Some("b"))]);
+    let hostname = "example.com";
+    expect_result(&rt, &found.hostname, hostname, &[("0", Some(hostname))]);
     Ok(())
 }
 
 #[test]
 fn an_init_that_is_refused_is_no_match(rt: HostRuntime) -> Result<(), Fail> {
     let alloc = rt.alloc();
-    let pattern = with_pathname(alloc, anything(alloc)?)?;
     let init = UrlPatternInit {
         port: Some(String::from_str(alloc, "65536")?),
         ..UrlPatternInit::default()
     };
-    assert!(rt; !pattern.test(alloc, UrlPatternMatchInput::Init(init.clone()?))?);
-    assert!(rt;
-        pattern
-            .exec(alloc, UrlPatternMatchInput::Init(init))?
-            .is_none()
-    );
+    let pathname = path(alloc, "*")?;
+    let (is_matched, found) = told(alloc, pathname, UrlPatternMatchInput::Init(init))?;
+    assert!(rt; !is_matched);
+    assert!(rt; found.is_none());
+    Ok(())
+}
+
+/// Compares the groups of a path: an engine captures by this regular expression, beside these names.
+fn expect_groups(
+    rt: &impl Abort,
+    alloc: Global,
+    text: &str,
+    (names, regexp): (&[&str], &str),
+    groups: Groups<'_>,
+) -> Result<(), Fail> {
+    let engine = <Regex as RegExp>::parse(alloc, regexp, "u", true)?;
+    let pathname = by_hand(alloc, names, Ok(engine))?;
+    let found = matched(alloc, pathname, text)?;
+    expect_result(rt, &found.pathname, found.pathname.input.as_str(), groups);
     Ok(())
 }
 
 #[test]
 fn names_stand_beside_captures(rt: HostRuntime) -> Result<(), Fail> {
     let alloc = rt.alloc();
-    let rows: [(&[&str], &str, Groups<'_>); 5] = [
+    let text = "https://example.com/123";
+    let rows: [((&[&str], &str), Groups<'_>); 5] = [
         (
-            &["x", "y"],
-            "^/(.)(.)(.)$",
+            (&["x", "y"], "^/(.)(.)(.)$"),
             &[("x", Some("1")), ("y", Some("2"))],
         ),
-        (&["x"], "^/(.)(.)(.)$", &[("x", Some("1"))]),
-        (&["x"], "^/...$", &[]),
-        (&["x", "y"], "^/(.)..$", &[("x", Some("1"))]),
+        ((&["x"], "^/(.)(.)(.)$"), &[("x", Some("1"))]),
+        ((&["x"], "^/...$"), &[]),
+        ((&["x", "y"], "^/(.)..$"), &[("x", Some("1"))]),
         (
-            &["x", "y"],
-            "^/(4)?(.)..$",
+            (&["x", "y"], "^/(4)?(.)..$"),
             &[("x", None), ("y", Some("1"))],
         ),
     ];
-    for (names, regexp, groups) in rows {
-        let engine = <Regex as RegExp>::parse(alloc, regexp, "u", true)?;
-        let pattern = with_pathname(alloc, by_hand(alloc, names, Ok(engine))?)?;
-        let result = matched(alloc, &pattern, "https://example.com/123")?;
-        expect_result(&rt, &result.pathname, "/123", groups);
+    for (names, groups) in rows {
+        expect_groups(&rt, alloc, text, names, groups)?;
     }
     Ok(())
 }
@@ -218,10 +220,9 @@ fn names_stand_beside_captures(rt: HostRuntime) -> Result<(), Fail> {
 #[test]
 fn of_equal_names_the_last_counts(rt: HostRuntime) -> Result<(), Fail> {
     let alloc = rt.alloc();
-    let engine = <Regex as RegExp>::parse(alloc, "^/(.)(.)$", "u", true)?;
-    let pattern = with_pathname(alloc, by_hand(alloc, &["a", "a"], Ok(engine))?)?;
-    let result = matched(alloc, &pattern, "https://example.com/12")?;
-    expect_result(&rt, &result.pathname, "/12", &[("a", Some("2"))]);
+    let text = "https://example.com/12";
+    let names: &[&str] = &["a", "a"];
+    expect_groups(&rt, alloc, text, (names, "^/(.)(.)$"), &[("a", Some("2"))])?;
     Ok(())
 }
 
@@ -229,46 +230,36 @@ fn of_equal_names_the_last_counts(rt: HostRuntime) -> Result<(), Fail> {
 fn an_error_in_place_of_an_engine_matches_nothing(rt: HostRuntime) -> Result<(), Fail> {
     let alloc = rt.alloc();
     let pathname = by_hand(alloc, &[], Err(Error::RegExp(())))?;
-    let pattern = with_pathname(alloc, pathname)?;
-    let text = "https://example.com/";
-    assert!(rt; !pattern.test(alloc, url(alloc, text)?)?);
-    assert!(rt; pattern.exec(alloc, url(alloc, text)?)?.is_none());
-    assert!(rt; pattern.has_regexp_groups());
+    let (is_matched, found) = told(alloc, pathname, url(alloc, "https://example.com/")?)?;
+    assert!(rt; !is_matched);
+    assert!(rt; found.is_none());
     Ok(())
 }
 
 #[test]
 fn a_regexp_is_asked_for_the_middle_alone(rt: HostRuntime) -> Result<(), Fail> {
     let alloc = rt.alloc();
-    let pattern = with_pathname(alloc, path(alloc, "/foo(\\b.*)")?)?;
-    let result = matched(alloc, &pattern, "https://example.com/foobar")?;
-    expect_result(&rt, &result.pathname, "/foobar", &[("0", Some("bar"))]);
-    let whole = match &pattern.pathname.regexp {
+    let pathname = path(alloc, "/foo(\\b.*)")?;
+    let whole = match &pathname.regexp {
         Ok(regexp) => RegExp::matches(regexp, alloc, "/foobar")?.is_some(),
         Err(_) => true,
     };
     assert!(rt; !whole);
+    let found = matched(alloc, pathname, "https://example.com/foobar")?;
+    expect_result(&rt, &found.pathname, "/foobar", &[("0", Some("bar"))]);
     Ok(())
 }
 
 #[test]
 fn a_copy_of_a_result_equals_it(rt: HostRuntime) -> Result<(), Fail> {
     let alloc = rt.alloc();
-    let pattern = with_pathname(alloc, path(alloc, "/a/:x{/:y}?")?)?;
-    let result = matched(alloc, &pattern, "https://example.com/a/b")?;
-    expect_result(
-        &rt,
-        &result.pathname,
-        "/a/b",
-        &[("x", Some("b")), ("y", None)],
-    );
-    assert_eq!(rt; result.clone()?, result);
-    assert_eq!(rt; result.pathname.clone()?, result.pathname);
-    assert_ne!(rt; result.pathname, result.search);
-    assert_ne!(rt;
-        result,
-        matched(alloc, &pattern, "https://example.com/a/b/c")?
-    );
+    let pathname = path(alloc, "/a/:x{/:y}?")?;
+    let found = matched(alloc, pathname, "https://example.com/a/b")?;
+    let groups = [("x", Some("b")), ("y", None)];
+    expect_result(&rt, &found.pathname, "/a/b", &groups);
+    assert_ne!(rt; found.pathname, found.search);
+    let copy = found.clone()?;
+    assert_eq!(rt; copy, found);
     Ok(())
 }
 
@@ -292,22 +283,6 @@ fn a_component_tells_its_pattern(rt: HostRuntime) -> Result<(), Fail> {
     Ok(())
 }
 
-/// Whether `exec` and `test` tell a match of this URL, or memory ran out on the way.
-fn is_match_or_wants_memory(alloc: Global, pattern: &UrlPattern, url: Url) -> bool {
-    let Ok(copy) = url.clone() else {
-        return true;
-    };
-    let told = match pattern.test(alloc, UrlPatternMatchInput::Url(copy)) {
-        Ok(told) => told,
-        Err(error) => matches!(error, Error::OutOfMemory),
-    };
-    match pattern.exec(alloc, UrlPatternMatchInput::Url(url)) {
-        Ok(Some(result)) => told && result.pathname.groups.get("id").is_some(),
-        Ok(None) => false,
-        Err(error) => told && matches!(error, Error::OutOfMemory),
-    }
-}
-
 /// Holds whichever allocation is refused: `rt try --test --fail-alloc N` refuses one.
 #[test]
 fn a_match_without_memory_gives_no_other_answer(rt: HostRuntime) {
@@ -315,11 +290,11 @@ fn a_match_without_memory_gives_no_other_answer(rt: HostRuntime) {
     let Ok(pathname) = path(alloc, "/users/:id(\\d+)") else {
         return;
     };
-    let Ok(pattern) = with_pathname(alloc, pathname) else {
-        return;
-    };
     let Ok(url) = Url::parse(alloc, "https://example.com/users/123") else {
         return;
     };
-    assert!(rt; is_match_or_wants_memory(alloc, &pattern, url));
+    match told(alloc, pathname, UrlPatternMatchInput::Url(url)) {
+        Ok((is_matched, found)) => assert!(rt; is_matched && found.is_some()),
+        Err(error) => assert!(rt; matches!(error, Error::OutOfMemory)),
+    }
 }

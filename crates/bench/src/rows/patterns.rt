@@ -6,13 +6,12 @@ use std::borrow::CowStr;
 use std::test::Fail;
 use url::{ParseError, Url};
 use urlpattern::canonicalize_and_process::canonicalize_pathname;
-use urlpattern::quirks;
 use urlpattern::quirks::{
     EcmaRegexp, StringOrInit, process_construct_pattern_input, process_match_input,
 };
 use urlpattern::regexp::RegExp;
 use urlpattern::{
-    Error, RegexSyntax, UrlPattern, UrlPatternInit, UrlPatternMatchInput, UrlPatternOptions,
+    Error, RegexSyntax, UrlPattern, UrlPatternInit, UrlPatternMatchInput, UrlPatternOptions, quirks,
 };
 
 /// The texts of an init, by the names of its components.
@@ -98,7 +97,16 @@ fn a_segment_of_the_path_is_found(rt: HostRuntime) -> Result<(), Fail> {
 fn marks_in_the_path_of_a_base_stand_for_themselves(rt: HostRuntime) -> Result<(), Fail> {
     let alloc = rt.alloc();
     let pattern = pattern_under(alloc, &[("pathname", "d")], "https://example.com/a(b)/c")?;
-    let expected = ["https", "*", "*", "example.com", "", "/a\\(b\\)/d", "*", "*"];
+    let expected = [
+        "https",
+        "*",
+        "*",
+        "example.com",
+        "",
+        "/a\\(b\\)/d",
+        "*",
+        "*",
+    ];
     assert_eq!(rt; texts_of(&pattern), expected);
     Ok(())
 }
@@ -156,7 +164,11 @@ fn the_protocol_tells_how_a_path_is_read(rt: HostRuntime) -> Result<(), Fail> {
         ("", "a/../b", "/b"),
     ] {
         let pattern = pattern_of(alloc, &[("protocol", protocol), ("pathname", pathname)])?;
-        assert_eq!(rt; pattern.pathname(), expected, "{pathname:?} under {protocol:?}");
+        assert_eq!(rt;
+            pattern.pathname(),
+            expected,
+            "{pathname:?} under {protocol:?}"
+        );
     }
     Ok(())
 }
@@ -215,7 +227,10 @@ fn a_string_of_brackets_and_braces_ends(rt: HostRuntime) -> Result<(), Fail> {
     let alloc = rt.alloc();
     let text = "(H\\PH)e:*) (emH\\<N)E*(elNH\\PH)e\u{FFFD}{}?u";
     let init = UrlPatternInit::parse_constructor_string::<Regex>(alloc, text, None)?;
-    assert_eq!(rt; init.protocol.as_ref().ok_or("no protocol")?.as_str(), "(H\\PH)e");
+    assert_eq!(rt;
+        init.protocol.as_ref().ok_or("no protocol")?.as_str(),
+        "(H\\PH)e"
+    );
     let built = UrlPattern::<Regex>::parse(alloc, init, UrlPatternOptions::default());
     assert!(rt; !matches!(built, Err(Error::OutOfMemory)));
     Ok(())
@@ -247,8 +262,14 @@ fn the_first_component_that_is_refused_is_told(rt: HostRuntime) -> Result<(), Fa
     let alloc = rt.alloc();
     for (fields, expected) in [
         ([("pathname", ":"), ("protocol", "(a[)")], "regexp error"),
-        ([("username", "(a[)"), ("pathname", "{")], "parser error: expected token Close, found '' of type End"),
-        ([("search", "(a[)"), ("port", "{")], "parser error: expected token Close, found '' of type End"),
+        (
+            [("username", "(a[)"), ("pathname", "{")],
+            "parser error: expected token Close, found '' of type End",
+        ),
+        (
+            [("search", "(a[)"), ("port", "{")],
+            "parser error: expected token Close, found '' of type End",
+        ),
     ] {
         match pattern_of(alloc, &fields) {
             Err(error) => assert_eq!(rt; format!(in alloc; "{error}")?.as_str(), expected),
@@ -304,8 +325,16 @@ fn a_string_is_split_under_its_base(rt: HostRuntime) -> Result<(), Fail> {
     assert_eq!(rt; init.base_url.ok_or("no base")?.as_str(), base_url);
 
     for (text, base_url, expected) in [
-        ("foo", None, "a relative input without a base URL is not valid"),
-        ("ht(tp://x", None, "tokenizer error: invalid regex: missing closing ) (at char 2)"),
+        (
+            "foo",
+            None,
+            "a relative input without a base URL is not valid",
+        ),
+        (
+            "ht(tp://x",
+            None,
+            "tokenizer error: invalid regex: missing closing ) (at char 2)",
+        ),
     ] {
         let text = StringOrInit::String(CowStr::Borrowed(text));
         match process_construct_pattern_input(alloc, text, base_url) {
@@ -361,7 +390,11 @@ fn a_text_is_joined_to_its_base(rt: HostRuntime) -> Result<(), Fail> {
     let alloc = rt.alloc();
     for (text, base_url, expected) in [
         ("https://example.com/a", None, Some("https://example.com/a")),
-        ("../c", Some("https://example.com/a/b"), Some("https://example.com/c")),
+        (
+            "../c",
+            Some("https://example.com/a/b"),
+            Some("https://example.com/c"),
+        ),
         ("nonsense", None, None),
         ("/a", Some("nonsense"), None),
     ] {

@@ -20,21 +20,20 @@ use super::UrlPattern;
 use crate::constructor_parser::accepts_special_scheme;
 use crate::init::{Component, UrlPatternInit, given, process};
 use std::alloc::Global;
-use urlpattern_core::Error;
 use urlpattern_core::canonicalize_and_process::{
     Canonicalizer, ProcessType, begins_with_slash, canonicalize_ipv6_hostname, is_special_scheme,
     special_scheme_default_port, without_first,
 };
-use urlpattern_core::component;
 use urlpattern_core::parser::Options;
 use urlpattern_core::regexp::RegExp;
+use urlpattern_core::{Error, component};
 use urlpattern_plain::UrlPatternOptions;
 
 impl<R: RegExp> UrlPattern<R> {
     /// Compiles a pattern from an init: from its own texts, and from what they inherit from its base URL.
     ///
-    /// The error is that of the first component that is refused, or that memory ran out. Components are compiled in the
-    /// order protocol, hostname, pathname, username, password, port, search, hash. A component is refused for its text, by
+    /// The error is that of the first component that is refused, or that memory ran out. The protocol is compiled first, then
+    /// the hostname and the pathname, and then the others as they stand in a URL. A component is refused for its text, by
     /// `url` for a fixed text in it, or by the engine for its regular expression.
     ///
     /// <https://urlpattern.spec.whatwg.org/#url-pattern-create>
@@ -298,10 +297,7 @@ impl Compiler<'_> {
     /// Whether the pathname of the pattern is hierarchical, by what its protocol was compiled to.
     ///
     /// The error is that memory ran out.
-    fn is_hierarchical<R: RegExp>(
-        &self,
-        protocol: &component::Component<R>,
-    ) -> Result<bool, Error>
+    fn is_hierarchical<R: RegExp>(&self, protocol: &component::Component<R>) -> Result<bool, Error>
         ensures tells { IfOk result (λ hierarchical. IsTrue hierarchical ↔ HasHierarchicalPath R.answer (values_view self.now.values.now) (component_view protocol.now).matcher) }
         ensures memory { IfErr result (λ error. error ≡ errors.OutOfMemory) }
     {

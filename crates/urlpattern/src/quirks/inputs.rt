@@ -65,15 +65,15 @@ fn init_of(alloc: Global, init: UrlPatternInit) -> Result<init::UrlPatternInit, 
 {
     let base_url = parse_base(alloc, borrowed(&init.base_url))?;
     Ok(init::UrlPatternInit {
-        protocol: init.protocol,
-        username: init.username,
-        password: init.password,
-        hostname: init.hostname,
-        port: init.port,
-        pathname: init.pathname,
-        search: init.search,
-        hash: init.hash,
         base_url,
+        hash: init.hash,
+        search: init.search,
+        pathname: init.pathname,
+        port: init.port,
+        hostname: init.hostname,
+        password: init.password,
+        username: init.username,
+        protocol: init.protocol,
     })
 }
 

@@ -3,75 +3,36 @@ ghost use Rattle.std.specs.Prelude.{◌≡◌, [], None, Some, Ok, option_map, u
 ghost use Rattle.urlpattern_syntax.specs.declared.error.Error.TheVariants as errors;
 ghost use Rattle.urlpattern_syntax.specs.Text.{text_of};
 ghost use Rattle.urlpattern.specs.Inheritance.{texts_of_url, texts_of_values, values_view};
-ghost use Rattle.urlpattern.specs.MatchInput.{IsNoInput, input_texts, no_texts, texts_view};
+ghost use Rattle.urlpattern.specs.MatchInput.{IsNoInput, input_texts, texts_view};
 
 use crate::init::{UrlPatternInit, UrlPatternMatchInput, process};
 use crate::pattern::Eight;
-use serde::{Deserialize, Serialize};
 use std::alloc::{AllocError, Global};
 use url::Url;
 use urlpattern_core::Error;
 use urlpattern_core::canonicalize_and_process::ProcessType;
+use urlpattern_plain::MatchInput;
 
-/// The texts of the components that a pattern is matched against.
-#[derive(Debug, Clone, PartialEq, Eq, Drop, Serialize, Deserialize)]
-pub struct MatchInput {
-    /// The scheme, without a colon.
-    pub protocol: String,
-    /// The user name.
-    pub username: String,
-    /// The password.
-    pub password: String,
-    /// The host.
-    pub hostname: String,
-    /// The port, empty if it is the scheme's default.
-    pub port: String,
-    /// The path.
-    pub pathname: String,
-    /// The query, without a question mark.
-    pub search: String,
-    /// The fragment, without a number sign.
-    pub hash: String,
+/// The texts of a URL.
+fn of_url(alloc: Global, url: &Url) -> Result<MatchInput, AllocError>
+    ensures { IfOk result (λ texts. texts_view texts ≡ texts_of_url url.now) }
+{
+    Eight::of_url(url).copied(alloc)
 }
 
-impl MatchInput {
-    /// Eight empty texts.
-    pub fn default(alloc: Global) -> Self
-        ensures { texts_view result ≡ no_texts }
-    {
-        Self {
-            protocol: String::new(alloc),
-            username: String::new(alloc),
-            password: String::new(alloc),
-            hostname: String::new(alloc),
-            port: String::new(alloc),
-            pathname: String::new(alloc),
-            search: String::new(alloc),
-            hash: String::new(alloc),
-        }
-    }
-
-    /// The texts of a URL.
-    fn of_url(alloc: Global, url: &Url) -> Result<Self, AllocError>
-        ensures { IfOk result (λ texts. texts_view texts ≡ texts_of_url url.now) }
-    {
-        Eight::of_url(url).copied(alloc)
-    }
-
-    /// The values that an init came to.
-    fn of_values(alloc: Global, values: UrlPatternInit) -> Self
-        ensures { texts_view result ≡ texts_of_values (values_view values) }
-    {
-        Self {
-            protocol: text_or_empty(alloc, values.protocol),
-            username: text_or_empty(alloc, values.username),
-            password: text_or_empty(alloc, values.password),
-            hostname: text_or_empty(alloc, values.hostname),
-            port: text_or_empty(alloc, values.port),
-            pathname: text_or_empty(alloc, values.pathname),
-            search: text_or_empty(alloc, values.search),
-            hash: text_or_empty(alloc, values.hash),
-        }
+/// The values that an init came to.
+fn of_values(alloc: Global, values: UrlPatternInit) -> MatchInput
+    ensures { texts_view result ≡ texts_of_values (values_view values) }
+{
+    MatchInput {
+        protocol: text_or_empty(alloc, values.protocol),
+        username: text_or_empty(alloc, values.username),
+        password: text_or_empty(alloc, values.password),
+        hostname: text_or_empty(alloc, values.hostname),
+        port: text_or_empty(alloc, values.port),
+        pathname: text_or_empty(alloc, values.pathname),
+        search: text_or_empty(alloc, values.search),
+        hash: text_or_empty(alloc, values.hash),
     }
 }
 
@@ -96,9 +57,9 @@ pub fn parse_match_input(
     ensures memory { IfErr result (λ error. error ≡ errors.OutOfMemory) }
 {
     match input {
-        UrlPatternMatchInput::Url(url) => Ok(Some(MatchInput::of_url(alloc, &url)?)),
+        UrlPatternMatchInput::Url(url) => Ok(Some(of_url(alloc, &url)?)),
         UrlPatternMatchInput::Init(init) => match process(alloc, &init, &ProcessType::Url) {
-            Ok(values) => Ok(Some(MatchInput::of_values(alloc, values))),
+            Ok(values) => Ok(Some(of_values(alloc, values))),
             Err(Error::Url(_)) => Ok(None),
             Err(error) => Err(error),
         },

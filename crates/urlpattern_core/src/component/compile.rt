@@ -1,15 +1,15 @@
 //! The component of a pattern text.
 
-ghost use Rattle.std.specs.Prelude.{◌≡◌, map, IfErr, IfOk};
+ghost use Rattle.std.specs.Prelude.{◌≡◌, List, map, IfErr, IfOk};
 ghost use Rattle.std.specs.Fn.{FnReturnsAt};
 ghost use Rattle.std.specs.Str.{chars};
 ghost use Rattle.urlpattern_core.specs.Compiling.{IsCompiledFrom, IsComponentOf, MayRefuseAsked, component_view, engine_flags, has_regexp, is_asked_again, pattern_text};
-ghost use Rattle.urlpattern_core.specs.Matchers.{engine_view};
-ghost use Rattle.urlpattern_laws.specs.Matching.{IsEngineOf};
+ghost use Rattle.urlpattern_core.specs.Matchers.{engine_view, matcher_view};
+ghost use Rattle.urlpattern_laws.specs.Matching.{AnswersByMeaning, IsEngineOf};
 ghost use Rattle.urlpattern_syntax.specs.declared.error.Error.TheVariants as errors;
 ghost use Rattle.urlpattern_syntax.specs.Options.{options_view};
 ghost use Rattle.urlpattern_syntax.specs.Parsing.{MemoryOr};
-ghost use Rattle.urlpattern_syntax.specs.Parts.{part_view};
+ghost use Rattle.urlpattern_syntax.specs.Parts.{PartView, part_view};
 ghost use Rattle.urlpattern_syntax.specs.Reading.{Refuses, encoding_of};
 
 use super::matchers::{ask_engine, generate_matcher_knowing};
@@ -27,6 +27,9 @@ impl<R: RegExp> Component<R> {
     /// component as an error. An engine that takes ECMAScript's syntax is told to look at the text at once if the pattern
     /// has a regular expression of its own.
     ///
+    /// Where the pattern has none and case is kept, the component's matcher answers what the parts of the pattern mean, if
+    /// an engine that it asks follows the regular expression it was given.
+    ///
     /// The error is that of the pattern text, which may be the callback's own; or that memory ran out.
     ///
     /// <https://urlpattern.spec.whatwg.org/#compile-a-component>
@@ -39,6 +42,9 @@ impl<R: RegExp> Component<R> {
         requires { F.IsAlwaysCallable encoding_callback }
         ensures compiled { IfOk result (λ component. IsCompiledFrom R.IsMade R.MayRefuse R.syntax_of (pattern_text pattern.entry) (options_view options)
             (encoding_of (FnReturnsAt F.Fn encoding_callback)) (component_view component)) }
+        ensures means { IfOk result (λ component. (parts : List PartView) →
+            IsComponentOf R.IsMade R.MayRefuse R.syntax_of (options_view options) parts (component_view component) →
+            AnswersByMeaning R.answer (options_view options) parts (matcher_view component.matcher)) }
         ensures refuses { IfErr result (MemoryOr (Refuses (pattern_text pattern.entry) (options_view options)
             (encoding_of (FnReturnsAt F.Fn encoding_callback)))) }
     {

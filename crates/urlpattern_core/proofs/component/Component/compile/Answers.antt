@@ -1,8 +1,11 @@
-use Rattle.std.proofs.Common.{map, refl, subst}
+use Rattle.std.proofs.Common.{ℕ, List, map, refl, subst}
+use Rattle.std.specs.Prelude.{false}
 use Rattle.std.proofs.lemmas.Result.{err_from_is_err_and}
 use Rattle.urlpattern_core.proofs.CompileLemmas.{text-or_asterisk}
 use Rattle.urlpattern_core.proofs.Peeling.{if_ok-map}
-use Rattle.urlpattern_core.specs.Compiling.{IsComponentOf, component_view}
+use Rattle.urlpattern_core.specs.Compiling.{IsComponentOf, component_view, engine_flags}
+use Rattle.urlpattern_core.specs.Matchers.{matcher_view}
+use Rattle.urlpattern_laws.proofs.MatcherMeaning.{matcher_means}
 use Rattle.urlpattern_syntax.specs.Options.{options_view}
 use Rattle.urlpattern_syntax.specs.Parts.{part_view}
 use Rattle.urlpattern_core.proofs.component.Component.compile.Goals as goal
@@ -22,4 +25,14 @@ returns-clause-compiled g c =
       rw (← text) c.in_ok-part_list.ensures.reads,
       subst (λ parts. IsComponentOf g.R.RegExp.IsMade g.R.RegExp.MayRefuse g.R.RegExp.syntax_of (options_view c.args.options) (map part_view parts) (component_view component)) c.deref.ensures.value made,
     ))
+    c.from_parts.ensures.made
+
+pub returns-clause-means : goal.returns-clause-means
+returns-clause-means g c =
+    let IsMade = g.R.RegExp.IsMade in
+    let MayRefuse = λ (regexp : List ℕ) (flags : List ℕ). g.R.RegExp.MayRefuse regexp flags false in
+    let options = options_view c.args.options in
+    if_ok-map _ _ c.from_parts.result
+    (λ component made parts of plain kept follows text answered lacks scalars answers.
+    matcher_means g.R.RegExp.answer IsMade MayRefuse options (engine_flags options) parts (matcher_view component.matcher) text answered of.has_matcher plain kept lacks scalars follows answers)
     c.from_parts.ensures.made

@@ -1,0 +1,214 @@
+//! Times the library's calls on pairs of a pattern and URLs, in nanoseconds for each call.
+
+use serde_json::Value;
+use std::alloc::{AllocError, Global};
+use std::borrow::CowStr;
+use std::io::Write;
+use std::rt::Files;
+use std::time::{Clock, Instant};
+use std::{fs, io};
+use url::Url;
+use urlpattern::quirks::{
+    StringOrInit, UrlPatternInit, process_construct_pattern_input, process_match_input,
+};
+use urlpattern::{Error, UrlPattern, UrlPatternMatchInput, UrlPatternOptions};
+
+/// How many rounds are timed. The least of them counts.
+const ROUNDS: u32 = 12;
+
+/// How many nanoseconds a round takes at least.
+const ROUND: u128 = 10_000_000;
+
+/// What is timed.
+#[derive(Clone, Copy, Drop)]
+enum Call {
+    /// A pattern is made of what it is given as.
+    Parse,
+    /// It is asked for the groups of a text that it matches.
+    ExecText,
+    /// It is asked for those of a text that it does not match.
+    ExecMiss,
+    /// It is asked for the groups of a URL that it matches.
+    ExecUrl,
+    /// It is asked whether it matches that URL.
+    TestUrl,
+    /// The text of that URL is parsed.
+    ParseUrl,
+}
+
+/// What is timed, in the order of the columns.
+const CALLS: [Call; 6] = [
+    Call::Parse,
+    Call::ExecText,
+    Call::ExecMiss,
+    Call::ExecUrl,
+    Call::TestUrl,
+    Call::ParseUrl,
+];
+
+/// A pattern, what it was given as, and what it is asked about.
+#[derive(Drop)]
+struct Subject<'a> {
+    given: StringOrInit<'a>,
+    base: Option<&'a str>,
+    ignore_case: bool,
+    pattern: UrlPattern,
+    hit: &'a str,
+    miss: &'a str,
+    url: Url,
+}
+
+impl<'a> Subject<'a> {
+    /// The pattern of a pair, and its URLs.
+    fn new(alloc: Global, pair: &'a Value) -> Result<Self, Error> {
+        let given = given_as(alloc, &pair["pattern"])?;
+        let base = pair["base"].as_str();
+        let ignore_case = pair["options"]["ignoreCase"].as_bool().unwrap_or(false);
+        let hit = pair["url"].as_str().unwrap_or("");
+        Ok(Self {
+            pattern: make_pattern(alloc, &given, base, ignore_case)?,
+            given,
+            base,
+            ignore_case,
+            hit,
+            miss: pair["miss"].as_str().unwrap_or(""),
+            url: Url::parse(alloc, hit).map_err(Error::Url)?,
+        })
+    }
+
+    /// Calls once. Says whether something was made, or is matched.
+    fn call(&self, alloc: Global, call: Call) -> Result<bool, Error> {
+        match call {
+            Call::Parse => {
+                let pattern = make_pattern(alloc, &self.given, self.base, self.ignore_case)?;
+                Ok(!pattern.pathname().is_empty())
+            }
+            Call::ExecText => self.exec_text(alloc, self.hit),
+            Call::ExecMiss => self.exec_text(alloc, self.miss),
+            Call::ExecUrl => {
+                let input = UrlPatternMatchInput::Url(self.url.clone()?);
+                Ok(self.pattern.exec(alloc, input)?.is_some())
+            }
+            Call::TestUrl => {
+                let input = UrlPatternMatchInput::Url(self.url.clone()?);
+                self.pattern.test(alloc, input)
+            }
+            Call::ParseUrl => Ok(Url::parse(alloc, self.hit).is_ok()),
+        }
+    }
+
+    /// Asks for the groups of a text.
+    fn exec_text(&self, alloc: Global, text: &str) -> Result<bool, Error> {
+        let input = StringOrInit::String(CowStr::Borrowed(text));
+        let Some((input, _)) = process_match_input(alloc, input, None)? else {
+            return Ok(false);
+        };
+        Ok(self.pattern.exec(alloc, input)?.is_some())
+    }
+
+    /// The nanoseconds that this many calls take.
+    fn time<C: Clock>(&self, clock: &C, alloc: Global, call: Call, calls: u64) -> io::Result<u128> {
+        let start = Instant::now(clock)?;
+        for _ in 0..calls {
+            if self.call(alloc, call).is_err() {
+                return Err(io::Error::from(io::ErrorKind::OutOfMemory));
+            }
+        }
+        Ok(start.elapsed(clock)?.as_nanos())
+    }
+
+    /// The least nanoseconds of a call, over rounds of as many calls as fill a round.
+    fn least<C: Clock>(&self, clock: &C, alloc: Global, call: Call) -> io::Result<u128> {
+        let mut calls = 1u64;
+        for _ in 0..30 {
+            if self.time(clock, alloc, call, calls)? >= ROUND {
+                break;
+            }
+            calls = calls.saturating_mul(2);
+        }
+        let mut least = u128::MAX;
+        for _ in 0..ROUNDS {
+            least = least.min(self.time(clock, alloc, call, calls)?);
+        }
+        Ok(least / u128::from(calls.max(1)))
+    }
+}
+
+/// What a value gives a pattern as: a text, or else the components one by one.
+fn given_as<'a>(alloc: Global, value: &'a Value) -> Result<StringOrInit<'a>, Error> {
+    if let Some(text) = value.as_str() {
+        return Ok(StringOrInit::String(CowStr::Borrowed(text)));
+    }
+    Ok(StringOrInit::Init(UrlPatternInit {
+        protocol: text_at(alloc, value, "protocol")?,
+        username: text_at(alloc, value, "username")?,
+        password: text_at(alloc, value, "password")?,
+        hostname: text_at(alloc, value, "hostname")?,
+        port: text_at(alloc, value, "port")?,
+        pathname: text_at(alloc, value, "pathname")?,
+        search: text_at(alloc, value, "search")?,
+        hash: text_at(alloc, value, "hash")?,
+        base_url: None,
+    }))
+}
+
+/// The text that a value has at a key, if it has one there.
+fn text_at(alloc: Global, value: &Value, key: &str) -> Result<Option<String>, AllocError> {
+    match value[key].as_str() {
+        Some(text) => Ok(Some(String::from_str(alloc, text)?)),
+        None => Ok(None),
+    }
+}
+
+/// The pattern that is given in this way.
+fn make_pattern(
+    alloc: Global,
+    given: &StringOrInit<'_>,
+    base: Option<&str>,
+    ignore_case: bool,
+) -> Result<UrlPattern, Error> {
+    let init = process_construct_pattern_input(alloc, given.clone()?, base)?;
+    let options = UrlPatternOptions {
+        ignore_case,
+        ..UrlPatternOptions::default()
+    };
+    UrlPattern::parse(alloc, init, options)
+}
+
+/// Prints what each pair takes: its name, and a column for each call. Each line of a file holds a pair.
+pub fn run<R: Files + AllocGlobal + Clock, O: Write>(
+    rt: &R,
+    paths: &[String],
+    out: &mut O,
+) -> io::Result<()> {
+    writeln!(
+        out,
+        "name\tparse\texec\tmiss\texec of Url\ttest of Url\tUrl::parse"
+    )?;
+    for path in paths {
+        let text = fs::read_to_string(rt, path)?;
+        for line in text.lines() {
+            time_pair(rt, line, out)?;
+        }
+    }
+    Ok(())
+}
+
+/// Prints what a pair takes.
+fn time_pair<R: AllocGlobal + Clock, O: Write>(rt: &R, line: &str, out: &mut O) -> io::Result<()> {
+    let alloc = rt.alloc();
+    let Ok(pair) = serde_json::from_str::<Value>(alloc, line) else {
+        return writeln!(out, "no pair: {line}");
+    };
+    let name = pair["name"].as_str().unwrap_or("");
+    write!(out, "{name}")?;
+    let subject = match Subject::new(alloc, &pair) {
+        Ok(subject) => subject,
+        Err(error) => return writeln!(out, "\t{error}"),
+    };
+    for call in CALLS {
+        let time = subject.least(rt, alloc, call)?;
+        write!(out, "\t{time}")?;
+    }
+    writeln!(out)
+}

@@ -1,0 +1,69 @@
+//! Patterns for browsers: compiled, and as plain data.
+ghost use Rattle.std.specs.Prelude.{◌≡◌, IfErr, IfOk};
+ghost use Rattle.urlpattern.specs.Compiled.{IsCompiled, RefusesPattern};
+ghost use Rattle.urlpattern.specs.Patterns.{PatternView, pattern_view};
+ghost use Rattle.urlpattern.specs.Quirks.{plain_pattern};
+ghost use Rattle.urlpattern_core.specs.Compiling.{IsCompiledFrom};
+ghost use Rattle.urlpattern_plain.specs.Values.{pattern_by};
+ghost use Rattle.urlpattern_syntax.specs.declared.error.Error.TheVariants as errors;
+ghost use Rattle.urlpattern_syntax.specs.Parsing.{MemoryOr};
+ghost use Rattle.urlpattern_syntax.specs.Text.{text_of};
+
+use crate::{UrlPatternInit, pattern};
+use std::alloc::Global;
+use urlpattern_core::Error;
+use urlpattern_core::regexp::RegExp;
+use urlpattern_plain::{UrlPattern, UrlPatternComponent, UrlPatternOptions};
+
+/// Compiles a pattern from an init, and tells it as plain data.
+///
+/// The error is that of compiling the pattern.
+pub fn parse_pattern<R: RegExp>(
+    alloc: Global,
+    init: UrlPatternInit,
+    options: UrlPatternOptions,
+) -> Result<UrlPattern, Error>
+    ensures parsed { IfOk result (λ plain. (compiled : PatternView R)
+        × IsCompiled (IsCompiledFrom R.IsMade R.MayRefuse R.syntax_of) R.answer init options compiled
+        × (pattern_by text_of plain ≡ plain_pattern R.text_made_of compiled)) }
+    ensures refused { IfErr result (MemoryOr (RefusesPattern (IsCompiledFrom R.IsMade R.MayRefuse R.syntax_of) R.answer init options)) }
+{
+    let pattern = pattern::UrlPattern::<R>::parse(alloc, init, options)?;
+    plain_pattern(alloc, pattern)
+}
+
+/// Compiles a pattern from an init.
+///
+/// The error is that of compiling the pattern.
+pub fn parse_pattern_as_lib<R: RegExp>(
+    alloc: Global,
+    init: UrlPatternInit,
+    options: UrlPatternOptions,
+) -> Result<pattern::UrlPattern<R>, Error>
+    ensures compiled { IfOk result (λ pattern. IsCompiled (IsCompiledFrom R.IsMade R.MayRefuse R.syntax_of) R.answer init options (pattern_view pattern)) }
+    ensures refused { IfErr result (MemoryOr (RefusesPattern (IsCompiledFrom R.IsMade R.MayRefuse R.syntax_of) R.answer init options)) }
+{
+    pattern::UrlPattern::parse(alloc, init, options)
+}
+
+/// The plain value of a pattern.
+fn plain_pattern<R: RegExp>(
+    alloc: Global,
+    pattern: pattern::UrlPattern<R>,
+) -> Result<UrlPattern, Error>
+    ensures plain { IfOk result (λ plain. pattern_by text_of plain ≡ plain_pattern R.text_made_of (pattern_view pattern)) }
+    ensures memory { IfErr result (λ error. error ≡ errors.OutOfMemory) }
+{
+    let has_regexp_groups = pattern.has_regexp_groups();
+    Ok(UrlPattern {
+        protocol: UrlPatternComponent::from_component(alloc, pattern.protocol)?,
+        username: UrlPatternComponent::from_component(alloc, pattern.username)?,
+        password: UrlPatternComponent::from_component(alloc, pattern.password)?,
+        hostname: UrlPatternComponent::from_component(alloc, pattern.hostname)?,
+        port: UrlPatternComponent::from_component(alloc, pattern.port)?,
+        pathname: UrlPatternComponent::from_component(alloc, pattern.pathname)?,
+        search: UrlPatternComponent::from_component(alloc, pattern.search)?,
+        hash: UrlPatternComponent::from_component(alloc, pattern.hash)?,
+        has_regexp_groups,
+    })
+}

@@ -1,0 +1,154 @@
+-- Reading undoes writing.
+use Rattle.std.proofs.Common.{◌≡◌, ℕ, Bool, List, [], ◌∷◌, Option, None, Some, refl, ap, ◌∙◌, codes, map, option_map}
+use Rattle.std.specs.Prelude.{IfSome}
+use Rattle.std.specs.Char.{IsScalar}
+use Rattle.serde_json.specs.Data.{Data, no_members, string}
+use Rattle.serde_json.specs.Find.{as_str}
+use Rattle.serde_json.specs.View.{items_of}
+use Rattle.urlpattern_plain.specs.declared.options.UrlPatternOptions.{UrlPatternOptions}
+use Rattle.urlpattern_plain.specs.Json.{capture_read, character_read, component_read, component_tree, filter_tree, flag_read, found_read, init_read, init_tree, inner_read, input_read, input_tree, match_input_read, match_input_tree, matcher_read, matcher_tree, member_read, only, optional_read, options_read, options_tree, pattern_read, pattern_tree, text_read, texts_of_items, texts_read}
+use Rattle.urlpattern_plain.specs.Values.{ComponentView, HasFilter, HasFilters, InitView, InnerView, InputView, MatchInputView, MatcherView, PatternView, literal, of_init, of_text, regexp, single_capture}
+use Rattle.urlpattern_plain.proofs.ReadingLemmas.{init_from}
+use Rattle.urlpattern_plain.proofs.TreeLemmas.{get_member-all_with, last_of, newer, newer-none, optional_string}
+use Rattle.urlpattern_syntax.proofs.StringTexts.{chars-encode}
+use Rattle.urlpattern_syntax.specs.declared.parser.RegexSyntax.{RegexSyntax}
+use Rattle.urlpattern_syntax.specs.declared.parser.RegexSyntax.TheVariants.{EcmaScript, Rust}
+
+-- ---- options
+
+options_at : (syntax : RegexSyntax) (ignore_case : Bool) (options : UrlPatternOptions) → options ≡ record { regex_syntax = syntax; ignore_case = ignore_case } → options_read (options_tree options) ≡ Some options
+unfolding options_read
+options_at Rust ignore_case options e = rw e refl
+options_at EcmaScript ignore_case options e = rw e refl
+
+pub options_again : (options : UrlPatternOptions) → options_read (options_tree options) ≡ Some options
+options_again options = options_at options.regex_syntax options.ignore_case options refl
+
+-- ---- inits
+
+abbrev listed_init : InitView → List (List ℕ × Option Data)
+listed_init values =
+    (codes "protocol", option_map string values.protocol)
+    ∷ (codes "username", option_map string values.username)
+    ∷ (codes "password", option_map string values.password)
+    ∷ (codes "hostname", option_map string values.hostname)
+    ∷ (codes "port", option_map string values.port)
+    ∷ (codes "pathname", option_map string values.pathname)
+    ∷ (codes "search", option_map string values.search)
+    ∷ (codes "hash", option_map string values.hash)
+    ∷ (codes "baseURL", option_map string values.base_url)
+    ∷ []
+
+-- a text of the init is read again by its key
+text_again : (name : List ℕ) (values : InitView) (text : Option (List ℕ)) → last_of name (listed_init values) None ≡ newer (option_map string text) None → optional_read as_str name (init_tree values) ≡ Some text
+text_again name values text e =
+    ap (found_read as_str) (get_member-all_with name (listed_init values) no_members ∙ e ∙ newer-none (option_map string text)) ∙ optional_string text
+
+pub init_again : (values : InitView) → init_read (init_tree values) ≡ Some values
+init_again values =
+    init_from (init_tree values) values refl
+    (text_again (codes "protocol") values values.protocol refl)
+    (text_again (codes "username") values values.username refl)
+    (text_again (codes "password") values values.password refl)
+    (text_again (codes "hostname") values values.hostname refl)
+    (text_again (codes "port") values values.port refl)
+    (text_again (codes "pathname") values values.pathname refl)
+    (text_again (codes "search") values values.search refl)
+    (text_again (codes "hash") values values.hash refl)
+    (text_again (codes "baseURL") values values.base_url refl)
+
+pub input_again : (input : InputView) → input_read (input_tree input) ≡ Some input
+input_again (of_text bytes) = refl
+input_again (of_init values) = ap (option_map of_init) (init_again values)
+
+-- ---- match inputs
+
+pub match_input_again : (input : MatchInputView) → match_input_read (match_input_tree input) ≡ Some input
+unfolding match_input_read
+match_input_again input = refl
+
+-- ---- matchers
+
+filter_again : (filter : Option ℕ) → IfSome filter IsScalar → found_read character_read (Some (filter_tree filter)) ≡ Some filter
+filter_again None h = refl
+filter_again (Some character) h = ap (λ (cs : List ℕ). option_map (λ (c : ℕ). Some c) (only cs)) (chars-encode character h)
+
+capture_from : (tree : Data) (filter : Option ℕ) (allow_empty : Bool) → optional_read character_read (codes "filter") tree ≡ Some filter → flag_read (codes "allowEmpty") tree ≡ Some allow_empty → capture_read tree ≡ Some (single_capture filter allow_empty)
+unfolding capture_read
+capture_from tree filter allow_empty f a = rw (f, a) refl
+
+inner_again : (prefix suffix : List ℕ) (inner : InnerView) → HasFilter inner → inner_read (matcher_tree (record { prefix = prefix; suffix = suffix; inner = inner })) ≡ Some inner
+unfolding inner_read
+inner_again prefix suffix (literal bytes) h = refl
+inner_again prefix suffix (single_capture filter allow_empty) h =
+    capture_from (matcher_tree (record { prefix = prefix; suffix = suffix; inner = single_capture filter allow_empty })) filter allow_empty (filter_again filter h) refl
+inner_again prefix suffix (regexp bytes) h = refl
+
+matcher_from : (tree : Data) (matcher : MatcherView) → text_read (codes "prefix") tree ≡ Some matcher.prefix → text_read (codes "suffix") tree ≡ Some matcher.suffix → inner_read tree ≡ Some matcher.inner → matcher_read tree ≡ Some matcher
+unfolding matcher_read
+matcher_from tree matcher prefix suffix inner = rw (prefix, suffix, inner) refl
+
+prefix_again : (prefix suffix : List ℕ) (inner : InnerView) → text_read (codes "prefix") (matcher_tree (record { prefix = prefix; suffix = suffix; inner = inner })) ≡ Some prefix
+prefix_again prefix suffix (literal bytes) = refl
+prefix_again prefix suffix (single_capture filter allow_empty) = refl
+prefix_again prefix suffix (regexp bytes) = refl
+
+suffix_again : (prefix suffix : List ℕ) (inner : InnerView) → text_read (codes "suffix") (matcher_tree (record { prefix = prefix; suffix = suffix; inner = inner })) ≡ Some suffix
+suffix_again prefix suffix (literal bytes) = refl
+suffix_again prefix suffix (single_capture filter allow_empty) = refl
+suffix_again prefix suffix (regexp bytes) = refl
+
+pub matcher_again : (matcher : MatcherView) → HasFilter matcher.inner → matcher_read (matcher_tree matcher) ≡ Some matcher
+matcher_again matcher h =
+    matcher_from (matcher_tree matcher) matcher
+    (prefix_again matcher.prefix matcher.suffix matcher.inner)
+    (suffix_again matcher.prefix matcher.suffix matcher.inner)
+    (inner_again matcher.prefix matcher.suffix matcher.inner h)
+
+-- ---- components
+
+texts_again : (texts : List (List ℕ)) → texts_of_items (items_of (map string texts)) ≡ Some texts
+texts_again [] = refl
+texts_again (text ∷ texts) = rw (texts_again texts) refl
+
+component_from : (tree : Data) (component : ComponentView)
+    → text_read (codes "patternString") tree ≡ Some component.pattern_string
+    → text_read (codes "regexpString") tree ≡ Some component.regexp_string
+    → member_read matcher_read (codes "matcher") tree ≡ Some component.matcher
+    → member_read texts_read (codes "groupNameList") tree ≡ Some component.group_name_list
+    → component_read tree ≡ Some component
+unfolding component_read
+component_from tree component pattern_string regexp_string matcher group_name_list = rw (pattern_string, regexp_string, matcher, group_name_list) refl
+
+pub component_again : (component : ComponentView) → HasFilter component.matcher.inner → component_read (component_tree component) ≡ Some component
+component_again component h = component_from (component_tree component) component refl refl (matcher_again component.matcher h) (texts_again component.group_name_list)
+
+-- ---- patterns
+
+pattern_from : (tree : Data) (pattern : PatternView)
+    → member_read component_read (codes "protocol") tree ≡ Some pattern.protocol
+    → member_read component_read (codes "username") tree ≡ Some pattern.username
+    → member_read component_read (codes "password") tree ≡ Some pattern.password
+    → member_read component_read (codes "hostname") tree ≡ Some pattern.hostname
+    → member_read component_read (codes "port") tree ≡ Some pattern.port
+    → member_read component_read (codes "pathname") tree ≡ Some pattern.pathname
+    → member_read component_read (codes "search") tree ≡ Some pattern.search
+    → member_read component_read (codes "hash") tree ≡ Some pattern.hash
+    → flag_read (codes "hasRegexpGroups") tree ≡ Some pattern.has_regexp_groups
+    → pattern_read tree ≡ Some pattern
+unfolding pattern_read
+pattern_from tree pattern of_protocol of_username of_password of_hostname of_port of_pathname of_search of_hash of_groups =
+    rw (of_groups, of_protocol, of_username, of_password, of_hostname, of_port, of_pathname, of_search, of_hash) refl
+
+pub pattern_again : (pattern : PatternView) → HasFilters pattern → pattern_read (pattern_tree pattern) ≡ Some pattern
+pattern_again pattern h =
+    pattern_from (pattern_tree pattern) pattern
+    (component_again pattern.protocol h.protocol)
+    (component_again pattern.username h.username)
+    (component_again pattern.password h.password)
+    (component_again pattern.hostname h.hostname)
+    (component_again pattern.port h.port)
+    (component_again pattern.pathname h.pathname)
+    (component_again pattern.search h.search)
+    (component_again pattern.hash h.hash)
+    refl
