@@ -47,17 +47,17 @@ returns-clause-nothing_else g c = λ text options first answers parts others rea
 
 pub returns-clause-executes : goal.returns-clause-executes
 returns-clause-executes g c = λ pattern input. (
-    (λ found. let (result, (texts, are_texts, match)) = found in (texts, are_texts, λ component. (match.captures component, match.are_answers component))),
-    (λ has. let (texts, are_texts, are_matched) = has in (
-      (λ component. record { input = text_at texts component; group = group_of (pattern component).group_name_list (are_matched component).0 }),
-      (
-        texts,
-        are_texts,
-        record {
-          captures = λ component. (are_matched component).0;
-          are_answers = λ component. (are_matched component).1;
-          are_results = λ component. record { has_input = refl; has_groups = λ name. refl };
-        },
-      ),
-    )),
+  (λ found. let (result, (texts, are_texts, match)) = found in (texts, are_texts, λ component. (match.captures component, match.are_answers component))),
+  (λ has. let (texts, are_texts, are_matched) = has in (
+    (λ component. record { input = text_at texts component; group = group_of (pattern component).group_name_list (are_matched component).0 }),
+    (
+      texts,
+      are_texts,
+      record {
+        captures = λ component. (are_matched component).0;
+        are_answers = λ component. (are_matched component).1;
+        are_results = λ component. record { has_input = refl; has_groups = λ name. refl };
+      },
+    ),
+  )),
 )
