@@ -188,26 +188,43 @@ pub fn run<R: Files + AllocGlobal + Clock, O: Write>(
     for path in paths {
         let text = fs::read_to_string(rt, path)?;
         for line in text.lines() {
-            time_pair(rt, line, out)?;
+            time_line(rt, line, out)?;
         }
     }
     Ok(())
 }
 
+/// Prints what the pair of a line takes.
+fn time_line<R: AllocGlobal + Clock, O: Write>(rt: &R, line: &str, out: &mut O) -> io::Result<()> {
+    match serde_json::from_str::<Value>(rt.alloc(), line) {
+        Ok(pair) => time_pair(rt, &pair, out),
+        Err(_) => writeln!(out, "no pair: {line}"),
+    }
+}
+
 /// Prints what a pair takes.
-fn time_pair<R: AllocGlobal + Clock, O: Write>(rt: &R, line: &str, out: &mut O) -> io::Result<()> {
-    let alloc = rt.alloc();
-    let Ok(pair) = serde_json::from_str::<Value>(alloc, line) else {
-        return writeln!(out, "no pair: {line}");
-    };
+fn time_pair<R: AllocGlobal + Clock, O: Write>(
+    rt: &R,
+    pair: &Value,
+    out: &mut O,
+) -> io::Result<()> {
     let name = pair["name"].as_str().unwrap_or("");
+    match Subject::new(rt.alloc(), pair) {
+        Ok(subject) => time_subject(rt, name, &subject, out),
+        Err(error) => writeln!(out, "{name}\t{error}"),
+    }
+}
+
+/// Prints what the calls on a subject take.
+fn time_subject<R: AllocGlobal + Clock, O: Write>(
+    rt: &R,
+    name: &str,
+    subject: &Subject<'_>,
+    out: &mut O,
+) -> io::Result<()> {
     write!(out, "{name}")?;
-    let subject = match Subject::new(alloc, &pair) {
-        Ok(subject) => subject,
-        Err(error) => return writeln!(out, "\t{error}"),
-    };
     for call in CALLS {
-        let time = subject.least(rt, alloc, call)?;
+        let time = subject.least(rt, rt.alloc(), call)?;
         write!(out, "\t{time}")?;
     }
     writeln!(out)
