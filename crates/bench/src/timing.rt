@@ -1,5 +1,6 @@
 //! Times the library's calls on pairs of a pattern and URLs, in nanoseconds for each call.
 
+use crate::recorded::optional_text;
 use serde_json::Value;
 use std::alloc::{AllocError, Global};
 use std::borrow::CowStr;
@@ -65,14 +66,16 @@ impl<'a> Subject<'a> {
         let base = pair["base"].as_str();
         let ignore_case = pair["options"]["ignoreCase"].as_bool().unwrap_or(false);
         let hit = pair["url"].as_str().unwrap_or("");
+        let url = Url::parse(alloc, hit).map_err(Error::Url)?;
+        let pattern = make_pattern(alloc, &given, base, ignore_case)?;
         Ok(Self {
-            pattern: make_pattern(alloc, &given, base, ignore_case)?,
             given,
             base,
             ignore_case,
+            pattern,
             hit,
             miss: pair["miss"].as_str().unwrap_or(""),
-            url: Url::parse(alloc, hit).map_err(Error::Url)?,
+            url,
         })
     }
 
@@ -154,7 +157,7 @@ fn given_as<'a>(alloc: Global, value: &'a Value) -> Result<StringOrInit<'a>, Err
 
 /// The text that a value has at a key, if it has one there.
 fn text_at(alloc: Global, value: &Value, key: &str) -> Result<Option<String>, AllocError> {
-    match value[key].as_str() {
+    match optional_text(value, key) {
         Some(text) => Ok(Some(String::from_str(alloc, text)?)),
         None => Ok(None),
     }

@@ -271,10 +271,11 @@ fn the_first_component_that_is_refused_is_told(rt: HostRuntime) -> Result<(), Fa
             "parser error: expected token Close, found '' of type End",
         ),
     ] {
-        match pattern_of(alloc, &fields) {
-            Err(error) => assert_eq!(rt; format!(in alloc; "{error}")?.as_str(), expected),
-            Ok(_) => assert!(rt; false, "{expected:?}"),
-        }
+        let told = match pattern_of(alloc, &fields) {
+            Err(error) => format!(in alloc; "{error}")?,
+            Ok(_) => String::new(alloc),
+        };
+        assert_eq!(rt; told.as_str(), expected);
     }
     Ok(())
 }
@@ -337,10 +338,11 @@ fn a_string_is_split_under_its_base(rt: HostRuntime) -> Result<(), Fail> {
         ),
     ] {
         let text = StringOrInit::String(CowStr::Borrowed(text));
-        match process_construct_pattern_input(alloc, text, base_url) {
-            Err(error) => assert_eq!(rt; format!(in alloc; "{error}")?.as_str(), expected),
-            Ok(_) => assert!(rt; false, "{expected:?}"),
-        }
+        let told = match process_construct_pattern_input(alloc, text, base_url) {
+            Err(error) => format!(in alloc; "{error}")?,
+            Ok(_) => String::new(alloc),
+        };
+        assert_eq!(rt; told.as_str(), expected);
     }
     let text = StringOrInit::String(CowStr::Borrowed("ht(tp://x"));
     let refused = process_construct_pattern_input(alloc, text, Some("nonsense"));
