@@ -1,6 +1,6 @@
 //! Times the library's calls on pairs of a pattern and URLs, in nanoseconds for each call.
 
-use crate::recorded::optional_text;
+use crate::recorded::{is_set, optional_text};
 use serde_json::Value;
 use std::alloc::{AllocError, Global};
 use std::borrow::CowStr;
@@ -61,11 +61,14 @@ struct Subject<'a> {
 
 impl<'a> Subject<'a> {
     /// The pattern of a pair, and its URLs.
-    fn new(alloc: Global, pair: &'a Value) -> Result<Self, Error> {
-        let given = given_as(alloc, &pair["pattern"])?;
-        let base = pair["base"].as_str();
-        let ignore_case = pair["options"]["ignoreCase"].as_bool().unwrap_or(false);
-        let hit = pair["url"].as_str().unwrap_or("");
+    fn new(alloc: Global, given: &'a Value, pair: &'a Value) -> Result<Self, Error> {
+        let given = given_as(alloc, given)?;
+        let base = optional_text(pair, "base");
+        let ignore_case = match pair.get("options") {
+            Some(options) => is_set(options, "ignoreCase"),
+            None => false,
+        };
+        let hit = optional_text(pair, "url").unwrap_or("");
         let url = Url::parse(alloc, hit).map_err(Error::Url)?;
         let pattern = make_pattern(alloc, &given, base, ignore_case)?;
         Ok(Self {
@@ -74,7 +77,7 @@ impl<'a> Subject<'a> {
             ignore_case,
             pattern,
             hit,
-            miss: pair["miss"].as_str().unwrap_or(""),
+            miss: optional_text(pair, "miss").unwrap_or(""),
             url,
         })
     }
@@ -211,8 +214,11 @@ fn time_pair<R: AllocGlobal + Clock, O: Write>(
     pair: &Value,
     out: &mut O,
 ) -> io::Result<()> {
-    let name = pair["name"].as_str().unwrap_or("");
-    match Subject::new(rt.alloc(), pair) {
+    let name = optional_text(pair, "name").unwrap_or("");
+    let Some(given) = pair.get("pattern") else {
+        return writeln!(out, "{name}\tno pattern");
+    };
+    match Subject::new(rt.alloc(), given, pair) {
         Ok(subject) => time_subject(rt, name, &subject, out),
         Err(error) => writeln!(out, "{name}\t{error}"),
     }

@@ -46,14 +46,17 @@ fn a_pattern_for_the_library_becomes_plain_piece_by_piece(rt: HostRuntime) -> Re
     let init = pathname(alloc, "/users/:id")?;
     let pattern = parse_pattern_as_lib::<Regex>(alloc, init, UrlPatternOptions::default())?;
     assert_eq!(rt; pattern.pathname(), "/users/:id");
-    let matcher = Matcher::from_matcher(alloc, pattern.pathname.matcher)?;
+    let compiled = pattern.pathname;
+    let search = pattern.search;
+    let matcher = Matcher::from_matcher(alloc, compiled.matcher)?;
     let text =
         r#"{"kind":"singleCapture","allowEmpty":false,"filter":"/","prefix":"/users/","suffix":""}"#;
     assert_eq!(rt;
         matcher.to_json_value(alloc)?,
         Value::from_str(alloc, text)?
     );
-    let inner = InnerMatcher::from_inner(alloc, pattern.search.matcher.inner)?;
+    let any_text = search.matcher;
+    let inner = InnerMatcher::from_inner(alloc, any_text.inner)?;
     let any = InnerMatcher::SingleCapture {
         filter: None,
         allow_empty: true,
