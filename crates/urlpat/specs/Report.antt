@@ -1,6 +1,5 @@
 -- What the program prints.
-use Rattle.std.specs.Prelude.{ℕ, List, ◌++◌, codes, Option, Some, None}
-use Rattle.std.specs.Borrow.{Bor}
+use Rattle.std.specs.Prelude.{ℕ, List, ◌++◌, codes, Option, Some}
 use Rattle.std.specs.Fmt.{with_newline}
 use Rattle.std.specs.List.{flat_map}
 use Rattle.urlpat.specs.declared.command.Failure.{Failure}
@@ -14,10 +13,9 @@ component_lines names regexp pattern =
     codes "names:" ++ flat_map (λ name. codes " " ++ name) names ++ codes "\nregexp: " ++ regexp
     ++ codes "\npattern: " ++ pattern ++ codes "\n"
 
--- the line of a group of a match: its component, its name, and what it captures, or nothing if it took no part
-abbrev pub group_line : (component name : List ℕ) → (capture : Option (Bor (List ℕ))) → List ℕ
-group_line component name None = component ++ codes " " ++ name ++ codes "=" ++ codes "\n"
-group_line component name (Some text) = component ++ codes " " ++ name ++ codes "=" ++ text.now ++ codes "\n"
+-- the line of a group of a match: its component, its name, and what it captures
+abbrev pub group_line : (component name capture : List ℕ) → List ℕ
+group_line component name capture = component ++ codes " " ++ name ++ codes "=" ++ capture ++ codes "\n"
 
 -- how the program is used
 abbrev pub usage : List ℕ

@@ -68,24 +68,24 @@ fn push_groups(
         .collect::<Vec<(&String, &Option<String>)>>(alloc)?;
     groups.sort_unstable_by(|(name, _), (other, _)| name.cmp(other));
     for (name, capture) in groups {
-        push_group(text, component, name, capture.as_deref())?;
+        push_group(text, component, name, capture.as_deref().unwrap_or(""))?;
     }
     Ok(())
 }
 
-/// Appends the line of a group: its component, its name, and what it captures, or nothing if it took no part.
+/// Appends the line of a group: its component, its name, and what it captures.
 fn push_group(
     text: &mut String,
     component: &str,
     name: &str,
-    capture: Option<&str>,
+    capture: &str,
 ) -> Result<(), AllocError>
-    ensures { OnOk result (string_bytes text.new ≡ string_bytes text.old ++ group_line component.now name.now capture) }
+    ensures { OnOk result (string_bytes text.new ≡ string_bytes text.old ++ group_line component.now name.now capture.now) }
 {
     text.push_str(component)?;
     text.push(' ')?;
     text.push_str(name)?;
     text.push('=')?;
-    text.push_str(capture.unwrap_or(""))?;
+    text.push_str(capture)?;
     text.push('\n')
 }
