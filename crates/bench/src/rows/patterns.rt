@@ -401,15 +401,18 @@ fn a_text_is_joined_to_its_base(rt: HostRuntime) -> Result<(), Fail> {
         ("/a", Some("nonsense"), None),
     ] {
         let input = StringOrInit::String(CowStr::Borrowed(text));
-        match process_match_input(alloc, input, base_url)? {
-            Some((UrlPatternMatchInput::Url(url), (again, beside))) => {
-                assert_eq!(rt; Some(url.as_str()), expected);
-                assert_eq!(rt; again, StringOrInit::String(CowStr::Borrowed(text)));
-                assert_eq!(rt; beside.as_deref(), base_url);
-            }
-            Some(_) => assert!(rt; false, "{text:?} is an init"),
-            None => assert!(rt; expected.is_none(), "{text:?}"),
+        let Some(found) = process_match_input(alloc, input, base_url)? else {
+            assert!(rt; expected.is_none());
+            continue;
+        };
+        let (matched, inputs) = found;
+        let (again, beside) = inputs;
+        match matched {
+            UrlPatternMatchInput::Url(url) => assert_eq!(rt; Some(url.as_str()), expected),
+            UrlPatternMatchInput::Init(_) => assert!(rt; false),
         }
+        assert_eq!(rt; again, StringOrInit::String(CowStr::Borrowed(text)));
+        assert_eq!(rt; beside.as_deref(), base_url);
     }
     Ok(())
 }
