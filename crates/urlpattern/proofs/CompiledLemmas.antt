@@ -6,18 +6,18 @@ use Rattle.std.specs.Prelude.{◌↔◌, IfErr, IfOk, IfSome, IsTrue, bytes_eq, 
 use Rattle.std.specs.Str.{chars, IsAscii, IsUtf8}
 use Rattle.std.specs.declared.alloc.Global.{Global}
 use Rattle.std.proofs.lemmas.Str.{IsUtf8-string_bytes}
-use Rattle.urlpattern.proofs.Encodings.{Weakens, reads_weaker, refuses_weaker}
+use Rattle.urlpattern_init.proofs.Encodings.{Weakens, reads_weaker, refuses_weaker}
 use Rattle.urlpattern.specs.Compiled.{AreCompiled, Compiles, FirstRefused, HasEngine, HasHierarchicalPath, IsCompiled, IsComponentCompiled, IsRefusedFrom, RefusesPattern, RefusesValues, behind_protocol, has_default_port, is_ipv6_pattern, is_mark, is_same, pattern_values, without_default_port}
-use Rattle.urlpattern.specs.Inheritance.{Values}
+use Rattle.urlpattern_init.specs.Inheritance.{Values}
 use Rattle.urlpattern.specs.Patterns.{pattern_view}
-use Rattle.urlpattern.specs.declared.init.processing.Component.{Component as Names}
-use Rattle.urlpattern.specs.declared.init.processing.Component.TheVariants.{Protocol, Username, Password, Hostname, Port, Pathname, Search, Hash}
-use Rattle.urlpattern.specs.declared.init.UrlPatternInit.{UrlPatternInit}
+use Rattle.urlpattern_init.specs.declared.init.processing.Component.{Component as Names}
+use Rattle.urlpattern_init.specs.declared.init.processing.Component.TheVariants.{Protocol, Username, Password, Hostname, Port, Pathname, Search, Hash}
+use Rattle.urlpattern_init.specs.declared.init.UrlPatternInit.{UrlPatternInit}
 use Rattle.urlpattern.specs.declared.pattern.UrlPattern.{UrlPattern}
 use Rattle.urlpattern_plain.specs.declared.options.UrlPatternOptions.{UrlPatternOptions}
 use Rattle.urlpattern_laws.specs.PartMeaning.{Captures}
-use Rattle.urlpattern_core.proofs.MarkLemmas.{bytes_eq-chars}
-use Rattle.urlpattern_core.specs.Canonical.{default_port, is_special, without_first}
+use Rattle.urlpattern_canonical.proofs.MarkLemmas.{bytes_eq-chars}
+use Rattle.urlpattern_canonical.specs.Canonical.{default_port, is_special, without_first}
 use Rattle.urlpattern_core.specs.Compiling.{ComponentView, IsCompiledFrom, component_view}
 use Rattle.urlpattern_core.specs.declared.component.Component.{Component}
 use Rattle.urlpattern_syntax.specs.declared.error.Error.{Error}

@@ -3,7 +3,7 @@ use Rattle.std.proofs.Common.{◌≡◌, ℕ, inl, inr}
 use Rattle.url.specs.declared.error.ParseError.{ParseError}
 use Rattle.url.specs.Parser.{Parsed}
 use Rattle.urlpattern.specs.Inputs.{IsRefusedByUrl}
-use Rattle.urlpattern_core.specs.Canonical.{Tells}
+use Rattle.urlpattern_canonical.specs.Canonical.{Tells}
 use Rattle.urlpattern_syntax.specs.declared.error.Error.{Error}
 use Rattle.urlpattern_syntax.specs.declared.error.Error.TheVariants as errors
 use Rattle.urlpattern_syntax.specs.Parsing.{MemoryOr}

@@ -1,16 +1,8 @@
-pub mod TokenPlaces
-pub mod SeenLemmas
-pub mod TextBetween
-pub mod SplitLemmas
-pub mod InheritanceLemmas
 pub mod MatchInputLemmas
 pub mod Each
 pub mod GroupLemmas
 pub mod MatchExamples
 pub mod MatchLaws
 pub mod MatchSteps
-pub mod Encodings
-pub mod SplitExamples
-pub mod SchemeLemmas
 pub mod CompiledLemmas
 pub mod InputLemmas

@@ -3,10 +3,10 @@ use Rattle.std.proofs.Common.{◌≡◌, ℕ, false, true, List, [], ◌∷◌, 
 use Rattle.std.proofs.lemmas.List.{append-nil}
 use Rattle.std.specs.Prelude.{codes, Option, Some, None, Err}
 use Rattle.url.specs.Parts.{Parts}
-use Rattle.urlpattern.specs.declared.init.processing.Component.{Component}
-use Rattle.urlpattern.specs.declared.init.processing.Component.TheVariants.{Pathname}
-use Rattle.urlpattern.specs.declared.init.UrlPatternMatchInput.TheVariants.{Url}
-use Rattle.urlpattern.specs.Inheritance.{Texts, texts_of_url}
+use Rattle.urlpattern_init.specs.declared.init.processing.Component.{Component}
+use Rattle.urlpattern_init.specs.declared.init.processing.Component.TheVariants.{Pathname}
+use Rattle.urlpattern_init.specs.declared.init.UrlPatternMatchInput.TheVariants.{Url}
+use Rattle.urlpattern_init.specs.Inheritance.{Texts, texts_of_url}
 use Rattle.urlpattern.specs.Match.{HasMatch, HasNoMatch, IsMatchOf, ResultView, group_of, text_at}
 use Rattle.urlpattern.specs.Patterns.{PatternView}
 use Rattle.urlpattern_core.specs.Compiling.{ComponentView}

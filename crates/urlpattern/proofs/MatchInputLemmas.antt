@@ -2,12 +2,12 @@
 use Rattle.std.proofs.Common.{◌≡◌, Ok, ap, inl, inr}
 use Rattle.url.specs.declared.error.ParseError.{ParseError}
 use Rattle.url.specs.Parser.{and_then}
-use Rattle.urlpattern.specs.declared.init.UrlPatternInit.{UrlPatternInit}
-use Rattle.urlpattern.specs.declared.init.UrlPatternMatchInput.TheVariants.{Init}
-use Rattle.urlpattern.specs.Inheritance.{asked_bytes, processed_values, texts_of_values, values_view}
+use Rattle.urlpattern_init.specs.declared.init.UrlPatternInit.{UrlPatternInit}
+use Rattle.urlpattern_init.specs.declared.init.UrlPatternMatchInput.TheVariants.{Init}
+use Rattle.urlpattern_init.specs.Inheritance.{asked_bytes, processed_values, texts_of_values, values_view}
 use Rattle.urlpattern.specs.MatchInput.{IsNoInput}
-use Rattle.urlpattern_core.specs.Canonical.{Tells}
-use Rattle.urlpattern_core.specs.declared.canonicalize_and_process.ProcessType.TheVariants.{Url}
+use Rattle.urlpattern_canonical.specs.Canonical.{Tells}
+use Rattle.urlpattern_canonical.specs.declared.canonicalize_and_process.ProcessType.TheVariants.{Url}
 use Rattle.urlpattern_syntax.specs.declared.error.Error.{Error}
 use Rattle.urlpattern_syntax.specs.declared.error.Error.TheVariants as errors
 use Rattle.urlpattern_syntax.specs.Parsing.{MemoryOr}

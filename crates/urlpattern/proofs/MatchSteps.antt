@@ -3,12 +3,12 @@ use Rattle.std.proofs.Common.{◌≡◌, ℕ, List, true, false, sym, ap, ◌∙
 use Rattle.std.specs.HashMap.{HashMap}
 use Rattle.std.specs.Prelude.{Bool, Option, Some, None, Result, Ok, Err, String, is_some, IfOk, IfNone, IfSome, MatchBool, MatchOption}
 use Rattle.std.specs.declared.alloc.Global.{Global}
-use Rattle.urlpattern.specs.declared.init.processing.Component.{Component}
-use Rattle.urlpattern.specs.declared.init.UrlPatternMatchInput.{UrlPatternMatchInput}
+use Rattle.urlpattern_init.specs.declared.init.processing.Component.{Component}
+use Rattle.urlpattern_init.specs.declared.init.UrlPatternMatchInput.{UrlPatternMatchInput}
 use Rattle.urlpattern.specs.declared.pattern.eight.Eight.{Eight}
 use Rattle.urlpattern.specs.declared.pattern.result.UrlPatternResult.{UrlPatternResult}
 use Rattle.urlpattern.specs.Eight.{HaveGroups, at}
-use Rattle.urlpattern.specs.Inheritance.{Texts}
+use Rattle.urlpattern_init.specs.Inheritance.{Texts}
 use Rattle.urlpattern.specs.Match.{AreAnswers, AreMatched, HasMatch, HasNoMatch, IsMatch, IsMatchOf, IsRefused, IsResultOf, ResultView, group_in, result_view, text_at}
 use Rattle.urlpattern.specs.MatchInput.{input_texts}
 use Rattle.urlpattern.specs.Patterns.{PatternView}

@@ -3,16 +3,16 @@
 use Rattle.std.specs.Prelude.{◌≡◌, ◌↔◌, ◌⊎◌, ℕ, Bool, true, false, not, ◌&&◌, ◌||◌, ◌==◌, List, [], ◌∷◌, bytes_eq, codes, length, slice_index, Option, Some, None, unwrap_or, Ok, Err, IsOk, IsTrue, if◌then◌else◌}
 use Rattle.std.specs.Str.{chars}
 use Rattle.url.specs.Parser.{Parsed, and_then}
-use Rattle.urlpattern.specs.Inheritance.{Values, processed_values, value_of, values_view}
+use Rattle.urlpattern_init.specs.Inheritance.{Values, processed_values, value_of, values_view}
 use Rattle.urlpattern.specs.Patterns.{PatternView}
-use Rattle.urlpattern.specs.SpecialProtocol.{AcceptsSpecialScheme}
-use Rattle.urlpattern.specs.declared.init.UrlPatternInit.{UrlPatternInit}
-use Rattle.urlpattern.specs.declared.init.processing.Component.{Component}
-use Rattle.urlpattern.specs.declared.init.processing.Component.TheVariants.{Protocol, Username, Password, Hostname, Port, Pathname, Search, Hash}
+use Rattle.urlpattern_init.specs.SpecialProtocol.{AcceptsSpecialScheme}
+use Rattle.urlpattern_init.specs.declared.init.UrlPatternInit.{UrlPatternInit}
+use Rattle.urlpattern_init.specs.declared.init.processing.Component.{Component}
+use Rattle.urlpattern_init.specs.declared.init.processing.Component.TheVariants.{Protocol, Username, Password, Hostname, Port, Pathname, Search, Hash}
 use Rattle.urlpattern_plain.specs.declared.options.UrlPatternOptions.{UrlPatternOptions}
-use Rattle.urlpattern_core.specs.Canonical.{IsAnswer, canonical_hash, canonical_hostname, canonical_ipv6_hostname, canonical_opaque_pathname, canonical_password, canonical_pathname, canonical_port, canonical_protocol, canonical_search, canonical_username, default_port, is_special, without_first}
+use Rattle.urlpattern_canonical.specs.Canonical.{IsAnswer, canonical_hash, canonical_hostname, canonical_ipv6_hostname, canonical_opaque_pathname, canonical_password, canonical_pathname, canonical_port, canonical_protocol, canonical_search, canonical_username, default_port, is_special, without_first}
 use Rattle.urlpattern_core.specs.Compiling.{ComponentView}
-use Rattle.urlpattern_core.specs.declared.canonicalize_and_process.ProcessType.TheVariants.{Pattern}
+use Rattle.urlpattern_canonical.specs.declared.canonicalize_and_process.ProcessType.TheVariants.{Pattern}
 use Rattle.urlpattern_laws.specs.Matching.{MatcherView}
 use Rattle.urlpattern_laws.specs.PartMeaning.{Captures}
 use Rattle.urlpattern_syntax.specs.Errors.{ErrorView}

@@ -4,12 +4,12 @@ use Rattle.std.specs.Borrow.{Bor}
 use Rattle.std.specs.HashMap.{HashMap}
 use Rattle.std.specs.Str.{chars}
 use Rattle.std.specs.declared.alloc.Global.{Global}
-use Rattle.urlpattern.specs.declared.init.processing.Component.{Component}
-use Rattle.urlpattern.specs.declared.init.processing.Component.TheVariants.{Protocol, Username, Password, Hostname, Port, Pathname, Search, Hash}
+use Rattle.urlpattern_init.specs.declared.init.processing.Component.{Component}
+use Rattle.urlpattern_init.specs.declared.init.processing.Component.TheVariants.{Protocol, Username, Password, Hostname, Port, Pathname, Search, Hash}
 use Rattle.urlpattern.specs.declared.pattern.eight.Eight.{Eight}
 use Rattle.urlpattern.specs.declared.pattern.matching.Captured.{Captured}
 use Rattle.urlpattern.specs.declared.pattern.matching.Captured.TheVariants as captured
-use Rattle.urlpattern.specs.Inheritance.{Texts}
+use Rattle.urlpattern_init.specs.Inheritance.{Texts}
 use Rattle.urlpattern.specs.Match.{AreAnswers, group_in, group_of}
 use Rattle.urlpattern.specs.Patterns.{PatternView}
 use Rattle.urlpattern_core.specs.Captured.{capture_view}

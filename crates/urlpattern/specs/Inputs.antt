@@ -7,13 +7,13 @@ use Rattle.std.specs.declared.alloc.Global.{Global}
 use Rattle.url.specs.declared.error.ParseError.{ParseError}
 use Rattle.url.specs.Parser.{Parsed, and_then, parse_url}
 use Rattle.url.specs.Parts.{Parts}
-use Rattle.urlpattern.specs.ConstructorString.{HasProtocolOrBase, RefusesString, SplitsInto, init_components}
-use Rattle.urlpattern.specs.Inheritance.{Values, values_view}
-use Rattle.urlpattern.specs.SpecialProtocol.{IsSpecialBy}
-use Rattle.urlpattern.specs.declared.init.UrlPatternInit.{UrlPatternInit}
-use Rattle.urlpattern.specs.declared.init.UrlPatternMatchInput.{UrlPatternMatchInput}
-use Rattle.urlpattern.specs.declared.init.UrlPatternMatchInput.TheVariants as match_inputs
-use Rattle.urlpattern_core.specs.Canonical.{Tells, long_text}
+use Rattle.urlpattern_init.specs.ConstructorString.{HasProtocolOrBase, RefusesString, SplitsInto, init_components}
+use Rattle.urlpattern_init.specs.Inheritance.{Values, values_view}
+use Rattle.urlpattern_init.specs.SpecialProtocol.{IsSpecialBy}
+use Rattle.urlpattern_init.specs.declared.init.UrlPatternInit.{UrlPatternInit}
+use Rattle.urlpattern_init.specs.declared.init.UrlPatternMatchInput.{UrlPatternMatchInput}
+use Rattle.urlpattern_init.specs.declared.init.UrlPatternMatchInput.TheVariants as match_inputs
+use Rattle.urlpattern_canonical.specs.Canonical.{Tells, long_text}
 use Rattle.urlpattern_core.specs.Engines.{IsRegexOf, regex_answer}
 use Rattle.urlpattern_plain.specs.declared.init.UrlPatternInit.{UrlPatternInit as PlainInit}
 use Rattle.urlpattern_plain.specs.declared.input.StringOrInit.{StringOrInit}

@@ -4,17 +4,17 @@ use Rattle.std.specs.Prelude.{◌≡◌, ◌≤◌, ◌⊎◌, ℕ, List, revers
 use Rattle.std.specs.HashMap.{HashMap, get_by}
 use Rattle.std.specs.Map.{lookup}
 use Rattle.std.specs.declared.alloc.Global.{Global}
-use Rattle.urlpattern.specs.declared.init.processing.Component.{Component}
-use Rattle.urlpattern.specs.declared.init.processing.Component.TheVariants.{Protocol, Username, Password, Hostname, Port, Pathname, Search, Hash}
-use Rattle.urlpattern.specs.declared.init.UrlPatternMatchInput.{UrlPatternMatchInput}
-use Rattle.urlpattern.specs.declared.init.UrlPatternMatchInput.TheVariants.{Init, Url as UrlInput}
+use Rattle.urlpattern_init.specs.declared.init.processing.Component.{Component}
+use Rattle.urlpattern_init.specs.declared.init.processing.Component.TheVariants.{Protocol, Username, Password, Hostname, Port, Pathname, Search, Hash}
+use Rattle.urlpattern_init.specs.declared.init.UrlPatternMatchInput.{UrlPatternMatchInput}
+use Rattle.urlpattern_init.specs.declared.init.UrlPatternMatchInput.TheVariants.{Init, Url as UrlInput}
 use Rattle.urlpattern.specs.declared.pattern.result.UrlPatternComponentResult.{UrlPatternComponentResult}
 use Rattle.urlpattern.specs.declared.pattern.result.UrlPatternResult.{UrlPatternResult}
-use Rattle.urlpattern.specs.Inheritance.{Texts, asked_bytes, values_view}
+use Rattle.urlpattern_init.specs.Inheritance.{Texts, asked_bytes, values_view}
 use Rattle.urlpattern.specs.MatchInput.{IsNoInput, input_texts}
 use Rattle.urlpattern.specs.Patterns.{PatternView}
-use Rattle.urlpattern_core.specs.Canonical.{long_text}
-use Rattle.urlpattern_core.specs.declared.canonicalize_and_process.ProcessType.TheVariants.{Url}
+use Rattle.urlpattern_canonical.specs.Canonical.{long_text}
+use Rattle.urlpattern_canonical.specs.declared.canonicalize_and_process.ProcessType.TheVariants.{Url}
 use Rattle.urlpattern_laws.specs.Matching.{Answers, IsMatched}
 use Rattle.urlpattern_laws.specs.PartMeaning.{Captures}
 use Rattle.urlpattern_syntax.specs.Text.{text_of}

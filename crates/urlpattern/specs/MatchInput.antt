@@ -2,11 +2,11 @@
 use Rattle.std.specs.Prelude.{◌≡◌, ◌≤◌, ◌⊎◌, Ok, Err}
 use Rattle.url.specs.declared.error.ParseError.{ParseError}
 use Rattle.url.specs.Parser.{Parsed, and_then}
-use Rattle.urlpattern.specs.declared.init.UrlPatternMatchInput.{UrlPatternMatchInput}
-use Rattle.urlpattern.specs.declared.init.UrlPatternMatchInput.TheVariants.{Init, Url as UrlInput}
-use Rattle.urlpattern.specs.Inheritance.{Texts, asked_bytes, processed_values, texts_of_url, texts_of_values, values_view}
-use Rattle.urlpattern_core.specs.Canonical.{long_text}
-use Rattle.urlpattern_core.specs.declared.canonicalize_and_process.ProcessType.TheVariants.{Url}
+use Rattle.urlpattern_init.specs.declared.init.UrlPatternMatchInput.{UrlPatternMatchInput}
+use Rattle.urlpattern_init.specs.declared.init.UrlPatternMatchInput.TheVariants.{Init, Url as UrlInput}
+use Rattle.urlpattern_init.specs.Inheritance.{Texts, asked_bytes, processed_values, texts_of_url, texts_of_values, values_view}
+use Rattle.urlpattern_canonical.specs.Canonical.{long_text}
+use Rattle.urlpattern_canonical.specs.declared.canonicalize_and_process.ProcessType.TheVariants.{Url}
 use Rattle.urlpattern_plain.specs.declared.match_input.MatchInput.{MatchInput}
 use Rattle.urlpattern_syntax.specs.Text.{text_of}
 

@@ -1,6 +1,6 @@
 -- A pattern as its components, after the URLPattern Standard, section "URL patterns".
-use Rattle.urlpattern.specs.declared.init.processing.Component.{Component}
-use Rattle.urlpattern.specs.declared.init.processing.Component.TheVariants.{Protocol, Username, Password, Hostname, Port, Pathname, Search, Hash}
+use Rattle.urlpattern_init.specs.declared.init.processing.Component.{Component}
+use Rattle.urlpattern_init.specs.declared.init.processing.Component.TheVariants.{Protocol, Username, Password, Hostname, Port, Pathname, Search, Hash}
 use Rattle.urlpattern.specs.declared.pattern.UrlPattern.{UrlPattern}
 use Rattle.urlpattern_core.specs.Compiling.{ComponentView, component_view}
 

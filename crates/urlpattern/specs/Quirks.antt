@@ -1,8 +1,8 @@
 -- What browsers are answered.
 use Rattle.std.specs.Prelude.{ℕ, List}
 use Rattle.std.specs.List.{list_any}
-use Rattle.urlpattern.specs.declared.init.processing.Component.TheVariants.{Protocol, Username, Password, Hostname, Port, Pathname, Search, Hash}
-use Rattle.urlpattern.specs.Inheritance.{components}
+use Rattle.urlpattern_init.specs.declared.init.processing.Component.TheVariants.{Protocol, Username, Password, Hostname, Port, Pathname, Search, Hash}
+use Rattle.urlpattern_init.specs.Inheritance.{components}
 use Rattle.urlpattern.specs.Patterns.{PatternView}
 use Rattle.urlpattern_plain.specs.Plain.{plain_component}
 use Rattle.urlpattern_plain.specs.Values as plain

@@ -5,17 +5,15 @@
 //! <https://urlpattern.spec.whatwg.org/>
 #![tactic(auto)]
 
-mod constructor_parser;
-mod init;
 pub mod laws;
 mod pattern;
 pub mod quirks;
 pub mod theorem;
 
-pub use init::{UrlPatternInit, UrlPatternMatchInput};
 pub use pattern::{UrlPattern, UrlPatternComponentResult, UrlPatternResult};
+pub use urlpattern_canonical::canonicalize_and_process;
 pub use urlpattern_core::{
-    Error, RegexSyntax, canonicalize_and_process, component, error, matcher, parser, regexp,
-    tokenizer,
+    Error, RegexSyntax, component, error, matcher, parser, regexp, tokenizer,
 };
+pub use urlpattern_init::{UrlPatternInit, UrlPatternMatchInput};
 pub use urlpattern_plain::UrlPatternOptions;

@@ -2,9 +2,9 @@
 ghost use Rattle.std.specs.Prelude.{◌≡◌};
 ghost use Rattle.std.specs.List.{list_any};
 ghost use Rattle.std.specs.Str.{chars};
-ghost use Rattle.urlpattern.specs.Inheritance.{components};
+ghost use Rattle.urlpattern_init.specs.Inheritance.{components};
 ghost use Rattle.urlpattern.specs.Patterns.{pattern_view};
-ghost use Rattle.urlpattern.specs.declared.init.processing.Component.TheVariants as names;
+ghost use Rattle.urlpattern_init.specs.declared.init.processing.Component.TheVariants as names;
 
 mod eight;
 mod groups;

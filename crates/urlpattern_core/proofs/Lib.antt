@@ -5,6 +5,3 @@ pub mod RegexpTexts
 pub mod MatcherTexts
 pub mod MatcherAnswers
 pub mod Peeling
-pub mod CanonicalLemmas
-pub mod MarkLemmas
-pub mod SchemeLemmas

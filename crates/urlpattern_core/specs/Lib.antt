@@ -1,5 +1,3 @@
-pub mod Asking
-pub mod Canonical
 pub mod Captured
 pub mod Compiling
 pub mod Engines

@@ -3,7 +3,6 @@
 //! The modules and items of the crates below stand here too.
 #![tactic(auto)]
 
-pub mod canonicalize_and_process;
 pub mod component;
 pub mod matcher;
 pub mod regexp;

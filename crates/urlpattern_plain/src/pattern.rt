@@ -1,7 +1,8 @@
 //! A whole pattern as plain data.
 
-ghost use Rattle.std.specs.Prelude.{◌≡◌, IfErr, IfOk, option_map};
-ghost use Rattle.serde_json.specs.View.{view};
+ghost use Rattle.std.specs.Prelude.{◌≡◌, IfErr, IfOk, OnOk, option_map};
+ghost use Rattle.serde_json.specs.Data.{put as with_member};
+ghost use Rattle.serde_json.specs.View.{members_view, view};
 ghost use Rattle.urlpattern_plain.specs.Json.{component_read, component_tree, matcher_read, member_read, pattern_read, pattern_tree};
 ghost use Rattle.urlpattern_core.specs.Compiling as compiled;
 ghost use Rattle.urlpattern_plain.specs.Plain.{plain_component};
@@ -14,7 +15,7 @@ use crate::matcher::{Matcher, engine_text};
 use crate::reading::{Unread, flag_field, member, text_field, texts_field, told};
 use crate::writing::texts_value;
 use serde::{Deserialize, Serialize};
-use serde_json::{Value, json};
+use serde_json::{Map, Value, json};
 use std::alloc::{AllocError, Global};
 use urlpattern_core::Error;
 use urlpattern_core::component::Component;
@@ -72,25 +73,18 @@ impl UrlPattern {
     fn tree(&self, alloc: Global) -> Result<Value, AllocError>
         ensures { IfOk result (λ tree. view tree ≡ pattern_tree (pattern_view self.now)) }
     {
-        let protocol = self.protocol.tree(alloc)?;
-        let username = self.username.tree(alloc)?;
-        let password = self.password.tree(alloc)?;
-        let hostname = self.hostname.tree(alloc)?;
-        let port = self.port.tree(alloc)?;
-        let pathname = self.pathname.tree(alloc)?;
-        let search = self.search.tree(alloc)?;
-        let hash = self.hash.tree(alloc)?;
-        json!(in alloc; {
-            "protocol": protocol,
-            "username": username,
-            "password": password,
-            "hostname": hostname,
-            "port": port,
-            "pathname": pathname,
-            "search": search,
-            "hash": hash,
-            "hasRegexpGroups": self.has_regexp_groups
-        })
+        let mut members = Map::new(alloc);
+        put_component(&mut members, alloc, "protocol", &self.protocol)?;
+        put_component(&mut members, alloc, "username", &self.username)?;
+        put_component(&mut members, alloc, "password", &self.password)?;
+        put_component(&mut members, alloc, "hostname", &self.hostname)?;
+        put_component(&mut members, alloc, "port", &self.port)?;
+        put_component(&mut members, alloc, "pathname", &self.pathname)?;
+        put_component(&mut members, alloc, "search", &self.search)?;
+        put_component(&mut members, alloc, "hash", &self.hash)?;
+        let has_regexp_groups = Value::Bool(self.has_regexp_groups);
+        serde_json::put(&mut members, alloc, "hasRegexpGroups", has_regexp_groups)?;
+        Ok(Value::Object(members))
     }
 
     /// The pattern that the JSON stands for: an object with a component for each key, and `hasRegexpGroups`. Other keys
@@ -187,6 +181,19 @@ impl UrlPatternComponent {
             group_name_list: texts_field(alloc, value, "groupNameList")?,
         })
     }
+}
+
+/// Puts a component into an object.
+fn put_component(
+    members: &mut Map<String, Value>,
+    alloc: Global,
+    name: &str,
+    component: &UrlPatternComponent,
+) -> Result<(), AllocError>
+    ensures { OnOk result (members_view members.new.entries
+        ≡ with_member name.now (component_tree (component_view component.now)) (members_view members.old.entries)) }
+{
+    serde_json::put(members, alloc, name, component.tree(alloc)?)
 }
 
 /// The component of a member.

@@ -1,13 +1,13 @@
 //! Eight values, one for each component.
 ghost use Rattle.std.specs.Prelude.{◌≡◌, IfOk};
 ghost use Rattle.urlpattern.specs.Eight.{borrowed_texts};
-ghost use Rattle.urlpattern.specs.Inheritance.{texts_of_url};
+ghost use Rattle.urlpattern_init.specs.Inheritance.{texts_of_url};
 ghost use Rattle.urlpattern.specs.MatchInput.{texts_view};
 
-use crate::init::{Component, url_text};
 use crate::quirks::MatchInput;
 use std::alloc::{AllocError, Global};
 use url::Url;
+use urlpattern_init::{Component, url_text};
 
 /// A value for each component.
 #[derive(Drop)]

@@ -3,9 +3,9 @@
 //! All components look at their texts before anything is made. Engines are asked last, and the first refusal ends it.
 ghost use Rattle.std.specs.Prelude.{◌≡◌, None, Some, ℕ, List, option_map, map, IfErr, IfNone, IfOk, IfSome, MatchBool, MatchOption};
 ghost use Rattle.std.specs.Str.{chars};
-ghost use Rattle.urlpattern.specs.declared.init.processing.Component.{Component as Name};
+ghost use Rattle.urlpattern_init.specs.declared.init.processing.Component.{Component as Name};
 ghost use Rattle.urlpattern.specs.Eight.{at, borrowed_texts, captures_of, AreGroups, HaveGroups};
-ghost use Rattle.urlpattern.specs.Inheritance.{texts_of_url, Texts};
+ghost use Rattle.urlpattern_init.specs.Inheritance.{texts_of_url, Texts};
 ghost use Rattle.urlpattern.specs.Match.{AreAnswers, AreMatched, HasMatch, HasNoMatch, IsMatch, IsMatchOf, IsRefused, IsResultOf, result_view, text_at};
 ghost use Rattle.urlpattern.specs.MatchInput.{texts_view};
 ghost use Rattle.urlpattern.specs.Patterns.{pattern_view};
@@ -21,7 +21,6 @@ use super::eight::Eight;
 use super::groups::{Groups, groups_of};
 use super::result::UrlPatternResult;
 use crate::component::Component;
-use crate::init::UrlPatternMatchInput;
 use crate::matcher::Look;
 use crate::quirks::{MatchInput, parse_match_input};
 use crate::regexp::RegExp;
@@ -29,6 +28,7 @@ use std::alloc::Global;
 use std::slice;
 use url::Url;
 use urlpattern_core::Error;
+use urlpattern_init::UrlPatternMatchInput;
 
 /// What the groups of a component capture of its text.
 #[derive(Drop)]

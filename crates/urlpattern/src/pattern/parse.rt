@@ -4,10 +4,10 @@ ghost use Rattle.std.specs.Prelude.{◌≡◌, ◌↔◌, [], codes, length, opt
 ghost use Rattle.std.specs.Fn.{FnReturnsAt};
 ghost use Rattle.std.specs.Str.{chars};
 ghost use Rattle.urlpattern.specs.Compiled.{AreCompiled, FirstRefused, HasEngine, HasHierarchicalPath, IsCompiled, IsComponentCompiled, IsComponentRefused, IsRefusedFrom, RefusesPattern, RefusesValues, behind_protocol, canonical_in_hostname, has_default_port, is_ipv6_pattern, is_mark, is_same, manner_of, pattern_of, pattern_values, without_default_port};
-ghost use Rattle.urlpattern.specs.Inheritance.{values_view};
+ghost use Rattle.urlpattern_init.specs.Inheritance.{values_view};
 ghost use Rattle.urlpattern.specs.Patterns.{pattern_view};
-ghost use Rattle.urlpattern.specs.declared.init.processing.Component.{Component};
-ghost use Rattle.urlpattern_core.specs.Canonical.{IsAnswer};
+ghost use Rattle.urlpattern_init.specs.declared.init.processing.Component.{Component};
+ghost use Rattle.urlpattern_canonical.specs.Canonical.{IsAnswer};
 ghost use Rattle.urlpattern_core.specs.Compiling.{IsCompiledFrom, component_view, pattern_text};
 ghost use Rattle.urlpattern_core.specs.Matchers.{matcher_view};
 ghost use Rattle.urlpattern_syntax.specs.declared.error.Error.TheVariants as errors;
@@ -17,16 +17,15 @@ ghost use Rattle.urlpattern_syntax.specs.Reading.{encoding_of};
 ghost use Rattle.urlpattern_syntax.specs.Text.{begins_with, text_of};
 
 use super::UrlPattern;
-use crate::constructor_parser::accepts_special_scheme;
-use crate::init::{Component, UrlPatternInit, given, process};
 use std::alloc::Global;
-use urlpattern_core::canonicalize_and_process::{
+use urlpattern_canonical::canonicalize_and_process::{
     Canonicalizer, ProcessType, begins_with_slash, canonicalize_ipv6_hostname, is_special_scheme,
     special_scheme_default_port, without_first,
 };
 use urlpattern_core::parser::Options;
 use urlpattern_core::regexp::RegExp;
 use urlpattern_core::{Error, component};
+use urlpattern_init::{Component, UrlPatternInit, accepts_special_scheme, given, process};
 use urlpattern_plain::UrlPatternOptions;
 
 impl<R: RegExp> UrlPattern<R> {

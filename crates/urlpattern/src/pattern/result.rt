@@ -1,6 +1,6 @@
 //! What a match tells: the text of each component, and what its groups capture.
 ghost use Rattle.std.specs.Prelude.{◌≡◌, ℕ, List};
-ghost use Rattle.urlpattern.specs.declared.init.processing.Component.{Component as Name};
+ghost use Rattle.urlpattern_init.specs.declared.init.processing.Component.{Component as Name};
 ghost use Rattle.urlpattern.specs.Eight.{at};
 ghost use Rattle.urlpattern.specs.Match.{component_result_view, group_in, result_view, text_at};
 ghost use Rattle.urlpattern.specs.MatchInput.{texts_view};

@@ -3,23 +3,23 @@ ghost use Rattle.std.specs.Prelude.{◌≡◌, None, Ok, Some, length, max, opti
 ghost use Rattle.std.specs.Cow.{cow_str_bytes};
 ghost use Rattle.std.specs.Str.{chars};
 ghost use Rattle.url.specs.Parser as url_spec;
-ghost use Rattle.urlpattern.specs.Inheritance.{values_view};
+ghost use Rattle.urlpattern_init.specs.Inheritance.{values_view};
 ghost use Rattle.urlpattern.specs.Inputs.{AreInputs, HasInitAndBase, IsConstructedFrom, IsFound, IsInitOf, IsInitOfString, IsNoInputOf, IsRefusedByUrl, RefusesInput, RefusesText, parsed_base, parsed_text, plain_base, plain_values, text_bytes};
-ghost use Rattle.urlpattern_core.specs.Canonical.{Tells};
+ghost use Rattle.urlpattern_canonical.specs.Canonical.{Tells};
 ghost use Rattle.urlpattern_plain.specs.declared.input.StringOrInit.TheVariants as plain_inputs;
 ghost use Rattle.urlpattern_syntax.specs.declared.error.Error.TheVariants as errors;
 ghost use Rattle.urlpattern_syntax.specs.Errors.{ErrorView as views};
 ghost use Rattle.urlpattern_syntax.specs.Parsing.{MemoryOr, name_view};
 ghost use Rattle.urlpattern_syntax.specs.Text.{text_of};
 
-use crate::init;
-use crate::init::UrlPatternMatchInput;
 use regex::Regex;
 use std::alloc::Global;
 use std::borrow::CowStr;
 use url::Url;
+use urlpattern_canonical::canonicalize_and_process::told;
 use urlpattern_core::Error;
-use urlpattern_core::canonicalize_and_process::told;
+use urlpattern_init as init;
+use urlpattern_init::UrlPatternMatchInput;
 use urlpattern_plain::{Inputs, StringOrInit, UrlPatternInit};
 
 /// The init of a pattern: of a constructor string, with a base URL if there is one, or of components one by one.

@@ -2,15 +2,15 @@
 ghost use Rattle.std.specs.Prelude.{◌≡◌, [], None, Some, Ok, option_map, unwrap_or, string_bytes, MatchOption, IfOk, IfErr};
 ghost use Rattle.urlpattern_syntax.specs.declared.error.Error.TheVariants as errors;
 ghost use Rattle.urlpattern_syntax.specs.Text.{text_of};
-ghost use Rattle.urlpattern.specs.Inheritance.{texts_of_url, texts_of_values, values_view};
+ghost use Rattle.urlpattern_init.specs.Inheritance.{texts_of_url, texts_of_values, values_view};
 ghost use Rattle.urlpattern.specs.MatchInput.{IsNoInput, input_texts, texts_view};
 
-use crate::init::{UrlPatternInit, UrlPatternMatchInput, process};
 use crate::pattern::Eight;
 use std::alloc::{AllocError, Global};
 use url::Url;
 use urlpattern_core::Error;
-use urlpattern_core::canonicalize_and_process::ProcessType;
+use urlpattern_canonical::canonicalize_and_process::ProcessType;
+use urlpattern_init::{UrlPatternInit, UrlPatternMatchInput, process};
 use urlpattern_plain::MatchInput;
 
 /// The texts of a URL.

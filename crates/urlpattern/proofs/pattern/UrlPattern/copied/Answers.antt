@@ -1,5 +1,5 @@
 use Rattle.std.proofs.Common.{ap, ◌∙◌}
-use Rattle.urlpattern.specs.Inheritance.{Texts}
+use Rattle.urlpattern_init.specs.Inheritance.{Texts}
 use Rattle.urlpattern.specs.Match.{text_at}
 use Rattle.urlpattern.proofs.pattern.UrlPattern.copied.Goals as goal
 

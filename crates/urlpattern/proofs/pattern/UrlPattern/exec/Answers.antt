@@ -1,5 +1,5 @@
 use Rattle.std.proofs.Common.{ap}
-use Rattle.urlpattern.specs.Inheritance.{texts_of_url}
+use Rattle.urlpattern_init.specs.Inheritance.{texts_of_url}
 use Rattle.urlpattern.specs.MatchInput.{input_texts}
 use Rattle.urlpattern.specs.Patterns.{pattern_view}
 use Rattle.urlpattern.proofs.MatchSteps.{exec-of_texts}

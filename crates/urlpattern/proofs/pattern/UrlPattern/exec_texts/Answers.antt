@@ -1,6 +1,6 @@
 use Rattle.std.proofs.Common.{subst}
 use Rattle.urlpattern.specs.Eight.{HaveGroups}
-use Rattle.urlpattern.specs.Inheritance.{Texts}
+use Rattle.urlpattern_init.specs.Inheritance.{Texts}
 use Rattle.urlpattern.specs.Match.{IsRefused, result_view}
 use Rattle.urlpattern.specs.MatchInput.{texts_view}
 use Rattle.urlpattern.specs.Patterns.{pattern_view}

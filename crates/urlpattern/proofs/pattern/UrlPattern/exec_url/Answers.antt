@@ -1,6 +1,6 @@
 use Rattle.std.proofs.Common.{subst}
 use Rattle.urlpattern.specs.Eight.{at, borrowed_texts, captures_of}
-use Rattle.urlpattern.specs.Inheritance.{Texts, texts_of_url}
+use Rattle.urlpattern_init.specs.Inheritance.{Texts, texts_of_url}
 use Rattle.urlpattern.specs.Match.{IsRefused, result_view}
 use Rattle.urlpattern.specs.Patterns.{pattern_view}
 use Rattle.urlpattern.proofs.MatchSteps.{match-of_results}

@@ -1,4 +1,4 @@
-use Rattle.urlpattern.specs.declared.init.processing.Component.TheVariants.{Protocol, Username, Password, Hostname, Port, Pathname, Search, Hash}
+use Rattle.urlpattern_init.specs.declared.init.processing.Component.TheVariants.{Protocol, Username, Password, Hostname, Port, Pathname, Search, Hash}
 use Rattle.urlpattern.proofs.Each.{each, if_none}
 use Rattle.urlpattern.proofs.pattern.UrlPattern.look.Goals as goal
 

@@ -1,5 +1,5 @@
 use Rattle.urlpattern.proofs.CompiledLemmas.{is_compiled, is_refused}
-use Rattle.urlpattern.specs.Inheritance.{values_view}
+use Rattle.urlpattern_init.specs.Inheritance.{values_view}
 use Rattle.urlpattern_core.specs.Compiling.{IsCompiledFrom}
 use Rattle.urlpattern.proofs.pattern.UrlPattern.parse.Goals as goal
 

@@ -1,6 +1,6 @@
 use Rattle.std.proofs.Common.{codes, slice_index, arith}
 use Rattle.std.proofs.lemmas.Grind.{common_steps}
-use Rattle.urlpattern_core.proofs.CanonicalLemmas.{begins_with-chars}
+use Rattle.urlpattern_canonical.proofs.CanonicalLemmas.{begins_with-chars}
 use Rattle.urlpattern.proofs.pattern.parse.begins_with_bracket.Goals as goal
 
 pub returns-in-91 : goal.returns-in-91

@@ -1,7 +1,7 @@
 use Rattle.std.proofs.Common.{ap, sym, ◌∙◌}
 use Rattle.std.specs.Str.{chars}
 use Rattle.urlpattern.proofs.CompiledLemmas.{default_port-IsAscii, default_port-test}
-use Rattle.urlpattern_core.specs.Canonical.{default_port, is_special}
+use Rattle.urlpattern_canonical.specs.Canonical.{default_port, is_special}
 use Rattle.urlpattern_syntax.specs.Text.{text_of}
 use Rattle.std.specs.Prelude.{option_copied, option_map}
 use Rattle.urlpattern.specs.Compiled.{is_same}

@@ -1,7 +1,7 @@
 use Rattle.std.proofs.Common.{ap, ◌∙◌, sym}
 use Rattle.std.proofs.lemmas.Result.{err_from_is_err_and}
-use Rattle.urlpattern.proofs.InheritanceLemmas.{pattern-memory}
-use Rattle.urlpattern.specs.Inheritance.{values_view}
+use Rattle.urlpattern_init.proofs.InheritanceLemmas.{pattern-memory}
+use Rattle.urlpattern_init.specs.Inheritance.{values_view}
 use Rattle.urlpattern.proofs.pattern.parse.pattern_values.Goals as goal
 
 pub returns-in_err-values-clause-memory : goal.returns-in_err-values-clause-memory

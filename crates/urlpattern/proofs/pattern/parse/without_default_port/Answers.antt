@@ -1,7 +1,7 @@
 use Rattle.std.proofs.Common.{ap, sym, ◌∙◌}
 use Rattle.urlpattern_syntax.proofs.StringTexts.{text-nil}
 use Rattle.urlpattern.proofs.CompiledLemmas.{emptied}
-use Rattle.urlpattern.specs.Inheritance.{values_view}
+use Rattle.urlpattern_init.specs.Inheritance.{values_view}
 use Rattle.urlpattern.proofs.pattern.parse.without_default_port.Goals as goal
 
 pub returns-then-has_default_port : goal.returns-then-has_default_port

@@ -1,6 +1,6 @@
 use Rattle.std.proofs.Common.{Some}
 use Rattle.url.specs.Parser.{parse_url}
-use Rattle.urlpattern_core.proofs.CanonicalLemmas.{told_parse}
+use Rattle.urlpattern_canonical.proofs.CanonicalLemmas.{told_parse}
 use Rattle.urlpattern.proofs.quirks.inputs.join.Goals as goal
 
 pub returns-clause-ok : goal.returns-clause-ok

@@ -1,4 +1,4 @@
-use Rattle.urlpattern.proofs.InheritanceLemmas.{text-or_empty}
+use Rattle.urlpattern_init.proofs.InheritanceLemmas.{text-or_empty}
 use Rattle.urlpattern.proofs.quirks.match_input.text_or_empty.Goals as goal
 
 pub returns : goal.returns

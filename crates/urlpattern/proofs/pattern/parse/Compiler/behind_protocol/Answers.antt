@@ -2,8 +2,8 @@ use Rattle.std.proofs.Common.{inl, inr}
 use Rattle.std.proofs.lemmas.Result.{err_from_is_err_and}
 use Rattle.urlpattern.proofs.CompiledLemmas.{each_component, memory_or-map}
 use Rattle.urlpattern.specs.Compiled.{FirstRefused, IsComponentCompiled, IsComponentRefused, behind_protocol}
-use Rattle.urlpattern.specs.Inheritance.{values_view}
-use Rattle.urlpattern.specs.declared.init.processing.Component.TheVariants.{Hostname, Pathname, Username, Password, Port, Search, Hash}
+use Rattle.urlpattern_init.specs.Inheritance.{values_view}
+use Rattle.urlpattern_init.specs.declared.init.processing.Component.TheVariants.{Hostname, Pathname, Username, Password, Port, Search, Hash}
 use Rattle.urlpattern_core.specs.Compiling.{IsCompiledFrom, component_view}
 use Rattle.urlpattern.proofs.pattern.parse.Compiler.behind_protocol.Goals as goal
 

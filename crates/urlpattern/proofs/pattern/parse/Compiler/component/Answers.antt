@@ -2,7 +2,7 @@ use Rattle.std.proofs.Common.{rules}
 use Rattle.std.specs.Fn.{FnReturnsAt}
 use Rattle.urlpattern.proofs.CompiledLemmas.{compiled_weaker, refused_weaker}
 use Rattle.urlpattern.specs.Compiled.{canonical_encoding, manner_of, pattern_of}
-use Rattle.urlpattern.specs.Inheritance.{values_view}
+use Rattle.urlpattern_init.specs.Inheritance.{values_view}
 use Rattle.urlpattern_core.specs.Compiling.{pattern_text}
 use Rattle.urlpattern_syntax.specs.Options.{options_view}
 use Rattle.urlpattern.proofs.pattern.parse.Compiler.component.Goals as goal

@@ -1,0 +1,304 @@
+-- Lemmas on canonical values.
+use Rattle.std.proofs.Common.{◌≡◌, ◌≢◌, ℕ, Bool, true, false, ◌==◌, ◌≤◌, ◌<◌, ◌⊎◌, List, [], ◌∷◌, ◌++◌, length, length-append, codes, Ok, Err, String, string_bytes, subst, refl, sym, ap, ◌∙◌, arith, inl, inr}
+use Rattle.std.proofs.lemmas.Str.{byte_from_char, len_utf8_bounds, length-encode, char_from_byte, chars-nil, encodes-chars}
+use Rattle.std.specs.Prelude.{encode_utf8_all, option_copied, option_map, slice_index, if◌then◌else◌, unwrap_or, IfErr, IfOk, IsErrAnd, MatchResult, Option, None, Some, Result}
+use Rattle.std.specs.Borrow.{Bor}
+use Rattle.std.specs.Char.{encode_utf8}
+use Rattle.std.specs.Str.{chars, IsUtf8}
+use Rattle.std.specs.declared.alloc.Global.{Global}
+use Rattle.url.proofs.OnLiterals.{url_on_literals}
+use Rattle.url.specs.declared.error.ParseError.{ParseError}
+use Rattle.url.specs.declared.error.ParseError.TheVariants.{Overflow, OutOfMemory}
+use Rattle.url.specs.Parser.{Gives, GivesBy, IsOutOfRoom, Parsed, and_then, parse_url}
+use Rattle.url.specs.Parts.{Parts}
+use Rattle.urlpattern_canonical.specs.Asking.{IsRefusal, IsToldAs}
+use Rattle.urlpattern_canonical.specs.Canonical.{IsAnswer, Tells, after, canonical, dummy_url, long_text, path_of, pathname_of, scheme_for_port, told_as, without_guard}
+use Rattle.urlpattern_syntax.proofs.TextLemmas.{chars-empty}
+use Rattle.urlpattern_syntax.specs.declared.error.Error.{Error}
+use Rattle.urlpattern_syntax.specs.declared.error.Error.TheVariants as errors
+use Rattle.urlpattern_syntax.specs.declared.error.ParserError.TheVariants as parser_errors
+use Rattle.urlpattern_syntax.specs.Errors.{ErrorView, error_view}
+use Rattle.urlpattern_syntax.specs.Errors.{ErrorView as views}
+use Rattle.urlpattern_syntax.specs.Parsing.{MemoryOr}
+use Rattle.urlpattern_syntax.specs.Text.{begins_with, text_of}
+
+-- ---- refusals
+
+-- a refusal of a step is one of the whole question
+tells_view : {T U : Type 0} (asked : Parsed T) (whole : Parsed U) (reason : ParseError) (bytes : ℕ) (error : ErrorView)
+    → (asked ≡ Err reason → whole ≡ Err reason) → (asked ≡ Err reason) ⊎ IsOutOfRoom reason → IsRefusal reason bytes error
+    → Tells whole bytes error
+tells_view asked whole reason bytes error step gives refusal =
+    let Told : ErrorView → Type 0 = λ view. Tells whole bytes view in
+    let why : (whole ≡ Err reason) ⊎ ((reason ≡ Overflow) × (long_text ≤ bytes)) =
+    elim gives [
+      | inl refused ↦ inl (step refused)
+      | inr room ↦ elim room [ inl memory ↦ absurd (refusal.1 memory) | inr long ↦ inr (long, refusal.2 long) ]
+    ]
+    in
+    subst Told (sym refusal.0) (refusal.1, why)
+
+tells : {T U : Type 0} (asked : Parsed T) (whole : Parsed U) (reason : ParseError) (bytes : ℕ) (error : Error)
+    → (asked ≡ Err reason → whole ≡ Err reason) → (asked ≡ Err reason) ⊎ IsOutOfRoom reason → MemoryOr (IsRefusal reason bytes) error
+    → MemoryOr (Tells whole bytes) error
+tells asked whole reason bytes error step gives told =
+    elim told [ inl memory ↦ inl memory | inr refusal ↦ inr (tells_view asked whole reason bytes (error_view error) step gives refusal) ]
+
+-- the same where the refusal is told as another
+tells_as_view : {T U : Type 0} (asked : Parsed T) (whole : Parsed U) (reason other : ParseError) (bytes : ℕ) (error : ErrorView)
+    → reason ≢ OutOfMemory → (told_as reason asked ≡ Err reason → whole ≡ Err reason) → (asked ≡ Err other) ⊎ IsOutOfRoom other
+    → IsToldAs reason other bytes error → Tells whole bytes error
+tells_as_view asked whole reason other bytes error proper step gives told =
+    let Told : ErrorView → Type 0 = λ view. Tells whole bytes view in
+    elim told [
+      | inl as_other ↦
+          let refused : asked ≡ Err other =
+          elim gives [
+            | inl refused ↦ refused
+            | inr room ↦ elim room [ inl memory ↦ absurd (as_other.1 memory) | inr long ↦ absurd (as_other.2 long) ]
+          ]
+          in
+          subst Told (sym as_other.0) (proper, inl (step (ap (told_as reason) refused)))
+      | inr long ↦ subst Told (sym long.0) (overflow_is_no_want_of_memory, inr (refl, long.1))
+    ]
+  where
+    overflow_is_no_want_of_memory : Overflow ≢ OutOfMemory
+    overflow_is_no_want_of_memory same = cc
+
+tells_as : {T U : Type 0} (asked : Parsed T) (whole : Parsed U) (reason other : ParseError) (bytes : ℕ) (error : Error)
+    → reason ≢ OutOfMemory → (told_as reason asked ≡ Err reason → whole ≡ Err reason) → (asked ≡ Err other) ⊎ IsOutOfRoom other
+    → MemoryOr (IsToldAs reason other bytes) error → MemoryOr (Tells whole bytes) error
+tells_as asked whole reason other bytes error proper step gives told =
+    elim told [
+      | inl memory ↦ inl memory
+      | inr as_other ↦ inr (tells_as_view asked whole reason other bytes (error_view error) proper step gives as_other)
+    ]
+
+-- what `told` makes of an answer
+abbrev pub Tell : {T : Type 0} → Parsed T → (bytes : ℕ) → Result T Error → Type 0
+Tell answer bytes result = MatchResult answer (λ found. result ≡ Ok found) (λ reason. IsErrAnd result (MemoryOr (IsRefusal reason bytes)))
+
+-- what `told_as` makes of one
+abbrev pub TellAs : {T : Type 0} → ParseError → Parsed T → (bytes : ℕ) → Result T Error → Type 0
+TellAs reason answer bytes result =
+    MatchResult answer (λ found. result ≡ Ok found) (λ other. IsErrAnd result (MemoryOr (IsToldAs reason other bytes)))
+
+-- what is told of an answer that is seen by `view`
+pub told-ok : {T U : Type 0} (view : T → U) (answer : Parsed T) (asked : Parsed U) (bytes : ℕ) (result : Result T Error) (value : T)
+    → GivesBy view answer asked → Tell answer bytes result → result ≡ Ok value → asked ≡ Ok (view value)
+told-ok view (Ok found) asked bytes result value gives told was = gives ∙ ap (λ x. Ok (view x)) (let same : found ≡ value = cc in same)
+told-ok view (Err reason) asked bytes result value gives told was = absurd (rw was at told)
+
+pub told-err : {T U V : Type 0} (view : T → U) (answer : Parsed T) (asked : Parsed U) (whole : Parsed V) (bytes : ℕ) (result : Result T Error)
+    (error : Error) → GivesBy view answer asked → Tell answer bytes result → result ≡ Err error
+    → ((reason : ParseError) → asked ≡ Err reason → whole ≡ Err reason) → MemoryOr (Tells whole bytes) error
+told-err view (Ok found) asked whole bytes result error gives told was step = absurd cc
+told-err view (Err reason) asked whole bytes result error gives told was step =
+    tells asked whole reason bytes error (step reason) gives (rw was at told)
+
+pub told_as-ok : {T U : Type 0} (view : T → U) (answer : Parsed T) (asked : Parsed U) (reason : ParseError) (bytes : ℕ) (result : Result T Error)
+    (value : T) → GivesBy view answer asked → TellAs reason answer bytes result → result ≡ Ok value → told_as reason asked ≡ Ok (view value)
+told_as-ok view (Ok found) asked reason bytes result value gives told was =
+    ap (told_as reason) gives ∙ ap (λ x. Ok (view x)) (let same : found ≡ value = cc in same)
+told_as-ok view (Err other) asked reason bytes result value gives told was = absurd (rw was at told)
+
+pub told_as-err : {T U V : Type 0} (view : T → U) (answer : Parsed T) (asked : Parsed U) (whole : Parsed V) (reason : ParseError) (bytes : ℕ)
+    (result : Result T Error) (error : Error) → reason ≢ OutOfMemory → GivesBy view answer asked → TellAs reason answer bytes result
+    → result ≡ Err error → (told_as reason asked ≡ Err reason → whole ≡ Err reason) → MemoryOr (Tells whole bytes) error
+told_as-err view (Ok found) asked whole reason bytes result error proper gives told was step = absurd cc
+told_as-err view (Err other) asked whole reason bytes result error proper gives told was step =
+    tells_as asked whole reason other bytes error proper step gives (rw was at told)
+
+-- what a step tells, the whole tells
+tells-through_view : {T U : Type 0} (asked : Parsed T) (whole : Parsed U) (bytes : ℕ) (error : ErrorView)
+    → ((reason : ParseError) → asked ≡ Err reason → whole ≡ Err reason) → Tells asked bytes error → Tells whole bytes error
+tells-through_view asked whole bytes (views.Url reason) step told =
+    (told.0, elim told.1 [ inl refused ↦ inl (step reason refused) | inr long ↦ inr long ])
+tells-through_view asked whole bytes error step told = absurd told
+
+pub tells-through : {T U : Type 0} (asked : Parsed T) (whole : Parsed U) (bytes : ℕ) (error : Error)
+    → ((reason : ParseError) → asked ≡ Err reason → whole ≡ Err reason) → MemoryOr (Tells asked bytes) error → MemoryOr (Tells whole bytes) error
+tells-through asked whole bytes error step told =
+    elim told [ inl memory ↦ inl memory | inr refused ↦ inr (tells-through_view asked whole bytes (error_view error) step refused) ]
+
+-- texts of more bytes
+tells-more_view : {T : Type 0} (asked : Parsed T) (few many : ℕ) (error : ErrorView) → few ≤ many → Tells asked few error → Tells asked many error
+tells-more_view asked few many (views.Url reason) more told =
+    (told.0, elim told.1 [ inl refused ↦ inl refused | inr long ↦ inr (long.0, omega (arith, long.1)) ])
+tells-more_view asked few many error more told = absurd told
+
+pub tells-more : {T : Type 0} (asked : Parsed T) (few many : ℕ) (error : Error) → few ≤ many → MemoryOr (Tells asked few) error
+    → MemoryOr (Tells asked many) error
+tells-more asked few many error more told =
+    elim told [ inl memory ↦ inl memory | inr refused ↦ inr (tells-more_view asked few many (error_view error) more refused) ]
+
+pub answers-more : (asked : Parsed (List ℕ)) (few many : ℕ) (result : Result (String Global) Error) → few ≤ many → IsAnswer asked few result
+    → IsAnswer asked many result
+answers-more asked few many (Ok text) more answer = answer
+answers-more asked few many (Err error) more answer = tells-more asked few many error more answer
+
+-- what is told of a URL that is parsed
+pub told_parse : (answer : Parsed Parts) (asked : Parsed Parts) (bytes : ℕ) (result : Result Parts Error) → Gives answer asked
+    → Tell answer bytes result → IfOk result (λ url. asked ≡ Ok url) × IfErr result (MemoryOr (Tells asked bytes))
+told_parse answer asked bytes (Ok url) gives told = (told-ok (λ x. x) answer asked bytes (Ok url) url gives told refl, tt)
+told_parse answer asked bytes (Err error) gives told =
+    (tt, told-err (λ x. x) answer asked asked bytes (Err error) error gives told refl (λ reason e. e))
+
+-- ---- the steps of a question
+
+pub after-ok : (url : Parsed Parts) (set : Parts → Parsed Parts) (get : Parts → List ℕ) (old new : Parts) → url ≡ Ok old → set old ≡ Ok new
+    → after url set get ≡ Ok (get new)
+after-ok url set get old new is_old is_new =
+    ap (λ parsed. and_then parsed (λ start. and_then (set start) (λ end. Ok (get end)))) is_old
+    ∙ ap (λ parsed. and_then parsed (λ end. Ok (get end))) is_new
+
+pub after-err : (url : Parsed Parts) (set : Parts → Parsed Parts) (get : Parts → List ℕ) (old : Parts) (reason : ParseError) → url ≡ Ok old
+    → set old ≡ Err reason → after url set get ≡ Err reason
+after-err url set get old reason is_old refused =
+    ap (λ parsed. and_then parsed (λ start. and_then (set start) (λ end. Ok (get end)))) is_old
+    ∙ ap (λ parsed. and_then parsed (λ end. Ok (get end))) refused
+
+pub after-refused : (url : Parsed Parts) (set : Parts → Parsed Parts) (get : Parts → List ℕ) (reason : ParseError) → url ≡ Err reason
+    → after url set get ≡ Err reason
+after-refused url set get reason refused = ap (λ parsed. and_then parsed (λ start. and_then (set start) (λ end. Ok (get end)))) refused
+
+-- ---- canonical values
+
+canonical_of : (ask : List ℕ → Parsed (List ℕ)) (value text : List ℕ) → encode_utf8_all text ≡ value → ¬ (length value ≡ 0)
+    → canonical ask text ≡ and_then (ask value) (λ answer. Ok (chars answer))
+canonical_of ask value [] e some = absurd (some (ap length (sym e)))
+canonical_of ask value (c ∷ text) e some = ap (λ bytes. and_then (ask bytes) (λ answer. Ok (chars answer))) e
+
+canonical-chars : (ask : List ℕ → Parsed (List ℕ)) (value : List ℕ) → IsUtf8 value → ¬ (length value ≡ 0)
+    → canonical ask (chars value) ≡ and_then (ask value) (λ answer. Ok (chars answer))
+canonical-chars ask value u some = canonical_of ask value (chars value) (encodes-chars value u) some
+
+-- the empty text
+pub canonical-empty : (ask : List ℕ → Parsed (List ℕ)) (value : List ℕ) (string : String Global) → length value ≡ 0 → string_bytes string ≡ []
+    → canonical ask (chars value) ≡ Ok (text_of string)
+canonical-empty ask value string none empty =
+    ap (canonical ask) (chars-empty value none) ∙ ap (λ text. Ok text) (sym (ap chars empty ∙ chars-nil))
+
+pub canonical-ok : (ask : List ℕ → Parsed (List ℕ)) (value answer : List ℕ) (string : String Global) → IsUtf8 value → ¬ (length value ≡ 0)
+    → ask value ≡ Ok answer → string_bytes string ≡ answer → canonical ask (chars value) ≡ Ok (text_of string)
+canonical-ok ask value answer string u some asked is_answer =
+    canonical-chars ask value u some ∙ ap (λ parsed. and_then parsed (λ bytes. Ok (chars bytes))) asked
+    ∙ ap (λ bytes. Ok (chars bytes)) (sym is_answer)
+
+pub canonical-err : (ask : List ℕ → Parsed (List ℕ)) (value : List ℕ) (reason : ParseError) → IsUtf8 value → ¬ (length value ≡ 0)
+    → ask value ≡ Err reason → canonical ask (chars value) ≡ Err reason
+canonical-err ask value reason u some refused =
+    canonical-chars ask value u some ∙ ap (λ parsed. and_then parsed (λ bytes. Ok (chars bytes))) refused
+
+-- ---- the URLs on which values are set are URLs
+
+pub dummy_is_parsed : (url : Parts) × (dummy_url ≡ Ok url)
+unfolding url_on_literals
+dummy_is_parsed = (_, refl)
+
+pub opaque_is_parsed : (url : Parts) × (parse_url None (codes "data:dummy,test") ≡ Ok url)
+unfolding url_on_literals
+opaque_is_parsed = (_, refl)
+
+-- so a refusal to parse one is want of memory
+pub only_memory : (asked : Parsed Parts) (url : Parts) (bytes : ℕ) (error : Error) → asked ≡ Ok url → bytes < long_text → MemoryOr (Tells asked bytes) error
+    → error_view error ≡ views.OutOfMemory
+only_memory asked url bytes error is_url few told =
+    elim told [ inl memory ↦ memory | inr refused ↦ none asked url bytes (error_view error) is_url few refused ]
+  where
+    none : (asked : Parsed Parts) (url : Parts) (bytes : ℕ) (view : ErrorView) → asked ≡ Ok url → bytes < long_text → Tells asked bytes view
+        → view ≡ views.OutOfMemory
+    none asked url bytes (views.Url reason) is_url few refused =
+        elim refused.1 [ inl same ↦ absurd cc | inr long ↦ absurd (omega (arith, long.1)) ]
+    none asked url bytes view is_url few refused = absurd refused
+
+out_of_memory : (error : Error) → error_view error ≡ views.OutOfMemory → error ≡ errors.OutOfMemory
+out_of_memory errors.OutOfMemory e = refl
+out_of_memory errors.BaseUrlRequired e = absurd cc
+out_of_memory errors.BaseUrlWithInit e = absurd cc
+out_of_memory (errors.Tokenizer fault place) e = absurd cc
+out_of_memory (errors.Parser (parser_errors.ExpectedToken expected found value)) e = absurd cc
+out_of_memory (errors.Parser (parser_errors.DuplicateName name)) e = absurd cc
+out_of_memory (errors.Url reason) e = absurd cc
+out_of_memory (errors.RegExp unit) e = absurd cc
+
+pub memory_alone : (asked : Parsed Parts) (url : Parts) (bytes : ℕ) (result : Result Parts Error) → asked ≡ Ok url → bytes < long_text
+    → IfErr result (MemoryOr (Tells asked bytes)) → IfErr result (λ error. error ≡ errors.OutOfMemory)
+memory_alone asked url bytes (Ok found) is_url few told = tt
+memory_alone asked url bytes (Err error) is_url few told = out_of_memory error (only_memory asked url bytes error is_url few told)
+
+-- ---- the test for an empty text
+
+pub is_empty-true : (bytes : List ℕ) (tested : Bool) → tested ≡ (length bytes == 0) → tested ≡ true → length bytes ≡ 0
+is_empty-true bytes tested is_tested e = grind arith
+
+pub is_empty-false : (bytes : List ℕ) (tested : Bool) → tested ≡ (length bytes == 0) → tested ≡ false → ¬ (length bytes ≡ 0)
+is_empty-false bytes tested is_tested e none = absurd (grind arith)
+
+-- ---- what a reference in an Option points to, or the empty text
+
+pub unwrapped-copied : (found : Option (Bor (List ℕ))) (text default : Bor (List ℕ)) (answer : Option (List ℕ)) → option_copied found ≡ answer
+    → default.now ≡ [] → text ≡ unwrap_or found default → text.now ≡ unwrap_or answer []
+unwrapped-copied None text default answer is_answer empty is_text =
+    ap (λ bor. bor.now) is_text ∙ empty ∙ ap (λ found. unwrap_or found []) is_answer
+unwrapped-copied (Some value) text default answer is_answer empty is_text =
+    ap (λ bor. bor.now) is_text ∙ ap (λ found. unwrap_or found []) is_answer
+
+-- ---- the first character of a text, and its first byte
+
+some_bytes : (c : ℕ) (rest : List ℕ) → 0 < length (encode_utf8 c ++ rest)
+some_bytes c rest = omega (arith, length-append (encode_utf8 c) rest, length-encode c, len_utf8_bounds c)
+
+first_byte : (mark : ℕ) (text bytes : List ℕ) → 0 < mark → mark < 128 → encode_utf8_all text ≡ bytes
+    → begins_with (λ c. c == mark) text ≡ (slice_index bytes 0 == mark)
+first_byte mark [] bytes some ascii e = rw (← e) (grind arith)
+first_byte mark (c ∷ text) bytes some ascii e =
+    let to = byte_from_char bytes (encode_utf8_all text) c (sym e) in
+    let from = char_from_byte bytes (encode_utf8_all text) c (sym e) in
+    let long : 0 < length bytes = subst (λ xs. 0 < length xs) e (some_bytes c (encode_utf8_all text)) in
+    elim (c == mark) as (λ same. c == mark ≡ same → same ≡ (slice_index bytes 0 == mark)) [
+      | true ↦ λ is. let first : slice_index bytes 0 ≡ c = to (grind arith) in grind arith
+      | false ↦ λ is. elim (slice_index bytes 0 == mark) as (λ same. slice_index bytes 0 == mark ≡ same → false ≡ same) [
+        | true ↦ λ at. let first : c ≡ slice_index bytes 0 = from (grind arith) long in absurd (grind arith)
+        | false ↦ λ at. refl
+      ] refl
+    ] refl
+
+pub begins_with-chars : (mark : ℕ) (bytes : List ℕ) → 0 < mark → mark < 128 → IsUtf8 bytes
+    → begins_with (λ c. c == mark) (chars bytes) ≡ (slice_index bytes 0 == mark)
+begins_with-chars mark bytes some ascii u = first_byte mark (chars bytes) bytes some ascii (encodes-chars bytes u)
+
+-- ---- the two ways of a path
+
+pub pathname_of-slash : (value : List ℕ) → (slice_index value 0 == slice_index (codes "/") 0) ≡ true → pathname_of value ≡ path_of dummy_url value
+pathname_of-slash value slash =
+    ap
+    (λ test. if test then path_of dummy_url value
+    else and_then (path_of dummy_url (codes "/-" ++ value)) (λ path. Ok (without_guard path)))
+    slash
+
+pub pathname_of-bare : (value : List ℕ) → (slice_index value 0 == slice_index (codes "/") 0) ≡ false
+    → pathname_of value ≡ and_then (path_of dummy_url (codes "/-" ++ value)) (λ path. Ok (without_guard path))
+pathname_of-bare value bare =
+    ap
+    (λ test. if test then path_of dummy_url value
+    else and_then (path_of dummy_url (codes "/-" ++ value)) (λ path. Ok (without_guard path)))
+    bare
+
+-- ---- the scheme of a port
+
+pub scheme_for_port-some : (bytes : List ℕ) → ¬ (chars bytes ≡ []) → chars bytes ≡ scheme_for_port (chars bytes)
+scheme_for_port-some bytes some = same (chars bytes) some
+  where
+    same : (text : List ℕ) → ¬ (text ≡ []) → text ≡ scheme_for_port text
+    same [] some = absurd (some refl)
+    same (c ∷ text) some = refl
+
+pub chars_dummy : chars (codes "dummy") ≡ codes "dummy"
+unfolding chars
+chars_dummy = refl
+
+-- the characters of what is there, or of the empty text
+pub unwrap_or-chars : (found : Option (List ℕ)) → unwrap_or (option_map chars found) [] ≡ chars (unwrap_or found [])
+unwrap_or-chars None = sym chars-nil
+unwrap_or-chars (Some value) = refl

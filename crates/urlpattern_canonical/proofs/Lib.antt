@@ -1,0 +1,3 @@
+pub mod CanonicalLemmas
+pub mod MarkLemmas
+pub mod SchemeLemmas

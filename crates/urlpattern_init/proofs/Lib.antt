@@ -1,0 +1,8 @@
+pub mod TokenPlaces
+pub mod SeenLemmas
+pub mod TextBetween
+pub mod SplitLemmas
+pub mod InheritanceLemmas
+pub mod Encodings
+pub mod SplitExamples
+pub mod SchemeLemmas

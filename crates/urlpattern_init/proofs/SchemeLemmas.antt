@@ -1,0 +1,92 @@
+-- Lemmas on the texts that a matcher is asked for, one after another.
+use Rattle.std.proofs.Common.{◌≡◌, ℕ, zero, suc, ◌+◌, ◌<◌, ◌≤◌, Bool, true, false, Option, Some, Result, Ok, Err, List, [], ◌∷◌, length, map, get_or, codes, Bor, sym, ap, ◌∙◌, subst, inl, inr, arith, refl}
+use Rattle.std.proofs.lemmas.Bool.{cases_eq, false≢true}
+use Rattle.std.proofs.lemmas.Option.{slice_get-get_or, slice_get_read}
+use Rattle.std.specs.List.{Any}
+use Rattle.std.specs.Prelude.{◌↔◌, IfOk, IsTrue, MatchBool}
+use Rattle.std.specs.Str.{chars}
+use Rattle.urlpattern_canonical.specs.Canonical.{special_schemes}
+use Rattle.urlpattern_init.specs.SpecialProtocol.{AcceptsSpecialScheme, IsSpecialBy, protocol_encoding}
+use Rattle.urlpattern_laws.specs.Matching.{IsMadeOf, MatcherView}
+use Rattle.urlpattern_laws.specs.PartMeaning.{Captures}
+use Rattle.urlpattern_syntax.specs.declared.error.Error.{Error}
+use Rattle.urlpattern_syntax.specs.Options.{OptionsView, default_options}
+use Rattle.urlpattern_syntax.specs.Parts.{PartView}
+use Rattle.urlpattern_syntax.specs.Reading.{Reads}
+
+-- a read does not depend on the value for want of an element
+same_read : {X : Type 0} → (xs : List X) (i : ℕ) (x d : X) → i < length xs → get_or xs i x ≡ x → get_or xs i d ≡ x
+same_read xs i x d within is =
+    let one = slice_get-get_or xs i d within in
+    let two = slice_get_read xs (length xs) i x refl within (sym is) in
+    let both : Some (get_or xs i d) ≡ Some x = sym one ∙ two in
+    cc
+
+-- what holds of no element before an index and not of that one holds of none before the next
+pub none_more : {X : Type 0} → (P : X → Type 0) (xs : List X) (i : ℕ) (d : X) → i < length xs → ((k : ℕ) (x : X) → k < i → get_or xs k x ≡ x → ¬ P x) → ¬ P (get_or xs i d) → (k : ℕ) (x : X) → k < i + 1 → get_or xs k x ≡ x → ¬ P x
+none_more P xs i d within before here k x less is p = elim (cases_eq k i) [
+  | inl same ↦ here (subst P (sym (same_read xs i x d within (ap (λ n. get_or xs n x) (sym same) ∙ is))) p)
+  | inr other ↦ before k x (omega arith) is p
+]
+
+pub none_all : {X : Type 0} → (P : X → Type 0) (xs : List X) (i : ℕ) → length xs ≤ i → ((k : ℕ) (x : X) → k < i → get_or xs k x ≡ x → ¬ P x) → ¬ Any P xs
+none_all P xs i past none any = none any.0 any.1 (let within = any.2 in omega arith) any.3 any.4
+
+-- ---- the special schemes
+
+-- one of some elements is so where one of what they show is
+any_shown : {X Y : Type 0} → (f : X → Y) (P : Y → Type 0) (xs : List X) → Any (λ x. P (f x)) xs → Any P (map f xs)
+any_shown f P [] any = absurd (omega (arith, any.2))
+any_shown {X} {Y} f P (x ∷ xs) any = shown any.0 any.1 any.2 any.3 any.4 (λ rest. any_shown f P xs rest)
+  where
+    shown : (k : ℕ) (y : X) → k < length (x ∷ xs) → get_or (x ∷ xs) k y ≡ y → P (f y) → (Any (λ z. P (f z)) xs → Any P (map f xs)) → Any P (map f (x ∷ xs))
+    shown zero y within is p again = (zero, f x, omega arith, refl, subst (λ z. P (f z)) (sym is) p)
+    shown (suc k) y within is p again =
+        let rest = again (k, y, omega arith, is, p) in
+        (suc rest.0, rest.1, (let less = rest.2 in omega arith), rest.3, rest.4)
+
+any_hidden : {X Y : Type 0} → (f : X → Y) (P : Y → Type 0) (xs : List X) → Any P (map f xs) → Any (λ x. P (f x)) xs
+any_hidden f P [] any = absurd (omega (arith, any.2))
+any_hidden {X} {Y} f P (x ∷ xs) any = hidden any.0 any.1 any.2 any.3 any.4 (λ rest. any_hidden f P xs rest)
+  where
+    hidden : (k : ℕ) (y : Y) → k < length (map f (x ∷ xs)) → get_or (map f (x ∷ xs)) k y ≡ y → P y → (Any P (map f xs) → Any (λ z. P (f z)) xs) → Any (λ z. P (f z)) (x ∷ xs)
+    hidden zero y within is p again = (zero, x, omega arith, refl, subst P (sym is) p)
+    hidden (suc k) y within is p again =
+        let rest = again (k, y, omega arith, is, p) in
+        (suc rest.0, rest.1, (let less = rest.2 in omega arith), rest.3, rest.4)
+
+-- what the code asks for are the special schemes
+pub schemes_shown : chars (codes "http") ∷ chars (codes "https") ∷ chars (codes "ws") ∷ chars (codes "wss") ∷ chars (codes "ftp") ∷ chars (codes "file") ∷ [] ≡ map (λ (s : List ℕ × Option (List ℕ)). s.0) special_schemes
+unfolding chars
+schemes_shown = refl
+
+-- a text of the code with its address
+abbrev pub lent : (ℕ × ℕ) → List ℕ → Bor (List ℕ)
+lent ptr text = record { ref_ptr = ptr; now = text }
+
+-- an answer on texts with the characters of the special schemes is one on these
+pub schemes_answer : (P : List ℕ → Type 0) (texts : List (Bor (List ℕ))) (answer : Result Bool Error) → map (λ (t : Bor (List ℕ)). chars t.now) texts ≡ map (λ (s : List ℕ × Option (List ℕ)). s.0) special_schemes → IfOk answer (λ accepted. MatchBool accepted (Any (λ (t : Bor (List ℕ)). P (chars t.now)) texts) (¬ Any (λ (t : Bor (List ℕ)). P (chars t.now)) texts)) → IfOk answer (λ accepted. IsTrue accepted ↔ Any (λ (s : List ℕ × Option (List ℕ)). P s.0) special_schemes)
+schemes_answer P texts (Err error) e h = tt
+schemes_answer P texts (Ok true) e h = (
+  (λ accepted. any_hidden (λ (s : List ℕ × Option (List ℕ)). s.0) P special_schemes (subst (Any P) e (any_shown (λ (t : Bor (List ℕ)). chars t.now) P texts h))),
+  (λ any. refl),
+)
+schemes_answer P texts (Ok false) e h = (
+  (λ accepted. absurd (false≢true accepted)),
+  (λ any. absurd (h (any_hidden (λ (t : Bor (List ℕ)). chars t.now) P texts (subst (Any P) (sym e) (any_shown (λ (s : List ℕ × Option (List ℕ)). s.0) P special_schemes any))))),
+)
+
+-- the answer on special schemes, for the parts that a protocol reads as and the matcher that is made of them
+pub special_from : {E : Type 0} → (IsMade : E → (regexp flags : List ℕ) → Type 0) (MayRefuse : (regexp flags : List ℕ) → Type 0) (answer : E → List ℕ → Option Captures) (protocol flags : List ℕ) (options : OptionsView) (parts these : List PartView) (matcher : MatcherView E) (found : Result Bool Error) → options ≡ default_options → flags ≡ codes "u" → these ≡ parts → Reads protocol options protocol_encoding parts → IsMadeOf IsMade MayRefuse options flags these matcher → IfOk found (λ special. IsTrue special ↔ AcceptsSpecialScheme answer matcher) → IfOk found (IsSpecialBy IsMade MayRefuse answer protocol)
+special_from IsMade MayRefuse answer protocol flags options parts these matcher (Err error) e f same reads made tells = tt
+special_from IsMade MayRefuse answer protocol flags options parts these matcher (Ok special) e f same reads made tells = record {
+  parts = parts;
+  matcher = matcher;
+  reads = subst (λ o. Reads protocol o protocol_encoding parts) e reads;
+  is_made = subst (λ o. IsMadeOf IsMade MayRefuse o (codes "u") parts matcher) e (subst (λ u. IsMadeOf IsMade MayRefuse options u parts matcher) f (subst (λ ps. IsMadeOf IsMade MayRefuse options flags ps matcher) same made));
+  tells = tells;
+}
+
+pub chars_flags : chars (codes "u") ≡ codes "u"
+unfolding chars
+chars_flags = refl

@@ -1,0 +1,38 @@
+-- What parsing a constructor string answers.
+use Rattle.std.specs.Prelude.{◌≡◌, ℕ, ◌*◌, ◌≤◌, ◌⊎◌, Bool, List, Option, None, length, option_map}
+use Rattle.url.specs.declared.Url.{Url}
+use Rattle.urlpattern_init.specs.SpecialProtocol.{RefusesProtocol}
+use Rattle.urlpattern_init.specs.Split.{Components, HasProtocol, IsSplit, LacksProtocol}
+use Rattle.urlpattern_init.specs.declared.init.UrlPatternInit.{UrlPatternInit}
+use Rattle.urlpattern_syntax.specs.Errors.{ErrorView}
+use Rattle.urlpattern_syntax.specs.Errors.{ErrorView as views}
+use Rattle.urlpattern_syntax.specs.Text.{text_of}
+use Rattle.urlpattern_syntax.specs.Tokens.{AreLenientTokens, TokenView}
+
+-- the components of an init
+abbrev pub init_components : UrlPatternInit → Components
+init_components init = record {
+  protocol = option_map text_of init.protocol;
+  username = option_map text_of init.username;
+  password = option_map text_of init.password;
+  hostname = option_map text_of init.hostname;
+  port = option_map text_of init.port;
+  pathname = option_map text_of init.pathname;
+  search = option_map text_of init.search;
+  hash = option_map text_of init.hash;
+}
+
+-- The text is split into these components, at so many turns: at most two for each of its lenient tokens.
+abbrev pub SplitsInto : (IsSpecial : List ℕ → Bool → Type 0) → (text : List ℕ) → Components → (turns : ℕ) → Type 0
+SplitsInto IsSpecial text components turns =
+    (tokens : List TokenView) × AreLenientTokens text tokens × IsSplit IsSpecial text tokens components × (turns ≤ 2 * length tokens)
+
+-- The text is refused with this error: that of its protocol, or that it has neither a protocol nor a base.
+abbrev pub RefusesString : (text : List ℕ) → (base_url : Option Url) → ErrorView → Type 0
+RefusesString text base_url error =
+    HasProtocol text (λ protocol. RefusesProtocol protocol error)
+    ⊎ (LacksProtocol text × (base_url ≡ None) × (error ≡ views.BaseUrlRequired))
+
+-- there is a protocol or a base
+abbrev pub HasProtocolOrBase : UrlPatternInit → Type 0
+HasProtocolOrBase init = ¬ ((init.protocol ≡ None) × (init.base_url ≡ None))

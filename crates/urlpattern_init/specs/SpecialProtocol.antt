@@ -1,0 +1,37 @@
+-- Whether the protocol of a constructor string is special, after the URLPattern Standard, section "Compute protocol
+-- matches a special scheme flag".
+use Rattle.std.specs.Prelude.{ℕ, ◌↔◌, Bool, List, Any, IsTrue, Option, Result, String, codes, length}
+use Rattle.std.specs.Str.{chars}
+use Rattle.std.specs.declared.alloc.Global.{Global}
+use Rattle.urlpattern_canonical.specs.Canonical.{IsAnswer, canonical_protocol, special_schemes}
+use Rattle.urlpattern_laws.specs.Matching.{IsMadeOf, IsMatched, MatcherView}
+use Rattle.urlpattern_laws.specs.PartMeaning.{Captures}
+use Rattle.urlpattern_syntax.specs.declared.error.Error.{Error}
+use Rattle.urlpattern_syntax.specs.Errors.{ErrorView}
+use Rattle.urlpattern_syntax.specs.Options.{default_options}
+use Rattle.urlpattern_syntax.specs.Parts.{PartView}
+use Rattle.urlpattern_syntax.specs.Reading.{Encoding, Reads, Refuses, encoding_of}
+
+-- what `canonicalize_protocol` may return for the bytes of a text
+abbrev pub CanonicalizesProtocol : List ℕ → Result (String Global) Error → Type 0
+CanonicalizesProtocol bytes returned = IsAnswer (canonical_protocol (chars bytes)) (length bytes) returned
+
+abbrev pub protocol_encoding : Encoding
+protocol_encoding = encoding_of CanonicalizesProtocol
+
+-- the matcher accepts one of the special schemes, where engines' values answer in this way
+abbrev pub AcceptsSpecialScheme : {E : Type 0} → (answer : E → List ℕ → Option Captures) → MatcherView E → Type 0
+AcceptsSpecialScheme answer matcher = Any (λ scheme. IsMatched answer matcher scheme.0) special_schemes
+
+-- The pattern of a protocol is compiled under the default options, and its matcher tells whether it is special. Engines'
+-- values are made, regular expressions refused, and texts answered in this way.
+pub record IsSpecialBy {E : Type 0} (IsMade : E → (regexp flags : List ℕ) → Type 0) (MayRefuse : (regexp flags : List ℕ) → Type 0) (answer : E → List ℕ → Option Captures) (protocol : List ℕ) (special : Bool) : Type 0 where
+  pub parts : List PartView
+  pub matcher : MatcherView E
+  pub reads : Reads protocol default_options protocol_encoding parts
+  pub is_made : IsMadeOf IsMade MayRefuse default_options (codes "u") parts matcher
+  pub tells : IsTrue special ↔ AcceptsSpecialScheme answer matcher
+
+-- the pattern of a protocol is refused with this error
+abbrev pub RefusesProtocol : List ℕ → ErrorView → Type 0
+RefusesProtocol protocol error = Refuses protocol default_options protocol_encoding error

@@ -1,0 +1,284 @@
+-- The components of a constructor string, after the URLPattern Standard, section "Constructor string parsing".
+use Rattle.std.specs.Prelude.{◌≡◌, ℕ, zero, suc, ◌+◌, ◌-◌, ◌<◌, ◌≤◌, ◌⊎◌, Bool, true, false, not, ◌&&◌, ◌||◌, ◌==◌, List, [], ◌++◌, length, codes, Option, Some, None, IsTrue, IsSomeAnd, slice_get, slice_range}
+use Rattle.std.specs.List.{count_by, fold, range_with_len}
+use Rattle.std.specs.Option.{option_map_or}
+use Rattle.std.specs.Str.{bytes_eq}
+use Rattle.urlpattern_init.specs.declared.constructor_parser.Section.{Section}
+use Rattle.urlpattern_init.specs.declared.constructor_parser.Section.TheVariants.{Protocol, Authority, Username, Password, Hostname, Port, Pathname, Search, Hash}
+use Rattle.urlpattern_syntax.specs.declared.tokenizer.TokenType.{TokenType}
+use Rattle.urlpattern_syntax.specs.declared.tokenizer.TokenType.TheVariants.{Asterisk, Char, Close, End, EscapedChar, InvalidChar, Name, Open, Regexp}
+use Rattle.urlpattern_syntax.specs.Text.{byte_len}
+use Rattle.urlpattern_syntax.specs.Tokens.{AreLenientTokens, TokenView}
+
+-- ---- the token at a place
+
+-- A place is the index of a token. The token there passes the test.
+abbrev pub at : (TokenView → Bool) → List TokenView → ℕ → Bool
+at test tokens place = option_map_or test (slice_get tokens place) false
+
+abbrev pub is_open : TokenType → Bool
+is_open Open = true
+is_open kind = false
+
+abbrev pub is_end : TokenType → Bool
+is_end End = true
+is_end kind = false
+
+-- the End token stands there
+abbrev pub ends_at : List TokenView → ℕ → Bool
+ends_at tokens place = at (λ token. is_end token.kind) tokens place
+
+-- ---- signs
+
+-- a token of this kind stands for one character as it is
+abbrev pub is_character : TokenType → Bool
+is_character Char = true
+is_character EscapedChar = true
+is_character InvalidChar = true
+is_character kind = false
+
+-- the token stands for this character
+abbrev pub is_sign : (mark : List ℕ) → TokenView → Bool
+is_sign mark token = is_character token.kind && bytes_eq token.value mark
+
+-- a colon, behind a protocol, a username or a hostname
+abbrev pub is_colon : List TokenView → ℕ → Bool
+is_colon tokens place = at (is_sign (codes ":")) tokens place
+
+-- what stands between a password or a username and the hostname
+abbrev pub is_at_sign : List TokenView → ℕ → Bool
+is_at_sign tokens place = at (is_sign (codes "@")) tokens place
+
+-- a slash, two of which begin an authority, and one a pathname
+abbrev pub is_slash : List TokenView → ℕ → Bool
+is_slash tokens place = at (is_sign (codes "/")) tokens place
+
+-- what begins the hash
+abbrev pub is_hash_sign : List TokenView → ℕ → Bool
+is_hash_sign tokens place = at (is_sign (codes "#")) tokens place
+
+-- the square brackets of an IPv6 address
+abbrev pub is_open_bracket : List TokenView → ℕ → Bool
+is_open_bracket tokens place = at (is_sign (codes "[")) tokens place
+
+abbrev pub is_close_bracket : List TokenView → ℕ → Bool
+is_close_bracket tokens place = at (is_sign (codes "]")) tokens place
+
+-- a question mark behind a token of this kind is a modifier
+abbrev pub takes_modifier : TokenType → Bool
+takes_modifier Name = true
+takes_modifier Regexp = true
+takes_modifier Close = true
+takes_modifier Asterisk = true
+takes_modifier kind = false
+
+-- the token before the place takes a question mark there as a modifier
+abbrev pub follows_modified : List TokenView → ℕ → Bool
+follows_modified tokens zero = false
+follows_modified tokens (suc before) = at (λ token. takes_modifier token.kind) tokens before
+
+-- what begins the search: a question mark as a character, or one that is no modifier
+abbrev pub is_search_sign : List TokenView → ℕ → Bool
+is_search_sign tokens place =
+    at (is_sign (codes "?")) tokens place
+    || (at (λ token. bytes_eq token.value (codes "?")) tokens place && not (follows_modified tokens place))
+
+-- ---- which tokens are seen
+
+-- the depth of groups behind a token: an open brace adds one, a closing one takes one off where there is one
+abbrev pub depth_behind : TokenType → ℕ → ℕ
+depth_behind Open depth = depth + 1
+depth_behind Close depth = depth - 1
+depth_behind kind depth = depth
+
+-- the depth before a place, where it is `depth` before the token at `from`
+abbrev pub depth_before : List TokenView → (from depth place : ℕ) → ℕ
+depth_before tokens from depth place = fold (λ reached token. depth_behind token.kind reached) depth (slice_range tokens from place)
+
+-- End is seen, and a token outside of all groups that opens none
+abbrev pub is_seen : List TokenView → (from depth place : ℕ) → Bool
+is_seen tokens from depth place =
+    ends_at tokens place || (not (at (λ token. is_open token.kind) tokens place) && depth_before tokens from depth place == 0)
+
+-- how many tokens from one place up to another are seen and stand for this character
+abbrev pub count_seen : (mark : List ℕ) → List TokenView → (from depth place : ℕ) → ℕ
+count_seen mark tokens from depth place =
+    count_by (λ other. is_seen tokens from depth other && at (is_sign mark) tokens other) (range_with_len from (place - from))
+
+-- as many square brackets were opened as closed
+abbrev pub is_balanced : List TokenView → (from depth place : ℕ) → Bool
+is_balanced tokens from depth place =
+    count_seen (codes "[") tokens from depth place == count_seen (codes "]") tokens from depth place
+
+-- ---- where a section ends
+
+-- the signs with which a section ends; `balanced` says that a colon there stands outside of square brackets
+abbrev pub is_ending : Section → (balanced : Bool) → List TokenView → ℕ → Bool
+is_ending Protocol balanced tokens place = is_colon tokens place
+is_ending Authority balanced tokens place =
+    is_at_sign tokens place || is_slash tokens place || is_search_sign tokens place || is_hash_sign tokens place
+is_ending Username balanced tokens place = is_colon tokens place || is_at_sign tokens place
+is_ending Password balanced tokens place = is_at_sign tokens place
+is_ending Hostname balanced tokens place =
+    (balanced && is_colon tokens place) || is_slash tokens place || is_search_sign tokens place || is_hash_sign tokens place
+is_ending Port balanced tokens place = is_slash tokens place || is_search_sign tokens place || is_hash_sign tokens place
+is_ending Pathname balanced tokens place = is_search_sign tokens place || is_hash_sign tokens place
+is_ending Search balanced tokens place = is_hash_sign tokens place
+is_ending Hash balanced tokens place = false
+
+-- a section that begins at `from`, where the depth is `depth`, may end at the place
+abbrev pub may_end : Section → List TokenView → (from depth place : ℕ) → Bool
+may_end section tokens from depth place =
+    is_seen tokens from depth place && is_ending section (is_balanced tokens from depth place) tokens place
+
+-- The section that begins at `from`, where the depth is `depth`, ends here: at the least place where it may, else at End.
+pub record EndsAt (section : Section) (tokens : List TokenView) (from depth place : ℕ) : Type 0 where
+  pub behind : from ≤ place
+  pub within : place < length tokens
+  pub stops : IsTrue (may_end section tokens from depth place || ends_at tokens place)
+  pub least : (other : ℕ) → from ≤ other → other < place → ¬ IsTrue (may_end section tokens from depth other)
+
+-- ---- components
+
+-- The eight components, as far as the string has them.
+pub record Components : Type 0 where
+  pub protocol : Option (List ℕ)
+  pub username : Option (List ℕ)
+  pub password : Option (List ℕ)
+  pub hostname : Option (List ℕ)
+  pub port : Option (List ℕ)
+  pub pathname : Option (List ℕ)
+  pub search : Option (List ℕ)
+  pub hash : Option (List ℕ)
+
+-- The text from the index of one token up to that of another.
+pub record IsTextBetween (text : List ℕ) (tokens : List TokenView) (from until : ℕ) (between : List ℕ) : Type 0 where
+  pub front : List ℕ
+  pub rest : List ℕ
+  pub cut : text ≡ front ++ between ++ rest
+  pub begins : IsSomeAnd (slice_get tokens from) (λ token. token.index ≡ byte_len front)
+  pub ends : IsSomeAnd (slice_get tokens until) (λ token. token.index ≡ byte_len front + byte_len between)
+
+abbrev pub Takes : (text : List ℕ) → List TokenView → (from until : ℕ) → Option (List ℕ) → Type 0
+Takes text tokens from until component = IsSomeAnd component (IsTextBetween text tokens from until)
+
+-- the hash begins there and goes on to End
+abbrev pub HashFrom : (text : List ℕ) → List TokenView → (from : ℕ) → Components → Type 0
+HashFrom text tokens from components = (until : ℕ) × IsTrue (ends_at tokens until) × Takes text tokens from until components.hash
+
+-- a hash begins behind the sign for it, and there is none at End
+abbrev pub HashAt : (text : List ℕ) → List TokenView → (place : ℕ) → Components → Type 0
+HashAt text tokens place components =
+    (IsTrue (is_hash_sign tokens place) × HashFrom text tokens (place + 1) components)
+    ⊎ (IsTrue (ends_at tokens place) × (components.hash ≡ None))
+
+-- the search begins there, and ends at the sign of the hash or at End
+abbrev pub SearchFrom : (text : List ℕ) → List TokenView → (from depth : ℕ) → Components → Type 0
+SearchFrom text tokens from depth components =
+    (until : ℕ) × EndsAt Search tokens from depth until × Takes text tokens from until components.search × HashAt text tokens until components
+
+-- a search begins behind the sign for it; where the hash begins without one, it is empty
+abbrev pub SearchAt : (text : List ℕ) → List TokenView → (place : ℕ) → Components → Type 0
+SearchAt text tokens place components =
+    (IsTrue (is_search_sign tokens place) × SearchFrom text tokens (place + 1) 0 components)
+    ⊎ (IsTrue (is_hash_sign tokens place) × (components.search ≡ Some []) × HashFrom text tokens (place + 1) components)
+    ⊎ (IsTrue (ends_at tokens place) × (components.search ≡ None) × (components.hash ≡ None))
+
+-- the pathname begins there, and ends at the sign of the search or of the hash or at End
+abbrev pub PathnameFrom : (text : List ℕ) → List TokenView → (from depth : ℕ) → Components → Type 0
+PathnameFrom text tokens from depth components =
+    (until : ℕ) × EndsAt Pathname tokens from depth until × Takes text tokens from until components.pathname × SearchAt text tokens until components
+
+-- the pathname where a search or a hash begins without one: a slash if the protocol is special, else nothing
+abbrev pub implied_pathname : (special : Bool) → List ℕ
+implied_pathname true = codes "/"
+implied_pathname false = []
+
+-- behind a hostname or a port a pathname begins with its slash
+abbrev pub PathnameAt : (text : List ℕ) → List TokenView → (special : Bool) → (place : ℕ) → Components → Type 0
+PathnameAt text tokens special place components =
+    (IsTrue (is_slash tokens place) × PathnameFrom text tokens place 0 components)
+    ⊎ (IsTrue (is_search_sign tokens place || is_hash_sign tokens place) × (components.pathname ≡ Some (implied_pathname special))
+    × SearchAt text tokens place components)
+    ⊎ (IsTrue (ends_at tokens place) × (components.pathname ≡ None) × (components.search ≡ None) × (components.hash ≡ None))
+
+-- the port follows a colon; without one it is empty
+abbrev pub PortAt : (text : List ℕ) → List TokenView → (special : Bool) → (place : ℕ) → Components → Type 0
+PortAt text tokens special place components =
+    (IsTrue (is_colon tokens place)
+    × ((until : ℕ) × EndsAt Port tokens (place + 1) 0 until × Takes text tokens (place + 1) until components.port
+    × PathnameAt text tokens special until components))
+    ⊎ (¬ IsTrue (is_colon tokens place) × (components.port ≡ Some []) × PathnameAt text tokens special place components)
+
+-- the hostname begins there
+abbrev pub HostnameFrom : (text : List ℕ) → List TokenView → (special : Bool) → (from depth : ℕ) → Components → Type 0
+HostnameFrom text tokens special from depth components =
+    (until : ℕ) × EndsAt Hostname tokens from depth until × Takes text tokens from until components.hostname
+    × PortAt text tokens special until components
+
+-- the username ends at a colon or at the sign of the hostname, and the password lies between these two
+abbrev pub UserinfoFrom : (text : List ℕ) → List TokenView → (from until : ℕ) → Components → Type 0
+UserinfoFrom text tokens from until components =
+    (place : ℕ) × EndsAt Username tokens from 0 place × Takes text tokens from place components.username
+    × (((place ≡ until) × (components.password ≡ None))
+    ⊎ ((place < until) × Takes text tokens (place + 1) until components.password))
+
+-- The authority begins there: a username and a password if it ends at the sign for them, and the hostname. Else the
+-- hostname begins where it does, at the depth that was reached at its end.
+abbrev pub AuthorityFrom : (text : List ℕ) → List TokenView → (special : Bool) → (from : ℕ) → Components → Type 0
+AuthorityFrom text tokens special from components =
+    (until : ℕ) × EndsAt Authority tokens from 0 until
+    × ((IsTrue (is_at_sign tokens until) × UserinfoFrom text tokens from until components
+    × HostnameFrom text tokens special (until + 1) 0 components)
+    ⊎ (¬ IsTrue (is_at_sign tokens until) × (components.username ≡ None) × (components.password ≡ None)
+    × HostnameFrom text tokens special from (depth_before tokens from 0 until) components))
+
+-- ---- the whole string
+
+-- no protocol: the first token tells where the hash, the search or else the pathname begins
+pub record IsRelativeSplit (text : List ℕ) (tokens : List TokenView) (components : Components) : Type 0 where
+  pub until : ℕ
+  pub no_colon : EndsAt Protocol tokens 0 0 until
+  pub is_end : IsTrue (ends_at tokens until)
+  pub begins :
+      (IsTrue (is_hash_sign tokens 0) × (components.pathname ≡ None) × (components.search ≡ None) × HashFrom text tokens 1 components)
+      ⊎ (IsTrue (is_search_sign tokens 0) × (components.pathname ≡ None)
+      × SearchFrom text tokens 1 (depth_before tokens 0 0 until) components)
+      ⊎ (¬ IsTrue (is_hash_sign tokens 0 || is_search_sign tokens 0)
+      × PathnameFrom text tokens 0 (depth_before tokens 0 0 until) components)
+  pub nothing_before : (components.protocol ≡ None) × (components.username ≡ None) × (components.password ≡ None)
+      × (components.hostname ≡ None) × (components.port ≡ None)
+
+-- two slashes follow the place
+abbrev pub has_slashes : List TokenView → ℕ → Bool
+has_slashes tokens place = is_slash tokens (place + 1) && is_slash tokens (place + 2)
+
+-- Behind the protocol stands an authority if slashes or a special protocol tell so, else a pathname with an empty hostname.
+pub record IsAbsoluteSplit (text : List ℕ) (tokens : List TokenView) (special : Bool) (colon : ℕ) (components : Components) : Type 0 where
+  pub is_colon_there : IsTrue (is_colon tokens colon)
+  pub protocol_ends : EndsAt Protocol tokens 0 0 colon
+  pub protocol : Takes text tokens 0 colon components.protocol
+  pub behind :
+      (IsTrue (has_slashes tokens colon) × AuthorityFrom text tokens special (colon + 3) components)
+      ⊎ (IsTrue (not (has_slashes tokens colon) && special) × AuthorityFrom text tokens special (colon + 1) components)
+      ⊎ (IsTrue (not (has_slashes tokens colon) && not special) × (components.username ≡ None) × (components.password ≡ None)
+      × (components.hostname ≡ Some []) × (components.port ≡ Some []) × PathnameFrom text tokens (colon + 1) 0 components)
+
+-- These are the components of the text, whose tokens these are. `IsSpecial` relates the text of a protocol to whether it
+-- is special.
+abbrev pub IsSplit : (IsSpecial : List ℕ → Bool → Type 0) → (text : List ℕ) → List TokenView → Components → Type 0
+IsSplit IsSpecial text tokens components =
+    IsRelativeSplit text tokens components
+    ⊎ ((colon : ℕ) × (special : Bool) × IsAbsoluteSplit text tokens special colon components
+    × IsSomeAnd components.protocol (λ protocol. IsSpecial protocol special))
+
+-- no protocol is found in the text
+abbrev pub LacksProtocol : (text : List ℕ) → Type 0
+LacksProtocol text =
+    (tokens : List TokenView) × (until : ℕ) × AreLenientTokens text tokens × EndsAt Protocol tokens 0 0 until × IsTrue (ends_at tokens until)
+
+-- the text has a protocol, and this holds of it
+abbrev pub HasProtocol : (text : List ℕ) → (Is : List ℕ → Type 0) → Type 0
+HasProtocol text Is =
+    (tokens : List TokenView) × (colon : ℕ) × (protocol : List ℕ) × AreLenientTokens text tokens
+    × EndsAt Protocol tokens 0 0 colon × IsTrue (is_colon tokens colon) × IsTextBetween text tokens 0 colon protocol × Is protocol

@@ -1,0 +1,73 @@
+-- Words of the private contracts of the splitting of a constructor string. No public contract cites them.
+use Rattle.std.specs.Prelude.{◌≡◌, ℕ, ◌+◌, ◌-◌, ◌*◌, ◌<◌, ◌≤◌, Bool, true, false, List, length, None, IsTrue}
+use Rattle.std.specs.Str.{chars}
+use Rattle.urlpattern_init.specs.Split.{Components, ends_at, is_seen, is_slash}
+use Rattle.urlpattern_init.specs.declared.constructor_parser.Place.{Place}
+use Rattle.urlpattern_init.specs.declared.constructor_parser.Section.{Section}
+use Rattle.urlpattern_init.specs.declared.constructor_parser.Section.TheVariants.{Hostname}
+use Rattle.urlpattern_init.specs.declared.constructor_parser.Source.{Source}
+use Rattle.urlpattern_init.specs.declared.constructor_parser.Split.{Split}
+use Rattle.urlpattern_syntax.specs.Parsing.{name_view, views}
+use Rattle.urlpattern_syntax.specs.Tokens.{AreLenientTokens, TokenView}
+
+-- the text of a source, and its tokens
+abbrev pub text_of_source : Source → List ℕ
+text_of_source source = chars source.input.now
+
+abbrev pub tokens_of : Source → List TokenView
+tokens_of source = views source.tokens.now
+
+-- the components that were found
+abbrev pub components_of : Split → Components
+components_of split = record {
+  protocol = name_view split.protocol;
+  username = name_view split.username;
+  password = name_view split.password;
+  hostname = name_view split.hostname;
+  port = name_view split.port;
+  pathname = name_view split.pathname;
+  search = name_view split.search;
+  hash = name_view split.hash;
+}
+
+-- The tokens are those of the text.
+abbrev pub IsSource : Source → Type 0
+IsSource source = AreLenientTokens (text_of_source source) (tokens_of source)
+
+-- Reading may go on at the place, and a look at each token from there on keeps within twice the number of tokens.
+pub record CanRead (source : Source) (place : Place) : Type 0 where
+  pub within : place.index < length source.tokens.now
+  pub shallow : place.depth ≤ length source.tokens.now
+  pub turns : place.turns + (length source.tokens.now - place.index) ≤ 2 * length source.tokens.now
+
+-- The same where the token at the place was looked at.
+pub record HasRead (source : Source) (place : Place) : Type 0 where
+  pub within : place.index < length source.tokens.now
+  pub turns : place.turns + (length source.tokens.now - place.index) ≤ 2 * length source.tokens.now + 1
+
+-- a slash that is seen from the place on is looked at a second time
+abbrev pub HasTurnForSlash : Source → (index depth turns : ℕ) → Type 0
+HasTurnForSlash source index depth turns =
+    (other : ℕ) → index ≤ other → IsTrue (is_seen (tokens_of source) index depth other) → IsTrue (is_slash (tokens_of source) other)
+    → turns + (length source.tokens.now - index) ≤ 2 * length source.tokens.now
+
+-- the section in which square brackets are counted
+abbrev pub is_hostname : Section → Bool
+is_hostname Hostname = true
+is_hostname section = false
+
+-- End is the last token, and only the last.
+pub record IsClosed (tokens : List TokenView) : Type 0 where
+  pub last : (place : ℕ) → place < length tokens → IsTrue (ends_at tokens place) → place + 1 ≡ length tokens
+  pub goes_on : (place : ℕ) → place < length tokens → ¬ IsTrue (ends_at tokens place) → place + 1 < length tokens
+
+-- nothing stands before a pathname, a search or a hash
+abbrev pub NoAuthority : Components → Type 0
+NoAuthority components = (components.protocol ≡ None) × (components.username ≡ None) × (components.password ≡ None)
+    × (components.hostname ≡ None) × (components.port ≡ None)
+
+abbrev pub NoPathname : Components → Type 0
+NoPathname components = NoAuthority components × (components.pathname ≡ None)
+
+abbrev pub NoSearch : Components → Type 0
+NoSearch components = NoPathname components × (components.search ≡ None)

@@ -1,0 +1,9 @@
+//! What a pattern is built of: the patterns of a URL's components, cut out of one string or given one by one, with what they
+//! inherit from a base URL.
+#![tactic(auto)]
+
+mod constructor_parser;
+mod init;
+
+pub use constructor_parser::accepts_special_scheme;
+pub use init::{Component, UrlPatternInit, UrlPatternMatchInput, given, process, url_text};
