@@ -6,8 +6,6 @@ mod engines;
 mod recorded;
 mod replay;
 mod report;
-#[cfg(test)]
-mod rows;
 mod timing;
 
 use std::process::ExitCode;

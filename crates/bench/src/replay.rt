@@ -1,7 +1,7 @@
 //! Asks the library what was asked when a case was recorded, and compares the answers.
 
-pub mod compiled;
-pub mod components;
+mod compiled;
+mod components;
 mod constructors;
 mod engines;
 mod matchers;

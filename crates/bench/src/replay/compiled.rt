@@ -40,7 +40,7 @@ fn is_same_over<R: RegExp>(
 }
 
 /// The component of a pattern, or of none, whose texts stay as they are.
-pub fn component_of<R: RegExp>(
+fn component_of<R: RegExp>(
     alloc: Global,
     pattern: Option<&str>,
     options: Options,

@@ -1,11 +1,11 @@
 //! What is printed of each kind of faulty pattern.
 
-use super::parts_of;
+use crate::parts::parts_of;
 use std::alloc::Global;
 use std::process::Abort;
 use std::test::Fail;
-use urlpattern::Error;
-use urlpattern::parser::Options;
+use urlpattern_core::Error;
+use urlpattern_core::parser::Options;
 
 /// Compares what is printed of the error of a pattern under the default options.
 fn expect_refusal(

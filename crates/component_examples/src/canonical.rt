@@ -2,8 +2,8 @@
 
 use std::test::Fail;
 use url::ParseError;
-use urlpattern::Error;
-use urlpattern::canonicalize_and_process::{
+use urlpattern_core::Error;
+use urlpattern_canonical::canonicalize_and_process::{
     ProcessType, canonicalize_an_opaque_pathname, canonicalize_hash, canonicalize_hostname,
     canonicalize_ipv6_hostname, canonicalize_password, canonicalize_pathname, canonicalize_port,
     canonicalize_protocol, canonicalize_search, canonicalize_username, escape_pattern_string,

@@ -36,18 +36,6 @@ fn groups_capture_without_the_whole_match(rt: HostRuntime) -> Result<(), Fail> {
 }
 
 #[test]
-fn regex_keeps_its_text_and_refuses_a_bad_one(rt: HostRuntime) -> Result<(), Fail> {
-    let alloc = rt.alloc();
-    let regex = <Regex as RegExp>::parse(alloc, "b(c)", "u", false)?;
-    assert_eq!(rt; regex.pattern_string(), "b(c)");
-    for force_eval in [false, true] {
-        let refused = <Regex as RegExp>::parse(alloc, "a(", "u", force_eval);
-        assert!(rt; matches!(refused, Err(RegExpError::Pattern)));
-    }
-    Ok(())
-}
-
-#[test]
 fn ecma_regexp_refuses_a_bad_text_only_when_asked(rt: HostRuntime) -> Result<(), Fail> {
     let alloc = rt.alloc();
     let kept = EcmaRegexp::parse(alloc, "a(", "u", false)?;

@@ -1,14 +1,14 @@
 //! What generated regular expressions match and capture, over the crate `regex`.
 
-use super::parts_of;
+use crate::parts::parts_of;
 use regex::Regex;
 use std::alloc::Global;
 use std::process::Abort;
 use std::test::Fail;
-use urlpattern::Error;
-use urlpattern::component::{generate_matcher, generate_regular_expression_and_name_list};
-use urlpattern::matcher::{InnerMatcher, Matcher};
-use urlpattern::parser::Options;
+use urlpattern_core::Error;
+use urlpattern_core::component::{generate_matcher, generate_regular_expression_and_name_list};
+use urlpattern_core::matcher::{InnerMatcher, Matcher};
+use urlpattern_core::parser::Options;
 
 /// A pattern, a text that it matches, and its one capture, which may be missing.
 type Row<'a> = (&'a str, &'a str, Option<&'a str>);

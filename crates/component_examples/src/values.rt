@@ -1,9 +1,9 @@
 //! Copies, comparisons, defaults and written forms of the plain types.
 
 use std::test::Fail;
-use urlpattern::RegexSyntax;
-use urlpattern::parser::{Options, PartModifier, PartType};
-use urlpattern::tokenizer::{TokenType, TokenizePolicy, tokenize};
+use urlpattern_core::RegexSyntax;
+use urlpattern_core::parser::{Options, PartModifier, PartType};
+use urlpattern_core::tokenizer::{TokenType, TokenizePolicy, tokenize};
 
 #[test]
 fn a_copy_of_options_has_each_field(rt: HostRuntime) -> Result<(), Fail> {

@@ -1,10 +1,10 @@
 //! Constructor strings: their components, and how many looks at a token they take.
 
+use crate::inits::{base_of, texts_of, url_of};
 use regex::Regex;
 use std::alloc::{AllocError, Global};
 use std::process::Abort;
 use std::test::Fail;
-use url::Url;
 use urlpattern::error::{RegexFault, TokenizerError};
 use urlpattern::tokenizer::{TokenType, TokenizePolicy, tokenize};
 use urlpattern::{Error, UrlPatternInit};
@@ -20,49 +20,28 @@ fn parse(
     base: Option<&str>,
 ) -> Result<(UrlPatternInit, usize), Error> {
     let base_url = match base {
-        Some(text) => Some(Url::parse(alloc, text).map_err(Error::Url)?),
+        Some(text) => Some(url_of(alloc, text)?),
         None => None,
     };
     UrlPatternInit::parse_constructor_string_counted::<Regex>(alloc, pattern, base_url)
 }
 
-/// The text of a component.
-fn text(component: &Option<String>) -> Option<&str> {
-    match component {
-        Some(text) => Some(text.as_str()),
-        None => None,
-    }
+/// Why a constructor string is refused that has no base URL.
+fn refusal(alloc: Global, pattern: &str) -> Option<Error> {
+    parse(alloc, pattern, None).err()
 }
 
-/// Compares the components of a constructor string.
+/// Compares the components of a constructor string, and the base URL that is kept.
 fn expect_components(
     rt: &impl Abort,
     alloc: Global,
     base: Option<&str>,
     row: Row<'_>,
-) -> Result<(), Fail> {
-    let (
-        pattern,
-        [
-            protocol,
-            username,
-            password,
-            hostname,
-            port,
-            pathname,
-            search,
-            hash,
-        ],
-    ) = row;
+) -> Result<(), Error> {
+    let (pattern, components) = row;
     let (init, _) = parse(alloc, pattern, base)?;
-    assert_eq!(rt; text(&init.protocol), protocol, "protocol of {pattern:?}");
-    assert_eq!(rt; text(&init.username), username, "username of {pattern:?}");
-    assert_eq!(rt; text(&init.password), password, "password of {pattern:?}");
-    assert_eq!(rt; text(&init.hostname), hostname, "hostname of {pattern:?}");
-    assert_eq!(rt; text(&init.port), port, "port of {pattern:?}");
-    assert_eq!(rt; text(&init.pathname), pathname, "pathname of {pattern:?}");
-    assert_eq!(rt; text(&init.search), search, "search of {pattern:?}");
-    assert_eq!(rt; text(&init.hash), hash, "hash of {pattern:?}");
+    assert_eq!(rt; texts_of(&init), components, "at {pattern:?}");
+    assert_eq!(rt; base_of(&init), base, "at {pattern:?}");
     Ok(())
 }
 
@@ -73,7 +52,7 @@ fn expect_turns(
     pattern: &str,
     tokens: usize,
     turns: usize,
-) -> Result<(), Fail> {
+) -> Result<(), Error> {
     let found = tokenize(alloc, pattern, TokenizePolicy::Lenient)?;
     assert_eq!(rt; found.len(), tokens, "tokens of {pattern:?}");
     let (_, looks) = parse(alloc, pattern, Some("https://example.com/"))?;
@@ -309,34 +288,34 @@ fn strings_without_a_protocol(rt: HostRuntime) -> Result<(), Fail> {
 
 #[test]
 fn the_base_is_kept(rt: HostRuntime) -> Result<(), Fail> {
-    let (init, _) = parse(rt.alloc(), "foo", Some("https://example.com/a"))?;
-    let base_url = init.base_url.ok_or("no base")?;
-    assert_eq!(rt; base_url.as_str(), "https://example.com/a");
+    let row = (
+        "foo",
+        [None, None, None, None, None, Some("foo"), None, None],
+    );
+    expect_components(&rt, rt.alloc(), Some("https://example.com/a"), row)?;
     Ok(())
 }
 
 #[test]
-fn a_protocol_or_a_base_is_needed(rt: HostRuntime) -> Result<(), Fail> {
+fn a_protocol_or_a_base_is_needed(rt: HostRuntime) {
     for pattern in ["", "foo"] {
-        let answer = parse(rt.alloc(), pattern, None);
+        let error = refusal(rt.alloc(), pattern);
         assert!(rt;
-            matches!(&answer, Err(Error::BaseUrlRequired)),
+            matches!(error, Some(Error::BaseUrlRequired)),
             "at {pattern:?}"
         );
     }
-    Ok(())
 }
 
 #[test]
-fn a_fault_is_placed_in_the_protocol(rt: HostRuntime) -> Result<(), Fail> {
-    let answer = parse(rt.alloc(), "ht(tp://x", None);
+fn a_fault_is_placed_in_the_protocol(rt: HostRuntime) {
+    let error = refusal(rt.alloc(), "ht(tp://x");
     assert!(rt;
         matches!(
-            &answer,
-            Err(Error::Tokenizer(TokenizerError::InvalidRegex(RegexFault::MissingClose), 2))
+            error,
+            Some(Error::Tokenizer(TokenizerError::InvalidRegex(RegexFault::MissingClose), 2))
         )
     );
-    Ok(())
 }
 
 #[test]
@@ -419,15 +398,17 @@ fn ten_thousand_closing_brackets(rt: HostRuntime) -> Result<(), Fail> {
 /// Holds whichever allocation is refused: `rt try --test --fail-alloc N` refuses one.
 #[test]
 fn a_string_without_memory_gives_no_other_answer(rt: HostRuntime) {
-    let pattern = "ht(tp)://user\\:pw@a:1/b?c#d";
-    let answer = UrlPatternInit::parse_constructor_string::<Regex>(rt.alloc(), pattern, None);
-    let is_whole = match &answer {
-        Ok(init) => {
-            text(&init.protocol) == Some("ht(tp)")
-                && text(&init.password) == Some("pw")
-                && text(&init.hash) == Some("d")
-        }
-        Err(error) => matches!(error, Error::OutOfMemory),
-    };
-    assert!(rt; is_whole);
+    let components = [
+        Some("ht(tp)"),
+        Some("user"),
+        Some("pw"),
+        Some("a"),
+        Some("1"),
+        Some("/b"),
+        Some("c"),
+        Some("d"),
+    ];
+    let row = ("ht(tp)://user\\:pw@a:1/b?c#d", components);
+    let answer = expect_components(&rt, rt.alloc(), None, row);
+    assert!(rt; matches!(answer, Ok(()) | Err(Error::OutOfMemory)));
 }

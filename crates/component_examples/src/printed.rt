@@ -1,14 +1,12 @@
 //! The printed pattern of a list of parts, and what it is read as.
 
-use super::parts_of;
-use crate::replay::components;
-use crate::replay::components::Callback;
+use crate::parts::{Callback, parts_by, parts_of};
 use std::alloc::Global;
 use std::process::Abort;
 use std::test::Fail;
-use urlpattern::component::generate_pattern_string;
-use urlpattern::parser::{Options, Part, PartType};
-use urlpattern::{Error, RegexSyntax};
+use urlpattern_core::component::generate_pattern_string;
+use urlpattern_core::parser::{Options, Part, PartType};
+use urlpattern_core::{Error, RegexSyntax};
 
 /// Compares the printed pattern of the parts of a pattern, and gives these parts.
 fn expect_printed(
@@ -143,7 +141,7 @@ fn an_empty_text_does_not_part_a_name_from_a_regexp(rt: HostRuntime) -> Result<(
     let alloc = rt.alloc();
     let options = Options::default(alloc);
     let pattern = ":x\\\n(abc)";
-    let parts = components::parts_of(alloc, pattern, &options, Callback::EmptyLineFeed)?;
+    let parts = parts_by(alloc, pattern, &options, Callback::EmptyLineFeed)?;
     assert_eq!(rt; parts.len(), 3);
     let printed = generate_pattern_string(alloc, &parts, &options)?;
     assert_eq!(rt; printed.as_str(), ":x(abc)");

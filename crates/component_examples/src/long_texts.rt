@@ -1,12 +1,12 @@
 //! Long and deeply nested patterns, which end well within the time that a test has.
 
-use super::parts_of;
+use crate::parts::parts_of;
 use std::alloc::{AllocError, Global};
 use std::test::Fail;
-use urlpattern::Error;
-use urlpattern::error::ParserError;
-use urlpattern::parser::{Options, PartType};
-use urlpattern::tokenizer::TokenType;
+use urlpattern_core::Error;
+use urlpattern_core::error::ParserError;
+use urlpattern_core::parser::{Options, PartType};
+use urlpattern_core::tokenizer::TokenType;
 
 /// Appends copies of a piece.
 fn push_copies(text: &mut String, piece: &str, count: usize) -> Result<(), AllocError> {

@@ -1,12 +1,12 @@
 //! The parts of a pattern, and its regular expression with the names of the groups.
 
-use super::parts_of;
+use crate::parts::parts_of;
 use std::alloc::Global;
 use std::process::Abort;
 use std::test::Fail;
-use urlpattern::component::generate_regular_expression_and_name_list;
-use urlpattern::parser::{Options, PartModifier, PartType};
-use urlpattern::{Error, RegexSyntax};
+use urlpattern_core::component::generate_regular_expression_and_name_list;
+use urlpattern_core::parser::{Options, PartModifier, PartType};
+use urlpattern_core::{Error, RegexSyntax};
 
 /// Compares the names of a pattern's groups and its regular expression.
 fn expect_component(

@@ -3,8 +3,8 @@
 use std::alloc::Global;
 use std::process::Abort;
 use std::test::Fail;
-use urlpattern::Error;
-use urlpattern::tokenizer::{TokenType, TokenizePolicy, tokenize};
+use urlpattern_core::Error;
+use urlpattern_core::tokenizer::{TokenType, TokenizePolicy, tokenize};
 
 /// Compares the strict tokens of a text: kind, place and value of each.
 fn expect_tokens(

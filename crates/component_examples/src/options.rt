@@ -1,8 +1,8 @@
 //! What the options alone decide: the regular expression of a segment, and the escape of a text.
 
 use std::test::Fail;
-use urlpattern::RegexSyntax;
-use urlpattern::parser::Options;
+use urlpattern_core::RegexSyntax;
+use urlpattern_core::parser::Options;
 
 #[test]
 fn a_segment_ends_at_the_delimiter(rt: HostRuntime) -> Result<(), Fail> {

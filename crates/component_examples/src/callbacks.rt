@@ -1,18 +1,18 @@
 //! Which texts go through the callback, and where its own error stands among the others.
 
-use crate::replay::components::{Callback, parts_of};
+use crate::parts::{Callback, parts_by};
 use std::alloc::Global;
 use std::test::Fail;
 use url::ParseError;
-use urlpattern::Error;
-use urlpattern::component::generate_regular_expression_and_name_list;
-use urlpattern::error::{ParserError, TokenizerError};
-use urlpattern::parser::{Options, Part, PartType};
-use urlpattern::tokenizer::TokenType;
+use urlpattern_core::Error;
+use urlpattern_core::component::generate_regular_expression_and_name_list;
+use urlpattern_core::error::{ParserError, TokenizerError};
+use urlpattern_core::parser::{Options, Part, PartType};
+use urlpattern_core::tokenizer::TokenType;
 
 /// The parts of a pattern of which each text is refused.
 fn parts_if_refused(alloc: Global, pattern: &str) -> Result<Vec<Part>, Error> {
-    parts_of(alloc, pattern, &Options::default(alloc), Callback::Refuse)
+    parts_by(alloc, pattern, &Options::default(alloc), Callback::Refuse)
 }
 
 #[test]
@@ -64,7 +64,7 @@ fn a_text_without_tokens_goes_first(rt: HostRuntime) {
 fn an_emptied_text_stays_a_part(rt: HostRuntime) -> Result<(), Fail> {
     let alloc = rt.alloc();
     let options = Options::default(alloc);
-    let parts = parts_of(alloc, ":x\\\n(abc)", &options, Callback::EmptyLineFeed)?;
+    let parts = parts_by(alloc, ":x\\\n(abc)", &options, Callback::EmptyLineFeed)?;
     assert_eq!(rt; parts.len(), 3);
     for (part, (kind, name, value)) in parts.iter().zip([
         (PartType::SegmentWildcard, "x", ""),

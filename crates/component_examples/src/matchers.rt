@@ -1,15 +1,15 @@
 //! The matcher of a pattern, what an engine is handed, and what is captured where none is asked.
 
-use super::parts_of;
-use crate::engines::KeptText;
+use crate::kept_text::KeptText;
+use crate::parts::parts_of;
 use std::alloc::Global;
 use std::process::Abort;
 use std::test::Fail;
-use urlpattern::Error;
-use urlpattern::component::{generate_matcher, generate_pattern_string};
-use urlpattern::matcher::{InnerMatcher, Matcher};
-use urlpattern::parser::Options;
-use urlpattern::regexp::RegExp;
+use urlpattern_core::Error;
+use urlpattern_core::component::{generate_matcher, generate_pattern_string};
+use urlpattern_core::matcher::{InnerMatcher, Matcher};
+use urlpattern_core::parser::Options;
+use urlpattern_core::regexp::RegExp;
 
 /// What is expected between prefix and suffix.
 #[derive(Debug, Clone, Copy)]

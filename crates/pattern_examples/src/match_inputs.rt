@@ -1,0 +1,106 @@
+//! The texts of a match input, with what it inherits.
+
+use crate::inits::{init_of, init_under, url_input};
+use std::alloc::Global;
+use std::process::Abort;
+use std::test::Fail;
+use urlpattern::quirks::{MatchInput, parse_match_input};
+use urlpattern::{Error, UrlPatternInit, UrlPatternMatchInput};
+
+/// The eight texts, in the order of the components.
+fn texts_of(input: &MatchInput) -> [&str; 8] {
+    [
+        &input.protocol,
+        &input.username,
+        &input.password,
+        &input.hostname,
+        &input.port,
+        &input.pathname,
+        &input.search,
+        &input.hash,
+    ]
+}
+
+/// Compares the texts of an input. None is expected where a value is refused.
+fn expect_texts(
+    rt: &impl Abort,
+    alloc: Global,
+    input: UrlPatternMatchInput,
+    expected: Option<[&str; 8]>,
+) -> Result<(), Error> {
+    let found = parse_match_input(alloc, input)?;
+    let texts = match &found {
+        Some(found) => Some(texts_of(found)),
+        None => None,
+    };
+    assert_eq!(rt; texts, expected);
+    Ok(())
+}
+
+#[test]
+fn a_port_that_is_refused_is_no_input(rt: HostRuntime) -> Result<(), Fail> {
+    let alloc = rt.alloc();
+    let init = init_of(alloc, &[("port", "65536")])?;
+    expect_texts(&rt, alloc, UrlPatternMatchInput::Init(init), None)?;
+    Ok(())
+}
+
+#[test]
+fn an_init_without_base_has_empty_texts(rt: HostRuntime) -> Result<(), Fail> {
+    let alloc = rt.alloc();
+    let fields = [("protocol", "https"), ("port", "443"), ("pathname", "a")];
+    let init = init_of(alloc, &fields)?;
+    let expected = ["https", "", "", "", "", "a", "", ""];
+    expect_texts(&rt, alloc, UrlPatternMatchInput::Init(init), Some(expected))?;
+    Ok(())
+}
+
+/// Compares the texts of a relative path under a base URL.
+fn expect_joined(rt: &impl Abort, alloc: Global) -> Result<(), Error> {
+    let base_url = "https://u:p@example.com:8080/a/b?q#f";
+    let init = init_under(alloc, &[("pathname", "c")], base_url)?;
+    let expected = ["https", "u", "p", "example.com", "8080", "/a/c", "", ""];
+    expect_texts(rt, alloc, UrlPatternMatchInput::Init(init), Some(expected))
+}
+
+#[test]
+fn a_relative_pathname_goes_behind_the_base(rt: HostRuntime) -> Result<(), Fail> {
+    expect_joined(&rt, rt.alloc())?;
+    Ok(())
+}
+
+#[test]
+fn a_url_has_its_own_texts(rt: HostRuntime) -> Result<(), Fail> {
+    let alloc = rt.alloc();
+    let input = url_input(alloc, "https://u:p@example.com:8080/a/b?q#f")?;
+    let expected = ["https", "u", "p", "example.com", "8080", "/a/b", "q", "f"];
+    expect_texts(&rt, alloc, input, Some(expected))?;
+    Ok(())
+}
+
+/// Whether a copy of an init equals it, and is not an init without texts.
+fn is_copied(init: &UrlPatternInit) -> Result<bool, Error> {
+    let copy = init.clone()?;
+    Ok(copy == *init && copy != UrlPatternInit::default())
+}
+
+#[test]
+fn a_copy_of_an_init_equals_it(rt: HostRuntime) -> Result<(), Fail> {
+    let alloc = rt.alloc();
+    let init = init_under(alloc, &[("hostname", "a")], "https://example.com/")?;
+    assert!(rt; is_copied(&init)?);
+    Ok(())
+}
+
+#[test]
+fn the_default_texts_are_empty(rt: HostRuntime) {
+    let texts = MatchInput::default(rt.alloc());
+    assert_eq!(rt; texts_of(&texts), ["", "", "", "", "", "", "", ""]);
+}
+
+/// Holds whichever allocation is refused: `rt try --test --fail-alloc N` refuses one.
+#[test]
+fn an_input_without_memory_gives_no_other_answer(rt: HostRuntime) {
+    let answer = expect_joined(&rt, rt.alloc());
+    assert!(rt; matches!(answer, Ok(()) | Err(Error::OutOfMemory)));
+}

@@ -1,0 +1,243 @@
+//! Matches of patterns: which inputs are matched, and what the groups capture.
+
+use crate::facts::{Fact, Groups, Told, expect_facts};
+use crate::inits::{init_of, init_under, url_input};
+use regex::Regex;
+use std::alloc::Global;
+use std::process::Abort;
+use std::test::Fail;
+use urlpattern::component::Component;
+use urlpattern::matcher::{InnerMatcher, Matcher};
+use urlpattern::parser::Options;
+use urlpattern::regexp::RegExp;
+use urlpattern::{Error, UrlPattern, UrlPatternInit, UrlPatternMatchInput, UrlPatternOptions};
+
+/// The component of a path, whose texts stay as they are.
+fn path(alloc: Global, pattern: &str) -> Result<Component<Regex>, Error> {
+    let unchanged = |text: &str| -> Result<String, Error> { Ok(String::from_str(alloc, text)?) };
+    Component::compile(alloc, Some(pattern), unchanged, Options::pathname(alloc)?)
+}
+
+/// Copies of names.
+fn names_of(alloc: Global, names: &[&str]) -> Result<Vec<String>, Error> {
+    let mut copies = Vec::new(alloc);
+    for name in names {
+        copies.push(String::from_str(alloc, name)?)?;
+    }
+    Ok(copies)
+}
+
+/// A component that is put together by hand: an engine, or none, is asked for the whole text.
+fn by_hand(
+    alloc: Global,
+    group_name_list: Vec<String>,
+    regexp: Result<Regex, Error>,
+) -> Component<Regex> {
+    Component {
+        pattern_string: String::new(alloc),
+        regexp: Err(Error::RegExp(())),
+        group_name_list,
+        matcher: Matcher {
+            prefix: String::new(alloc),
+            suffix: String::new(alloc),
+            inner: InnerMatcher::RegExp { regexp },
+            ignore_case: false,
+        },
+        has_regexp_group: true,
+    }
+}
+
+/// A pattern with this component for the path, whose other components take any text.
+fn with_pathname<R: RegExp>(alloc: Global, pathname: Component<R>) -> Result<UrlPattern<R>, Error> {
+    let init = UrlPatternInit::default();
+    let pattern = UrlPattern::parse(alloc, init, UrlPatternOptions::default())?;
+    Ok(UrlPattern {
+        pathname,
+        ..pattern
+    })
+}
+
+/// Compares what a pattern with this component for the path tells of an input. None is no match.
+fn expect_match(
+    rt: &impl Abort,
+    alloc: Global,
+    pathname: Component<Regex>,
+    input: &UrlPatternMatchInput,
+    expected: Option<&[Told<'_>]>,
+) -> Result<(), Error> {
+    let pattern = with_pathname(alloc, pathname)?;
+    expect_facts(rt, alloc, pattern, &[Fact::Match(input, expected)])
+}
+
+/// Compares what a pattern with this text for the path tells of a URL.
+fn expect_url(
+    rt: &impl Abort,
+    alloc: Global,
+    pattern: &str,
+    url: &str,
+    expected: Option<&[Told<'_>]>,
+) -> Result<(), Error> {
+    let input = url_input(alloc, url)?;
+    expect_match(rt, alloc, path(alloc, pattern)?, &input, expected)
+}
+
+#[test]
+fn a_segment_of_the_path_is_captured(rt: HostRuntime) -> Result<(), Fail> {
+    let url = "https://u:p@example.com:8080/users/123?q#f";
+    let told: [Told<'_>; 8] = [
+        ("protocol", "https", &[("0", Some("https"))]),
+        ("username", "u", &[("0", Some("u"))]),
+        ("password", "p", &[("0", Some("p"))]),
+        ("hostname", "example.com", &[("0", Some("example.com"))]),
+        ("port", "8080", &[("0", Some("8080"))]),
+        ("pathname", "/users/123", &[("id", Some("123"))]),
+        ("search", "q", &[("0", Some("q"))]),
+        ("hash", "f", &[("0", Some("f"))]),
+    ];
+    expect_url(&rt, rt.alloc(), "/users/:id", url, Some(&told))?;
+    Ok(())
+}
+
+#[test]
+fn one_component_that_does_not_match_is_no_match(rt: HostRuntime) -> Result<(), Fail> {
+    for url in ["https://example.com/users", "https://example.com/users/1/2"] {
+        expect_url(&rt, rt.alloc(), "/users/:id", url, None)?;
+    }
+    Ok(())
+}
+
+#[test]
+fn an_init_is_matched_with_what_it_inherits(rt: HostRuntime) -> Result<(), Fail> {
+    let alloc = rt.alloc();
+    let init = init_under(alloc, &[("pathname", "b")], "https://example.com/a/x")?;
+    let input = UrlPatternMatchInput::Init(init);
+    let told: [Told<'_>; 2] = [
+        ("pathname", "/a/b", &[("0", Some("b"))]),
+        ("hostname", "example.com", &[("0", Some("example.com"))]),
+    ];
+    expect_match(&rt, alloc, path(alloc, "/a/*")?, &input, Some(&told))?;
+    Ok(())
+}
+
+#[test]
+fn an_init_that_is_refused_is_no_match(rt: HostRuntime) -> Result<(), Fail> {
+    let alloc = rt.alloc();
+    let input = UrlPatternMatchInput::Init(init_of(alloc, &[("port", "65536")])?);
+    expect_match(&rt, alloc, path(alloc, "*")?, &input, None)?;
+    Ok(())
+}
+
+/// Compares the groups of a path: an engine captures by this regular expression, beside these names.
+fn expect_groups(
+    rt: &impl Abort,
+    alloc: Global,
+    pathname: &str,
+    (names, regexp): (&[&str], &str),
+    groups: Groups<'_>,
+) -> Result<(), Fail> {
+    let url = format!(in alloc; "https://example.com{pathname}")?;
+    let input = url_input(alloc, &url)?;
+    let names = names_of(alloc, names)?;
+    let engine = <Regex as RegExp>::parse(alloc, regexp, "u", true)?;
+    let component = by_hand(alloc, names, Ok(engine));
+    let told: [Told<'_>; 1] = [("pathname", pathname, groups)];
+    expect_match(rt, alloc, component, &input, Some(&told))?;
+    Ok(())
+}
+
+#[test]
+fn names_stand_beside_captures(rt: HostRuntime) -> Result<(), Fail> {
+    let rows: [((&[&str], &str), Groups<'_>); 5] = [
+        (
+            (&["x", "y"], "^/(.)(.)(.)$"),
+            &[("x", Some("1")), ("y", Some("2"))],
+        ),
+        ((&["x"], "^/(.)(.)(.)$"), &[("x", Some("1"))]),
+        ((&["x"], "^/...$"), &[]),
+        ((&["x", "y"], "^/(.)..$"), &[("x", Some("1"))]),
+        (
+            (&["x", "y"], "^/(4)?(.)..$"),
+            &[("x", None), ("y", Some("1"))],
+        ),
+    ];
+    for (names, groups) in rows {
+        expect_groups(&rt, rt.alloc(), "/123", names, groups)?;
+    }
+    Ok(())
+}
+
+#[test]
+fn of_equal_names_the_last_counts(rt: HostRuntime) -> Result<(), Fail> {
+    let names: (&[&str], &str) = (&["a", "a"], "^/(.)(.)$");
+    expect_groups(&rt, rt.alloc(), "/12", names, &[("a", Some("2"))])?;
+    Ok(())
+}
+
+#[test]
+fn an_error_in_place_of_an_engine_matches_nothing(rt: HostRuntime) -> Result<(), Fail> {
+    let alloc = rt.alloc();
+    let input = url_input(alloc, "https://example.com/")?;
+    let pathname = by_hand(alloc, Vec::new(alloc), Err(Error::RegExp(())));
+    expect_match(&rt, alloc, pathname, &input, None)?;
+    Ok(())
+}
+
+/// Whether the regular expression of a path, which is made for the whole text, matches it.
+fn is_whole_match(alloc: Global, pattern: &str, text: &str) -> Result<bool, Error> {
+    match path(alloc, pattern)?.regexp {
+        Ok(regexp) => Ok(RegExp::matches(&regexp, alloc, text)?.is_some()),
+        Err(error) => Err(error),
+    }
+}
+
+#[test]
+fn a_regexp_is_asked_for_the_middle_alone(rt: HostRuntime) -> Result<(), Fail> {
+    let alloc = rt.alloc();
+    let pattern = "/foo(\\b.*)";
+    assert!(rt; !is_whole_match(alloc, pattern, "/foobar")?);
+    let told: [Told<'_>; 1] = [("pathname", "/foobar", &[("0", Some("bar"))])];
+    expect_url(
+        &rt,
+        alloc,
+        pattern,
+        "https://example.com/foobar",
+        Some(&told),
+    )?;
+    Ok(())
+}
+
+/// Each result is compared with its copy.
+#[test]
+fn a_copy_of_a_result_equals_it(rt: HostRuntime) -> Result<(), Fail> {
+    let told: [Told<'_>; 1] = [("pathname", "/a/b", &[("x", Some("b")), ("y", None)])];
+    expect_url(
+        &rt,
+        rt.alloc(),
+        "/a/:x{/:y}?",
+        "https://example.com/a/b",
+        Some(&told),
+    )?;
+    Ok(())
+}
+
+#[test]
+fn a_component_tells_its_pattern(rt: HostRuntime) -> Result<(), Fail> {
+    let alloc = rt.alloc();
+    let pattern = with_pathname(alloc, path(alloc, "/users/:id")?)?;
+    let facts = [
+        Fact::Texts(["*", "*", "*", "*", "*", "/users/:id", "*", "*"]),
+        Fact::Text("pathname", "/users/:id"),
+        Fact::HasRegexpGroups(false),
+    ];
+    expect_facts(&rt, alloc, pattern, &facts)?;
+    Ok(())
+}
+
+/// Holds whichever allocation is refused: `rt try --test --fail-alloc N` refuses one.
+#[test]
+fn a_match_without_memory_gives_no_other_answer(rt: HostRuntime) {
+    let told: [Told<'_>; 1] = [("pathname", "/users/123", &[("id", Some("123"))])];
+    let url = "https://example.com/users/123";
+    let answer = expect_url(&rt, rt.alloc(), "/users/:id(\\d+)", url, Some(&told));
+    assert!(rt; matches!(answer, Ok(()) | Err(Error::OutOfMemory)));
+}

@@ -1,0 +1,135 @@
+//! Compiled patterns as plain data.
+
+use crate::facts::{Fact, expect_facts};
+use crate::inits::init_of;
+use regex::Regex;
+use serde_json::Value;
+use std::alloc::Global;
+use std::test::Fail;
+use urlpattern::component::Component;
+use urlpattern::parser::Options;
+use urlpattern::quirks::{
+    self, EcmaRegexp, InnerMatcher, Matcher, UrlPatternComponent, parse_pattern,
+    parse_pattern_as_lib,
+};
+use urlpattern::regexp::RegExp;
+use urlpattern::{Error, UrlPattern, UrlPatternOptions};
+
+/// What a plain pattern tells.
+#[derive(Drop)]
+struct Told {
+    /// The pattern text of its path.
+    pathname: String,
+    /// The JSON of its path.
+    pathname_json: Value,
+    /// The JSON of its protocol.
+    protocol_json: Value,
+    /// Whether a component has a regular expression of its own.
+    has_regexp_groups: bool,
+}
+
+/// What a plain pattern tells.
+fn told_of(alloc: Global, pattern: &quirks::UrlPattern) -> Result<Told, Error> {
+    Ok(Told {
+        pathname: pattern.pathname.pattern_string.clone()?,
+        pathname_json: pattern.pathname.to_json_value(alloc)?,
+        protocol_json: pattern.protocol.to_json_value(alloc)?,
+        has_regexp_groups: pattern.has_regexp_groups,
+    })
+}
+
+/// What the plain pattern of a path tells.
+fn told_by(alloc: Global, pathname: &str) -> Result<Told, Error> {
+    let init = init_of(alloc, &[("pathname", pathname)])?;
+    let pattern = parse_pattern::<Regex>(alloc, init, UrlPatternOptions::default())?;
+    told_of(alloc, &pattern)
+}
+
+#[test]
+fn a_pattern_has_the_json_of_its_pathname(rt: HostRuntime) -> Result<(), Fail> {
+    let alloc = rt.alloc();
+    let told = told_by(alloc, "/users/:id")?;
+    assert!(rt; !told.has_regexp_groups);
+    let text =
+        r#"{"groupNameList":["id"],"matcher":{"kind":"singleCapture","filter":"/","allowEmpty":false,"prefix":"/users/","suffix":""},"regexpString":"^/users(?:/([^/]+?))$","patternString":"/users/:id"}"#;
+    assert_eq!(rt; told.pathname_json, Value::from_str(alloc, text)?);
+    let any =
+        r#"{"groupNameList":["0"],"matcher":{"kind":"singleCapture","allowEmpty":true,"filter":null,"prefix":"","suffix":""},"regexpString":"^(.*)$","patternString":"*"}"#;
+    assert_eq!(rt; told.protocol_json, Value::from_str(alloc, any)?);
+    Ok(())
+}
+
+/// The pattern of a path, for the library.
+fn pattern_as_lib(alloc: Global, pathname: &str) -> Result<UrlPattern<Regex>, Error> {
+    let init = init_of(alloc, &[("pathname", pathname)])?;
+    parse_pattern_as_lib(alloc, init, UrlPatternOptions::default())
+}
+
+/// The components of a pattern for path and query.
+fn path_and_search<R: RegExp>(pattern: UrlPattern<R>) -> (Component<R>, Component<R>) {
+    (pattern.pathname, pattern.search)
+}
+
+/// The plain matcher of a component.
+fn plain_matcher<R: RegExp>(alloc: Global, component: Component<R>) -> Result<Matcher, Error> {
+    Matcher::from_matcher(alloc, component.matcher)
+}
+
+/// What the plain matcher of a component has between prefix and suffix.
+fn plain_inner<R: RegExp>(alloc: Global, component: Component<R>) -> Result<InnerMatcher, Error> {
+    let matcher = component.matcher;
+    InnerMatcher::from_inner(alloc, matcher.inner)
+}
+
+#[test]
+fn a_pattern_for_the_library_becomes_plain_piece_by_piece(rt: HostRuntime) -> Result<(), Fail> {
+    let alloc = rt.alloc();
+    let facts = [Fact::Text("pathname", "/users/:id")];
+    expect_facts(&rt, alloc, pattern_as_lib(alloc, "/users/:id")?, &facts)?;
+    let (pathname, search) = path_and_search(pattern_as_lib(alloc, "/users/:id")?);
+    let inner = plain_inner(alloc, search);
+    let matcher = plain_matcher(alloc, pathname)?;
+    let text =
+        r#"{"kind":"singleCapture","allowEmpty":false,"filter":"/","prefix":"/users/","suffix":""}"#;
+    assert_eq!(rt;
+        matcher.to_json_value(alloc)?,
+        Value::from_str(alloc, text)?
+    );
+    let any = InnerMatcher::SingleCapture {
+        filter: None,
+        allow_empty: true,
+    };
+    assert_eq!(rt; inner?, any);
+    Ok(())
+}
+
+#[test]
+fn a_refused_regular_expression_is_an_empty_text(rt: HostRuntime) -> Result<(), Fail> {
+    let alloc = rt.alloc();
+    let unchanged = |text: &str| -> Result<String, Error> { Ok(String::from_str(alloc, text)?) };
+    let options = Options::pathname(alloc)?;
+    let component: Component<EcmaRegexp> = Component::compile(
+        alloc,
+        Some("/(a[)"),
+        unchanged,
+        options,
+    )?;
+    let plain = UrlPatternComponent::from_component(alloc, component)?;
+    assert_eq!(rt; plain.pattern_string.as_str(), "/(a[)");
+    assert_eq!(rt; plain.regexp_string.as_str(), "");
+    let middle = InnerMatcher::RegExp {
+        regexp: String::from_str(alloc, "^(?:/(a[))$")?,
+    };
+    assert_eq!(rt; plain.matcher.inner, middle);
+    Ok(())
+}
+
+/// Holds whichever allocation is refused: `rt try --test --fail-alloc N` refuses one.
+#[test]
+fn a_plain_pattern_without_memory_gives_no_other_answer(rt: HostRuntime) {
+    let is_right = match told_by(rt.alloc(), "/users/:id") {
+        Ok(told) => told.pathname.as_str() == "/users/:id",
+        Err(error) => matches!(error, Error::OutOfMemory),
+    };
+    assert!(rt; is_right);
+}
