@@ -2,7 +2,6 @@
 
 use std::test::Fail;
 use url::ParseError;
-use urlpattern_core::Error;
 use urlpattern_canonical::canonicalize_and_process::{
     ProcessType, canonicalize_an_opaque_pathname, canonicalize_hash, canonicalize_hostname,
     canonicalize_ipv6_hostname, canonicalize_password, canonicalize_pathname, canonicalize_port,
@@ -11,6 +10,7 @@ use urlpattern_canonical::canonicalize_and_process::{
     process_pathname_init, process_port_init, process_protocol_init, process_search_init,
     process_username_init,
 };
+use urlpattern_core::Error;
 
 #[test]
 fn a_protocol_is_in_lower_case(rt: HostRuntime) -> Result<(), Fail> {

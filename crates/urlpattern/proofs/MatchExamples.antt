@@ -1,13 +1,12 @@
 -- Worked examples of groups and matches.
-use Rattle.std.proofs.Common.{◌≡◌, ℕ, false, true, List, [], ◌∷◌, ◌++◌, refl, sym, inr}
+use Rattle.std.proofs.Common.{◌≡◌, ℕ, false, true, List, [], ◌∷◌, refl, sym, inr}
 use Rattle.std.proofs.lemmas.List.{append-nil}
 use Rattle.std.specs.Prelude.{codes, Option, Some, None, Err}
 use Rattle.url.specs.Parts.{Parts}
-use Rattle.urlpattern_init.specs.declared.init.processing.Component.{Component}
 use Rattle.urlpattern_init.specs.declared.init.processing.Component.TheVariants.{Pathname}
 use Rattle.urlpattern_init.specs.declared.init.UrlPatternMatchInput.TheVariants.{Url}
 use Rattle.urlpattern_init.specs.Inheritance.{Texts, texts_of_url}
-use Rattle.urlpattern.specs.Match.{HasMatch, HasNoMatch, IsMatchOf, ResultView, group_of, text_at}
+use Rattle.urlpattern.specs.Match.{HasMatch, HasNoMatch, IsMatchOf, group_of, text_at}
 use Rattle.urlpattern.specs.Patterns.{PatternView}
 use Rattle.urlpattern_core.specs.Compiling.{ComponentView}
 use Rattle.urlpattern_laws.specs.Matching.{InnerView, Literal, SingleCapture}

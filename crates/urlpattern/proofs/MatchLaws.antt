@@ -1,17 +1,16 @@
 -- The laws of matches: a matcher has one answer, and so has a pattern.
-use Rattle.std.proofs.Common.{◌≡◌, ◌↔◌, ℕ, Bool, List, [], ◌∷◌, refl, sym, ap, ◌∙◌, subst, inl, inr}
-use Rattle.std.specs.Prelude.{◌⊎◌, Option, Some, None, Result, Ok, Err}
+use Rattle.std.proofs.Common.{◌≡◌, ℕ, Bool, List, refl, sym, ap, ◌∙◌, subst, inl, inr}
+use Rattle.std.specs.Prelude.{Option, Ok, Err}
 use Rattle.urlpattern_init.specs.declared.init.processing.Component.{Component}
 use Rattle.urlpattern_init.specs.declared.init.UrlPatternMatchInput.{UrlPatternMatchInput}
 use Rattle.urlpattern_init.specs.declared.init.UrlPatternMatchInput.TheVariants.{Init, Url as UrlInput}
 use Rattle.urlpattern_init.specs.Inheritance.{Texts}
-use Rattle.urlpattern.specs.Match.{AreAnswers, AreMatched, HasMatch, HasNoMatch, IsLongInput, IsMatch, IsMatchOf, IsResultOf, IsSameResult, ResultView, group_of, text_at}
+use Rattle.urlpattern.specs.Match.{HasMatch, HasNoMatch, IsLongInput, IsMatch, IsSameResult, ResultView, group_of, text_at}
 use Rattle.urlpattern.specs.MatchInput.{IsNoInput, input_texts}
 use Rattle.urlpattern.specs.Patterns.{PatternView}
 use Rattle.urlpattern_core.proofs.MatcherAnswers.{matches-accepts}
-use Rattle.urlpattern_laws.specs.Matching.{Accepts, Answers, InnerView, Literal, Matches, MatcherView, RegExp, SingleCapture}
+use Rattle.urlpattern_laws.specs.Matching.{Accepts, InnerView, Literal, Matches, MatcherView, RegExp, SingleCapture}
 use Rattle.urlpattern_laws.specs.PartMeaning.{Captures}
-use Rattle.urlpattern_syntax.specs.Errors.{ErrorView}
 
 -- ---- a test tells a match
 

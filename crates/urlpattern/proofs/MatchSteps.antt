@@ -1,5 +1,5 @@
 -- From what eight components answer to what a call tells.
-use Rattle.std.proofs.Common.{◌≡◌, ℕ, List, true, false, sym, ap, ◌∙◌, subst, inr}
+use Rattle.std.proofs.Common.{◌≡◌, ℕ, List, true, false, sym, ◌∙◌, subst, inr}
 use Rattle.std.specs.HashMap.{HashMap}
 use Rattle.std.specs.Prelude.{Bool, Option, Some, None, Result, Ok, Err, String, is_some, IfOk, IfNone, IfSome, MatchBool, MatchOption}
 use Rattle.std.specs.declared.alloc.Global.{Global}

@@ -1,5 +1,5 @@
 -- Lemmas on components that are compiled.
-use Rattle.std.proofs.Common.{◌≡◌, ℕ, Bool, List, codes, Option, Some, None, Result, unwrap_or, refl, ap, ◌∙◌, subst}
+use Rattle.std.proofs.Common.{◌≡◌, ℕ, Bool, List, codes, Option, Some, None, Result, unwrap_or, ap, ◌∙◌, subst}
 use Rattle.std.specs.Borrow.{Bor}
 use Rattle.std.specs.Str.{chars}
 use Rattle.urlpattern_core.specs.Compiling.{MayRefuseAsked, is_asked_again, pattern_text}

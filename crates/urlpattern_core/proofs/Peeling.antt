@@ -1,14 +1,14 @@
 -- Lemmas on the plain fixed texts at the ends of parts, and on the matcher of the parts between them.
-use Rattle.std.proofs.Common.{◌≡◌, ℕ, suc, ◌+◌, Bool, true, false, List, [], ◌∷◌, ◌++◌, length, map, refl, sym, ap, ◌∙◌, subst, append_assoc, arith}
+use Rattle.std.proofs.Common.{◌≡◌, ℕ, Bool, true, false, List, [], ◌∷◌, ◌++◌, length, refl, sym, ap, ◌∙◌, subst, append_assoc, arith}
 use Rattle.std.proofs.lemmas.Bool.{false≢true}
-use Rattle.std.proofs.lemmas.List.{append-nil, map-append, length-append}
+use Rattle.std.proofs.lemmas.List.{append-nil, length-append}
 use Rattle.std.specs.Prelude.{IsTrue, ◌≤◌, Option, Some, None, Result, Ok, Err, IfOk, option_to_list}
 use Rattle.urlpattern_core.specs.Matchers.{PeelsBack, PeelsFront, PeelsTo, capture_of}
-use Rattle.urlpattern_laws.specs.Matching.{ArePeeled, BeginsPlain, EndsPlain, GoesOff, IsMadeBetween, IsMadeByEngine, IsMadeOf, IsMadeOfOne, MatcherView, IsEngineOf, Literal, end_text, single_capture}
+use Rattle.urlpattern_laws.specs.Matching.{BeginsPlain, EndsPlain, GoesOff, IsMadeBetween, IsMadeByEngine, IsMadeOf, IsMadeOfOne, MatcherView, IsEngineOf, end_text, single_capture}
 use Rattle.urlpattern_syntax.specs.declared.parser.PartModifier.{PartModifier}
 use Rattle.urlpattern_syntax.specs.declared.parser.PartModifier.TheVariants as modifiers
 use Rattle.urlpattern_syntax.specs.declared.parser.PartType.{PartType}
-use Rattle.urlpattern_syntax.specs.declared.parser.PartType.TheVariants.{FixedText, Regexp, SegmentWildcard, FullWildcard}
+use Rattle.urlpattern_syntax.specs.declared.parser.PartType.TheVariants.{SegmentWildcard, FullWildcard}
 use Rattle.urlpattern_syntax.specs.Errors.{ErrorView}
 use Rattle.urlpattern_syntax.specs.Options.{OptionsView}
 use Rattle.urlpattern_syntax.specs.Parts.{PartView}

@@ -698,10 +698,7 @@ fn is_special_protocol<R: RegExp>(alloc: Global, protocol: &str) -> Result<bool,
 /// Whether a matcher accepts a special scheme.
 ///
 /// The error is that memory ran out.
-pub fn accepts_special_scheme<R: RegExp>(
-    alloc: Global,
-    matcher: &Matcher<R>,
-) -> Result<bool, Error>
+pub fn accepts_special_scheme<R: RegExp>(alloc: Global, matcher: &Matcher<R>) -> Result<bool, Error>
     ensures answer { IfOk result (λ accepted. IsTrue accepted ↔ AcceptsSpecialScheme R.answer (matcher_view matcher.now)) }
     ensures memory { IfErr result (λ error. error ≡ errors.OutOfMemory) }
 {

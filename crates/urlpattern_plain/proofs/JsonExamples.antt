@@ -1,5 +1,5 @@
 -- Worked examples of trees and of what is read.
-use Rattle.std.proofs.Common.{◌≡◌, [], ◌∷◌, None, Some, true, false, codes, refl}
+use Rattle.std.proofs.Common.{◌≡◌, [], None, Some, true, false, codes, refl}
 use Rattle.std.specs.Str.{chars}
 use Rattle.serde_json.specs.Data.{array, boolean, member, no_items, no_members, null, object, string}
 use Rattle.urlpattern_plain.specs.Json.{character_read, init_read, init_tree, inner_read, matcher_read, matcher_tree, options_read}

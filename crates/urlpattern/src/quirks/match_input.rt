@@ -8,8 +8,8 @@ ghost use Rattle.urlpattern.specs.MatchInput.{IsNoInput, input_texts, texts_view
 use crate::pattern::Eight;
 use std::alloc::{AllocError, Global};
 use url::Url;
-use urlpattern_core::Error;
 use urlpattern_canonical::canonicalize_and_process::ProcessType;
+use urlpattern_core::Error;
 use urlpattern_init::{UrlPatternInit, UrlPatternMatchInput, process};
 use urlpattern_plain::MatchInput;
 

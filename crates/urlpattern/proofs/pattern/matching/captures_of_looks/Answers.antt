@@ -1,5 +1,5 @@
 use Rattle.urlpattern_init.specs.declared.init.processing.Component.TheVariants.{Protocol, Username, Password, Hostname, Port, Pathname, Search, Hash}
-use Rattle.std.proofs.Common.{◌≡◌, sym, ◌∙◌, ap, refl, option_map}
+use Rattle.std.proofs.Common.{sym, ◌∙◌, ap, option_map}
 use Rattle.urlpattern.specs.Eight.{captures_of}
 use Rattle.urlpattern.proofs.pattern.matching.captures_of_looks.Goals as goal
 

@@ -4,7 +4,6 @@ use Rattle.urlpattern.proofs.CompiledLemmas.{default_port-IsAscii, default_port-
 use Rattle.urlpattern_canonical.specs.Canonical.{default_port, is_special}
 use Rattle.urlpattern_syntax.specs.Text.{text_of}
 use Rattle.std.specs.Prelude.{option_copied, option_map}
-use Rattle.urlpattern.specs.Compiled.{is_same}
 use Rattle.urlpattern.proofs.pattern.parse.has_default_port.Goals as goal
 
 pub is_port-requires : goal.is_port-requires

@@ -1,4 +1,4 @@
-use Rattle.std.proofs.Common.{ap, ◌∙◌, sym}
+use Rattle.std.proofs.Common.{ap, ◌∙◌}
 use Rattle.std.specs.Prelude.{codes}
 use Rattle.urlpattern_syntax.specs.Text.{begins_with}
 use Rattle.urlpattern.proofs.CompiledLemmas.{ipv6_pattern-bytes, or-first, or-second}

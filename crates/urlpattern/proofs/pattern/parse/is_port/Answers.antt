@@ -1,6 +1,5 @@
 use Rattle.std.proofs.Common.{ap, ◌∙◌}
-use Rattle.std.specs.Prelude.{IfSome, bytes_eq, option_copied}
-use Rattle.std.specs.Str.{IsAscii}
+use Rattle.std.specs.Prelude.{bytes_eq}
 use Rattle.urlpattern.proofs.CompiledLemmas.{ascii_some, text_eq-ascii}
 use Rattle.urlpattern.proofs.pattern.parse.is_port.Goals as goal
 

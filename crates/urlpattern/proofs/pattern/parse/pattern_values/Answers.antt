@@ -1,4 +1,3 @@
-use Rattle.std.proofs.Common.{ap, ◌∙◌, sym}
 use Rattle.std.proofs.lemmas.Result.{err_from_is_err_and}
 use Rattle.urlpattern_init.proofs.InheritanceLemmas.{pattern-memory}
 use Rattle.urlpattern_init.specs.Inheritance.{values_view}

@@ -1,4 +1,4 @@
-use Rattle.std.proofs.Common.{ℕ, Bool, false, List, map, ap, ◌∙◌, subst}
+use Rattle.std.proofs.Common.{false, map, ap, ◌∙◌, subst}
 use Rattle.std.specs.Str.{chars}
 use Rattle.urlpattern_core.proofs.CompileLemmas.{engine-along}
 use Rattle.urlpattern_core.specs.Matchers.{engine_view, matcher_view}

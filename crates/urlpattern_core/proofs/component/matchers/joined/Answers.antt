@@ -1,6 +1,6 @@
 use Rattle.std.proofs.Common.{◌++◌, ap, ◌∙◌}
 use Rattle.std.specs.Str.{chars}
-use Rattle.urlpattern_syntax.proofs.StringTexts.{text-append, text-append_empty, text-nil}
+use Rattle.urlpattern_syntax.proofs.StringTexts.{text-append, text-nil}
 use Rattle.urlpattern_core.proofs.component.matchers.joined.Goals as goal
 
 pub returns-clause-text : goal.returns-clause-text

@@ -1,6 +1,4 @@
-use Rattle.std.proofs.Common.{◌++◌, [], ap, ◌∙◌, refl}
-use Rattle.std.specs.Str.{chars}
-use Rattle.urlpattern_laws.specs.Matching.{Literal, MatcherView}
+use Rattle.std.proofs.Common.{refl}
 use Rattle.urlpattern_syntax.proofs.StringTexts.{text-nil}
 use Rattle.urlpattern_core.proofs.component.matchers.literal_matcher.Goals as goal
 

@@ -1,4 +1,4 @@
-use Rattle.std.proofs.Common.{◌∙◌, ap, not, sym}
+use Rattle.std.proofs.Common.{ap, not}
 use Rattle.urlpattern_core.proofs.RegexpTexts.{not-fixed}
 use Rattle.urlpattern_core.proofs.component.printed.goes_on.Goals as goal
 

@@ -1,4 +1,4 @@
-use Rattle.std.proofs.Common.{◌≡◌, true, false, length, ap, sym, ◌∙◌, subst, rules}
+use Rattle.std.proofs.Common.{◌≡◌, false, length, sym, subst, rules}
 use Rattle.std.specs.Str.{chars}
 use Rattle.urlpattern_laws.specs.Matching.{MayBeEmpty, PassesFilter}
 use Rattle.urlpattern_syntax.proofs.TextLemmas.{chars-empty, chars-some}

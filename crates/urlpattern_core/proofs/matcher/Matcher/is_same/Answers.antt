@@ -1,8 +1,4 @@
-use Rattle.std.proofs.Common.{◌≡◌, ◌↔◌, true, false, map, IsTrue, subst, sym, ◌∙◌, rules}
-use Rattle.std.specs.Char.{to_ascii_lowercase}
-use Rattle.std.specs.Prelude.{Bool}
-use Rattle.std.specs.Str.{chars}
-use Rattle.urlpattern_laws.specs.Matching.{folded}
+use Rattle.std.proofs.Common.{◌≡◌, IsTrue, rules}
 use Rattle.urlpattern_core.proofs.MatcherTexts.{same_but_case, same_chars}
 use Rattle.urlpattern_core.proofs.matcher.Matcher.is_same.Goals as goal
 

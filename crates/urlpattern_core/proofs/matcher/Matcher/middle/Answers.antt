@@ -1,7 +1,5 @@
-use Rattle.std.proofs.Common.{rules, subst, sym, ap, ◌∙◌}
 use Rattle.std.proofs.lemmas.Str.{IsUtf8-string_bytes}
 use Rattle.std.specs.Prelude.{string_bytes}
-use Rattle.std.specs.Str.{chars}
 use Rattle.urlpattern_core.proofs.MatcherTexts.{between-none, between-some, not_stripped}
 use Rattle.urlpattern_core.proofs.matcher.Matcher.middle.Goals as goal
 

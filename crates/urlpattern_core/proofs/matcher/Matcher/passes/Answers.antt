@@ -1,4 +1,3 @@
-use Rattle.std.proofs.Common.{subst, sym}
 use Rattle.urlpattern_core.proofs.MatcherTexts.{lacks-searched}
 use Rattle.urlpattern_core.proofs.matcher.Matcher.passes.Goals as goal
 

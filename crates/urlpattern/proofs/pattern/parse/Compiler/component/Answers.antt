@@ -1,5 +1,4 @@
 use Rattle.std.proofs.Common.{rules}
-use Rattle.std.specs.Fn.{FnReturnsAt}
 use Rattle.urlpattern.proofs.CompiledLemmas.{compiled_weaker, refused_weaker}
 use Rattle.urlpattern.specs.Compiled.{canonical_encoding, manner_of, pattern_of}
 use Rattle.urlpattern_init.specs.Inheritance.{values_view}

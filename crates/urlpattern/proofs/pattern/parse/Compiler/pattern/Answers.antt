@@ -1,11 +1,6 @@
-use Rattle.std.proofs.Common.{inl}
-use Rattle.std.proofs.lemmas.Result.{err_from_is_err_and}
-use Rattle.urlpattern.proofs.CompiledLemmas.{are_compiled, memory_or-map, refused_behind}
-use Rattle.urlpattern.specs.Compiled.{IsComponentRefused, RefusesValues}
+use Rattle.urlpattern.proofs.CompiledLemmas.{are_compiled, refused_behind}
 use Rattle.urlpattern_init.specs.Inheritance.{values_view}
-use Rattle.urlpattern_init.specs.declared.init.processing.Component.TheVariants.{Protocol}
 use Rattle.urlpattern_core.specs.Compiling.{IsCompiledFrom, component_view}
-use Rattle.std.specs.Prelude.{false}
 use Rattle.urlpattern.proofs.pattern.parse.Compiler.pattern.Goals as goal
 
 pub returns-clause-compiled : goal.returns-clause-compiled
