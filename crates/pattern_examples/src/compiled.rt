@@ -2,6 +2,7 @@
 
 use regex::Regex;
 use std::alloc::Global;
+use std::process::Abort;
 use std::test::Fail;
 use urlpattern::Error;
 use urlpattern::component::Component;
@@ -87,13 +88,15 @@ fn is_as_expected<R: RegExp>(alloc: Global) -> Result<bool, Error> {
     )
 }
 
+/// Compares a component with what is expected of it, unless memory ran out.
+fn expect_component<R: RegExp>(rt: &impl Abort, alloc: Global) {
+    let answer = is_as_expected::<R>(alloc);
+    assert!(rt; matches!(answer, Ok(true) | Err(Error::OutOfMemory)));
+}
+
 /// Holds whichever allocation is refused: `rt try --test --fail-alloc N` refuses one.
 #[test]
 fn a_component_without_memory_gives_no_other_answer(rt: HostRuntime) {
-    for answer in [
-        is_as_expected::<Regex>(rt.alloc()),
-        is_as_expected::<EcmaRegexp>(rt.alloc()),
-    ] {
-        assert!(rt; matches!(&answer, Ok(true) | Err(Error::OutOfMemory)));
-    }
+    expect_component::<Regex>(&rt, rt.alloc());
+    expect_component::<EcmaRegexp>(&rt, rt.alloc());
 }

@@ -106,6 +106,11 @@ fn an_init_beside_a_base_is_an_error(rt: HostRuntime) -> Result<(), Fail> {
     Ok(())
 }
 
+/// Compares two values.
+fn expect_same<T: PartialEq + Drop>(rt: &impl Abort, found: T, expected: T) {
+    assert!(rt; found == expected);
+}
+
 /// Compares what a match's input is read as, and the input that is handed back. None is expected where it is refused.
 fn expect_read(
     rt: &impl Abort,
@@ -121,9 +126,9 @@ fn expect_read(
     };
     let (read, inputs) = found;
     let (again, beside) = inputs;
-    assert!(rt; expected == Some(read));
-    assert!(rt; again == input);
     assert_eq!(rt; beside.as_deref(), base_url);
+    expect_same(rt, Some(read), expected);
+    expect_same(rt, again, input);
     Ok(())
 }
 
