@@ -11,14 +11,13 @@ use urlpattern::{
 /// What groups are expected to capture, by name.
 pub type Groups<'a> = &'a [(&'a str, Option<&'a str>)];
 
-/// What a match is expected to tell of a component: its name, its text, and what its groups capture.
-pub type Told<'a> = (&'a str, &'a str, Groups<'a>);
+/// What a match is expected to tell of a component that has one group: the component's name, its text, the group's name
+/// and what it captures.
+pub type Told<'a> = (&'a str, &'a str, &'a str, Option<&'a str>);
 
 /// What is expected of a pattern. A component is called by its name.
 #[derive(Clone, Copy)]
 pub enum Fact<'a> {
-    /// The pattern texts of the eight components, in their order.
-    Texts([&'a str; 8]),
     /// The pattern text of a component.
     Text(&'a str, &'a str),
     /// The regular expression of a component.
@@ -29,32 +28,18 @@ pub enum Fact<'a> {
     IgnoresCase(&'a str, bool),
     /// Whether a component has a regular expression of its own.
     HasRegexpGroups(bool),
-    /// What a match of an input tells, or that there is none.
-    Match(&'a UrlPatternMatchInput, Option<&'a [Told<'a>]>),
 }
 
 /// Compares a pattern with what is expected of it.
-pub fn expect_facts<R: RegExp>(
-    rt: &impl Abort,
-    alloc: Global,
-    pattern: UrlPattern<R>,
-    facts: &[Fact<'_>],
-) -> Result<(), Error> {
+pub fn expect_facts<R: RegExp>(rt: &impl Abort, pattern: UrlPattern<R>, facts: &[Fact<'_>]) {
     for fact in facts {
-        expect_fact(rt, alloc, &pattern, *fact)?;
+        expect_fact(rt, &pattern, *fact);
     }
-    Ok(())
 }
 
 /// Compares a pattern with one fact.
-fn expect_fact<R: RegExp>(
-    rt: &impl Abort,
-    alloc: Global,
-    pattern: &UrlPattern<R>,
-    fact: Fact<'_>,
-) -> Result<(), Error> {
+fn expect_fact<R: RegExp>(rt: &impl Abort, pattern: &UrlPattern<R>, fact: Fact<'_>) {
     match fact {
-        Fact::Texts(texts) => assert_eq!(rt; texts_of(pattern), texts),
         Fact::Text(name, text) => assert_eq!(rt; text_of(pattern, name), text, "of {name:?}"),
         Fact::Regexp(name, text) => {
             assert_eq!(rt; regexp_of(component(pattern, name)), text, "of {name:?}");
@@ -65,23 +50,7 @@ fn expect_fact<R: RegExp>(
             assert_eq!(rt; ignore_case, expected, "of {name:?}");
         }
         Fact::HasRegexpGroups(expected) => assert_eq!(rt; pattern.has_regexp_groups(), expected),
-        Fact::Match(input, expected) => return expect_match(rt, alloc, pattern, input, expected),
     }
-    Ok(())
-}
-
-/// The pattern texts of the eight components.
-fn texts_of<R: RegExp>(pattern: &UrlPattern<R>) -> [&str; 8] {
-    [
-        pattern.protocol(),
-        pattern.username(),
-        pattern.password(),
-        pattern.hostname(),
-        pattern.port(),
-        pattern.pathname(),
-        pattern.search(),
-        pattern.hash(),
-    ]
 }
 
 /// The pattern text of a component.
@@ -128,24 +97,76 @@ fn expect_group<R>(rt: &impl Abort, component: &Component<R>, group: &str) {
     }
 }
 
-/// Compares what a pattern tells of an input, by a test and by a match, with what is expected: None is no match.
-fn expect_match<R: RegExp>(
+/// The match of an input, or None. A test has to tell the same.
+fn found_by<R: RegExp>(
     rt: &impl Abort,
     alloc: Global,
     pattern: &UrlPattern<R>,
-    input: &UrlPatternMatchInput,
-    expected: Option<&[Told<'_>]>,
-) -> Result<(), Error> {
+    input: UrlPatternMatchInput,
+) -> Result<Option<UrlPatternResult>, Error> {
     let is_matched = pattern.test(alloc, input.clone()?)?;
-    assert_eq!(rt; is_matched, expected.is_some());
-    match pattern.exec(alloc, input.clone()?)? {
-        Some(found) => {
-            expect_copy(rt, &found)?;
-            expect_told(rt, &found, expected);
-        }
-        None => assert!(rt; expected.is_none(), "no match"),
-    }
+    let found = pattern.exec(alloc, input)?;
+    assert_eq!(rt; found.is_some(), is_matched);
+    Ok(found)
+}
+
+/// Compares the answer of a pattern to an input that it does not match.
+pub fn expect_no_match<R: RegExp>(
+    rt: &impl Abort,
+    alloc: Global,
+    pattern: UrlPattern<R>,
+    input: UrlPatternMatchInput,
+) -> Result<(), Error> {
+    let found = found_by(rt, alloc, &pattern, input)?;
+    assert!(rt; found.is_none());
     Ok(())
+}
+
+/// The match of an input that a pattern matches.
+fn matched<R: RegExp>(
+    rt: &impl Abort,
+    alloc: Global,
+    pattern: UrlPattern<R>,
+    input: UrlPatternMatchInput,
+) -> Result<UrlPatternResult, Error> {
+    match found_by(rt, alloc, &pattern, input)? {
+        Some(found) => Ok(found),
+        None => panic!(rt; "no match"),
+    }
+}
+
+/// Compares what the match of an input tells of components, each of which has one group.
+pub fn expect_match<R: RegExp>(
+    rt: &impl Abort,
+    alloc: Global,
+    pattern: UrlPattern<R>,
+    input: UrlPatternMatchInput,
+    told: &[Told<'_>],
+) -> Result<(), Error> {
+    let found = matched(rt, alloc, pattern, input)?;
+    for (name, text, group, captured) in told {
+        let component = component_result(&found, name);
+        expect_text(rt, component, text, 1);
+        expect_captured(rt, component, group, *captured);
+    }
+    expect_copy(rt, &found)
+}
+
+/// Compares what the match of an input tells of the path: its text, and what its groups capture.
+pub fn expect_path<R: RegExp>(
+    rt: &impl Abort,
+    alloc: Global,
+    pattern: UrlPattern<R>,
+    input: UrlPatternMatchInput,
+    text: &str,
+    groups: Groups<'_>,
+) -> Result<(), Error> {
+    let found = matched(rt, alloc, pattern, input)?;
+    expect_text(rt, &found.pathname, text, groups.len());
+    for (name, captured) in groups {
+        expect_captured(rt, &found.pathname, name, *captured);
+    }
+    expect_copy(rt, &found)
 }
 
 /// Compares a result with its copy, and what it tells of the path with what it tells of the query, which is another.
@@ -154,16 +175,6 @@ fn expect_copy(rt: &impl Abort, found: &UrlPatternResult) -> Result<(), Error> {
     assert!(rt; copy == *found, "a copy");
     assert!(rt; found.pathname != found.search, "path and query");
     Ok(())
-}
-
-/// Compares what a result tells of components. No result is expected if there is nothing to compare it with.
-fn expect_told(rt: &impl Abort, found: &UrlPatternResult, expected: Option<&[Told<'_>]>) {
-    let Some(expected) = expected else {
-        panic!(rt; "a match");
-    };
-    for (name, text, groups) in expected {
-        expect_result(rt, component_result(found, name), text, groups);
-    }
 }
 
 /// What a result tells of a component.
@@ -180,20 +191,21 @@ fn component_result<'a>(found: &'a UrlPatternResult, name: &str) -> &'a UrlPatte
     }
 }
 
-/// Compares the text of a component and what its groups capture.
-fn expect_result(
+/// Compares the text of a component, and the number of its groups.
+fn expect_text(rt: &impl Abort, found: &UrlPatternComponentResult, text: &str, groups: usize) {
+    assert_eq!(rt; found.input.as_str(), text);
+    assert_eq!(rt; found.groups.len(), groups, "at {text:?}");
+}
+
+/// Compares what a group captures. It has None where it took no part.
+fn expect_captured(
     rt: &impl Abort,
     found: &UrlPatternComponentResult,
-    text: &str,
-    groups: Groups<'_>,
+    name: &str,
+    expected: Option<&str>,
 ) {
-    assert_eq!(rt; found.input.as_str(), text);
-    assert_eq!(rt; found.groups.len(), groups.len(), "at {text:?}");
-    for (name, expected) in groups {
-        let captured = match found.groups.get(*name) {
-            Some(captured) => Some(captured.as_deref()),
-            None => None,
-        };
-        assert_eq!(rt; captured, Some(*expected), "of {name:?}");
+    match found.groups.get(name) {
+        Some(captured) => assert_eq!(rt; captured.as_deref(), expected, "of {name:?}"),
+        None => panic!(rt; "no group {name:?}"),
     }
 }

@@ -21,19 +21,17 @@ fn texts_of(input: &MatchInput) -> [&str; 8] {
     ]
 }
 
-/// Compares the texts of an input. None is expected where a value is refused.
+/// Compares the texts of an input.
 fn expect_texts(
     rt: &impl Abort,
     alloc: Global,
     input: UrlPatternMatchInput,
-    expected: Option<[&str; 8]>,
+    expected: [&str; 8],
 ) -> Result<(), Error> {
-    let found = parse_match_input(alloc, input)?;
-    let texts = match &found {
-        Some(found) => Some(texts_of(found)),
-        None => None,
-    };
-    assert_eq!(rt; texts, expected);
+    match parse_match_input(alloc, input)? {
+        Some(found) => assert_eq!(rt; texts_of(&found), expected),
+        None => panic!(rt; "no input"),
+    }
     Ok(())
 }
 
@@ -41,7 +39,8 @@ fn expect_texts(
 fn a_port_that_is_refused_is_no_input(rt: HostRuntime) -> Result<(), Fail> {
     let alloc = rt.alloc();
     let init = init_of(alloc, &[("port", "65536")])?;
-    expect_texts(&rt, alloc, UrlPatternMatchInput::Init(init), None)?;
+    let found = parse_match_input(alloc, UrlPatternMatchInput::Init(init))?;
+    assert!(rt; found.is_none());
     Ok(())
 }
 
@@ -51,7 +50,7 @@ fn an_init_without_base_has_empty_texts(rt: HostRuntime) -> Result<(), Fail> {
     let fields = [("protocol", "https"), ("port", "443"), ("pathname", "a")];
     let init = init_of(alloc, &fields)?;
     let expected = ["https", "", "", "", "", "a", "", ""];
-    expect_texts(&rt, alloc, UrlPatternMatchInput::Init(init), Some(expected))?;
+    expect_texts(&rt, alloc, UrlPatternMatchInput::Init(init), expected)?;
     Ok(())
 }
 
@@ -60,7 +59,7 @@ fn expect_joined(rt: &impl Abort, alloc: Global) -> Result<(), Error> {
     let base_url = "https://u:p@example.com:8080/a/b?q#f";
     let init = init_under(alloc, &[("pathname", "c")], base_url)?;
     let expected = ["https", "u", "p", "example.com", "8080", "/a/c", "", ""];
-    expect_texts(rt, alloc, UrlPatternMatchInput::Init(init), Some(expected))
+    expect_texts(rt, alloc, UrlPatternMatchInput::Init(init), expected)
 }
 
 #[test]
@@ -74,7 +73,7 @@ fn a_url_has_its_own_texts(rt: HostRuntime) -> Result<(), Fail> {
     let alloc = rt.alloc();
     let input = url_input(alloc, "https://u:p@example.com:8080/a/b?q#f")?;
     let expected = ["https", "u", "p", "example.com", "8080", "/a/b", "q", "f"];
-    expect_texts(&rt, alloc, input, Some(expected))?;
+    expect_texts(&rt, alloc, input, expected)?;
     Ok(())
 }
 

@@ -1,6 +1,6 @@
 //! Matches of patterns: which inputs are matched, and what the groups capture.
 
-use crate::facts::{Fact, Groups, Told, expect_facts};
+use crate::facts::{Fact, Groups, Told, expect_facts, expect_match, expect_no_match, expect_path};
 use crate::inits::{init_of, init_under, url_input};
 use regex::Regex;
 use std::alloc::Global;
@@ -57,51 +57,43 @@ fn with_pathname<R: RegExp>(alloc: Global, pathname: Component<R>) -> Result<Url
     })
 }
 
-/// Compares what a pattern with this component for the path tells of an input. None is no match.
-fn expect_match(
-    rt: &impl Abort,
-    alloc: Global,
-    pathname: Component<Regex>,
-    input: &UrlPatternMatchInput,
-    expected: Option<&[Told<'_>]>,
-) -> Result<(), Error> {
-    let pattern = with_pathname(alloc, pathname)?;
-    expect_facts(rt, alloc, pattern, &[Fact::Match(input, expected)])
-}
-
-/// Compares what a pattern with this text for the path tells of a URL.
+/// Compares what a pattern with this text for the path tells of a URL that it matches.
 fn expect_url(
     rt: &impl Abort,
     alloc: Global,
-    pattern: &str,
+    pathname: &str,
     url: &str,
-    expected: Option<&[Told<'_>]>,
+    told: &[Told<'_>],
 ) -> Result<(), Error> {
     let input = url_input(alloc, url)?;
-    expect_match(rt, alloc, path(alloc, pattern)?, &input, expected)
+    let pattern = with_pathname(alloc, path(alloc, pathname)?)?;
+    expect_match(rt, alloc, pattern, input, told)
 }
 
 #[test]
 fn a_segment_of_the_path_is_captured(rt: HostRuntime) -> Result<(), Fail> {
     let url = "https://u:p@example.com:8080/users/123?q#f";
-    let told: [Told<'_>; 8] = [
-        ("protocol", "https", &[("0", Some("https"))]),
-        ("username", "u", &[("0", Some("u"))]),
-        ("password", "p", &[("0", Some("p"))]),
-        ("hostname", "example.com", &[("0", Some("example.com"))]),
-        ("port", "8080", &[("0", Some("8080"))]),
-        ("pathname", "/users/123", &[("id", Some("123"))]),
-        ("search", "q", &[("0", Some("q"))]),
-        ("hash", "f", &[("0", Some("f"))]),
+    let told = [
+        ("protocol", "https", "0", Some("https")),
+        ("username", "u", "0", Some("u")),
+        ("password", "p", "0", Some("p")),
+        ("hostname", "example.com", "0", Some("example.com")),
+        ("port", "8080", "0", Some("8080")),
+        ("pathname", "/users/123", "id", Some("123")),
+        ("search", "q", "0", Some("q")),
+        ("hash", "f", "0", Some("f")),
     ];
-    expect_url(&rt, rt.alloc(), "/users/:id", url, Some(&told))?;
+    expect_url(&rt, rt.alloc(), "/users/:id", url, &told)?;
     Ok(())
 }
 
 #[test]
 fn one_component_that_does_not_match_is_no_match(rt: HostRuntime) -> Result<(), Fail> {
+    let alloc = rt.alloc();
     for url in ["https://example.com/users", "https://example.com/users/1/2"] {
-        expect_url(&rt, rt.alloc(), "/users/:id", url, None)?;
+        let input = url_input(alloc, url)?;
+        let pattern = with_pathname(alloc, path(alloc, "/users/:id")?)?;
+        expect_no_match(&rt, alloc, pattern, input)?;
     }
     Ok(())
 }
@@ -111,11 +103,12 @@ fn an_init_is_matched_with_what_it_inherits(rt: HostRuntime) -> Result<(), Fail>
     let alloc = rt.alloc();
     let init = init_under(alloc, &[("pathname", "b")], "https://example.com/a/x")?;
     let input = UrlPatternMatchInput::Init(init);
-    let told: [Told<'_>; 2] = [
-        ("pathname", "/a/b", &[("0", Some("b"))]),
-        ("hostname", "example.com", &[("0", Some("example.com"))]),
+    let pattern = with_pathname(alloc, path(alloc, "/a/*")?)?;
+    let told = [
+        ("pathname", "/a/b", "0", Some("b")),
+        ("hostname", "example.com", "0", Some("example.com")),
     ];
-    expect_match(&rt, alloc, path(alloc, "/a/*")?, &input, Some(&told))?;
+    expect_match(&rt, alloc, pattern, input, &told)?;
     Ok(())
 }
 
@@ -123,7 +116,8 @@ fn an_init_is_matched_with_what_it_inherits(rt: HostRuntime) -> Result<(), Fail>
 fn an_init_that_is_refused_is_no_match(rt: HostRuntime) -> Result<(), Fail> {
     let alloc = rt.alloc();
     let input = UrlPatternMatchInput::Init(init_of(alloc, &[("port", "65536")])?);
-    expect_match(&rt, alloc, path(alloc, "*")?, &input, None)?;
+    let pattern = with_pathname(alloc, path(alloc, "*")?)?;
+    expect_no_match(&rt, alloc, pattern, input)?;
     Ok(())
 }
 
@@ -139,9 +133,8 @@ fn expect_groups(
     let input = url_input(alloc, &url)?;
     let names = names_of(alloc, names)?;
     let engine = <Regex as RegExp>::parse(alloc, regexp, "u", true)?;
-    let component = by_hand(alloc, names, Ok(engine));
-    let told: [Told<'_>; 1] = [("pathname", pathname, groups)];
-    expect_match(rt, alloc, component, &input, Some(&told))?;
+    let pattern = with_pathname(alloc, by_hand(alloc, names, Ok(engine)))?;
+    expect_path(rt, alloc, pattern, input, pathname, groups)?;
     Ok(())
 }
 
@@ -178,45 +171,37 @@ fn an_error_in_place_of_an_engine_matches_nothing(rt: HostRuntime) -> Result<(),
     let alloc = rt.alloc();
     let input = url_input(alloc, "https://example.com/")?;
     let pathname = by_hand(alloc, Vec::new(alloc), Err(Error::RegExp(())));
-    expect_match(&rt, alloc, pathname, &input, None)?;
+    expect_no_match(&rt, alloc, with_pathname(alloc, pathname)?, input)?;
     Ok(())
 }
 
 /// Whether the regular expression of a path, which is made for the whole text, matches it.
-fn is_whole_match(alloc: Global, pattern: &str, text: &str) -> Result<bool, Error> {
-    match path(alloc, pattern)?.regexp {
-        Ok(regexp) => Ok(RegExp::matches(&regexp, alloc, text)?.is_some()),
-        Err(error) => Err(error),
+fn is_whole_match(alloc: Global, pathname: &str, text: &str) -> Result<bool, Error> {
+    let component = path(alloc, pathname)?;
+    match &component.regexp {
+        Ok(regexp) => Ok(RegExp::matches(regexp, alloc, text)?.is_some()),
+        Err(_) => Ok(true),
     }
 }
 
 #[test]
 fn a_regexp_is_asked_for_the_middle_alone(rt: HostRuntime) -> Result<(), Fail> {
     let alloc = rt.alloc();
-    let pattern = "/foo(\\b.*)";
-    assert!(rt; !is_whole_match(alloc, pattern, "/foobar")?);
-    let told: [Told<'_>; 1] = [("pathname", "/foobar", &[("0", Some("bar"))])];
-    expect_url(
-        &rt,
-        alloc,
-        pattern,
-        "https://example.com/foobar",
-        Some(&told),
-    )?;
+    let pathname = "/foo(\\b.*)";
+    assert!(rt; !is_whole_match(alloc, pathname, "/foobar")?);
+    let told = [("pathname", "/foobar", "0", Some("bar"))];
+    expect_url(&rt, alloc, pathname, "https://example.com/foobar", &told)?;
     Ok(())
 }
 
 /// Each result is compared with its copy.
 #[test]
 fn a_copy_of_a_result_equals_it(rt: HostRuntime) -> Result<(), Fail> {
-    let told: [Told<'_>; 1] = [("pathname", "/a/b", &[("x", Some("b")), ("y", None)])];
-    expect_url(
-        &rt,
-        rt.alloc(),
-        "/a/:x{/:y}?",
-        "https://example.com/a/b",
-        Some(&told),
-    )?;
+    let alloc = rt.alloc();
+    let input = url_input(alloc, "https://example.com/a/b")?;
+    let pattern = with_pathname(alloc, path(alloc, "/a/:x{/:y}?")?)?;
+    let groups = [("x", Some("b")), ("y", None)];
+    expect_path(&rt, alloc, pattern, input, "/a/b", &groups)?;
     Ok(())
 }
 
@@ -225,19 +210,25 @@ fn a_component_tells_its_pattern(rt: HostRuntime) -> Result<(), Fail> {
     let alloc = rt.alloc();
     let pattern = with_pathname(alloc, path(alloc, "/users/:id")?)?;
     let facts = [
-        Fact::Texts(["*", "*", "*", "*", "*", "/users/:id", "*", "*"]),
+        Fact::Text("protocol", "*"),
+        Fact::Text("username", "*"),
+        Fact::Text("password", "*"),
+        Fact::Text("hostname", "*"),
+        Fact::Text("port", "*"),
         Fact::Text("pathname", "/users/:id"),
+        Fact::Text("search", "*"),
+        Fact::Text("hash", "*"),
         Fact::HasRegexpGroups(false),
     ];
-    expect_facts(&rt, alloc, pattern, &facts)?;
+    expect_facts(&rt, pattern, &facts);
     Ok(())
 }
 
 /// Holds whichever allocation is refused: `rt try --test --fail-alloc N` refuses one.
 #[test]
 fn a_match_without_memory_gives_no_other_answer(rt: HostRuntime) {
-    let told: [Told<'_>; 1] = [("pathname", "/users/123", &[("id", Some("123"))])];
+    let told = [("pathname", "/users/123", "id", Some("123"))];
     let url = "https://example.com/users/123";
-    let answer = expect_url(&rt, rt.alloc(), "/users/:id(\\d+)", url, Some(&told));
+    let answer = expect_url(&rt, rt.alloc(), "/users/:id(\\d+)", url, &told);
     assert!(rt; matches!(answer, Ok(()) | Err(Error::OutOfMemory)));
 }

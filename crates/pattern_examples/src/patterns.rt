@@ -1,6 +1,6 @@
 //! Patterns that are built of an init.
 
-use crate::facts::{Fact, Told, expect_facts};
+use crate::facts::{Fact, expect_facts, expect_match};
 use crate::inits::{Fields, init_of, init_under, url_input};
 use regex::Regex;
 use std::alloc::Global;
@@ -22,7 +22,8 @@ fn expect_built<R: RegExp>(
     facts: &[Fact<'_>],
 ) -> Result<(), Error> {
     let pattern = UrlPattern::<R>::parse(alloc, init, options)?;
-    expect_facts(rt, alloc, pattern, facts)
+    expect_facts(rt, pattern, facts);
+    Ok(())
 }
 
 /// Compares the pattern of these texts under the default options.
@@ -36,50 +37,59 @@ fn expect_pattern(
     expect_built::<Regex>(rt, alloc, init, UrlPatternOptions::default(), facts)
 }
 
-/// Compares the eight texts of the pattern of a pathname with a base URL, under the default options.
+/// Compares the pattern of a pathname with a base URL, under the default options.
 fn expect_under(
     rt: &impl Abort,
     alloc: Global,
     pathname: &str,
     base_url: &str,
-    texts: [&str; 8],
+    facts: &[Fact<'_>],
 ) -> Result<(), Error> {
     let init = init_under(alloc, &[("pathname", pathname)], base_url)?;
-    let options = UrlPatternOptions::default();
-    expect_built::<Regex>(rt, alloc, init, options, &[Fact::Texts(texts)])
+    expect_built::<Regex>(rt, alloc, init, UrlPatternOptions::default(), facts)
 }
 
 #[test]
 fn a_segment_of_the_path_is_found(rt: HostRuntime) -> Result<(), Fail> {
     let alloc = rt.alloc();
     let input = url_input(alloc, "https://example.com/users/123")?;
-    let told: [Told<'_>; 1] = [("pathname", "/users/123", &[("id", Some("123"))])];
-    let facts = [Fact::Match(&input, Some(&told))];
-    expect_pattern(&rt, alloc, &[("pathname", "/users/:id")], &facts)?;
+    let init = init_of(alloc, &[("pathname", "/users/:id")])?;
+    let pattern = UrlPattern::<Regex>::parse(alloc, init, UrlPatternOptions::default())?;
+    let told = [("pathname", "/users/123", "id", Some("123"))];
+    expect_match(&rt, alloc, pattern, input, &told)?;
     Ok(())
 }
 
 #[test]
 fn marks_in_the_path_of_a_base_stand_for_themselves(rt: HostRuntime) -> Result<(), Fail> {
-    let texts = [
-        "https",
-        "*",
-        "*",
-        "example.com",
-        "",
-        "/a\\(b\\)/d",
-        "*",
-        "*",
+    let facts = [
+        Fact::Text("protocol", "https"),
+        Fact::Text("username", "*"),
+        Fact::Text("password", "*"),
+        Fact::Text("hostname", "example.com"),
+        Fact::Text("port", ""),
+        Fact::Text("pathname", "/a\\(b\\)/d"),
+        Fact::Text("search", "*"),
+        Fact::Text("hash", "*"),
     ];
-    expect_under(&rt, rt.alloc(), "d", "https://example.com/a(b)/c", texts)?;
+    expect_under(&rt, rt.alloc(), "d", "https://example.com/a(b)/c", &facts)?;
     Ok(())
 }
 
 #[test]
 fn a_pattern_inherits_no_user_and_no_password(rt: HostRuntime) -> Result<(), Fail> {
     let base_url = "https://u:p@example.com:8080/a/b?q#f";
-    let texts = ["https", "*", "*", "example.com", "8080", "/a/c", "*", "*"];
-    expect_under(&rt, rt.alloc(), "c", base_url, texts)?;
+    let facts = [
+        Fact::Text("protocol", "https"),
+        Fact::Text("username", "*"),
+        Fact::Text("password", "*"),
+        Fact::Text("hostname", "example.com"),
+        Fact::Text("port", "8080"),
+        Fact::Text("pathname", "/a/c"),
+        Fact::Text("search", "*"),
+        Fact::Text("hash", "*"),
+    ];
+    expect_under(&rt, rt.alloc(), "c", base_url, &facts)?;
     Ok(())
 }
 

@@ -85,7 +85,7 @@ fn plain_inner<R: RegExp>(alloc: Global, component: Component<R>) -> Result<Inne
 fn a_pattern_for_the_library_becomes_plain_piece_by_piece(rt: HostRuntime) -> Result<(), Fail> {
     let alloc = rt.alloc();
     let facts = [Fact::Text("pathname", "/users/:id")];
-    expect_facts(&rt, alloc, pattern_as_lib(alloc, "/users/:id")?, &facts)?;
+    expect_facts(&rt, pattern_as_lib(alloc, "/users/:id")?, &facts);
     let (pathname, search) = path_and_search(pattern_as_lib(alloc, "/users/:id")?);
     let inner = plain_inner(alloc, search);
     let matcher = plain_matcher(alloc, pathname)?;
