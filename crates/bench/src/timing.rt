@@ -83,33 +83,54 @@ impl<'a> Subject<'a> {
     }
 
     /// Calls once. Says whether something was made, or is matched.
+    ///
+    /// Each call has a frame of its own: a pattern fills kilobytes, and no other call should pay for them.
     fn call(&self, alloc: Global, call: Call) -> Result<bool, Error> {
         match call {
-            Call::Parse => {
-                let pattern = make_pattern(alloc, &self.given, self.base, self.ignore_case)?;
-                Ok(!pattern.pathname().is_empty())
-            }
+            Call::Parse => self.parse(alloc),
             Call::ExecText => self.exec_text(alloc, self.hit),
             Call::ExecMiss => self.exec_text(alloc, self.miss),
-            Call::ExecUrl => {
-                let input = UrlPatternMatchInput::Url(self.url.clone()?);
-                Ok(self.pattern.exec(alloc, input)?.is_some())
-            }
-            Call::TestUrl => {
-                let input = UrlPatternMatchInput::Url(self.url.clone()?);
-                self.pattern.test(alloc, input)
-            }
-            Call::ParseUrl => Ok(Url::parse(alloc, self.hit).is_ok()),
+            Call::ExecUrl => self.exec_url(alloc),
+            Call::TestUrl => self.test_url(alloc),
+            Call::ParseUrl => self.parse_url(alloc),
         }
     }
 
+    /// Makes the pattern.
+    #[inline(never)]
+    fn parse(&self, alloc: Global) -> Result<bool, Error> {
+        let pattern = make_pattern(alloc, &self.given, self.base, self.ignore_case)?;
+        Ok(!pattern.pathname().is_empty())
+    }
+
     /// Asks for the groups of a text.
+    #[inline(never)]
     fn exec_text(&self, alloc: Global, text: &str) -> Result<bool, Error> {
         let input = StringOrInit::String(CowStr::Borrowed(text));
         let Some((input, _)) = process_match_input(alloc, input, None)? else {
             return Ok(false);
         };
         Ok(self.pattern.exec(alloc, input)?.is_some())
+    }
+
+    /// Asks for the groups of the URL.
+    #[inline(never)]
+    fn exec_url(&self, alloc: Global) -> Result<bool, Error> {
+        let input = UrlPatternMatchInput::Url(self.url.clone()?);
+        Ok(self.pattern.exec(alloc, input)?.is_some())
+    }
+
+    /// Asks whether the URL is matched.
+    #[inline(never)]
+    fn test_url(&self, alloc: Global) -> Result<bool, Error> {
+        let input = UrlPatternMatchInput::Url(self.url.clone()?);
+        self.pattern.test(alloc, input)
+    }
+
+    /// Parses the text of the URL.
+    #[inline(never)]
+    fn parse_url(&self, alloc: Global) -> Result<bool, Error> {
+        Ok(Url::parse(alloc, self.hit).is_ok())
     }
 
     /// The nanoseconds that this many calls take.
