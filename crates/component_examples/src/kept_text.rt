@@ -1,4 +1,4 @@
-//! An engine of regular expressions that shows what engines are handed.
+//! An engine of regular expressions that matches nothing.
 
 use std::alloc::Global;
 use urlpattern_core::RegexSyntax;

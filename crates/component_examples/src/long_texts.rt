@@ -1,7 +1,7 @@
 //! Long and deeply nested patterns, which end well within the time that a test has.
 
 use crate::parts::parts_of;
-use std::alloc::{AllocError, Global};
+use std::alloc::AllocError;
 use std::test::Fail;
 use urlpattern_core::Error;
 use urlpattern_core::error::ParserError;

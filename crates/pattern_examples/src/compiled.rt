@@ -1,12 +1,10 @@
-//! Components over engines in both syntaxes.
+//! Components over both engines where memory may run out.
 
 use regex::Regex;
 use std::alloc::Global;
 use std::process::Abort;
-use std::test::Fail;
 use urlpattern::Error;
 use urlpattern::component::Component;
-use urlpattern::matcher::{InnerMatcher, Matcher};
 use urlpattern::parser::Options;
 use urlpattern::quirks::EcmaRegexp;
 use urlpattern::regexp::RegExp;
@@ -15,61 +13,6 @@ use urlpattern::regexp::RegExp;
 fn component_of<R: RegExp>(alloc: Global, pattern: &str) -> Result<Component<R>, Error> {
     let unchanged = |text: &str| -> Result<String, Error> { Ok(String::from_str(alloc, text)?) };
     Component::compile(alloc, Some(pattern), unchanged, Options::pathname(alloc)?)
-}
-
-/// What a component keeps of a regular expression that is refused.
-#[derive(Drop)]
-struct Kept {
-    /// Whether it keeps an error in place of the whole regular expression.
-    is_error: bool,
-    /// What its matcher keeps.
-    inner: Inner,
-}
-
-/// What a matcher keeps.
-#[derive(Debug, PartialEq, Eq, Drop)]
-enum Inner {
-    /// An engine of this text.
-    Engine(String),
-    /// An error in place of an engine.
-    Error,
-    /// Neither.
-    Neither,
-}
-
-/// What a matcher keeps.
-fn inner_of<R: RegExp>(alloc: Global, matcher: &Matcher<R>) -> Result<Inner, Error> {
-    Ok(match &matcher.inner {
-        InnerMatcher::RegExp { regexp: Ok(engine) } => {
-            Inner::Engine(String::from_str(alloc, engine.pattern_string())?)
-        }
-        InnerMatcher::RegExp {
-            regexp: Err(Error::RegExp(())),
-        } => Inner::Error,
-        _ => Inner::Neither,
-    })
-}
-
-/// What the component of a path keeps.
-fn kept_by<R: RegExp>(alloc: Global, pattern: &str) -> Result<Kept, Error> {
-    let component: Component<R> = component_of(alloc, pattern)?;
-    Ok(Kept {
-        is_error: matches!(component.regexp, Err(Error::RegExp(()))),
-        inner: inner_of(alloc, &component.matcher)?,
-    })
-}
-
-#[test]
-fn a_bad_regexp_is_kept_as_an_error(rt: HostRuntime) -> Result<(), Fail> {
-    let alloc = rt.alloc();
-    let rust = kept_by::<Regex>(alloc, "/(a[)")?;
-    assert!(rt; rust.is_error);
-    assert_eq!(rt; rust.inner, Inner::Error);
-    let ecma = kept_by::<EcmaRegexp>(alloc, "/(a[)")?;
-    assert!(rt; ecma.is_error);
-    let text = String::from_str(alloc, "^(?:/(a[))$")?;
-    assert_eq!(rt; ecma.inner, Inner::Engine(text));
-    Ok(())
 }
 
 /// Whether a component is compiled as expected and answers so.

@@ -1,12 +1,11 @@
-//! Constructor strings: their components, and how many looks at a token they take.
+//! Constructor strings: the base URL that is kept, long strings, and want of memory.
 
 use crate::inits::{base_of, texts_of, url_of};
 use regex::Regex;
 use std::alloc::{AllocError, Global};
 use std::process::Abort;
 use std::test::Fail;
-use urlpattern::error::{RegexFault, TokenizerError};
-use urlpattern::tokenizer::{TokenType, TokenizePolicy, tokenize};
+use urlpattern::tokenizer::{TokenizePolicy, tokenize};
 use urlpattern::{Error, UrlPatternInit};
 
 /// A constructor string, and its components in order: protocol, username, password, hostname, port, pathname, search and
@@ -24,11 +23,6 @@ fn parse(
         None => None,
     };
     UrlPatternInit::parse_constructor_string_counted::<Regex>(alloc, pattern, base_url)
-}
-
-/// Why a constructor string is refused that has no base URL.
-fn refusal(alloc: Global, pattern: &str) -> Option<Error> {
-    parse(alloc, pattern, None).err()
 }
 
 /// Compares the components of a constructor string, and the base URL that is kept.
@@ -61,281 +55,12 @@ fn expect_turns(
 }
 
 #[test]
-fn strings_with_a_protocol(rt: HostRuntime) -> Result<(), Fail> {
-    let rows: [Row<'_>; 9] = [
-        (
-            ":café://:foo",
-            [
-                Some(":café"),
-                None,
-                None,
-                Some(":foo"),
-                Some(""),
-                None,
-                None,
-                None,
-            ],
-        ),
-        (
-            "https://a]",
-            [
-                Some("https"),
-                None,
-                None,
-                Some("a]"),
-                Some(""),
-                None,
-                None,
-                None,
-            ],
-        ),
-        (
-            "https:1/",
-            [
-                Some("https"),
-                None,
-                None,
-                Some("1"),
-                Some(""),
-                Some("/"),
-                None,
-                None,
-            ],
-        ),
-        (
-            "https://user\\:pw@example.com:8080/a?b#c",
-            [
-                Some("https"),
-                Some("user"),
-                Some("pw"),
-                Some("example.com"),
-                Some("8080"),
-                Some("/a"),
-                Some("b"),
-                Some("c"),
-            ],
-        ),
-        (
-            "https://user:pw@example.com:8080/a?b#c",
-            [
-                Some("https"),
-                Some("user:pw"),
-                None,
-                Some("example.com"),
-                Some("8080"),
-                Some("/a"),
-                Some("b"),
-                Some("c"),
-            ],
-        ),
-        (
-            "https://example.com?q",
-            [
-                Some("https"),
-                None,
-                None,
-                Some("example.com"),
-                Some(""),
-                Some("/"),
-                Some("q"),
-                None,
-            ],
-        ),
-        (
-            "https://example.com#h",
-            [
-                Some("https"),
-                None,
-                None,
-                Some("example.com"),
-                Some(""),
-                Some("/"),
-                Some(""),
-                Some("h"),
-            ],
-        ),
-        (
-            "data:1?b",
-            [
-                Some("data"),
-                None,
-                None,
-                Some(""),
-                Some(""),
-                Some("1"),
-                Some("b"),
-                None,
-            ],
-        ),
-        (
-            "(H\\PH)e:*) (emH\\<N)E*(elNH\\PH)e\u{FFFD}{}?u",
-            [
-                Some("(H\\PH)e"),
-                None,
-                None,
-                Some(""),
-                Some(""),
-                Some("*) (emH\\<N)E*(elNH\\PH)e\u{FFFD}{}?u"),
-                None,
-                None,
-            ],
-        ),
-    ];
-    for row in rows {
-        expect_components(&rt, rt.alloc(), None, row)?;
-    }
-    Ok(())
-}
-
-#[test]
-fn groups_names_and_brackets(rt: HostRuntime) -> Result<(), Fail> {
-    let rows: [Row<'_>; 5] = [
-        (
-            "https://*.example.com/:a?x",
-            [
-                Some("https"),
-                None,
-                None,
-                Some("*.example.com"),
-                Some(""),
-                Some("/:a?x"),
-                None,
-                None,
-            ],
-        ),
-        (
-            "https://example.com/:a\\?x",
-            [
-                Some("https"),
-                None,
-                None,
-                Some("example.com"),
-                Some(""),
-                Some("/:a"),
-                Some("x"),
-                None,
-            ],
-        ),
-        (
-            "https://a{:80}/b",
-            [
-                Some("https"),
-                None,
-                None,
-                Some("a{:80}"),
-                Some(""),
-                Some("/b"),
-                None,
-                None,
-            ],
-        ),
-        (
-            "https://]:1",
-            [
-                Some("https"),
-                None,
-                None,
-                Some("]:1"),
-                Some(""),
-                None,
-                None,
-                None,
-            ],
-        ),
-        (
-            "ht(tp):1/",
-            [
-                Some("ht(tp)"),
-                None,
-                None,
-                Some("1"),
-                Some(""),
-                Some("/"),
-                None,
-                None,
-            ],
-        ),
-    ];
-    for row in rows {
-        expect_components(&rt, rt.alloc(), None, row)?;
-    }
-    Ok(())
-}
-
-#[test]
-fn strings_without_a_protocol(rt: HostRuntime) -> Result<(), Fail> {
-    let rows: [Row<'_>; 5] = [
-        ("", [None, None, None, None, None, Some(""), None, None]),
-        (
-            "foo",
-            [None, None, None, None, None, Some("foo"), None, None],
-        ),
-        ("?q", [None, None, None, None, None, None, Some("q"), None]),
-        (
-            "#h{",
-            [None, None, None, None, None, None, None, Some("h{")],
-        ),
-        (
-            "a#b{c",
-            [None, None, None, None, None, Some("a#b{c"), None, None],
-        ),
-    ];
-    for row in rows {
-        expect_components(&rt, rt.alloc(), Some("https://example.com/"), row)?;
-    }
-    Ok(())
-}
-
-#[test]
 fn the_base_is_kept(rt: HostRuntime) -> Result<(), Fail> {
     let row = (
         "foo",
         [None, None, None, None, None, Some("foo"), None, None],
     );
     expect_components(&rt, rt.alloc(), Some("https://example.com/a"), row)?;
-    Ok(())
-}
-
-#[test]
-fn a_protocol_or_a_base_is_needed(rt: HostRuntime) {
-    for pattern in ["", "foo"] {
-        let error = refusal(rt.alloc(), pattern);
-        assert!(rt;
-            matches!(error, Some(Error::BaseUrlRequired)),
-            "at {pattern:?}"
-        );
-    }
-}
-
-#[test]
-fn a_fault_is_placed_in_the_protocol(rt: HostRuntime) {
-    let error = refusal(rt.alloc(), "ht(tp://x");
-    assert!(rt;
-        matches!(
-            error,
-            Some(Error::Tokenizer(TokenizerError::InvalidRegex(RegexFault::MissingClose), 2))
-        )
-    );
-}
-
-#[test]
-fn each_look_at_a_token_is_counted(rt: HostRuntime) -> Result<(), Fail> {
-    let rows = [("", 1, 2), ("foo", 4, 8), ("?q", 3, 5), ("https:1/", 9, 18)];
-    for (pattern, tokens, turns) in rows {
-        expect_turns(&rt, rt.alloc(), pattern, tokens, turns)?;
-    }
-    Ok(())
-}
-
-#[test]
-fn a_lonely_backslash_is_a_token(rt: HostRuntime) -> Result<(), Fail> {
-    let tokens = tokenize(rt.alloc(), "\\", TokenizePolicy::Lenient)?;
-    assert_eq!(rt; tokens.len(), 2);
-    assert_eq!(rt; tokens[0].kind, TokenType::InvalidChar);
-    assert_eq!(rt; tokens[0].index, 0);
-    assert_eq!(rt; tokens[0].value, "\\");
-    assert_eq!(rt; tokens[1].kind, TokenType::End);
-    assert_eq!(rt; tokens[1].index, 1);
     Ok(())
 }
 

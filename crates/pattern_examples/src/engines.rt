@@ -1,8 +1,7 @@
-//! Engines of regular expressions: what they refuse, and what their groups capture.
+//! Engines of regular expressions: what is refused only when it is asked for, and want of memory.
 
 use regex::Regex;
 use std::alloc::Global;
-use std::process::Abort;
 use std::test::Fail;
 use urlpattern::error::{OutOfMemory, RegExpError};
 use urlpattern::quirks::EcmaRegexp;
@@ -10,30 +9,6 @@ use urlpattern::regexp::RegExp;
 
 /// A regular expression, a text that it matches, and what its groups capture.
 type Row<'a> = (&'a str, &'a str, &'a [Option<&'a str>]);
-
-/// Compares what an engine's groups capture. The engine may not refuse the regular expression.
-fn expect_captures<R: RegExp>(rt: &impl Abort, alloc: Global, row: Row<'_>) -> Result<(), Fail> {
-    let (regexp, text, expected) = row;
-    let engine = R::parse(alloc, regexp, "u", true)?;
-    let captures = engine.matches(alloc, text)?.ok_or("no match")?;
-    assert!(rt; captures.as_slice() == expected, "{regexp:?} at {text:?}");
-    Ok(())
-}
-
-#[test]
-fn groups_capture_without_the_whole_match(rt: HostRuntime) -> Result<(), Fail> {
-    let alloc = rt.alloc();
-    let rows: [Row<'_>; 3] = [
-        ("b(c)", "abcd", &[Some("c")]),
-        ("^(a)?$", "a", &[Some("a")]),
-        ("^(a)?$", "", &[None]),
-    ];
-    for row in rows {
-        expect_captures::<Regex>(&rt, alloc, row)?;
-        expect_captures::<EcmaRegexp>(&rt, alloc, row)?;
-    }
-    Ok(())
-}
 
 #[test]
 fn ecma_regexp_refuses_a_bad_text_only_when_asked(rt: HostRuntime) -> Result<(), Fail> {

@@ -1,4 +1,4 @@
-//! What rows expect of whole patterns and of their matches.
+//! What tests expect of whole patterns and of their matches.
 
 use std::alloc::Global;
 use std::process::Abort;
@@ -22,12 +22,8 @@ pub enum Fact<'a> {
     Text(&'a str, &'a str),
     /// The regular expression of a component.
     Regexp(&'a str, &'a str),
-    /// The one group of a component.
-    Group(&'a str, &'a str),
     /// Whether case is ignored in a component.
     IgnoresCase(&'a str, bool),
-    /// Whether a component has a regular expression of its own.
-    HasRegexpGroups(bool),
 }
 
 /// Compares a pattern with what is expected of it.
@@ -44,12 +40,10 @@ fn expect_fact<R: RegExp>(rt: &impl Abort, pattern: &UrlPattern<R>, fact: Fact<'
         Fact::Regexp(name, text) => {
             assert_eq!(rt; regexp_of(component(pattern, name)), text, "of {name:?}");
         }
-        Fact::Group(name, group) => expect_group(rt, component(pattern, name), group),
         Fact::IgnoresCase(name, expected) => {
             let ignore_case = component(pattern, name).matcher.ignore_case;
             assert_eq!(rt; ignore_case, expected, "of {name:?}");
         }
-        Fact::HasRegexpGroups(expected) => assert_eq!(rt; pattern.has_regexp_groups(), expected),
     }
 }
 
@@ -86,14 +80,6 @@ fn regexp_of<R: RegExp>(component: &Component<R>) -> &str {
     match &component.regexp {
         Ok(regexp) => regexp.pattern_string(),
         Err(_) => "refused",
-    }
-}
-
-/// Compares the one group of a component.
-fn expect_group<R>(rt: &impl Abort, component: &Component<R>, group: &str) {
-    assert_eq!(rt; component.group_name_list.len(), 1);
-    for name in &component.group_name_list {
-        assert_eq!(rt; name.as_str(), group);
     }
 }
 

@@ -1,4 +1,4 @@
-//! The inputs that a browser gives.
+//! The inputs that a browser gives, and what is handed back of them.
 
 use crate::inits::{base_of, init_under, texts_of, url_input};
 use std::alloc::Global;
@@ -47,11 +47,6 @@ fn expect_init(
     Ok(())
 }
 
-/// Why a constructor's input is refused.
-fn refusal(alloc: Global, input: StringOrInit<'_>, base_url: Option<&str>) -> Option<Error> {
-    process_construct_pattern_input(alloc, input, base_url).err()
-}
-
 #[test]
 fn a_string_is_split_under_its_base(rt: HostRuntime) -> Result<(), Fail> {
     let alloc = rt.alloc();
@@ -70,39 +65,6 @@ fn a_string_is_split_under_its_base(rt: HostRuntime) -> Result<(), Fail> {
     let texts = [None, None, None, None, None, Some("/a"), None, None];
     let base_url = Some("https://example.com/b");
     expect_init(&rt, alloc, string("/a"), base_url, (texts, base_url))?;
-    Ok(())
-}
-
-/// Compares what is printed of the error of a constructor string without a base URL.
-fn expect_refusal(rt: &impl Abort, alloc: Global, text: &str, printed: &str) -> Result<(), Error> {
-    let Some(error) = refusal(alloc, string(text), None) else {
-        panic!(rt; "taken");
-    };
-    let found = format!(in alloc; "{error}")?;
-    assert_eq!(rt; found.as_str(), printed);
-    Ok(())
-}
-
-#[test]
-fn a_string_that_is_refused_tells_why(rt: HostRuntime) -> Result<(), Fail> {
-    let alloc = rt.alloc();
-    let relative = "a relative input without a base URL is not valid";
-    expect_refusal(&rt, alloc, "foo", relative)?;
-    let unclosed = "tokenizer error: invalid regex: missing closing ) (at char 2)";
-    expect_refusal(&rt, alloc, "ht(tp://x", unclosed)?;
-    let error = refusal(alloc, string("ht(tp://x"), Some("nonsense"));
-    assert!(rt; matches!(error, Some(Error::Url(_))));
-    Ok(())
-}
-
-#[test]
-fn an_init_beside_a_base_is_an_error(rt: HostRuntime) -> Result<(), Fail> {
-    let alloc = rt.alloc();
-    let base_url = Some("https://example.com/");
-    let error = refusal(alloc, plain_init(alloc, "/a", None)?, base_url);
-    assert!(rt; matches!(error, Some(Error::BaseUrlWithInit)));
-    let error = process_match_input(alloc, plain_init(alloc, "/a", None)?, base_url).err();
-    assert!(rt; matches!(error, Some(Error::BaseUrlWithInit)));
     Ok(())
 }
 
@@ -144,16 +106,6 @@ fn an_init_has_its_own_base(rt: HostRuntime) -> Result<(), Fail> {
     let init = init_under(alloc, &[("pathname", "a")], base_url)?;
     let expected = Some(UrlPatternMatchInput::Init(init));
     expect_read(&rt, alloc, input, None, expected)?;
-    Ok(())
-}
-
-#[test]
-fn an_init_with_a_bad_base_is_refused(rt: HostRuntime) -> Result<(), Fail> {
-    let alloc = rt.alloc();
-    let input = plain_init(alloc, "a", Some("nonsense"))?;
-    expect_read(&rt, alloc, input, None, None)?;
-    let error = refusal(alloc, plain_init(alloc, "a", Some("nonsense"))?, None);
-    assert!(rt; matches!(error, Some(Error::Url(_))));
     Ok(())
 }
 

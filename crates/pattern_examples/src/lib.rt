@@ -1,5 +1,6 @@
-//! Worked examples of constructor strings, inits, engines in both syntaxes, whole patterns with their matches, and JSON.
-//! It holds tests alone.
+//! Examples of whole patterns and what they are built of, beside the recorded cases that `bench` replays: JSON, plain
+//! data, inputs that are handed back, components put together by hand, ignored case, long strings, and calls for which
+//! memory may run out. It holds tests alone.
 #![tactic(auto)]
 
 #[cfg(test)]

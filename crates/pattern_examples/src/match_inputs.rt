@@ -1,6 +1,6 @@
-//! The texts of a match input, with what it inherits.
+//! The texts of a match input: the default ones, copies of an init, and want of memory.
 
-use crate::inits::{init_of, init_under, url_input};
+use crate::inits::init_under;
 use std::alloc::Global;
 use std::process::Abort;
 use std::test::Fail;
@@ -35,46 +35,12 @@ fn expect_texts(
     Ok(())
 }
 
-#[test]
-fn a_port_that_is_refused_is_no_input(rt: HostRuntime) -> Result<(), Fail> {
-    let alloc = rt.alloc();
-    let init = init_of(alloc, &[("port", "65536")])?;
-    let found = parse_match_input(alloc, UrlPatternMatchInput::Init(init))?;
-    assert!(rt; found.is_none());
-    Ok(())
-}
-
-#[test]
-fn an_init_without_base_has_empty_texts(rt: HostRuntime) -> Result<(), Fail> {
-    let alloc = rt.alloc();
-    let fields = [("protocol", "https"), ("port", "443"), ("pathname", "a")];
-    let init = init_of(alloc, &fields)?;
-    let expected = ["https", "", "", "", "", "a", "", ""];
-    expect_texts(&rt, alloc, UrlPatternMatchInput::Init(init), expected)?;
-    Ok(())
-}
-
 /// Compares the texts of a relative path under a base URL.
 fn expect_joined(rt: &impl Abort, alloc: Global) -> Result<(), Error> {
     let base_url = "https://u:p@example.com:8080/a/b?q#f";
     let init = init_under(alloc, &[("pathname", "c")], base_url)?;
     let expected = ["https", "u", "p", "example.com", "8080", "/a/c", "", ""];
     expect_texts(rt, alloc, UrlPatternMatchInput::Init(init), expected)
-}
-
-#[test]
-fn a_relative_pathname_goes_behind_the_base(rt: HostRuntime) -> Result<(), Fail> {
-    expect_joined(&rt, rt.alloc())?;
-    Ok(())
-}
-
-#[test]
-fn a_url_has_its_own_texts(rt: HostRuntime) -> Result<(), Fail> {
-    let alloc = rt.alloc();
-    let input = url_input(alloc, "https://u:p@example.com:8080/a/b?q#f")?;
-    let expected = ["https", "u", "p", "example.com", "8080", "/a/b", "q", "f"];
-    expect_texts(&rt, alloc, input, expected)?;
-    Ok(())
 }
 
 /// Whether a copy of an init equals it, and is not an init without texts.

@@ -1,7 +1,7 @@
-//! Matches of patterns: which inputs are matched, and what the groups capture.
+//! Matches of patterns with components put together by hand, copies of results, and want of memory.
 
-use crate::facts::{Fact, Groups, Told, expect_facts, expect_match, expect_no_match, expect_path};
-use crate::inits::{init_of, init_under, url_input};
+use crate::facts::{Groups, Told, expect_match, expect_no_match, expect_path};
+use crate::inits::url_input;
 use regex::Regex;
 use std::alloc::Global;
 use std::process::Abort;
@@ -10,7 +10,7 @@ use urlpattern::component::Component;
 use urlpattern::matcher::{InnerMatcher, Matcher};
 use urlpattern::parser::Options;
 use urlpattern::regexp::RegExp;
-use urlpattern::{Error, UrlPattern, UrlPatternInit, UrlPatternMatchInput, UrlPatternOptions};
+use urlpattern::{Error, UrlPattern, UrlPatternInit, UrlPatternOptions};
 
 /// The component of a path, whose texts stay as they are.
 fn path(alloc: Global, pattern: &str) -> Result<Component<Regex>, Error> {
@@ -70,57 +70,6 @@ fn expect_url(
     expect_match(rt, alloc, pattern, input, told)
 }
 
-#[test]
-fn a_segment_of_the_path_is_captured(rt: HostRuntime) -> Result<(), Fail> {
-    let url = "https://u:p@example.com:8080/users/123?q#f";
-    let told = [
-        ("protocol", "https", "0", Some("https")),
-        ("username", "u", "0", Some("u")),
-        ("password", "p", "0", Some("p")),
-        ("hostname", "example.com", "0", Some("example.com")),
-        ("port", "8080", "0", Some("8080")),
-        ("pathname", "/users/123", "id", Some("123")),
-        ("search", "q", "0", Some("q")),
-        ("hash", "f", "0", Some("f")),
-    ];
-    expect_url(&rt, rt.alloc(), "/users/:id", url, &told)?;
-    Ok(())
-}
-
-#[test]
-fn one_component_that_does_not_match_is_no_match(rt: HostRuntime) -> Result<(), Fail> {
-    let alloc = rt.alloc();
-    for url in ["https://example.com/users", "https://example.com/users/1/2"] {
-        let input = url_input(alloc, url)?;
-        let pattern = with_pathname(alloc, path(alloc, "/users/:id")?)?;
-        expect_no_match(&rt, alloc, pattern, input)?;
-    }
-    Ok(())
-}
-
-#[test]
-fn an_init_is_matched_with_what_it_inherits(rt: HostRuntime) -> Result<(), Fail> {
-    let alloc = rt.alloc();
-    let init = init_under(alloc, &[("pathname", "b")], "https://example.com/a/x")?;
-    let input = UrlPatternMatchInput::Init(init);
-    let pattern = with_pathname(alloc, path(alloc, "/a/*")?)?;
-    let told = [
-        ("pathname", "/a/b", "0", Some("b")),
-        ("hostname", "example.com", "0", Some("example.com")),
-    ];
-    expect_match(&rt, alloc, pattern, input, &told)?;
-    Ok(())
-}
-
-#[test]
-fn an_init_that_is_refused_is_no_match(rt: HostRuntime) -> Result<(), Fail> {
-    let alloc = rt.alloc();
-    let input = UrlPatternMatchInput::Init(init_of(alloc, &[("port", "65536")])?);
-    let pattern = with_pathname(alloc, path(alloc, "*")?)?;
-    expect_no_match(&rt, alloc, pattern, input)?;
-    Ok(())
-}
-
 /// Compares the groups of a path: an engine captures by this regular expression, beside these names.
 fn expect_groups(
     rt: &impl Abort,
@@ -175,25 +124,6 @@ fn an_error_in_place_of_an_engine_matches_nothing(rt: HostRuntime) -> Result<(),
     Ok(())
 }
 
-/// Whether the regular expression of a path, which is made for the whole text, matches it.
-fn is_whole_match(alloc: Global, pathname: &str, text: &str) -> Result<bool, Error> {
-    let component = path(alloc, pathname)?;
-    match &component.regexp {
-        Ok(regexp) => Ok(RegExp::matches(regexp, alloc, text)?.is_some()),
-        Err(_) => Ok(true),
-    }
-}
-
-#[test]
-fn a_regexp_is_asked_for_the_middle_alone(rt: HostRuntime) -> Result<(), Fail> {
-    let alloc = rt.alloc();
-    let pathname = "/foo(\\b.*)";
-    assert!(rt; !is_whole_match(alloc, pathname, "/foobar")?);
-    let told = [("pathname", "/foobar", "0", Some("bar"))];
-    expect_url(&rt, alloc, pathname, "https://example.com/foobar", &told)?;
-    Ok(())
-}
-
 /// Each result is compared with its copy.
 #[test]
 fn a_copy_of_a_result_equals_it(rt: HostRuntime) -> Result<(), Fail> {
@@ -202,25 +132,6 @@ fn a_copy_of_a_result_equals_it(rt: HostRuntime) -> Result<(), Fail> {
     let pattern = with_pathname(alloc, path(alloc, "/a/:x{/:y}?")?)?;
     let groups = [("x", Some("b")), ("y", None)];
     expect_path(&rt, alloc, pattern, input, "/a/b", &groups)?;
-    Ok(())
-}
-
-#[test]
-fn a_component_tells_its_pattern(rt: HostRuntime) -> Result<(), Fail> {
-    let alloc = rt.alloc();
-    let pattern = with_pathname(alloc, path(alloc, "/users/:id")?)?;
-    let facts = [
-        Fact::Text("protocol", "*"),
-        Fact::Text("username", "*"),
-        Fact::Text("password", "*"),
-        Fact::Text("hostname", "*"),
-        Fact::Text("port", "*"),
-        Fact::Text("pathname", "/users/:id"),
-        Fact::Text("search", "*"),
-        Fact::Text("hash", "*"),
-        Fact::HasRegexpGroups(false),
-    ];
-    expect_facts(&rt, pattern, &facts);
     Ok(())
 }
 

