@@ -10,7 +10,7 @@ mod plain;
 mod tokens;
 mod values;
 
-use crate::recorded::{Answer, Fault, Operation, field, text};
+use crate::recorded::{Answer, Fault, Operation, field, is_set, text};
 use serde_json::Value;
 use std::alloc::{AllocError, Global};
 use urlpattern::Error;
@@ -22,11 +22,11 @@ pub struct Outcome {
     pub operation: Operation,
     /// Whether an error was recorded.
     pub is_error: bool,
-    /// Whether the library answers what was recorded.
+    /// Whether the library answers what was recorded, or not that where the case is marked as wrong.
     pub is_same: bool,
 }
 
-/// Replays the case that a line holds.
+/// Replays the case that a line holds. The answer of a case that is marked as wrong is one that the library may not give.
 pub fn replay(alloc: Global, line: &str) -> Result<Outcome, Fault> {
     let case = Value::from_str(alloc, line)?;
     let question = field(&case, "in")?;
@@ -49,7 +49,7 @@ pub fn replay(alloc: Global, line: &str) -> Result<Outcome, Fault> {
     Ok(Outcome {
         operation,
         is_error: matches!(answer, Answer::Err(_)),
-        is_same,
+        is_same: is_same != is_set(&case, "wrong"),
     })
 }
 
