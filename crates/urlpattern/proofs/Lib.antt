@@ -1,8 +1,1 @@
-pub mod MatchInputLemmas
-pub mod Each
-pub mod GroupLemmas
-pub mod MatchExamples
-pub mod MatchLaws
-pub mod MatchSteps
-pub mod CompiledLemmas
 pub mod InputLemmas

@@ -15,10 +15,10 @@ use Rattle.urlpattern_init.specs.declared.init.UrlPatternMatchInput.{UrlPatternM
 use Rattle.urlpattern_init.specs.declared.init.UrlPatternMatchInput.TheVariants as match_inputs
 use Rattle.urlpattern_canonical.specs.Canonical.{Tells, long_text}
 use Rattle.urlpattern_core.specs.Engines.{IsRegexOf, regex_answer}
-use Rattle.urlpattern_plain.specs.declared.init.UrlPatternInit.{UrlPatternInit as PlainInit}
-use Rattle.urlpattern_plain.specs.declared.input.StringOrInit.{StringOrInit}
-use Rattle.urlpattern_plain.specs.declared.input.StringOrInit.TheVariants as inputs
-use Rattle.urlpattern_plain.specs.Values.{input_view}
+use Rattle.urlpattern_inputs.specs.declared.init.UrlPatternInit.{UrlPatternInit as PlainInit}
+use Rattle.urlpattern_inputs.specs.declared.input.StringOrInit.{StringOrInit}
+use Rattle.urlpattern_inputs.specs.declared.input.StringOrInit.TheVariants as inputs
+use Rattle.urlpattern_inputs.specs.InputValues.{input_view}
 use Rattle.urlpattern_syntax.specs.Errors.{ErrorView}
 use Rattle.urlpattern_syntax.specs.Errors.{ErrorView as views}
 use Rattle.urlpattern_syntax.specs.Text.{text_of}

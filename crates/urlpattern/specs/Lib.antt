@@ -1,5 +1,4 @@
 pub mod EcmaRegexps
-pub mod Compiled
 pub use Rattle.urlpattern_core.specs.Captured
 pub use Rattle.urlpattern_core.specs.Compiling
 pub use Rattle.urlpattern_core.specs.Engines
@@ -10,15 +9,10 @@ pub use Rattle.urlpattern_init.specs.Inheritance
 pub use Rattle.urlpattern_init.specs.SpecialProtocol
 pub use Rattle.urlpattern_init.specs.Split
 pub use Rattle.urlpattern_init.specs.Splitting
-pub use Rattle.urlpattern_plain.specs.Values
 pub use Rattle.urlpattern_laws.specs.Dialect
 pub use Rattle.urlpattern_syntax.specs.ErrorText
 pub use Rattle.urlpattern_syntax.specs.Errors
 pub mod Inputs
-pub mod Eight
-pub mod Match
-pub mod MatchInput
-pub mod Patterns
 pub mod Theorem
 pub mod Quirks
 pub use Rattle.urlpattern_laws.specs.Laws
@@ -35,6 +29,13 @@ pub use Rattle.urlpattern_syntax.specs.RegexpText
 pub use Rattle.urlpattern_syntax.specs.Text
 pub use Rattle.urlpattern_syntax.specs.Tokens
 pub use Rattle.urlpattern_syntax.specs.declared.parser.RegexSyntax
+pub use Rattle.urlpattern_pattern.specs.Compiled
+pub use Rattle.urlpattern_pattern.specs.Eight
+pub use Rattle.urlpattern_pattern.specs.Match
+pub use Rattle.urlpattern_pattern.specs.MatchInput
+pub use Rattle.urlpattern_pattern.specs.Patterns
+pub use Rattle.urlpattern_inputs.specs.InputJson
+pub use Rattle.urlpattern_inputs.specs.InputValues
 pub use Rattle.urlpattern_plain.specs.Json
 pub use Rattle.urlpattern_plain.specs.Plain
 pub use Rattle.urlpattern_plain.specs.Values

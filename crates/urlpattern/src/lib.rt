@@ -6,14 +6,13 @@
 #![tactic(auto)]
 
 pub mod laws;
-mod pattern;
 pub mod quirks;
 pub mod theorem;
 
-pub use pattern::{UrlPattern, UrlPatternComponentResult, UrlPatternResult};
 pub use urlpattern_canonical::canonicalize_and_process;
 pub use urlpattern_core::{
     Error, RegexSyntax, component, error, matcher, parser, regexp, tokenizer,
 };
 pub use urlpattern_init::{UrlPatternInit, UrlPatternMatchInput};
-pub use urlpattern_plain::UrlPatternOptions;
+pub use urlpattern_inputs::UrlPatternOptions;
+pub use urlpattern_pattern::{UrlPattern, UrlPatternComponentResult, UrlPatternResult};

@@ -3,8 +3,8 @@
 ghost use Rattle.std.specs.Prelude.{◌≡◌, ◌≢◌, ◌↔◌, ℕ, Bool, false, List, length, All, Result};
 ghost use Rattle.urlpattern_init.specs.declared.init.UrlPatternMatchInput.{UrlPatternMatchInput};
 ghost use Rattle.urlpattern_init.specs.declared.init.processing.Component.{Component};
-ghost use Rattle.urlpattern.specs.Match.{HasMatch, IsMatch, ResultView};
-ghost use Rattle.urlpattern.specs.Patterns.{PatternView};
+ghost use Rattle.urlpattern_pattern.specs.Match.{HasMatch, IsMatch, ResultView};
+ghost use Rattle.urlpattern_pattern.specs.Patterns.{PatternView};
 ghost use Rattle.urlpattern.specs.Theorem.{HasOutcome};
 ghost use Rattle.urlpattern_laws.specs.Dialect.{IsOnlyTreeOf, IsTreeOf, Items, Means};
 ghost use Rattle.urlpattern_laws.specs.Laws.{AnswersOnce, listed};

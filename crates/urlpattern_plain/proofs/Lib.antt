@@ -1,4 +1,3 @@
 pub mod JsonExamples
-pub mod TreeLemmas
 pub mod ReadingLemmas
 pub mod RoundTrip

@@ -1,67 +1,13 @@
--- The JSON of the plain values: the tree that stands for each, and which trees are read as which value.
-use Rattle.std.specs.Prelude.{ℕ, Bool, if◌then◌else◌, List, [], ◌∷◌, Option, None, Some, is_some, option_map, map, codes, encode_utf8}
+-- The JSON of compiled patterns: the tree that stands for each plain value, and which trees are read as which value.
+use Rattle.std.specs.Prelude.{ℕ, if◌then◌else◌, List, [], ◌∷◌, Option, None, Some, option_map, map, codes, encode_utf8}
 use Rattle.std.specs.Str.{bytes_eq, chars}
-use Rattle.serde_json.specs.Data.{Data, null, boolean, string, array, object, Items, no_items, item, Members, no_members, put}
-use Rattle.serde_json.specs.Find.{as_array, as_bool, as_null, as_object, as_str, get}
+use Rattle.serde_json.specs.Data.{Data, null, boolean, string, array, Items, no_items, item}
+use Rattle.serde_json.specs.Find.{as_array, as_str}
 use Rattle.serde_json.specs.View.{items_of}
-use Rattle.urlpattern_plain.specs.declared.options.UrlPatternOptions.{UrlPatternOptions}
-use Rattle.urlpattern_plain.specs.Values.{ComponentView, InitView, InnerView, InputView, MatchInputView, MatcherView, PatternView, literal, single_capture, regexp, of_text, of_init}
-use Rattle.urlpattern_syntax.specs.declared.parser.RegexSyntax.{RegexSyntax}
-use Rattle.urlpattern_syntax.specs.declared.parser.RegexSyntax.TheVariants.{EcmaScript, Rust}
+use Rattle.urlpattern_inputs.specs.Trees.{◌>>=◌, flag_read, member_read, object_of, optional_read, text_read}
+use Rattle.urlpattern_plain.specs.Values.{ComponentView, InnerView, MatcherView, PatternView, literal, single_capture, regexp}
 
 -- ---- the trees
-
--- the members, with the tree at the name if there is one
-abbrev pub with : Members → List ℕ × Option Data → Members
-with members (name, None) = members
-with members (name, Some tree) = put name tree members
-
-abbrev pub all_with : Members → List (List ℕ × Option Data) → Members
-all_with members [] = members
-all_with members (named ∷ rest) = all_with (with members named) rest
-
--- the object with a member for each name that has a tree
-abbrev pub object_of : List (List ℕ × Option Data) → Data
-object_of named = object (all_with no_members named)
-
-abbrev pub syntax_name : RegexSyntax → List ℕ
-syntax_name Rust = codes "Rust"
-syntax_name EcmaScript = codes "EcmaScript"
-
-abbrev pub options_tree : UrlPatternOptions → Data
-options_tree options = object_of (
-    (codes "regexSyntax", Some (string (syntax_name options.regex_syntax)))
-    ∷ (codes "ignoreCase", Some (boolean options.ignore_case))
-    ∷ [])
-
-abbrev pub init_tree : InitView → Data
-init_tree init = object_of (
-    (codes "protocol", option_map string init.protocol)
-    ∷ (codes "username", option_map string init.username)
-    ∷ (codes "password", option_map string init.password)
-    ∷ (codes "hostname", option_map string init.hostname)
-    ∷ (codes "port", option_map string init.port)
-    ∷ (codes "pathname", option_map string init.pathname)
-    ∷ (codes "search", option_map string init.search)
-    ∷ (codes "hash", option_map string init.hash)
-    ∷ (codes "baseURL", option_map string init.base_url)
-    ∷ [])
-
-abbrev pub input_tree : InputView → Data
-input_tree (of_text bytes) = string bytes
-input_tree (of_init values) = init_tree values
-
-abbrev pub match_input_tree : MatchInputView → Data
-match_input_tree input = object_of (
-    (codes "protocol", Some (string input.protocol))
-    ∷ (codes "username", Some (string input.username))
-    ∷ (codes "password", Some (string input.password))
-    ∷ (codes "hostname", Some (string input.hostname))
-    ∷ (codes "port", Some (string input.port))
-    ∷ (codes "pathname", Some (string input.pathname))
-    ∷ (codes "search", Some (string input.search))
-    ∷ (codes "hash", Some (string input.hash))
-    ∷ [])
 
 -- a text of one character, or null
 abbrev pub filter_tree : Option ℕ → Data
@@ -112,79 +58,6 @@ pattern_tree pattern = object_of (
     ∷ [])
 
 -- ---- what is read
-
-infixl 10 ◌>>=◌
--- the next step's answer, where there is something for it
-abbrev pub ◌>>=◌ : {A B : Type 0} → Option A → (A → Option B) → Option B
-None >>= next = None
-(Some value) >>= next = next value
-
--- the member of this name, which only an object has
-abbrev pub member_read : {A : Type 0} → (Data → Option A) → List ℕ → Data → Option A
-member_read read name tree = get name tree >>= read
-
-abbrev pub text_read : List ℕ → Data → Option (List ℕ)
-text_read name tree = member_read as_str name tree
-
-abbrev pub flag_read : List ℕ → Data → Option Bool
-flag_read name tree = member_read as_bool name tree
-
--- None where there is no member, or null
-abbrev pub found_read : {A : Type 0} → (Data → Option A) → Option Data → Option (Option A)
-found_read read None = Some None
-found_read read (Some tree) = if is_some (as_null tree) then Some None else option_map Some (read tree)
-
--- a member of this name that may be missing
-abbrev pub optional_read : {A : Type 0} → (Data → Option A) → List ℕ → Data → Option (Option A)
-optional_read read name tree = found_read read (get name tree)
-
-abbrev pub syntax_of : List ℕ → Option RegexSyntax
-syntax_of name =
-    if bytes_eq name (codes "Rust") then Some Rust
-    else if bytes_eq name (codes "EcmaScript") then Some EcmaScript
-    else None
-
--- the default where there is no member
-abbrev pub syntax_read : Option Data → Option RegexSyntax
-syntax_read None = Some Rust
-syntax_read (Some tree) = as_str tree >>= syntax_of
-
-unfoldable pub options_read : Data → Option UrlPatternOptions
-options_read tree = do
-  regex_syntax ← syntax_read (get (codes "regexSyntax") tree)
-  ignore_case ← flag_read (codes "ignoreCase") tree
-  Some (record { regex_syntax = regex_syntax; ignore_case = ignore_case })
-
-unfoldable pub init_read : Data → Option InitView
-init_read tree = do
-  members ← as_object tree
-  protocol ← optional_read as_str (codes "protocol") tree
-  username ← optional_read as_str (codes "username") tree
-  password ← optional_read as_str (codes "password") tree
-  hostname ← optional_read as_str (codes "hostname") tree
-  port ← optional_read as_str (codes "port") tree
-  pathname ← optional_read as_str (codes "pathname") tree
-  search ← optional_read as_str (codes "search") tree
-  hash ← optional_read as_str (codes "hash") tree
-  base_url ← optional_read as_str (codes "baseURL") tree
-  Some (record { protocol = protocol; username = username; password = password; hostname = hostname; port = port; pathname = pathname; search = search; hash = hash; base_url = base_url })
-
--- a text, or an init
-abbrev pub input_read : Data → Option InputView
-input_read (string bytes) = Some (of_text bytes)
-input_read tree = option_map of_init (init_read tree)
-
-unfoldable pub match_input_read : Data → Option MatchInputView
-match_input_read tree = do
-  protocol ← text_read (codes "protocol") tree
-  username ← text_read (codes "username") tree
-  password ← text_read (codes "password") tree
-  hostname ← text_read (codes "hostname") tree
-  port ← text_read (codes "port") tree
-  pathname ← text_read (codes "pathname") tree
-  search ← text_read (codes "search") tree
-  hash ← text_read (codes "hash") tree
-  Some (record { protocol = protocol; username = username; password = password; hostname = hostname; port = port; pathname = pathname; search = search; hash = hash })
 
 -- the character of a text that has one
 abbrev pub only : List ℕ → Option ℕ

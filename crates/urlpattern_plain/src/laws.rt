@@ -3,9 +3,11 @@
 //! Each function here does nothing; what it promises is a theorem.
 
 ghost use Rattle.std.specs.Prelude.{◌≡◌, Some};
-ghost use Rattle.urlpattern_plain.specs.Json.{component_read, component_tree, init_read, init_tree, input_read, input_tree, match_input_read, match_input_tree, matcher_read, matcher_tree, options_read, options_tree, pattern_read, pattern_tree};
-ghost use Rattle.urlpattern_plain.specs.Values.{ComponentView, HasFilter, HasFilters, InitView, InputView, MatchInputView, MatcherView, PatternView};
-ghost use Rattle.urlpattern_plain.specs.declared.options.UrlPatternOptions.{UrlPatternOptions};
+ghost use Rattle.urlpattern_inputs.specs.declared.options.UrlPatternOptions.{UrlPatternOptions};
+ghost use Rattle.urlpattern_inputs.specs.InputJson.{init_read, init_tree, input_read, input_tree, match_input_read, match_input_tree, options_read, options_tree};
+ghost use Rattle.urlpattern_inputs.specs.InputValues.{InitView, InputView, MatchInputView};
+ghost use Rattle.urlpattern_plain.specs.Json.{component_read, component_tree, matcher_read, matcher_tree, pattern_read, pattern_tree};
+ghost use Rattle.urlpattern_plain.specs.Values.{ComponentView, HasFilter, HasFilters, MatcherView, PatternView};
 
 /// The tree of a value is read as this value. A filter has to be a character, as it is in each value of a program.
 pub fn reading_undoes_writing()

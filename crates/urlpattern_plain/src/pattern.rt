@@ -3,16 +3,17 @@
 ghost use Rattle.std.specs.Prelude.{◌≡◌, IfErr, IfOk, OnOk, option_map};
 ghost use Rattle.serde_json.specs.Data.{put as with_member};
 ghost use Rattle.serde_json.specs.View.{members_view, view};
-ghost use Rattle.urlpattern_plain.specs.Json.{component_read, component_tree, matcher_read, member_read, pattern_read, pattern_tree};
+ghost use Rattle.urlpattern_plain.specs.Json.{component_read, component_tree, matcher_read, pattern_read, pattern_tree};
 ghost use Rattle.urlpattern_core.specs.Compiling as compiled;
 ghost use Rattle.urlpattern_plain.specs.Plain.{plain_component};
-ghost use Rattle.urlpattern_plain.specs.Steps.{Gives};
+ghost use Rattle.urlpattern_inputs.specs.Steps.{Gives};
+ghost use Rattle.urlpattern_inputs.specs.Trees.{member_read};
 ghost use Rattle.urlpattern_plain.specs.Values.{component_by, component_view, matcher_view, pattern_view};
 ghost use Rattle.urlpattern_syntax.specs.declared.error.Error.TheVariants as errors;
 ghost use Rattle.urlpattern_syntax.specs.Text.{text_of};
 
 use crate::matcher::{Matcher, engine_text};
-use crate::reading::{Unread, flag_field, member, text_field, texts_field, told};
+use crate::reading::texts_field;
 use crate::writing::texts_value;
 use serde::{Deserialize, Serialize};
 use serde_json::{Map, Value, json};
@@ -20,6 +21,7 @@ use std::alloc::{AllocError, Global};
 use urlpattern_core::Error;
 use urlpattern_core::component::Component;
 use urlpattern_core::regexp::RegExp;
+use urlpattern_inputs::reading::{Unread, flag_field, member, text_field, told};
 
 /// A pattern for each of a URL's components.
 #[derive(Debug, Clone, PartialEq, Eq, Drop, Serialize, Deserialize)]

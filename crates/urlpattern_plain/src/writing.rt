@@ -1,30 +1,11 @@
-//! The steps of writing plain values as JSON.
-ghost use Rattle.std.specs.Prelude.{◌≡◌, IfOk, OnOk, map, option_map, string_bytes};
+//! The steps of writing compiled patterns as JSON.
+ghost use Rattle.std.specs.Prelude.{◌≡◌, IfOk, map, string_bytes};
 ghost use Rattle.serde_json.specs.Data.{array, string};
-ghost use Rattle.serde_json.specs.View.{items_of, members_view, view};
-ghost use Rattle.urlpattern_plain.specs.Json.{filter_tree, with};
+ghost use Rattle.serde_json.specs.View.{items_of, view};
+ghost use Rattle.urlpattern_plain.specs.Json.{filter_tree};
 
-use serde_json::{Map, Value};
+use serde_json::Value;
 use std::alloc::{AllocError, Global};
-
-/// Puts the text into an object, if there is one.
-pub(crate) fn put_optional(
-    members: &mut Map<String, Value>,
-    alloc: Global,
-    name: &str,
-    text: &Option<String>,
-) -> Result<(), AllocError>
-    ensures { OnOk result (members_view members.new.entries
-        ≡ with (members_view members.old.entries) (name.now, option_map string (option_map string_bytes text.now))) }
-{
-    match text {
-        Some(text) => {
-            let tree = Value::try_from_str(alloc, text)?;
-            serde_json::put(members, alloc, name, tree)
-        }
-        None => Ok(()),
-    }
-}
 
 /// A text of one character, or null.
 pub(crate) fn filter_value(alloc: Global, filter: Option<char>) -> Result<Value, AllocError>

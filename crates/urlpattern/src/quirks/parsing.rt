@@ -1,7 +1,7 @@
 //! Patterns for browsers: compiled, and as plain data.
 ghost use Rattle.std.specs.Prelude.{◌≡◌, IfErr, IfOk};
-ghost use Rattle.urlpattern.specs.Compiled.{IsCompiled, RefusesPattern};
-ghost use Rattle.urlpattern.specs.Patterns.{PatternView, pattern_view};
+ghost use Rattle.urlpattern_pattern.specs.Compiled.{IsCompiled, RefusesPattern};
+ghost use Rattle.urlpattern_pattern.specs.Patterns.{PatternView, pattern_view};
 ghost use Rattle.urlpattern.specs.Quirks.{plain_pattern};
 ghost use Rattle.urlpattern_core.specs.Compiling.{IsCompiledFrom};
 ghost use Rattle.urlpattern_plain.specs.Values.{pattern_by};
@@ -9,11 +9,13 @@ ghost use Rattle.urlpattern_syntax.specs.declared.error.Error.TheVariants as err
 ghost use Rattle.urlpattern_syntax.specs.Parsing.{MemoryOr};
 ghost use Rattle.urlpattern_syntax.specs.Text.{text_of};
 
-use crate::{UrlPatternInit, pattern};
 use std::alloc::Global;
 use urlpattern_core::Error;
 use urlpattern_core::regexp::RegExp;
-use urlpattern_plain::{UrlPattern, UrlPatternComponent, UrlPatternOptions};
+use urlpattern_init::UrlPatternInit;
+use urlpattern_inputs::UrlPatternOptions;
+use urlpattern_pattern as pattern;
+use urlpattern_plain::{UrlPattern, UrlPatternComponent};
 
 /// Compiles a pattern from an init, and tells it as plain data.
 ///

@@ -1,6 +1,6 @@
 use Rattle.std.proofs.Common.{◌≡◌, ℕ, false, List, refl, ap}
 use Rattle.std.specs.Prelude.{Result, Ok, Err}
-use Rattle.urlpattern.specs.Match.{group_of, text_at}
+use Rattle.urlpattern_pattern.specs.Match.{group_of, text_at}
 use Rattle.urlpattern.specs.Theorem.{HasOutcome}
 use Rattle.urlpattern_laws.proofs.CaptureCount.{captures_counted}
 use Rattle.urlpattern_laws.proofs.MatcherMeaning.{matcher_means}

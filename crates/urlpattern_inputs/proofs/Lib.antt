@@ -1,0 +1,4 @@
+pub mod JsonExamples
+pub mod TreeLemmas
+pub mod ReadingLemmas
+pub mod RoundTrip

@@ -1,0 +1,46 @@
+-- JSON trees member by member: how objects are written, and how a member is read.
+use Rattle.std.specs.Prelude.{ℕ, Bool, if◌then◌else◌, List, [], ◌∷◌, Option, None, Some, is_some, option_map}
+use Rattle.serde_json.specs.Data.{Data, object, Members, no_members, put}
+use Rattle.serde_json.specs.Find.{as_bool, as_null, as_str, get}
+
+-- ---- what is written
+
+-- the members, with the tree at the name if there is one
+abbrev pub with : Members → List ℕ × Option Data → Members
+with members (name, None) = members
+with members (name, Some tree) = put name tree members
+
+abbrev pub all_with : Members → List (List ℕ × Option Data) → Members
+all_with members [] = members
+all_with members (named ∷ rest) = all_with (with members named) rest
+
+-- the object with a member for each name that has a tree
+abbrev pub object_of : List (List ℕ × Option Data) → Data
+object_of named = object (all_with no_members named)
+
+-- ---- what is read
+
+infixl 10 ◌>>=◌
+-- the next step's answer, where there is something for it
+abbrev pub ◌>>=◌ : {A B : Type 0} → Option A → (A → Option B) → Option B
+None >>= next = None
+(Some value) >>= next = next value
+
+-- the member of this name, which only an object has
+abbrev pub member_read : {A : Type 0} → (Data → Option A) → List ℕ → Data → Option A
+member_read read name tree = get name tree >>= read
+
+abbrev pub text_read : List ℕ → Data → Option (List ℕ)
+text_read name tree = member_read as_str name tree
+
+abbrev pub flag_read : List ℕ → Data → Option Bool
+flag_read name tree = member_read as_bool name tree
+
+-- None where there is no member, or null
+abbrev pub found_read : {A : Type 0} → (Data → Option A) → Option Data → Option (Option A)
+found_read read None = Some None
+found_read read (Some tree) = if is_some (as_null tree) then Some None else option_map Some (read tree)
+
+-- a member of this name that may be missing
+abbrev pub optional_read : {A : Type 0} → (Data → Option A) → List ℕ → Data → Option (Option A)
+optional_read read name tree = found_read read (get name tree)

@@ -1,0 +1,104 @@
+//! The texts that a pattern is matched against.
+ghost use Rattle.std.specs.Prelude.{◌≡◌, IfErr, IfOk, option_map};
+ghost use Rattle.serde_json.specs.View.{view};
+ghost use Rattle.urlpattern_inputs.specs.InputJson.{match_input_read, match_input_tree};
+ghost use Rattle.urlpattern_inputs.specs.Steps.{Gives};
+ghost use Rattle.urlpattern_inputs.specs.InputValues.{empty_match_input, match_input_view};
+ghost use Rattle.urlpattern_syntax.specs.declared.error.Error.TheVariants as errors;
+
+use crate::reading::{Unread, text_field, told};
+use serde::{Deserialize, Serialize};
+use serde_json::{Value, json};
+use std::alloc::{AllocError, Global};
+use urlpattern_syntax::Error;
+
+/// The texts of the components that a pattern is matched against.
+#[derive(Debug, Clone, PartialEq, Eq, Drop, Serialize, Deserialize)]
+pub struct MatchInput {
+    /// The scheme, without a colon.
+    pub protocol: String,
+    /// The user name.
+    pub username: String,
+    /// The password.
+    pub password: String,
+    /// The host.
+    pub hostname: String,
+    /// The port, empty if it is the scheme's default.
+    pub port: String,
+    /// The path.
+    pub pathname: String,
+    /// The query, without a question mark.
+    pub search: String,
+    /// The fragment, without a number sign.
+    pub hash: String,
+}
+
+impl MatchInput {
+    /// Eight empty texts.
+    pub fn default(alloc: Global) -> Self
+        ensures { match_input_view result ≡ empty_match_input }
+    {
+        Self {
+            protocol: String::new(alloc),
+            username: String::new(alloc),
+            password: String::new(alloc),
+            hostname: String::new(alloc),
+            port: String::new(alloc),
+            pathname: String::new(alloc),
+            search: String::new(alloc),
+            hash: String::new(alloc),
+        }
+    }
+
+    /// The JSON of the input: an object with a key for each text.
+    ///
+    /// The error is that memory ran out.
+    pub fn to_json_value(&self, alloc: Global) -> Result<Value, Error>
+        ensures tree { IfOk result (λ tree. view tree ≡ match_input_tree (match_input_view self.now)) }
+        ensures memory { IfErr result (λ error. error ≡ errors.OutOfMemory) }
+    {
+        Ok(self.tree(alloc)?)
+    }
+
+    fn tree(&self, alloc: Global) -> Result<Value, AllocError>
+        ensures { IfOk result (λ tree. view tree ≡ match_input_tree (match_input_view self.now)) }
+    {
+        json!(in alloc; {
+            "protocol": &self.protocol,
+            "username": &self.username,
+            "password": &self.password,
+            "hostname": &self.hostname,
+            "port": &self.port,
+            "pathname": &self.pathname,
+            "search": &self.search,
+            "hash": &self.hash
+        })
+    }
+
+    /// The input that the JSON stands for: an object with a text for each key. Other keys are passed over. None if it
+    /// stands for none.
+    ///
+    /// The error is that memory ran out.
+    pub fn from_json_value(alloc: Global, value: &Value) -> Result<Option<Self>, Error>
+        ensures read { IfOk result (λ found. option_map match_input_view found ≡ match_input_read (view value.now)) }
+        ensures memory { IfErr result (λ error. error ≡ errors.OutOfMemory) }
+    {
+        told(Self::read(alloc, value))
+    }
+
+    #[tactic(auto, unfolding(crate::specs::InputJson::match_input_read))]
+    fn read(alloc: Global, value: &Value) -> Result<Self, Unread>
+        ensures { Gives match_input_view result (match_input_read (view value.now)) }
+    {
+        Ok(Self {
+            protocol: text_field(alloc, value, "protocol")?,
+            username: text_field(alloc, value, "username")?,
+            password: text_field(alloc, value, "password")?,
+            hostname: text_field(alloc, value, "hostname")?,
+            port: text_field(alloc, value, "port")?,
+            pathname: text_field(alloc, value, "pathname")?,
+            search: text_field(alloc, value, "search")?,
+            hash: text_field(alloc, value, "hash")?,
+        })
+    }
+}

@@ -1,0 +1,27 @@
+//! The steps of writing plain values as JSON.
+ghost use Rattle.std.specs.Prelude.{◌≡◌, OnOk, option_map, string_bytes};
+ghost use Rattle.serde_json.specs.Data.{string};
+ghost use Rattle.serde_json.specs.View.{members_view};
+ghost use Rattle.urlpattern_inputs.specs.Trees.{with};
+
+use serde_json::{Map, Value};
+use std::alloc::{AllocError, Global};
+
+/// Puts the text into an object, if there is one.
+pub(crate) fn put_optional(
+    members: &mut Map<String, Value>,
+    alloc: Global,
+    name: &str,
+    text: &Option<String>,
+) -> Result<(), AllocError>
+    ensures { OnOk result (members_view members.new.entries
+        ≡ with (members_view members.old.entries) (name.now, option_map string (option_map string_bytes text.now))) }
+{
+    match text {
+        Some(text) => {
+            let tree = Value::try_from_str(alloc, text)?;
+            serde_json::put(members, alloc, name, tree)
+        }
+        None => Ok(()),
+    }
+}

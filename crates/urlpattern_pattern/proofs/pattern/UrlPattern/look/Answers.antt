@@ -1,0 +1,31 @@
+use Rattle.urlpattern_init.specs.declared.init.processing.Component.TheVariants.{Protocol, Username, Password, Hostname, Port, Pathname, Search, Hash}
+use Rattle.urlpattern_pattern.proofs.Each.{each, if_none}
+use Rattle.urlpattern_pattern.proofs.pattern.UrlPattern.look.Goals as goal
+
+pub returns-in_err-look-clause-none : goal.returns-in_err-look-clause-none
+returns-in_err-look-clause-none g c = if_none _ c.from_residual.result (Pathname, c.in_err-look.ensures)
+
+pub returns-in_err-look-2-clause-none : goal.returns-in_err-look-2-clause-none
+returns-in_err-look-2-clause-none g c = if_none _ c.from_residual-in_err-look-2.result (Hostname, c.in_err-look-2.ensures)
+
+pub returns-in_err-look-3-clause-none : goal.returns-in_err-look-3-clause-none
+returns-in_err-look-3-clause-none g c = if_none _ c.from_residual-in_err-look-3.result (Protocol, c.in_err-look-3.ensures)
+
+pub returns-in_err-look-4-clause-none : goal.returns-in_err-look-4-clause-none
+returns-in_err-look-4-clause-none g c = if_none _ c.from_residual-in_err-look-4.result (Port, c.in_err-look-4.ensures)
+
+pub returns-in_err-look-5-clause-none : goal.returns-in_err-look-5-clause-none
+returns-in_err-look-5-clause-none g c = if_none _ c.from_residual-in_err-look-5.result (Search, c.in_err-look-5.ensures)
+
+pub returns-in_err-look-6-clause-none : goal.returns-in_err-look-6-clause-none
+returns-in_err-look-6-clause-none g c = if_none _ c.from_residual-in_err-look-6.result (Hash, c.in_err-look-6.ensures)
+
+pub returns-in_err-look-7-clause-none : goal.returns-in_err-look-7-clause-none
+returns-in_err-look-7-clause-none g c = if_none _ c.from_residual-in_err-look-7.result (Username, c.in_err-look-7.ensures)
+
+pub returns-in_err-look-8-clause-none : goal.returns-in_err-look-8-clause-none
+returns-in_err-look-8-clause-none g c = if_none _ c.from_residual-in_err-look-8.result (Password, c.in_err-look-8.ensures)
+
+pub returns-clause-some : goal.returns-clause-some
+returns-clause-some g c =
+    each _ c.in_ok-look-3.ensures c.in_ok-look-7.ensures c.in_ok-look-8.ensures c.in_ok-look-2.ensures c.in_ok-look-4.ensures c.in_ok-look.ensures c.in_ok-look-5.ensures c.in_ok-look-6.ensures

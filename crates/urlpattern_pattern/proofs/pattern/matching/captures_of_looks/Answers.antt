@@ -1,0 +1,28 @@
+use Rattle.urlpattern_init.specs.declared.init.processing.Component.TheVariants.{Protocol, Username, Password, Hostname, Port, Pathname, Search, Hash}
+use Rattle.std.proofs.Common.{sym, ◌∙◌, ap, option_map}
+use Rattle.urlpattern_pattern.specs.Eight.{captures_of}
+use Rattle.urlpattern_pattern.proofs.pattern.matching.captures_of_looks.Goals as goal
+
+pub returns-in_default-clause-none : goal.returns-in_default-clause-none
+returns-in_default-clause-none g c = (Protocol, sym c.in_ok-protocol.ensures.answer ∙ ap (option_map captures_of) c.in_default.is)
+
+pub returns-in_default-2-clause-none : goal.returns-in_default-2-clause-none
+returns-in_default-2-clause-none g c = (Username, sym c.in_ok-username.ensures.answer ∙ ap (option_map captures_of) c.in_default-2.is)
+
+pub returns-in_default-3-clause-none : goal.returns-in_default-3-clause-none
+returns-in_default-3-clause-none g c = (Password, sym c.in_ok-password.ensures.answer ∙ ap (option_map captures_of) c.in_default-3.is)
+
+pub returns-in_default-4-clause-none : goal.returns-in_default-4-clause-none
+returns-in_default-4-clause-none g c = (Hostname, sym c.in_ok-hostname.ensures.answer ∙ ap (option_map captures_of) c.in_default-4.is)
+
+pub returns-in_default-5-clause-none : goal.returns-in_default-5-clause-none
+returns-in_default-5-clause-none g c = (Port, sym c.in_ok-port.ensures.answer ∙ ap (option_map captures_of) c.in_default-5.is)
+
+pub returns-in_default-6-clause-none : goal.returns-in_default-6-clause-none
+returns-in_default-6-clause-none g c = (Pathname, sym c.in_ok-pathname.ensures.answer ∙ ap (option_map captures_of) c.in_default-6.is)
+
+pub returns-in_default-7-clause-none : goal.returns-in_default-7-clause-none
+returns-in_default-7-clause-none g c = (Search, sym c.in_ok-search.ensures.answer ∙ ap (option_map captures_of) c.in_default-7.is)
+
+pub returns-in_default-8-clause-none : goal.returns-in_default-8-clause-none
+returns-in_default-8-clause-none g c = (Hash, sym c.in_ok-hash.ensures.answer ∙ ap (option_map captures_of) c.in_default-8.is)

@@ -1,0 +1,5 @@
+pub mod Compiled
+pub mod Eight
+pub mod Match
+pub mod MatchInput
+pub mod Patterns

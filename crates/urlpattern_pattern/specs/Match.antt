@@ -1,0 +1,113 @@
+-- What it means that a pattern matches an input, and the groups of a match, after the URLPattern Standard, section
+-- "Matching", at "match".
+use Rattle.std.specs.Prelude.{◌≡◌, ◌≤◌, ◌⊎◌, ℕ, List, reverse, zip, bytes_eq, Option, Some, None, option_map, Ok, String}
+use Rattle.std.specs.HashMap.{HashMap, get_by}
+use Rattle.std.specs.Map.{lookup}
+use Rattle.std.specs.declared.alloc.Global.{Global}
+use Rattle.urlpattern_init.specs.declared.init.processing.Component.{Component}
+use Rattle.urlpattern_init.specs.declared.init.processing.Component.TheVariants.{Protocol, Username, Password, Hostname, Port, Pathname, Search, Hash}
+use Rattle.urlpattern_init.specs.declared.init.UrlPatternMatchInput.{UrlPatternMatchInput}
+use Rattle.urlpattern_init.specs.declared.init.UrlPatternMatchInput.TheVariants.{Init, Url as UrlInput}
+use Rattle.urlpattern_pattern.specs.declared.pattern.result.UrlPatternComponentResult.{UrlPatternComponentResult}
+use Rattle.urlpattern_pattern.specs.declared.pattern.result.UrlPatternResult.{UrlPatternResult}
+use Rattle.urlpattern_init.specs.Inheritance.{Texts, asked_bytes, values_view}
+use Rattle.urlpattern_pattern.specs.MatchInput.{IsNoInput, input_texts}
+use Rattle.urlpattern_pattern.specs.Patterns.{PatternView}
+use Rattle.urlpattern_canonical.specs.Canonical.{long_text}
+use Rattle.urlpattern_canonical.specs.declared.canonicalize_and_process.ProcessType.TheVariants.{Url}
+use Rattle.urlpattern_laws.specs.Matching.{Answers, IsMatched}
+use Rattle.urlpattern_laws.specs.PartMeaning.{Captures}
+use Rattle.urlpattern_syntax.specs.Text.{text_of}
+
+-- ---- groups
+
+-- what the group of a name captures, if there is one: names stand beside captures, names or captures that have none beside
+-- them are passed over, and of equal names the last counts
+abbrev pub group_of : (names : List (List ℕ)) → Captures → (name : List ℕ) → Option (Option (List ℕ))
+group_of names captures name = lookup (bytes_eq name) (reverse (zip names captures))
+
+-- what a map of groups has at a name
+abbrev pub group_in : {S : Type 0} → HashMap (String Global) (Option (String Global)) S → (name : List ℕ) → Option (Option (List ℕ))
+group_in groups name = option_map (option_map text_of) (get_by (λ key. bytes_eq name (text_of key)) groups)
+
+-- ---- results
+
+-- A `UrlPatternComponentResult`: the text that was matched, and what its groups have at a name.
+pub record ResultView : Type 0 where
+  pub input : List ℕ
+  pub group : (name : List ℕ) → Option (Option (List ℕ))
+
+abbrev pub component_result_view : UrlPatternComponentResult → ResultView
+component_result_view result = record { input = text_of result.input; group = group_in result.groups }
+
+-- A `UrlPatternResult`: the results of its components.
+abbrev pub result_view : UrlPatternResult → Component → ResultView
+result_view result Protocol = component_result_view result.protocol
+result_view result Username = component_result_view result.username
+result_view result Password = component_result_view result.password
+result_view result Hostname = component_result_view result.hostname
+result_view result Port = component_result_view result.port
+result_view result Pathname = component_result_view result.pathname
+result_view result Search = component_result_view result.search
+result_view result Hash = component_result_view result.hash
+
+-- The result of a component with groups of these names, which capture this of the text.
+pub record IsResultOf (names : List (List ℕ)) (captures : Captures) (text : List ℕ) (result : ResultView) : Type 0 where
+  pub has_input : result.input ≡ text
+  pub has_groups : (name : List ℕ) → result.group name ≡ group_of names captures name
+
+-- ---- matches
+
+abbrev pub text_at : Texts → Component → List ℕ
+text_at texts Protocol = texts.protocol
+text_at texts Username = texts.username
+text_at texts Password = texts.password
+text_at texts Hostname = texts.hostname
+text_at texts Port = texts.port
+text_at texts Pathname = texts.pathname
+text_at texts Search = texts.search
+text_at texts Hash = texts.hash
+
+-- each component's matcher answers its text by these captures
+abbrev pub AreAnswers : {E : Type 0} → (answer : E → List ℕ → Option Captures) → PatternView E → Texts → (captures : Component → Captures) → Type 0
+AreAnswers answer pattern texts captures =
+    (component : Component) → Answers answer (pattern component).matcher (text_at texts component) (Some (captures component))
+
+-- a component's matcher does not match its text
+abbrev pub IsRefused : {E : Type 0} → (answer : E → List ℕ → Option Captures) → PatternView E → Texts → Type 0
+IsRefused answer pattern texts =
+    (component : Component) × Answers answer (pattern component).matcher (text_at texts component) None
+
+-- The pattern matches eight texts with this result, where engines' values answer in this way: there are eight answers,
+-- whose captures are the groups.
+pub record IsMatchOf {E : Type 0} (answer : E → List ℕ → Option Captures) (pattern : PatternView E) (texts : Texts) (result : Component → ResultView) : Type 0 where
+  pub captures : Component → Captures
+  pub are_answers : AreAnswers answer pattern texts captures
+  pub are_results : (component : Component) → IsResultOf (pattern component).group_name_list (captures component) (text_at texts component) (result component)
+
+-- each of eight texts is matched
+abbrev pub AreMatched : {E : Type 0} → (answer : E → List ℕ → Option Captures) → PatternView E → Texts → Type 0
+AreMatched answer pattern texts = (component : Component) → IsMatched answer (pattern component).matcher (text_at texts component)
+
+-- the pattern matches the input with this result: the texts that the input has
+abbrev pub IsMatch : {E : Type 0} → (answer : E → List ℕ → Option Captures) → PatternView E → UrlPatternMatchInput → (result : Component → ResultView) → Type 0
+IsMatch answer pattern input result = (texts : Texts) × (input_texts input ≡ Ok texts) × IsMatchOf answer pattern texts result
+
+-- the pattern matches the input, with some result
+abbrev pub HasMatch : {E : Type 0} → (answer : E → List ℕ → Option Captures) → PatternView E → UrlPatternMatchInput → Type 0
+HasMatch answer pattern input = (texts : Texts) × (input_texts input ≡ Ok texts) × AreMatched answer pattern texts
+
+-- it does not: the input has no texts, or one of them is not matched
+abbrev pub HasNoMatch : {E : Type 0} → (answer : E → List ℕ → Option Captures) → PatternView E → UrlPatternMatchInput → Type 0
+HasNoMatch answer pattern input =
+    IsNoInput input ⊎ ((texts : Texts) × (input_texts input ≡ Ok texts) × IsRefused answer pattern texts)
+
+-- ---- words of laws
+
+abbrev pub IsSameResult : (result other : ResultView) → Type 0
+IsSameResult result other = (result.input ≡ other.input) × ((name : List ℕ) → result.group name ≡ other.group name)
+
+-- the texts about which `url` is asked are longer than it is sure to take
+abbrev pub IsLongInput : UrlPatternMatchInput → Type 0
+IsLongInput (Init init) = long_text ≤ asked_bytes Url (values_view init) init.base_url
+IsLongInput (UrlInput url) = ⊥

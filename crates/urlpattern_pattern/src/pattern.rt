@@ -1,0 +1,121 @@
+//! URL patterns: their eight components.
+ghost use Rattle.std.specs.Prelude.{◌≡◌};
+ghost use Rattle.std.specs.List.{list_any};
+ghost use Rattle.std.specs.Str.{chars};
+ghost use Rattle.urlpattern_init.specs.Inheritance.{components};
+ghost use Rattle.urlpattern_pattern.specs.Patterns.{pattern_view};
+ghost use Rattle.urlpattern_init.specs.declared.init.processing.Component.TheVariants as names;
+
+mod eight;
+mod groups;
+mod matching;
+mod parse;
+mod result;
+
+pub(crate) use eight::Eight;
+pub use result::{UrlPatternComponentResult, UrlPatternResult};
+use urlpattern_core::component::Component;
+use urlpattern_core::regexp::RegExp;
+
+/// A pattern that URLs are matched against, compiled component by component.
+///
+/// Its components may also be put together by hand.
+///
+/// <https://urlpattern.spec.whatwg.org/#url-pattern>
+#[derive(Debug, Drop)]
+pub struct UrlPattern<R: RegExp = regex::Regex> {
+    /// What the scheme is matched with, without a colon.
+    pub protocol: Component<R>,
+    /// What the user name is matched with.
+    pub username: Component<R>,
+    /// What the password is matched with.
+    pub password: Component<R>,
+    /// What the host is matched with.
+    pub hostname: Component<R>,
+    /// What the port is matched with, which is empty if it is the scheme's default.
+    pub port: Component<R>,
+    /// What the path is matched with.
+    pub pathname: Component<R>,
+    /// What the query is matched with, without a question mark.
+    pub search: Component<R>,
+    /// What the fragment is matched with, without a number sign.
+    pub hash: Component<R>,
+}
+
+impl<R: RegExp> UrlPattern<R> {
+    /// The pattern text of the scheme, as it is written anew.
+    pub fn protocol(&self) -> &str
+        ensures { chars result.now ≡ (pattern_view self.now names.Protocol).pattern_string }
+    {
+        &self.protocol.pattern_string
+    }
+
+    /// The pattern text of the user name, as it is written anew.
+    pub fn username(&self) -> &str
+        ensures { chars result.now ≡ (pattern_view self.now names.Username).pattern_string }
+    {
+        &self.username.pattern_string
+    }
+
+    /// The pattern text of the password, as it is written anew.
+    pub fn password(&self) -> &str
+        ensures { chars result.now ≡ (pattern_view self.now names.Password).pattern_string }
+    {
+        &self.password.pattern_string
+    }
+
+    /// The pattern text of the host, as it is written anew.
+    pub fn hostname(&self) -> &str
+        ensures { chars result.now ≡ (pattern_view self.now names.Hostname).pattern_string }
+    {
+        &self.hostname.pattern_string
+    }
+
+    /// The pattern text of the port, as it is written anew.
+    pub fn port(&self) -> &str
+        ensures { chars result.now ≡ (pattern_view self.now names.Port).pattern_string }
+    {
+        &self.port.pattern_string
+    }
+
+    /// The pattern text of the path, as it is written anew.
+    pub fn pathname(&self) -> &str
+        ensures { chars result.now ≡ (pattern_view self.now names.Pathname).pattern_string }
+    {
+        &self.pathname.pattern_string
+    }
+
+    /// The pattern text of the query, as it is written anew.
+    pub fn search(&self) -> &str
+        ensures { chars result.now ≡ (pattern_view self.now names.Search).pattern_string }
+    {
+        &self.search.pattern_string
+    }
+
+    /// The pattern text of the fragment, as it is written anew.
+    pub fn hash(&self) -> &str
+        ensures { chars result.now ≡ (pattern_view self.now names.Hash).pattern_string }
+    {
+        &self.hash.pattern_string
+    }
+
+    /// Whether a component has a regular expression of its own.
+    ///
+    /// <https://urlpattern.spec.whatwg.org/#dom-urlpattern-hasregexpgroups>
+    pub fn has_regexp_groups(&self) -> bool
+        ensures { result ≡ list_any (λ component. (pattern_view self.now component).has_regexp_group) components }
+    {
+        [
+            &self.protocol,
+            &self.username,
+            &self.password,
+            &self.hostname,
+            &self.port,
+            &self.pathname,
+            &self.search,
+            &self.hash,
+        ]
+        .iter()
+        .any(|component| component.has_regexp_group)
+    }
+}

@@ -1,0 +1,41 @@
+//! The groups of a match, by their names.
+ghost use Rattle.std.specs.Prelude.{◌≡◌, IfErr, IfOk, map, option_map};
+ghost use Rattle.urlpattern_pattern.specs.Eight.{AreGroups};
+ghost use Rattle.urlpattern_core.specs.Captured.{capture_view};
+ghost use Rattle.urlpattern_syntax.specs.declared.error.Error.TheVariants as errors;
+ghost use Rattle.urlpattern_syntax.specs.Text.{text_of};
+
+use std::alloc::{AllocError, Global};
+use std::collections::HashMap;
+use urlpattern_core::Error;
+
+/// What groups capture, by their names. A group that took no part has None.
+pub(super) type Groups = HashMap<String, Option<String>>;
+
+/// What the groups with these names capture, which stand in the same order. Of equal names the last counts.
+///
+/// The error is that memory ran out.
+pub(super) fn groups_of(
+    alloc: Global,
+    names: &[String],
+    captures: &[Option<&str>],
+) -> Result<Groups, Error>
+    ensures groups { IfOk result (AreGroups (map (λ name. text_of name) names.now) (map capture_view captures.now)) }
+    ensures memory { IfErr result (λ error. error ≡ errors.OutOfMemory) }
+{
+    let mut groups = HashMap::new(alloc);
+    for (name, capture) in names.iter().zip(captures) {
+        groups.insert(name.clone()?, copied(alloc, *capture)?)?;
+    }
+    Ok(groups)
+}
+
+/// A copy of what a group captures.
+fn copied(alloc: Global, capture: Option<&str>) -> Result<Option<String>, AllocError>
+    ensures { IfOk result (λ copy. option_map text_of copy ≡ capture_view capture.entry) }
+{
+    match capture {
+        Some(text) => Ok(Some(String::from_str(alloc, text)?)),
+        None => Ok(None),
+    }
+}
