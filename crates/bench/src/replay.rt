@@ -4,6 +4,7 @@ mod compiled;
 mod components;
 mod constructors;
 mod engines;
+mod given;
 mod matchers;
 mod patterns;
 mod plain;

@@ -2,7 +2,7 @@
 
 use crate::recorded::{is_set, optional_text};
 use serde_json::Value;
-use std::alloc::{AllocError, Global};
+use std::alloc::Global;
 use std::borrow::CowStr;
 use std::io::Write;
 use std::rt::Files;
@@ -100,7 +100,9 @@ impl<'a> Subject<'a> {
     #[inline(never)]
     fn parse(&self, alloc: Global) -> Result<bool, Error> {
         let pattern = make_pattern(alloc, &self.given, self.base, self.ignore_case)?;
-        Ok(!pattern.pathname().is_empty())
+        let is_made = !pattern.pathname().is_empty();
+        drop(pattern);
+        Ok(is_made)
     }
 
     /// Asks for the groups of a text.
@@ -163,27 +165,12 @@ impl<'a> Subject<'a> {
 
 /// What a value gives a pattern as: a text, or else the components one by one.
 fn given_as<'a>(alloc: Global, value: &'a Value) -> Result<StringOrInit<'a>, Error> {
-    if let Some(text) = value.as_str() {
-        return Ok(StringOrInit::String(CowStr::Borrowed(text)));
-    }
-    Ok(StringOrInit::Init(UrlPatternInit {
-        protocol: text_at(alloc, value, "protocol")?,
-        username: text_at(alloc, value, "username")?,
-        password: text_at(alloc, value, "password")?,
-        hostname: text_at(alloc, value, "hostname")?,
-        port: text_at(alloc, value, "port")?,
-        pathname: text_at(alloc, value, "pathname")?,
-        search: text_at(alloc, value, "search")?,
-        hash: text_at(alloc, value, "hash")?,
-        base_url: None,
-    }))
-}
-
-/// The text that a value has at a key, if it has one there.
-fn text_at(alloc: Global, value: &Value, key: &str) -> Result<Option<String>, AllocError> {
-    match optional_text(value, key) {
-        Some(text) => Ok(Some(String::from_str(alloc, text)?)),
-        None => Ok(None),
+    match value.as_str() {
+        Some(text) => Ok(StringOrInit::String(CowStr::Borrowed(text))),
+        None => {
+            let init = UrlPatternInit::from_json_value(alloc, value)?;
+            Ok(StringOrInit::Init(init.unwrap_or_default()))
+        }
     }
 }
 
@@ -240,7 +227,11 @@ fn time_pair<R: AllocGlobal + Clock, O: Write>(
         return writeln!(out, "{name}\tno pattern");
     };
     match Subject::new(rt.alloc(), given, pair) {
-        Ok(subject) => time_subject(rt, name, &subject, out),
+        Ok(subject) => {
+            let timed = time_subject(rt, name, &subject, out);
+            drop(subject);
+            timed
+        }
         Err(error) => writeln!(out, "{name}\t{error}"),
     }
 }

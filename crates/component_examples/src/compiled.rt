@@ -21,7 +21,10 @@ fn component_of(
 fn no_pattern_is_an_asterisk(rt: HostRuntime) -> Result<(), Fail> {
     let alloc = rt.alloc();
     let component = component_of(alloc, None, Options::default(alloc))?;
-    assert_eq!(rt; component.pattern_string.as_str(), "*");
-    assert!(rt; component.matcher.accepts(alloc, "any text")?);
+    let is_printed = component.pattern_string.as_str() == "*";
+    let is_accepted = component.matcher.accepts(alloc, "any text");
+    drop(component);
+    assert!(rt; is_printed);
+    assert!(rt; is_accepted?);
     Ok(())
 }

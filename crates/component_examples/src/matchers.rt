@@ -15,21 +15,53 @@ fn matcher_of(alloc: Global, options: &Options, pattern: &str) -> Result<Matcher
     generate_matcher(alloc, &parts, options, flags)
 }
 
+/// Whether a matcher captures this of a text, or does not match it.
+fn captures(
+    alloc: Global,
+    matcher: &Matcher<KeptText>,
+    text: &str,
+    expected: Option<&str>,
+) -> Result<bool, Error> {
+    let is_expected = match (&matcher.matches(alloc, text)?, expected) {
+        (Some(captures), Some(_)) => captures.as_slice() == [expected].as_slice(),
+        (None, None) => true,
+        _ => false,
+    };
+    Ok(is_expected && matcher.accepts(alloc, text)? == expected.is_some())
+}
+
+/// Whether the matcher of a pattern captures this of a text, or does not match it.
+fn is_captured(
+    alloc: Global,
+    options: &Options,
+    pattern: &str,
+    (text, expected): (&str, Option<&str>),
+) -> Result<bool, Error> {
+    let matcher = matcher_of(alloc, options, pattern)?;
+    let is_captured = captures(alloc, &matcher, text, expected);
+    drop(matcher);
+    is_captured
+}
+
+/// Whether a pattern is printed as it was written.
+fn is_printed(alloc: Global, options: &Options, pattern: &str) -> Result<bool, Error> {
+    let parts = parts_of(alloc, pattern, options)?;
+    let printed = generate_pattern_string(alloc, &parts, options)?;
+    Ok(printed.as_str() == pattern)
+}
+
 /// Whether patterns are printed and match as expected: one by a capture, and one by an engine.
 fn is_as_expected(alloc: Global) -> Result<bool, Error> {
     let options = Options::pathname(alloc)?;
-    let parts = parts_of(alloc, "/blog/:id.html", &options)?;
-    let printed = generate_pattern_string(alloc, &parts, &options)?;
-    let matcher: Matcher<KeptText> = generate_matcher(alloc, &parts, &options, "u")?;
-    let captures = matcher.matches(alloc, "/blog/a.html")?;
-    let asking = matcher_of(alloc, &options, "/:x*")?;
-    let asked = asking.matches(alloc, "/a")?;
     Ok(
-        printed.as_str() == "/blog/:id.html"
-            && matches!(&captures, Some(captures) if captures.as_slice() == [Some("a")].as_slice())
-            && matcher.accepts(alloc, "/blog/a.html")?
-            && asked.is_none()
-            && !asking.accepts(alloc, "/a")?,
+        is_printed(alloc, &options, "/blog/:id.html")?
+            && is_captured(
+                alloc,
+                &options,
+                "/blog/:id.html",
+                ("/blog/a.html", Some("a")),
+            )?
+            && is_captured(alloc, &options, "/:x*", ("/a", None))?,
     )
 }
 

@@ -31,6 +31,7 @@ pub fn expect_facts<R: RegExp>(rt: &impl Abort, pattern: UrlPattern<R>, facts: &
     for fact in facts {
         expect_fact(rt, &pattern, *fact);
     }
+    drop(pattern);
 }
 
 /// Compares a pattern with one fact.
@@ -103,8 +104,9 @@ pub fn expect_no_match<R: RegExp>(
     pattern: UrlPattern<R>,
     input: UrlPatternMatchInput,
 ) -> Result<(), Error> {
-    let found = found_by(rt, alloc, &pattern, input)?;
-    assert!(rt; found.is_none());
+    let found = found_by(rt, alloc, &pattern, input);
+    drop(pattern);
+    assert!(rt; found?.is_none());
     Ok(())
 }
 
@@ -115,7 +117,9 @@ fn matched<R: RegExp>(
     pattern: UrlPattern<R>,
     input: UrlPatternMatchInput,
 ) -> Result<UrlPatternResult, Error> {
-    match found_by(rt, alloc, &pattern, input)? {
+    let found = found_by(rt, alloc, &pattern, input);
+    drop(pattern);
+    match found? {
         Some(found) => Ok(found),
         None => panic!(rt; "no match"),
     }

@@ -68,29 +68,30 @@ fn a_string_is_split_under_its_base(rt: HostRuntime) -> Result<(), Fail> {
     Ok(())
 }
 
-/// Compares two values.
-fn expect_same<T: PartialEq + Drop>(rt: &impl Abort, found: T, expected: T) {
-    assert!(rt; found == expected);
+/// What a match's input is read as, beside the input and the base URL that are handed back.
+type Read<'a> = (UrlPatternMatchInput, (StringOrInit<'a>, Option<String>));
+
+/// What is read of a text, beside the text and the base URL.
+fn text_read<'a>(
+    alloc: Global,
+    url: &str,
+    text: &'a str,
+    base_url: Option<&str>,
+) -> Result<Read<'a>, Error> {
+    let base_url = match base_url {
+        Some(text) => Some(String::from_str(alloc, text)?),
+        None => None,
+    };
+    Ok((url_input(alloc, url)?, (string(text), base_url)))
 }
 
-/// Compares what a match's input is read as, and the input that is handed back. None is expected where it is refused.
-fn expect_read(
+/// Compares what a call answers.
+fn expect_same<T: PartialEq + Drop>(
     rt: &impl Abort,
-    alloc: Global,
-    input: StringOrInit<'_>,
-    base_url: Option<&str>,
-    expected: Option<UrlPatternMatchInput>,
+    found: Result<T, Error>,
+    expected: T,
 ) -> Result<(), Error> {
-    let copy = input.clone()?;
-    let Some(found) = process_match_input(alloc, copy, base_url)? else {
-        assert!(rt; expected.is_none());
-        return Ok(());
-    };
-    let (read, inputs) = found;
-    let (again, beside) = inputs;
-    assert_eq!(rt; beside.as_deref(), base_url);
-    expect_same(rt, Some(read), expected);
-    expect_same(rt, again, input);
+    assert!(rt; found? == expected);
     Ok(())
 }
 
@@ -102,10 +103,12 @@ fn an_init_has_its_own_base(rt: HostRuntime) -> Result<(), Fail> {
     let input = plain_init(alloc, "a", Some(base_url))?;
     expect_init(&rt, alloc, input, None, (texts, Some(base_url)))?;
 
-    let input = plain_init(alloc, "a", Some(base_url))?;
     let init = init_under(alloc, &[("pathname", "a")], base_url)?;
-    let expected = Some(UrlPatternMatchInput::Init(init));
-    expect_read(&rt, alloc, input, None, expected)?;
+    let read = UrlPatternMatchInput::Init(init);
+    let expected: Read<'_> = (read, (plain_init(alloc, "a", Some(base_url))?, None));
+    let input = plain_init(alloc, "a", Some(base_url))?;
+    let found = process_match_input(alloc, input, None);
+    expect_same(&rt, found, Some(expected))?;
     Ok(())
 }
 
@@ -120,11 +123,13 @@ fn a_text_is_joined_to_its_base(rt: HostRuntime) -> Result<(), Fail> {
             "https://example.com/c",
         ),
     ] {
-        let expected = Some(url_input(alloc, expected)?);
-        expect_read(&rt, alloc, string(text), base_url, expected)?;
+        let expected = text_read(alloc, expected, text, base_url)?;
+        let found = process_match_input(alloc, string(text), base_url);
+        expect_same(&rt, found, Some(expected))?;
     }
     for (text, base_url) in [("nonsense", None), ("/a", Some("nonsense"))] {
-        expect_read(&rt, alloc, string(text), base_url, None)?;
+        let found = process_match_input(alloc, string(text), base_url);
+        expect_same(&rt, found, None)?;
     }
     Ok(())
 }

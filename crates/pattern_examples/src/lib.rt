@@ -1,8 +1,10 @@
 //! Examples of whole patterns and what they are built of, beside the recorded cases that `bench` replays: JSON, plain
-//! data, inputs that are handed back, components put together by hand, ignored case, long strings, and calls for which
-//! memory may run out. It holds tests alone.
+//! data, inputs that are handed back, components put together by hand, ignored case, long strings, what `urlpat` prints, and
+//! calls for which memory may run out. It holds tests alone.
 #![tactic(auto)]
 
+#[cfg(test)]
+mod commands;
 #[cfg(test)]
 mod compiled;
 #[cfg(test)]

@@ -39,14 +39,19 @@ fn pattern_as_lib(alloc: Global, pathname: &str) -> Result<UrlPattern<Regex>, Er
     parse_pattern_as_lib(alloc, init, UrlPatternOptions::default())
 }
 
-/// The components of a pattern for path and query.
-fn path_and_search<R: RegExp>(pattern: UrlPattern<R>) -> (Component<R>, Component<R>) {
-    (pattern.pathname, pattern.search)
+/// A component whose texts stay as they are.
+fn component_of<R: RegExp>(
+    alloc: Global,
+    pattern: Option<&str>,
+    options: Options,
+) -> Result<Component<R>, Error> {
+    let unchanged = |text: &str| -> Result<String, Error> { Ok(String::from_str(alloc, text)?) };
+    Component::compile(alloc, pattern, unchanged, options)
 }
 
-/// The plain matcher of a component.
-fn plain_matcher<R: RegExp>(alloc: Global, component: Component<R>) -> Result<Matcher, Error> {
-    Matcher::from_matcher(alloc, component.matcher)
+/// The JSON of the plain matcher of a component.
+fn matcher_tree<R: RegExp>(alloc: Global, component: Component<R>) -> Result<Value, Error> {
+    Matcher::from_matcher(alloc, component.matcher)?.to_json_value(alloc)
 }
 
 /// What the plain matcher of a component has between prefix and suffix.
@@ -56,38 +61,37 @@ fn plain_inner<R: RegExp>(alloc: Global, component: Component<R>) -> Result<Inne
 }
 
 #[test]
-fn a_pattern_for_the_library_becomes_plain_piece_by_piece(rt: HostRuntime) -> Result<(), Fail> {
-    let alloc = rt.alloc();
+fn a_pattern_for_the_library_has_its_texts(rt: HostRuntime) -> Result<(), Fail> {
     let facts = [Fact::Text("pathname", "/users/:id")];
-    expect_facts(&rt, pattern_as_lib(alloc, "/users/:id")?, &facts);
-    let (pathname, search) = path_and_search(pattern_as_lib(alloc, "/users/:id")?);
-    let inner = plain_inner(alloc, search);
-    let matcher = plain_matcher(alloc, pathname)?;
-    let text =
-        r#"{"kind":"singleCapture","allowEmpty":false,"filter":"/","prefix":"/users/","suffix":""}"#;
-    assert_eq!(rt;
-        matcher.to_json_value(alloc)?,
-        Value::from_str(alloc, text)?
-    );
+    expect_facts(&rt, pattern_as_lib(rt.alloc(), "/users/:id")?, &facts);
+    Ok(())
+}
+
+#[test]
+fn a_component_becomes_plain_piece_by_piece(rt: HostRuntime) -> Result<(), Fail> {
+    let alloc = rt.alloc();
+    let search: Component<Regex> = component_of(alloc, None, Options::default(alloc))?;
     let any = InnerMatcher::SingleCapture {
         filter: None,
         allow_empty: true,
     };
-    assert_eq!(rt; inner?, any);
+    assert_eq!(rt; plain_inner(alloc, search)?, any);
+    let options = Options::pathname(alloc)?;
+    let pathname: Component<Regex> = component_of(alloc, Some("/users/:id"), options)?;
+    let text =
+        r#"{"kind":"singleCapture","allowEmpty":false,"filter":"/","prefix":"/users/","suffix":""}"#;
+    assert_eq!(rt;
+        matcher_tree(alloc, pathname)?,
+        Value::from_str(alloc, text)?
+    );
     Ok(())
 }
 
 #[test]
 fn a_refused_regular_expression_is_an_empty_text(rt: HostRuntime) -> Result<(), Fail> {
     let alloc = rt.alloc();
-    let unchanged = |text: &str| -> Result<String, Error> { Ok(String::from_str(alloc, text)?) };
     let options = Options::pathname(alloc)?;
-    let component: Component<EcmaRegexp> = Component::compile(
-        alloc,
-        Some("/(a[)"),
-        unchanged,
-        options,
-    )?;
+    let component: Component<EcmaRegexp> = component_of(alloc, Some("/(a[)"), options)?;
     let plain = UrlPatternComponent::from_component(alloc, component)?;
     assert_eq!(rt; plain.pattern_string.as_str(), "/(a[)");
     assert_eq!(rt; plain.regexp_string.as_str(), "");

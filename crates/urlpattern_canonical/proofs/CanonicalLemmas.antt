@@ -11,7 +11,7 @@ use Rattle.url.specs.declared.error.ParseError.{ParseError}
 use Rattle.url.specs.declared.error.ParseError.TheVariants.{Overflow, OutOfMemory}
 use Rattle.url.specs.Parser.{Gives, GivesBy, IsOutOfRoom, Parsed, and_then, parse_url}
 use Rattle.url.specs.Parts.{Parts}
-use Rattle.urlpattern_canonical.specs.Asking.{IsRefusal, IsToldAs}
+use Rattle.urlpattern_canonical.specs.Asking.{IsRefusal, IsToldAs, Told}
 use Rattle.urlpattern_canonical.specs.Canonical.{IsAnswer, Tells, after, canonical, dummy_url, long_text, path_of, pathname_of, scheme_for_port, told_as, without_guard}
 use Rattle.urlpattern_syntax.proofs.TextLemmas.{chars-empty}
 use Rattle.urlpattern_syntax.specs.declared.error.Error.{Error}
@@ -29,27 +29,27 @@ tells_view : {T U : Type 0} (asked : Parsed T) (whole : Parsed U) (reason : Pars
     → (asked ≡ Err reason → whole ≡ Err reason) → (asked ≡ Err reason) ⊎ IsOutOfRoom reason → IsRefusal reason bytes error
     → Tells whole bytes error
 tells_view asked whole reason bytes error step gives refusal =
-    let Told : ErrorView → Type 0 = λ view. Tells whole bytes view in
+    let Holds : ErrorView → Type 0 = λ view. Tells whole bytes view in
     let why : (whole ≡ Err reason) ⊎ ((reason ≡ Overflow) × (long_text ≤ bytes)) =
     elim gives [
       | inl refused ↦ inl (step refused)
       | inr room ↦ elim room [ inl memory ↦ absurd (refusal.1 memory) | inr long ↦ inr (long, refusal.2 long) ]
     ]
     in
-    subst Told (sym refusal.0) (refusal.1, why)
+    subst Holds (sym refusal.0) (refusal.1, why)
 
 tells : {T U : Type 0} (asked : Parsed T) (whole : Parsed U) (reason : ParseError) (bytes : ℕ) (error : Error)
-    → (asked ≡ Err reason → whole ≡ Err reason) → (asked ≡ Err reason) ⊎ IsOutOfRoom reason → MemoryOr (IsRefusal reason bytes) error
+    → (asked ≡ Err reason → whole ≡ Err reason) → (asked ≡ Err reason) ⊎ IsOutOfRoom reason → Told reason bytes (IsRefusal reason bytes) error
     → MemoryOr (Tells whole bytes) error
 tells asked whole reason bytes error step gives told =
-    elim told [ inl memory ↦ inl memory | inr refusal ↦ inr (tells_view asked whole reason bytes (error_view error) step gives refusal) ]
+    elim told [ inl memory ↦ inl memory.0 | inr refusal ↦ inr (tells_view asked whole reason bytes (error_view error) step gives refusal) ]
 
 -- the same where the refusal is told as another
 tells_as_view : {T U : Type 0} (asked : Parsed T) (whole : Parsed U) (reason other : ParseError) (bytes : ℕ) (error : ErrorView)
     → reason ≢ OutOfMemory → (told_as reason asked ≡ Err reason → whole ≡ Err reason) → (asked ≡ Err other) ⊎ IsOutOfRoom other
     → IsToldAs reason other bytes error → Tells whole bytes error
 tells_as_view asked whole reason other bytes error proper step gives told =
-    let Told : ErrorView → Type 0 = λ view. Tells whole bytes view in
+    let Holds : ErrorView → Type 0 = λ view. Tells whole bytes view in
     elim told [
       | inl as_other ↦
           let refused : asked ≡ Err other =
@@ -58,8 +58,8 @@ tells_as_view asked whole reason other bytes error proper step gives told =
             | inr room ↦ elim room [ inl memory ↦ absurd (as_other.1 memory) | inr long ↦ absurd (as_other.2 long) ]
           ]
           in
-          subst Told (sym as_other.0) (proper, inl (step (ap (told_as reason) refused)))
-      | inr long ↦ subst Told (sym long.0) (overflow_is_no_want_of_memory, inr (refl, long.1))
+          subst Holds (sym as_other.0) (proper, inl (step (ap (told_as reason) refused)))
+      | inr long ↦ subst Holds (sym long.0) (overflow_is_no_want_of_memory, inr (refl, long.2))
     ]
   where
     overflow_is_no_want_of_memory : Overflow ≢ OutOfMemory
@@ -67,21 +67,21 @@ tells_as_view asked whole reason other bytes error proper step gives told =
 
 tells_as : {T U : Type 0} (asked : Parsed T) (whole : Parsed U) (reason other : ParseError) (bytes : ℕ) (error : Error)
     → reason ≢ OutOfMemory → (told_as reason asked ≡ Err reason → whole ≡ Err reason) → (asked ≡ Err other) ⊎ IsOutOfRoom other
-    → MemoryOr (IsToldAs reason other bytes) error → MemoryOr (Tells whole bytes) error
+    → Told other bytes (IsToldAs reason other bytes) error → MemoryOr (Tells whole bytes) error
 tells_as asked whole reason other bytes error proper step gives told =
     elim told [
-      | inl memory ↦ inl memory
+      | inl memory ↦ inl memory.0
       | inr as_other ↦ inr (tells_as_view asked whole reason other bytes (error_view error) proper step gives as_other)
     ]
 
 -- what `told` makes of an answer
 abbrev pub Tell : {T : Type 0} → Parsed T → (bytes : ℕ) → Result T Error → Type 0
-Tell answer bytes result = MatchResult answer (λ found. result ≡ Ok found) (λ reason. IsErrAnd result (MemoryOr (IsRefusal reason bytes)))
+Tell answer bytes result = MatchResult answer (λ found. result ≡ Ok found) (λ reason. IsErrAnd result (Told reason bytes (IsRefusal reason bytes)))
 
 -- what `told_as` makes of one
 abbrev pub TellAs : {T : Type 0} → ParseError → Parsed T → (bytes : ℕ) → Result T Error → Type 0
 TellAs reason answer bytes result =
-    MatchResult answer (λ found. result ≡ Ok found) (λ other. IsErrAnd result (MemoryOr (IsToldAs reason other bytes)))
+    MatchResult answer (λ found. result ≡ Ok found) (λ other. IsErrAnd result (Told other bytes (IsToldAs reason other bytes)))
 
 -- what is told of an answer that is seen by `view`
 pub told-ok : {T U : Type 0} (view : T → U) (answer : Parsed T) (asked : Parsed U) (bytes : ℕ) (result : Result T Error) (value : T)

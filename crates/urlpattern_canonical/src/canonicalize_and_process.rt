@@ -10,7 +10,7 @@ ghost use Rattle.urlpattern_laws.specs.Printing.{escaped_pattern, pattern_marks}
 ghost use Rattle.urlpattern_syntax.specs.Parsing.{MemoryOr};
 ghost use Rattle.urlpattern_syntax.specs.Text.{begins_with, is_among, text_of};
 ghost use Rattle.urlpattern_syntax.specs.declared.error.Error.TheVariants as errors;
-ghost use Rattle.urlpattern_canonical.specs.Asking.{IsRefusal, IsToldAs};
+ghost use Rattle.urlpattern_canonical.specs.Asking.{IsRefusal, IsToldAs, Told};
 ghost use Rattle.urlpattern_canonical.specs.Canonical.{IsAnswer, Tells, bytes_asked, canonical_hash, canonical_hostname, canonical_ipv6_hostname, canonical_opaque_pathname, canonical_password, canonical_pathname, canonical_port, canonical_protocol, canonical_search, canonical_username, default_port, dummy_of_scheme, dummy_url, is_hierarchical, is_hierarchical_under, is_ipv6_character, is_special, opaque_url, path_of, scheme_for_port, without_first, without_guard, without_last, processed_base, processed_hash, processed_hostname, processed_password, processed_pathname, processed_port, processed_protocol, processed_search, processed_username};
 
 use std::alloc::Global;
@@ -28,7 +28,7 @@ const LONG_TEXT: usize = 1 << 24;
 
 /// The error for a refusal by `url` of a question about texts of this many bytes at most.
 fn refusal(error: ParseError, bytes: usize) -> Error
-    ensures { MemoryOr (IsRefusal error bytes) result }
+    ensures { Told error bytes (IsRefusal error bytes) result }
 {
     match error {
         ParseError::OutOfMemory => Error::OutOfMemory,
@@ -39,9 +39,10 @@ fn refusal(error: ParseError, bytes: usize) -> Error
 
 /// What `url` answers to a question about texts of this many bytes at most.
 ///
-/// The error is the refusal of `url`, or that memory ran out.
+/// The error is the refusal of `url`. It is want of memory only where `url` says so, or says that a text is too long where
+/// none is.
 pub fn told<T>(answer: ParseResult<T>, bytes: usize) -> Result<T, Error>
-    ensures { MatchResult answer (λ value. result ≡ Ok value) (λ reason. IsErrAnd result (MemoryOr (IsRefusal reason bytes))) }
+    ensures { MatchResult answer (λ value. result ≡ Ok value) (λ reason. IsErrAnd result (Told reason bytes (IsRefusal reason bytes))) }
 {
     match answer {
         Ok(value) => Ok(value),
@@ -51,7 +52,7 @@ pub fn told<T>(answer: ParseResult<T>, bytes: usize) -> Result<T, Error>
 
 /// The same, where each refusal is told as this one.
 fn told_as(reason: ParseError, answer: ParseResult<()>, bytes: usize) -> Result<(), Error>
-    ensures { MatchResult answer (λ value. result ≡ Ok value) (λ other. IsErrAnd result (MemoryOr (IsToldAs reason other bytes))) }
+    ensures { MatchResult answer (λ value. result ≡ Ok value) (λ other. IsErrAnd result (Told other bytes (IsToldAs reason other bytes))) }
 {
     match answer {
         Ok(()) => Ok(()),

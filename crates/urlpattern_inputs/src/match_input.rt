@@ -7,8 +7,9 @@ ghost use Rattle.urlpattern_inputs.specs.InputValues.{empty_match_input, match_i
 ghost use Rattle.urlpattern_syntax.specs.declared.error.Error.TheVariants as errors;
 
 use crate::reading::{Unread, text_field, told};
+use crate::writing::put_text;
 use serde::{Deserialize, Serialize};
-use serde_json::{Value, json};
+use serde_json::{Map, Value};
 use std::alloc::{AllocError, Global};
 use urlpattern_syntax::Error;
 
@@ -63,16 +64,16 @@ impl MatchInput {
     fn tree(&self, alloc: Global) -> Result<Value, AllocError>
         ensures { IfOk result (λ tree. view tree ≡ match_input_tree (match_input_view self.now)) }
     {
-        json!(in alloc; {
-            "protocol": &self.protocol,
-            "username": &self.username,
-            "password": &self.password,
-            "hostname": &self.hostname,
-            "port": &self.port,
-            "pathname": &self.pathname,
-            "search": &self.search,
-            "hash": &self.hash
-        })
+        let mut members = Map::new(alloc);
+        put_text(&mut members, alloc, "protocol", &self.protocol)?;
+        put_text(&mut members, alloc, "username", &self.username)?;
+        put_text(&mut members, alloc, "password", &self.password)?;
+        put_text(&mut members, alloc, "hostname", &self.hostname)?;
+        put_text(&mut members, alloc, "port", &self.port)?;
+        put_text(&mut members, alloc, "pathname", &self.pathname)?;
+        put_text(&mut members, alloc, "search", &self.search)?;
+        put_text(&mut members, alloc, "hash", &self.hash)?;
+        Ok(Value::Object(members))
     }
 
     /// The input that the JSON stands for: an object with a text for each key. Other keys are passed over. None if it

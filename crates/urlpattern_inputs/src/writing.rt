@@ -1,11 +1,24 @@
 //! The steps of writing plain values as JSON.
 ghost use Rattle.std.specs.Prelude.{◌≡◌, OnOk, option_map, string_bytes};
-ghost use Rattle.serde_json.specs.Data.{string};
+ghost use Rattle.serde_json.specs.Data.{put as with_member, string};
 ghost use Rattle.serde_json.specs.View.{members_view};
 ghost use Rattle.urlpattern_inputs.specs.Trees.{with};
 
 use serde_json::{Map, Value};
 use std::alloc::{AllocError, Global};
+
+/// Puts the text into an object.
+pub(crate) fn put_text(
+    members: &mut Map<String, Value>,
+    alloc: Global,
+    name: &str,
+    text: &str,
+) -> Result<(), AllocError>
+    ensures { OnOk result (members_view members.new.entries
+        ≡ with_member name.now (string text.now) (members_view members.old.entries)) }
+{
+    serde_json::put(members, alloc, name, Value::try_from_str(alloc, text)?)
+}
 
 /// Puts the text into an object, if there is one.
 pub(crate) fn put_optional(
@@ -18,10 +31,7 @@ pub(crate) fn put_optional(
         ≡ with (members_view members.old.entries) (name.now, option_map string (option_map string_bytes text.now))) }
 {
     match text {
-        Some(text) => {
-            let tree = Value::try_from_str(alloc, text)?;
-            serde_json::put(members, alloc, name, tree)
-        }
+        Some(text) => put_text(members, alloc, name, text),
         None => Ok(()),
     }
 }

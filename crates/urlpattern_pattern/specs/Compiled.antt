@@ -146,6 +146,10 @@ IsCompiled IsFrom answer init asked pattern =
 abbrev pub behind_protocol : List Component
 behind_protocol = Hostname ∷ Pathname ∷ Username ∷ Password ∷ Port ∷ Search ∷ Hash ∷ []
 
+-- those of them behind the pathname
+abbrev pub behind_pathname : List Component
+behind_pathname = Username ∷ Password ∷ Port ∷ Search ∷ Hash ∷ []
+
 -- one of these components is refused with this error, and those before it are compiled
 abbrev pub FirstRefused : {E : Type 0} → Compiles E → UrlPatternOptions → Values → (hierarchical : Bool) → List Component → ErrorView → Type 0
 FirstRefused IsFrom asked values hierarchical [] error = ⊥

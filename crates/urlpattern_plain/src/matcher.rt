@@ -1,19 +1,20 @@
 //! What a component is matched with, as plain data.
 
-ghost use Rattle.std.specs.Prelude.{◌≡◌, IfErr, IfOk, option_map};
-ghost use Rattle.serde_json.specs.View.{view};
-ghost use Rattle.urlpattern_plain.specs.Json.{capture_read, inner_read, matcher_read, matcher_tree};
+ghost use Rattle.std.specs.Prelude.{◌≡◌, IfErr, IfOk, OnOk, option_map};
+ghost use Rattle.serde_json.specs.View.{members_view, view};
+ghost use Rattle.urlpattern_plain.specs.Json.{capture_read, inner_members, inner_read, matcher_read, matcher_tree};
 ghost use Rattle.urlpattern_core.specs.Matchers as compiled;
 ghost use Rattle.urlpattern_inputs.specs.Steps.{Gives};
+ghost use Rattle.urlpattern_inputs.specs.Trees.{all_with};
 ghost use Rattle.urlpattern_plain.specs.Plain.{engine_text, plain_inner, plain_matcher};
 ghost use Rattle.urlpattern_plain.specs.Values.{inner_by, inner_view, matcher_by, matcher_view};
 ghost use Rattle.urlpattern_syntax.specs.declared.error.Error.TheVariants as errors;
 ghost use Rattle.urlpattern_syntax.specs.Text.{text_of};
 
 use crate::reading::optional_character_field;
-use crate::writing::filter_value;
+use crate::writing::{filter_value, put_text};
 use serde::{Deserialize, Serialize};
-use serde_json::{Value, json};
+use serde_json::{Map, Value};
 use std::alloc::{AllocError, Global};
 use urlpattern_core::regexp::RegExp;
 use urlpattern_core::{Error, matcher};
@@ -87,34 +88,11 @@ impl Matcher {
     pub(crate) fn tree(&self, alloc: Global) -> Result<Value, AllocError>
         ensures { IfOk result (λ tree. view tree ≡ matcher_tree (matcher_view self.now)) }
     {
-        match &self.inner {
-            InnerMatcher::Literal { literal } => json!(in alloc; {
-                "prefix": &self.prefix,
-                "suffix": &self.suffix,
-                "kind": "literal",
-                "literal": literal
-            }),
-            InnerMatcher::SingleCapture {
-                filter,
-                allow_empty,
-            } => {
-                let filter = filter_value(alloc, *filter)?;
-                let allow_empty = *allow_empty;
-                json!(in alloc; {
-                    "prefix": &self.prefix,
-                    "suffix": &self.suffix,
-                    "kind": "singleCapture",
-                    "filter": filter,
-                    "allowEmpty": allow_empty
-                })
-            }
-            InnerMatcher::RegExp { regexp } => json!(in alloc; {
-                "prefix": &self.prefix,
-                "suffix": &self.suffix,
-                "kind": "regExp",
-                "regexp": regexp
-            }),
-        }
+        let mut members = Map::new(alloc);
+        put_text(&mut members, alloc, "prefix", &self.prefix)?;
+        put_text(&mut members, alloc, "suffix", &self.suffix)?;
+        self.inner.put_members(&mut members, alloc)?;
+        Ok(Value::Object(members))
     }
 
     /// The matcher that the JSON stands for: an object with `prefix`, `suffix` and `kind`, and the keys of its kind.
@@ -164,6 +142,31 @@ impl InnerMatcher {
             matcher::InnerMatcher::RegExp { regexp } => {
                 let regexp = engine_text(alloc, &regexp)?;
                 Ok(InnerMatcher::RegExp { regexp })
+            }
+        }
+    }
+
+    /// Puts the kind, and the keys that go with it, into an object.
+    fn put_members(&self, members: &mut Map<String, Value>, alloc: Global) -> Result<(), AllocError>
+        ensures { OnOk result (members_view members.new.entries
+            ≡ all_with (members_view members.old.entries) (inner_members (inner_view self.now))) }
+    {
+        match self {
+            InnerMatcher::Literal { literal } => {
+                put_text(members, alloc, "kind", "literal")?;
+                put_text(members, alloc, "literal", literal)
+            }
+            InnerMatcher::SingleCapture {
+                filter,
+                allow_empty,
+            } => {
+                put_text(members, alloc, "kind", "singleCapture")?;
+                serde_json::put(members, alloc, "filter", filter_value(alloc, *filter)?)?;
+                serde_json::put(members, alloc, "allowEmpty", Value::Bool(*allow_empty))
+            }
+            InnerMatcher::RegExp { regexp } => {
+                put_text(members, alloc, "kind", "regExp")?;
+                put_text(members, alloc, "regexp", regexp)
             }
         }
     }

@@ -14,9 +14,9 @@ ghost use Rattle.urlpattern_syntax.specs.Text.{text_of};
 
 use crate::matcher::{Matcher, engine_text};
 use crate::reading::texts_field;
-use crate::writing::texts_value;
+use crate::writing::{put_text, texts_value};
 use serde::{Deserialize, Serialize};
-use serde_json::{Map, Value, json};
+use serde_json::{Map, Value};
 use std::alloc::{AllocError, Global};
 use urlpattern_core::Error;
 use urlpattern_core::component::Component;
@@ -151,14 +151,13 @@ impl UrlPatternComponent {
     fn tree(&self, alloc: Global) -> Result<Value, AllocError>
         ensures { IfOk result (λ tree. view tree ≡ component_tree (component_view self.now)) }
     {
-        let matcher = self.matcher.tree(alloc)?;
+        let mut members = Map::new(alloc);
+        put_text(&mut members, alloc, "patternString", &self.pattern_string)?;
+        put_text(&mut members, alloc, "regexpString", &self.regexp_string)?;
+        serde_json::put(&mut members, alloc, "matcher", self.matcher.tree(alloc)?)?;
         let names = texts_value(alloc, &self.group_name_list)?;
-        json!(in alloc; {
-            "patternString": &self.pattern_string,
-            "regexpString": &self.regexp_string,
-            "matcher": matcher,
-            "groupNameList": names
-        })
+        serde_json::put(&mut members, alloc, "groupNameList", names)?;
+        Ok(Value::Object(members))
     }
 
     /// The component that the JSON stands for: an object with `patternString`, `regexpString`, `matcher` and

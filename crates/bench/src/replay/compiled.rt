@@ -29,14 +29,16 @@ fn is_same_over<R: RegExp>(
     question: &Value,
     answer: Answer<'_>,
 ) -> Result<bool, Fault> {
-    let options = options_of(alloc, question)?;
     let pattern = Some(text(question, "pattern")?);
+    let options = options_of(alloc, question)?;
     let found: Result<Component<R>, Error> = component_of(alloc, pattern, options);
-    Ok(match (found, answer) {
-        (Ok(component), Answer::Ok(recorded)) => is_component(&component, recorded),
-        (Err(error), Answer::Err(text)) => prints(alloc, &error, text)?,
-        _ => false,
-    })
+    let is_same = match (&found, answer) {
+        (Ok(component), Answer::Ok(recorded)) => Ok(is_component(component, recorded)),
+        (Err(error), Answer::Err(text)) => prints(alloc, error, text),
+        _ => Ok(false),
+    };
+    drop(found);
+    Ok(is_same?)
 }
 
 /// The component of a pattern, or of none, whose texts stay as they are.

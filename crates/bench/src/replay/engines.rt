@@ -23,25 +23,30 @@ fn is_same_over<R: RegExp>(
     question: &Value,
     answer: Answer<'_>,
 ) -> Result<bool, Fault> {
-    let found = R::parse(
-        alloc,
-        text(question, "pattern")?,
-        "u",
-        is_set(question, "force_eval"),
-    );
-    Ok(match (found, answer) {
-        (Ok(engine), Answer::Ok(recorded)) => {
-            has_text(recorded, "pattern_string", engine.pattern_string())
-                && are_answers(
-                    alloc,
-                    &engine,
-                    list(question, "inputs")?,
-                    list(recorded, "matches")?,
-                )
-        }
-        (Err(RegExpError::Pattern), Answer::Err(text)) => text == "pattern",
-        _ => false,
-    })
+    let pattern = text(question, "pattern")?;
+    let found = R::parse(alloc, pattern, "u", is_set(question, "force_eval"));
+    let is_same = match (&found, answer) {
+        (Ok(engine), Answer::Ok(recorded)) => is_engine(alloc, engine, question, recorded),
+        (Err(RegExpError::Pattern), Answer::Err(text)) => Ok(text == "pattern"),
+        _ => Ok(false),
+    };
+    drop(found);
+    is_same
+}
+
+/// Whether an engine has the recorded text, and answers the texts of a question as recorded.
+fn is_engine<R: RegExp>(
+    alloc: Global,
+    engine: &R,
+    question: &Value,
+    recorded: &Value,
+) -> Result<bool, Fault> {
+    let inputs = list(question, "inputs")?;
+    let matches = list(recorded, "matches")?;
+    Ok(
+        has_text(recorded, "pattern_string", engine.pattern_string())
+            && are_answers(alloc, engine, inputs, matches),
+    )
 }
 
 /// Whether an engine answers each text as recorded.

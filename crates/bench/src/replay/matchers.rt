@@ -9,7 +9,7 @@ use crate::recorded::{
 };
 use regex::Regex;
 use serde_json::Value;
-use std::alloc::Global;
+use std::alloc::{AllocError, Global};
 use urlpattern::component::generate_matcher;
 use urlpattern::matcher::{InnerMatcher, Matcher};
 use urlpattern::parser::Options;
@@ -31,20 +31,29 @@ fn is_same_over<R: RegExp>(
     question: &Value,
     answer: Answer<'_>,
 ) -> Result<bool, Fault> {
+    let pattern = text(question, "pattern")?;
     let options = options_of(alloc, question)?;
-    let found: Result<Matcher<R>, Error> = matcher_of(alloc, text(question, "pattern")?, &options);
-    Ok(match (found, answer) {
-        (Ok(matcher), Answer::Ok(recorded)) => {
-            are_answers(
-                alloc,
-                &matcher,
-                list(question, "inputs")?,
-                list(recorded, "matches")?,
-            ) && keeps_error(&matcher) == (is_set(recorded, "refused") && is_regex::<R>())
-        }
-        (Err(error), Answer::Err(text)) => prints(alloc, &error, text)?,
-        _ => false,
-    })
+    let found: Result<Matcher<R>, Error> = matcher_of(alloc, pattern, &options);
+    let is_same = match (&found, answer) {
+        (Ok(matcher), Answer::Ok(recorded)) => is_matcher_of(alloc, matcher, question, recorded),
+        (Err(error), Answer::Err(text)) => prints(alloc, error, text).map_err(Fault::from),
+        _ => Ok(false),
+    };
+    drop(found);
+    is_same
+}
+
+/// Whether a matcher answers the texts of a question as recorded, and keeps an error where one was kept.
+fn is_matcher_of<R: RegExp>(
+    alloc: Global,
+    matcher: &Matcher<R>,
+    question: &Value,
+    recorded: &Value,
+) -> Result<bool, Fault> {
+    let inputs = list(question, "inputs")?;
+    let matches = list(recorded, "matches")?;
+    let is_refused = is_set(recorded, "refused") && is_regex::<R>();
+    Ok(are_answers(alloc, matcher, inputs, matches) && keeps_error(matcher) == is_refused)
 }
 
 /// The matcher of a pattern.
@@ -70,26 +79,39 @@ fn is_regex<R: RegExp>() -> bool {
 
 /// Whether a matcher made by hand answers what was recorded.
 pub fn is_same_by_hand(alloc: Global, question: &Value, answer: Answer<'_>) -> Result<bool, Fault> {
-    let matcher: Matcher<KeptText> = Matcher {
-        prefix: String::from_str(alloc, text(question, "prefix")?)?,
-        suffix: String::from_str(alloc, text(question, "suffix")?)?,
-        inner: match optional_text(question, "literal") {
-            Some(literal) => InnerMatcher::Literal {
-                literal: String::from_str(alloc, literal)?,
-            },
-            None => InnerMatcher::SingleCapture {
-                filter: character(question, "filter"),
-                allow_empty: is_set(question, "allow_empty"),
-            },
-        },
-        ignore_case: is_set(question, "ignore_case"),
+    let inputs = list(question, "inputs")?;
+    let Answer::Ok(Value::Array(recorded)) = answer else {
+        return Ok(false);
     };
-    Ok(match answer {
-        Answer::Ok(Value::Array(recorded)) => {
-            are_answers(alloc, &matcher, list(question, "inputs")?, recorded)
-        }
-        _ => false,
+    let matcher = hand_matcher(alloc, question)?;
+    let is_same = are_answers(alloc, &matcher, inputs, recorded);
+    drop(matcher);
+    Ok(is_same)
+}
+
+/// The matcher of the fields of a question.
+fn hand_matcher(alloc: Global, question: &Value) -> Result<Matcher<KeptText>, Fault> {
+    let prefix = String::from_str(alloc, text(question, "prefix")?)?;
+    let suffix = String::from_str(alloc, text(question, "suffix")?)?;
+    Ok(Matcher {
+        prefix,
+        suffix,
+        inner: hand_inner(alloc, question)?,
+        ignore_case: is_set(question, "ignore_case"),
     })
+}
+
+/// What such a matcher has between prefix and suffix.
+fn hand_inner(alloc: Global, question: &Value) -> Result<InnerMatcher<KeptText>, AllocError> {
+    match optional_text(question, "literal") {
+        Some(literal) => Ok(InnerMatcher::Literal {
+            literal: String::from_str(alloc, literal)?,
+        }),
+        None => Ok(InnerMatcher::SingleCapture {
+            filter: character(question, "filter"),
+            allow_empty: is_set(question, "allow_empty"),
+        }),
+    }
 }
 
 /// Whether a matcher answers each text as recorded.

@@ -1,14 +1,12 @@
 //! Builds the patterns that were built when a case was recorded, and matches what was matched.
 
-use super::prints;
-use super::values::owned;
-use crate::recorded::{Answer, Fault, field, has_text, is_set, list, optional_text};
+use super::{given, prints};
+use crate::recorded::{Answer, Fault, has_text, is_set, list, optional_text};
 use regex::Regex;
 use serde_json::Value;
 use std::alloc::{AllocError, Global};
-use std::borrow::CowStr;
 use urlpattern::quirks::{
-    EcmaRegexp, StringOrInit, UrlPatternInit, process_construct_pattern_input, process_match_input,
+    EcmaRegexp, StringOrInit, process_construct_pattern_input, process_match_input,
 };
 use urlpattern::regexp::RegExp;
 use urlpattern::{
@@ -30,50 +28,28 @@ fn is_same_over<R: RegExp>(
     question: &Value,
     answer: Answer<'_>,
 ) -> Result<bool, Fault> {
-    let found = built::<R>(alloc, given(alloc, question)?, question);
-    Ok(match (found, answer) {
-        (Ok(pattern), Answer::Ok(recorded)) => {
-            has_same_texts(&pattern, recorded)
-                && has_same_results(alloc, &pattern, question, recorded)?
+    let options = given::options(alloc, question)?;
+    let input = given::input(alloc, question)?;
+    let found = built::<R>(alloc, input, optional_text(question, "base"), options);
+    let is_same = match (&found, answer) {
+        (Ok(pattern), Answer::Ok(recorded)) if has_same_texts(pattern, recorded) => {
+            has_same_results(alloc, pattern, question, recorded)
         }
-        (Err(error), Answer::Err(text)) => prints(alloc, &error, text)?,
-        _ => false,
-    })
+        (Err(error), Answer::Err(text)) => prints(alloc, error, text).map_err(Fault::from),
+        _ => Ok(false),
+    };
+    drop(found);
+    is_same
 }
 
-/// What is given: a text, or an init.
-fn given<'a>(alloc: Global, fields: &'a Value) -> Result<StringOrInit<'a>, Fault> {
-    if let Some(text) = optional_text(fields, "string") {
-        return Ok(StringOrInit::String(CowStr::Borrowed(text)));
-    }
-    let init = field(fields, "init")?;
-    Ok(StringOrInit::Init(UrlPatternInit {
-        protocol: owned(alloc, init, "protocol")?,
-        username: owned(alloc, init, "username")?,
-        password: owned(alloc, init, "password")?,
-        hostname: owned(alloc, init, "hostname")?,
-        port: owned(alloc, init, "port")?,
-        pathname: owned(alloc, init, "pathname")?,
-        search: owned(alloc, init, "search")?,
-        hash: owned(alloc, init, "hash")?,
-        base_url: owned(alloc, init, "baseURL")?,
-    }))
-}
-
-/// The pattern of what is given, under the options of a question.
+/// The pattern of what is given.
 fn built<R: RegExp>(
     alloc: Global,
     input: StringOrInit<'_>,
-    question: &Value,
+    base: Option<&str>,
+    options: UrlPatternOptions,
 ) -> Result<UrlPattern<R>, Error> {
-    let init = process_construct_pattern_input(alloc, input, optional_text(question, "base"))?;
-    let options = UrlPatternOptions {
-        ignore_case: match question.get("options") {
-            Some(options) => is_set(options, "ignoreCase"),
-            None => false,
-        },
-        ..UrlPatternOptions::default()
-    };
+    let init = process_construct_pattern_input(alloc, input, base)?;
     UrlPattern::<R>::parse(alloc, init, options)
 }
 
@@ -103,8 +79,8 @@ fn has_same_results<R: RegExp>(
     let inputs = list(question, "inputs")?;
     let results = list(recorded, "results")?;
     for (input, expected) in inputs.iter().zip(results) {
-        let input_given = given(alloc, input)?;
-        let found = matched(alloc, pattern, input_given, optional_text(input, "base"));
+        let base = optional_text(input, "base");
+        let found = matched(alloc, pattern, given::input(alloc, input)?, base);
         if !is_same_result(alloc, found, expected)? {
             return Ok(false);
         }

@@ -1,56 +1,41 @@
 //! Compiles patterns to plain data.
 
-use super::prints;
-use crate::recorded::{Answer, Fault, field, optional_text};
+use super::{given, prints};
+use crate::recorded::{Answer, Fault, optional_text};
 use regex::Regex;
 use serde_json::Value;
 use std::alloc::Global;
-use std::borrow::CowStr;
 use urlpattern::quirks::{
-    EcmaRegexp, StringOrInit, UrlPatternInit, parse_pattern, process_construct_pattern_input,
+    EcmaRegexp, StringOrInit, parse_pattern, process_construct_pattern_input,
 };
 use urlpattern::regexp::RegExp;
 use urlpattern::{Error, UrlPatternOptions};
 
 /// Whether the JSON of a pattern is the recorded one.
 pub fn is_same(alloc: Global, question: &Value, answer: Answer<'_>) -> Result<bool, Fault> {
-    let input = input(alloc, question)?;
-    let base = optional_text(question, "base");
-    let options = options(alloc, question)?;
-    let found = match optional_text(question, "engine") {
-        Some("regex") | None => pattern::<Regex>(alloc, input, base, options),
-        Some("ecma") => pattern::<EcmaRegexp>(alloc, input, base, options),
-        Some(_) => return Err(Fault::NoCase),
-    };
-    Ok(match (found, answer) {
-        (Ok(pattern), Answer::Ok(recorded)) => pattern == *recorded,
-        (Err(error), Answer::Err(text)) => prints(alloc, &error, text)?,
-        _ => false,
-    })
-}
-
-/// What the pattern is constructed from: a text, or the components one by one.
-fn input<'a>(alloc: Global, question: &'a Value) -> Result<StringOrInit<'a>, Fault> {
-    if let Some(text) = optional_text(question, "string") {
-        return Ok(StringOrInit::String(CowStr::Borrowed(text)));
-    }
-    match UrlPatternInit::from_json_value(alloc, field(question, "init")?) {
-        Ok(Some(init)) => Ok(StringOrInit::Init(init)),
-        Ok(None) => Err(Fault::NoCase),
-        Err(_) => Err(Fault::OutOfMemory),
+    match optional_text(question, "engine") {
+        Some("regex") | None => is_same_over::<Regex>(alloc, question, answer),
+        Some("ecma") => is_same_over::<EcmaRegexp>(alloc, question, answer),
+        Some(_) => Err(Fault::NoCase),
     }
 }
 
-/// The options that a question names, or the default ones.
-fn options(alloc: Global, question: &Value) -> Result<UrlPatternOptions, Fault> {
-    let Some(options) = question.get("options") else {
-        return Ok(UrlPatternOptions::default());
+/// The same over one engine.
+fn is_same_over<R: RegExp>(
+    alloc: Global,
+    question: &Value,
+    answer: Answer<'_>,
+) -> Result<bool, Fault> {
+    let options = given::options(alloc, question)?;
+    let input = given::input(alloc, question)?;
+    let found = pattern::<R>(alloc, input, optional_text(question, "base"), options);
+    let is_same = match (&found, answer) {
+        (Ok(pattern), Answer::Ok(recorded)) => Ok(pattern == recorded),
+        (Err(error), Answer::Err(text)) => prints(alloc, error, text),
+        _ => Ok(false),
     };
-    match UrlPatternOptions::from_json_value(alloc, options) {
-        Ok(Some(options)) => Ok(options),
-        Ok(None) => Err(Fault::NoCase),
-        Err(_) => Err(Fault::OutOfMemory),
-    }
+    drop(found);
+    Ok(is_same?)
 }
 
 /// The JSON of the pattern over an engine.
@@ -61,5 +46,8 @@ fn pattern<R: RegExp>(
     options: UrlPatternOptions,
 ) -> Result<Value, Error> {
     let init = process_construct_pattern_input(alloc, input, base)?;
-    parse_pattern::<R>(alloc, init, options)?.to_json_value(alloc)
+    let pattern = parse_pattern::<R>(alloc, init, options)?;
+    let tree = pattern.to_json_value(alloc);
+    drop(pattern);
+    tree
 }

@@ -1,10 +1,10 @@
 //! Replays what was asked of values: canonical ones, those of an init, and the texts of a match input.
 
-use super::prints;
-use crate::recorded::{Answer, Fault, field, has_text, optional_text, options_of, text};
+use super::{given, prints};
+use crate::recorded::{Answer, Fault, optional_text, options_of, text};
 use serde_json::Value;
-use std::alloc::{AllocError, Global};
-use url::{ParseError, Url};
+use std::alloc::Global;
+use urlpattern::Error;
 use urlpattern::canonicalize_and_process::{
     ProcessType, canonicalize_an_opaque_pathname, canonicalize_hash, canonicalize_hostname,
     canonicalize_ipv6_hostname, canonicalize_password, canonicalize_pathname, canonicalize_port,
@@ -13,8 +13,7 @@ use urlpattern::canonicalize_and_process::{
     process_pathname_init, process_port_init, process_protocol_init, process_search_init,
     process_username_init,
 };
-use urlpattern::quirks::{MatchInput, parse_match_input};
-use urlpattern::{Error, UrlPatternInit, UrlPatternMatchInput};
+use urlpattern::quirks::{MatchInput, StringOrInit, parse_match_input, process_match_input};
 
 /// Whether a canonical value is the recorded one.
 pub fn is_same_canonical(
@@ -91,97 +90,30 @@ pub fn is_same_match_input(
     question: &Value,
     answer: Answer<'_>,
 ) -> Result<bool, Fault> {
-    let found = match_input(alloc, question)?;
-    Ok(match (&found, answer) {
-        (Ok(Some(input)), Answer::Ok(recorded)) => is_match_input(input, recorded),
+    let input = given::input(alloc, question)?;
+    let found = match_input(alloc, input, optional_text(question, "base"));
+    Ok(match (found, answer) {
+        (Ok(Some(input)), Answer::Ok(recorded)) => is_match_input(alloc, &input, recorded)?,
         (Ok(None), Answer::Ok(recorded)) => recorded.is_null(),
-        (Err(error), Answer::Err(text)) => prints(alloc, error, text)?,
+        (Err(error), Answer::Err(text)) => prints(alloc, &error, text)?,
         _ => false,
     })
 }
 
-/// Whether the eight texts are the recorded ones.
-fn is_match_input(input: &MatchInput, recorded: &Value) -> bool {
-    has_text(recorded, "protocol", &input.protocol)
-        && has_text(recorded, "username", &input.username)
-        && has_text(recorded, "password", &input.password)
-        && has_text(recorded, "hostname", &input.hostname)
-        && has_text(recorded, "port", &input.port)
-        && has_text(recorded, "pathname", &input.pathname)
-        && has_text(recorded, "search", &input.search)
-        && has_text(recorded, "hash", &input.hash)
-}
-
-/// The library's texts of a match input, of which the URLs are parsed here.
+/// The texts of a match input, or None where there is none.
 fn match_input(
     alloc: Global,
-    question: &Value,
-) -> Result<Result<Option<MatchInput>, Error>, Fault> {
-    let base = optional_text(question, "base");
-    if let Some(text) = optional_text(question, "string") {
-        return Ok(match joined(alloc, text, base)? {
-            Some(url) => parse_match_input(alloc, UrlPatternMatchInput::Url(url)),
-            None => Ok(None),
-        });
-    }
-    let init = field(question, "init")?;
-    if base.is_some() {
-        return Ok(Err(Error::BaseUrlWithInit));
-    }
-    Ok(match parsed_init(alloc, init)? {
-        Some(init) => parse_match_input(alloc, UrlPatternMatchInput::Init(init)),
-        None => Ok(None),
-    })
-}
-
-/// The URL of a text, read against a base if there is one. None if `url` refuses either.
-fn joined(alloc: Global, text: &str, base: Option<&str>) -> Result<Option<Url>, AllocError> {
-    let Some(base) = base else {
-        return accepted(Url::parse(alloc, text));
-    };
-    match accepted(Url::parse(alloc, base))? {
-        Some(base) => accepted(base.join(text)),
+    input: StringOrInit<'_>,
+    base: Option<&str>,
+) -> Result<Option<MatchInput>, Error> {
+    match process_match_input(alloc, input, base)? {
+        Some((input, _)) => parse_match_input(alloc, input),
         None => Ok(None),
     }
 }
 
-/// The URL, or None if it was refused for another cause than want of memory.
-fn accepted(answer: Result<Url, ParseError>) -> Result<Option<Url>, AllocError> {
-    match answer {
-        Ok(url) => Ok(Some(url)),
-        Err(ParseError::OutOfMemory) => Err(AllocError),
-        Err(_) => Ok(None),
-    }
-}
-
-/// The init of these fields, with its base URL parsed. None if that is refused.
-fn parsed_init(alloc: Global, fields: &Value) -> Result<Option<UrlPatternInit>, AllocError> {
-    let base_url = match optional_text(fields, "baseURL") {
-        Some(base) => {
-            let Some(url) = accepted(Url::parse(alloc, base))? else {
-                return Ok(None);
-            };
-            Some(url)
-        }
-        None => None,
-    };
-    Ok(Some(UrlPatternInit {
-        protocol: owned(alloc, fields, "protocol")?,
-        username: owned(alloc, fields, "username")?,
-        password: owned(alloc, fields, "password")?,
-        hostname: owned(alloc, fields, "hostname")?,
-        port: owned(alloc, fields, "port")?,
-        pathname: owned(alloc, fields, "pathname")?,
-        search: owned(alloc, fields, "search")?,
-        hash: owned(alloc, fields, "hash")?,
-        base_url,
-    }))
-}
-
-/// A copy of the text of a field, or None where it is missing or null.
-pub fn owned(alloc: Global, fields: &Value, name: &str) -> Result<Option<String>, AllocError> {
-    match optional_text(fields, name) {
-        Some(text) => Ok(Some(String::from_str(alloc, text)?)),
-        None => Ok(None),
-    }
+/// Whether the eight texts are the recorded ones.
+fn is_match_input(alloc: Global, input: &MatchInput, recorded: &Value) -> Result<bool, Fault> {
+    let expected = given::read(MatchInput::from_json_value(alloc, recorded))?;
+    Ok(*input == expected)
 }

@@ -138,7 +138,11 @@ impl<R: RegExp> UrlPattern<R> {
         ensures memory { IfErr result (λ error. error ≡ errors.OutOfMemory) }
     {
         match self.answer(alloc, Eight::of_url(url))? {
-            Some(answer) => Ok(Some(self.copied(alloc, &answer)?)),
+            Some(answer) => {
+                let copy = self.copied(alloc, &answer);
+                drop(answer);
+                Ok(Some(copy?))
+            }
             None => Ok(None),
         }
     }
@@ -176,7 +180,10 @@ impl<R: RegExp> UrlPattern<R> {
             (IsRefused R.answer (pattern_view self.now) (borrowed_texts texts.entry))) }
         ensures memory { IfErr result (λ error. error ≡ errors.OutOfMemory) }
     {
-        Ok(self.answer(alloc, texts)?.is_some())
+        let answer = self.answer(alloc, texts)?;
+        let is_matched = answer.is_some();
+        drop(answer);
+        Ok(is_matched)
     }
 
     /// What the components see in their texts, before an engine is asked. None if one of them does not match.
@@ -232,7 +239,11 @@ impl<R: RegExp> UrlPattern<R> {
         ensures memory { IfErr result (λ error. error ≡ errors.OutOfMemory) }
     {
         match self.answer(alloc, texts)? {
-            Some(answer) => Ok(Some(self.groups(alloc, &answer.captures)?)),
+            Some(answer) => {
+                let groups = self.groups(alloc, &answer.captures);
+                drop(answer);
+                Ok(Some(groups?))
+            }
             None => Ok(None),
         }
     }

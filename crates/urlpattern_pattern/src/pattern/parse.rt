@@ -3,7 +3,7 @@
 ghost use Rattle.std.specs.Prelude.{◌≡◌, ◌↔◌, [], codes, length, option_copied, option_map, unwrap_or, IfErr, IfOk, IfSome, IsAscii, IsTrue, Some};
 ghost use Rattle.std.specs.Fn.{FnReturnsAt};
 ghost use Rattle.std.specs.Str.{chars};
-ghost use Rattle.urlpattern_pattern.specs.Compiled.{AreCompiled, FirstRefused, HasEngine, HasHierarchicalPath, IsCompiled, IsComponentCompiled, IsComponentRefused, IsRefusedFrom, RefusesPattern, RefusesValues, behind_protocol, canonical_in_hostname, has_default_port, is_ipv6_pattern, is_mark, is_same, manner_of, pattern_of, pattern_values, without_default_port};
+ghost use Rattle.urlpattern_pattern.specs.Compiled.{AreCompiled, FirstRefused, HasEngine, HasHierarchicalPath, IsCompiled, IsComponentCompiled, IsComponentRefused, IsRefusedFrom, RefusesPattern, RefusesValues, behind_pathname, behind_protocol, canonical_in_hostname, has_default_port, is_ipv6_pattern, is_mark, is_same, manner_of, pattern_of, pattern_values, without_default_port};
 ghost use Rattle.urlpattern_init.specs.Inheritance.{values_view};
 ghost use Rattle.urlpattern_pattern.specs.Patterns.{pattern_view};
 ghost use Rattle.urlpattern_init.specs.declared.init.processing.Component.{Component};
@@ -44,16 +44,36 @@ impl<R: RegExp> UrlPattern<R> {
         ensures compiled { IfOk result (λ pattern. IsCompiled (IsCompiledFrom R.IsMade R.MayRefuse R.syntax_of) R.answer init options (pattern_view pattern)) }
         ensures refused { IfErr result (MemoryOr (RefusesPattern (IsCompiledFrom R.IsMade R.MayRefuse R.syntax_of) R.answer init options)) }
     {
-        let values = pattern_values(alloc, &init)?;
-        let canonicalizer = Canonicalizer::shared(alloc)?;
-        let compiler = Compiler {
-            alloc,
-            canonicalizer,
-            values: &values,
-            options: &options,
-        };
-        compiler.pattern()
+        let values = pattern_values(alloc, &init);
+        drop(init);
+        let values = values?;
+        let pattern = compile_values(alloc, &values, &options);
+        drop(values);
+        pattern
     }
+}
+
+/// The pattern that the values are compiled to.
+///
+/// The error is that of the first component that is refused, or that memory ran out.
+fn compile_values<R: RegExp>(
+    alloc: Global,
+    values: &UrlPatternInit,
+    options: &UrlPatternOptions,
+) -> Result<UrlPattern<R>, Error>
+    ensures compiled { IfOk result (λ pattern. AreCompiled (IsCompiledFrom R.IsMade R.MayRefuse R.syntax_of) R.answer
+        options.now (values_view values.now) (pattern_view pattern)) }
+    ensures refused { IfErr result (MemoryOr (RefusesValues (IsCompiledFrom R.IsMade R.MayRefuse R.syntax_of) R.answer
+        options.now (values_view values.now))) }
+{
+    let canonicalizer = Canonicalizer::shared(alloc)?;
+    let compiler = Compiler {
+        alloc,
+        canonicalizer,
+        values,
+        options,
+    };
+    compiler.pattern()
 }
 
 /// The values that an init comes to as a pattern, where a default port is emptied.
@@ -146,6 +166,7 @@ fn compile_component<R: RegExp, F: Fn(&str) -> Result<String, Error> + Drop>(
 {
     let compiled = component::Component::compile(alloc, pattern, encoding_callback, options)?;
     if compiled.regexp.is_err() {
+        drop(compiled);
         return Err(Error::RegExp(()));
     }
     Ok(compiled)
@@ -158,6 +179,16 @@ struct Compiler<'a> {
     canonicalizer: Canonicalizer,
     values: &'a UrlPatternInit,
     options: &'a UrlPatternOptions,
+}
+
+/// The components behind the pathname.
+#[derive(Drop)]
+struct Others<R> {
+    username: component::Component<R>,
+    password: component::Component<R>,
+    port: component::Component<R>,
+    search: component::Component<R>,
+    hash: component::Component<R>,
 }
 
 impl Compiler<'_> {
@@ -193,18 +224,45 @@ impl Compiler<'_> {
     {
         let hostname = self.component(Component::Hostname, hierarchical)?;
         let pathname = self.component(Component::Pathname, hierarchical)?;
+        let others = self.others(hierarchical)?;
+        Ok(UrlPattern {
+            protocol,
+            username: others.username,
+            password: others.password,
+            hostname,
+            port: others.port,
+            pathname,
+            search: others.search,
+            hash: others.hash,
+        })
+    }
+
+    /// The components behind the pathname, as they stand in a URL.
+    ///
+    /// The error is that of the first component that is refused, or that memory ran out.
+    fn others<R: RegExp>(&self, hierarchical: bool) -> Result<Others<R>, Error>
+        ensures username { IfOk result (λ others. IsComponentCompiled (IsCompiledFrom R.IsMade R.MayRefuse R.syntax_of)
+            self.now.options.now (values_view self.now.values.now) hierarchical Component.Username (component_view others.username)) }
+        ensures password { IfOk result (λ others. IsComponentCompiled (IsCompiledFrom R.IsMade R.MayRefuse R.syntax_of)
+            self.now.options.now (values_view self.now.values.now) hierarchical Component.Password (component_view others.password)) }
+        ensures port { IfOk result (λ others. IsComponentCompiled (IsCompiledFrom R.IsMade R.MayRefuse R.syntax_of)
+            self.now.options.now (values_view self.now.values.now) hierarchical Component.Port (component_view others.port)) }
+        ensures search { IfOk result (λ others. IsComponentCompiled (IsCompiledFrom R.IsMade R.MayRefuse R.syntax_of)
+            self.now.options.now (values_view self.now.values.now) hierarchical Component.Search (component_view others.search)) }
+        ensures hash { IfOk result (λ others. IsComponentCompiled (IsCompiledFrom R.IsMade R.MayRefuse R.syntax_of)
+            self.now.options.now (values_view self.now.values.now) hierarchical Component.Hash (component_view others.hash)) }
+        ensures refused { IfErr result (MemoryOr (FirstRefused (IsCompiledFrom R.IsMade R.MayRefuse R.syntax_of)
+            self.now.options.now (values_view self.now.values.now) hierarchical behind_pathname)) }
+    {
         let username = self.component(Component::Username, hierarchical)?;
         let password = self.component(Component::Password, hierarchical)?;
         let port = self.component(Component::Port, hierarchical)?;
         let search = self.component(Component::Search, hierarchical)?;
         let hash = self.component(Component::Hash, hierarchical)?;
-        Ok(UrlPattern {
-            protocol,
+        Ok(Others {
             username,
             password,
-            hostname,
             port,
-            pathname,
             search,
             hash,
         })

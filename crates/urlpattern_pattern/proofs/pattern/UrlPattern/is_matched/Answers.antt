@@ -9,5 +9,5 @@ pub returns-clause-matched : goal.returns-clause-matched
 returns-clause-matched g c =
     tells-some
     (λ (answer : Match). AreAnswers g.R.RegExp.answer (pattern_view c.args.self.now) (borrowed_texts c.args.texts) (λ name. captures_of (at answer.captures name)))
-    _ _ c.in_ok-answer.field-0 c.is_some.result c.is_some.ensures (λ answer answers name. (captures_of (at answer.captures name), answers name))
+    _ _ c.in_ok-answer.answer c.is_some-is_matched.result c.is_some-is_matched.ensures (λ answer answers name. (captures_of (at answer.captures name), answers name))
     c.in_ok-answer.ensures.answers c.in_ok-answer.ensures.refused

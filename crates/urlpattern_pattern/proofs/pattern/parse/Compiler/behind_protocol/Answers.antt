@@ -1,9 +1,9 @@
 use Rattle.std.proofs.Common.{inl, inr}
 use Rattle.std.proofs.lemmas.Result.{err_from_is_err_and}
 use Rattle.urlpattern_pattern.proofs.CompiledLemmas.{each_component, memory_or-map}
-use Rattle.urlpattern_pattern.specs.Compiled.{FirstRefused, IsComponentCompiled, IsComponentRefused, behind_protocol}
+use Rattle.urlpattern_pattern.specs.Compiled.{FirstRefused, IsComponentCompiled, IsComponentRefused, behind_pathname, behind_protocol}
 use Rattle.urlpattern_init.specs.Inheritance.{values_view}
-use Rattle.urlpattern_init.specs.declared.init.processing.Component.TheVariants.{Hostname, Pathname, Username, Password, Port, Search, Hash}
+use Rattle.urlpattern_init.specs.declared.init.processing.Component.TheVariants.{Hostname, Pathname}
 use Rattle.urlpattern_core.specs.Compiling.{IsCompiledFrom, component_view}
 use Rattle.urlpattern_pattern.proofs.pattern.parse.Compiler.behind_protocol.Goals as goal
 
@@ -31,65 +31,17 @@ returns-in_err-pathname-clause-refused g c =
     (λ view refused. inr ((component_view c.in_ok-hostname.hostname, c.in_ok-hostname.ensures.compiled), inl refused))
     c.in_err-pathname.ensures.refused)
 
-pub returns-in_err-username-clause-refused : goal.returns-in_err-username-clause-refused
-returns-in_err-username-clause-refused g c =
-    let p = err_from_is_err_and c.from_residual-in_err-username.result c.from_residual-in_err-username.ensures.1 in
+pub returns-in_err-others-clause-refused : goal.returns-in_err-others-clause-refused
+returns-in_err-others-clause-refused g c =
+    let p = err_from_is_err_and c.from_residual-in_err-others.result c.from_residual-in_err-others.ensures.1 in
     let asked = c.args.self.now.options.now in
     let values = values_view c.args.self.now.values.now in
     rw (p.1, p.2)
-    (memory_or-map (IsComponentRefused (IsCompiledFrom g.R.RegExp.IsMade g.R.RegExp.MayRefuse g.R.RegExp.syntax_of) asked values c.args.hierarchical Username)
+    (memory_or-map (FirstRefused (IsCompiledFrom g.R.RegExp.IsMade g.R.RegExp.MayRefuse g.R.RegExp.syntax_of) asked values c.args.hierarchical behind_pathname)
     (FirstRefused (IsCompiledFrom g.R.RegExp.IsMade g.R.RegExp.MayRefuse g.R.RegExp.syntax_of) asked values c.args.hierarchical behind_protocol)
-    c.in_err-username.field-0.0
-    (λ view refused. inr ((component_view c.in_ok-hostname.hostname, c.in_ok-hostname.ensures.compiled), inr ((component_view c.in_ok-pathname.pathname, c.in_ok-pathname.ensures.compiled), inl refused)))
-    c.in_err-username.ensures.refused)
-
-pub returns-in_err-password-clause-refused : goal.returns-in_err-password-clause-refused
-returns-in_err-password-clause-refused g c =
-    let p = err_from_is_err_and c.from_residual-in_err-password.result c.from_residual-in_err-password.ensures.1 in
-    let asked = c.args.self.now.options.now in
-    let values = values_view c.args.self.now.values.now in
-    rw (p.1, p.2)
-    (memory_or-map (IsComponentRefused (IsCompiledFrom g.R.RegExp.IsMade g.R.RegExp.MayRefuse g.R.RegExp.syntax_of) asked values c.args.hierarchical Password)
-    (FirstRefused (IsCompiledFrom g.R.RegExp.IsMade g.R.RegExp.MayRefuse g.R.RegExp.syntax_of) asked values c.args.hierarchical behind_protocol)
-    c.in_err-password.field-0.0
-    (λ view refused. inr ((component_view c.in_ok-hostname.hostname, c.in_ok-hostname.ensures.compiled), inr ((component_view c.in_ok-pathname.pathname, c.in_ok-pathname.ensures.compiled), inr ((component_view c.in_ok-username.username, c.in_ok-username.ensures.compiled), inl refused))))
-    c.in_err-password.ensures.refused)
-
-pub returns-in_err-port-clause-refused : goal.returns-in_err-port-clause-refused
-returns-in_err-port-clause-refused g c =
-    let p = err_from_is_err_and c.from_residual-in_err-port.result c.from_residual-in_err-port.ensures.1 in
-    let asked = c.args.self.now.options.now in
-    let values = values_view c.args.self.now.values.now in
-    rw (p.1, p.2)
-    (memory_or-map (IsComponentRefused (IsCompiledFrom g.R.RegExp.IsMade g.R.RegExp.MayRefuse g.R.RegExp.syntax_of) asked values c.args.hierarchical Port)
-    (FirstRefused (IsCompiledFrom g.R.RegExp.IsMade g.R.RegExp.MayRefuse g.R.RegExp.syntax_of) asked values c.args.hierarchical behind_protocol)
-    c.in_err-port.field-0.0
-    (λ view refused. inr ((component_view c.in_ok-hostname.hostname, c.in_ok-hostname.ensures.compiled), inr ((component_view c.in_ok-pathname.pathname, c.in_ok-pathname.ensures.compiled), inr ((component_view c.in_ok-username.username, c.in_ok-username.ensures.compiled), inr ((component_view c.in_ok-password.password, c.in_ok-password.ensures.compiled), inl refused)))))
-    c.in_err-port.ensures.refused)
-
-pub returns-in_err-search-clause-refused : goal.returns-in_err-search-clause-refused
-returns-in_err-search-clause-refused g c =
-    let p = err_from_is_err_and c.from_residual-in_err-search.result c.from_residual-in_err-search.ensures.1 in
-    let asked = c.args.self.now.options.now in
-    let values = values_view c.args.self.now.values.now in
-    rw (p.1, p.2)
-    (memory_or-map (IsComponentRefused (IsCompiledFrom g.R.RegExp.IsMade g.R.RegExp.MayRefuse g.R.RegExp.syntax_of) asked values c.args.hierarchical Search)
-    (FirstRefused (IsCompiledFrom g.R.RegExp.IsMade g.R.RegExp.MayRefuse g.R.RegExp.syntax_of) asked values c.args.hierarchical behind_protocol)
-    c.in_err-search.field-0.0
-    (λ view refused. inr ((component_view c.in_ok-hostname.hostname, c.in_ok-hostname.ensures.compiled), inr ((component_view c.in_ok-pathname.pathname, c.in_ok-pathname.ensures.compiled), inr ((component_view c.in_ok-username.username, c.in_ok-username.ensures.compiled), inr ((component_view c.in_ok-password.password, c.in_ok-password.ensures.compiled), inr ((component_view c.in_ok-port.port, c.in_ok-port.ensures.compiled), inl refused))))))
-    c.in_err-search.ensures.refused)
-
-pub returns-in_err-hash-clause-refused : goal.returns-in_err-hash-clause-refused
-returns-in_err-hash-clause-refused g c =
-    let p = err_from_is_err_and c.from_residual-in_err-hash.result c.from_residual-in_err-hash.ensures.1 in
-    let asked = c.args.self.now.options.now in
-    let values = values_view c.args.self.now.values.now in
-    rw (p.1, p.2)
-    (memory_or-map (IsComponentRefused (IsCompiledFrom g.R.RegExp.IsMade g.R.RegExp.MayRefuse g.R.RegExp.syntax_of) asked values c.args.hierarchical Hash)
-    (FirstRefused (IsCompiledFrom g.R.RegExp.IsMade g.R.RegExp.MayRefuse g.R.RegExp.syntax_of) asked values c.args.hierarchical behind_protocol)
-    c.in_err-hash.field-0.0
-    (λ view refused. inr ((component_view c.in_ok-hostname.hostname, c.in_ok-hostname.ensures.compiled), inr ((component_view c.in_ok-pathname.pathname, c.in_ok-pathname.ensures.compiled), inr ((component_view c.in_ok-username.username, c.in_ok-username.ensures.compiled), inr ((component_view c.in_ok-password.password, c.in_ok-password.ensures.compiled), inr ((component_view c.in_ok-port.port, c.in_ok-port.ensures.compiled), inr ((component_view c.in_ok-search.search, c.in_ok-search.ensures.compiled), inl refused)))))))
-    c.in_err-hash.ensures.refused)
+    c.in_err-others.field-0.0
+    (λ view refused. inr ((component_view c.in_ok-hostname.hostname, c.in_ok-hostname.ensures.compiled), inr ((component_view c.in_ok-pathname.pathname, c.in_ok-pathname.ensures.compiled), refused)))
+    c.in_err-others.ensures.refused)
 
 pub returns-clause-compiled : goal.returns-clause-compiled
 returns-clause-compiled g c =
@@ -98,13 +50,13 @@ returns-clause-compiled g c =
     c.args.self.now.options.now (values_view c.args.self.now.values.now) c.args.hierarchical component compiled)
     (record {
       protocol = c.args.protocol;
-      username = c.in_ok-username.username;
-      password = c.in_ok-password.password;
+      username = c.in_ok-others.others.username;
+      password = c.in_ok-others.others.password;
       hostname = c.in_ok-hostname.hostname;
-      port = c.in_ok-port.port;
+      port = c.in_ok-others.others.port;
       pathname = c.in_ok-pathname.pathname;
-      search = c.in_ok-search.search;
-      hash = c.in_ok-hash.hash;
+      search = c.in_ok-others.others.search;
+      hash = c.in_ok-others.others.hash;
     })
-    c.requires c.in_ok-username.ensures.compiled c.in_ok-password.ensures.compiled c.in_ok-hostname.ensures.compiled c.in_ok-port.ensures.compiled
-    c.in_ok-pathname.ensures.compiled c.in_ok-search.ensures.compiled c.in_ok-hash.ensures.compiled
+    c.requires c.in_ok-others.ensures.username c.in_ok-others.ensures.password c.in_ok-hostname.ensures.compiled c.in_ok-others.ensures.port
+    c.in_ok-pathname.ensures.compiled c.in_ok-others.ensures.search c.in_ok-others.ensures.hash

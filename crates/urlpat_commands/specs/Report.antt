@@ -2,8 +2,8 @@
 use Rattle.std.specs.Prelude.{ℕ, List, ◌++◌, codes, Option, Some}
 use Rattle.std.specs.Fmt.{with_newline}
 use Rattle.std.specs.List.{flat_map}
-use Rattle.urlpat.specs.declared.command.Failure.{Failure}
-use Rattle.urlpat.specs.declared.command.Failure.TheVariants as failures
+use Rattle.urlpat_commands.specs.declared.command.Failure.{Failure}
+use Rattle.urlpat_commands.specs.declared.command.Failure.TheVariants as failures
 use Rattle.urlpattern.specs.Errors.{error_view}
 use Rattle.urlpattern.specs.ErrorText.{error_text}
 

@@ -1,6 +1,6 @@
 use Rattle.std.proofs.Common.{◌≡◌, ◌++◌, codes, map, string_bytes, take}
 use Rattle.std.specs.List.{flat_map}
-use Rattle.urlpat.proofs.command.component_report.Given as goal
+use Rattle.urlpat_commands.proofs.command.component_report.Given as goal
 
 abbrev pub invariant-loop-name : goal.invariant-loop-name
 invariant-loop-name l =

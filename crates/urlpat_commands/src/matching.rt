@@ -1,7 +1,7 @@
 //! The command `match`: what the groups of a pattern capture of a URL.
 
 ghost use Rattle.std.specs.Prelude.{◌≡◌, ◌++◌, string_bytes, OnOk};
-ghost use Rattle.urlpat.specs.Report.{group_line};
+ghost use Rattle.urlpat_commands.specs.Report.{group_line};
 
 use std::alloc::{AllocError, Global};
 use std::borrow::CowStr;

@@ -1,0 +1,34 @@
+//! What a question gives, as the library reads it of JSON.
+
+use crate::recorded::{Fault, field, optional_text};
+use serde_json::Value;
+use std::alloc::Global;
+use std::borrow::CowStr;
+use urlpattern::quirks::{StringOrInit, UrlPatternInit};
+use urlpattern::{Error, UrlPatternOptions};
+
+/// What is given: a text, or an init.
+pub fn input<'a>(alloc: Global, fields: &'a Value) -> Result<StringOrInit<'a>, Fault> {
+    if let Some(text) = optional_text(fields, "string") {
+        return Ok(StringOrInit::String(CowStr::Borrowed(text)));
+    }
+    let init = read(UrlPatternInit::from_json_value(alloc, field(fields, "init")?))?;
+    Ok(StringOrInit::Init(init))
+}
+
+/// The options that a question names, or the default ones.
+pub fn options(alloc: Global, question: &Value) -> Result<UrlPatternOptions, Fault> {
+    match question.get("options") {
+        Some(options) => read(UrlPatternOptions::from_json_value(alloc, options)),
+        None => Ok(UrlPatternOptions::default()),
+    }
+}
+
+/// The value that was read. A case has one.
+pub fn read<T: Drop>(found: Result<Option<T>, Error>) -> Result<T, Fault> {
+    match found {
+        Ok(Some(value)) => Ok(value),
+        Ok(None) => Err(Fault::NoCase),
+        Err(_) => Err(Fault::OutOfMemory),
+    }
+}

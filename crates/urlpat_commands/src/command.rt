@@ -1,0 +1,161 @@
+//! The commands of the program: what its words ask for, and what it prints.
+
+ghost use Rattle.std.specs.Io.KnownBytes.{Appends};
+ghost use Rattle.std.specs.Prelude.{◌≡◌, ◌≢◌, ◌⊎◌, map, string_bytes, IfOk, IfSome, OnOk, Ok, None};
+ghost use Rattle.urlpat_commands.specs.Kinds.{IsKind, IsNamed};
+ghost use Rattle.urlpattern.specs.Options.{options_view};
+ghost use Rattle.urlpat_commands.specs.Report.{component_lines, failure_lines};
+
+use crate::matching::matched_groups;
+use std::alloc::{AllocError, Global};
+use std::io;
+use std::io::Write;
+use urlpattern::Error;
+use urlpattern::component::{generate_pattern_string, generate_regular_expression_and_name_list};
+use urlpattern::parser::{Options, parse_pattern_string};
+
+/// The status of a run that gave its answer.
+pub const DONE: u8 = 0;
+
+/// The status of a run whose input is not matched.
+pub const NO_MATCH: u8 = 1;
+
+/// The status of every other run.
+pub const FAILED: u8 = 2;
+
+/// How a component is asked for.
+const COMPONENT_USAGE: &str = "usage: urlpat component default|hostname|pathname PATTERN\n";
+
+/// How a match is asked for.
+const MATCH_USAGE: &str = "       urlpat match PATTERN BASE INPUT\n";
+
+/// An answer: what is printed, and the status to end with.
+#[derive(Drop)]
+struct Printed {
+    text: String,
+    status: u8,
+}
+
+/// Why there is no answer.
+#[derive(Drop)]
+enum Failure {
+    /// The words are no command.
+    Usage,
+    /// The library refused a word, or memory ran out.
+    Refused(Error),
+}
+
+impl From<Error> for Failure {
+    fn from(error: Error) -> Failure {
+        Failure::Refused(error)
+    }
+}
+
+impl From<AllocError> for Failure {
+    fn from(error: AllocError) -> Failure {
+        Failure::Refused(Error::from(error))
+    }
+}
+
+/// Does what the words ask for, and gives the status to end with.
+///
+/// The answer goes to `out` in one piece. Why there is none goes to `err`.
+pub fn run<Out: Write, Err: Write>(
+    alloc: Global,
+    words: &[String],
+    out: &mut Out,
+    err: &mut Err,
+) -> u8
+    ensures status { (result ≡ DONE) ⊎ (result ≡ NO_MATCH) ⊎ (result ≡ FAILED) }
+    ensures quiet { result ≢ FAILED → err.new ≡ err.old }
+{
+    match answer(alloc, words) {
+        Ok(answer) => match out.write_all(answer.text.as_bytes()) {
+            Ok(()) => answer.status,
+            Err(_) => FAILED,
+        },
+        Err(failure) => {
+            let _ = tell(&failure, err);
+            FAILED
+        }
+    }
+}
+
+/// Writes why there is no answer: how the program is used, or the error and a line end.
+fn tell<Err: Write>(failure: &Failure, err: &mut Err) -> io::Result<()>
+    ensures { IfSome (failure_lines failure.now) (λ lines. OnOk result (Appends (Err.contents err.old) (Err.contents err.new) lines)) }
+{
+    match failure {
+        Failure::Usage => write!(err, "{COMPONENT_USAGE}{MATCH_USAGE}"),
+        Failure::Refused(error) => writeln!(err, "{error}"),
+    }
+}
+
+/// What the words ask for.
+fn answer(alloc: Global, words: &[String]) -> Result<Printed, Failure>
+    ensures { IfOk result (λ answer. (answer.status ≡ DONE) ⊎ (answer.status ≡ NO_MATCH)) }
+{
+    match words {
+        [command, kind, pattern] if command.as_str() == "component" => Ok(Printed {
+            text: component(alloc, kind, pattern)?,
+            status: DONE,
+        }),
+        [command, pattern, base, input] if command.as_str() == "match" => {
+            match matched_groups(alloc, pattern, base, input)? {
+                Some(text) => Ok(Printed { text, status: DONE }),
+                None => Ok(Printed {
+                    text: String::from_str(alloc, "no match\n")?,
+                    status: NO_MATCH,
+                }),
+            }
+        }
+        _ => Err(Failure::Usage),
+    }
+}
+
+/// The answer to `component`.
+fn component(alloc: Global, kind: &str, pattern: &str) -> Result<String, Failure> {
+    let Some(options) = options_of(alloc, kind)? else {
+        return Err(Failure::Usage);
+    };
+    let unchanged = |text: &str| -> Result<String, Error> { Ok(String::from_str(alloc, text)?) };
+    let parts = parse_pattern_string(alloc, pattern, &options, unchanged)?;
+    let (regexp, names) = generate_regular_expression_and_name_list(alloc, &parts, &options)?;
+    let printed = generate_pattern_string(alloc, &parts, &options)?;
+    Ok(component_report(alloc, &names, &regexp, &printed)?)
+}
+
+/// The options of this name, if there are such.
+fn options_of(alloc: Global, kind: &str) -> Result<Option<Options>, Error>
+    ensures some { IfOk result (λ found. IfSome found (λ options. IsNamed kind.now (options_view options))) }
+    ensures none { result ≡ Ok None → ¬ IsKind kind.now }
+{
+    match kind {
+        "default" => Ok(Some(Options::default(alloc))),
+        "hostname" => Ok(Some(Options::hostname(alloc))),
+        "pathname" => Ok(Some(Options::pathname(alloc)?)),
+        _ => Ok(None),
+    }
+}
+
+/// A line with the names, one with the regular expression and one with the printed pattern.
+fn component_report(
+    alloc: Global,
+    names: &[String],
+    regexp: &str,
+    pattern: &str,
+) -> Result<String, AllocError>
+    ensures { IfOk result (λ text. string_bytes text ≡ component_lines (map (λ name. string_bytes name) names.now) regexp.now pattern.now) }
+{
+    let mut text = String::from_str(alloc, "names:")?;
+    for name in names {
+        text.push(' ')?;
+        text.push_str(name)?;
+    }
+    text.push_str("\nregexp: ")?;
+    text.push_str(regexp)?;
+    text.push_str("\npattern: ")?;
+    text.push_str(pattern)?;
+    text.push('\n')?;
+    Ok(text)
+}
