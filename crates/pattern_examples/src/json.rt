@@ -273,7 +273,7 @@ fn serde_reads_options_without_a_syntax(rt: HostRuntime) -> Result<(), Fail> {
 /// Whether the value of a tree equals its copy, and not the value of another tree.
 fn is_copied<T: Plain + Clone>(alloc: Global, tree: &Value, other: &Value) -> Result<bool, Error> {
     let value = T::read(alloc, tree)?;
-    Ok(value.clone()? == value && T::read(alloc, other)? != value)
+    Ok(value.is_some() && value.clone()? == value && T::read(alloc, other)? != value)
 }
 
 #[test]
