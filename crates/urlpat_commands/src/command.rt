@@ -1,10 +1,14 @@
 //! The commands of the program: what its words ask for, and what it prints.
 
 ghost use Rattle.std.specs.Io.KnownBytes.{Appends};
-ghost use Rattle.std.specs.Prelude.{◌≡◌, ◌≢◌, ◌⊎◌, map, string_bytes, IfOk, IfSome, OnOk, Ok, None};
+ghost use Rattle.std.specs.Prelude.{◌≡◌, ◌≢◌, ◌⊎◌, ℕ, List, map, string_bytes, IfErr, IfOk, IfSome, OnOk, Ok, None};
+ghost use Rattle.urlpat_commands.specs.Answers.{IsAnswer, IsComponentFailure, IsComponentText, IsCopy, IsFailure};
 ghost use Rattle.urlpat_commands.specs.Kinds.{IsKind, IsNamed};
-ghost use Rattle.urlpattern.specs.Options.{options_view};
 ghost use Rattle.urlpat_commands.specs.Report.{component_lines, failure_lines};
+ghost use Rattle.urlpat_commands.specs.declared.command.Failure.{Failure};
+ghost use Rattle.urlpat_commands.specs.declared.command.Failure.TheVariants as failures;
+ghost use Rattle.urlpattern.specs.Options.{options_view};
+ghost use Rattle.urlpattern_syntax.specs.declared.error.Error.TheVariants as errors;
 
 use crate::matching::matched_groups;
 use std::alloc::{AllocError, Global};
@@ -46,12 +50,16 @@ enum Failure {
 }
 
 impl From<Error> for Failure {
+    ghost from_gives = { λ error failure. failure ≡ failures.Refused error };
+
     fn from(error: Error) -> Failure {
         Failure::Refused(error)
     }
 }
 
 impl From<AllocError> for Failure {
+    ghost from_gives = { λ error failure. failure ≡ failures.Refused errors.OutOfMemory };
+
     fn from(error: AllocError) -> Failure {
         Failure::Refused(Error::from(error))
     }
@@ -67,7 +75,11 @@ pub fn run<Out: Write, Err: Write>(
     err: &mut Err,
 ) -> u8
     ensures status { (result ≡ DONE) ⊎ (result ≡ NO_MATCH) ⊎ (result ≡ FAILED) }
+    ensures answers { result ≢ FAILED → (text : List ℕ) × IsAnswer (map (λ word. string_bytes word) words.now) text result
+        × Appends (Out.contents out.old) (Out.contents out.new) text }
     ensures quiet { result ≢ FAILED → err.new ≡ err.old }
+    ensures fails { result ≡ FAILED → ((failure : Failure) × IsFailure (map (λ word. string_bytes word) words.now) failure × (out.new ≡ out.old))
+        ⊎ ((text : List ℕ) × (status : ℕ) × IsAnswer (map (λ word. string_bytes word) words.now) text status) }
 {
     match answer(alloc, words) {
         Ok(answer) => match out.write_all(answer.text.as_bytes()) {
@@ -93,7 +105,8 @@ fn tell<Err: Write>(failure: &Failure, err: &mut Err) -> io::Result<()>
 
 /// What the words ask for.
 fn answer(alloc: Global, words: &[String]) -> Result<Printed, Failure>
-    ensures { IfOk result (λ answer. (answer.status ≡ DONE) ⊎ (answer.status ≡ NO_MATCH)) }
+    ensures answers { IfOk result (λ answer. IsAnswer (map (λ word. string_bytes word) words.now) (string_bytes answer.text) answer.status) }
+    ensures fails { IfErr result (IsFailure (map (λ word. string_bytes word) words.now)) }
 {
     match words {
         [command, kind, pattern] if command.as_str() == "component" => Ok(Printed {
@@ -114,11 +127,16 @@ fn answer(alloc: Global, words: &[String]) -> Result<Printed, Failure>
 }
 
 /// The answer to `component`.
-fn component(alloc: Global, kind: &str, pattern: &str) -> Result<String, Failure> {
+fn component(alloc: Global, kind: &str, pattern: &str) -> Result<String, Failure>
+    ensures text { IfOk result (λ text. IsComponentText kind.now pattern.now (string_bytes text)) }
+    ensures fails { IfErr result (IsComponentFailure kind.now pattern.now) }
+{
     let Some(options) = options_of(alloc, kind)? else {
         return Err(Failure::Usage);
     };
-    let unchanged = |text: &str| -> Result<String, Error> { Ok(String::from_str(alloc, text)?) };
+    let unchanged = |text: &str| -> Result<String, Error>
+        ensures { IsCopy text.now result }
+    { Ok(String::from_str(alloc, text)?) };
     let parts = parse_pattern_string(alloc, pattern, &options, unchanged)?;
     let (regexp, names) = generate_regular_expression_and_name_list(alloc, &parts, &options)?;
     let printed = generate_pattern_string(alloc, &parts, &options)?;
@@ -129,6 +147,7 @@ fn component(alloc: Global, kind: &str, pattern: &str) -> Result<String, Failure
 fn options_of(alloc: Global, kind: &str) -> Result<Option<Options>, Error>
     ensures some { IfOk result (λ found. IfSome found (λ options. IsNamed kind.now (options_view options))) }
     ensures none { result ≡ Ok None → ¬ IsKind kind.now }
+    ensures memory { IfErr result (λ error. error ≡ errors.OutOfMemory) }
 {
     match kind {
         "default" => Ok(Some(Options::default(alloc))),

@@ -1,0 +1,2 @@
+mod AnswerExamples
+mod AnswerLemmas

@@ -1,0 +1,44 @@
+use Rattle.std.proofs.Common.{rules, map, inl, inr, ap, ◌∙◌}
+use Rattle.std.proofs.lemmas.Result.{err_from_is_err_and}
+use Rattle.std.specs.Prelude.{string_bytes, encode_utf8_all}
+use Rattle.urlpat_commands.proofs.AnswerLemmas.{bytes_of_text, bytes_of_texts}
+use Rattle.urlpat_commands.specs.Answers.{kept}
+use Rattle.urlpat_commands.specs.Report.{component_lines}
+use Rattle.urlpattern.specs.Options.{options_view}
+use Rattle.urlpattern.specs.Parts.{part_view}
+use Rattle.urlpattern.specs.Printing.{printed}
+use Rattle.urlpattern.specs.RegexpText.{group_names, regexp_text}
+use Rattle.urlpattern_init.proofs.Encodings.{reads_weaker, refuses_weaker}
+use Rattle.urlpat_commands.proofs.command.component.Goals as goal
+
+pub returns-in_err-parts-clause-fails : goal.returns-in_err-parts-clause-fails
+returns-in_err-parts-clause-fails c =
+    let p = err_from_is_err_and c.from_residual-in_err-parts.result c.from_residual-in_err-parts.ensures.1 in
+    rw (p.1, p.2) (elim c.in_err-parts.ensures.refuses [
+      | inl memory ↦ inl memory
+      | inr refused ↦ inr (record {
+        options = options_view c.in-Some.options;
+        is_named = rw c.in-Some.is at c.in_ok-options.ensures.some;
+        refuses = refuses_weaker _ kept (λ text answer h. (h.0, search rules, h.2)) _ _ _ refused;
+      })
+    ])
+
+pub returns-clause-text : goal.returns-clause-text
+returns-clause-text c =
+    let options = options_view c.in-Some.options in
+    let parts = map part_view c.in_ok-parts.parts.items in
+    let same = ap (map part_view) c.deref.ensures.value in
+    let again = ap (map part_view) c.deref-2.ensures.value in
+    let names = ap (map (λ name. string_bytes name)) c.deref-3.ensures.value ∙ bytes_of_texts c.in_ok-regexp.names.items _ (c.in_ok-regexp.ensures.names ∙ ap group_names same) in
+    let regexp = c.deref-4.ensures ∙ bytes_of_text c.in_ok-regexp.regexp _ (c.in_ok-regexp.ensures.text ∙ ap (regexp_text options) same) in
+    let shown = c.deref-5.ensures ∙ bytes_of_text c.in_ok-printed.printed _ (c.in_ok-printed.ensures.text ∙ ap (printed options) again) in
+    record {
+      options = options;
+      parts = parts;
+      is_named = rw c.in-Some.is at c.in_ok-options.ensures.some;
+      reads = reads_weaker _ kept (λ text answer h. (h.0, search rules, h.2)) _ _ _ c.in_ok-parts.ensures.reads;
+      is_text = c.in_ok-component_report.ensures
+          ∙ ap (λ n. component_lines n c.deref-4.result.now c.deref-5.result.now) names
+          ∙ ap (λ r. component_lines (map encode_utf8_all (group_names parts)) r c.deref-5.result.now) regexp
+          ∙ ap (λ s. component_lines (map encode_utf8_all (group_names parts)) (encode_utf8_all (regexp_text options parts)) s) shown;
+    }

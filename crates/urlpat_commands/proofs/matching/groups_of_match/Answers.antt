@@ -1,0 +1,10 @@
+use Rattle.urlpat_commands.proofs.matching.groups_of_match.Goals as goal
+
+pub returns-clause-found : goal.returns-clause-found
+returns-clause-found c = record {
+  url = c.in-Some.url;
+  result = c.in-Some-2.found;
+  is_url = rw c.in-Some.is at c.in_ok-url.ensures.found;
+  is_match = rw c.in-Some-2.is at c.in_ok-found.ensures.matched;
+  are_lines = c.in_ok-report.ensures;
+}

@@ -1,0 +1,172 @@
+-- What the program answers to its words, and what it refuses. Words and texts are bytes.
+use Rattle.std.specs.Prelude.{◌≡◌, ◌⊎◌, ◌++◌, ⊤, ℕ, false, if◌then◌else◌, List, [], ◌∷◌, length, map, max, codes, bytes_eq, IsPermutation, IsSorted, Option, None, Some, Result, Ok, Err, String, string_bytes, encode_utf8_all}
+use Rattle.std.specs.Cmp.Lexicographic.{slice_cmp}
+use Rattle.std.specs.HashMap.{get_by_text, keys}
+use Rattle.std.specs.List.{flat_map}
+use Rattle.std.specs.Ordering.{nat_cmp}
+use Rattle.std.specs.Str.{chars}
+use Rattle.std.specs.declared.alloc.Global.{Global}
+use Rattle.regex.specs.declared.string.regex.Regex.{Regex}
+use Rattle.urlpat_commands.specs.declared.command.Failure.{Failure}
+use Rattle.urlpat_commands.specs.declared.command.Failure.TheVariants as failures
+use Rattle.urlpat_commands.specs.Kinds.{IsKind, IsNamed}
+use Rattle.urlpat_commands.specs.Report.{component_lines, group_line}
+use Rattle.urlpattern.specs.Compiled.{Compiles, IsCompiled, RefusesPattern}
+use Rattle.urlpattern.specs.Compiling.{IsCompiledFrom}
+use Rattle.urlpattern.specs.Engines.{IsRegexOf, regex_answer}
+use Rattle.urlpattern.specs.Errors.{ErrorView}
+use Rattle.urlpattern.specs.Inputs.{IsInitOfString, IsRefusedByUrl, RefusesText, parsed_text, text_bytes}
+use Rattle.urlpattern.specs.Match.{HasNoMatch, IsMatch, result_view}
+use Rattle.urlpattern.specs.Options.{OptionsView}
+use Rattle.urlpattern.specs.Parsing.{MemoryOr}
+use Rattle.urlpattern.specs.Parts.{PartView}
+use Rattle.urlpattern.specs.Patterns.{PatternView}
+use Rattle.urlpattern.specs.Printing.{printed}
+use Rattle.urlpattern.specs.Reading.{Encoding, Reads, Refuses, encoding_of}
+use Rattle.urlpattern.specs.RegexpText.{group_names, regexp_text}
+use Rattle.urlpattern_init.specs.declared.init.UrlPatternInit.{UrlPatternInit}
+use Rattle.urlpattern_init.specs.declared.init.UrlPatternMatchInput.{UrlPatternMatchInput}
+use Rattle.urlpattern_init.specs.declared.init.UrlPatternMatchInput.TheVariants as match_inputs
+use Rattle.urlpattern_inputs.specs.declared.options.UrlPatternOptions.{UrlPatternOptions}
+use Rattle.urlpattern_pattern.specs.declared.pattern.result.UrlPatternComponentResult.{UrlPatternComponentResult}
+use Rattle.urlpattern_pattern.specs.declared.pattern.result.UrlPatternResult.{UrlPatternResult}
+use Rattle.urlpattern_syntax.specs.declared.error.Error.{Error}
+use Rattle.urlpattern_syntax.specs.declared.error.Error.TheVariants as errors
+use Rattle.urlpattern_syntax.specs.declared.parser.RegexSyntax.TheVariants.{Rust}
+
+-- ---- what a component is compiled to
+
+-- each text is answered by a copy of it, or memory runs out
+abbrev pub IsCopy : (bytes : List ℕ) → Result (String Global) Error → Type 0
+IsCopy bytes (Ok copy) = string_bytes copy ≡ bytes
+IsCopy bytes (Err error) = error ≡ errors.OutOfMemory
+
+abbrev pub kept : Encoding
+kept = encoding_of IsCopy
+
+-- The text tells what the pattern is compiled to under the options of that name, its fixed texts kept as they are.
+pub record IsComponentText (kind pattern text : List ℕ) : Type 0 where
+  pub options : OptionsView
+  pub parts : List PartView
+  pub is_named : IsNamed kind options
+  pub reads : Reads (chars pattern) options kept parts
+  pub is_text : text ≡ component_lines (map encode_utf8_all (group_names parts)) (encode_utf8_all (regexp_text options parts)) (encode_utf8_all (printed options parts))
+
+-- The pattern is refused with this error under the options of that name.
+pub record RefusesComponent (kind pattern : List ℕ) (error : ErrorView) : Type 0 where
+  pub options : OptionsView
+  pub is_named : IsNamed kind options
+  pub refuses : Refuses (chars pattern) options kept error
+
+-- why there is no such text: the word names no options, the pattern is refused, or memory ran out
+abbrev pub IsComponentFailure : (kind pattern : List ℕ) → Failure → Type 0
+IsComponentFailure kind pattern failures.Usage = IsKind kind → ⊥
+IsComponentFailure kind pattern (failures.Refused error) = MemoryOr (RefusesComponent kind pattern) error
+
+-- ---- what a pattern captures
+
+-- the base URL that a word stands for: none for `-`
+abbrev pub base_of : List ℕ → Option (List ℕ)
+base_of word = if bytes_eq word (codes "-") then None else Some word
+
+-- whole patterns are compiled under the default options, for engines of the crate `regex`
+abbrev pub default_pattern_options : UrlPatternOptions
+default_pattern_options = record { regex_syntax = Rust; ignore_case = false }
+
+abbrev pub compiles_by_regex : Compiles Regex
+compiles_by_regex = IsCompiledFrom (λ regex regexp flags. IsRegexOf regexp regex) (λ regexp flags force_eval. ⊤) Rust
+
+-- The constructor string with this base URL is compiled to the pattern.
+pub record IsPatternOf (text : List ℕ) (base : Option (List ℕ)) (pattern : PatternView Regex) : Type 0 where
+  pub init : UrlPatternInit
+  pub is_constructed : IsInitOfString (chars text) base init
+  pub is_compiled : IsCompiled compiles_by_regex regex_answer init default_pattern_options pattern
+
+-- it is refused with this error, as a constructor string or when it is compiled
+abbrev pub RefusesPatternOf : (text : List ℕ) → (base : Option (List ℕ)) → ErrorView → Type 0
+RefusesPatternOf text base error =
+    RefusesText (chars text) base error
+    ⊎ ((init : UrlPatternInit) × IsInitOfString (chars text) base init × RefusesPattern compiles_by_regex regex_answer init default_pattern_options error)
+
+-- what a group captured, empty if it took no part
+abbrev pub capture_of : Option (Option (String Global)) → List ℕ
+capture_of (Some (Some text)) = string_bytes text
+capture_of capture = []
+
+-- The text has a line for each group of the component, in the order of the bytes of their names.
+pub record AreGroupLines (component : List ℕ) (found : UrlPatternComponentResult) (text : List ℕ) : Type 0 where
+  pub names : List (List ℕ)
+  pub are_names : IsPermutation (map (λ name. string_bytes name) (keys found.groups)) names
+  pub in_order : IsSorted (slice_cmp nat_cmp) names
+  pub is_text : text ≡ flat_map (λ name. group_line component name (capture_of (get_by_text found.groups name))) names
+
+-- the text has the lines of these components, one after the other
+abbrev pub AreLines : List (List ℕ × UrlPatternComponentResult) → (text : List ℕ) → Type 0
+AreLines [] text = text ≡ []
+AreLines (component ∷ rest) text =
+    (first others : List ℕ) × (text ≡ first ++ others) × AreGroupLines component.0 component.1 first × AreLines rest others
+
+abbrev pub components_of : UrlPatternResult → List (List ℕ × UrlPatternComponentResult)
+components_of result =
+    (codes "protocol", result.protocol)
+    ∷ (codes "username", result.username)
+    ∷ (codes "password", result.password)
+    ∷ (codes "hostname", result.hostname)
+    ∷ (codes "port", result.port)
+    ∷ (codes "pathname", result.pathname)
+    ∷ (codes "search", result.search)
+    ∷ (codes "hash", result.hash)
+    ∷ []
+
+-- the input is this URL, under the base URL
+abbrev pub IsUrlOf : (input : List ℕ) → (base : Option (List ℕ)) → UrlPatternMatchInput → Type 0
+IsUrlOf input base (match_inputs.Url url) = parsed_text base input ≡ Ok url
+IsUrlOf input base (match_inputs.Init init) = ⊥
+
+-- `url` refuses the input or the base URL, or they are too long
+abbrev pub IsRefusedText : (input : List ℕ) → (base : Option (List ℕ)) → Type 0
+IsRefusedText input base = IsRefusedByUrl (parsed_text base input) (max (length input) (text_bytes base))
+
+-- The pattern matches the input, a URL under this base URL, and the text tells what the groups capture.
+pub record IsMatchTextBy (compiled : PatternView Regex) (input : List ℕ) (base : Option (List ℕ)) (text : List ℕ) : Type 0 where
+  pub url : UrlPatternMatchInput
+  pub result : UrlPatternResult
+  pub is_url : IsUrlOf input base url
+  pub is_match : IsMatch regex_answer compiled url (result_view result)
+  pub are_lines : AreLines (components_of result) text
+
+abbrev pub IsMatchText : (pattern input : List ℕ) → (base : Option (List ℕ)) → (text : List ℕ) → Type 0
+IsMatchText pattern input base text =
+    (compiled : PatternView Regex) × IsPatternOf pattern base compiled × IsMatchTextBy compiled input base text
+
+-- the pattern does not match the input: `url` refuses it, or the pattern has no match on it
+abbrev pub IsUnmatchedBy : (compiled : PatternView Regex) → (input : List ℕ) → (base : Option (List ℕ)) → Type 0
+IsUnmatchedBy compiled input base =
+    IsRefusedText input base ⊎ ((url : UrlPatternMatchInput) × IsUrlOf input base url × HasNoMatch regex_answer compiled url)
+
+abbrev pub IsUnmatched : (pattern input : List ℕ) → (base : Option (List ℕ)) → Type 0
+IsUnmatched pattern input base =
+    (compiled : PatternView Regex) × IsPatternOf pattern base compiled × IsUnmatchedBy compiled input base
+
+-- ---- commands
+
+-- the answer to the words, and the status of the run: 0, or 1 where an input is not matched
+abbrev pub IsAnswer : (words : List (List ℕ)) → (text : List ℕ) → (status : ℕ) → Type 0
+IsAnswer (command ∷ kind ∷ pattern ∷ []) text status =
+    (command ≡ codes "component") × IsComponentText kind pattern text × (status ≡ 0)
+IsAnswer (command ∷ pattern ∷ base ∷ input ∷ []) text status =
+    (command ≡ codes "match")
+    × ((IsMatchText pattern input (base_of base) text × (status ≡ 0))
+    ⊎ (IsUnmatched pattern input (base_of base) × (text ≡ codes "no match\n") × (status ≡ 1)))
+IsAnswer words text status = ⊥
+
+-- why there is none: the words are no command, something is refused, or memory ran out
+abbrev pub IsFailure : (words : List (List ℕ)) → Failure → Type 0
+IsFailure (command ∷ kind ∷ pattern ∷ []) failures.Usage = (command ≡ codes "component") × IsKind kind → ⊥
+IsFailure (command ∷ pattern ∷ base ∷ input ∷ []) failures.Usage = command ≡ codes "match" → ⊥
+IsFailure words failures.Usage = ⊤
+IsFailure (command ∷ kind ∷ pattern ∷ []) (failures.Refused error) =
+    (command ≡ codes "component") × MemoryOr (RefusesComponent kind pattern) error
+IsFailure (command ∷ pattern ∷ base ∷ input ∷ []) (failures.Refused error) =
+    (command ≡ codes "match") × MemoryOr (RefusesPatternOf pattern (base_of base)) error
+IsFailure words (failures.Refused error) = ⊥
