@@ -1,23 +1,17 @@
 //! Components over both engines where memory may run out.
 
+use crate::components::path_of;
 use regex::Regex;
 use std::alloc::Global;
 use std::process::Abort;
 use urlpattern::Error;
 use urlpattern::component::Component;
-use urlpattern::parser::Options;
 use urlpattern::quirks::EcmaRegexp;
 use urlpattern::regexp::RegExp;
 
-/// The component of a path, whose texts stay as they are.
-fn component_of<R: RegExp>(alloc: Global, pattern: &str) -> Result<Component<R>, Error> {
-    let unchanged = |text: &str| -> Result<String, Error> { Ok(String::from_str(alloc, text)?) };
-    Component::compile(alloc, Some(pattern), unchanged, Options::pathname(alloc)?)
-}
-
 /// Whether a component is compiled as expected and answers so.
 fn is_as_expected<R: RegExp>(alloc: Global) -> Result<bool, Error> {
-    let component: Component<R> = component_of(alloc, "/:x*/(b+)")?;
+    let component: Component<R> = path_of(alloc, "/:x*/(b+)")?;
     let captures = component.matcher.matches(alloc, "/a/a/b")?;
     Ok(
         component.pattern_string.as_str() == "/:x*/(b+)"

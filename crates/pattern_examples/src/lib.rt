@@ -8,6 +8,8 @@ mod commands;
 #[cfg(test)]
 mod compiled;
 #[cfg(test)]
+mod components;
+#[cfg(test)]
 mod constructor_strings;
 #[cfg(test)]
 mod engines;

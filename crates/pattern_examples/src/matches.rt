@@ -1,5 +1,6 @@
 //! Matches of patterns with components put together by hand, copies of results, and want of memory.
 
+use crate::components::path_of;
 use crate::facts::{Groups, Told, expect_match, expect_no_match, expect_path};
 use crate::inits::url_input;
 use regex::Regex;
@@ -8,15 +9,8 @@ use std::process::Abort;
 use std::test::Fail;
 use urlpattern::component::Component;
 use urlpattern::matcher::{InnerMatcher, Matcher};
-use urlpattern::parser::Options;
 use urlpattern::regexp::RegExp;
 use urlpattern::{Error, UrlPattern, UrlPatternInit, UrlPatternOptions};
-
-/// The component of a path, whose texts stay as they are.
-fn path(alloc: Global, pattern: &str) -> Result<Component<Regex>, Error> {
-    let unchanged = |text: &str| -> Result<String, Error> { Ok(String::from_str(alloc, text)?) };
-    Component::compile(alloc, Some(pattern), unchanged, Options::pathname(alloc)?)
-}
 
 /// Copies of names.
 fn names_of(alloc: Global, names: &[&str]) -> Result<Vec<String>, Error> {
@@ -66,7 +60,7 @@ fn expect_url(
     told: &[Told<'_>],
 ) -> Result<(), Error> {
     let input = url_input(alloc, url)?;
-    let pattern = with_pathname(alloc, path(alloc, pathname)?)?;
+    let pattern = with_pathname(alloc, path_of::<Regex>(alloc, pathname)?)?;
     expect_match(rt, alloc, pattern, input, told)
 }
 
@@ -129,7 +123,7 @@ fn an_error_in_place_of_an_engine_matches_nothing(rt: HostRuntime) -> Result<(),
 fn a_copy_of_a_result_equals_it(rt: HostRuntime) -> Result<(), Fail> {
     let alloc = rt.alloc();
     let input = url_input(alloc, "https://example.com/a/b")?;
-    let pattern = with_pathname(alloc, path(alloc, "/a/:x{/:y}?")?)?;
+    let pattern = with_pathname(alloc, path_of::<Regex>(alloc, "/a/:x{/:y}?")?)?;
     let groups = [("x", Some("b")), ("y", None)];
     expect_path(&rt, alloc, pattern, input, "/a/b", &groups)?;
     Ok(())

@@ -1,5 +1,6 @@
 //! Compiled patterns as plain data.
 
+use crate::components::{component_of, path_of};
 use crate::facts::{Fact, expect_facts};
 use crate::inits::init_of;
 use regex::Regex;
@@ -39,16 +40,6 @@ fn pattern_as_lib(alloc: Global, pathname: &str) -> Result<UrlPattern<Regex>, Er
     parse_pattern_as_lib(alloc, init, UrlPatternOptions::default())
 }
 
-/// A component whose texts stay as they are.
-fn component_of<R: RegExp>(
-    alloc: Global,
-    pattern: Option<&str>,
-    options: Options,
-) -> Result<Component<R>, Error> {
-    let unchanged = |text: &str| -> Result<String, Error> { Ok(String::from_str(alloc, text)?) };
-    Component::compile(alloc, pattern, unchanged, options)
-}
-
 /// The JSON of the plain matcher of a component.
 fn matcher_tree<R: RegExp>(alloc: Global, component: Component<R>) -> Result<Value, Error> {
     Matcher::from_matcher(alloc, component.matcher)?.to_json_value(alloc)
@@ -76,8 +67,7 @@ fn a_component_becomes_plain_piece_by_piece(rt: HostRuntime) -> Result<(), Fail>
         allow_empty: true,
     };
     assert_eq!(rt; plain_inner(alloc, search)?, any);
-    let options = Options::pathname(alloc)?;
-    let pathname: Component<Regex> = component_of(alloc, Some("/users/:id"), options)?;
+    let pathname: Component<Regex> = path_of(alloc, "/users/:id")?;
     let text =
         r#"{"kind":"singleCapture","allowEmpty":false,"filter":"/","prefix":"/users/","suffix":""}"#;
     assert_eq!(rt;
@@ -90,8 +80,7 @@ fn a_component_becomes_plain_piece_by_piece(rt: HostRuntime) -> Result<(), Fail>
 #[test]
 fn a_refused_regular_expression_is_an_empty_text(rt: HostRuntime) -> Result<(), Fail> {
     let alloc = rt.alloc();
-    let options = Options::pathname(alloc)?;
-    let component: Component<EcmaRegexp> = component_of(alloc, Some("/(a[)"), options)?;
+    let component: Component<EcmaRegexp> = path_of(alloc, "/(a[)")?;
     let plain = UrlPatternComponent::from_component(alloc, component)?;
     assert_eq!(rt; plain.pattern_string.as_str(), "/(a[)");
     assert_eq!(rt; plain.regexp_string.as_str(), "");

@@ -1,6 +1,6 @@
 //! The main theorem of the whole: what a pattern text is read as, what its parts mean, what is matched and what is printed.
 
-ghost use Rattle.std.specs.Prelude.{◌≡◌, ◌≢◌, ◌↔◌, ℕ, Bool, false, List, length, All, Result};
+ghost use Rattle.std.specs.Prelude.{◌≡◌, ◌≢◌, ◌↔◌, ℕ, false, List, length, All, Result};
 ghost use Rattle.urlpattern_init.specs.declared.init.UrlPatternMatchInput.{UrlPatternMatchInput};
 ghost use Rattle.urlpattern_init.specs.declared.init.processing.Component.{Component};
 ghost use Rattle.urlpattern_pattern.specs.Match.{HasMatch, IsMatch, ResultView};

@@ -2,7 +2,7 @@
 //!
 //! <https://urlpattern.spec.whatwg.org/#constructor-string-parsing>
 
-ghost use Rattle.std.specs.Prelude.{◌≡◌, ◌↔◌, Any, IfErr, IfOk, MatchBool, Some, false, option_map, ℕ, ◌+◌, ◌-◌, ◌*◌, ◌^◌, ◌<◌, ◌≤◌, ◌∷◌, ◌&&◌, ◌||◌, ◌==◌, not, if◌then◌else◌, [], List, length, IsTrue, None, codes};
+ghost use Rattle.std.specs.Prelude.{◌≡◌, ◌↔◌, Any, IfErr, IfOk, MatchBool, Some, false, option_map, ℕ, ◌+◌, ◌-◌, ◌*◌, ◌^◌, ◌<◌, ◌≤◌, ◌∷◌, ◌&&◌, ◌||◌, ◌==◌, not, if◌then◌else◌, [], length, IsTrue, None};
 ghost use Rattle.std.specs.Str.{bytes_eq, chars};
 ghost use Rattle.urlpattern_init.specs.ConstructorString.{HasProtocolOrBase, RefusesString, SplitsInto, init_components};
 ghost use Rattle.urlpattern_init.specs.SpecialProtocol.{AcceptsSpecialScheme, CanonicalizesProtocol, IsSpecialBy, RefusesProtocol};
@@ -12,7 +12,6 @@ ghost use Rattle.urlpattern_core.specs.Matchers.{matcher_view};
 ghost use Rattle.urlpattern_laws.specs.Matching.{IsMatched};
 ghost use Rattle.urlpattern_syntax.specs.Parsing.{MemoryOr, name_view};
 ghost use Rattle.urlpattern_syntax.specs.Text.{text_of};
-ghost use Rattle.urlpattern_syntax.specs.Tokens.{token_view};
 ghost use Rattle.urlpattern_syntax.specs.declared.error.Error.TheVariants as errors;
 
 use crate::init::UrlPatternInit;

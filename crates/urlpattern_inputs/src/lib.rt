@@ -6,7 +6,7 @@ mod input;
 mod match_input;
 mod options;
 pub mod reading;
-mod writing;
+pub mod writing;
 
 pub use init::UrlPatternInit;
 pub use input::{Inputs, StringOrInit};

@@ -7,8 +7,8 @@ ghost use Rattle.urlpattern_inputs.specs.Trees.{with};
 use serde_json::{Map, Value};
 use std::alloc::{AllocError, Global};
 
-/// Puts the text into an object.
-pub(crate) fn put_text(
+/// Puts a text member into an object.
+pub fn put_text(
     members: &mut Map<String, Value>,
     alloc: Global,
     name: &str,
@@ -20,7 +20,7 @@ pub(crate) fn put_text(
     serde_json::put(members, alloc, name, Value::try_from_str(alloc, text)?)
 }
 
-/// Puts the text into an object, if there is one.
+/// Puts a text member into an object, if there is a text.
 pub(crate) fn put_optional(
     members: &mut Map<String, Value>,
     alloc: Global,

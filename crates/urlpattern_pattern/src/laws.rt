@@ -2,7 +2,7 @@
 //!
 //! Each function here does nothing; what it promises is a theorem.
 
-ghost use Rattle.std.specs.Prelude.{◌≡◌, ◌↔◌, ℕ, List, Option};
+ghost use Rattle.std.specs.Prelude.{◌↔◌, ℕ, List, Option};
 ghost use Rattle.urlpattern_init.specs.declared.init.processing.Component.{Component};
 ghost use Rattle.urlpattern_init.specs.declared.init.UrlPatternMatchInput.{UrlPatternMatchInput};
 ghost use Rattle.urlpattern_pattern.specs.Match.{HasMatch, HasNoMatch, IsLongInput, IsMatch, IsSameResult, ResultView};

@@ -1,5 +1,5 @@
 //! The texts that a pattern is matched against.
-ghost use Rattle.std.specs.Prelude.{◌≡◌, [], None, Some, Ok, option_map, unwrap_or, string_bytes, MatchOption, IfOk, IfErr};
+ghost use Rattle.std.specs.Prelude.{◌≡◌, [], Ok, option_map, unwrap_or, MatchOption, IfOk, IfErr};
 ghost use Rattle.urlpattern_syntax.specs.declared.error.Error.TheVariants as errors;
 ghost use Rattle.urlpattern_syntax.specs.Text.{text_of};
 ghost use Rattle.urlpattern_init.specs.Inheritance.{texts_of_url, texts_of_values, values_view};

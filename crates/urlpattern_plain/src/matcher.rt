@@ -12,13 +12,14 @@ ghost use Rattle.urlpattern_syntax.specs.declared.error.Error.TheVariants as err
 ghost use Rattle.urlpattern_syntax.specs.Text.{text_of};
 
 use crate::reading::optional_character_field;
-use crate::writing::{filter_value, put_text};
+use crate::writing::filter_value;
 use serde::{Deserialize, Serialize};
 use serde_json::{Map, Value};
 use std::alloc::{AllocError, Global};
 use urlpattern_core::regexp::RegExp;
 use urlpattern_core::{Error, matcher};
 use urlpattern_inputs::reading::{Unread, flag_field, text_field, text_of, told};
+use urlpattern_inputs::writing::put_text;
 
 /// What a text is matched with: its prefix, its suffix, and what stands between them.
 #[derive(Debug, Clone, PartialEq, Eq, Drop, Serialize, Deserialize)]

@@ -14,7 +14,7 @@ ghost use Rattle.urlpattern_syntax.specs.Text.{text_of};
 
 use crate::matcher::{Matcher, engine_text};
 use crate::reading::texts_field;
-use crate::writing::{put_text, texts_value};
+use crate::writing::texts_value;
 use serde::{Deserialize, Serialize};
 use serde_json::{Map, Value};
 use std::alloc::{AllocError, Global};
@@ -22,6 +22,7 @@ use urlpattern_core::Error;
 use urlpattern_core::component::Component;
 use urlpattern_core::regexp::RegExp;
 use urlpattern_inputs::reading::{Unread, flag_field, member, text_field, told};
+use urlpattern_inputs::writing::put_text;
 
 /// A pattern for each of a URL's components.
 #[derive(Debug, Clone, PartialEq, Eq, Drop, Serialize, Deserialize)]

@@ -1,24 +1,11 @@
 //! The steps of writing compiled patterns as JSON.
-ghost use Rattle.std.specs.Prelude.{◌≡◌, IfOk, OnOk, map, string_bytes};
-ghost use Rattle.serde_json.specs.Data.{array, put as with_member, string};
-ghost use Rattle.serde_json.specs.View.{items_of, members_view, view};
+ghost use Rattle.std.specs.Prelude.{◌≡◌, IfOk, map, string_bytes};
+ghost use Rattle.serde_json.specs.Data.{array, string};
+ghost use Rattle.serde_json.specs.View.{items_of, view};
 ghost use Rattle.urlpattern_plain.specs.Json.{filter_tree};
 
-use serde_json::{Map, Value};
+use serde_json::Value;
 use std::alloc::{AllocError, Global};
-
-/// Puts a text into an object.
-pub(crate) fn put_text(
-    members: &mut Map<String, Value>,
-    alloc: Global,
-    name: &str,
-    text: &str,
-) -> Result<(), AllocError>
-    ensures { OnOk result (members_view members.new.entries
-        ≡ with_member name.now (string text.now) (members_view members.old.entries)) }
-{
-    serde_json::put(members, alloc, name, Value::try_from_str(alloc, text)?)
-}
 
 /// A text of one character, or null.
 pub(crate) fn filter_value(alloc: Global, filter: Option<char>) -> Result<Value, AllocError>

@@ -5,7 +5,7 @@ ghost use Rattle.urlpattern_syntax.specs.declared.error.Error.TheVariants as err
 ghost use Rattle.urlpattern_syntax.specs.Text.{is_among, text_of};
 ghost use Rattle.urlpattern_syntax.specs.RegexpText.{escaped_marks, escaped_regexp, regexp_marks, segment_wildcard, modifier_text};
 ghost use Rattle.urlpattern_syntax.specs.Options.{options_view, default_options, hostname_options, pathname_options};
-ghost use Rattle.std.specs.Prelude.{◌<◌, Contains, Result, map, ◌≡◌, ◌∷◌, ◌++◌, ◌↔◌, ℕ, List, IsTrue, IfNone, IfSome, [], Option, Some, IfOk, IfErr, OnOk};
+ghost use Rattle.std.specs.Prelude.{◌<◌, Contains, Result, map, ◌≡◌, ◌∷◌, ◌++◌, ◌↔◌, IsTrue, [], Some, IfOk, IfErr, OnOk};
 ghost use Rattle.std.specs.Str.{chars};
 ghost use Rattle.std.specs.Fn.{FnReturnsAt};
 ghost use Rattle.urlpattern_syntax.specs.Errors.{ErrorView, error_view};

@@ -1,10 +1,9 @@
 //! What a pattern is constructed from, and what it is matched against.
 ghost use Rattle.std.specs.Prelude.{◌≡◌, None, Ok, Some, length, max, option_copied, option_map, string_bytes, IfErr, IfOk, MatchOption};
-ghost use Rattle.std.specs.Cow.{cow_str_bytes};
 ghost use Rattle.std.specs.Str.{chars};
 ghost use Rattle.url.specs.Parser as url_spec;
 ghost use Rattle.urlpattern_init.specs.Inheritance.{values_view};
-ghost use Rattle.urlpattern.specs.Inputs.{AreInputs, HasInitAndBase, IsConstructedFrom, IsFound, IsInitOf, IsInitOfString, IsNoInputOf, IsRefusedByUrl, RefusesInput, RefusesText, parsed_base, parsed_text, plain_base, plain_values, text_bytes};
+ghost use Rattle.urlpattern.specs.Inputs.{HasInitAndBase, IsConstructedFrom, IsFound, IsInitOf, IsInitOfString, IsNoInputOf, RefusesInput, RefusesText, parsed_base, parsed_text, plain_base, plain_values, text_bytes};
 ghost use Rattle.urlpattern_canonical.specs.Canonical.{Tells};
 ghost use Rattle.urlpattern_inputs.specs.declared.input.StringOrInit.TheVariants as plain_inputs;
 ghost use Rattle.urlpattern_syntax.specs.declared.error.Error.TheVariants as errors;

@@ -1,6 +1,6 @@
 //! The matcher of a list of parts.
 
-ghost use Rattle.std.specs.Prelude.{◌≡◌, false, List, [], ◌++◌, map, IfErr, IfOk, IfSome};
+ghost use Rattle.std.specs.Prelude.{◌≡◌, false, [], ◌++◌, map, IfErr, IfOk, IfSome};
 ghost use Rattle.std.specs.Str.{chars};
 ghost use Rattle.urlpattern_core.specs.Matchers.{PeelsBack, PeelsFront, PeelsTo, capture_of, engine_view, matcher_view};
 ghost use Rattle.urlpattern_laws.specs.Matching.{AnswersByMeaning, IsEngineOf, IsMadeByEngine, IsMadeOf, Literal, single_capture};

@@ -2,7 +2,7 @@
 //!
 //! <https://urlpattern.spec.whatwg.org/#converting-part-lists-to-pattern-strings>
 
-ghost use Rattle.std.specs.Prelude.{ℕ, List, Result, ◌≡◌, ◌++◌, ◌&&◌, ◌∷◌, [], false, not, map, codes, bytes_eq, IfOk, IfErr, OnOk};
+ghost use Rattle.std.specs.Prelude.{ℕ, List, Result, ◌≡◌, ◌++◌, ◌&&◌, ◌∷◌, [], false, not, map, bytes_eq, IfOk, IfErr, OnOk};
 ghost use Rattle.std.specs.Str.{chars};
 ghost use Rattle.urlpattern_core.specs.Neighbours.{neighbour};
 ghost use Rattle.urlpattern_laws.specs.Laws.{listed};

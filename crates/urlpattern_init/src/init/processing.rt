@@ -1,5 +1,5 @@
 //! The processing of an init, in either mode, by one table.
-ghost use Rattle.std.specs.Prelude.{◌≡◌, ◌+◌, ◌&&◌, [], None, Ok, is_none, Option, option_copied, option_map, unwrap_or, length, string_bytes, IfOk, IfErr, IsAscii};
+ghost use Rattle.std.specs.Prelude.{◌≡◌, ◌+◌, ◌&&◌, [], None, Ok, is_none, option_copied, option_map, unwrap_or, length, IfOk, IfErr, IsAscii};
 ghost use Rattle.std.specs.Option.{option_or};
 ghost use Rattle.std.specs.Str.{chars};
 ghost use Rattle.urlpattern_syntax.specs.declared.error.Error.TheVariants as errors;

@@ -1,11 +1,10 @@
 //! Matching: what a pattern answers to eight texts, and the groups of the answer.
 //!
 //! All components look at their texts before anything is made. Engines are asked last, and the first refusal ends it.
-ghost use Rattle.std.specs.Prelude.{◌≡◌, None, Some, ℕ, List, option_map, map, IfErr, IfNone, IfOk, IfSome, MatchBool, MatchOption};
-ghost use Rattle.std.specs.Str.{chars};
+ghost use Rattle.std.specs.Prelude.{◌≡◌, None, Some, option_map, map, IfErr, IfNone, IfOk, IfSome, MatchBool, MatchOption};
 ghost use Rattle.urlpattern_init.specs.declared.init.processing.Component.{Component as Name};
 ghost use Rattle.urlpattern_pattern.specs.Eight.{at, borrowed_texts, captures_of, AreGroups, HaveGroups};
-ghost use Rattle.urlpattern_init.specs.Inheritance.{texts_of_url, Texts};
+ghost use Rattle.urlpattern_init.specs.Inheritance.{texts_of_url};
 ghost use Rattle.urlpattern_pattern.specs.Match.{AreAnswers, AreMatched, HasMatch, HasNoMatch, IsMatch, IsMatchOf, IsRefused, IsResultOf, result_view, text_at};
 ghost use Rattle.urlpattern_pattern.specs.MatchInput.{texts_view};
 ghost use Rattle.urlpattern_pattern.specs.Patterns.{pattern_view};
@@ -14,7 +13,6 @@ ghost use Rattle.urlpattern_core.specs.Compiling.{component_view};
 ghost use Rattle.urlpattern_core.specs.Looks.{look_answer};
 ghost use Rattle.urlpattern_laws.specs.Matching.{Answers};
 ghost use Rattle.urlpattern_syntax.specs.declared.error.Error.TheVariants as errors;
-ghost use Rattle.urlpattern_syntax.specs.Text.{text_of};
 
 use super::UrlPattern;
 use super::eight::Eight;

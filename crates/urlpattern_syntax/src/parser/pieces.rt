@@ -1,7 +1,7 @@
 //! The pieces of a pattern: what its tokens begin with.
 //!
 //! <https://urlpattern.spec.whatwg.org/#parse-a-pattern-string>
-ghost use Rattle.std.specs.Prelude.{◌≡◌, ◌∷◌, ◌++◌, ◌↔◌, ℕ, List, IsTrue, IfNone, IfSome, Option};
+ghost use Rattle.std.specs.Prelude.{◌≡◌, ◌∷◌, ◌++◌, ◌↔◌, ℕ, List, IsTrue, IfNone, IfSome};
 ghost use Rattle.std.specs.Str.{chars};
 ghost use Rattle.urlpattern_syntax.specs.Parsing.{BeginsWithModifier, BeginsWithPlaceholder, BeginsWithToken, IsInner, IsNext, IsTokenList, StandsAlone, joined_values, placeholder_view, views};
 ghost use Rattle.urlpattern_syntax.specs.Pieces.{AreTexts, BeginsWithKind, IsOpenGroup, IsPrefixOf, is_placeholder, is_text};

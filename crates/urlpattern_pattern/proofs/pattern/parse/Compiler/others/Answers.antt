@@ -1,7 +1,7 @@
 use Rattle.std.proofs.Common.{inl, inr}
 use Rattle.std.proofs.lemmas.Result.{err_from_is_err_and}
 use Rattle.urlpattern_pattern.proofs.CompiledLemmas.{memory_or-map}
-use Rattle.urlpattern_pattern.specs.Compiled.{FirstRefused, IsComponentCompiled, IsComponentRefused, behind_pathname}
+use Rattle.urlpattern_pattern.specs.Compiled.{FirstRefused, IsComponentRefused, behind_pathname}
 use Rattle.urlpattern_init.specs.Inheritance.{values_view}
 use Rattle.urlpattern_init.specs.declared.init.processing.Component.TheVariants.{Username, Password, Port, Search, Hash}
 use Rattle.urlpattern_core.specs.Compiling.{IsCompiledFrom, component_view}
