@@ -1,7 +1,7 @@
 -- What the program answers to its words, and what it refuses. Words and texts are bytes.
-use Rattle.std.specs.Prelude.{◌≡◌, ◌⊎◌, ◌++◌, ⊤, ℕ, false, if◌then◌else◌, List, [], ◌∷◌, length, map, max, codes, bytes_eq, IsPermutation, IsSorted, Option, None, Some, Result, Ok, Err, String, string_bytes, encode_utf8_all}
+use Rattle.std.specs.Prelude.{◌≡◌, ◌⊎◌, ◌++◌, ⊤, ℕ, false, if◌then◌else◌, List, [], ◌∷◌, length, map, max, codes, bytes_eq, IsPermutation, IsSorted, Option, None, Some, Result, Ok, Err, String, string_bytes, string_eq, encode_utf8_all}
 use Rattle.std.specs.Cmp.Lexicographic.{slice_cmp}
-use Rattle.std.specs.HashMap.{get_by_text, keys}
+use Rattle.std.specs.HashMap.{IsUnique, get_by_text, keys}
 use Rattle.std.specs.List.{flat_map}
 use Rattle.std.specs.Ordering.{nat_cmp}
 use Rattle.std.specs.Str.{chars}
@@ -93,9 +93,10 @@ abbrev pub capture_of : Option (Option (String Global)) → List ℕ
 capture_of (Some (Some text)) = string_bytes text
 capture_of capture = []
 
--- The text has a line for each group of the component, in the order of the bytes of their names.
+-- The text has a line for each group of the component, in the order of the bytes of their names. No two have one name.
 pub record AreGroupLines (component : List ℕ) (found : UrlPatternComponentResult) (text : List ℕ) : Type 0 where
   pub names : List (List ℕ)
+  pub differ : IsUnique string_eq found.groups
   pub are_names : IsPermutation (map (λ name. string_bytes name) (keys found.groups)) names
   pub in_order : IsSorted (slice_cmp nat_cmp) names
   pub is_text : text ≡ flat_map (λ name. group_line component name (capture_of (get_by_text found.groups name))) names

@@ -16,5 +16,5 @@ returns c =
     take_all c.loop-name.name-index c.deref-name-items.result.now c.loop-name-test.false ∙ c.deref-name-items.ensures.value in (
       flat_map line (bytes c.in_ok-names.names.items),
       c.loop-name.invariant ∙ ap (λ names. string_bytes c.args.text.now ++ flat_map line (bytes names)) all,
-      record { names = bytes c.in_ok-names.names.items; are_names = c.in_ok-names.ensures.all; in_order = c.in_ok-names.ensures.in_order; is_text = refl },
+      record { names = bytes c.in_ok-names.names.items; differ = c.in_ok-names.ensures.differ; are_names = c.in_ok-names.ensures.all; in_order = c.in_ok-names.ensures.in_order; is_text = refl },
     )

@@ -12,7 +12,7 @@ returns-clause-all c =
     let now = map (λ name. string_bytes name.now) c.sort_unstable.new.self.items in
     let moved = IsPermutation-map (λ name. string_bytes name.now) c.in_ok-names.names.items c.sort_unstable.new.self.items c.sort_unstable.ensures.permutation in
     let same : map (λ name. string_bytes name.now) c.in_ok-names.names.items ≡ map (λ name. string_bytes name) (keys c.args.groups.now) =
-    bytes_of_names c.in_ok-names.names.items ∙ ap (map (λ name. string_bytes name)) c.in_ok-names.ensures in
+    bytes_of_names c.in_ok-names.names.items ∙ ap (map (λ name. string_bytes name)) c.in_ok-names.ensures.all in
     subst (λ names. IsPermutation names now) same moved
 
 pub returns-clause-in_order : goal.returns-clause-in_order
