@@ -1,5 +1,5 @@
 -- Worked examples of what the program prints.
-use Rattle.std.proofs.Common.{◌≡◌, ◌++◌, [], ◌∷◌, Some, None, codes, refl}
+use Rattle.std.proofs.Common.{◌≡◌, [], ◌∷◌, Some, None, codes, refl}
 use Rattle.urlpat_commands.specs.Answers.{base_of, capture_of}
 use Rattle.urlpat_commands.specs.Report.{component_lines, group_line}
 
