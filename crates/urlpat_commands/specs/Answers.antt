@@ -15,10 +15,11 @@ use Rattle.urlpattern.specs.Compiled.{Compiles, IsCompiled, RefusesPattern}
 use Rattle.urlpattern.specs.Compiling.{IsCompiledFrom}
 use Rattle.urlpattern.specs.Engines.{IsRegexOf, regex_answer}
 use Rattle.urlpattern.specs.Errors.{ErrorView}
-use Rattle.urlpattern.specs.Inputs.{IsInitOfString, IsRefusedByUrl, RefusesText, parsed_text, text_bytes}
+use Rattle.urlpattern.specs.Canonical.{IsRefusedByUrl}
+use Rattle.urlpattern.specs.Inputs.{IsInitOfString, RefusesText, parsed_text, text_bytes}
 use Rattle.urlpattern.specs.Match.{HasNoMatch, IsMatch, result_view}
 use Rattle.urlpattern.specs.Options.{OptionsView}
-use Rattle.urlpattern.specs.Parsing.{MemoryOr}
+use Rattle.urlpattern.specs.Errors.{MemoryOr}
 use Rattle.urlpattern.specs.Parts.{PartView}
 use Rattle.urlpattern.specs.Patterns.{PatternView}
 use Rattle.urlpattern.specs.Printing.{printed}

@@ -3,6 +3,5 @@ pub mod SeenLemmas
 pub mod TextBetween
 pub mod SplitLemmas
 pub mod InheritanceLemmas
-pub mod Encodings
 pub mod SplitExamples
 pub mod SchemeLemmas

@@ -10,7 +10,8 @@ ghost use Rattle.urlpattern_init.specs.Split.{AuthorityFrom, EndsAt, HashAt, Has
 ghost use Rattle.urlpattern_init.specs.Splitting.{CanRead, HasRead, HasTurnForSlash, IsSource, NoAuthority, NoPathname, NoSearch, components_of, is_hostname, text_of_source, tokens_of};
 ghost use Rattle.urlpattern_core.specs.Matchers.{matcher_view};
 ghost use Rattle.urlpattern_laws.specs.Matching.{IsMatched};
-ghost use Rattle.urlpattern_syntax.specs.Parsing.{MemoryOr, name_view};
+ghost use Rattle.urlpattern_syntax.specs.Parsing.{name_view};
+ghost use Rattle.urlpattern_syntax.specs.Errors.{MemoryOr};
 ghost use Rattle.urlpattern_syntax.specs.Text.{text_of};
 ghost use Rattle.urlpattern_syntax.specs.declared.error.Error.TheVariants as errors;
 

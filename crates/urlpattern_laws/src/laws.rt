@@ -4,23 +4,27 @@
 
 ghost use Rattle.std.specs.Prelude.{◌≡◌, ◌≢◌, ◌↔◌, ◌⊎◌, ℕ, suc, ◌<◌, false, ◌&&◌, List, [], ◌∷◌, ◌++◌, length, All, AllPairs, Contains, IsTrue, Option, Some, Result, Err};
 ghost use Rattle.std.specs.Char.{is_ascii_digit};
+ghost use Rattle.std.specs.Fn.{FnReturnsAt};
 ghost use Rattle.std.specs.Str.{all_scalars};
 ghost use Rattle.urlpattern_syntax.specs.declared.parser.PartType.TheVariants.{Regexp};
 ghost use Rattle.urlpattern_syntax.specs.declared.tokenizer.TokenType.TheVariants.{End, Name};
 ghost use Rattle.urlpattern_syntax.specs.Errors.{ErrorView};
+ghost use Rattle.urlpattern_syntax.specs.Errors.{ErrorView as errors};
 ghost use Rattle.urlpattern_laws.specs.Dialect.{Follows, HasMeaningOf, IsTreeOf, Items, Means};
-ghost use Rattle.urlpattern_laws.specs.Laws.{AnswersOnce, CountFrom, HasShapeOf, Lays, listed, numbers_among, spelling};
+ghost use Rattle.urlpattern_laws.specs.Laws.{AnswersOnce, AnswersOnceGivenMemory, CountFrom, HasOutcome, HasShapeOf, Lays, Outcome, listed, numbers_among, spelling};
 ghost use Rattle.urlpattern_laws.specs.Matching.{Agrees, AgreesInMiddle, Answers, ArePeeled, FollowsMiddle, MatcherView, end_text};
 ghost use Rattle.urlpattern_syntax.specs.Options.{OptionsView};
 ghost use Rattle.urlpattern_laws.specs.PartMeaning.{Allows, AreCopies, Captures, PartMeans, PartsMean, capture_of_none};
 ghost use Rattle.urlpattern_syntax.specs.Parts.{PartView};
 ghost use Rattle.urlpattern_syntax.specs.Pieces.{ArePieces, Ending, Piece};
 ghost use Rattle.urlpattern_laws.specs.Printing.{HaveTexts, Keeps, encoded_texts, joined, printed};
-ghost use Rattle.urlpattern_syntax.specs.Reading.{Reads, Refuses};
-ghost use Rattle.urlpattern_laws.specs.RoundTrip.{ArePatternParts, IsPrintable, KeepsAnswered, WereRead};
+ghost use Rattle.urlpattern_syntax.specs.Reading.{Reads, Refuses, encoding_of};
+ghost use Rattle.urlpattern_laws.specs.RoundTrip.{ArePatternParts, FailsText, IsPrintable, KeepsAnswered, WereRead};
 ghost use Rattle.urlpattern_syntax.specs.RegexpText.{IsWildcard, group_names, is_empty, regexp_text};
 ghost use Rattle.urlpattern_syntax.specs.Text.{byte_len, lacks, line_feed, BeginsWith};
 ghost use Rattle.urlpattern_syntax.specs.Tokens.{AreLenientTokens, AreTokens, FaultView, IsFault, TokenView, end_of};
+
+use urlpattern_syntax::Error;
 
 /// Parts of which plain fixed texts went off at the ends stand for the first of these texts, a middle that the other
 /// parts stand for, and the second, and for nothing else.
@@ -91,6 +95,15 @@ pub fn readings_are_one()
         Refuses text options (listed answers) error → Refuses text options (listed answers) other → error ≡ other }
     ensures not_both { (text : List ℕ) (options : OptionsView) (answers : List (List ℕ × Result (List ℕ) ErrorView)) (parts : List PartView) (error : ErrorView) → AnswersOnce (listed answers) →
         Reads text options (listed answers) parts → ¬ Refuses text options (listed answers) error }
+{}
+
+/// The same of a callback's own answers, among which may be that memory ran out: of the outcomes that are not that, a text
+/// has one, wherever the callback has one other answer at most to each text.
+pub fn readings_by_callbacks_are_one<F: Fn(&str) -> Result<String, Error>>()
+    ensures { (callback : F) (text : List ℕ) (options : OptionsView) (outcome other : Outcome) →
+        let encoding = encoding_of (FnReturnsAt F.Fn callback) in
+        AnswersOnceGivenMemory encoding → outcome ≢ Err errors.OutOfMemory → other ≢ Err errors.OutOfMemory →
+        HasOutcome text options encoding outcome → HasOutcome text options encoding other → outcome ≡ other }
 {}
 
 /// In a reading the names of the groups are not empty, and no two are equal. Those that begin with a digit are `0`, `1`
@@ -175,6 +188,18 @@ pub fn printed_patterns_fail_by_the_encoding_alone()
         IsPrintable options parts → KeepsAnswered (listed answers) parts → Reads (printed options parts) options (listed answers) others → others ≡ joined parts }
     ensures refused { (options : OptionsView) (answers : List (List ℕ × Result (List ℕ) ErrorView)) (parts : List PartView) (error : ErrorView) →
         IsPrintable options parts → Refuses (printed options parts) options (listed answers) error → (text : List ℕ) × Contains (encoded_texts (joined parts)) text × listed answers text (Err error) }
+{}
+
+/// The same of a callback's own answers: under a callback that answers none of the texts of the joined parts by another
+/// text, the printed pattern reads as the joined parts if it reads at all, and it is refused only by an error that the
+/// callback may answer to one of them.
+pub fn printed_patterns_read_back_by_callbacks<F: Fn(&str) -> Result<String, Error>>()
+    ensures only { (callback : F) (options : OptionsView) (parts others : List PartView) →
+        let encoding = encoding_of (FnReturnsAt F.Fn callback) in
+        IsPrintable options parts → KeepsAnswered encoding parts → Reads (printed options parts) options encoding others → others ≡ joined parts }
+    ensures refused { (callback : F) (options : OptionsView) (parts : List PartView) (error : ErrorView) →
+        let encoding = encoding_of (FnReturnsAt F.Fn callback) in
+        IsPrintable options parts → Refuses (printed options parts) options encoding error → FailsText encoding (encoded_texts (joined parts)) error }
 {}
 
 /// Parts that a text was read as under the default, hostname or pathname options, in either syntax, print as a pattern

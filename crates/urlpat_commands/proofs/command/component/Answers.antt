@@ -8,7 +8,7 @@ use Rattle.urlpattern.specs.Options.{options_view}
 use Rattle.urlpattern.specs.Parts.{part_view}
 use Rattle.urlpattern.specs.Printing.{printed}
 use Rattle.urlpattern.specs.RegexpText.{group_names, regexp_text}
-use Rattle.urlpattern_init.proofs.Encodings.{reads_weaker, refuses_weaker}
+use Rattle.urlpattern_laws.proofs.Encodings.{reads_weaker, refuses_weaker}
 use Rattle.urlpat_commands.proofs.command.component.Goals as goal
 
 pub returns-in_err-parts-clause-fails : goal.returns-in_err-parts-clause-fails
