@@ -1,6 +1,6 @@
 -- Lemmas on canonical values.
 use Rattle.std.proofs.Common.{◌≡◌, ◌≢◌, ℕ, Bool, true, false, ◌==◌, ◌≤◌, ◌<◌, ◌⊎◌, List, [], ◌∷◌, ◌++◌, length, length-append, codes, Ok, Err, String, string_bytes, subst, refl, sym, ap, ◌∙◌, arith, inl, inr}
-use Rattle.std.proofs.lemmas.Bool.{le-ltb, lt-ltb}
+use Rattle.std.proofs.lemmas.Bool.{cases_lt, le-ltb, lt-ltb}
 use Rattle.std.proofs.lemmas.Str.{byte_from_char, len_utf8_bounds, length-encode, char_from_byte, chars-nil, encodes-chars}
 use Rattle.std.specs.Prelude.{encode_utf8_all, option_copied, option_map, slice_index, if◌then◌else◌, unwrap_or, IfErr, IfOk, IsErrAnd, MatchResult, Option, None, Some, Result}
 use Rattle.std.specs.Borrow.{Bor}
@@ -26,10 +26,6 @@ use Rattle.urlpattern_syntax.specs.Text.{begins_with, text_of}
 
 -- ---- refusals
 
--- the steps by which a refusal is reported, of texts that are long or not
-short_or_long : (bytes : ℕ) → (bytes < long_text) ⊎ (long_text ≤ bytes)
-short_or_long bytes = omega arith
-
 reported_short : (bytes : ℕ) → bytes < long_text → reported Overflow bytes ≡ views.OutOfMemory
 reported_short bytes short = ap (λ is_short. if is_short then views.OutOfMemory else views.Url Overflow) (lt-ltb bytes long_text short)
 
@@ -43,7 +39,7 @@ overflow_is_no_want_of_memory same = cc
 overflow_tells : {T : Type 0} (whole : Parsed T) (bytes : ℕ) (error : Error) → error_view error ≡ reported Overflow bytes → MemoryOr (Tells whole bytes) error
 overflow_tells whole bytes error is =
     let Holds : ErrorView → Type 0 = λ view. Tells whole bytes view in
-    elim (short_or_long bytes) [
+    elim (cases_lt bytes long_text) [
       | inl short ↦ inl (is ∙ reported_short bytes short)
       | inr long ↦ inr (subst Holds (sym (is ∙ reported_long bytes long)) (overflow_is_no_want_of_memory, inr (refl, long)))
     ]

@@ -4,6 +4,7 @@
 
 ghost use Rattle.std.specs.Prelude.{◌≡◌, ◌↔◌, Any, IfErr, IfOk, MatchBool, Some, false, option_map, ℕ, ◌+◌, ◌-◌, ◌*◌, ◌^◌, ◌<◌, ◌≤◌, ◌∷◌, ◌&&◌, ◌||◌, ◌==◌, not, if◌then◌else◌, [], length, IsTrue, None};
 ghost use Rattle.std.specs.Str.{bytes_eq, chars};
+ghost use Rattle.urlpattern_core.specs.Compiling.{MayRefuseAtFirst};
 ghost use Rattle.urlpattern_init.specs.ConstructorString.{HasProtocolOrBase, RefusesString, SplitsInto, init_components};
 ghost use Rattle.urlpattern_init.specs.SpecialProtocol.{AcceptsSpecialScheme, CanonicalizesProtocol, IsSpecialBy, RefusesProtocol};
 ghost use Rattle.urlpattern_init.specs.Split.{AuthorityFrom, EndsAt, HashAt, HashFrom, HasProtocol, HostnameFrom, IsAbsoluteSplit, IsRelativeSplit, IsSplit, IsTextBetween, PathnameAt, PathnameFrom, PortAt, SearchAt, SearchFrom, UserinfoFrom, at, depth_before, depth_behind, ends_at, follows_modified, has_slashes, implied_pathname, is_at_sign, is_character, is_colon, is_end, is_ending, is_open, is_hash_sign, is_search_sign, is_sign, is_slash, takes_modifier};
@@ -602,7 +603,7 @@ impl UrlPatternInit {
         pattern: &str,
         base_url: Option<Url>,
     ) -> Result<UrlPatternInit, Error>
-        ensures split { IfOk result (λ init. (turns : ℕ) × SplitsInto (IsSpecialBy R.IsMade (λ regexp flags. R.MayRefuse regexp flags false) R.answer)
+        ensures split { IfOk result (λ init. (turns : ℕ) × SplitsInto (IsSpecialBy R.IsMade (MayRefuseAtFirst R.MayRefuse) R.answer)
             (chars pattern.now) (init_components init) turns) }
         ensures base { IfOk result (λ init. init.base_url ≡ base_url) }
         ensures complete { IfOk result HasProtocolOrBase }
@@ -618,7 +619,7 @@ impl UrlPatternInit {
         pattern: &str,
         base_url: Option<Url>,
     ) -> Result<(UrlPatternInit, usize), Error>
-        ensures split { IfOk result (λ found. SplitsInto (IsSpecialBy R.IsMade (λ regexp flags. R.MayRefuse regexp flags false) R.answer)
+        ensures split { IfOk result (λ found. SplitsInto (IsSpecialBy R.IsMade (MayRefuseAtFirst R.MayRefuse) R.answer)
             (chars pattern.now) (init_components found.0) found.1) }
         ensures base { IfOk result (λ found. found.0.base_url ≡ base_url) }
         ensures complete { IfOk result (λ found. HasProtocolOrBase found.0) }
@@ -644,7 +645,7 @@ impl<'t, 'a> Source<'t, 'a> {
     /// The error is that of the protocol's pattern, or that memory ran out.
     fn split<R: RegExp>(&self, alloc: Global) -> Result<Split<'a>, Error>
         requires { IsSource self.now }
-        ensures split { IfOk result (λ split. IsSplit (IsSpecialBy R.IsMade (λ regexp flags. R.MayRefuse regexp flags false) R.answer)
+        ensures split { IfOk result (λ split. IsSplit (IsSpecialBy R.IsMade (MayRefuseAtFirst R.MayRefuse) R.answer)
             (text_of_source self.now) (tokens_of self.now) (components_of split)) }
         ensures turns { IfOk result (λ split. split.turns ≤ 2 * length self.now.tokens.now) }
         ensures refused { IfErr result (MemoryOr (λ error. HasProtocol (text_of_source self.now) (λ protocol. RefusesProtocol protocol error))) }
@@ -683,7 +684,7 @@ fn owned(alloc: Global, text: Option<&str>) -> Result<Option<String>, Error>
 ///
 /// <https://urlpattern.spec.whatwg.org/#compute-protocol-matches-a-special-scheme-flag>
 fn is_special_protocol<R: RegExp>(alloc: Global, protocol: &str) -> Result<bool, Error>
-    ensures special { IfOk result (IsSpecialBy R.IsMade (λ regexp flags. R.MayRefuse regexp flags false) R.answer (chars protocol.now)) }
+    ensures special { IfOk result (IsSpecialBy R.IsMade (MayRefuseAtFirst R.MayRefuse) R.answer (chars protocol.now)) }
     ensures refused { IfErr result (MemoryOr (RefusesProtocol (chars protocol.now))) }
 {
     let options = Options::default(alloc);

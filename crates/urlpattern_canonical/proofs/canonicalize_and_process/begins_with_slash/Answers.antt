@@ -1,5 +1,6 @@
-use Rattle.std.proofs.Common.{codes, slice_index, arith}
+use Rattle.std.proofs.Common.{arith}
 use Rattle.std.proofs.lemmas.Grind.{common_steps}
+use Rattle.url.specs.Ascii.{slash}
 use Rattle.urlpattern_canonical.proofs.CanonicalLemmas.{begins_with-chars}
 use Rattle.urlpattern_canonical.proofs.canonicalize_and_process.begins_with_slash.Goals as goal
 
