@@ -423,7 +423,7 @@ fn without_colon(text: &str) -> &str
     }
 }
 
-/// The text without this mark at its front.
+/// The text without this mark at its front. The mark is an ASCII character other than NUL.
 pub fn without_first(text: &str, mark: u8) -> &str
     requires { (0 < mark) × (mark < 128) }
     ensures value { chars result.now ≡ without_first mark (chars text.now) }
