@@ -1,5 +1,6 @@
 pub mod PiecesUnique
 pub mod TokensUnique
+pub mod TokensExist
 pub mod MeaningExamples
 pub mod DialectExamples
 pub mod PrintingExamples

@@ -1,5 +1,5 @@
 -- Words in which the laws of the definitions are told. No other contract cites them.
-use Rattle.std.specs.Prelude.{◌≡◌, ℕ, suc, ◌+◌, List, [], ◌∷◌, ◌++◌, codes, Contains, Result, IsTrue, decimal, filter}
+use Rattle.std.specs.Prelude.{◌≡◌, ℕ, suc, ◌+◌, ◌⊎◌, List, [], ◌∷◌, ◌++◌, codes, Contains, Result, IsTrue, decimal, filter}
 use Rattle.std.specs.Char.{is_ascii_digit}
 use Rattle.std.specs.List.{list_all}
 use Rattle.urlpattern_syntax.specs.declared.tokenizer.TokenType.{TokenType}
@@ -10,7 +10,7 @@ use Rattle.urlpattern_syntax.specs.Options.{OptionsView}
 use Rattle.urlpattern_syntax.specs.Parts.{PartView}
 use Rattle.urlpattern_syntax.specs.Reading.{Encoding}
 use Rattle.urlpattern_syntax.specs.Text.{begins_with, byte_len}
-use Rattle.urlpattern_syntax.specs.Tokens.{TokenView, is_ignored}
+use Rattle.urlpattern_syntax.specs.Tokens.{AreLenientTokens, AreTokens, FaultView, IsFault, TokenView, is_ignored}
 
 -- ---- where tokens stand
 
@@ -30,6 +30,17 @@ Lays place (token ∷ tokens) text =
     (skipped rest : List ℕ) × (text ≡ skipped ++ spelling token.kind token.value ++ rest) × IsTrue (list_all is_ignored skipped)
     × (token.index ≡ place + byte_len skipped)
     × Lays (token.index + byte_len (spelling token.kind token.value)) tokens rest
+
+-- ---- what every text has
+
+-- the text has strict tokens, or a first fault with its place
+abbrev pub HasTokensOrFault : (text : List ℕ) → Type 0
+HasTokensOrFault text =
+    ((tokens : List TokenView) × AreTokens text tokens) ⊎ ((fault : FaultView) × (place : ℕ) × IsFault text fault place)
+
+-- the text has lenient tokens
+abbrev pub HasLenientTokens : (text : List ℕ) → Type 0
+HasLenientTokens text = (tokens : List TokenView) × AreLenientTokens text tokens
 
 -- ---- encodings
 

@@ -9,7 +9,7 @@ ghost use Rattle.urlpattern_syntax.specs.declared.parser.PartType.TheVariants.{R
 ghost use Rattle.urlpattern_syntax.specs.declared.tokenizer.TokenType.TheVariants.{End, Name};
 ghost use Rattle.urlpattern_syntax.specs.Errors.{ErrorView};
 ghost use Rattle.urlpattern_laws.specs.Dialect.{Follows, HasMeaningOf, IsTreeOf, Items, Means};
-ghost use Rattle.urlpattern_laws.specs.Laws.{AnswersOnce, CountFrom, HasShapeOf, Lays, listed, numbers_among, spelling};
+ghost use Rattle.urlpattern_laws.specs.Laws.{AnswersOnce, CountFrom, HasLenientTokens, HasShapeOf, HasTokensOrFault, Lays, listed, numbers_among, spelling};
 ghost use Rattle.urlpattern_laws.specs.Matching.{Agrees, AgreesInMiddle, Answers, ArePeeled, FollowsMiddle, MatcherView, end_text};
 ghost use Rattle.urlpattern_syntax.specs.Options.{OptionsView};
 ghost use Rattle.urlpattern_laws.specs.PartMeaning.{Allows, AreCopies, Captures, PartMeans, PartsMean, capture_of_none};
@@ -59,6 +59,12 @@ pub fn tokens_are_one()
     ensures faults { (text : List ℕ) (fault other : FaultView) (place another : ℕ) → IsFault text fault place → IsFault text other another → (fault ≡ other) × (place ≡ another) }
     ensures not_both { (text : List ℕ) (tokens : List TokenView) (fault : FaultView) (place : ℕ) → AreTokens text tokens → ¬ IsFault text fault place }
     ensures lenient { (text : List ℕ) (tokens others : List TokenView) → AreLenientTokens text tokens → AreLenientTokens text others → tokens ≡ others }
+{}
+
+/// Every text has strict tokens, or a first fault with its place. Every text has lenient tokens.
+pub fn every_text_has_tokens()
+    ensures strict { (text : List ℕ) → HasTokensOrFault text }
+    ensures lenient { (text : List ℕ) → HasLenientTokens text }
 {}
 
 /// Nothing of a text is lost in its tokens but what is skipped between them and the marks of an escape, a name and a
