@@ -8,7 +8,8 @@ use Rattle.urlpattern_laws.specs.Matching.{IsMadeOf, MatcherView}
 use Rattle.urlpattern_syntax.specs.Errors.{ErrorView}
 use Rattle.urlpattern_syntax.specs.Options.{OptionsView}
 use Rattle.urlpattern_syntax.specs.Parts.{PartView}
-use Rattle.urlpattern_syntax.specs.Reading.{Encoding}
+use Rattle.urlpattern_syntax.specs.Pieces.{ArePieces, Ending, Piece}
+use Rattle.urlpattern_syntax.specs.Reading.{AreMet, Demand, Encode, Encoding, Reads, Refuses, demands, items_of}
 use Rattle.urlpattern_syntax.specs.Text.{begins_with, byte_len}
 use Rattle.urlpattern_syntax.specs.Tokens.{AreLenientTokens, AreTokens, FaultView, IsFault, TokenView, is_ignored}
 
@@ -51,6 +52,27 @@ listed answers text answer = Contains answers (text, answer)
 -- the encoding has one answer at most to each text
 abbrev pub AnswersOnce : Encoding → Type 0
 AnswersOnce encoding = (text : List ℕ) (answer other : Result (List ℕ) ErrorView) → encoding text answer → encoding text other → answer ≡ other
+
+-- the encoding has an answer to the text
+abbrev pub HasAnswer : Encoding → (text : List ℕ) → Type 0
+HasAnswer encoding text = (answer : Result (List ℕ) ErrorView) × encoding text answer
+
+-- The text asks the encoding about this one: that is among the demands of its pieces, and each demand before it is met.
+pub record Asks (text : List ℕ) (options : OptionsView) (encoding : Encoding) (asked : List ℕ) : Type 0 where
+  pub tokens : List TokenView
+  pub pieces : List Piece
+  pub ending : Ending
+  pub before : List Demand
+  pub behind : List Demand
+  pub are_tokens : AreTokens text tokens
+  pub are_pieces : ArePieces options.prefix tokens pieces ending
+  pub asks : demands (items_of pieces) ending ≡ before ++ Encode asked ∷ behind
+  pub are_met : AreMet encoding before
+
+-- the text has an outcome: it reads as some parts, or it is refused with some error
+abbrev pub HasOutcome : (text : List ℕ) → OptionsView → Encoding → Type 0
+HasOutcome text options encoding =
+    ((parts : List PartView) × Reads text options encoding parts) ⊎ ((error : ErrorView) × Refuses text options encoding error)
 
 -- ---- names
 

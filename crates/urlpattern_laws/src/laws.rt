@@ -4,23 +4,26 @@
 
 ghost use Rattle.std.specs.Prelude.{◌≡◌, ◌≢◌, ◌↔◌, ◌⊎◌, ℕ, suc, ◌<◌, false, ◌&&◌, List, [], ◌∷◌, ◌++◌, length, All, AllPairs, Contains, IsTrue, Option, Some, Result, Err};
 ghost use Rattle.std.specs.Char.{is_ascii_digit};
+ghost use Rattle.std.specs.Fn.{FnReturnsAt};
 ghost use Rattle.std.specs.Str.{all_scalars};
 ghost use Rattle.urlpattern_syntax.specs.declared.parser.PartType.TheVariants.{Regexp};
 ghost use Rattle.urlpattern_syntax.specs.declared.tokenizer.TokenType.TheVariants.{End, Name};
 ghost use Rattle.urlpattern_syntax.specs.Errors.{ErrorView};
 ghost use Rattle.urlpattern_laws.specs.Dialect.{Follows, HasMeaningOf, IsTreeOf, Items, Means};
-ghost use Rattle.urlpattern_laws.specs.Laws.{AnswersOnce, CountFrom, HasLenientTokens, HasShapeOf, HasTokensOrFault, Lays, listed, numbers_among, spelling};
+ghost use Rattle.urlpattern_laws.specs.Laws.{AnswersOnce, Asks, CountFrom, HasAnswer, HasLenientTokens, HasOutcome, HasShapeOf, HasTokensOrFault, Lays, listed, numbers_among, spelling};
 ghost use Rattle.urlpattern_laws.specs.Matching.{Agrees, AgreesInMiddle, Answers, ArePeeled, FollowsMiddle, MatcherView, end_text};
 ghost use Rattle.urlpattern_syntax.specs.Options.{OptionsView};
 ghost use Rattle.urlpattern_laws.specs.PartMeaning.{Allows, AreCopies, Captures, PartMeans, PartsMean, capture_of_none};
 ghost use Rattle.urlpattern_syntax.specs.Parts.{PartView};
 ghost use Rattle.urlpattern_syntax.specs.Pieces.{ArePieces, Ending, Piece};
 ghost use Rattle.urlpattern_laws.specs.Printing.{HaveTexts, Keeps, encoded_texts, joined, printed};
-ghost use Rattle.urlpattern_syntax.specs.Reading.{Reads, Refuses};
+ghost use Rattle.urlpattern_syntax.specs.Reading.{Reads, Refuses, encoding_of};
 ghost use Rattle.urlpattern_laws.specs.RoundTrip.{ArePatternParts, IsPrintable, KeepsAnswered, WereRead};
 ghost use Rattle.urlpattern_syntax.specs.RegexpText.{IsWildcard, group_names, is_empty, regexp_text};
 ghost use Rattle.urlpattern_syntax.specs.Text.{byte_len, lacks, line_feed, BeginsWith};
 ghost use Rattle.urlpattern_syntax.specs.Tokens.{AreLenientTokens, AreTokens, FaultView, IsFault, TokenView, end_of};
+
+use urlpattern_syntax::Error;
 
 /// Parts of which plain fixed texts went off at the ends stand for the first of these texts, a middle that the other
 /// parts stand for, and the second, and for nothing else.
@@ -97,6 +100,18 @@ pub fn readings_are_one()
         Refuses text options (listed answers) error → Refuses text options (listed answers) other → error ≡ other }
     ensures not_both { (text : List ℕ) (options : OptionsView) (answers : List (List ℕ × Result (List ℕ) ErrorView)) (parts : List PartView) (error : ErrorView) → AnswersOnce (listed answers) →
         Reads text options (listed answers) parts → ¬ Refuses text options (listed answers) error }
+{}
+
+/// Under any options every text has an outcome, which is a reading or a refusal, or else it asks the encoding about a text
+/// to which that has no answer. So it has an outcome where the encoding answers whatever the text asks it about. The
+/// encoding is any list of texts with their answers or, in the last clause, any callback: `F` is the callback's type.
+pub fn every_text_has_an_outcome<F: Fn(&str) -> Result<String, Error>>()
+    ensures listed { (text : List ℕ) (options : OptionsView) (answers : List (List ℕ × Result (List ℕ) ErrorView)) →
+        HasOutcome text options (listed answers) ⊎ ((asked : List ℕ) × Asks text options (listed answers) asked × ¬ HasAnswer (listed answers) asked) }
+    ensures answered { (text : List ℕ) (options : OptionsView) (answers : List (List ℕ × Result (List ℕ) ErrorView)) →
+        ((asked : List ℕ) → Asks text options (listed answers) asked → HasAnswer (listed answers) asked) → HasOutcome text options (listed answers) }
+    ensures called { (text : List ℕ) (options : OptionsView) (callback : F) → let encoding = encoding_of (FnReturnsAt F.Fn callback) in
+        ((asked : List ℕ) → Asks text options encoding asked → HasAnswer encoding asked) → HasOutcome text options encoding }
 {}
 
 /// In a reading the names of the groups are not empty, and no two are equal. Those that begin with a digit are `0`, `1`
