@@ -1,5 +1,5 @@
 -- Every text has an outcome, or it asks the encoding about a text to which that has no answer.
-use Rattle.std.proofs.Common.{◌≡◌, ◌≢◌, ℕ, suc, zero, ◌<◌, ◌⊎◌, Bool, true, false, List, [], ◌∷◌, ◌++◌, length, refl, sym, ap, ◌∙◌, subst, inl, inr, arith}
+use Rattle.std.proofs.Common.{◌≡◌, ◌≢◌, ℕ, suc, zero, ◌⊎◌, Bool, true, false, List, [], ◌∷◌, ◌++◌, refl, sym, ap, ◌∙◌, subst, inl, inr, arith}
 use Rattle.std.specs.Prelude.{Contains, Result, Ok, Err}
 use Rattle.std.specs.Set.{is_member}
 use Rattle.std.specs.Str.{bytes_eq}
@@ -7,7 +7,7 @@ use Rattle.std.proofs.lemmas.Bool.{false≢true}
 use Rattle.std.proofs.lemmas.Map.Made.{is_member-Decides}
 use Rattle.std.proofs.lemmas.Slice.Eq.{bytes_eq-Decides}
 use Rattle.urlpattern_laws.proofs.TokensExist.{tokens_or_fault_exist}
-use Rattle.urlpattern_laws.specs.Laws.{Asks, HasAnswer, HasOutcome, listed}
+use Rattle.urlpattern_laws.specs.Laws.{AnswersAsked, Asks, HasAnswer, HasSomeOutcome, LacksAnswer, listed}
 use Rattle.urlpattern_syntax.proofs.PieceLemmas.{are_token_list}
 use Rattle.urlpattern_syntax.proofs.PiecesExist.{pieces_exist}
 use Rattle.urlpattern_syntax.specs.declared.parser.PartModifier.{PartModifier}
@@ -20,8 +20,8 @@ use Rattle.urlpattern_syntax.specs.Options.{OptionsView}
 use Rattle.urlpattern_syntax.specs.Parts.{PartView, fixed_text}
 use Rattle.urlpattern_syntax.specs.Pieces.{ArePieces, Ending, IsEnding, Piece}
 use Rattle.urlpattern_syntax.specs.Pieces.{Ending as endings}
-use Rattle.urlpattern_syntax.specs.Reading.{AreMet, AreParts, Capture, Demand, Encode, Encoding, Expect, FirstFails, Fixed, IsMet, Item, NewName, Refuses, capture_part, demands, demands_after, encode_fixed, items_of}
-use Rattle.urlpattern_syntax.specs.Tokens.{AreTokens, FaultView, IsFault, TokenView}
+use Rattle.urlpattern_syntax.specs.Reading.{AreMet, AreParts, Capture, Demand, Encode, Encoding, Expect, FirstFails, Fixed, IsMet, Item, NewName, capture_part, demands, demands_after, encode_fixed, items_of}
+use Rattle.urlpattern_syntax.specs.Tokens.{AreTokens, TokenView}
 
 -- ---- what can be told
 
@@ -170,11 +170,11 @@ ending_tokens point tokens (piece ∷ pieces) ending h = ending_tokens point h.1
 module _ (text : List ℕ) (options : OptionsView) (encoding : Encoding) (Is : List ℕ → Type 0) where
   -- the text has an outcome, or it asks about one of which `Is` holds
   abbrev Outcome : Type 0
-  Outcome = HasOutcome text options encoding ⊎ ((asked : List ℕ) × Asks text options encoding asked × Is asked)
+  Outcome = HasSomeOutcome text options encoding ⊎ ((asked : List ℕ) × Asks text options encoding asked × Is asked)
 
   judged : (tokens : List TokenView) (pieces : List Piece) (ending : Ending) → AreTokens text tokens → ArePieces options.prefix tokens pieces ending → Verdict encoding Is (demands (items_of pieces) ending) → Outcome
   judged tokens pieces ending h p (Failed error fails) =
-      inl (inr (error, inr (record { tokens = tokens; pieces = pieces; ending = ending; are_tokens = h; are_pieces = p; fails = fails })))
+      inl (Err error, inr (record { tokens = tokens; pieces = pieces; ending = ending; are_tokens = h; are_pieces = p; fails = fails }))
   judged tokens pieces ending h p (Unanswered before behind asked cut met is) = inr (
     asked,
     record { tokens = tokens; pieces = pieces; ending = ending; before = before; behind = behind; are_tokens = h; are_pieces = p; asks = cut; are_met = met },
@@ -182,7 +182,7 @@ module _ (text : List ℕ) (options : OptionsView) (encoding : Encoding) (Is : L
   )
   judged tokens pieces (endings.Stops found) h p (Met met) =
       let parts = parts_exist options encoding [] (items_of pieces) found met in
-      inl (inl (parts.0, record { tokens = tokens; pieces = pieces; found = found; are_tokens = h; are_pieces = p; are_met = met; are_parts = parts.1 }))
+      inl (Ok parts.0, record { tokens = tokens; pieces = pieces; found = found; are_tokens = h; are_pieces = p; are_met = met; are_parts = parts.1 })
   judged tokens pieces (endings.LacksClose found) h p (Met met) =
       let e = ending_tokens options.prefix tokens pieces (endings.LacksClose found) p in
       absurd (e.1.6 (met_close encoding [] (items_of pieces) found met))
@@ -193,17 +193,17 @@ module _ (text : List ℕ) (options : OptionsView) (encoding : Encoding) (Is : L
         let p = pieces_exist options.prefix t.0 (are_token_list text t.0 t.1) in
         judged t.0 p.0 p.1 t.1 p.2 (verdict encoding Is (demands (items_of p.0) p.1) (λ before behind asked cut met.
         told asked (record { tokens = t.0; pieces = p.0; ending = p.1; before = before; behind = behind; are_tokens = t.1; are_pieces = p.2; asks = cut; are_met = met })))
-    | inr f ↦ inl (inr (views.Tokenizer f.0 f.1, inl (f.0, f.1, f.2, refl)))
+    | inr f ↦ inl (Err (views.Tokenizer f.0 f.1), inl (f.0, f.1, f.2, refl))
   ]
 
 -- Where the encoding answers what it is asked about, the text has an outcome.
-pub outcome_answered : (text : List ℕ) (options : OptionsView) (encoding : Encoding) → ((asked : List ℕ) → Asks text options encoding asked → HasAnswer encoding asked) → HasOutcome text options encoding
+pub outcome_answered : (text : List ℕ) (options : OptionsView) (encoding : Encoding) → AnswersAsked text options encoding → HasSomeOutcome text options encoding
 outcome_answered text options encoding answered = elim (outcome_told text options encoding (λ _. ⊥) (λ asked asks. inl (answered asked asks))) [
   | inl outcome ↦ outcome
   | inr lacks ↦ absurd lacks.2
 ]
 
 -- With a list of answers, the text has an outcome, or it asks about one that is not in the list.
-pub outcome_listed : (text : List ℕ) (options : OptionsView) (answers : List (List ℕ × Result (List ℕ) ErrorView)) → HasOutcome text options (listed answers) ⊎ ((asked : List ℕ) × Asks text options (listed answers) asked × ¬ HasAnswer (listed answers) asked)
+pub outcome_listed : (text : List ℕ) (options : OptionsView) (answers : List (List ℕ × Result (List ℕ) ErrorView)) → HasSomeOutcome text options (listed answers) ⊎ LacksAnswer text options (listed answers)
 outcome_listed text options answers =
     outcome_told text options (listed answers) (λ asked. ¬ HasAnswer (listed answers) asked) (λ asked asks. answered_or_not answers asked)

@@ -1,5 +1,5 @@
 -- Words in which the laws of the definitions are told. No other contract cites them.
-use Rattle.std.specs.Prelude.{◌≡◌, ℕ, suc, ◌+◌, ◌⊎◌, List, [], ◌∷◌, ◌++◌, codes, Contains, Result, IsTrue, decimal, filter}
+use Rattle.std.specs.Prelude.{◌≡◌, ℕ, suc, ◌+◌, ◌⊎◌, List, [], ◌∷◌, ◌++◌, codes, Contains, Result, Ok, Err, IsTrue, decimal, filter}
 use Rattle.std.specs.Char.{is_ascii_digit}
 use Rattle.std.specs.List.{list_all}
 use Rattle.urlpattern_syntax.specs.declared.tokenizer.TokenType.{TokenType}
@@ -69,10 +69,22 @@ pub record Asks (text : List ℕ) (options : OptionsView) (encoding : Encoding) 
   pub asks : demands (items_of pieces) ending ≡ before ++ Encode asked ∷ behind
   pub are_met : AreMet encoding before
 
--- the text has an outcome: it reads as some parts, or it is refused with some error
-abbrev pub HasOutcome : (text : List ℕ) → OptionsView → Encoding → Type 0
-HasOutcome text options encoding =
-    ((parts : List PartView) × Reads text options encoding parts) ⊎ ((error : ErrorView) × Refuses text options encoding error)
+-- the encoding answers each text that it is asked about
+abbrev pub AnswersAsked : (text : List ℕ) → OptionsView → Encoding → Type 0
+AnswersAsked text options encoding = (asked : List ℕ) → Asks text options encoding asked → HasAnswer encoding asked
+
+-- the encoding is asked about a text to which it has no answer
+abbrev pub LacksAnswer : (text : List ℕ) → OptionsView → Encoding → Type 0
+LacksAnswer text options encoding = (asked : List ℕ) × Asks text options encoding asked × ¬ HasAnswer encoding asked
+
+-- the text reads as these parts, or is refused with this error
+abbrev pub HasOutcome : (text : List ℕ) → OptionsView → Encoding → Result (List PartView) ErrorView → Type 0
+HasOutcome text options encoding (Ok parts) = Reads text options encoding parts
+HasOutcome text options encoding (Err error) = Refuses text options encoding error
+
+-- the text reads as some parts, or is refused with some error
+abbrev pub HasSomeOutcome : (text : List ℕ) → OptionsView → Encoding → Type 0
+HasSomeOutcome text options encoding = (outcome : Result (List PartView) ErrorView) × HasOutcome text options encoding outcome
 
 -- ---- names
 

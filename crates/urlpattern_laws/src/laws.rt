@@ -10,7 +10,7 @@ ghost use Rattle.urlpattern_syntax.specs.declared.parser.PartType.TheVariants.{R
 ghost use Rattle.urlpattern_syntax.specs.declared.tokenizer.TokenType.TheVariants.{End, Name};
 ghost use Rattle.urlpattern_syntax.specs.Errors.{ErrorView};
 ghost use Rattle.urlpattern_laws.specs.Dialect.{Follows, HasMeaningOf, IsTreeOf, Items, Means};
-ghost use Rattle.urlpattern_laws.specs.Laws.{AnswersOnce, Asks, CountFrom, HasAnswer, HasLenientTokens, HasOutcome, HasShapeOf, HasTokensOrFault, Lays, listed, numbers_among, spelling};
+ghost use Rattle.urlpattern_laws.specs.Laws.{AnswersAsked, AnswersOnce, CountFrom, HasLenientTokens, HasShapeOf, HasSomeOutcome, HasTokensOrFault, LacksAnswer, Lays, listed, numbers_among, spelling};
 ghost use Rattle.urlpattern_laws.specs.Matching.{Agrees, AgreesInMiddle, Answers, ArePeeled, FollowsMiddle, MatcherView, end_text};
 ghost use Rattle.urlpattern_syntax.specs.Options.{OptionsView};
 ghost use Rattle.urlpattern_laws.specs.PartMeaning.{Allows, AreCopies, Captures, PartMeans, PartsMean, capture_of_none};
@@ -107,11 +107,11 @@ pub fn readings_are_one()
 /// encoding is any list of texts with their answers or, in the last clause, any callback: `F` is the callback's type.
 pub fn every_text_has_an_outcome<F: Fn(&str) -> Result<String, Error>>()
     ensures listed { (text : List ℕ) (options : OptionsView) (answers : List (List ℕ × Result (List ℕ) ErrorView)) →
-        HasOutcome text options (listed answers) ⊎ ((asked : List ℕ) × Asks text options (listed answers) asked × ¬ HasAnswer (listed answers) asked) }
+        HasSomeOutcome text options (listed answers) ⊎ LacksAnswer text options (listed answers) }
     ensures answered { (text : List ℕ) (options : OptionsView) (answers : List (List ℕ × Result (List ℕ) ErrorView)) →
-        ((asked : List ℕ) → Asks text options (listed answers) asked → HasAnswer (listed answers) asked) → HasOutcome text options (listed answers) }
+        AnswersAsked text options (listed answers) → HasSomeOutcome text options (listed answers) }
     ensures called { (text : List ℕ) (options : OptionsView) (callback : F) → let encoding = encoding_of (FnReturnsAt F.Fn callback) in
-        ((asked : List ℕ) → Asks text options encoding asked → HasAnswer encoding asked) → HasOutcome text options encoding }
+        AnswersAsked text options encoding → HasSomeOutcome text options encoding }
 {}
 
 /// In a reading the names of the groups are not empty, and no two are equal. Those that begin with a digit are `0`, `1`
