@@ -27,7 +27,7 @@ spelled_not_end : (kind : TokenType) (value spelling : List ℕ) → Spells kind
 spelled_not_end End value spelling h = absurd h
 spelled_not_end kind value spelling h = refl
 
-lenient_not_end : (whole start : List ℕ) (token : TokenView) (rest : List ℕ) → IsLenient whole start token rest → is_end token.kind ≡ false
+pub lenient_not_end : (whole start : List ℕ) (token : TokenView) (rest : List ℕ) → IsLenient whole start token rest → is_end token.kind ≡ false
 lenient_not_end whole start token rest (inl h) = spelled_not_end token.kind token.value h.lexed.spelling h.lexed.spells
 lenient_not_end whole start token rest (inr h) = ap (λ (t : TokenView). is_end t.kind) h.is_token
 

@@ -22,10 +22,14 @@ init_components init = record {
   hash = option_map text_of init.hash;
 }
 
--- The text is split into these components, at so many turns: at most two for each of its lenient tokens.
-abbrev pub SplitsInto : (IsSpecial : List ℕ → Bool → Type 0) → (text : List ℕ) → Components → (turns : ℕ) → Type 0
-SplitsInto IsSpecial text components turns =
-    (tokens : List TokenView) × AreLenientTokens text tokens × IsSplit IsSpecial text tokens components × (turns ≤ 2 * length tokens)
+-- The text is split into these components, by its lenient tokens.
+abbrev pub SplitsInto : (IsSpecial : List ℕ → Bool → Type 0) → (text : List ℕ) → Components → Type 0
+SplitsInto IsSpecial text components =
+    (tokens : List TokenView) × AreLenientTokens text tokens × IsSplit IsSpecial text tokens components
+
+-- so many turns are at most two for each lenient token of the text
+abbrev pub AreFewTurns : (text : List ℕ) → (turns : ℕ) → Type 0
+AreFewTurns text turns = (tokens : List TokenView) × AreLenientTokens text tokens × (turns ≤ 2 * length tokens)
 
 -- The text is refused with this error: that of its protocol, or that it has neither a protocol nor a base.
 abbrev pub RefusesString : (text : List ℕ) → (base_url : Option Url) → ErrorView → Type 0

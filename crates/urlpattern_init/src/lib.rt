@@ -4,6 +4,7 @@
 
 mod constructor_parser;
 mod init;
+pub mod laws;
 
 pub use constructor_parser::accepts_special_scheme;
 pub use init::{Component, UrlPatternInit, UrlPatternMatchInput, given, process, url_text};

@@ -1,5 +1,7 @@
 pub mod PiecesUnique
 pub mod TokensUnique
+pub mod TokensExist
+pub mod OutcomesExist
 pub mod MeaningExamples
 pub mod DialectExamples
 pub mod PrintingExamples

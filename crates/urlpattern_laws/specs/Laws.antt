@@ -1,5 +1,5 @@
 -- What the laws of the definitions speak of: where tokens stand, what encodings answer, and outcomes.
-use Rattle.std.specs.Prelude.{◌≡◌, ◌≢◌, ℕ, suc, ◌+◌, List, [], ◌∷◌, ◌++◌, codes, Contains, Result, Ok, Err, IsTrue, decimal, filter}
+use Rattle.std.specs.Prelude.{◌≡◌, ◌≢◌, ℕ, suc, ◌+◌, ◌⊎◌, List, [], ◌∷◌, ◌++◌, codes, Contains, Result, Ok, Err, IsTrue, decimal, filter}
 use Rattle.std.specs.Char.{is_ascii_digit}
 use Rattle.std.specs.List.{list_all}
 use Rattle.urlpattern_syntax.specs.declared.tokenizer.TokenType.{TokenType}
@@ -9,9 +9,10 @@ use Rattle.urlpattern_syntax.specs.Errors.{ErrorView}
 use Rattle.urlpattern_syntax.specs.Errors.{ErrorView as errors}
 use Rattle.urlpattern_syntax.specs.Options.{OptionsView}
 use Rattle.urlpattern_syntax.specs.Parts.{PartView}
-use Rattle.urlpattern_syntax.specs.Reading.{Encoding, Reads, Refuses}
+use Rattle.urlpattern_syntax.specs.Pieces.{ArePieces, Ending, Piece}
+use Rattle.urlpattern_syntax.specs.Reading.{AreMet, Demand, Encode, Encoding, Reads, Refuses, demands, items_of}
 use Rattle.urlpattern_syntax.specs.Text.{begins_with, byte_len}
-use Rattle.urlpattern_syntax.specs.Tokens.{TokenView, is_ignored}
+use Rattle.urlpattern_syntax.specs.Tokens.{AreLenientTokens, AreTokens, FaultView, IsFault, TokenView, is_ignored}
 
 -- ---- where tokens stand
 
@@ -31,6 +32,17 @@ Lays place (token ∷ tokens) text =
     (skipped rest : List ℕ) × (text ≡ skipped ++ spelling token.kind token.value ++ rest) × IsTrue (list_all is_ignored skipped)
     × (token.index ≡ place + byte_len skipped)
     × Lays (token.index + byte_len (spelling token.kind token.value)) tokens rest
+
+-- ---- what every text has
+
+-- the text has strict tokens, or a first fault with its place
+abbrev pub HasTokensOrFault : (text : List ℕ) → Type 0
+HasTokensOrFault text =
+    ((tokens : List TokenView) × AreTokens text tokens) ⊎ ((fault : FaultView) × (place : ℕ) × IsFault text fault place)
+
+-- the text has lenient tokens
+abbrev pub HasLenientTokens : (text : List ℕ) → Type 0
+HasLenientTokens text = (tokens : List TokenView) × AreLenientTokens text tokens
 
 -- ---- encodings
 
@@ -52,6 +64,30 @@ AnswersOnceGivenMemory encoding =
     (text : List ℕ) (answer other : Result (List ℕ) ErrorView) → encoding text answer → encoding text other →
     answer ≢ Err errors.OutOfMemory → other ≢ Err errors.OutOfMemory → answer ≡ other
 
+-- the encoding has an answer to the text
+abbrev pub HasAnswer : Encoding → (text : List ℕ) → Type 0
+HasAnswer encoding text = (answer : Result (List ℕ) ErrorView) × encoding text answer
+
+-- The text asks the encoding about this one: that is among the demands of its pieces, and each demand before it is met.
+pub record Asks (text : List ℕ) (options : OptionsView) (encoding : Encoding) (asked : List ℕ) : Type 0 where
+  pub tokens : List TokenView
+  pub pieces : List Piece
+  pub ending : Ending
+  pub before : List Demand
+  pub behind : List Demand
+  pub are_tokens : AreTokens text tokens
+  pub are_pieces : ArePieces options.prefix tokens pieces ending
+  pub asks : demands (items_of pieces) ending ≡ before ++ Encode asked ∷ behind
+  pub are_met : AreMet encoding before
+
+-- the encoding answers each text that it is asked about
+abbrev pub AnswersAsked : (text : List ℕ) → OptionsView → Encoding → Type 0
+AnswersAsked text options encoding = (asked : List ℕ) → Asks text options encoding asked → HasAnswer encoding asked
+
+-- the encoding is asked about a text to which it has no answer
+abbrev pub LacksAnswer : (text : List ℕ) → OptionsView → Encoding → Type 0
+LacksAnswer text options encoding = (asked : List ℕ) × Asks text options encoding asked × ¬ HasAnswer encoding asked
+
 -- ---- outcomes
 
 -- what a text reads as, or the error that it is refused with
@@ -61,6 +97,10 @@ Outcome = Result (List PartView) ErrorView
 abbrev pub HasOutcome : (text : List ℕ) → OptionsView → Encoding → Outcome → Type 0
 HasOutcome text options encoding (Ok parts) = Reads text options encoding parts
 HasOutcome text options encoding (Err error) = Refuses text options encoding error
+
+-- the text reads as some parts, or is refused with some error
+abbrev pub HasSomeOutcome : (text : List ℕ) → OptionsView → Encoding → Type 0
+HasSomeOutcome text options encoding = (outcome : Outcome) × HasOutcome text options encoding outcome
 
 -- ---- names
 

@@ -11,7 +11,7 @@ ghost use Rattle.urlpattern_syntax.specs.declared.tokenizer.TokenType.TheVariant
 ghost use Rattle.urlpattern_syntax.specs.Errors.{ErrorView};
 ghost use Rattle.urlpattern_syntax.specs.Errors.{ErrorView as errors};
 ghost use Rattle.urlpattern_laws.specs.Dialect.{Follows, HasMeaningOf, IsTreeOf, Items, Means};
-ghost use Rattle.urlpattern_laws.specs.Laws.{AnswersOnce, AnswersOnceGivenMemory, CountFrom, HasOutcome, HasShapeOf, Lays, Outcome, listed, numbers_among, spelling};
+ghost use Rattle.urlpattern_laws.specs.Laws.{Answered, AnswersAsked, AnswersOnce, AnswersOnceGivenMemory, CountFrom, HasLenientTokens, HasOutcome, HasShapeOf, HasSomeOutcome, HasTokensOrFault, LacksAnswer, Lays, Outcome, listed, numbers_among, spelling};
 ghost use Rattle.urlpattern_laws.specs.Matching.{Agrees, AgreesInMiddle, Answers, ArePeeled, FollowsMiddle, MatcherView, end_text};
 ghost use Rattle.urlpattern_syntax.specs.Options.{OptionsView};
 ghost use Rattle.urlpattern_laws.specs.PartMeaning.{Allows, AreCopies, Captures, PartMeans, PartsMean, capture_of_none};
@@ -65,6 +65,12 @@ pub fn tokens_are_one()
     ensures lenient { (text : List ℕ) (tokens others : List TokenView) → AreLenientTokens text tokens → AreLenientTokens text others → tokens ≡ others }
 {}
 
+/// Every text has strict tokens, or a first fault with its place. Every text has lenient tokens.
+pub fn every_text_has_tokens()
+    ensures strict { (text : List ℕ) → HasTokensOrFault text }
+    ensures lenient { (text : List ℕ) → HasLenientTokens text }
+{}
+
 /// Nothing of a text is lost in its tokens but what is skipped between them and the marks of an escape, a name and a
 /// regular expression. Each token begins where its index says, behind the token before it, and its value stands there in
 /// the text. End is the last token, and no other.
@@ -89,11 +95,11 @@ pub fn pieces_are_one()
 /// A text has one outcome, which is a reading or a refusal, wherever the encoding has one answer at most to each text.
 /// The encoding is any list of texts with their answers.
 pub fn readings_are_one()
-    ensures readings { (text : List ℕ) (options : OptionsView) (answers : List (List ℕ × Result (List ℕ) ErrorView)) (parts others : List PartView) → AnswersOnce (listed answers) →
+    ensures readings { (text : List ℕ) (options : OptionsView) (answers : Answered) (parts others : List PartView) → AnswersOnce (listed answers) →
         Reads text options (listed answers) parts → Reads text options (listed answers) others → parts ≡ others }
-    ensures refusals { (text : List ℕ) (options : OptionsView) (answers : List (List ℕ × Result (List ℕ) ErrorView)) (error other : ErrorView) → AnswersOnce (listed answers) →
+    ensures refusals { (text : List ℕ) (options : OptionsView) (answers : Answered) (error other : ErrorView) → AnswersOnce (listed answers) →
         Refuses text options (listed answers) error → Refuses text options (listed answers) other → error ≡ other }
-    ensures not_both { (text : List ℕ) (options : OptionsView) (answers : List (List ℕ × Result (List ℕ) ErrorView)) (parts : List PartView) (error : ErrorView) → AnswersOnce (listed answers) →
+    ensures not_both { (text : List ℕ) (options : OptionsView) (answers : Answered) (parts : List PartView) (error : ErrorView) → AnswersOnce (listed answers) →
         Reads text options (listed answers) parts → ¬ Refuses text options (listed answers) error }
 {}
 
@@ -106,14 +112,26 @@ pub fn readings_by_callbacks_are_one<F: Fn(&str) -> Result<String, Error>>()
         HasOutcome text options encoding outcome → HasOutcome text options encoding other → outcome ≡ other }
 {}
 
+/// Under any options every text has an outcome, which is a reading or a refusal, or else it asks the encoding about a text
+/// to which that has no answer. So it has an outcome where the encoding answers whatever the text asks it about. The
+/// encoding is any list of texts with their answers or, in the last clause, any callback: `F` is the callback's type.
+pub fn every_text_has_an_outcome<F: Fn(&str) -> Result<String, Error>>()
+    ensures listed { (text : List ℕ) (options : OptionsView) (answers : Answered) →
+        HasSomeOutcome text options (listed answers) ⊎ LacksAnswer text options (listed answers) }
+    ensures answered { (text : List ℕ) (options : OptionsView) (answers : Answered) →
+        AnswersAsked text options (listed answers) → HasSomeOutcome text options (listed answers) }
+    ensures called { (text : List ℕ) (options : OptionsView) (callback : F) → let encoding = encoding_of (FnReturnsAt F.Fn callback) in
+        AnswersAsked text options encoding → HasSomeOutcome text options encoding }
+{}
+
 /// In a reading the names of the groups are not empty, and no two are equal. Those that begin with a digit are `0`, `1`
 /// and so on in order. A name that the pattern gives begins with none, so they are the groups without a name.
 pub fn names_are_new()
-    ensures nonempty { (text : List ℕ) (options : OptionsView) (answers : List (List ℕ × Result (List ℕ) ErrorView)) (parts : List PartView) →
+    ensures nonempty { (text : List ℕ) (options : OptionsView) (answers : Answered) (parts : List PartView) →
         Reads text options (listed answers) parts → All (λ name. name ≢ []) (group_names parts) }
-    ensures distinct { (text : List ℕ) (options : OptionsView) (answers : List (List ℕ × Result (List ℕ) ErrorView)) (parts : List PartView) →
+    ensures distinct { (text : List ℕ) (options : OptionsView) (answers : Answered) (parts : List PartView) →
         Reads text options (listed answers) parts → AllPairs (λ name other. name ≢ other) (group_names parts) }
-    ensures numbered { (text : List ℕ) (options : OptionsView) (answers : List (List ℕ × Result (List ℕ) ErrorView)) (parts : List PartView) →
+    ensures numbered { (text : List ℕ) (options : OptionsView) (answers : Answered) (parts : List PartView) →
         Reads text options (listed answers) parts → CountFrom 0 (numbers_among (group_names parts)) }
     ensures given { (text : List ℕ) (tokens front back : List TokenView) (token : TokenView) → AreTokens text tokens → tokens ≡ front ++ token ∷ back → token.kind ≡ Name →
         ¬ BeginsWith is_ascii_digit token.value }
@@ -162,7 +180,7 @@ pub fn joining_keeps_regexp()
 /// Parts that a text reads as are such as a pattern text may be read as: their kinds, values and names fit together.
 /// This holds under any options and any encoding.
 pub fn read_parts_are_pattern_parts()
-    ensures { (text : List ℕ) (options : OptionsView) (answers : List (List ℕ × Result (List ℕ) ErrorView)) (parts : List PartView) →
+    ensures { (text : List ℕ) (options : OptionsView) (answers : Answered) (parts : List PartView) →
         Reads text options (listed answers) parts → ArePatternParts options parts }
 {}
 
@@ -170,23 +188,23 @@ pub fn read_parts_are_pattern_parts()
 /// it is not refused. Printing what it reads as gives the same text. The parts may be any that are printable, and the
 /// encoding any list of answers that keeps their texts; for all parts there is such a list.
 pub fn printed_patterns_read_back()
-    ensures reads { (options : OptionsView) (answers : List (List ℕ × Result (List ℕ) ErrorView)) (parts : List PartView) →
+    ensures reads { (options : OptionsView) (answers : Answered) (parts : List PartView) →
         IsPrintable options parts → Keeps (listed answers) parts → Reads (printed options parts) options (listed answers) (joined parts) }
-    ensures only { (options : OptionsView) (answers : List (List ℕ × Result (List ℕ) ErrorView)) (parts others : List PartView) →
+    ensures only { (options : OptionsView) (answers : Answered) (parts others : List PartView) →
         IsPrintable options parts → Keeps (listed answers) parts → Reads (printed options parts) options (listed answers) others → others ≡ joined parts }
-    ensures not_refused { (options : OptionsView) (answers : List (List ℕ × Result (List ℕ) ErrorView)) (parts : List PartView) (error : ErrorView) →
+    ensures not_refused { (options : OptionsView) (answers : Answered) (parts : List PartView) (error : ErrorView) →
         IsPrintable options parts → Keeps (listed answers) parts → ¬ Refuses (printed options parts) options (listed answers) error }
-    ensures same { (options : OptionsView) (answers : List (List ℕ × Result (List ℕ) ErrorView)) (parts others : List PartView) →
+    ensures same { (options : OptionsView) (answers : Answered) (parts others : List PartView) →
         IsPrintable options parts → Keeps (listed answers) parts → Reads (printed options parts) options (listed answers) others → printed options others ≡ printed options parts }
-    ensures kept { (parts : List PartView) → (answers : List (List ℕ × Result (List ℕ) ErrorView)) × Keeps (listed answers) parts }
+    ensures kept { (parts : List PartView) → (answers : Answered) × Keeps (listed answers) parts }
 {}
 
 /// A printed pattern is refused only by an error that the encoding answers to one of the texts of the joined parts. Where
 /// the encoding answers none of them by another text, the pattern reads as the joined parts if it reads at all.
 pub fn printed_patterns_fail_by_the_encoding_alone()
-    ensures only { (options : OptionsView) (answers : List (List ℕ × Result (List ℕ) ErrorView)) (parts others : List PartView) →
+    ensures only { (options : OptionsView) (answers : Answered) (parts others : List PartView) →
         IsPrintable options parts → KeepsAnswered (listed answers) parts → Reads (printed options parts) options (listed answers) others → others ≡ joined parts }
-    ensures refused { (options : OptionsView) (answers : List (List ℕ × Result (List ℕ) ErrorView)) (parts : List PartView) (error : ErrorView) →
+    ensures refused { (options : OptionsView) (answers : Answered) (parts : List PartView) (error : ErrorView) →
         IsPrintable options parts → Refuses (printed options parts) options (listed answers) error → (text : List ℕ) × Contains (encoded_texts (joined parts)) text × listed answers text (Err error) }
 {}
 
@@ -206,12 +224,12 @@ pub fn printed_patterns_read_back_by_callbacks<F: Fn(&str) -> Result<String, Err
 /// that reads back: as the joined parts, and as nothing else, and printing these gives the same text. The two encodings
 /// are any lists of answers: the first made the parts, and the second keeps their texts.
 pub fn parts_that_were_read_print_and_read_back()
-    ensures reads { (text : List ℕ) (options : OptionsView) (first answers : List (List ℕ × Result (List ℕ) ErrorView)) (parts : List PartView) →
+    ensures reads { (text : List ℕ) (options : OptionsView) (first answers : Answered) (parts : List PartView) →
         WereRead text options (listed first) parts → Keeps (listed answers) parts → Reads (printed options parts) options (listed answers) (joined parts) }
-    ensures only { (text : List ℕ) (options : OptionsView) (first answers : List (List ℕ × Result (List ℕ) ErrorView)) (parts others : List PartView) →
+    ensures only { (text : List ℕ) (options : OptionsView) (first answers : Answered) (parts others : List PartView) →
         WereRead text options (listed first) parts → Keeps (listed answers) parts → Reads (printed options parts) options (listed answers) others → others ≡ joined parts }
-    ensures not_refused { (text : List ℕ) (options : OptionsView) (first answers : List (List ℕ × Result (List ℕ) ErrorView)) (parts : List PartView) (error : ErrorView) →
+    ensures not_refused { (text : List ℕ) (options : OptionsView) (first answers : Answered) (parts : List PartView) (error : ErrorView) →
         WereRead text options (listed first) parts → Keeps (listed answers) parts → ¬ Refuses (printed options parts) options (listed answers) error }
-    ensures same { (text : List ℕ) (options : OptionsView) (first answers : List (List ℕ × Result (List ℕ) ErrorView)) (parts others : List PartView) →
+    ensures same { (text : List ℕ) (options : OptionsView) (first answers : Answered) (parts others : List PartView) →
         WereRead text options (listed first) parts → Keeps (listed answers) parts → Reads (printed options parts) options (listed answers) others → printed options others ≡ printed options parts }
 {}

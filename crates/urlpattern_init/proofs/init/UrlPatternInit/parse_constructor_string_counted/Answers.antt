@@ -28,10 +28,14 @@ returns-then-is_none-2-clause-refused g c =
 
 pub returns-clause-split : goal.returns-clause-split
 returns-clause-split g c =
-    let are_tokens = subst (λ (tokens : List Token). AreLenientTokens (chars c.args.pattern.now) (map token_view tokens)) (sym c.deref.ensures.value) c.in_ok-tokens.ensures.tokens in
-    let size = length-map c.deref.result.now token_view in (
+    let are_tokens = subst (λ (tokens : List Token). AreLenientTokens (chars c.args.pattern.now) (map token_view tokens)) (sym c.deref.ensures.value) c.in_ok-tokens.ensures.tokens in (
       map token_view c.deref.result.now,
       are_tokens,
       subst (IsSplit (IsSpecialBy g.R.RegExp.IsMade _ g.R.RegExp.answer) (chars c.args.pattern.now) (map token_view c.deref.result.now)) (sym c.in_ok-init.ensures.components) c.in_ok-split.ensures.split,
-      omega (arith, c.in_ok-split.ensures.turns),
     )
+
+pub returns-clause-turns : goal.returns-clause-turns
+returns-clause-turns g c =
+    let are_tokens = subst (λ (tokens : List Token). AreLenientTokens (chars c.args.pattern.now) (map token_view tokens)) (sym c.deref.ensures.value) c.in_ok-tokens.ensures.tokens in
+    let size = length-map c.deref.result.now token_view in
+    (map token_view c.deref.result.now, are_tokens, omega (arith, c.in_ok-split.ensures.turns))

@@ -1,0 +1,10 @@
+use Rattle.std.specs.Prelude.{false}
+use Rattle.urlpattern_init.proofs.SplitUnique.{splits_one, splits_one_given}
+use Rattle.urlpattern_init.specs.SpecialProtocol.{IsSpecialBy}
+use Rattle.urlpattern_init.proofs.laws.splits_are_one.Goals as goal
+
+pub returns-clause-given : goal.returns-clause-given
+returns-clause-given g c = splits_one_given
+
+pub returns-clause-computed : goal.returns-clause-computed
+returns-clause-computed g c = splits_one (IsSpecialBy g.R.RegExp.IsMade (λ regexp flags. g.R.RegExp.MayRefuse regexp flags false) g.R.RegExp.answer)
