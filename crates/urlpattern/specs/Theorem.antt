@@ -1,9 +1,9 @@
 -- The sentences of the main theorem. Where one speaks of an encoding, it is any list of texts with their answers.
-use Rattle.std.specs.Prelude.{◌≡◌, ◌≢◌, ◌↔◌, ℕ, List, All, length, Option, Result}
+use Rattle.std.specs.Prelude.{◌≡◌, ◌≢◌, ◌↔◌, ◌⊎◌, ℕ, List, All, length, Option, Result}
 use Rattle.urlpattern_init.specs.declared.init.UrlPatternMatchInput.{UrlPatternMatchInput}
 use Rattle.urlpattern_init.specs.declared.init.processing.Component.{Component}
 use Rattle.urlpattern_laws.specs.Dialect.{IsOnlyTreeOf, IsTreeOf, Items, Means}
-use Rattle.urlpattern_laws.specs.Laws.{Answered, AnswersOnce, HasOutcome, Outcome, listed}
+use Rattle.urlpattern_laws.specs.Laws.{Answered, AnswersOnce, HasOutcome, HasSomeOutcome, LacksAnswer, Outcome, listed}
 use Rattle.urlpattern_laws.specs.Matching.{AnswersByMeaning, IsMadeOf, MatcherView}
 use Rattle.urlpattern_laws.specs.PartMeaning.{Captures, PartsMean}
 use Rattle.urlpattern_laws.specs.Printing.{Keeps, joined, printed}
@@ -21,11 +21,13 @@ use Rattle.urlpattern_syntax.specs.RegexpText.{group_names, regexp_text}
 abbrev pub AreGenerated : List PartView → Type 0
 AreGenerated parts = All (λ part. part.kind ≢ Regexp) parts
 
--- A text has one outcome, parts or an error, where the encoding has one answer at most to each text.
+-- A text has an outcome, parts or an error, or else it asks the encoding about a text to which that has no answer. It has one
+-- outcome at most where the encoding has one answer at most to each text.
 abbrev pub OneReading : Type 0
-OneReading = (text : List ℕ) (options : OptionsView) (answers : Answered) (outcome other : Outcome) →
-    AnswersOnce (listed answers) →
-    HasOutcome text options (listed answers) outcome → HasOutcome text options (listed answers) other → outcome ≡ other
+OneReading = (text : List ℕ) (options : OptionsView) (answers : Answered) →
+    (HasSomeOutcome text options (listed answers) ⊎ LacksAnswer text options (listed answers))
+    × ((outcome other : Outcome) → AnswersOnce (listed answers) →
+    HasOutcome text options (listed answers) outcome → HasOutcome text options (listed answers) other → outcome ≡ other)
 
 -- The regular expression of parts has one tree.
 abbrev pub OneTree : Type 0

@@ -8,8 +8,9 @@ use crate::regexp::RegExp;
 /// The main theorem, for any engine of regular expressions and for any encoding, which is a list of texts with their
 /// answers. It does nothing; what it promises speaks of the definitions that the calls are promised by.
 ///
-/// - `one_reading`: a text has one outcome under the options, parts or an error, wherever the encoding has one answer at
-///   most to each text. It is what `parse_pattern_string` answers.
+/// - `one_reading`: a text has an outcome under the options, parts or an error, or else it asks the encoding about a text to
+///   which that has no answer; and it has one outcome at most, wherever the encoding has one answer at most to each text. The
+///   outcome is what `parse_pattern_string` answers.
 /// - `one_tree`: the regular expression of parts, none of them custom, has one tree.
 /// - `exactly`: the tree means each text with the same captures as the parts do.
 /// - `captures`: these captures are as many as the names.

@@ -3,6 +3,7 @@ use Rattle.urlpattern_core.specs.Compiling.{MayRefuseAtFirst}
 use Rattle.urlpattern_laws.proofs.CallbackLaws.{outcome_one}
 use Rattle.urlpattern_laws.proofs.CaptureCount.{captures_counted}
 use Rattle.urlpattern_laws.proofs.MatcherMeaning.{matcher_means}
+use Rattle.urlpattern_laws.proofs.OutcomesExist.{outcome_listed}
 use Rattle.urlpattern_laws.proofs.OneMeaning.{each_tree_means, one_meaning}
 use Rattle.urlpattern_laws.proofs.ReadsBack.{kept_reads, kept_reads_only, kept_unrefused, were_read_printable}
 use Rattle.urlpattern_laws.specs.Laws.{listed}
@@ -10,7 +11,8 @@ use Rattle.urlpattern_pattern.proofs.MatchLaws.{match_from-test, match-not_both,
 use Rattle.urlpattern.proofs.theorem.main_theorem.Goals as goal
 
 pub returns-clause-one_reading : goal.returns-clause-one_reading
-returns-clause-one_reading g c = λ text options answers. outcome_one text options (listed answers)
+returns-clause-one_reading g c = λ text options answers.
+    (outcome_listed text options answers, λ outcome other. outcome_one text options (listed answers) outcome other)
 
 pub returns-clause-one_tree : goal.returns-clause-one_tree
 returns-clause-one_tree g c = λ options parts plain. let (tree, only, means) = one_meaning options parts plain in (tree, only)
