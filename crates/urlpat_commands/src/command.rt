@@ -123,19 +123,18 @@ fn answer(alloc: Global, words: &[String]) -> Result<Printed, Failure>
             status: DONE,
         }),
         [command, pattern, base, input] if command.as_str() == "match" => {
-            Ok(printed(alloc, matched_groups(alloc, pattern, base, input)?)?)
+            Ok(answer_of(alloc, matched_groups(alloc, pattern, base, input)?)?)
         }
         [command, base, input, patterns @ ..]
-            if command.as_str() == "first" && !patterns.is_empty() =>
-        {
-            Ok(printed(alloc, first_groups(alloc, base, input, patterns)?)?)
+            if command.as_str() == "first" && !patterns.is_empty() => {
+            Ok(answer_of(alloc, first_groups(alloc, base, input, patterns)?)?)
         }
         _ => Err(Failure::Usage),
     }
 }
 
 /// The lines of a match, or that there is none.
-fn printed(alloc: Global, lines: Option<String>) -> Result<Printed, AllocError>
+fn answer_of(alloc: Global, lines: Option<String>) -> Result<Printed, AllocError>
     ensures { IfOk result (λ answer. MatchOption lines ((string_bytes answer.text ≡ codes "no match\n") × (answer.status ≡ NO_MATCH))
         (λ text. (answer.text ≡ text) × (answer.status ≡ DONE))) }
 {

@@ -124,7 +124,8 @@ pub fn push_match(
     push_groups(alloc, text, "port", &found.port)?;
     push_groups(alloc, text, "pathname", &found.pathname)?;
     push_groups(alloc, text, "search", &found.search)?;
-    push_groups(alloc, text, "hash", &found.hash)
+    push_groups(alloc, text, "hash", &found.hash)?;
+    Ok(())
 }
 
 /// Appends a line for each group of a component, in the order of the bytes of their names.

@@ -177,11 +177,13 @@ impl<R: RegExp> UrlPatternList<R> {
         ensures memory { IfErr result (λ error. error ≡ errors.OutOfMemory) }
     {
         match self.first(alloc, texts)? {
-            Some(First {
-                index,
-                pattern,
-                captures,
-            }) => {
+            Some(
+                First {
+                    index,
+                    pattern,
+                    captures,
+                },
+            ) => {
                 let groups = pattern.groups(alloc, &captures);
                 drop(captures);
                 Ok(Some((index, groups?)))

@@ -16,7 +16,9 @@ type First = Option<(usize, UrlPatternResult)>;
 pub fn is_same(alloc: Global, question: &Value, answer: Answer<'_>) -> Result<bool, Fault> {
     let found = built_list(alloc, question)?;
     let is_same = match (&found, answer) {
-        (Ok(patterns), Answer::Ok(recorded)) => has_same_results(alloc, patterns, question, recorded),
+        (Ok(patterns), Answer::Ok(recorded)) => has_same_results(
+            alloc, patterns, question, recorded,
+        ),
         (Err(error), Answer::Err(text)) => prints(alloc, error, text).map_err(Fault::from),
         _ => Ok(false),
     };
@@ -75,6 +77,8 @@ fn first_match(
         match process_match_input(alloc, given::input(alloc, input)?, base) {
             Ok(Some((input, _))) => patterns.first_match(alloc, input),
             Ok(None) => Ok(None),
+            // Where answers were recorded, each pattern asked about the input anew, and an empty list did not.
+            Err(_) if patterns.is_empty() => Ok(None),
             Err(error) => Err(error),
         },
     )
@@ -87,11 +91,13 @@ fn is_same_result(
     recorded: &Value,
 ) -> Result<bool, AllocError> {
     match found {
-        Ok(Some((index, found))) => Ok(is_index(*index, recorded)
-            && match recorded.get("result") {
-                Some(result) => are_same_components(found, result),
-                None => false,
-            }),
+        Ok(Some((index, found))) => Ok(
+            is_index(*index, recorded)
+                && match recorded.get("result") {
+                    Some(result) => are_same_components(found, result),
+                    None => false,
+                },
+        ),
         Ok(None) => Ok(recorded.is_null()),
         Err(error) => match optional_text(recorded, "err") {
             Some(text) => prints(alloc, error, text),

@@ -263,7 +263,11 @@ impl<R: RegExp> UrlPattern<R> {
     }
 
     /// What the groups of the components capture, by name.
-    pub(crate) fn groups(&self, alloc: Global, captures: &Eight<Captured<'_>>) -> Result<Eight<Groups>, Error>
+    pub(crate) fn groups(
+        &self,
+        alloc: Global,
+        captures: &Eight<Captured<'_>>,
+    ) -> Result<Eight<Groups>, Error>
         ensures groups { IfOk result (λ groups. (name : Name) →
             AreGroups (pattern_view self.now name).group_name_list (captures_of (at captures.now name)) (at groups name)) }
         ensures memory { IfErr result (λ error. error ≡ errors.OutOfMemory) }
