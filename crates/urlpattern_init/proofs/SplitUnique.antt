@@ -110,7 +110,7 @@ end_value whole text [] (suc place) cut h = absurd (false≢true h)
 end_value whole text (token ∷ front) zero cut h = absurd (both_ways (is_end token.kind) (lenient_not_end whole cut.0 token cut.1 cut.3) h)
 end_value whole text (token ∷ front) (suc place) cut h = end_value whole cut.1 front place cut.4 h
 
-search_not_end : (text : List ℕ) (tokens : List TokenView) (place : ℕ) → AreLenientTokens text tokens → IsTrue (is_search_sign tokens place) → IsTrue (ends_at tokens place) → ⊥
+pub search_not_end : (text : List ℕ) (tokens : List TokenView) (place : ℕ) → AreLenientTokens text tokens → IsTrue (is_search_sign tokens place) → IsTrue (ends_at tokens place) → ⊥
 search_not_end text tokens place h search end =
     let last = end_value text text h.front place h.cut (subst (λ (ts : List TokenView). IsTrue (ends_at ts place)) h.all end) in
     differ (codes "?") [] refl (values_one (codes "?") [] tokens place (search_value tokens place search) (subst (λ (ts : List TokenView). IsTrue (has_value [] ts place)) (sym h.all) last))
