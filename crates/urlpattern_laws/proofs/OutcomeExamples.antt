@@ -1,7 +1,9 @@
 -- Worked examples of what a text asks the encoding about.
-use Rattle.std.proofs.Common.{◌≡◌, ℕ, zero, suc, List, [], ◌∷◌, refl, arith, Ok}
+use Rattle.std.proofs.Common.{ℕ, zero, suc, List, [], ◌∷◌, ap, refl, arith, Ok}
 use Rattle.std.specs.Prelude.{codes, Result}
-use Rattle.urlpattern_laws.specs.Laws.{AnswersAsked, LacksAnswer, listed}
+use Rattle.std.proofs.lemmas.Bool.{false≢true}
+use Rattle.std.specs.Str.{bytes_eq}
+use Rattle.urlpattern_laws.specs.Laws.{LacksAnswer, listed}
 use Rattle.urlpattern_syntax.specs.declared.tokenizer.TokenType.TheVariants.{End}
 use Rattle.urlpattern_syntax.specs.Errors.{ErrorView}
 use Rattle.urlpattern_syntax.specs.Options.{default_options}
@@ -48,5 +50,6 @@ asks_next = (
 )
   where
     unanswered : (answer : Result (List ℕ) ErrorView) → listed ((codes "a", Ok (codes "x")) ∷ []) (codes "b") answer → ⊥
-    unanswered answer (zero, below, same) = cc same
+    unanswered answer (zero, below, same) =
+        false≢true (ap (λ (pair : List ℕ × Result (List ℕ) ErrorView). bytes_eq pair.0 (codes "b")) same)
     unanswered answer (suc k, below, same) = omega (arith, below)
