@@ -57,8 +57,8 @@ pub fn copies_are_one_capture()
         ⊎ ((inner : List ℕ) × (text ≡ part.prefix ++ inner ++ part.suffix) × (captures ≡ Some inner ∷ [])) }
 {}
 
-/// A text has one list of strict tokens at most, and one first fault at most, and never both. It has one list of lenient tokens
-/// at most.
+/// A text has one list of strict tokens at most, or one first fault, and never both. Its lenient tokens are one list at
+/// most. That it has them says [`every_text_has_tokens`].
 pub fn tokens_are_one()
     ensures tokens { (text : List ℕ) (tokens others : List TokenView) → AreTokens text tokens → AreTokens text others → tokens ≡ others }
     ensures faults { (text : List ℕ) (fault other : FaultView) (place another : ℕ) → IsFault text fault place → IsFault text other another → (fault ≡ other) × (place ≡ another) }
@@ -93,8 +93,8 @@ pub fn pieces_are_one()
     ensures exist { (point text : List ℕ) (tokens : List TokenView) → AreTokens text tokens → (pieces : List Piece) × (ending : Ending) × ArePieces point tokens pieces ending }
 {}
 
-/// A text has one outcome at most, which is a reading or a refusal, wherever the encoding has one answer at most to each text.
-/// The encoding is any list of texts with their answers.
+/// A text has one outcome at most, which is a reading or a refusal, wherever the encoding has one answer at most to each
+/// text. That it has one says [`every_text_has_an_outcome`]. The encoding is any list of texts with their answers.
 pub fn readings_are_one()
     ensures readings { (text : List ℕ) (options : OptionsView) (answers : Answered) (parts others : List PartView) → AnswersOnce (listed answers) →
         Reads text options (listed answers) parts → Reads text options (listed answers) others → parts ≡ others }
