@@ -67,9 +67,8 @@ HasInitAndBase input base = ⊥
 
 -- The init of a constructor string with this base URL, where the protocol's engine is the crate `regex`
 pub record IsInitOfString (text : List ℕ) (base : Option (List ℕ)) (init : UrlPatternInit) : Type 0 where
-  pub turns : ℕ
   pub has_base : parsed_base base ≡ Ok init.base_url
-  pub is_split : SplitsInto (IsSpecialBy (λ regex regexp flags. IsRegexOf regexp regex) (λ regexp flags. ⊤) regex_answer) text (init_components init) turns
+  pub is_split : SplitsInto (IsSpecialBy (λ regex regexp flags. IsRegexOf regexp regex) (λ regexp flags. ⊤) regex_answer) text (init_components init)
   pub is_complete : HasProtocolOrBase init
 
 -- the init that a pattern is constructed from

@@ -3,6 +3,7 @@ pub mod SeenLemmas
 pub mod TextBetween
 pub mod SplitLemmas
 pub mod SplitUnique
+pub mod SplitExists
 pub mod InheritanceLemmas
 pub mod SplitExamples
 pub mod SchemeLemmas

@@ -7,7 +7,7 @@ ghost use Rattle.std.specs.Str.{bytes_eq, chars};
 ghost use Rattle.urlpattern_core.specs.Compiling.{MayRefuseAtFirst};
 ghost use Rattle.urlpattern_init.specs.ConstructorString.{AreFewTurns, HasProtocolOrBase, RefusesString, SplitsInto, init_components};
 ghost use Rattle.urlpattern_init.specs.SpecialProtocol.{AcceptsSpecialScheme, CanonicalizesProtocol, IsSpecialBy, RefusesProtocol};
-ghost use Rattle.urlpattern_init.specs.Split.{AuthorityFrom, EndsAt, HashAt, HashFrom, HasProtocol, HostnameFrom, IsAbsoluteSplit, IsRelativeSplit, IsSplit, IsTextBetween, PathnameAt, PathnameFrom, PortAt, SearchAt, SearchFrom, UserinfoFrom, at, depth_before, depth_behind, ends_at, follows_modified, has_slashes, implied_pathname, is_at_sign, is_character, is_colon, is_end, is_ending, is_open, is_hash_sign, is_search_sign, is_sign, is_slash, takes_modifier};
+ghost use Rattle.urlpattern_init.specs.Split.{AuthorityFrom, EndsAt, HashAt, HashFrom, HasProtocol, HostnameFrom, IsAbsoluteSplit, IsRelativeSplit, IsSplit, IsTextBetween, PathnameAt, PathnameFrom, PortAt, SearchAt, SearchFrom, UserinfoFrom, at, depth_before, depth_behind, ends_at, follows_modified, has_slashes, implied_pathname, is_at_sign, is_character, is_colon_sign, is_end, is_ending, is_open, is_hash_sign, is_search_sign, is_sign, is_slash_sign, takes_modifier};
 ghost use Rattle.urlpattern_init.specs.Splitting.{CanRead, HasRead, HasTurnForSlash, IsSource, NoAuthority, NoPathname, NoSearch, components_of, is_hostname, text_of_source, tokens_of};
 ghost use Rattle.urlpattern_core.specs.Matchers.{matcher_view};
 ghost use Rattle.urlpattern_laws.specs.Matching.{IsMatched};
@@ -425,8 +425,8 @@ impl<'t, 'a> Source<'t, 'a> {
     fn pathname_at(&self, end: Place, special: bool) -> Split<'a>
         requires source { IsSource self.now }
         requires reads { HasRead self.now end }
-        requires sign { IsTrue (is_slash (tokens_of self.now) end.index || is_search_sign (tokens_of self.now) end.index || is_hash_sign (tokens_of self.now) end.index || ends_at (tokens_of self.now) end.index) }
-        requires slash { IsTrue (is_slash (tokens_of self.now) end.index) → end.turns + (length self.now.tokens.now - end.index) ≤ 2 * length self.now.tokens.now }
+        requires sign { IsTrue (is_slash_sign (tokens_of self.now) end.index || is_search_sign (tokens_of self.now) end.index || is_hash_sign (tokens_of self.now) end.index || ends_at (tokens_of self.now) end.index) }
+        requires slash { IsTrue (is_slash_sign (tokens_of self.now) end.index) → end.turns + (length self.now.tokens.now - end.index) ≤ 2 * length self.now.tokens.now }
         ensures split { PathnameAt (text_of_source self.now) (tokens_of self.now) special end.index (components_of result) }
         ensures nothing { NoAuthority (components_of result) }
         ensures turns { result.turns ≤ 2 * length self.now.tokens.now }
@@ -447,7 +447,7 @@ impl<'t, 'a> Source<'t, 'a> {
     fn port_at(&self, end: Place, special: bool) -> Split<'a>
         requires source { IsSource self.now }
         requires reads { HasRead self.now end }
-        requires sign { IsTrue (is_colon (tokens_of self.now) end.index || is_slash (tokens_of self.now) end.index || is_search_sign (tokens_of self.now) end.index || is_hash_sign (tokens_of self.now) end.index || ends_at (tokens_of self.now) end.index) }
+        requires sign { IsTrue (is_colon_sign (tokens_of self.now) end.index || is_slash_sign (tokens_of self.now) end.index || is_search_sign (tokens_of self.now) end.index || is_hash_sign (tokens_of self.now) end.index || ends_at (tokens_of self.now) end.index) }
         requires slash { HasTurnForSlash self.now end.index 0 end.turns }
         ensures split { PortAt (text_of_source self.now) (tokens_of self.now) special end.index (components_of result) }
         ensures turns { result.turns ≤ 2 * length self.now.tokens.now }
@@ -564,7 +564,7 @@ impl<'t, 'a> Source<'t, 'a> {
         requires source { IsSource self.now }
         requires protocol { IsTextBetween (text_of_source self.now) (tokens_of self.now) 0 colon.index (chars protocol.now) }
         requires ends { EndsAt Section.Protocol (tokens_of self.now) 0 0 colon.index }
-        requires sign { IsTrue (is_colon (tokens_of self.now) colon.index) }
+        requires sign { IsTrue (is_colon_sign (tokens_of self.now) colon.index) }
         requires turns { colon.turns ≤ 2 * (colon.index + 1) }
         ensures split { IsAbsoluteSplit (text_of_source self.now) (tokens_of self.now) special colon.index (components_of result) }
         ensures protocol { (components_of result).protocol ≡ Some (chars protocol.now) }

@@ -2,6 +2,7 @@ pub mod PiecesUnique
 pub mod TokensUnique
 pub mod TokensExist
 pub mod OutcomesExist
+pub mod OutcomeExamples
 pub mod MeaningExamples
 pub mod DialectExamples
 pub mod PrintingExamples

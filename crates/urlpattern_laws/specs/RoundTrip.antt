@@ -100,7 +100,11 @@ pub record WereRead (text : List ℕ) (options : OptionsView) (encoding : Encodi
 abbrev pub KeepsAnswered : Encoding → List PartView → Type 0
 KeepsAnswered encoding parts = (text other : List ℕ) → Contains (encoded_texts (joined parts)) text → encoding text (Ok other) → other ≡ text
 
--- the encoding answers one of these texts by this error
+-- the encoding may answer each text of the joined parts by itself
+abbrev pub MayKeep : Encoding → List PartView → Type 0
+MayKeep encoding parts = (text : List ℕ) → Contains (encoded_texts (joined parts)) text → encoding text (Ok text)
+
+-- the encoding may answer one of these texts by this error
 abbrev pub FailsText : Encoding → (texts : List (List ℕ)) → ErrorView → Type 0
 FailsText encoding texts error = (text : List ℕ) × Contains texts text × encoding text (Err error)
 

@@ -19,7 +19,7 @@ ghost use Rattle.urlpattern_syntax.specs.Parts.{PartView};
 ghost use Rattle.urlpattern_syntax.specs.Pieces.{ArePieces, Ending, Piece};
 ghost use Rattle.urlpattern_laws.specs.Printing.{HaveTexts, Keeps, encoded_texts, joined, printed};
 ghost use Rattle.urlpattern_syntax.specs.Reading.{Reads, Refuses, encoding_of};
-ghost use Rattle.urlpattern_laws.specs.RoundTrip.{ArePatternParts, FailsText, IsPrintable, KeepsAnswered, WereRead};
+ghost use Rattle.urlpattern_laws.specs.RoundTrip.{ArePatternParts, FailsText, IsPrintable, KeepsAnswered, MayKeep, WereRead};
 ghost use Rattle.urlpattern_syntax.specs.RegexpText.{IsWildcard, group_names, is_empty, regexp_text};
 ghost use Rattle.urlpattern_syntax.specs.Text.{byte_len, lacks, line_feed, BeginsWith};
 ghost use Rattle.urlpattern_syntax.specs.Tokens.{AreLenientTokens, AreTokens, FaultView, IsFault, TokenView, end_of};
@@ -57,7 +57,8 @@ pub fn copies_are_one_capture()
         ⊎ ((inner : List ℕ) × (text ≡ part.prefix ++ inner ++ part.suffix) × (captures ≡ Some inner ∷ [])) }
 {}
 
-/// A text has one list of strict tokens or one first fault, and never both. Its lenient tokens are one list.
+/// A text has one list of strict tokens at most, or one first fault, and never both. Its lenient tokens are one list at
+/// most. That it has them says [`every_text_has_tokens`].
 pub fn tokens_are_one()
     ensures tokens { (text : List ℕ) (tokens others : List TokenView) → AreTokens text tokens → AreTokens text others → tokens ≡ others }
     ensures faults { (text : List ℕ) (fault other : FaultView) (place another : ℕ) → IsFault text fault place → IsFault text other another → (fault ≡ other) × (place ≡ another) }
@@ -92,8 +93,8 @@ pub fn pieces_are_one()
     ensures exist { (point text : List ℕ) (tokens : List TokenView) → AreTokens text tokens → (pieces : List Piece) × (ending : Ending) × ArePieces point tokens pieces ending }
 {}
 
-/// A text has one outcome, which is a reading or a refusal, wherever the encoding has one answer at most to each text.
-/// The encoding is any list of texts with their answers.
+/// A text has one outcome at most, which is a reading or a refusal, wherever the encoding has one answer at most to each
+/// text. That it has one says [`every_text_has_an_outcome`]. The encoding is any list of texts with their answers.
 pub fn readings_are_one()
     ensures readings { (text : List ℕ) (options : OptionsView) (answers : Answered) (parts others : List PartView) → AnswersOnce (listed answers) →
         Reads text options (listed answers) parts → Reads text options (listed answers) others → parts ≡ others }
@@ -208,10 +209,16 @@ pub fn printed_patterns_fail_by_the_encoding_alone()
         IsPrintable options parts → Refuses (printed options parts) options (listed answers) error → (text : List ℕ) × Contains (encoded_texts (joined parts)) text × listed answers text (Err error) }
 {}
 
-/// The same of a callback's own answers: under a callback that answers none of the texts of the joined parts by another
-/// text, the printed pattern reads as the joined parts if it reads at all, and it is refused only by an error that the
-/// callback may answer to one of them.
+/// The same of a callback's own answers. Under a callback that may answer each text of the joined parts by itself, the printed
+/// pattern may be read as the joined parts; under one that answers none of them by another text, it is read as nothing else;
+/// and it is refused only by an error that the callback may answer to one of them. Parts that were read under the callback
+/// are printable.
 pub fn printed_patterns_read_back_by_callbacks<F: Fn(&str) -> Result<String, Error>>()
+    ensures printable { (callback : F) (text : List ℕ) (options : OptionsView) (parts : List PartView) →
+        WereRead text options (encoding_of (FnReturnsAt F.Fn callback)) parts → IsPrintable options parts }
+    ensures reads { (callback : F) (options : OptionsView) (parts : List PartView) →
+        let encoding = encoding_of (FnReturnsAt F.Fn callback) in
+        IsPrintable options parts → MayKeep encoding parts → Reads (printed options parts) options encoding (joined parts) }
     ensures only { (callback : F) (options : OptionsView) (parts others : List PartView) →
         let encoding = encoding_of (FnReturnsAt F.Fn callback) in
         IsPrintable options parts → KeepsAnswered encoding parts → Reads (printed options parts) options encoding others → others ≡ joined parts }

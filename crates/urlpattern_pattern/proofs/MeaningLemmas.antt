@@ -18,7 +18,7 @@ use Rattle.urlpattern_pattern.proofs.MatchLaws.{no_input-long, texts-one}
 use Rattle.urlpattern_pattern.specs.Compiled.{AreCompiled, canonical_encoding, manner_of, pattern_of}
 use Rattle.urlpattern_pattern.specs.Match.{HasNoMatch, IsLongInput, IsMatch, IsResultOf, ResultView, group_of, text_at}
 use Rattle.urlpattern_pattern.specs.MatchInput.{input_texts}
-use Rattle.urlpattern_pattern.specs.Meaning.{AllMeaningPremises, IsExecuted, IsFoundByMeaning, IsMeant, MeaningPremises, ReadsAs, options_of}
+use Rattle.urlpattern_pattern.specs.Meaning.{IsExecuted, IsFoundByMeaning, IsMeant, MeaningPremises, ReadsAs, options_of}
 use Rattle.urlpattern_pattern.specs.Patterns.{PatternView}
 use Rattle.urlpattern_syntax.specs.declared.parser.PartType.{PartType}
 use Rattle.urlpattern_syntax.specs.declared.parser.PartType.TheVariants.{Regexp}
@@ -70,43 +70,46 @@ component_agrees answer IsMade MayRefuse syntax asked values hierarchical compon
 
 module _ {E : Type 0} (answer : E → List ℕ → Option Captures) (IsMade : E → List ℕ → List ℕ → Type 0) (MayRefuse : List ℕ → List ℕ → Bool → Type 0)
     (syntax : RegexSyntax) (asked : UrlPatternOptions) (values : Values) (pattern : PatternView E)
-    (compiled : AreCompiled (IsCompiledFrom IsMade MayRefuse syntax) answer asked values pattern) (texts : Texts)
-    (premises : AllMeaningPremises answer asked values compiled.hierarchical pattern texts) where
+    (compiled : AreCompiled (IsCompiledFrom IsMade MayRefuse syntax) answer asked values pattern) (texts : Texts) where
+  -- what is asked of a component
+  abbrev Premises : Component → Type 0
+  Premises component = MeaningPremises answer asked values compiled.hierarchical component (pattern component) (text_at texts component)
+
   -- what is matched is meant
-  found_meant : (component : Component) (captures : Captures) → Answers answer (pattern component).matcher (text_at texts component) (Some captures) →
+  found_meant : (component : Component) (captures : Captures) → Premises component → Answers answer (pattern component).matcher (text_at texts component) (Some captures) →
       (meant : IsMeant asked values compiled.hierarchical component (text_at texts component))
       × (group_names meant.parts ≡ (pattern component).group_name_list) × (meant.captures ≡ captures)
-  found_meant component captures answers =
+  found_meant component captures premises answers =
       let (parts, reads, is_component) = (compiled.are_compiled component).0 in (
         record {
           parts = parts;
           captures = captures;
           reads = reads;
-          means = component_agrees answer IsMade MayRefuse syntax asked values compiled.hierarchical component (pattern component) (text_at texts component) parts (Some captures) reads is_component (premises component) answers;
+          means = component_agrees answer IsMade MayRefuse syntax asked values compiled.hierarchical component (pattern component) (text_at texts component) parts (Some captures) reads is_component premises answers;
         },
         sym is_component.has_names,
         refl,
       )
 
   -- what is not matched is not meant
-  refused_unmeant : (component : Component) → Answers answer (pattern component).matcher (text_at texts component) None →
+  refused_unmeant : (component : Component) → Premises component → Answers answer (pattern component).matcher (text_at texts component) None →
       ¬ IsMeant asked values compiled.hierarchical component (text_at texts component)
-  refused_unmeant component answers meant =
+  refused_unmeant component premises answers meant =
       let (parts, reads, is_component) = (compiled.are_compiled component).0 in
       let manner = manner_of asked values compiled.hierarchical component in
       let same : meant.parts ≡ parts =
       reading_one_encoded (pattern_of values component) manner.options (canonical_encoding manner.canonical) meant.parts parts (canonical_once manner.canonical) meant.reads reads
       in
-      component_agrees answer IsMade MayRefuse syntax asked values compiled.hierarchical component (pattern component) (text_at texts component) parts None reads is_component (premises component) answers
+      component_agrees answer IsMade MayRefuse syntax asked values compiled.hierarchical component (pattern component) (text_at texts component) parts None reads is_component premises answers
       meant.captures (subst (λ (of : List PartView). PartsMean manner.options of (text_at texts component) meant.captures) same meant.means)
 
-  result_meant : (component : Component) (captures : Captures) (result : ResultView) →
+  result_meant : (component : Component) (captures : Captures) (result : ResultView) → Premises component →
       Answers answer (pattern component).matcher (text_at texts component) (Some captures) →
       IsResultOf (pattern component).group_name_list captures (text_at texts component) result →
       (meant : IsMeant asked values compiled.hierarchical component (text_at texts component))
       × IsResultOf (group_names meant.parts) meant.captures (text_at texts component) result
-  result_meant component captures result answers is_result =
-      let (meant, names, captured) = found_meant component captures answers in (
+  result_meant component captures result premises answers is_result =
+      let (meant, names, captured) = found_meant component captures premises answers in (
         meant,
         record {
           has_input = is_result.has_input;
@@ -116,13 +119,13 @@ module _ {E : Type 0} (answer : E → List ℕ → Option Captures) (IsMade : E 
       )
 
   pub executed_means : (input : UrlPatternMatchInput) (found : Option (Component → ResultView)) → input_texts input ≡ Ok texts → ¬ IsLongInput input →
-      IsExecuted answer pattern input found → IsFoundByMeaning asked values compiled.hierarchical texts found
-  executed_means input (Some result) are_texts short (others, are_others, match) = λ component.
+      IsExecuted answer pattern input found → IsFoundByMeaning answer asked values compiled.hierarchical pattern texts found
+  executed_means input (Some result) are_texts short (others, are_others, match) = λ component premises.
       let same = texts-one input others texts are_others are_texts in
-      result_meant component (match.captures component) (result component)
+      result_meant component (match.captures component) (result component) premises
       (subst (λ (t : Texts). Answers answer (pattern component).matcher (text_at t component) (Some (match.captures component))) same (match.are_answers component))
       (subst (λ (t : Texts). IsResultOf (pattern component).group_name_list (match.captures component) (text_at t component) (result component)) same (match.are_results component))
   executed_means input None are_texts short (inl no_input) = absurd (short (no_input-long input texts are_texts no_input))
-  executed_means input None are_texts short (inr (others, are_others, (component, refused))) = λ meant.
+  executed_means input None are_texts short (inr (others, are_others, (component, refused))) = λ premises meant.
       let same = texts-one input others texts are_others are_texts in
-      refused_unmeant component (subst (λ (t : Texts). Answers answer (pattern component).matcher (text_at t component) None) same refused) (meant component)
+      refused_unmeant component (premises component) (subst (λ (t : Texts). Answers answer (pattern component).matcher (text_at t component) None) same refused) (meant component)

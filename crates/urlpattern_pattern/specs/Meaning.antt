@@ -39,15 +39,6 @@ pub record IsMeant (asked : UrlPatternOptions) (values : Values) (hierarchical :
   pub reads : ReadsAs asked values hierarchical component parts
   pub means : PartsMean (options_of asked values hierarchical component) parts text captures
 
--- what is found of eight texts: where they are matched, each component's result tells a meaning of its text, as groups the
--- names of the parts beside the captures; else the pattern texts do not mean all eight
-abbrev pub IsFoundByMeaning : UrlPatternOptions → Values → (hierarchical : Bool) → Texts → Option (Component → ResultView) → Type 0
-IsFoundByMeaning asked values hierarchical texts (Some result) =
-    (component : Component) → (meant : IsMeant asked values hierarchical component (text_at texts component))
-    × IsResultOf (group_names meant.parts) meant.captures (text_at texts component) (result component)
-IsFoundByMeaning asked values hierarchical texts None =
-    ¬ ((component : Component) → IsMeant asked values hierarchical component (text_at texts component))
-
 -- ---- where matchers answer it
 
 -- What is asked of a compiled component and a text: no custom regular expression, case that is kept, characters without
@@ -60,9 +51,17 @@ pub record MeaningPremises {E : Type 0} (answer : E → List ℕ → Option Capt
   pub follows : (parts : List PartView) → ReadsAs asked values hierarchical component parts
       → FollowsMiddle answer (options_of asked values hierarchical component) parts compiled.matcher.inner
 
-abbrev pub AllMeaningPremises : {E : Type 0} → (answer : E → List ℕ → Option Captures) → UrlPatternOptions → Values → (hierarchical : Bool) → PatternView E → Texts → Type 0
-AllMeaningPremises answer asked values hierarchical pattern texts =
-    (component : Component) → MeaningPremises answer asked values hierarchical component (pattern component) (text_at texts component)
+-- What is found of eight texts. Where they are matched, the result of each component that meets the premises tells a meaning
+-- of its text: as groups the names of the parts beside the captures. Where they are not, and all components meet the
+-- premises, the pattern texts do not mean all eight.
+abbrev pub IsFoundByMeaning : {E : Type 0} → (answer : E → List ℕ → Option Captures) → UrlPatternOptions → Values → (hierarchical : Bool) → PatternView E → Texts → Option (Component → ResultView) → Type 0
+IsFoundByMeaning answer asked values hierarchical pattern texts (Some result) =
+    (component : Component) → MeaningPremises answer asked values hierarchical component (pattern component) (text_at texts component) →
+    (meant : IsMeant asked values hierarchical component (text_at texts component))
+    × IsResultOf (group_names meant.parts) meant.captures (text_at texts component) (result component)
+IsFoundByMeaning answer asked values hierarchical pattern texts None =
+    ((component : Component) → MeaningPremises answer asked values hierarchical component (pattern component) (text_at texts component)) →
+    ¬ ((component : Component) → IsMeant asked values hierarchical component (text_at texts component))
 
 -- ---- what `exec` answers
 
@@ -78,5 +77,4 @@ pub record IsExecutedByMeaning {E : Type 0} (IsFrom : Compiles E) (answer : E �
   pub compiled : AreCompiled IsFrom answer asked values pattern
   pub executed : IsExecuted answer pattern input found
   pub means : (texts : Texts) → input_texts input ≡ Ok texts → ¬ IsLongInput input
-      → AllMeaningPremises answer asked values compiled.hierarchical pattern texts
-      → IsFoundByMeaning asked values compiled.hierarchical texts found
+      → IsFoundByMeaning answer asked values compiled.hierarchical pattern texts found

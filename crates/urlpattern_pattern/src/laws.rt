@@ -10,26 +10,26 @@ ghost use Rattle.urlpattern_init.specs.Inheritance.{Texts, Values};
 ghost use Rattle.urlpattern_inputs.specs.declared.options.UrlPatternOptions.{UrlPatternOptions};
 ghost use Rattle.urlpattern_pattern.specs.Compiled.{AreCompiled};
 ghost use Rattle.urlpattern_pattern.specs.MatchInput.{input_texts};
-ghost use Rattle.urlpattern_pattern.specs.Meaning.{AllMeaningPremises, IsExecuted, IsFoundByMeaning};
+ghost use Rattle.urlpattern_pattern.specs.Meaning.{IsExecuted, IsFoundByMeaning};
 ghost use Rattle.urlpattern_pattern.specs.Match.{HasMatch, HasNoMatch, IsLongInput, IsMatch, IsSameResult, ResultView};
 ghost use Rattle.urlpattern_pattern.specs.Patterns.{PatternView};
 ghost use Rattle.urlpattern_laws.specs.PartMeaning.{Captures};
 
 use urlpattern_core::regexp::RegExp;
 
-/// What a pattern answers to an input is what its pattern texts mean, and its groups are the names of their parts beside what
-/// these capture. There is a match exactly where each component's pattern text means the component's text.
+/// What a pattern answers to an input is what its pattern texts mean. In a match each component's pattern text means the
+/// component's text, and the groups are the names of its parts beside the captures of one such meaning. No match is answered
+/// only where the pattern texts do not mean all eight texts.
 ///
-/// No component has a custom regular expression, case is kept, the texts are of characters without line feed, an engine that
-/// is needed took the regular expression that it was given and follows it, and the input is not longer than `url` is sure to
-/// take.
+/// It holds of a component without a custom regular expression, where case is kept and the text is of characters without line
+/// feed, and where an engine that is needed took the regular expression that it was given and follows it. No text of the
+/// input is longer than `url` is sure to take.
 pub fn groups_mean_the_parts<R: RegExp>()
     ensures { (asked : UrlPatternOptions) (values : Values) (pattern : PatternView R) (input : UrlPatternMatchInput) (texts : Texts)
         (found : Option (Component → ResultView)) →
         (compiled : AreCompiled (IsCompiledFrom R.IsMade R.MayRefuse R.syntax_of) R.answer asked values pattern) →
-        AllMeaningPremises R.answer asked values compiled.hierarchical pattern texts →
         input_texts input ≡ Ok texts → ¬ IsLongInput input →
-        IsExecuted R.answer pattern input found → IsFoundByMeaning asked values compiled.hierarchical texts found }
+        IsExecuted R.answer pattern input found → IsFoundByMeaning R.answer asked values compiled.hierarchical pattern texts found }
 {}
 
 /// A test of a pattern is true exactly where there is a match, and then there is one match. It is not false there, unless

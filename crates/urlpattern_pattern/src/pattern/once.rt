@@ -18,8 +18,9 @@ use urlpattern_inputs::UrlPatternOptions;
 impl<R: RegExp> UrlPattern<R> {
     /// Compiles the pattern of an init and matches one input: `parse`, and then `exec`.
     ///
-    /// Where no custom regular expression is among the pattern's texts, there is a match exactly where they mean the texts
-    /// of the input, and the groups are what they mean.
+    /// There is a match exactly where the pattern texts mean the texts of the input, and the groups are what they capture in
+    /// one such meaning: for components without a custom regular expression, where case is kept and no text has a line feed,
+    /// with an engine that, where one is needed, follows the regular expression that it was given.
     ///
     /// The error is why the pattern is refused, or that memory ran out.
     pub fn exec_once(
