@@ -5,7 +5,7 @@ use Rattle.std.proofs.lemmas.List.{drop_at, length-append, length-map, take-appe
 use Rattle.std.proofs.lemmas.Str.{IsCharBoundary-at_seam, IsUtf8-drop, IsUtf8-take, chars-append, encodes-append, encodes-chars, scalars-chars}
 use Rattle.std.specs.Bool.{then_some}
 use Rattle.std.specs.Char.{to_ascii_lowercase}
-use Rattle.std.specs.Prelude.{encode_utf8_all, IfNone, IfSome, Option, Some, None, ◌&&◌}
+use Rattle.std.specs.Prelude.{encode_utf8_all, IfNone, IfSome, Option, Some, None}
 use Rattle.std.specs.Str.{IsCharBoundary, IsUtf8, chars}
 use Rattle.urlpattern_core.specs.Matchers.{BeginsWithFolded, EndsWithFolded}
 use Rattle.urlpattern_laws.specs.Matching.{HasMiddle, IsSame, MatcherView}
@@ -109,7 +109,8 @@ none-weaker (Some x) P Q weaker h = tt
 pub between-folded : {E : Type 0} (matcher : MatcherView E) (text rest middle : List ℕ) → matcher.ignore_case ≡ true →
     BeginsWithFolded matcher.prefix text rest → EndsWithFolded matcher.suffix rest middle → HasMiddle matcher text middle
 between-folded matcher text rest middle ignored (front, e, begins) (back, f, ends) = (
-  front, back,
+  front,
+  back,
   e ∙ ap (λ t. front ++ t) f ∙ sym (append_assoc front middle back),
   subst (λ b. IsSame b front matcher.prefix) (sym ignored) begins,
   subst (λ b. IsSame b back matcher.suffix) (sym ignored) ends,

@@ -7,7 +7,7 @@ use Rattle.std.specs.Prelude.{IsTrue, Option, Some, None, Result, Ok, Err, IfErr
 use Rattle.urlpattern_laws.specs.Matching.{Accepts, Answers, HasMiddle, InnerView, IsMatched, IsSame, Literal, Matches, MatcherView, MayBeEmpty, PassesFilter, RegExp, SingleCapture}
 use Rattle.urlpattern_laws.specs.PartMeaning.{Captures}
 
--- texts of one length do not differ where the wholes do not
+-- wholes that are equal and whose fronts are as long have equal rests
 pub rest_one : (front other rest last : List ℕ) → length front ≡ length other → front ++ rest ≡ other ++ last → rest ≡ last
 rest_one front other rest last len e =
     sym (drop_at front rest (length other) len) ∙ ap (λ t. drop (length other) t) e ∙ drop_at other last (length other) refl
@@ -37,6 +37,11 @@ matches-accepts answer matcher text middle captures cut = (
   λ (other, is, accepts). subst (λ m. Accepts answer matcher.ignore_case matcher.inner m captures) (middle-one matcher text other middle is cut) accepts,
   λ accepts. (middle, cut, accepts),
 )
+
+-- a text that has no middle is not matched
+pub not_matched-without : {E : Type 0} (answer : E → List ℕ → Option Captures) (matcher : MatcherView E) (text : List ℕ) →
+    ((middle : List ℕ) → ¬ HasMiddle matcher text middle) → (captures : Captures) → ¬ Matches answer matcher text captures
+not_matched-without answer matcher text none captures (middle, cut, accepts) = none middle cut
 
 -- a test tells whether the text is matched, where it tells whether its middle is accepted
 pub matched-by : {E : Type 0} (answer : E → List ℕ → Option Captures) (matcher : MatcherView E) (text middle : List ℕ) (inner : InnerView E) (test : Bool) →

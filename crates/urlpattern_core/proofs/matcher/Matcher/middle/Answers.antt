@@ -13,8 +13,8 @@ pub returns-in_err-rest-clause-none : goal.returns-in_err-rest-clause-none
 returns-in_err-rest-clause-none g c =
     let matcher = matcher_view c.args.self.now in
     rw c.from_residual.ensures (λ middle cut.
-        let (rest, begins) = begins-between matcher (chars c.args.input.now) middle c.if-self.true cut in
-        (rw c.deref.ensures at c.in_err-rest.ensures.none) rest begins)
+    let (rest, begins) = begins-between matcher (chars c.args.input.now) middle c.if-self.true cut in
+    (rw c.deref.ensures at c.in_err-rest.ensures.none) rest begins)
 
 pub returns-in_ok-rest-clause-some : goal.returns-in_ok-rest-clause-some
 returns-in_ok-rest-clause-some g c =
@@ -28,7 +28,7 @@ returns-in_ok-rest-clause-none g c =
     let matcher = matcher_view c.args.self.now in
     none-weaker c.strip_suffix_ignoring_case.result _ _
     (λ lacks middle cut.
-        lacks middle (ends-between matcher (chars c.args.input.now) (chars c.in_ok-rest.rest.now) middle c.if-self.true (rw c.deref.ensures at c.in_ok-rest.ensures.some) cut))
+    lacks middle (ends-between matcher (chars c.args.input.now) (chars c.in_ok-rest.rest.now) middle c.if-self.true (rw c.deref.ensures at c.in_ok-rest.ensures.some) cut))
     (rw c.deref-then-self.ensures at c.strip_suffix_ignoring_case.ensures.none)
 
 -- ---- where case is kept
@@ -38,8 +38,8 @@ returns-in_err-rest-2-clause-none g c =
     let prefix = string_bytes c.args.self.now.prefix in
     let suffix = string_bytes c.args.self.now.suffix in
     rw c.from_residual-in_err-rest-2.ensures (λ middle cut.
-        not_stripped c.args.input.now prefix suffix c.utf8.input (IsUtf8-string_bytes c.args.self.now.prefix) (IsUtf8-string_bytes c.args.self.now.suffix) (rw c.as_str.ensures.value at c.in_err-rest-2.ensures.cases) middle
-        ((middle_kept (matcher_view c.args.self.now) (chars c.args.input.now) middle c.if-self.false).0 cut))
+    not_stripped c.args.input.now prefix suffix c.utf8.input (IsUtf8-string_bytes c.args.self.now.prefix) (IsUtf8-string_bytes c.args.self.now.suffix) (rw c.as_str.ensures.value at c.in_err-rest-2.ensures.cases) middle
+    ((middle_kept (matcher_view c.args.self.now) (chars c.args.input.now) middle c.if-self.false).0 cut))
 
 pub returns-in_ok-rest-2-clause-some : goal.returns-in_ok-rest-2-clause-some
 returns-in_ok-rest-2-clause-some g c =
@@ -48,7 +48,7 @@ returns-in_ok-rest-2-clause-some g c =
     some-weaker c.strip_suffix.result _ _
     (λ middle e. (middle_kept (matcher_view c.args.self.now) (chars c.args.input.now) (chars middle.now) c.if-self.false).1 e)
     (between-some c.args.input.now prefix suffix c.in_ok-rest-2.rest.now c.strip_suffix.result c.utf8.input (IsUtf8-string_bytes c.args.self.now.prefix)
-        (rw c.as_str.ensures.value at c.in_ok-rest-2.ensures.cases) (rw c.as_str-else-self.ensures.value at c.strip_suffix.ensures.cases))
+    (rw c.as_str.ensures.value at c.in_ok-rest-2.ensures.cases) (rw c.as_str-else-self.ensures.value at c.strip_suffix.ensures.cases))
 
 pub returns-in_ok-rest-2-clause-none : goal.returns-in_ok-rest-2-clause-none
 returns-in_ok-rest-2-clause-none g c =
@@ -57,4 +57,4 @@ returns-in_ok-rest-2-clause-none g c =
     none-weaker c.strip_suffix.result _ _
     (λ lacks middle cut. lacks middle ((middle_kept (matcher_view c.args.self.now) (chars c.args.input.now) middle c.if-self.false).0 cut))
     (between-none c.args.input.now prefix suffix c.in_ok-rest-2.rest.now c.strip_suffix.result c.utf8.input (IsUtf8-string_bytes c.args.self.now.prefix) (IsUtf8-string_bytes c.args.self.now.suffix)
-        (rw c.as_str.ensures.value at c.in_ok-rest-2.ensures.cases) (rw c.as_str-else-self.ensures.value at c.strip_suffix.ensures.cases))
+    (rw c.as_str.ensures.value at c.in_ok-rest-2.ensures.cases) (rw c.as_str-else-self.ensures.value at c.strip_suffix.ensures.cases))
