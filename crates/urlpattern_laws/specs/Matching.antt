@@ -111,7 +111,7 @@ folded ignore_case text = if ignore_case then map to_ascii_lowercase text else t
 abbrev pub folded_character : (ignore_case : Bool) → ℕ → ℕ
 folded_character ignore_case c = if ignore_case then to_ascii_lowercase c else c
 
--- the text is the other one; where case is ignored, but for the case of ASCII letters
+-- the two texts are the same; where case is ignored, but for the case of ASCII letters
 abbrev pub IsSame : (ignore_case : Bool) → (text other : List ℕ) → Type 0
 IsSame ignore_case text other = folded ignore_case text ≡ folded ignore_case other
 
@@ -133,13 +133,13 @@ Accepts answer ignore_case (SingleCapture filter allow_empty) text captures =
 Accepts answer ignore_case (RegExp (Ok engine)) text captures = answer engine text ≡ Some captures
 Accepts answer ignore_case (RegExp (Err error)) text captures = ⊥
 
--- the text is prefix, this middle and suffix, without overlap
+-- the text is prefix, this middle and suffix, without overlap; prefix and suffix are compared as a literal is
 abbrev pub HasMiddle : {E : Type 0} → MatcherView E → List ℕ → (middle : List ℕ) → Type 0
 HasMiddle matcher text middle =
     (front back : List ℕ) × (text ≡ front ++ middle ++ back)
     × IsSame matcher.ignore_case front matcher.prefix × IsSame matcher.ignore_case back matcher.suffix
 
--- the text between prefix and suffix is accepted
+-- what stands between prefix and suffix is accepted, with these captures
 abbrev pub Matches : {E : Type 0} → (answer : E → List ℕ → Option Captures) → MatcherView E → List ℕ → Captures → Type 0
 Matches answer matcher text captures =
     (middle : List ℕ) × HasMiddle matcher text middle × Accepts answer matcher.ignore_case matcher.inner middle captures
