@@ -2,11 +2,12 @@
 use Rattle.std.proofs.Common.{◌≡◌, ◌≢◌, ℕ, Bool, true, false, List, [], ◌∷◌, ap, arith, inl, inr, refl, subst, sym, ◌∙◌}
 use Rattle.std.proofs.lemmas.Bool.{or_parts}
 use Rattle.std.proofs.lemmas.List.Elements.{All-cons}
-use Rattle.std.specs.Prelude.{◌⊎◌, All, MatchOption, Option, Some, None, Ok, IsTrue, length}
+use Rattle.std.specs.Prelude.{◌⊎◌, All, MatchOption, Option, Some, None, option_map, Ok, IsTrue, length}
 use Rattle.url.specs.Parser.{Parsed}
 use Rattle.urlpattern_canonical.specs.Canonical.{IsAnswer}
 use Rattle.urlpattern_core.specs.Compiling.{ComponentView, IsCompiledFrom, IsComponentOf, MayRefuseAtFirst, engine_flags, has_regexp, is_regexp}
 use Rattle.urlpattern_init.specs.Inheritance.{Texts, Values}
+use Rattle.urlpattern_init.specs.declared.init.UrlPatternInit.{UrlPatternInit}
 use Rattle.urlpattern_init.specs.declared.init.UrlPatternMatchInput.{UrlPatternMatchInput}
 use Rattle.urlpattern_init.specs.declared.init.processing.Component.{Component}
 use Rattle.urlpattern_inputs.specs.declared.options.UrlPatternOptions.{UrlPatternOptions}
@@ -15,11 +16,12 @@ use Rattle.urlpattern_laws.proofs.MatcherMeaning.{matcher_means}
 use Rattle.urlpattern_laws.specs.Matching.{Agrees, Answers}
 use Rattle.urlpattern_laws.specs.PartMeaning.{Captures, PartsMean}
 use Rattle.urlpattern_pattern.proofs.MatchLaws.{no_input-long, texts-one}
-use Rattle.urlpattern_pattern.specs.Compiled.{AreCompiled, canonical_encoding, manner_of, pattern_of}
-use Rattle.urlpattern_pattern.specs.Match.{HasNoMatch, IsLongInput, IsMatch, IsResultOf, ResultView, group_of, text_at}
+use Rattle.urlpattern_pattern.specs.Compiled.{AreCompiled, IsCompiled, canonical_encoding, manner_of, pattern_of}
+use Rattle.urlpattern_pattern.specs.Match.{HasNoMatch, IsLongInput, IsMatch, IsResultOf, ResultView, group_of, result_view, text_at}
 use Rattle.urlpattern_pattern.specs.MatchInput.{input_texts}
-use Rattle.urlpattern_pattern.specs.Meaning.{IsExecuted, IsFoundByMeaning, IsMeant, MeaningPremises, ReadsAs, options_of}
+use Rattle.urlpattern_pattern.specs.Meaning.{IsExecuted, IsExecutedByMeaning, IsFoundByMeaning, IsMeant, MeaningPremises, ReadsAs, options_of}
 use Rattle.urlpattern_pattern.specs.Patterns.{PatternView}
+use Rattle.urlpattern_pattern.specs.declared.pattern.result.UrlPatternResult.{UrlPatternResult}
 use Rattle.urlpattern_syntax.specs.declared.parser.PartType.{PartType}
 use Rattle.urlpattern_syntax.specs.declared.parser.PartType.TheVariants.{Regexp}
 use Rattle.urlpattern_syntax.specs.declared.parser.RegexSyntax.{RegexSyntax}
@@ -129,3 +131,24 @@ module _ {E : Type 0} (answer : E → List ℕ → Option Captures) (IsMade : E 
   executed_means input None are_texts short (inr (others, are_others, (component, refused))) = λ premises meant.
       let same = texts-one input others texts are_others are_texts in
       refused_unmeant component (premises component) (subst (λ (t : Texts). Answers answer (pattern component).matcher (text_at t component) None) same refused) (meant component)
+
+-- ---- a pattern that is matched once
+
+pub executed_of : {E : Type 0} (answer : E → List ℕ → Option Captures) (pattern : PatternView E) (input : UrlPatternMatchInput) (found : Option UrlPatternResult) →
+    MatchOption found (HasNoMatch answer pattern input) (λ result. IsMatch answer pattern input (result_view result)) →
+    IsExecuted answer pattern input (option_map result_view found)
+executed_of answer pattern input None unmatched = unmatched
+executed_of answer pattern input (Some result) match = match
+
+pub executed_by_meaning : {E : Type 0} (answer : E → List ℕ → Option Captures) (IsMade : E → List ℕ → List ℕ → Type 0) (MayRefuse : List ℕ → List ℕ → Bool → Type 0)
+    (syntax : RegexSyntax) (init : UrlPatternInit) (asked : UrlPatternOptions) (input : UrlPatternMatchInput) (pattern : PatternView E) (found : Option (Component → ResultView)) →
+    IsCompiled (IsCompiledFrom IsMade MayRefuse syntax) answer init asked pattern → IsExecuted answer pattern input found →
+    IsExecutedByMeaning (IsCompiledFrom IsMade MayRefuse syntax) answer init asked input found
+executed_by_meaning answer IsMade MayRefuse syntax init asked input pattern found (values, are_values, compiled) executed = record {
+  values = values;
+  pattern = pattern;
+  are_values = are_values;
+  compiled = compiled;
+  executed = executed;
+  means = λ texts are_texts short. executed_means answer IsMade MayRefuse syntax asked values pattern compiled texts input found are_texts short executed;
+}
