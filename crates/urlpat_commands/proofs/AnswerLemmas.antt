@@ -95,7 +95,7 @@ more_words (x ∷ y ∷ z ∷ others) a b c rest least is_a is_b is_c is_rest = 
 
 module _ (words : List (String Global)) (command kind pattern : String Global) (are : words ≡ command ∷ kind ∷ pattern ∷ []) (named : string_bytes command ≡ codes "component") where
   pub component_answers : (text : List ℕ) → IsComponentText (string_bytes kind) (string_bytes pattern) text → IsAnswer (map (λ word. string_bytes word) words) text 0
-  component_answers text told = rw are (inl (named, told, refl))
+  component_answers text told = rw are (inl (named, (told, refl)))
 
   pub component_fails : (failure : Failure) → IsComponentFailure (string_bytes kind) (string_bytes pattern) failure → IsFailure (map (λ word. string_bytes word) words) failure
   component_fails failures.Usage told = rw are (λ command. told command.1)

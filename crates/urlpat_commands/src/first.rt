@@ -45,7 +45,8 @@ fn compiled_list(
     let mut list = UrlPatternList::new(alloc);
     for pattern in patterns {
         let pattern = compiled(alloc, pattern, base)?;
-        if list.push(pattern).is_err() {
+        if let Err(refused) = list.push(pattern) {
+            drop(refused);
             return Err(Error::OutOfMemory);
         }
     }
