@@ -69,9 +69,9 @@ pub record RefusesComponent (kind pattern : List ℕ) (error : ErrorView) : Type
   pub refuses : Refuses (chars pattern) options kept error
 
 -- why there is no such text: the word names no options, the pattern is refused, or memory ran out
-abbrev pub IsComponentFailure : (kind pattern : List ℕ) → Failure → Type 0
-IsComponentFailure kind pattern failures.Usage = IsKind kind → ⊥
-IsComponentFailure kind pattern (failures.Refused error) = MemoryOr (RefusesComponent kind pattern) error
+abbrev pub FailsComponent : (kind pattern : List ℕ) → Failure → Type 0
+FailsComponent kind pattern failures.Usage = ¬ IsKind kind
+FailsComponent kind pattern (failures.Refused error) = MemoryOr (RefusesComponent kind pattern) error
 
 -- ---- what a pattern captures
 
@@ -199,26 +199,48 @@ abbrev pub IsUnmatchedByEach : (patterns : List (List ℕ)) → (input : List �
 IsUnmatchedByEach patterns input base =
     (compiled : List (PatternView Regex)) × ArePatternsOf patterns base compiled × IsUnmatchedByAll compiled input base
 
--- ---- commands
+-- ---- the words behind `component`
+
+abbrev pub IsComponentAnswer : (words : List (List ℕ)) → (text : List ℕ) → (status : ℕ) → Type 0
+IsComponentAnswer (kind ∷ pattern ∷ []) text status = IsComponentText kind pattern text × (status ≡ 0)
+IsComponentAnswer words text status = ⊥
+
+abbrev pub IsComponentFailure : (words : List (List ℕ)) → Failure → Type 0
+IsComponentFailure (kind ∷ pattern ∷ []) failure = FailsComponent kind pattern failure
+IsComponentFailure words failure = failure ≡ failures.Usage
+
+-- ---- the words behind `match`
 
 -- the answer tells a match, with the status 0, or that there is none, with 1
 abbrev pub TellsMatch : (Matched Unmatched : Type 0) → (text : List ℕ) → (status : ℕ) → Type 0
 TellsMatch Matched Unmatched text status = (Matched × (status ≡ 0)) ⊎ (Unmatched × (text ≡ codes "no match\n") × (status ≡ 1))
 
--- the answers to the words behind each command
-abbrev pub IsComponentAnswer : (words : List (List ℕ)) → (text : List ℕ) → (status : ℕ) → Type 0
-IsComponentAnswer (kind ∷ pattern ∷ []) text status = IsComponentText kind pattern text × (status ≡ 0)
-IsComponentAnswer words text status = ⊥
+-- the only failure is that something is refused in this way, or that memory ran out
+abbrev pub IsRefusal : (Refuses : ErrorView → Type 0) → Failure → Type 0
+IsRefusal Refuses failures.Usage = ⊥
+IsRefusal Refuses (failures.Refused error) = MemoryOr Refuses error
 
 abbrev pub IsMatchAnswer : (words : List (List ℕ)) → (text : List ℕ) → (status : ℕ) → Type 0
 IsMatchAnswer (pattern ∷ base ∷ input ∷ []) text status =
     TellsMatch (IsMatchText pattern input (base_of base) text) (IsUnmatched pattern input (base_of base)) text status
 IsMatchAnswer words text status = ⊥
 
+abbrev pub IsMatchFailure : (words : List (List ℕ)) → Failure → Type 0
+IsMatchFailure (pattern ∷ base ∷ input ∷ []) failure = IsRefusal (RefusesPatternOf pattern (base_of base)) failure
+IsMatchFailure words failure = failure ≡ failures.Usage
+
+-- ---- the words behind `first`
+
 abbrev pub IsFirstAnswer : (words : List (List ℕ)) → (text : List ℕ) → (status : ℕ) → Type 0
 IsFirstAnswer (base ∷ input ∷ pattern ∷ patterns) text status =
     TellsMatch (IsFirstText (pattern ∷ patterns) input (base_of base) text) (IsUnmatchedByEach (pattern ∷ patterns) input (base_of base)) text status
 IsFirstAnswer words text status = ⊥
+
+abbrev pub IsFirstFailure : (words : List (List ℕ)) → Failure → Type 0
+IsFirstFailure (base ∷ input ∷ pattern ∷ patterns) failure = IsRefusal (RefusesOneOf (pattern ∷ patterns) (base_of base)) failure
+IsFirstFailure words failure = failure ≡ failures.Usage
+
+-- ---- commands
 
 -- the answer to the words, and the status of the run: 0, or 1 where an input is not matched
 abbrev pub IsAnswer : (words : List (List ℕ)) → (text : List ℕ) → (status : ℕ) → Type 0
@@ -228,31 +250,14 @@ IsAnswer (command ∷ words) text status =
     ⊎ ((command ≡ codes "match") × IsMatchAnswer words text status)
     ⊎ ((command ≡ codes "first") × IsFirstAnswer words text status)
 
--- the words are a command
-abbrev pub IsCommand : (words : List (List ℕ)) → Type 0
-IsCommand (command ∷ kind ∷ pattern ∷ []) = (command ≡ codes "component") × IsKind kind
-IsCommand (command ∷ pattern ∷ base ∷ input ∷ []) = (command ≡ codes "match") ⊎ (command ≡ codes "first")
-IsCommand (command ∷ base ∷ input ∷ pattern ∷ patterns) = command ≡ codes "first"
-IsCommand words = ⊥
-
--- what the words behind each command are refused with, or memory ran out
-abbrev pub RefusesComponentWords : (words : List (List ℕ)) → Error → Type 0
-RefusesComponentWords (kind ∷ pattern ∷ []) error = MemoryOr (RefusesComponent kind pattern) error
-RefusesComponentWords words error = ⊥
-
-abbrev pub RefusesMatchWords : (words : List (List ℕ)) → Error → Type 0
-RefusesMatchWords (pattern ∷ base ∷ input ∷ []) error = MemoryOr (RefusesPatternOf pattern (base_of base)) error
-RefusesMatchWords words error = ⊥
-
-abbrev pub RefusesFirstWords : (words : List (List ℕ)) → Error → Type 0
-RefusesFirstWords (base ∷ input ∷ pattern ∷ patterns) error = MemoryOr (RefusesOneOf (pattern ∷ patterns) (base_of base)) error
-RefusesFirstWords words error = ⊥
+abbrev pub IsCommand : List ℕ → Type 0
+IsCommand word = (word ≡ codes "component") ⊎ (word ≡ codes "match") ⊎ (word ≡ codes "first")
 
 -- why there is none: the words are no command, something is refused, or memory ran out
 abbrev pub IsFailure : (words : List (List ℕ)) → Failure → Type 0
-IsFailure words failures.Usage = ¬ IsCommand words
-IsFailure [] (failures.Refused error) = ⊥
-IsFailure (command ∷ words) (failures.Refused error) =
-    ((command ≡ codes "component") × RefusesComponentWords words error)
-    ⊎ ((command ≡ codes "match") × RefusesMatchWords words error)
-    ⊎ ((command ≡ codes "first") × RefusesFirstWords words error)
+IsFailure [] failure = failure ≡ failures.Usage
+IsFailure (command ∷ words) failure =
+    ((command ≡ codes "component") × IsComponentFailure words failure)
+    ⊎ ((command ≡ codes "match") × IsMatchFailure words failure)
+    ⊎ ((command ≡ codes "first") × IsFirstFailure words failure)
+    ⊎ (¬ IsCommand command × (failure ≡ failures.Usage))

@@ -2,7 +2,7 @@
 
 ghost use Rattle.std.specs.Io.KnownBytes.{Appends};
 ghost use Rattle.std.specs.Prelude.{◌≡◌, ◌≢◌, ◌⊎◌, ℕ, List, codes, map, string_bytes, IfErr, IfOk, IfSome, MatchOption, OnOk, Ok, None};
-ghost use Rattle.urlpat_commands.specs.Answers.{IsAnswer, IsComponentFailure, IsComponentText, IsCopy, IsFailure};
+ghost use Rattle.urlpat_commands.specs.Answers.{FailsComponent, IsAnswer, IsComponentAnswer, IsComponentFailure, IsComponentText, IsCopy, IsFailure, IsFirstAnswer, IsFirstFailure, IsMatchAnswer, IsMatchFailure};
 ghost use Rattle.urlpat_commands.specs.Kinds.{IsKind, IsNamed};
 ghost use Rattle.urlpat_commands.specs.Report.{component_lines, failure_lines};
 ghost use Rattle.urlpat_commands.specs.declared.command.Failure.{Failure};
@@ -117,20 +117,56 @@ fn answer(alloc: Global, words: &[String]) -> Result<Printed, Failure>
     ensures answers { IfOk result (λ answer. IsAnswer (map (λ word. string_bytes word) words.now) (string_bytes answer.text) answer.status) }
     ensures fails { IfErr result (IsFailure (map (λ word. string_bytes word) words.now)) }
 {
-    match words {
-        [command, kind, pattern] if command.as_str() == "component" => Ok(Printed {
-            text: component(alloc, kind, pattern)?,
-            status: DONE,
-        }),
-        [command, pattern, base, input] if command.as_str() == "match" => {
-            Ok(answer_of(alloc, matched_groups(alloc, pattern, base, input)?)?)
-        }
-        [command, base, input, patterns @ ..]
-            if command.as_str() == "first" && !patterns.is_empty() => {
-            Ok(answer_of(alloc, first_groups(alloc, base, input, patterns)?)?)
-        }
+    let [command, rest @ ..] = words else {
+        return Err(Failure::Usage);
+    };
+    match command.as_str() {
+        "component" => component_answer(alloc, rest),
+        "match" => match_answer(alloc, rest),
+        "first" => first_answer(alloc, rest),
         _ => Err(Failure::Usage),
     }
+}
+
+/// What the words after `component` ask for.
+fn component_answer(alloc: Global, words: &[String]) -> Result<Printed, Failure>
+    ensures answers { IfOk result (λ answer. IsComponentAnswer (map (λ word. string_bytes word) words.now) (string_bytes answer.text) answer.status) }
+    ensures fails { IfErr result (IsComponentFailure (map (λ word. string_bytes word) words.now)) }
+{
+    let [kind, pattern] = words else {
+        return Err(Failure::Usage);
+    };
+    Ok(Printed {
+        text: component(alloc, kind, pattern)?,
+        status: DONE,
+    })
+}
+
+/// What the words after `match` ask for.
+fn match_answer(alloc: Global, words: &[String]) -> Result<Printed, Failure>
+    ensures answers { IfOk result (λ answer. IsMatchAnswer (map (λ word. string_bytes word) words.now) (string_bytes answer.text) answer.status) }
+    ensures fails { IfErr result (IsMatchFailure (map (λ word. string_bytes word) words.now)) }
+{
+    let [pattern, base, input] = words else {
+        return Err(Failure::Usage);
+    };
+    let lines = matched_groups(alloc, pattern, base, input)?;
+    Ok(answer_of(alloc, lines)?)
+}
+
+/// What the words after `first` ask for.
+fn first_answer(alloc: Global, words: &[String]) -> Result<Printed, Failure>
+    ensures answers { IfOk result (λ answer. IsFirstAnswer (map (λ word. string_bytes word) words.now) (string_bytes answer.text) answer.status) }
+    ensures fails { IfErr result (IsFirstFailure (map (λ word. string_bytes word) words.now)) }
+{
+    let [base, input, patterns @ ..] = words else {
+        return Err(Failure::Usage);
+    };
+    if patterns.is_empty() {
+        return Err(Failure::Usage);
+    }
+    let lines = first_groups(alloc, base, input, patterns)?;
+    Ok(answer_of(alloc, lines)?)
 }
 
 /// The lines of a match, or that there is none.
@@ -150,7 +186,7 @@ fn answer_of(alloc: Global, lines: Option<String>) -> Result<Printed, AllocError
 /// The answer to `component`.
 fn component(alloc: Global, kind: &str, pattern: &str) -> Result<String, Failure>
     ensures text { IfOk result (λ text. IsComponentText kind.now pattern.now (string_bytes text)) }
-    ensures fails { IfErr result (IsComponentFailure kind.now pattern.now) }
+    ensures fails { IfErr result (FailsComponent kind.now pattern.now) }
 {
     let Some(options) = options_of(alloc, kind)? else {
         return Err(Failure::Usage);
