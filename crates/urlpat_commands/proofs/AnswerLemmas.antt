@@ -6,7 +6,7 @@ use Rattle.std.specs.Borrow.{Bor}
 use Rattle.regex.specs.declared.string.regex.Regex.{Regex}
 use Rattle.std.specs.Prelude.{IsSortedBy, MatchOption, Option, None, Some, String, string_bytes, encode_utf8_all}
 use Rattle.std.specs.declared.alloc.Global.{Global}
-use Rattle.urlpat_commands.specs.Answers.{FailsComponent, IsComponentAnswer, IsComponentFailure, IsComponentText, IsFirstAnswer, IsFirstFailure, IsFirstText, IsMatchAnswer, IsMatchFailure, IsMatchText, IsMatchTextBy, RefusesOneOf, RefusesPatternOf, TellsMatch, base_of, IsPatternOf, IsUnmatched, IsUnmatchedBy, IsUnmatchedByEach, default_pattern_options}
+use Rattle.urlpat_commands.specs.Answers.{FailsComponent, IsComponentAnswer, IsComponentFailure, IsComponentText, IsFirstAnswer, IsFirstFailure, IsFirstText, IsMatchAnswer, IsMatchFailure, IsMatchText, IsMatchTextBy, RefusesOneOf, RefusesPatternOf, TellsMatch, base_of, IsPatternOf, IsUnmatched, IsUnmatchedBy, IsUnmatchedByEach, default_pattern_options, words_view}
 use Rattle.urlpat_commands.specs.declared.command.Failure.{Failure}
 use Rattle.urlpat_commands.specs.declared.command.Failure.TheVariants as failures
 use Rattle.urlpat_commands.specs.declared.command.Printed.{Printed}
@@ -102,33 +102,30 @@ two_words_and_more [] a b rest least is_a is_b is_rest = absurd (omega (arith, l
 two_words_and_more (x ∷ []) a b rest least is_a is_b is_rest = absurd (omega (arith, least))
 two_words_and_more (x ∷ y ∷ others) a b rest least is_a is_b is_rest = rw (is_a, is_b, is_rest) refl
 
-abbrev texts_of : List (String Global) → List (List ℕ)
-texts_of words = map (λ word. string_bytes word) words
-
 module _ (words : List (String Global)) (kind pattern : String Global) (are : words ≡ kind ∷ pattern ∷ []) where
-  pub component_answers : (text : List ℕ) → IsComponentText (string_bytes kind) (string_bytes pattern) text → IsComponentAnswer (texts_of words) text 0
+  pub component_answers : (text : List ℕ) → IsComponentText (string_bytes kind) (string_bytes pattern) text → IsComponentAnswer (words_view words) text 0
   component_answers text told = rw are (told, refl)
 
-  pub component_fails : (failure : Failure) → FailsComponent (string_bytes kind) (string_bytes pattern) failure → IsComponentFailure (texts_of words) failure
+  pub component_fails : (failure : Failure) → FailsComponent (string_bytes kind) (string_bytes pattern) failure → IsComponentFailure (words_view words) failure
   component_fails failure told = rw are told
 
 module _ (words : List (String Global)) (pattern base input : String Global) (are : words ≡ pattern ∷ base ∷ input ∷ []) where
   pub match_answers : (text : List ℕ) (status : ℕ)
       → TellsMatch (IsMatchText (string_bytes pattern) (string_bytes input) (base_of (string_bytes base)) text) (IsUnmatched (string_bytes pattern) (string_bytes input) (base_of (string_bytes base))) text status
-      → IsMatchAnswer (texts_of words) text status
+      → IsMatchAnswer (words_view words) text status
   match_answers text status told = rw are told
 
-  pub match_fails : (error : Error) → MemoryOr (RefusesPatternOf (string_bytes pattern) (base_of (string_bytes base))) error → IsMatchFailure (texts_of words) (failures.Refused error)
+  pub match_fails : (error : Error) → MemoryOr (RefusesPatternOf (string_bytes pattern) (base_of (string_bytes base))) error → IsMatchFailure (words_view words) (failures.Refused error)
   match_fails error told = rw are told
 
 module _ (words : List (String Global)) (base input : String Global) where
   pub first_answers : (patterns : List (String Global)) → words ≡ base ∷ input ∷ patterns → 0 < length patterns → (text : List ℕ) (status : ℕ)
-      → TellsMatch (IsFirstText (texts_of patterns) (string_bytes input) (base_of (string_bytes base)) text) (IsUnmatchedByEach (texts_of patterns) (string_bytes input) (base_of (string_bytes base))) text status
-      → IsFirstAnswer (texts_of words) text status
+      → TellsMatch (IsFirstText (words_view patterns) (string_bytes input) (base_of (string_bytes base)) text) (IsUnmatchedByEach (words_view patterns) (string_bytes input) (base_of (string_bytes base))) text status
+      → IsFirstAnswer (words_view words) text status
   first_answers [] are some text status told = absurd (omega (arith, some))
   first_answers (pattern ∷ patterns) are some text status told = rw are told
 
   pub first_fails : (patterns : List (String Global)) → words ≡ base ∷ input ∷ patterns → 0 < length patterns → (error : Error)
-      → MemoryOr (RefusesOneOf (texts_of patterns) (base_of (string_bytes base))) error → IsFirstFailure (texts_of words) (failures.Refused error)
+      → MemoryOr (RefusesOneOf (words_view patterns) (base_of (string_bytes base))) error → IsFirstFailure (words_view words) (failures.Refused error)
   first_fails [] are some error told = absurd (omega (arith, some))
   first_fails (pattern ∷ patterns) are some error told = rw are told

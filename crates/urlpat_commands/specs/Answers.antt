@@ -40,6 +40,10 @@ use Rattle.urlpattern_syntax.specs.declared.error.Error.TheVariants as errors
 use Rattle.urlpattern_syntax.specs.declared.parser.PartType.TheVariants.{Regexp}
 use Rattle.urlpattern_syntax.specs.declared.parser.RegexSyntax.TheVariants.{Rust}
 
+-- the bytes of each word
+abbrev pub words_view : List (String Global) → List (List ℕ)
+words_view words = map (λ word. string_bytes word) words
+
 -- ---- what a component is compiled to
 
 -- each text is answered by a copy of it, or memory runs out

@@ -2,7 +2,7 @@
 
 ghost use Rattle.std.specs.Io.KnownBytes.{Appends};
 ghost use Rattle.std.specs.Prelude.{◌≡◌, ◌≢◌, ◌⊎◌, ℕ, List, codes, map, string_bytes, IfErr, IfOk, IfSome, MatchOption, OnOk, Ok, None};
-ghost use Rattle.urlpat_commands.specs.Answers.{FailsComponent, IsAnswer, IsComponentAnswer, IsComponentFailure, IsComponentText, IsCopy, IsFailure, IsFirstAnswer, IsFirstFailure, IsMatchAnswer, IsMatchFailure};
+ghost use Rattle.urlpat_commands.specs.Answers.{FailsComponent, IsAnswer, IsComponentAnswer, IsComponentFailure, IsComponentText, IsCopy, IsFailure, IsFirstAnswer, IsFirstFailure, IsMatchAnswer, IsMatchFailure, words_view};
 ghost use Rattle.urlpat_commands.specs.Kinds.{IsKind, IsNamed};
 ghost use Rattle.urlpat_commands.specs.Report.{component_lines, failure_lines};
 ghost use Rattle.urlpat_commands.specs.declared.command.Failure.{Failure};
@@ -79,11 +79,11 @@ pub fn run<Out: Write, Err: Write>(
     err: &mut Err,
 ) -> u8
     ensures status { (result ≡ DONE) ⊎ (result ≡ NO_MATCH) ⊎ (result ≡ FAILED) }
-    ensures answers { result ≢ FAILED → (text : List ℕ) × IsAnswer (map (λ word. string_bytes word) words.now) text result
+    ensures answers { result ≢ FAILED → (text : List ℕ) × IsAnswer (words_view words.now) text result
         × Appends (Out.contents out.old) (Out.contents out.new) text }
     ensures quiet { result ≢ FAILED → err.new ≡ err.old }
-    ensures fails { result ≡ FAILED → ((failure : Failure) × IsFailure (map (λ word. string_bytes word) words.now) failure × (out.new ≡ out.old))
-        ⊎ ((text : List ℕ) × (status : ℕ) × IsAnswer (map (λ word. string_bytes word) words.now) text status) }
+    ensures fails { result ≡ FAILED → ((failure : Failure) × IsFailure (words_view words.now) failure × (out.new ≡ out.old))
+        ⊎ ((text : List ℕ) × (status : ℕ) × IsAnswer (words_view words.now) text status) }
 {
     match answer(alloc, words) {
         Ok(answer) => match out.write_all(answer.text.as_bytes()) {
@@ -114,8 +114,8 @@ fn tell<Err: Write>(failure: &Failure, err: &mut Err) -> io::Result<()>
 
 /// What the words ask for.
 fn answer(alloc: Global, words: &[String]) -> Result<Printed, Failure>
-    ensures answers { IfOk result (λ answer. IsAnswer (map (λ word. string_bytes word) words.now) (string_bytes answer.text) answer.status) }
-    ensures fails { IfErr result (IsFailure (map (λ word. string_bytes word) words.now)) }
+    ensures answers { IfOk result (λ answer. IsAnswer (words_view words.now) (string_bytes answer.text) answer.status) }
+    ensures fails { IfErr result (IsFailure (words_view words.now)) }
 {
     let [command, rest @ ..] = words else {
         return Err(Failure::Usage);
@@ -130,8 +130,8 @@ fn answer(alloc: Global, words: &[String]) -> Result<Printed, Failure>
 
 /// What the words after `component` ask for.
 fn component_answer(alloc: Global, words: &[String]) -> Result<Printed, Failure>
-    ensures answers { IfOk result (λ answer. IsComponentAnswer (map (λ word. string_bytes word) words.now) (string_bytes answer.text) answer.status) }
-    ensures fails { IfErr result (IsComponentFailure (map (λ word. string_bytes word) words.now)) }
+    ensures answers { IfOk result (λ answer. IsComponentAnswer (words_view words.now) (string_bytes answer.text) answer.status) }
+    ensures fails { IfErr result (IsComponentFailure (words_view words.now)) }
 {
     let [kind, pattern] = words else {
         return Err(Failure::Usage);
@@ -144,8 +144,8 @@ fn component_answer(alloc: Global, words: &[String]) -> Result<Printed, Failure>
 
 /// What the words after `match` ask for.
 fn match_answer(alloc: Global, words: &[String]) -> Result<Printed, Failure>
-    ensures answers { IfOk result (λ answer. IsMatchAnswer (map (λ word. string_bytes word) words.now) (string_bytes answer.text) answer.status) }
-    ensures fails { IfErr result (IsMatchFailure (map (λ word. string_bytes word) words.now)) }
+    ensures answers { IfOk result (λ answer. IsMatchAnswer (words_view words.now) (string_bytes answer.text) answer.status) }
+    ensures fails { IfErr result (IsMatchFailure (words_view words.now)) }
 {
     let [pattern, base, input] = words else {
         return Err(Failure::Usage);
@@ -156,8 +156,8 @@ fn match_answer(alloc: Global, words: &[String]) -> Result<Printed, Failure>
 
 /// What the words after `first` ask for.
 fn first_answer(alloc: Global, words: &[String]) -> Result<Printed, Failure>
-    ensures answers { IfOk result (λ answer. IsFirstAnswer (map (λ word. string_bytes word) words.now) (string_bytes answer.text) answer.status) }
-    ensures fails { IfErr result (IsFirstFailure (map (λ word. string_bytes word) words.now)) }
+    ensures answers { IfOk result (λ answer. IsFirstAnswer (words_view words.now) (string_bytes answer.text) answer.status) }
+    ensures fails { IfErr result (IsFirstFailure (words_view words.now)) }
 {
     let [base, input, patterns @ ..] = words else {
         return Err(Failure::Usage);

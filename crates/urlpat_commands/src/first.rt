@@ -1,7 +1,7 @@
 //! The command `first`: the first of some patterns that matches a URL, and what its groups capture.
 
-ghost use Rattle.std.specs.Prelude.{◌≡◌, map, option_copied, string_bytes, IfErr, IfOk, MatchOption};
-ghost use Rattle.urlpat_commands.specs.Answers.{ArePatternsOf, IsFirstText, IsFirstTextBy, IsUnmatchedByAll, IsUnmatchedByEach, RefusesOneOf, base_of};
+ghost use Rattle.std.specs.Prelude.{◌≡◌, option_copied, string_bytes, IfErr, IfOk, MatchOption};
+ghost use Rattle.urlpat_commands.specs.Answers.{ArePatternsOf, IsFirstText, IsFirstTextBy, IsUnmatchedByAll, IsUnmatchedByEach, RefusesOneOf, base_of, words_view};
 ghost use Rattle.urlpattern.specs.Errors.{MemoryOr};
 ghost use Rattle.urlpattern.specs.FirstMatch.{patterns_view};
 ghost use Rattle.urlpattern_syntax.specs.declared.error.Error.TheVariants as errors;
@@ -20,9 +20,9 @@ pub fn first_groups(
     input: &str,
     patterns: &[String],
 ) -> Result<Option<String>, Error>
-    ensures found { IfOk result (λ found. MatchOption found (IsUnmatchedByEach (map (λ pattern. string_bytes pattern) patterns.now) input.now (base_of base.now))
-        (λ text. IsFirstText (map (λ pattern. string_bytes pattern) patterns.now) input.now (base_of base.now) (string_bytes text))) }
-    ensures refused { IfErr result (MemoryOr (RefusesOneOf (map (λ pattern. string_bytes pattern) patterns.now) (base_of base.now))) }
+    ensures found { IfOk result (λ found. MatchOption found (IsUnmatchedByEach (words_view patterns.now) input.now (base_of base.now))
+        (λ text. IsFirstText (words_view patterns.now) input.now (base_of base.now) (string_bytes text))) }
+    ensures refused { IfErr result (MemoryOr (RefusesOneOf (words_view patterns.now) (base_of base.now))) }
 {
     let base = base_of(base);
     let list = compiled_list(alloc, patterns, base)?;
@@ -39,8 +39,8 @@ fn compiled_list(
     patterns: &[String],
     base: Option<&str>,
 ) -> Result<UrlPatternList, Error>
-    ensures compiled { IfOk result (λ list. ArePatternsOf (map (λ pattern. string_bytes pattern) patterns.now) (option_copied base.entry) (patterns_view list)) }
-    ensures refused { IfErr result (MemoryOr (RefusesOneOf (map (λ pattern. string_bytes pattern) patterns.now) (option_copied base.entry))) }
+    ensures compiled { IfOk result (λ list. ArePatternsOf (words_view patterns.now) (option_copied base.entry) (patterns_view list)) }
+    ensures refused { IfErr result (MemoryOr (RefusesOneOf (words_view patterns.now) (option_copied base.entry))) }
 {
     let mut list = UrlPatternList::new(alloc);
     for pattern in patterns {

@@ -1,9 +1,9 @@
-use Rattle.std.proofs.Common.{map, take}
-use Rattle.std.specs.Prelude.{option_copied, string_bytes}
-use Rattle.urlpat_commands.specs.Answers.{ArePatternsOf}
+use Rattle.std.proofs.Common.{take}
+use Rattle.std.specs.Prelude.{option_copied}
+use Rattle.urlpat_commands.specs.Answers.{ArePatternsOf, words_view}
 use Rattle.urlpattern.specs.FirstMatch.{patterns_view}
 use Rattle.urlpat_commands.proofs.first.compiled_list.Given as goal
 
 abbrev pub invariant-loop-pattern : goal.invariant-loop-pattern
 invariant-loop-pattern l =
-    ArePatternsOf (map (λ pattern. string_bytes pattern) (take l.pattern-index l.patterns)) (option_copied l.base) (patterns_view l.list)
+    ArePatternsOf (words_view (take l.pattern-index l.patterns)) (option_copied l.base) (patterns_view l.list)
