@@ -6,8 +6,7 @@ use Rattle.std.specs.Borrow.{Bor}
 use Rattle.regex.specs.declared.string.regex.Regex.{Regex}
 use Rattle.std.specs.Prelude.{IsSortedBy, MatchOption, Option, None, Some, String, string_bytes, encode_utf8_all}
 use Rattle.std.specs.declared.alloc.Global.{Global}
-use Rattle.urlpat_commands.specs.Answers.{FailsComponent, IsComponentAnswer, IsComponentFailure, IsComponentText, IsFirstAnswer, IsFirstFailure, IsFirstText, IsMatchAnswer, IsMatchFailure, IsMatchText, IsMatchTextBy, RefusesOneOf, RefusesPatternOf, TellsMatch, base_of, IsPatternOf, IsUnmatched, IsUnmatchedBy, IsUnmatchedByEach, default_pattern_options, words_view}
-use Rattle.urlpat_commands.specs.declared.command.Failure.{Failure}
+use Rattle.urlpat_commands.specs.Answers.{IsFirstAnswer, IsFirstText, IsMatchAnswer, IsMatchFailure, IsMatchText, IsMatchTextBy, RefusesPatternOf, TellsMatch, base_of, IsPatternOf, IsUnmatched, IsUnmatchedBy, IsUnmatchedByEach, default_pattern_options, words_view}
 use Rattle.urlpat_commands.specs.declared.command.Failure.TheVariants as failures
 use Rattle.urlpat_commands.specs.declared.command.Printed.{Printed}
 use Rattle.urlpattern.specs.Errors.{MemoryOr}
@@ -76,18 +75,6 @@ tells_match Matched Unmatched (Some text) answer is matched = inl (subst (λ (to
 
 -- ---- words
 
-pub one_word : (words : List (String Global)) (a : String Global) (rest : List (String Global)) → 1 ≤ length words
-    → a ≡ get_or words 0 a → rest ≡ drop 1 words → words ≡ a ∷ rest
-one_word [] a rest least is_a is_rest = absurd (omega (arith, least))
-one_word (x ∷ others) a rest least is_a is_rest = rw (is_a, is_rest) refl
-
-pub two_words : (words : List (String Global)) (a b : String Global) → 2 ≤ length words → length words < 3
-    → a ≡ get_or words 0 a → b ≡ get_or words 1 b → words ≡ a ∷ b ∷ []
-two_words [] a b least most is_a is_b = absurd (omega (arith, least))
-two_words (x ∷ []) a b least most is_a is_b = absurd (omega (arith, least))
-two_words (x ∷ y ∷ []) a b least most is_a is_b = rw (is_a, is_b) refl
-two_words (x ∷ y ∷ z ∷ rest) a b least most is_a is_b = absurd (omega (arith, most))
-
 pub three_words : (words : List (String Global)) (a b c : String Global) → 3 ≤ length words → length words < 4
     → a ≡ get_or words 0 a → b ≡ get_or words 1 b → c ≡ get_or words 2 c → words ≡ a ∷ b ∷ c ∷ []
 three_words [] a b c least most is_a is_b is_c = absurd (omega (arith, least))
@@ -102,13 +89,6 @@ two_words_and_more [] a b rest least is_a is_b is_rest = absurd (omega (arith, l
 two_words_and_more (x ∷ []) a b rest least is_a is_b is_rest = absurd (omega (arith, least))
 two_words_and_more (x ∷ y ∷ others) a b rest least is_a is_b is_rest = rw (is_a, is_b, is_rest) refl
 
-module _ (words : List (String Global)) (kind pattern : String Global) (are : words ≡ kind ∷ pattern ∷ []) where
-  pub component_answers : (text : List ℕ) → IsComponentText (string_bytes kind) (string_bytes pattern) text → IsComponentAnswer (words_view words) text 0
-  component_answers text told = rw are (told, refl)
-
-  pub component_fails : (failure : Failure) → FailsComponent (string_bytes kind) (string_bytes pattern) failure → IsComponentFailure (words_view words) failure
-  component_fails failure told = rw are told
-
 module _ (words : List (String Global)) (pattern base input : String Global) (are : words ≡ pattern ∷ base ∷ input ∷ []) where
   pub match_answers : (text : List ℕ) (status : ℕ)
       → TellsMatch (IsMatchText (string_bytes pattern) (string_bytes input) (base_of (string_bytes base)) text) (IsUnmatched (string_bytes pattern) (string_bytes input) (base_of (string_bytes base))) text status
@@ -118,14 +98,8 @@ module _ (words : List (String Global)) (pattern base input : String Global) (ar
   pub match_fails : (error : Error) → MemoryOr (RefusesPatternOf (string_bytes pattern) (base_of (string_bytes base))) error → IsMatchFailure (words_view words) (failures.Refused error)
   match_fails error told = rw are told
 
-module _ (words : List (String Global)) (base input : String Global) where
-  pub first_answers : (patterns : List (String Global)) → words ≡ base ∷ input ∷ patterns → 0 < length patterns → (text : List ℕ) (status : ℕ)
-      → TellsMatch (IsFirstText (words_view patterns) (string_bytes input) (base_of (string_bytes base)) text) (IsUnmatchedByEach (words_view patterns) (string_bytes input) (base_of (string_bytes base))) text status
-      → IsFirstAnswer (words_view words) text status
-  first_answers [] are some text status told = absurd (omega (arith, some))
-  first_answers (pattern ∷ patterns) are some text status told = rw are told
-
-  pub first_fails : (patterns : List (String Global)) → words ≡ base ∷ input ∷ patterns → 0 < length patterns → (error : Error)
-      → MemoryOr (RefusesOneOf (words_view patterns) (base_of (string_bytes base))) error → IsFirstFailure (words_view words) (failures.Refused error)
-  first_fails [] are some error told = absurd (omega (arith, some))
-  first_fails (pattern ∷ patterns) are some error told = rw are told
+pub first_answers : (words : List (String Global)) (base input : String Global) (patterns : List (String Global)) → words ≡ base ∷ input ∷ patterns → 0 < length patterns → (text : List ℕ) (status : ℕ)
+    → TellsMatch (IsFirstText (words_view patterns) (string_bytes input) (base_of (string_bytes base)) text) (IsUnmatchedByEach (words_view patterns) (string_bytes input) (base_of (string_bytes base))) text status
+    → IsFirstAnswer (words_view words) text status
+first_answers words base input [] are some text status told = absurd (omega (arith, some))
+first_answers words base input (pattern ∷ patterns) are some text status told = rw are told
