@@ -203,7 +203,7 @@ abbrev pub IsUnmatchedByEach : (patterns : List (List ℕ)) → (input : List �
 IsUnmatchedByEach patterns input base =
     (compiled : List (PatternView Regex)) × ArePatternsOf patterns base compiled × IsUnmatchedByAll compiled input base
 
--- ---- the words behind `component`
+-- ---- the words after `component`
 
 abbrev pub IsComponentAnswer : (words : List (List ℕ)) → (text : List ℕ) → (status : ℕ) → Type 0
 IsComponentAnswer (kind ∷ pattern ∷ []) text status = IsComponentText kind pattern text × (status ≡ 0)
@@ -213,7 +213,7 @@ abbrev pub IsComponentFailure : (words : List (List ℕ)) → Failure → Type 0
 IsComponentFailure (kind ∷ pattern ∷ []) failure = FailsComponent kind pattern failure
 IsComponentFailure words failure = failure ≡ failures.Usage
 
--- ---- the words behind `match`
+-- ---- the words after `match`
 
 -- the answer tells a match, with the status 0, or that there is none, with 1
 abbrev pub TellsMatch : (Matched Unmatched : Type 0) → (text : List ℕ) → (status : ℕ) → Type 0
@@ -233,7 +233,7 @@ abbrev pub IsMatchFailure : (words : List (List ℕ)) → Failure → Type 0
 IsMatchFailure (pattern ∷ base ∷ input ∷ []) failure = IsRefusal (RefusesPatternOf pattern (base_of base)) failure
 IsMatchFailure words failure = failure ≡ failures.Usage
 
--- ---- the words behind `first`
+-- ---- the words after `first`
 
 abbrev pub IsFirstAnswer : (words : List (List ℕ)) → (text : List ℕ) → (status : ℕ) → Type 0
 IsFirstAnswer (base ∷ input ∷ pattern ∷ patterns) text status =

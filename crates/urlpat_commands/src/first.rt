@@ -13,7 +13,7 @@ use urlpattern::{Error, UrlPatternList};
 /// A line with the index of the first pattern that matches an input, and a line for each group of the match. `None`: no
 /// pattern matches it.
 ///
-/// The error is why the first pattern that is refused, or its base, is so, or that memory ran out.
+/// The error is why a pattern or its base is refused, that of the first one that is, or that memory ran out.
 pub fn first_groups(
     alloc: Global,
     base: &str,
@@ -33,7 +33,7 @@ pub fn first_groups(
 
 /// The patterns of constructor strings, in their order.
 ///
-/// The error is why the first that is refused, or its base, is so, or that memory ran out.
+/// The error is why a pattern or its base is refused, that of the first one that is, or that memory ran out.
 fn compiled_list(
     alloc: Global,
     patterns: &[String],
