@@ -37,17 +37,21 @@ HostnameFor Is =
 abbrev UserinfoFor : (Is : Components → Type 0) → Type 0
 UserinfoFor Is = (username password : Option (List ℕ)) × ((c : Components) → Is (record c { username = username; password = password }))
 
-abbrev nothing : Components
-nothing = record {
-  protocol = None;
-  username = None;
-  password = None;
-  hostname = None;
-  port = None;
-  pathname = None;
-  search = None;
-  hash = None;
+-- this for each component
+abbrev each : Option (List ℕ) → Components
+each one = record {
+  protocol = one;
+  username = one;
+  password = one;
+  hostname = one;
+  port = one;
+  pathname = one;
+  search = one;
+  hash = one;
 }
+
+abbrev nothing : Components
+nothing = each None
 
 module _ (text : List ℕ) (tokens : List TokenView) (are_tokens : AreLenientTokens text tokens) where
   closed : IsClosed tokens
