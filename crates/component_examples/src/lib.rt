@@ -1,5 +1,5 @@
 //! Examples of the layers below whole patterns, beside the recorded cases that `bench` replays: plain types, long
-//! patterns, a component without a pattern, and calls for which memory may run out. It holds tests alone.
+//! patterns, a component without a pattern, the normal form of parts, and calls for which memory may run out. It holds tests alone.
 #![tactic(auto)]
 
 #[cfg(test)]
@@ -12,6 +12,8 @@ mod kept_text;
 mod long_texts;
 #[cfg(test)]
 mod matchers;
+#[cfg(test)]
+mod normal;
 #[cfg(test)]
 mod parts;
 #[cfg(test)]

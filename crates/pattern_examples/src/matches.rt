@@ -2,7 +2,7 @@
 
 use crate::components::path_of;
 use crate::facts::{Groups, Told, expect_match, expect_no_match, expect_path};
-use crate::inits::url_input;
+use crate::inits::{init_of, url_input};
 use regex::Regex;
 use std::alloc::Global;
 use std::process::Abort;
@@ -115,6 +115,32 @@ fn an_error_in_place_of_an_engine_matches_nothing(rt: HostRuntime) -> Result<(),
     let input = url_input(alloc, "https://example.com/")?;
     let pathname = by_hand(alloc, Vec::new(alloc), Err(Error::RegExp(())));
     expect_no_match(&rt, alloc, with_pathname(alloc, pathname)?, input)?;
+    Ok(())
+}
+
+/// The group `id` of a path, where the pattern of this path is compiled for one URL.
+fn id_once(alloc: Global, pathname: &str, url: &str) -> Result<Option<String>, Error> {
+    let init = init_of(alloc, &[("pathname", pathname)])?;
+    let input = url_input(alloc, url)?;
+    let options = UrlPatternOptions::default();
+    let Some(found) = <UrlPattern>::exec_once(alloc, init, options, input)? else {
+        return Ok(None);
+    };
+    let id = match found.pathname.groups.get("id") {
+        Some(Some(id)) => id.clone(),
+        _ => Ok(String::new(alloc)),
+    };
+    drop(found);
+    Ok(Some(id?))
+}
+
+#[test]
+fn a_pattern_is_matched_once(rt: HostRuntime) -> Result<(), Fail> {
+    let alloc = rt.alloc();
+    let found = id_once(alloc, "/users/:id", "https://example.com/users/123")?;
+    assert_eq!(rt; found.as_deref(), Some("123"));
+    assert!(rt; id_once(alloc, "/users/:id", "https://example.com/x")?.is_none());
+    assert!(rt; matches!(id_once(alloc, "}:", "https://example.com/x"), Err(Error::Tokenizer(_, 1))));
     Ok(())
 }
 

@@ -9,7 +9,7 @@ use Rattle.std.specs.declared.alloc.Global.{Global}
 use Rattle.urlpat_commands.specs.Answers.{IsAnswer, IsComponentFailure, IsComponentText, IsFailure, IsMatchText, IsMatchTextBy, RefusesPatternOf, base_of, IsPatternOf, IsUnmatched, IsUnmatchedBy, default_pattern_options}
 use Rattle.urlpat_commands.specs.declared.command.Failure.{Failure}
 use Rattle.urlpat_commands.specs.declared.command.Failure.TheVariants as failures
-use Rattle.urlpattern.specs.Parsing.{MemoryOr}
+use Rattle.urlpattern.specs.Errors.{MemoryOr}
 use Rattle.urlpattern.specs.Patterns.{PatternView}
 use Rattle.urlpattern.specs.Text.{text_of}
 use Rattle.urlpattern_inputs.specs.declared.options.UrlPatternOptions.{UrlPatternOptions}

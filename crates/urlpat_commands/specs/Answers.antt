@@ -1,5 +1,5 @@
 -- What the program answers to its words, and what it refuses. Words and texts are bytes.
-use Rattle.std.specs.Prelude.{◌≡◌, ◌⊎◌, ◌++◌, ⊤, ℕ, false, if◌then◌else◌, List, [], ◌∷◌, length, map, max, codes, bytes_eq, IsPermutation, IsSorted, Option, None, Some, Result, Ok, Err, String, string_bytes, string_eq, encode_utf8_all}
+use Rattle.std.specs.Prelude.{◌≡◌, ◌≢◌, ◌⊎◌, All, ◌++◌, ⊤, ℕ, false, if◌then◌else◌, List, [], ◌∷◌, length, map, max, codes, bytes_eq, IsPermutation, IsSorted, Option, None, Some, Result, Ok, Err, String, string_bytes, string_eq, encode_utf8_all}
 use Rattle.std.specs.Cmp.Lexicographic.{slice_cmp}
 use Rattle.std.specs.HashMap.{IsUnique, get_by_text, keys}
 use Rattle.std.specs.List.{flat_map}
@@ -13,17 +13,21 @@ use Rattle.urlpat_commands.specs.Kinds.{IsKind, IsNamed}
 use Rattle.urlpat_commands.specs.Report.{component_lines, group_line}
 use Rattle.urlpattern.specs.Compiled.{Compiles, IsCompiled, RefusesPattern}
 use Rattle.urlpattern.specs.Compiling.{IsCompiledFrom}
+use Rattle.urlpattern.specs.Dialect.{HasMeaningOf}
 use Rattle.urlpattern.specs.Engines.{IsRegexOf, regex_answer}
 use Rattle.urlpattern.specs.Errors.{ErrorView}
-use Rattle.urlpattern.specs.Inputs.{IsInitOfString, IsRefusedByUrl, RefusesText, parsed_text, text_bytes}
+use Rattle.urlpattern.specs.Canonical.{IsRefusedByUrl}
+use Rattle.urlpattern.specs.Inputs.{IsInitOfString, RefusesText, parsed_text, text_bytes}
+use Rattle.urlpattern.specs.Laws.{Answered, listed}
 use Rattle.urlpattern.specs.Match.{HasNoMatch, IsMatch, result_view}
 use Rattle.urlpattern.specs.Options.{OptionsView}
-use Rattle.urlpattern.specs.Parsing.{MemoryOr}
+use Rattle.urlpattern.specs.Errors.{MemoryOr}
 use Rattle.urlpattern.specs.Parts.{PartView}
 use Rattle.urlpattern.specs.Patterns.{PatternView}
-use Rattle.urlpattern.specs.Printing.{printed}
+use Rattle.urlpattern.specs.Printing.{Keeps, printed}
 use Rattle.urlpattern.specs.Reading.{Encoding, Reads, Refuses, encoding_of}
 use Rattle.urlpattern.specs.RegexpText.{group_names, regexp_text}
+use Rattle.urlpattern.specs.RoundTrip.{IsPrintable, ReadsBack}
 use Rattle.urlpattern_init.specs.declared.init.UrlPatternInit.{UrlPatternInit}
 use Rattle.urlpattern_init.specs.declared.init.UrlPatternMatchInput.{UrlPatternMatchInput}
 use Rattle.urlpattern_init.specs.declared.init.UrlPatternMatchInput.TheVariants as match_inputs
@@ -32,6 +36,7 @@ use Rattle.urlpattern_pattern.specs.declared.pattern.result.UrlPatternComponentR
 use Rattle.urlpattern_pattern.specs.declared.pattern.result.UrlPatternResult.{UrlPatternResult}
 use Rattle.urlpattern_syntax.specs.declared.error.Error.{Error}
 use Rattle.urlpattern_syntax.specs.declared.error.Error.TheVariants as errors
+use Rattle.urlpattern_syntax.specs.declared.parser.PartType.TheVariants.{Regexp}
 use Rattle.urlpattern_syntax.specs.declared.parser.RegexSyntax.TheVariants.{Rust}
 
 -- ---- what a component is compiled to
@@ -44,12 +49,16 @@ IsCopy bytes (Err error) = error ≡ errors.OutOfMemory
 abbrev pub kept : Encoding
 kept = encoding_of IsCopy
 
--- The text tells what the pattern is compiled to under the options of that name, its fixed texts kept as they are.
+-- The text tells what the pattern is compiled to under the options of that name, its fixed texts kept as they are: the names
+-- of the parts that it reads as, a regular expression that means what these parts mean, and a pattern that reads back.
 pub record IsComponentText (kind pattern text : List ℕ) : Type 0 where
   pub options : OptionsView
   pub parts : List PartView
   pub is_named : IsNamed kind options
   pub reads : Reads (chars pattern) options kept parts
+  pub means : All (λ part. part.kind ≢ Regexp) parts → HasMeaningOf (regexp_text options parts) options parts
+  pub reads_back : (answers : Answered) → IsPrintable options parts → Keeps (listed answers) parts
+      → ReadsBack (printed options parts) options (listed answers) parts
   pub is_text : text ≡ component_lines (map encode_utf8_all (group_names parts)) (encode_utf8_all (regexp_text options parts)) (encode_utf8_all (printed options parts))
 
 -- The pattern is refused with this error under the options of that name.

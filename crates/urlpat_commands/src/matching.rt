@@ -6,7 +6,7 @@ ghost use Rattle.std.specs.Ordering.{nat_cmp};
 ghost use Rattle.std.specs.Prelude.{◌≡◌, ◌++◌, ℕ, List, map, option_copied, string_bytes, string_eq, IfErr, IfOk, IsPermutation, IsSorted, MatchOption, OnOk};
 ghost use Rattle.urlpat_commands.specs.Answers.{AreGroupLines, AreLines, IsMatchText, IsMatchTextBy, IsPatternOf, IsRefusedText, IsUnmatched, IsUnmatchedBy, IsUrlOf, RefusesPatternOf, base_of, capture_of, components_of};
 ghost use Rattle.urlpat_commands.specs.Report.{group_line};
-ghost use Rattle.urlpattern.specs.Parsing.{MemoryOr};
+ghost use Rattle.urlpattern.specs.Errors.{MemoryOr};
 ghost use Rattle.urlpattern.specs.Patterns.{pattern_view};
 ghost use Rattle.urlpattern_syntax.specs.declared.error.Error.TheVariants as errors;
 

@@ -1,10 +1,9 @@
 -- The inputs of a browser: what a pattern is constructed from, and what it is matched against, after the URLPattern
 -- Standard, sections "Constructor", and "Matching", at "match".
-use Rattle.std.specs.Prelude.{◌≡◌, ⊤, ℕ, ◌≤◌, ◌⊎◌, List, [], length, max, Option, None, Some, Ok, Err, String, option_map, string_bytes, unwrap_or}
+use Rattle.std.specs.Prelude.{◌≡◌, ⊤, ℕ, ◌⊎◌, List, [], length, max, Option, None, Some, Ok, String, option_map, string_bytes, unwrap_or}
 use Rattle.std.specs.Cow.{cow_str_bytes}
 use Rattle.std.specs.Str.{chars}
 use Rattle.std.specs.declared.alloc.Global.{Global}
-use Rattle.url.specs.declared.error.ParseError.{ParseError}
 use Rattle.url.specs.Parser.{Parsed, and_then, parse_url}
 use Rattle.url.specs.Parts.{Parts}
 use Rattle.urlpattern_init.specs.ConstructorString.{HasProtocolOrBase, RefusesString, SplitsInto, init_components}
@@ -13,7 +12,7 @@ use Rattle.urlpattern_init.specs.SpecialProtocol.{IsSpecialBy}
 use Rattle.urlpattern_init.specs.declared.init.UrlPatternInit.{UrlPatternInit}
 use Rattle.urlpattern_init.specs.declared.init.UrlPatternMatchInput.{UrlPatternMatchInput}
 use Rattle.urlpattern_init.specs.declared.init.UrlPatternMatchInput.TheVariants as match_inputs
-use Rattle.urlpattern_canonical.specs.Canonical.{Tells, long_text}
+use Rattle.urlpattern_canonical.specs.Canonical.{IsRefusedByUrl, Tells}
 use Rattle.urlpattern_core.specs.Engines.{IsRegexOf, regex_answer}
 use Rattle.urlpattern_inputs.specs.declared.init.UrlPatternInit.{UrlPatternInit as PlainInit}
 use Rattle.urlpattern_inputs.specs.declared.input.StringOrInit.{StringOrInit}
@@ -105,10 +104,6 @@ pub record AreInputs (input : StringOrInit) (base : Option (List ℕ)) (again : 
 -- what was found to match against, and the input again
 abbrev pub IsFound : StringOrInit → (base : Option (List ℕ)) → UrlPatternMatchInput × (StringOrInit × Option (String Global)) → Type 0
 IsFound input base found = IsMatchInput input base found.0 × AreInputs input base found.1
-
--- `url` refuses a text, or the texts are too long
-abbrev pub IsRefusedByUrl : {T : Type 0} → Parsed T → (bytes : ℕ) → Type 0
-IsRefusedByUrl asked bytes = ((reason : ParseError) × (asked ≡ Err reason)) ⊎ (long_text ≤ bytes)
 
 -- the input is none that a pattern may be matched against
 abbrev pub IsNoInputOf : StringOrInit → (base : Option (List ℕ)) → Type 0

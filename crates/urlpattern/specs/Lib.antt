@@ -33,6 +33,7 @@ pub use Rattle.urlpattern_pattern.specs.Compiled
 pub use Rattle.urlpattern_pattern.specs.Eight
 pub use Rattle.urlpattern_pattern.specs.Match
 pub use Rattle.urlpattern_pattern.specs.MatchInput
+pub use Rattle.urlpattern_pattern.specs.Meaning
 pub use Rattle.urlpattern_pattern.specs.Patterns
 pub use Rattle.urlpattern_inputs.specs.InputJson
 pub use Rattle.urlpattern_inputs.specs.InputValues

@@ -1,11 +1,72 @@
--- What becomes of a pattern text.
-use Rattle.std.specs.Prelude.{ℕ, List, Result, Ok, Err}
+-- The sentences of the main theorem. Where one speaks of an encoding, it is any list of texts with their answers.
+use Rattle.std.specs.Prelude.{◌≡◌, ◌≢◌, ◌↔◌, ◌⊎◌, ℕ, List, All, length, Option, Result}
+use Rattle.urlpattern_init.specs.declared.init.UrlPatternMatchInput.{UrlPatternMatchInput}
+use Rattle.urlpattern_init.specs.declared.init.processing.Component.{Component}
+use Rattle.urlpattern_laws.specs.Dialect.{IsOnlyTreeOf, IsTreeOf, Items, Means}
+use Rattle.urlpattern_laws.specs.Laws.{Answered, AnswersOnce, HasOutcome, HasSomeOutcome, LacksAnswer, Outcome, listed}
+use Rattle.urlpattern_laws.specs.Matching.{AnswersByMeaning, IsMadeOf, MatcherView}
+use Rattle.urlpattern_laws.specs.PartMeaning.{Captures, PartsMean}
+use Rattle.urlpattern_laws.specs.Printing.{Keeps, joined, printed}
+use Rattle.urlpattern_laws.specs.RoundTrip.{WereRead}
+use Rattle.urlpattern_pattern.specs.Match.{HasMatch, HasNoMatch, IsLongInput, IsMatch, ResultView}
+use Rattle.urlpattern_pattern.specs.Patterns.{PatternView}
+use Rattle.urlpattern_syntax.specs.declared.parser.PartType.TheVariants.{Regexp}
 use Rattle.urlpattern_syntax.specs.Errors.{ErrorView}
 use Rattle.urlpattern_syntax.specs.Options.{OptionsView}
 use Rattle.urlpattern_syntax.specs.Parts.{PartView}
-use Rattle.urlpattern_syntax.specs.Reading.{Encoding, Reads, Refuses}
+use Rattle.urlpattern_syntax.specs.Reading.{Reads, Refuses}
+use Rattle.urlpattern_syntax.specs.RegexpText.{group_names, regexp_text}
 
--- the text reads as these parts, or is refused with this error
-abbrev pub HasOutcome : (text : List ℕ) → OptionsView → Encoding → Result (List PartView) ErrorView → Type 0
-HasOutcome text options encoding (Ok parts) = Reads text options encoding parts
-HasOutcome text options encoding (Err error) = Refuses text options encoding error
+-- none of the parts is a custom regular expression
+abbrev pub AreGenerated : List PartView → Type 0
+AreGenerated parts = All (λ part. part.kind ≢ Regexp) parts
+
+-- A text has an outcome, parts or an error, or else it asks the encoding about a text to which that has no answer. It has one
+-- outcome at most where the encoding has one answer at most to each text.
+abbrev pub OneReading : Type 0
+OneReading = (text : List ℕ) (options : OptionsView) (answers : Answered) →
+    (HasSomeOutcome text options (listed answers) ⊎ LacksAnswer text options (listed answers))
+    × ((outcome other : Outcome) → AnswersOnce (listed answers) →
+    HasOutcome text options (listed answers) outcome → HasOutcome text options (listed answers) other → outcome ≡ other)
+
+-- The regular expression of parts has one tree.
+abbrev pub OneTree : Type 0
+OneTree = (options : OptionsView) (parts : List PartView) →
+    AreGenerated parts → (tree : Items) × IsOnlyTreeOf (regexp_text options parts) tree
+
+-- This tree means a text with captures exactly where the parts do.
+abbrev pub TreesMeanTheParts : Type 0
+TreesMeanTheParts = (options : OptionsView) (parts : List PartView) (tree : Items) (text : List ℕ) (captures : Captures) →
+    AreGenerated parts → IsTreeOf (regexp_text options parts) tree →
+    Means tree text captures ↔ PartsMean options parts text captures
+
+-- The captures of a meaning are as many as the names of the parts.
+abbrev pub CapturesHaveNames : Type 0
+CapturesHaveNames = (options : OptionsView) (parts : List PartView) (text : List ℕ) (captures : Captures) →
+    PartsMean options parts text captures → length captures ≡ length (group_names parts)
+
+-- A matcher that is made of parts answers what they mean.
+abbrev pub MatchersAnswerByMeaning : {E : Type 0} → (IsMade : E → (regexp flags : List ℕ) → Type 0) → (MayRefuse : (regexp flags : List ℕ) → Type 0) → (answer : E → List ℕ → Option Captures) → Type 0
+MatchersAnswerByMeaning {E} IsMade MayRefuse answer =
+    (options : OptionsView) (flags : List ℕ) (parts : List PartView) (matcher : MatcherView E) →
+    IsMadeOf IsMade MayRefuse options flags parts matcher → AnswersByMeaning answer options parts matcher
+
+-- The printed pattern of parts that were read reads as these parts, joined.
+abbrev pub PrintedReadsBack : Type 0
+PrintedReadsBack = (text : List ℕ) (options : OptionsView) (first answers : Answered) (parts : List PartView) →
+    WereRead text options (listed first) parts → Keeps (listed answers) parts →
+    Reads (printed options parts) options (listed answers) (joined parts)
+
+-- It reads as no other parts, and is not refused.
+abbrev pub PrintedReadsAsNothingElse : Type 0
+PrintedReadsAsNothingElse = (text : List ℕ) (options : OptionsView) (first answers : Answered) (parts : List PartView) →
+    WereRead text options (listed first) parts → Keeps (listed answers) parts →
+    ((others : List PartView) → Reads (printed options parts) options (listed answers) others → others ≡ joined parts)
+    × ((error : ErrorView) → ¬ Refuses (printed options parts) options (listed answers) error)
+
+-- A pattern has a match on an input exactly where there are eight texts and each matcher accepts its own. Where there is
+-- one, no match is only found of an input that is longer than `url` is sure to take.
+abbrev pub ExecutesByMatchers : {E : Type 0} → (answer : E → List ℕ → Option Captures) → Type 0
+ExecutesByMatchers {E} answer = (pattern : PatternView E) (input : UrlPatternMatchInput) →
+    (((result : Component → ResultView) × IsMatch answer pattern input result) ↔ HasMatch answer pattern input)
+    × (HasMatch answer pattern input → HasNoMatch answer pattern input → IsLongInput input)

@@ -1,87 +1,90 @@
 -- Lemmas on canonical values.
 use Rattle.std.proofs.Common.{◌≡◌, ◌≢◌, ℕ, Bool, true, false, ◌==◌, ◌≤◌, ◌<◌, ◌⊎◌, List, [], ◌∷◌, ◌++◌, length, length-append, codes, Ok, Err, String, string_bytes, subst, refl, sym, ap, ◌∙◌, arith, inl, inr}
+use Rattle.std.proofs.lemmas.Bool.{cases_lt, le-ltb, lt-ltb}
 use Rattle.std.proofs.lemmas.Str.{byte_from_char, len_utf8_bounds, length-encode, char_from_byte, chars-nil, encodes-chars}
 use Rattle.std.specs.Prelude.{encode_utf8_all, option_copied, option_map, slice_index, if◌then◌else◌, unwrap_or, IfErr, IfOk, IsErrAnd, MatchResult, Option, None, Some, Result}
 use Rattle.std.specs.Borrow.{Bor}
 use Rattle.std.specs.Char.{encode_utf8}
 use Rattle.std.specs.Str.{chars, IsUtf8}
 use Rattle.std.specs.declared.alloc.Global.{Global}
+use Rattle.url.specs.Ascii.{slash}
 use Rattle.url.proofs.OnLiterals.{url_on_literals}
 use Rattle.url.specs.declared.error.ParseError.{ParseError}
 use Rattle.url.specs.declared.error.ParseError.TheVariants.{Overflow, OutOfMemory}
 use Rattle.url.specs.Parser.{Gives, GivesBy, IsOutOfRoom, Parsed, and_then, parse_url}
 use Rattle.url.specs.Parts.{Parts}
-use Rattle.urlpattern_canonical.specs.Asking.{IsRefusal, IsToldAs, Told}
-use Rattle.urlpattern_canonical.specs.Canonical.{IsAnswer, Tells, after, canonical, dummy_url, long_text, path_of, pathname_of, scheme_for_port, told_as, without_guard}
+use Rattle.urlpattern_canonical.specs.Asking.{reported_as}
+use Rattle.urlpattern_canonical.specs.Canonical.{IsAnswer, Tells, after, canonical, dummy_url, long_text, path_of, pathname_of, reported, scheme_for_port, told_as, without_guard}
 use Rattle.urlpattern_syntax.proofs.TextLemmas.{chars-empty}
 use Rattle.urlpattern_syntax.specs.declared.error.Error.{Error}
 use Rattle.urlpattern_syntax.specs.declared.error.Error.TheVariants as errors
 use Rattle.urlpattern_syntax.specs.declared.error.ParserError.TheVariants as parser_errors
 use Rattle.urlpattern_syntax.specs.Errors.{ErrorView, error_view}
 use Rattle.urlpattern_syntax.specs.Errors.{ErrorView as views}
-use Rattle.urlpattern_syntax.specs.Parsing.{MemoryOr}
+use Rattle.urlpattern_syntax.specs.Errors.{MemoryOr}
 use Rattle.urlpattern_syntax.specs.Text.{begins_with, text_of}
 
 -- ---- refusals
 
--- a refusal of a step is one of the whole question
-tells_view : {T U : Type 0} (asked : Parsed T) (whole : Parsed U) (reason : ParseError) (bytes : ℕ) (error : ErrorView)
-    → (asked ≡ Err reason → whole ≡ Err reason) → (asked ≡ Err reason) ⊎ IsOutOfRoom reason → IsRefusal reason bytes error
-    → Tells whole bytes error
-tells_view asked whole reason bytes error step gives refusal =
+reported_short : (bytes : ℕ) → bytes < long_text → reported Overflow bytes ≡ views.OutOfMemory
+reported_short bytes short = ap (λ is_short. if is_short then views.OutOfMemory else views.Url Overflow) (lt-ltb bytes long_text short)
+
+reported_long : (bytes : ℕ) → long_text ≤ bytes → reported Overflow bytes ≡ views.Url Overflow
+reported_long bytes long = ap (λ is_short. if is_short then views.OutOfMemory else views.Url Overflow) (le-ltb bytes long_text long)
+
+overflow_is_no_want_of_memory : Overflow ≢ OutOfMemory
+overflow_is_no_want_of_memory same = cc
+
+-- an overflow is want of memory, or an error of any question about so many bytes
+overflow_tells : {T : Type 0} (whole : Parsed T) (bytes : ℕ) (error : Error) → error_view error ≡ reported Overflow bytes → MemoryOr (Tells whole bytes) error
+overflow_tells whole bytes error is =
     let Holds : ErrorView → Type 0 = λ view. Tells whole bytes view in
-    let why : (whole ≡ Err reason) ⊎ ((reason ≡ Overflow) × (long_text ≤ bytes)) =
+    elim (cases_lt bytes long_text) [
+      | inl short ↦ inl (is ∙ reported_short bytes short)
+      | inr long ↦ inr (subst Holds (sym (is ∙ reported_long bytes long)) (overflow_is_no_want_of_memory, inr (refl, long)))
+    ]
+
+-- a refusal that is neither is the question's own
+refused_by : {T : Type 0} (asked : Parsed T) (reason : ParseError) → reason ≢ OutOfMemory → reason ≢ Overflow
+    → (asked ≡ Err reason) ⊎ IsOutOfRoom reason → asked ≡ Err reason
+refused_by asked reason is_other is_no_overflow gives =
     elim gives [
-      | inl refused ↦ inl (step refused)
-      | inr room ↦ elim room [ inl memory ↦ absurd (refusal.1 memory) | inr long ↦ inr (long, refusal.2 long) ]
+      | inl refused ↦ refused
+      | inr room ↦ elim room [ inl memory ↦ absurd (is_other memory) | inr long ↦ absurd (is_no_overflow long) ]
     ]
-    in
-    subst Holds (sym refusal.0) (refusal.1, why)
 
+url_tells : {T : Type 0} (whole : Parsed T) (reason : ParseError) (bytes : ℕ) (error : Error) → reason ≢ OutOfMemory → whole ≡ Err reason
+    → error_view error ≡ views.Url reason → MemoryOr (Tells whole bytes) error
+url_tells whole reason bytes error is_other refused is =
+    let Holds : ErrorView → Type 0 = λ view. Tells whole bytes view in inr (subst Holds (sym is) (is_other, inl refused))
+
+-- a refusal of a step is one of the whole question
 tells : {T U : Type 0} (asked : Parsed T) (whole : Parsed U) (reason : ParseError) (bytes : ℕ) (error : Error)
-    → (asked ≡ Err reason → whole ≡ Err reason) → (asked ≡ Err reason) ⊎ IsOutOfRoom reason → Told reason bytes (IsRefusal reason bytes) error
+    → (asked ≡ Err reason → whole ≡ Err reason) → (asked ≡ Err reason) ⊎ IsOutOfRoom reason → error_view error ≡ reported reason bytes
     → MemoryOr (Tells whole bytes) error
-tells asked whole reason bytes error step gives told =
-    elim told [ inl memory ↦ inl memory.0 | inr refusal ↦ inr (tells_view asked whole reason bytes (error_view error) step gives refusal) ]
+tells asked whole OutOfMemory bytes error step gives is = inl is
+tells asked whole Overflow bytes error step gives is = overflow_tells whole bytes error is
+tells asked whole reason bytes error step gives is =
+    url_tells whole reason bytes error (λ same. cc) (step (refused_by asked reason (λ same. cc) (λ same. cc) gives)) is
 
--- the same where the refusal is told as another
-tells_as_view : {T U : Type 0} (asked : Parsed T) (whole : Parsed U) (reason other : ParseError) (bytes : ℕ) (error : ErrorView)
-    → reason ≢ OutOfMemory → (told_as reason asked ≡ Err reason → whole ≡ Err reason) → (asked ≡ Err other) ⊎ IsOutOfRoom other
-    → IsToldAs reason other bytes error → Tells whole bytes error
-tells_as_view asked whole reason other bytes error proper step gives told =
-    let Holds : ErrorView → Type 0 = λ view. Tells whole bytes view in
-    elim told [
-      | inl as_other ↦
-          let refused : asked ≡ Err other =
-          elim gives [
-            | inl refused ↦ refused
-            | inr room ↦ elim room [ inl memory ↦ absurd (as_other.1 memory) | inr long ↦ absurd (as_other.2 long) ]
-          ]
-          in
-          subst Holds (sym as_other.0) (proper, inl (step (ap (told_as reason) refused)))
-      | inr long ↦ subst Holds (sym long.0) (overflow_is_no_want_of_memory, inr (refl, long.2))
-    ]
-  where
-    overflow_is_no_want_of_memory : Overflow ≢ OutOfMemory
-    overflow_is_no_want_of_memory same = cc
-
+-- the same where each refusal is reported as another
 tells_as : {T U : Type 0} (asked : Parsed T) (whole : Parsed U) (reason other : ParseError) (bytes : ℕ) (error : Error)
     → reason ≢ OutOfMemory → (told_as reason asked ≡ Err reason → whole ≡ Err reason) → (asked ≡ Err other) ⊎ IsOutOfRoom other
-    → Told other bytes (IsToldAs reason other bytes) error → MemoryOr (Tells whole bytes) error
-tells_as asked whole reason other bytes error proper step gives told =
-    elim told [
-      | inl memory ↦ inl memory.0
-      | inr as_other ↦ inr (tells_as_view asked whole reason other bytes (error_view error) proper step gives as_other)
-    ]
+    → error_view error ≡ reported_as reason other bytes → MemoryOr (Tells whole bytes) error
+tells_as asked whole reason OutOfMemory bytes error proper step gives is = inl is
+tells_as asked whole reason Overflow bytes error proper step gives is = overflow_tells whole bytes error is
+tells_as asked whole reason other bytes error proper step gives is =
+    url_tells whole reason bytes error proper
+    (step (ap (told_as reason) (refused_by asked other (λ same. cc) (λ same. cc) gives))) is
 
 -- what `told` makes of an answer
 abbrev pub Tell : {T : Type 0} → Parsed T → (bytes : ℕ) → Result T Error → Type 0
-Tell answer bytes result = MatchResult answer (λ found. result ≡ Ok found) (λ reason. IsErrAnd result (Told reason bytes (IsRefusal reason bytes)))
+Tell answer bytes result = MatchResult answer (λ found. result ≡ Ok found) (λ reason. IsErrAnd result (λ error. error_view error ≡ reported reason bytes))
 
 -- what `told_as` makes of one
 abbrev pub TellAs : {T : Type 0} → ParseError → Parsed T → (bytes : ℕ) → Result T Error → Type 0
 TellAs reason answer bytes result =
-    MatchResult answer (λ found. result ≡ Ok found) (λ other. IsErrAnd result (Told other bytes (IsToldAs reason other bytes)))
+    MatchResult answer (λ found. result ≡ Ok found) (λ other. IsErrAnd result (λ error. error_view error ≡ reported_as reason other bytes))
 
 -- what is told of an answer that is seen by `view`
 pub told-ok : {T U : Type 0} (view : T → U) (answer : Parsed T) (asked : Parsed U) (bytes : ℕ) (result : Result T Error) (value : T)
@@ -270,14 +273,14 @@ begins_with-chars mark bytes some ascii u = first_byte mark (chars bytes) bytes 
 
 -- ---- the two ways of a path
 
-pub pathname_of-slash : (value : List ℕ) → (slice_index value 0 == slice_index (codes "/") 0) ≡ true → pathname_of value ≡ path_of dummy_url value
+pub pathname_of-slash : (value : List ℕ) → (slice_index value 0 == slash) ≡ true → pathname_of value ≡ path_of dummy_url value
 pathname_of-slash value slash =
     ap
     (λ test. if test then path_of dummy_url value
     else and_then (path_of dummy_url (codes "/-" ++ value)) (λ path. Ok (without_guard path)))
     slash
 
-pub pathname_of-bare : (value : List ℕ) → (slice_index value 0 == slice_index (codes "/") 0) ≡ false
+pub pathname_of-bare : (value : List ℕ) → (slice_index value 0 == slash) ≡ false
     → pathname_of value ≡ and_then (path_of dummy_url (codes "/-" ++ value)) (λ path. Ok (without_guard path))
 pathname_of-bare value bare =
     ap

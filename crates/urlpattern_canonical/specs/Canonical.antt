@@ -1,7 +1,7 @@
 -- Canonical values: what `url` answers to a question about a value, after the URLPattern Standard, section
 -- "Canonicalization", with the values of an init, section "Processing". A text is a list of characters; `url` is asked
 -- and answers in bytes.
-use Rattle.std.specs.Prelude.{◌≡◌, ◌≢◌, ℕ, ◌^◌, ◌≤◌, ◌⊎◌, Bool, true, false, ◌||◌, ◌==◌, List, [], ◌∷◌, ◌++◌, drop, map, nat_eq, codes, encode_utf8_all, slice_index, bytes_eq, Option, Some, None, unwrap_or, Result, Ok, Err, MatchResult, String, if◌then◌else◌}
+use Rattle.std.specs.Prelude.{◌≡◌, ◌≢◌, ℕ, ◌^◌, ◌≤◌, ◌⊎◌, Bool, true, false, ◌||◌, ◌==◌, ltb, List, [], ◌∷◌, ◌++◌, drop, map, nat_eq, codes, encode_utf8_all, slice_index, bytes_eq, Option, Some, None, unwrap_or, Result, Ok, Err, MatchResult, String, if◌then◌else◌}
 use Rattle.std.specs.Char.{is_ascii_hexdigit, to_ascii_lowercase}
 use Rattle.std.specs.List.{list_all, starts_with}
 use Rattle.std.specs.Str.{chars}
@@ -9,6 +9,7 @@ use Rattle.std.specs.declared.alloc.Global.{Global}
 use Rattle.url.specs.declared.error.ParseError.{ParseError}
 use Rattle.url.specs.declared.error.ParseError.TheVariants.{InvalidDomainCharacter, InvalidIpv6Address, InvalidPort, Overflow, OutOfMemory}
 use Rattle.url.specs.declared.slicing.Position.TheVariants.{BeforePort, AfterPort}
+use Rattle.url.specs.Ascii.{colon, number_sign, question_mark, slash}
 use Rattle.url.specs.Host.{host_text}
 use Rattle.url.specs.Parser.{Parsed, and_then, parse_url}
 use Rattle.url.specs.Parts.{Parts, host_or_empty, text_between}
@@ -20,7 +21,7 @@ use Rattle.urlpattern_laws.specs.Printing.{escaped_pattern}
 use Rattle.urlpattern_syntax.specs.declared.error.Error.{Error}
 use Rattle.urlpattern_syntax.specs.Errors.{ErrorView}
 use Rattle.urlpattern_syntax.specs.Errors.{ErrorView as views}
-use Rattle.urlpattern_syntax.specs.Parsing.{MemoryOr}
+use Rattle.urlpattern_syntax.specs.Errors.{MemoryOr}
 use Rattle.urlpattern_syntax.specs.Text.{begins_with, is_among, text_of}
 
 -- ---- what `url` is asked: each question is about the bytes of a value that is not empty
@@ -70,14 +71,14 @@ port_of scheme value =
 abbrev pub path_of : Parsed Parts → List ℕ → Parsed (List ℕ)
 path_of url value = after url (λ old. Ok (set_path old value)) (λ new. new.path)
 
--- the path without `/-` at its front
+-- the path without `/-` at its front, which the Rust crate removes by these two characters; the standard removes any two
 abbrev pub without_guard : List ℕ → List ℕ
 without_guard path = if starts_with nat_eq path (codes "/-") then drop 2 path else path
 
 -- `/-` is put before a value that begins with no slash, and taken off the path again if it is still there
 abbrev pub pathname_of : List ℕ → Parsed (List ℕ)
 pathname_of value =
-    if slice_index value 0 == slice_index (codes "/") 0 then path_of dummy_url value
+    if slice_index value 0 == slash then path_of dummy_url value
     else and_then (path_of dummy_url (codes "/-" ++ value)) (λ path. Ok (without_guard path))
 
 abbrev pub opaque_pathname_of : List ℕ → Parsed (List ℕ)
@@ -142,6 +143,17 @@ canonical_hash text = canonical hash_of text
 abbrev pub long_text : ℕ
 long_text = 2 ^ 24
 
+-- The error that a refusal of a question about texts of this many bytes is reported as: an overflow where no text is long
+-- is want of memory too.
+abbrev pub reported : ParseError → (bytes : ℕ) → ErrorView
+reported OutOfMemory bytes = views.OutOfMemory
+reported Overflow bytes = if ltb bytes long_text then views.OutOfMemory else views.Url Overflow
+reported reason bytes = views.Url reason
+
+-- `url` refuses the question, or the longest text of it may be too long
+abbrev pub IsRefusedByUrl : {T : Type 0} → Parsed T → (bytes : ℕ) → Type 0
+IsRefusedByUrl asked bytes = ((reason : ParseError) × (asked ≡ Err reason)) ⊎ (long_text ≤ bytes)
+
 -- The error is the refusal of a question about texts of this many bytes at most. Want of memory is never told as an error
 -- of a URL.
 abbrev pub Tells : {T : Type 0} → Parsed T → (bytes : ℕ) → ErrorView → Type 0
@@ -154,15 +166,20 @@ IsAnswer asked bytes result = MatchResult result (λ text. asked ≡ Ok (text_of
 
 -- ---- values of an init
 
--- a text without this character at its end, and without it at its front
+-- the text without its last character where that is this mark
 abbrev pub without_last : ℕ → List ℕ → List ℕ
 without_last mark [] = []
 without_last mark (c ∷ []) = if c == mark then [] else c ∷ []
 without_last mark (c ∷ next ∷ text) = c ∷ without_last mark (next ∷ text)
 
+-- the text without its first character where that is this mark
 abbrev pub without_first : ℕ → List ℕ → List ℕ
 without_first mark [] = []
 without_first mark (c ∷ text) = if c == mark then text else c ∷ text
+
+-- `b'{'`
+abbrev pub left_brace : ℕ
+left_brace = slice_index (codes "{") 0
 
 -- of so many bytes, those about which `url` is asked: none for a pattern
 abbrev pub bytes_asked : ProcessType → ℕ → ℕ
@@ -175,7 +192,7 @@ processed Pattern make_canonical text = Ok text
 processed Url make_canonical text = make_canonical text
 
 abbrev pub processed_protocol : ProcessType → List ℕ → Parsed (List ℕ)
-processed_protocol mode text = processed mode canonical_protocol (without_last (slice_index (codes ":") 0) text)
+processed_protocol mode text = processed mode canonical_protocol (without_last colon text)
 
 abbrev pub processed_username : ProcessType → List ℕ → Parsed (List ℕ)
 processed_username mode text = processed mode canonical_username text
@@ -222,17 +239,17 @@ is_hierarchical_under (Some (c ∷ protocol)) = is_special (c ∷ protocol)
 
 -- a path is hierarchical by its protocol, or where it begins with a slash; any other is opaque
 abbrev pub is_hierarchical : (protocol : Option (List ℕ)) → (pathname : List ℕ) → Bool
-is_hierarchical protocol pathname = is_hierarchical_under protocol || begins_with (λ c. c == slice_index (codes "/") 0) pathname
+is_hierarchical protocol pathname = is_hierarchical_under protocol || begins_with (λ c. c == slash) pathname
 
 abbrev pub processed_pathname : ProcessType → (protocol : Option (List ℕ)) → List ℕ → Parsed (List ℕ)
 processed_pathname mode protocol text =
     processed mode (λ path. if is_hierarchical protocol path then canonical_pathname path else canonical_opaque_pathname path) text
 
 abbrev pub processed_search : ProcessType → List ℕ → Parsed (List ℕ)
-processed_search mode text = processed mode canonical_search (without_first (slice_index (codes "?") 0) text)
+processed_search mode text = processed mode canonical_search (without_first question_mark text)
 
 abbrev pub processed_hash : ProcessType → List ℕ → Parsed (List ℕ)
-processed_hash mode text = processed mode canonical_hash (without_first (slice_index (codes "#") 0) text)
+processed_hash mode text = processed mode canonical_hash (without_first number_sign text)
 
 -- a text of the base URL stands for itself: in a pattern its marks are escaped
 abbrev pub processed_base : ProcessType → List ℕ → List ℕ

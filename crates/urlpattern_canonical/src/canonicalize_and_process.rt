@@ -5,13 +5,14 @@ ghost use Rattle.std.specs.Prelude.{◌≡◌, ◌<◌, ◌≤◌, ◌∷◌, �
 ghost use Rattle.std.specs.List.{list_all};
 ghost use Rattle.std.specs.Option.{ForSome};
 ghost use Rattle.std.specs.Str.{chars};
+ghost use Rattle.url.specs.Ascii.{colon, slash};
 ghost use Rattle.url.specs.Parser.{parse_url};
 ghost use Rattle.urlpattern_laws.specs.Printing.{escaped_pattern, pattern_marks};
-ghost use Rattle.urlpattern_syntax.specs.Parsing.{MemoryOr};
+ghost use Rattle.urlpattern_syntax.specs.Errors.{MemoryOr, error_view};
 ghost use Rattle.urlpattern_syntax.specs.Text.{begins_with, is_among, text_of};
 ghost use Rattle.urlpattern_syntax.specs.declared.error.Error.TheVariants as errors;
-ghost use Rattle.urlpattern_canonical.specs.Asking.{IsRefusal, IsToldAs, Told};
-ghost use Rattle.urlpattern_canonical.specs.Canonical.{IsAnswer, Tells, bytes_asked, canonical_hash, canonical_hostname, canonical_ipv6_hostname, canonical_opaque_pathname, canonical_password, canonical_pathname, canonical_port, canonical_protocol, canonical_search, canonical_username, default_port, dummy_url, is_hierarchical, is_hierarchical_under, is_ipv6_character, is_special, opaque_url, path_of, scheme_for_port, without_first, without_guard, without_last, processed_base, processed_hash, processed_hostname, processed_password, processed_pathname, processed_port, processed_protocol, processed_search, processed_username};
+ghost use Rattle.urlpattern_canonical.specs.Asking.{reported_as};
+ghost use Rattle.urlpattern_canonical.specs.Canonical.{IsAnswer, Tells, bytes_asked, canonical_hash, canonical_hostname, canonical_ipv6_hostname, canonical_opaque_pathname, canonical_password, canonical_pathname, canonical_port, canonical_protocol, canonical_search, canonical_username, default_port, dummy_url, is_hierarchical, is_hierarchical_under, is_ipv6_character, is_special, opaque_url, path_of, scheme_for_port, without_first, without_guard, without_last, reported, processed_base, processed_hash, processed_hostname, processed_password, processed_pathname, processed_port, processed_protocol, processed_search, processed_username};
 
 use std::alloc::Global;
 use url::{ParseError, ParseResult, Url, quirks};
@@ -28,7 +29,7 @@ const LONG_TEXT: usize = 1 << 24;
 
 /// The error for a refusal by `url` of a question about texts of this many bytes at most.
 fn refusal(error: ParseError, bytes: usize) -> Error
-    ensures { Told error bytes (IsRefusal error bytes) result }
+    ensures { error_view result ≡ reported error bytes }
 {
     match error {
         ParseError::OutOfMemory => Error::OutOfMemory,
@@ -42,7 +43,7 @@ fn refusal(error: ParseError, bytes: usize) -> Error
 /// The error is the refusal of `url`. It is want of memory only where `url` says so, or says that a text is too long where
 /// none is.
 pub fn told<T>(answer: ParseResult<T>, bytes: usize) -> Result<T, Error>
-    ensures { MatchResult answer (λ value. result ≡ Ok value) (λ reason. IsErrAnd result (Told reason bytes (IsRefusal reason bytes))) }
+    ensures { MatchResult answer (λ value. result ≡ Ok value) (λ reason. IsErrAnd result (λ error. error_view error ≡ reported reason bytes)) }
 {
     match answer {
         Ok(value) => Ok(value),
@@ -52,7 +53,7 @@ pub fn told<T>(answer: ParseResult<T>, bytes: usize) -> Result<T, Error>
 
 /// The same, where each refusal is told as this one.
 fn told_as(reason: ParseError, answer: ParseResult<()>, bytes: usize) -> Result<(), Error>
-    ensures { MatchResult answer (λ value. result ≡ Ok value) (λ other. IsErrAnd result (Told other bytes (IsToldAs reason other bytes))) }
+    ensures { MatchResult answer (λ value. result ≡ Ok value) (λ other. IsErrAnd result (λ error. error_view error ≡ reported_as reason other bytes)) }
 {
     match answer {
         Ok(()) => Ok(()),
@@ -394,8 +395,8 @@ fn scheme_for_port(protocol: &str) -> &str
 
 /// Whether the text begins with a slash.
 pub fn begins_with_slash(text: &str) -> bool
-    ensures bytes { result ≡ (slice_index text.now 0 == slice_index (codes "/") 0) }
-    ensures text { result ≡ begins_with (λ c. c == slice_index (codes "/") 0) (chars text.now) }
+    ensures bytes { result ≡ (slice_index text.now 0 == slash) }
+    ensures text { result ≡ begins_with (λ c. c == slash) (chars text.now) }
 {
     matches!(text.as_bytes(), [b'/', ..])
 }
@@ -413,7 +414,7 @@ fn without_guard(path: &str) -> &str
 
 /// The text without a colon at its end.
 fn without_colon(text: &str) -> &str
-    ensures value { chars result.now ≡ without_last (slice_index (codes ":") 0) (chars text.now) }
+    ensures value { chars result.now ≡ without_last colon (chars text.now) }
     ensures shorter { length result.now ≤ length text.now }
 {
     match text.as_bytes() {
@@ -422,7 +423,7 @@ fn without_colon(text: &str) -> &str
     }
 }
 
-/// The text without this mark at its front.
+/// The text without this mark at its front. The mark is an ASCII character other than NUL.
 pub fn without_first(text: &str, mark: u8) -> &str
     requires { (0 < mark) × (mark < 128) }
     ensures value { chars result.now ≡ without_first mark (chars text.now) }

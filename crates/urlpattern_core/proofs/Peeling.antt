@@ -2,7 +2,7 @@
 use Rattle.std.proofs.Common.{◌≡◌, ℕ, Bool, true, false, List, [], ◌∷◌, ◌++◌, length, refl, sym, ap, ◌∙◌, subst, append_assoc, arith}
 use Rattle.std.proofs.lemmas.Bool.{false≢true}
 use Rattle.std.proofs.lemmas.List.{append-nil, length-append}
-use Rattle.std.specs.Prelude.{IsTrue, ◌≤◌, Option, Some, None, Result, Ok, Err, IfOk, option_to_list}
+use Rattle.std.specs.Prelude.{IsTrue, ◌≤◌, Option, Some, None, Result, Ok, Err, IfErr, IfOk, option_to_list}
 use Rattle.urlpattern_core.specs.Matchers.{PeelsBack, PeelsFront, PeelsTo, capture_of}
 use Rattle.urlpattern_laws.specs.Matching.{BeginsPlain, EndsPlain, GoesOff, IsMadeBetween, IsMadeByEngine, IsMadeOf, IsMadeOfOne, MatcherView, IsEngineOf, end_text, single_capture}
 use Rattle.urlpattern_syntax.specs.declared.parser.PartModifier.{PartModifier}
@@ -124,3 +124,8 @@ many-by_engine IsEngine options prefix (part ∷ next ∷ parts) suffix matcher 
 pub if_ok-map : {A B : Type 0} (P Q : A → Type 0) (result : Result A B) → ((x : A) → P x → Q x) → IfOk result P → IfOk result Q
 if_ok-map P Q (Ok x) f h = f x h
 if_ok-map P Q (Err x) f h = tt
+
+-- what holds of an error holds of it the weaker
+pub if_err-map : {A B : Type 0} (P Q : B → Type 0) (result : Result A B) → ((x : B) → P x → Q x) → IfErr result P → IfErr result Q
+if_err-map P Q (Ok x) f h = tt
+if_err-map P Q (Err x) f h = f x h

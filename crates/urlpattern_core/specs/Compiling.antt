@@ -57,16 +57,20 @@ abbrev pub is_asked_again : RegexSyntax → (has_regexp_group : Bool) → Bool
 is_asked_again EcmaScript has_regexp_group = has_regexp_group
 is_asked_again Rust has_regexp_group = false
 
+-- the texts that an engine may refuse where it need not look at once
+abbrev pub MayRefuseAtFirst : (MayRefuse : (regexp flags : List ℕ) → (force_eval : Bool) → Type 0) → (regexp flags : List ℕ) → Type 0
+MayRefuseAtFirst MayRefuse regexp flags = MayRefuse regexp flags false
+
 -- the text may be refused when the engine is asked, or when it is asked again
 abbrev pub MayRefuseAsked : (MayRefuse : (regexp flags : List ℕ) → (force_eval : Bool) → Type 0) → (again : Bool) → (regexp flags : List ℕ) → Type 0
-MayRefuseAsked MayRefuse again regexp flags = MayRefuse regexp flags false ⊎ (IsTrue again × MayRefuse regexp flags true)
+MayRefuseAsked MayRefuse again regexp flags = MayRefuseAtFirst MayRefuse regexp flags ⊎ (IsTrue again × MayRefuse regexp flags true)
 
 -- The five fields are those of this one list of parts, where engines of this syntax make and refuse in this way.
 pub record IsComponentOf {E : Type 0} (IsMade : E → (regexp flags : List ℕ) → Type 0) (MayRefuse : (regexp flags : List ℕ) → (force_eval : Bool) → Type 0) (syntax : RegexSyntax) (options : OptionsView) (parts : List PartView) (component : ComponentView E) : Type 0 where
   pub is_printed : component.pattern_string ≡ printed options parts
   pub has_engine : IsEngineOf IsMade (MayRefuseAsked MayRefuse (is_asked_again syntax (has_regexp parts))) (engine_flags options) (regexp_text options parts) component.regexp
   pub has_names : component.group_name_list ≡ group_names parts
-  pub has_matcher : IsMadeOf IsMade (λ regexp flags. MayRefuse regexp flags false) options (engine_flags options) parts component.matcher
+  pub has_matcher : IsMadeOf IsMade (MayRefuseAtFirst MayRefuse) options (engine_flags options) parts component.matcher
   pub tells_regexps : component.has_regexp_group ≡ has_regexp parts
 
 -- The component is compiled from the text: its fields are those of parts that the text means.

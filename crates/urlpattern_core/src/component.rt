@@ -14,12 +14,14 @@ ghost use Rattle.urlpattern_syntax.specs.Text.{text_of};
 
 mod compile;
 mod matchers;
+mod normal;
 mod printed;
 
 use crate::error::Error;
 use crate::matcher::Matcher;
 use crate::parser::{FULL_WILDCARD_REGEXP_VALUE, Options, Part, PartModifier, PartType, push_text};
 pub use matchers::generate_matcher;
+pub use normal::normalize_part_list;
 pub use printed::generate_pattern_string;
 pub(crate) use printed::push_escaped_pattern;
 use std::alloc::Global;

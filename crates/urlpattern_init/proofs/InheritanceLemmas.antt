@@ -1,7 +1,7 @@
 -- Lemmas on the values of an init.
-use Rattle.std.proofs.Common.{◌≡◌, ◌≢◌, ℕ, zero, suc, Bool, true, false, ◌==◌, ◌<◌, ◌≤◌, ◌+◌, ◌||◌, List, [], ◌∷◌, length, get_or, take, Ok, Err, None, Some, Option, Result, String, subst, refl, ap, ◌∙◌, arith, map, inl, inr}
+use Rattle.std.proofs.Common.{◌≡◌, ◌≢◌, ℕ, zero, suc, Bool, true, false, ◌==◌, ◌<◌, ◌≤◌, ◌+◌, ◌||◌, fold, max, List, [], ◌∷◌, length, get_or, take, Ok, Err, None, Some, Option, Result, String, subst, refl, ap, ◌∙◌, arith, map, inl, inr}
 use Rattle.std.specs.List.{list_any}
-use Rattle.std.specs.Prelude.{if◌then◌else◌, option_map, string_bytes, sum, unwrap_or}
+use Rattle.std.specs.Prelude.{if◌then◌else◌, option_map, string_bytes, unwrap_or}
 use Rattle.url.specs.declared.error.ParseError.{ParseError}
 use Rattle.url.specs.Parser.{Parsed, and_then}
 use Rattle.std.specs.Str.{chars, IsUtf8}
@@ -15,13 +15,13 @@ use Rattle.urlpattern_syntax.specs.declared.error.Error.{Error}
 use Rattle.urlpattern_syntax.specs.Text.{byte_len, text_of}
 use Rattle.urlpattern_init.specs.declared.init.processing.Component.{Component}
 use Rattle.urlpattern_init.specs.declared.init.processing.Component.TheVariants.{Protocol, Username, Password, Hostname, Port, Pathname, Search, Hash}
-use Rattle.urlpattern_init.specs.Inheritance.{Values, asked_bytes, bytes_of, component_value, components, given_bytes, given_text, is_absolute, is_slash, processed_text, processed_values, protocol_bytes, put_before, up_to_last_slash, value_of, value_or_refusal}
+use Rattle.urlpattern_init.specs.Inheritance.{Values, asked_bytes, bytes_of, value_given, components, given_bytes, given_text, is_absolute, is_slash, processed_text, processed_values, protocol_bytes, put_before, up_to_last_slash, value_of, processed_value}
 use Rattle.urlpattern_canonical.specs.declared.canonicalize_and_process.ProcessType.{ProcessType}
 use Rattle.urlpattern_canonical.specs.declared.canonicalize_and_process.ProcessType.TheVariants.{Pattern, Url}
 use Rattle.urlpattern_syntax.specs.declared.error.Error.TheVariants as errors
 use Rattle.urlpattern_syntax.specs.Errors.{ErrorView, error_view}
 use Rattle.urlpattern_syntax.specs.Errors.{ErrorView as views}
-use Rattle.urlpattern_syntax.specs.Parsing.{MemoryOr}
+use Rattle.urlpattern_syntax.specs.Errors.{MemoryOr}
 
 -- ---- the path up to its last slash
 
@@ -77,55 +77,55 @@ bind-ok first x next e = ap (λ parsed. and_then parsed next) e
 bind-err : {T U : Type 0} (first : Parsed T) (reason : ParseError) (next : T → Parsed U) → first ≡ Err reason → and_then first next ≡ Err reason
 bind-err first reason next e = ap (λ parsed. and_then parsed next) e
 
-pub refused-protocol : (mode : ProcessType) (values : Values) (base : Option Parts) (reason : ParseError) → value_or_refusal mode values base None Protocol ≡ Err reason
+pub refused-protocol : (mode : ProcessType) (values : Values) (base : Option Parts) (reason : ParseError) → processed_value mode values base None Protocol ≡ Err reason
     → processed_values mode values base ≡ Err reason
 unfolding processed_values
 refused-protocol mode values base reason refused =
     bind-err _ _ _ refused
 
-pub refused-username : (mode : ProcessType) (values : Values) (base : Option Parts) (protocol : Option (List ℕ)) (reason : ParseError) → value_or_refusal mode values base None Protocol ≡ Ok protocol → value_or_refusal mode values base protocol Username ≡ Err reason
+pub refused-username : (mode : ProcessType) (values : Values) (base : Option Parts) (protocol : Option (List ℕ)) (reason : ParseError) → processed_value mode values base None Protocol ≡ Ok protocol → processed_value mode values base protocol Username ≡ Err reason
     → processed_values mode values base ≡ Err reason
 unfolding processed_values
 refused-username mode values base protocol reason e_protocol refused =
     bind-ok _ _ _ e_protocol ∙ bind-err _ _ _ refused
 
-pub refused-password : (mode : ProcessType) (values : Values) (base : Option Parts) (protocol : Option (List ℕ)) (username : Option (List ℕ)) (reason : ParseError) → value_or_refusal mode values base None Protocol ≡ Ok protocol → value_or_refusal mode values base protocol Username ≡ Ok username → value_or_refusal mode values base protocol Password ≡ Err reason
+pub refused-password : (mode : ProcessType) (values : Values) (base : Option Parts) (protocol : Option (List ℕ)) (username : Option (List ℕ)) (reason : ParseError) → processed_value mode values base None Protocol ≡ Ok protocol → processed_value mode values base protocol Username ≡ Ok username → processed_value mode values base protocol Password ≡ Err reason
     → processed_values mode values base ≡ Err reason
 unfolding processed_values
 refused-password mode values base protocol username reason e_protocol e_username refused =
     bind-ok _ _ _ e_protocol ∙ bind-ok _ _ _ e_username ∙ bind-err _ _ _ refused
 
-pub refused-hostname : (mode : ProcessType) (values : Values) (base : Option Parts) (protocol : Option (List ℕ)) (username : Option (List ℕ)) (password : Option (List ℕ)) (reason : ParseError) → value_or_refusal mode values base None Protocol ≡ Ok protocol → value_or_refusal mode values base protocol Username ≡ Ok username → value_or_refusal mode values base protocol Password ≡ Ok password → value_or_refusal mode values base protocol Hostname ≡ Err reason
+pub refused-hostname : (mode : ProcessType) (values : Values) (base : Option Parts) (protocol : Option (List ℕ)) (username : Option (List ℕ)) (password : Option (List ℕ)) (reason : ParseError) → processed_value mode values base None Protocol ≡ Ok protocol → processed_value mode values base protocol Username ≡ Ok username → processed_value mode values base protocol Password ≡ Ok password → processed_value mode values base protocol Hostname ≡ Err reason
     → processed_values mode values base ≡ Err reason
 unfolding processed_values
 refused-hostname mode values base protocol username password reason e_protocol e_username e_password refused =
     bind-ok _ _ _ e_protocol ∙ bind-ok _ _ _ e_username ∙ bind-ok _ _ _ e_password ∙ bind-err _ _ _ refused
 
-pub refused-port : (mode : ProcessType) (values : Values) (base : Option Parts) (protocol : Option (List ℕ)) (username : Option (List ℕ)) (password : Option (List ℕ)) (hostname : Option (List ℕ)) (reason : ParseError) → value_or_refusal mode values base None Protocol ≡ Ok protocol → value_or_refusal mode values base protocol Username ≡ Ok username → value_or_refusal mode values base protocol Password ≡ Ok password → value_or_refusal mode values base protocol Hostname ≡ Ok hostname → value_or_refusal mode values base protocol Port ≡ Err reason
+pub refused-port : (mode : ProcessType) (values : Values) (base : Option Parts) (protocol : Option (List ℕ)) (username : Option (List ℕ)) (password : Option (List ℕ)) (hostname : Option (List ℕ)) (reason : ParseError) → processed_value mode values base None Protocol ≡ Ok protocol → processed_value mode values base protocol Username ≡ Ok username → processed_value mode values base protocol Password ≡ Ok password → processed_value mode values base protocol Hostname ≡ Ok hostname → processed_value mode values base protocol Port ≡ Err reason
     → processed_values mode values base ≡ Err reason
 unfolding processed_values
 refused-port mode values base protocol username password hostname reason e_protocol e_username e_password e_hostname refused =
     bind-ok _ _ _ e_protocol ∙ bind-ok _ _ _ e_username ∙ bind-ok _ _ _ e_password ∙ bind-ok _ _ _ e_hostname ∙ bind-err _ _ _ refused
 
-pub refused-pathname : (mode : ProcessType) (values : Values) (base : Option Parts) (protocol : Option (List ℕ)) (username : Option (List ℕ)) (password : Option (List ℕ)) (hostname : Option (List ℕ)) (port : Option (List ℕ)) (reason : ParseError) → value_or_refusal mode values base None Protocol ≡ Ok protocol → value_or_refusal mode values base protocol Username ≡ Ok username → value_or_refusal mode values base protocol Password ≡ Ok password → value_or_refusal mode values base protocol Hostname ≡ Ok hostname → value_or_refusal mode values base protocol Port ≡ Ok port → value_or_refusal mode values base protocol Pathname ≡ Err reason
+pub refused-pathname : (mode : ProcessType) (values : Values) (base : Option Parts) (protocol : Option (List ℕ)) (username : Option (List ℕ)) (password : Option (List ℕ)) (hostname : Option (List ℕ)) (port : Option (List ℕ)) (reason : ParseError) → processed_value mode values base None Protocol ≡ Ok protocol → processed_value mode values base protocol Username ≡ Ok username → processed_value mode values base protocol Password ≡ Ok password → processed_value mode values base protocol Hostname ≡ Ok hostname → processed_value mode values base protocol Port ≡ Ok port → processed_value mode values base protocol Pathname ≡ Err reason
     → processed_values mode values base ≡ Err reason
 unfolding processed_values
 refused-pathname mode values base protocol username password hostname port reason e_protocol e_username e_password e_hostname e_port refused =
     bind-ok _ _ _ e_protocol ∙ bind-ok _ _ _ e_username ∙ bind-ok _ _ _ e_password ∙ bind-ok _ _ _ e_hostname ∙ bind-ok _ _ _ e_port ∙ bind-err _ _ _ refused
 
-pub refused-search : (mode : ProcessType) (values : Values) (base : Option Parts) (protocol : Option (List ℕ)) (username : Option (List ℕ)) (password : Option (List ℕ)) (hostname : Option (List ℕ)) (port : Option (List ℕ)) (pathname : Option (List ℕ)) (reason : ParseError) → value_or_refusal mode values base None Protocol ≡ Ok protocol → value_or_refusal mode values base protocol Username ≡ Ok username → value_or_refusal mode values base protocol Password ≡ Ok password → value_or_refusal mode values base protocol Hostname ≡ Ok hostname → value_or_refusal mode values base protocol Port ≡ Ok port → value_or_refusal mode values base protocol Pathname ≡ Ok pathname → value_or_refusal mode values base protocol Search ≡ Err reason
+pub refused-search : (mode : ProcessType) (values : Values) (base : Option Parts) (protocol : Option (List ℕ)) (username : Option (List ℕ)) (password : Option (List ℕ)) (hostname : Option (List ℕ)) (port : Option (List ℕ)) (pathname : Option (List ℕ)) (reason : ParseError) → processed_value mode values base None Protocol ≡ Ok protocol → processed_value mode values base protocol Username ≡ Ok username → processed_value mode values base protocol Password ≡ Ok password → processed_value mode values base protocol Hostname ≡ Ok hostname → processed_value mode values base protocol Port ≡ Ok port → processed_value mode values base protocol Pathname ≡ Ok pathname → processed_value mode values base protocol Search ≡ Err reason
     → processed_values mode values base ≡ Err reason
 unfolding processed_values
 refused-search mode values base protocol username password hostname port pathname reason e_protocol e_username e_password e_hostname e_port e_pathname refused =
     bind-ok _ _ _ e_protocol ∙ bind-ok _ _ _ e_username ∙ bind-ok _ _ _ e_password ∙ bind-ok _ _ _ e_hostname ∙ bind-ok _ _ _ e_port ∙ bind-ok _ _ _ e_pathname ∙ bind-err _ _ _ refused
 
-pub refused-hash : (mode : ProcessType) (values : Values) (base : Option Parts) (protocol : Option (List ℕ)) (username : Option (List ℕ)) (password : Option (List ℕ)) (hostname : Option (List ℕ)) (port : Option (List ℕ)) (pathname : Option (List ℕ)) (search : Option (List ℕ)) (reason : ParseError) → value_or_refusal mode values base None Protocol ≡ Ok protocol → value_or_refusal mode values base protocol Username ≡ Ok username → value_or_refusal mode values base protocol Password ≡ Ok password → value_or_refusal mode values base protocol Hostname ≡ Ok hostname → value_or_refusal mode values base protocol Port ≡ Ok port → value_or_refusal mode values base protocol Pathname ≡ Ok pathname → value_or_refusal mode values base protocol Search ≡ Ok search → value_or_refusal mode values base protocol Hash ≡ Err reason
+pub refused-hash : (mode : ProcessType) (values : Values) (base : Option Parts) (protocol : Option (List ℕ)) (username : Option (List ℕ)) (password : Option (List ℕ)) (hostname : Option (List ℕ)) (port : Option (List ℕ)) (pathname : Option (List ℕ)) (search : Option (List ℕ)) (reason : ParseError) → processed_value mode values base None Protocol ≡ Ok protocol → processed_value mode values base protocol Username ≡ Ok username → processed_value mode values base protocol Password ≡ Ok password → processed_value mode values base protocol Hostname ≡ Ok hostname → processed_value mode values base protocol Port ≡ Ok port → processed_value mode values base protocol Pathname ≡ Ok pathname → processed_value mode values base protocol Search ≡ Ok search → processed_value mode values base protocol Hash ≡ Err reason
     → processed_values mode values base ≡ Err reason
 unfolding processed_values
 refused-hash mode values base protocol username password hostname port pathname search reason e_protocol e_username e_password e_hostname e_port e_pathname e_search refused =
     bind-ok _ _ _ e_protocol ∙ bind-ok _ _ _ e_username ∙ bind-ok _ _ _ e_password ∙ bind-ok _ _ _ e_hostname ∙ bind-ok _ _ _ e_port ∙ bind-ok _ _ _ e_pathname ∙ bind-ok _ _ _ e_search ∙ bind-err _ _ _ refused
 
-pub processed : (mode : ProcessType) (values : Values) (base : Option Parts) (protocol : Option (List ℕ)) (username : Option (List ℕ)) (password : Option (List ℕ)) (hostname : Option (List ℕ)) (port : Option (List ℕ)) (pathname : Option (List ℕ)) (search : Option (List ℕ)) (hash : Option (List ℕ)) → value_or_refusal mode values base None Protocol ≡ Ok protocol → value_or_refusal mode values base protocol Username ≡ Ok username → value_or_refusal mode values base protocol Password ≡ Ok password → value_or_refusal mode values base protocol Hostname ≡ Ok hostname → value_or_refusal mode values base protocol Port ≡ Ok port → value_or_refusal mode values base protocol Pathname ≡ Ok pathname → value_or_refusal mode values base protocol Search ≡ Ok search → value_or_refusal mode values base protocol Hash ≡ Ok hash
+pub processed : (mode : ProcessType) (values : Values) (base : Option Parts) (protocol : Option (List ℕ)) (username : Option (List ℕ)) (password : Option (List ℕ)) (hostname : Option (List ℕ)) (port : Option (List ℕ)) (pathname : Option (List ℕ)) (search : Option (List ℕ)) (hash : Option (List ℕ)) → processed_value mode values base None Protocol ≡ Ok protocol → processed_value mode values base protocol Username ≡ Ok username → processed_value mode values base protocol Password ≡ Ok password → processed_value mode values base protocol Hostname ≡ Ok hostname → processed_value mode values base protocol Port ≡ Ok port → processed_value mode values base protocol Pathname ≡ Ok pathname → processed_value mode values base protocol Search ≡ Ok search → processed_value mode values base protocol Hash ≡ Ok hash
     → processed_values mode values base ≡ Ok (record { protocol = protocol; username = username; password = password; hostname = hostname; port = port; pathname = pathname; search = search; hash = hash })
 unfolding processed_values
 processed mode values base protocol username password hostname port pathname search hash e_protocol e_username e_password e_hostname e_port e_pathname e_search e_hash =
@@ -143,13 +143,13 @@ pub answers-asked : (mode : ProcessType) (asked : Parsed (List ℕ)) (few many :
 answers-asked mode asked few many result more answer =
     answers-more asked (bytes_asked mode few) (bytes_asked mode many) result (asked-mono mode few many more) answer
 
--- the bytes of all texts
+-- the bytes of the longest text
 all_bytes : ProcessType → Values → Option Parts → ℕ
 all_bytes mode values base =
-    protocol_bytes (value_or_refusal mode values base None Protocol) + sum (map (given_bytes mode values base) components)
+    fold max (protocol_bytes (processed_value mode values base None Protocol)) (map (given_bytes mode values base) components)
 
 given-all : (mode : ProcessType) (values : Values) (base : Option Parts) (component : Component)
-    → 0 + given_bytes mode values base component ≤ all_bytes mode values base
+    → max 0 (given_bytes mode values base component) ≤ all_bytes mode values base
 unfolding all_bytes
 given-all mode values base Protocol = omega arith
 given-all mode values base Username = omega arith
@@ -161,8 +161,8 @@ given-all mode values base Search = omega arith
 given-all mode values base Hash = omega arith
 
 under-all : (mode : ProcessType) (values : Values) (base : Option Parts) (component : Component) (protocol : Option (List ℕ))
-    → value_or_refusal mode values base None Protocol ≡ Ok protocol
-    → bytes_of protocol + given_bytes mode values base component ≤ all_bytes mode values base
+    → processed_value mode values base None Protocol ≡ Ok protocol
+    → max (bytes_of protocol) (given_bytes mode values base component) ≤ all_bytes mode values base
 unfolding all_bytes
 under-all mode values base Protocol protocol e = rw e (omega arith)
 under-all mode values base Username protocol e = rw e (omega arith)
@@ -174,17 +174,17 @@ under-all mode values base Search protocol e = rw e (omega arith)
 under-all mode values base Hash protocol e = rw e (omega arith)
 
 pub given-le : (mode : ProcessType) (values : Values) (base : Option Parts) (component : Component)
-    → bytes_asked mode (0 + given_bytes mode values base component) ≤ asked_bytes mode values base
+    → bytes_asked mode (max 0 (given_bytes mode values base component)) ≤ asked_bytes mode values base
 unfolding asked_bytes all_bytes
 given-le mode values base component =
-    asked-mono mode (0 + given_bytes mode values base component) (all_bytes mode values base) (given-all mode values base component)
+    asked-mono mode (max 0 (given_bytes mode values base component)) (all_bytes mode values base) (given-all mode values base component)
 
 pub asked-le : (mode : ProcessType) (values : Values) (base : Option Parts) (component : Component) (protocol : Option (List ℕ))
-    → value_or_refusal mode values base None Protocol ≡ Ok protocol
-    → bytes_asked mode (bytes_of protocol + given_bytes mode values base component) ≤ asked_bytes mode values base
+    → processed_value mode values base None Protocol ≡ Ok protocol
+    → bytes_asked mode (max (bytes_of protocol) (given_bytes mode values base component)) ≤ asked_bytes mode values base
 unfolding asked_bytes all_bytes
 asked-le mode values base component protocol e =
-    asked-mono mode (bytes_of protocol + given_bytes mode values base component) (all_bytes mode values base) (under-all mode values base component protocol e)
+    asked-mono mode (max (bytes_of protocol) (given_bytes mode values base component)) (all_bytes mode values base) (under-all mode values base component protocol e)
 
 -- ---- a pattern is never refused
 
@@ -199,14 +199,14 @@ pattern-text protocol Search text = (_, refl)
 pattern-text protocol Hash text = (_, refl)
 
 pattern-given : (values : Values) (base : Option Parts) (protocol : Option (List ℕ)) (component : Component) (given : Option (List ℕ))
-    → (value : Option (List ℕ)) × (component_value Pattern values base protocol component given ≡ Ok value)
+    → (value : Option (List ℕ)) × (value_given Pattern values base protocol component given ≡ Ok value)
 pattern-given values base protocol component None = (_, refl)
 pattern-given values base protocol component (Some text) =
     let found = pattern-text protocol component (given_text Pattern base component text) in
     (Some found.0, ap (λ parsed. and_then parsed (λ value. Ok (Some value))) found.1)
 
 pattern-value : (values : Values) (base : Option Parts) (protocol : Option (List ℕ)) (component : Component)
-    → (value : Option (List ℕ)) × (value_or_refusal Pattern values base protocol component ≡ Ok value)
+    → (value : Option (List ℕ)) × (processed_value Pattern values base protocol component ≡ Ok value)
 pattern-value values base protocol component = pattern-given values base protocol component (value_of component values)
 
 pattern-processed : (values : Values) (base : Option Parts) → (found : Values) × (processed_values Pattern values base ≡ Ok found)

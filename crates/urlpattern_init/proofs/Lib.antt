@@ -5,6 +5,5 @@ pub mod SplitLemmas
 pub mod SplitUnique
 pub mod SplitExists
 pub mod InheritanceLemmas
-pub mod Encodings
 pub mod SplitExamples
 pub mod SchemeLemmas

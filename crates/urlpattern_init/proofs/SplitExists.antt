@@ -4,7 +4,7 @@ use Rattle.std.proofs.lemmas.Bool.{and_from, and_parts, both_ways, cases_eq, cas
 use Rattle.std.specs.Prelude.{codes, IsSomeAnd, IsTrue}
 use Rattle.urlpattern_init.specs.ConstructorString.{SplitsAs}
 use Rattle.urlpattern_init.specs.Split.{AuthorityFrom, Components, EndsAt, HashAt, HashFrom, HostnameFrom, IsAbsoluteSplit, IsRelativeSplit, PathnameAt, PathnameFrom, PortAt, SearchAt, SearchFrom, Takes, UserinfoFrom}
-use Rattle.urlpattern_init.specs.Split.{depth_before, ends_at, has_slashes, implied_pathname, is_at_sign, is_balanced, is_colon, is_hash_sign, is_search_sign, is_slash, may_end}
+use Rattle.urlpattern_init.specs.Split.{depth_before, ends_at, has_slashes, implied_pathname, is_at_sign, is_balanced, is_colon_sign, is_hash_sign, is_search_sign, is_slash_sign, may_end}
 use Rattle.urlpattern_init.specs.Splitting.{IsClosed}
 use Rattle.urlpattern_init.specs.declared.constructor_parser.Section.{Section}
 use Rattle.urlpattern_init.specs.declared.constructor_parser.Section.TheVariants.{Authority, Hash, Hostname, Pathname, Port, Protocol, Search, Username}
@@ -160,13 +160,13 @@ module _ (text : List ℕ) (tokens : List TokenView) (are_tokens : AreLenientTok
 
   -- what may follow a port
   data Follows (place : ℕ) : Type 0 where
-    Slash : IsTrue (is_slash tokens place) → Follows place
+    Slash : IsTrue (is_slash_sign tokens place) → Follows place
     Signs : IsTrue (is_search_sign tokens place || is_hash_sign tokens place) → Follows place
     AtEnd : IsTrue (ends_at tokens place) → Follows place
 
-  follows : (place : ℕ) → IsTrue (is_slash tokens place || is_search_sign tokens place || is_hash_sign tokens place) → Follows place
-  follows place signs = elim (or_cases (is_slash tokens place || is_search_sign tokens place) (is_hash_sign tokens place) signs) [
-    | inl more ↦ elim (or_cases (is_slash tokens place) (is_search_sign tokens place) more) [
+  follows : (place : ℕ) → IsTrue (is_slash_sign tokens place || is_search_sign tokens place || is_hash_sign tokens place) → Follows place
+  follows place signs = elim (or_cases (is_slash_sign tokens place || is_search_sign tokens place) (is_hash_sign tokens place) signs) [
+    | inl more ↦ elim (or_cases (is_slash_sign tokens place) (is_search_sign tokens place) more) [
       | inl slash ↦ Slash slash
       | inr sign ↦ Signs (or_left (is_search_sign tokens place) (is_hash_sign tokens place) sign)
     ]
@@ -182,11 +182,11 @@ module _ (text : List ℕ) (tokens : List TokenView) (are_tokens : AreLenientTok
       (Some (implied_pathname special), s.0, s.1, λ c. inr (inl (signs, refl, s.2 (record c { pathname = Some (implied_pathname special) }))))
   pathname_at special place within (AtEnd end) = (None, None, None, λ c. inr (inr (end, refl, refl, refl)))
 
-  port_at : (special : Bool) (place : ℕ) → place < length tokens → IsTrue (is_colon tokens place) ⊎ ((¬ IsTrue (is_colon tokens place)) × Follows place) → PortFor (PortAt text tokens special place)
+  port_at : (special : Bool) (place : ℕ) → place < length tokens → IsTrue (is_colon_sign tokens place) ⊎ ((¬ IsTrue (is_colon_sign tokens place)) × Follows place) → PortFor (PortAt text tokens special place)
   port_at special place within (inl colon) =
       let ends = ends_some Port (place + 1) 0 (sign_goes_on (codes ":") tokens place closed colon) in
       let t = takes_some Port (place + 1) 0 ends in
-      let p = pathname_at special ends.0 ends.1.within (elim (or_cases (is_slash tokens ends.0 || is_search_sign tokens ends.0 || is_hash_sign tokens ends.0) (ends_at tokens ends.0) (port_sign tokens (place + 1) 0 ends.0 ends.1)) [
+      let p = pathname_at special ends.0 ends.1.within (elim (or_cases (is_slash_sign tokens ends.0 || is_search_sign tokens ends.0 || is_hash_sign tokens ends.0) (ends_at tokens ends.0) (port_sign tokens (place + 1) 0 ends.0 ends.1)) [
         | inl signs ↦ follows ends.0 signs
         | inr end ↦ AtEnd end
       ]) in
@@ -196,24 +196,24 @@ module _ (text : List ℕ) (tokens : List TokenView) (are_tokens : AreLenientTok
       (Some [], p.0, p.1, p.2, λ c. inr (no_colon, refl, p.3 (record c { port = Some [] })))
 
   -- where a hostname ends a port begins or not
-  colon_or_more : (place : ℕ) → ¬ IsTrue (is_colon tokens place) → (balanced : Bool) → IsTrue ((balanced && is_colon tokens place) || is_slash tokens place || is_search_sign tokens place || is_hash_sign tokens place) → Follows place
+  colon_or_more : (place : ℕ) → ¬ IsTrue (is_colon_sign tokens place) → (balanced : Bool) → IsTrue ((balanced && is_colon_sign tokens place) || is_slash_sign tokens place || is_search_sign tokens place || is_hash_sign tokens place) → Follows place
   colon_or_more place no_colon balanced signs =
-      follows place (without (balanced && is_colon tokens place) (is_slash tokens place) (is_search_sign tokens place) (is_hash_sign tokens place)
-      (λ h. no_colon (and_parts balanced (is_colon tokens place) h).1) signs)
+      follows place (without (balanced && is_colon_sign tokens place) (is_slash_sign tokens place) (is_search_sign tokens place) (is_hash_sign tokens place)
+      (λ h. no_colon (and_parts balanced (is_colon_sign tokens place) h).1) signs)
     where
       without : (a b c d : Bool) → ¬ IsTrue a → IsTrue (a || b || c || d) → IsTrue (b || c || d)
       without true b c d none h = absurd (none refl)
       without false b c d none h = h
 
-  port_or_not : (from depth place : ℕ) → EndsAt Hostname tokens from depth place → IsTrue (is_colon tokens place) ⊎ ((¬ IsTrue (is_colon tokens place)) × Follows place)
-  port_or_not from depth place ends = by_colon (is_colon tokens place) refl
+  port_or_not : (from depth place : ℕ) → EndsAt Hostname tokens from depth place → IsTrue (is_colon_sign tokens place) ⊎ ((¬ IsTrue (is_colon_sign tokens place)) × Follows place)
+  port_or_not from depth place ends = by_colon (is_colon_sign tokens place) refl
     where
-      by_colon : (b : Bool) → is_colon tokens place ≡ b → IsTrue (is_colon tokens place) ⊎ ((¬ IsTrue (is_colon tokens place)) × Follows place)
+      by_colon : (b : Bool) → is_colon_sign tokens place ≡ b → IsTrue (is_colon_sign tokens place) ⊎ ((¬ IsTrue (is_colon_sign tokens place)) × Follows place)
       by_colon true e = inl e
       by_colon false e = inr (
-        both_ways (is_colon tokens place) e,
+        both_ways (is_colon_sign tokens place) e,
         elim (stops_cases Hostname tokens from depth place ends) [
-          | inl may ↦ colon_or_more place (both_ways (is_colon tokens place) e) (is_balanced tokens from depth place) (may_end_parts Hostname tokens from depth place may).1
+          | inl may ↦ colon_or_more place (both_ways (is_colon_sign tokens place) e) (is_balanced tokens from depth place) (may_end_parts Hostname tokens from depth place may).1
           | inr end ↦ AtEnd end
         ],
       )
@@ -314,7 +314,7 @@ module _ (text : List ℕ) (tokens : List TokenView) (are_tokens : AreLenientTok
           )
       by_hash false other = by_search (is_search_sign tokens 0) refl other
 
-  absolute : (special : Bool) (colon : ℕ) → EndsAt Protocol tokens 0 0 colon → IsTrue (is_colon tokens colon) → (c : Components) × IsAbsoluteSplit text tokens special colon c
+  absolute : (special : Bool) (colon : ℕ) → EndsAt Protocol tokens 0 0 colon → IsTrue (is_colon_sign tokens colon) → (c : Components) × IsAbsoluteSplit text tokens special colon c
   absolute special colon ends sign = by_slashes (has_slashes tokens colon) refl
     where
       t : (taken : Option (List ℕ)) × Takes text tokens 0 colon taken
@@ -348,7 +348,7 @@ module _ (text : List ℕ) (tokens : List TokenView) (are_tokens : AreLenientTok
 
       by_slashes : (b : Bool) → has_slashes tokens colon ≡ b → (c : Components) × IsAbsoluteSplit text tokens special colon c
       by_slashes true slashes =
-          let second = (and_parts (is_slash tokens (colon + 1)) (is_slash tokens (colon + 2)) slashes).1 in
+          let second = (and_parts (is_slash_sign tokens (colon + 1)) (is_slash_sign tokens (colon + 2)) slashes).1 in
           let more = sign_goes_on (codes "/") tokens (colon + 2) closed second in
           let a = authority_from special (colon + 3) (omega arith) in (
             record a.0 { protocol = t.0 },

@@ -7,7 +7,7 @@ use Rattle.std.proofs.lemmas.Slice.Eq.{bytes_eq-Decides}
 use Rattle.std.specs.List.{fold}
 use Rattle.std.specs.Prelude.{codes, IsSomeAnd, IsTrue, is_some, option_map, slice_get, slice_range}
 use Rattle.std.specs.Str.{bytes_eq}
-use Rattle.urlpattern_init.specs.Split.{Components, EndsAt, IsSplit, LacksProtocol, at, depth_before, depth_behind, ends_at, is_at_sign, is_balanced, is_character, is_colon, is_end, is_ending, is_hash_sign, is_open, is_search_sign, is_seen, is_sign, is_slash, may_end}
+use Rattle.urlpattern_init.specs.Split.{Components, EndsAt, IsSplit, LacksProtocol, at, depth_before, depth_behind, ends_at, is_at_sign, is_balanced, is_character, is_colon_sign, is_end, is_ending, is_hash_sign, is_open, is_search_sign, is_seen, is_sign, is_slash_sign, may_end}
 use Rattle.urlpattern_init.specs.Splitting.{IsClosed}
 use Rattle.urlpattern_init.specs.declared.constructor_parser.Section.{Section}
 use Rattle.urlpattern_init.specs.declared.constructor_parser.Section.TheVariants.{Authority, Password, Port, Protocol, Username}
@@ -120,7 +120,7 @@ depth_at_end section tokens from depth place ends goes =
     ]
 
 -- a slash that is seen behind the end of a section is seen from the beginning of the section
-pub slash_seen_before : (section : Section) (tokens : List TokenView) (from depth end other : ℕ) → IsClosed tokens → EndsAt section tokens from depth end → end ≤ other → IsTrue (is_seen tokens end 0 other) → IsTrue (is_slash tokens other) → IsTrue (is_seen tokens from depth other)
+pub slash_seen_before : (section : Section) (tokens : List TokenView) (from depth end other : ℕ) → IsClosed tokens → EndsAt section tokens from depth end → end ≤ other → IsTrue (is_seen tokens end 0 other) → IsTrue (is_slash_sign tokens other) → IsTrue (is_seen tokens from depth other)
 slash_seen_before section tokens from depth end other closed ends le seen slash =
     elim (cases_Bool (ends_at tokens end)) [
       | inl is_end ↦
@@ -141,7 +141,7 @@ slash_seen_from_sign mark tokens sign other is_a_sign less seen =
     seen_same tokens sign 0 (sign + 1) 0 other (depth_behind_sign mark tokens sign 0 other less is_a_sign) ∙ seen
 
 -- a slash at which a section ends is seen
-pub slash_is_seen : (section : Section) (tokens : List TokenView) (from depth end : ℕ) → EndsAt section tokens from depth end → IsTrue (is_slash tokens end) → IsTrue (is_seen tokens from depth end)
+pub slash_is_seen : (section : Section) (tokens : List TokenView) (from depth end : ℕ) → EndsAt section tokens from depth end → IsTrue (is_slash_sign tokens end) → IsTrue (is_seen tokens from depth end)
 slash_is_seen section tokens from depth end ends slash =
     elim (stops_cases section tokens from depth end ends) [
       | inl may ↦ (may_end_parts section tokens from depth end may).0
@@ -149,11 +149,11 @@ slash_is_seen section tokens from depth end ends slash =
     ]
 
 -- the sign with which a port ends
-pub port_sign : (tokens : List TokenView) (from depth place : ℕ) → EndsAt Port tokens from depth place → IsTrue (is_slash tokens place || is_search_sign tokens place || is_hash_sign tokens place || ends_at tokens place)
+pub port_sign : (tokens : List TokenView) (from depth place : ℕ) → EndsAt Port tokens from depth place → IsTrue (is_slash_sign tokens place || is_search_sign tokens place || is_hash_sign tokens place || ends_at tokens place)
 port_sign tokens from depth place ends =
     elim (stops_cases Port tokens from depth place ends) [
-      | inl may ↦ or_regroup (is_slash tokens place) (is_search_sign tokens place) (is_hash_sign tokens place) (ends_at tokens place) (may_end_parts Port tokens from depth place may).1
-      | inr is_end ↦ or_last (is_slash tokens place) (is_search_sign tokens place) (is_hash_sign tokens place) (ends_at tokens place) is_end
+      | inl may ↦ or_regroup (is_slash_sign tokens place) (is_search_sign tokens place) (is_hash_sign tokens place) (ends_at tokens place) (may_end_parts Port tokens from depth place may).1
+      | inr is_end ↦ or_last (is_slash_sign tokens place) (is_search_sign tokens place) (is_hash_sign tokens place) (ends_at tokens place) is_end
     ]
   where
     or_regroup : (a b c e : Bool) → (a || b || c) ≡ true → (a || b || c || e) ≡ true
@@ -184,7 +184,7 @@ sign_is_seen mark section tokens from depth end ends sign =
     ]
 
 -- one token stands for one character
-sign_conflict : (tokens : List TokenView) (i : ℕ) → IsTrue (is_colon tokens i) → IsTrue (is_at_sign tokens i) → ⊥
+sign_conflict : (tokens : List TokenView) (i : ℕ) → IsTrue (is_colon_sign tokens i) → IsTrue (is_at_sign tokens i) → ⊥
 sign_conflict tokens i colon at_sign =
     let one = found_at (is_sign (codes ":")) tokens i colon in
     let two = at_view (is_sign (codes "@")) tokens i one.0 one.1 in
@@ -195,7 +195,7 @@ sign_conflict tokens i colon at_sign =
     false≢true (ap (λ v. bytes_eq v (codes "@")) (sym e) ∙ ap (λ v. bytes_eq v (codes "@")) f)
 
 -- what is seen from behind a colon with which the username ends is seen from its beginning
-userinfo_depth : (tokens : List TokenView) (from colon place : ℕ) → EndsAt Username tokens from 0 colon → IsTrue (is_colon tokens colon) → colon < place → depth_before tokens from 0 place ≡ depth_before tokens (colon + 1) 0 place
+userinfo_depth : (tokens : List TokenView) (from colon place : ℕ) → EndsAt Username tokens from 0 colon → IsTrue (is_colon_sign tokens colon) → colon < place → depth_before tokens from 0 place ≡ depth_before tokens (colon + 1) 0 place
 userinfo_depth tokens from colon place ends is_a_colon less =
     let level = depth_at_end Username tokens from 0 colon ends (sign_not_end (codes ":") tokens colon is_a_colon) in
     depth_joined tokens from 0 colon place ends.behind (omega arith)
@@ -206,34 +206,34 @@ userinfo_depth tokens from colon place ends is_a_colon less =
 pub username_before : (tokens : List TokenView) (from until place : ℕ) → EndsAt Authority tokens from 0 until → IsTrue (is_at_sign tokens until) → EndsAt Username tokens from 0 place → place ≤ until
 username_before tokens from until place authority at_sign username =
     ends_by Username tokens from 0 place until username authority.behind
-    (and_from (is_seen tokens from 0 until) (is_colon tokens until || is_at_sign tokens until) (sign_is_seen (codes "@") Authority tokens from 0 until authority at_sign) (or_right (is_colon tokens until) (is_at_sign tokens until) at_sign))
+    (and_from (is_seen tokens from 0 until) (is_colon_sign tokens until || is_at_sign tokens until) (sign_is_seen (codes "@") Authority tokens from 0 until authority at_sign) (or_right (is_colon_sign tokens until) (is_at_sign tokens until) at_sign))
 
 -- an authority may end at the sign of the hostname
 at_sign_ends : (tokens : List TokenView) (place : ℕ) (balanced : Bool) → IsTrue (is_at_sign tokens place) → IsTrue (is_ending Authority balanced tokens place)
-at_sign_ends tokens place balanced sign = or_first (is_at_sign tokens place) (is_slash tokens place) (is_search_sign tokens place) (is_hash_sign tokens place) sign
+at_sign_ends tokens place balanced sign = or_first (is_at_sign tokens place) (is_slash_sign tokens place) (is_search_sign tokens place) (is_hash_sign tokens place) sign
   where
     or_first : (a b c d : Bool) → a ≡ true → (a || b || c || d) ≡ true
     or_first true b c d h = refl
     or_first false b c d h = absurd (false≢true h)
 
 -- where it does not end at a colon it ends at that sign
-pub username_alone : (tokens : List TokenView) (from until place : ℕ) → IsClosed tokens → EndsAt Authority tokens from 0 until → IsTrue (is_at_sign tokens until) → EndsAt Username tokens from 0 place → ¬ IsTrue (is_colon tokens place) → place ≡ until
+pub username_alone : (tokens : List TokenView) (from until place : ℕ) → IsClosed tokens → EndsAt Authority tokens from 0 until → IsTrue (is_at_sign tokens until) → EndsAt Username tokens from 0 place → ¬ IsTrue (is_colon_sign tokens place) → place ≡ until
 username_alone tokens from until place closed authority at_sign username no_colon =
     let le = username_before tokens from until place authority at_sign username in
     elim (stops_cases Username tokens from 0 place username) [
       | inl may ↦
           let parts = may_end_parts Username tokens from 0 place may in
-          let sign : IsTrue (is_at_sign tokens place) = elim (or_cases (is_colon tokens place) (is_at_sign tokens place) parts.1) [ inl colon ↦ absurd (no_colon colon) | inr sign ↦ sign ] in
+          let sign : IsTrue (is_at_sign tokens place) = elim (or_cases (is_colon_sign tokens place) (is_at_sign tokens place) parts.1) [ inl colon ↦ absurd (no_colon colon) | inr sign ↦ sign ] in
           let ge = ends_by Authority tokens from 0 until place authority username.behind (and_from (is_seen tokens from 0 place) (is_ending Authority (is_balanced tokens from 0 place) tokens place) parts.0 (at_sign_ends tokens place (is_balanced tokens from 0 place) sign)) in
           omega arith
       | inr is_end ↦ let last = closed.last place username.within is_end in let within = authority.within in omega arith
     ]
 
 -- the password ends at the sign of the hostname
-pub password_ends : (tokens : List TokenView) (from until colon place : ℕ) → IsClosed tokens → EndsAt Authority tokens from 0 until → IsTrue (is_at_sign tokens until) → EndsAt Username tokens from 0 colon → IsTrue (is_colon tokens colon) → EndsAt Password tokens (colon + 1) 0 place → (colon < until) × (place ≡ until)
+pub password_ends : (tokens : List TokenView) (from until colon place : ℕ) → IsClosed tokens → EndsAt Authority tokens from 0 until → IsTrue (is_at_sign tokens until) → EndsAt Username tokens from 0 colon → IsTrue (is_colon_sign tokens colon) → EndsAt Password tokens (colon + 1) 0 place → (colon < until) × (place ≡ until)
 password_ends tokens from until colon place closed authority at_sign username is_a_colon password =
     let le = username_before tokens from until colon authority at_sign username in
-    let less : colon < until = elim (cases_eq colon until) [ inl same ↦ absurd (sign_conflict tokens until (ap (is_colon tokens) (sym same) ∙ is_a_colon) at_sign) | inr other ↦ omega arith ] in
+    let less : colon < until = elim (cases_eq colon until) [ inl same ↦ absurd (sign_conflict tokens until (ap (is_colon_sign tokens) (sym same) ∙ is_a_colon) at_sign) | inr other ↦ omega arith ] in
     let seen_there = sign_is_seen (codes "@") Authority tokens from 0 until authority at_sign in
     let seen_here : IsTrue (is_seen tokens (colon + 1) 0 until) = seen_same tokens (colon + 1) 0 from 0 until (sym (userinfo_depth tokens from colon until username is_a_colon less)) ∙ seen_there in
     let before : place ≤ until = ends_by Password tokens (colon + 1) 0 place until password (omega arith) (and_from (is_seen tokens (colon + 1) 0 until) (is_at_sign tokens until) seen_here at_sign) in
@@ -262,7 +262,7 @@ fold_below [] lower upper le = le
 fold_below (token ∷ tokens) lower upper le = fold_below tokens (depth_behind token.kind lower) (depth_behind token.kind upper) (depth_below token.kind lower upper le)
 
 -- where an authority ends at End, no slash is seen from its beginning, at whatever depth
-pub no_slash_in_sight : (tokens : List TokenView) (from depth end other : ℕ) → IsClosed tokens → EndsAt Authority tokens from 0 end → IsTrue (ends_at tokens end) → from ≤ other → IsTrue (is_seen tokens from depth other) → IsTrue (is_slash tokens other) → ⊥
+pub no_slash_in_sight : (tokens : List TokenView) (from depth end other : ℕ) → IsClosed tokens → EndsAt Authority tokens from 0 end → IsTrue (ends_at tokens end) → from ≤ other → IsTrue (is_seen tokens from depth other) → IsTrue (is_slash_sign tokens other) → ⊥
 no_slash_in_sight tokens from depth end other closed ends is_end behind seen slash =
     let last = closed.last end ends.within is_end in
     let goes_on = sign_goes_on (codes "/") tokens other closed slash in
@@ -272,7 +272,7 @@ no_slash_in_sight tokens from depth end other closed ends is_end behind seen sla
     let level_there : depth_before tokens from 0 other ≡ depth_before tokens from depth other = omega arith in
     let seen_there : IsTrue (is_seen tokens from 0 other) = seen_same tokens from 0 from depth other level_there ∙ seen in
     ends.least other behind (omega arith)
-    (and_from (is_seen tokens from 0 other) (is_ending Authority (is_balanced tokens from 0 other) tokens other) seen_there (or_second (is_at_sign tokens other) (is_slash tokens other) (is_search_sign tokens other) (is_hash_sign tokens other) slash))
+    (and_from (is_seen tokens from 0 other) (is_ending Authority (is_balanced tokens from 0 other) tokens other) seen_there (or_second (is_at_sign tokens other) (is_slash_sign tokens other) (is_search_sign tokens other) (is_hash_sign tokens other) slash))
   where
     or_second : (a b c d : Bool) → b ≡ true → (a || b || c || d) ≡ true
     or_second true b c d h = refl
@@ -280,10 +280,10 @@ no_slash_in_sight tokens from depth end other closed ends is_end behind seen sla
     or_second false false c d h = absurd (false≢true h)
 
 -- the first colon that is seen is found again
-pub colon_again : (tokens : List TokenView) (first second : ℕ) → IsClosed tokens → EndsAt Protocol tokens 0 0 first → IsTrue (is_colon tokens first) → EndsAt Protocol tokens 0 0 second → second ≡ first
+pub colon_again : (tokens : List TokenView) (first second : ℕ) → IsClosed tokens → EndsAt Protocol tokens 0 0 first → IsTrue (is_colon_sign tokens first) → EndsAt Protocol tokens 0 0 second → second ≡ first
 colon_again tokens first second closed ends colon again =
     let seen = sign_is_seen (codes ":") Protocol tokens 0 0 first ends colon in
-    let le = ends_by Protocol tokens 0 0 second first again (omega arith) (and_from (is_seen tokens 0 0 first) (is_colon tokens first) seen colon) in
+    let le = ends_by Protocol tokens 0 0 second first again (omega arith) (and_from (is_seen tokens 0 0 first) (is_colon_sign tokens first) seen colon) in
     elim (stops_cases Protocol tokens 0 0 second again) [
       | inl may ↦ let ge = ends_by Protocol tokens 0 0 first second ends (omega arith) may in omega arith
       | inr is_end ↦ let last = closed.last second again.within is_end in let within = ends.within in omega arith

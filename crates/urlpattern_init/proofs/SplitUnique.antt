@@ -7,7 +7,7 @@ use Rattle.std.specs.Prelude.{codes, IsSomeAnd, IsTrue, slice_get}
 use Rattle.std.specs.Str.{bytes_eq}
 use Rattle.urlpattern_init.specs.ConstructorString.{SplitsAs, SplitsInto}
 use Rattle.urlpattern_init.specs.Split.{AuthorityFrom, Components, EndsAt, HasProtocol, HashAt, HashFrom, HostnameFrom, IsAbsoluteSplit, IsRelativeSplit, IsSplit, IsTextBetween, PathnameAt, PathnameFrom, PortAt, SearchAt, SearchFrom, Takes, UserinfoFrom}
-use Rattle.urlpattern_init.specs.Split.{at, ends_at, has_slashes, is_at_sign, is_character, is_colon, is_end, is_hash_sign, is_search_sign, is_sign, is_slash, follows_modified, depth_before}
+use Rattle.urlpattern_init.specs.Split.{at, ends_at, has_slashes, is_at_sign, is_character, is_colon_sign, is_end, is_hash_sign, is_search_sign, is_sign, is_slash_sign, follows_modified, depth_before}
 use Rattle.urlpattern_init.specs.Splitting.{IsClosed}
 use Rattle.urlpattern_init.specs.declared.constructor_parser.Section.{Section}
 use Rattle.urlpattern_init.specs.declared.constructor_parser.Section.TheVariants.{Authority, Hostname, Pathname, Port, Protocol, Search, Username}
@@ -94,11 +94,11 @@ search_not_hash : (tokens : List TokenView) (place : ℕ) → IsTrue (is_search_
 search_not_hash tokens place h g =
     differ (codes "?") (codes "#") refl (values_one (codes "?") (codes "#") tokens place (search_value tokens place h) (sign_value (codes "#") tokens place g))
 
-slash_not_search : (tokens : List TokenView) (place : ℕ) → IsTrue (is_slash tokens place) → IsTrue (is_search_sign tokens place) → ⊥
+slash_not_search : (tokens : List TokenView) (place : ℕ) → IsTrue (is_slash_sign tokens place) → IsTrue (is_search_sign tokens place) → ⊥
 slash_not_search tokens place h g =
     differ (codes "/") (codes "?") refl (values_one (codes "/") (codes "?") tokens place (sign_value (codes "/") tokens place h) (search_value tokens place g))
 
-slash_not_hash : (tokens : List TokenView) (place : ℕ) → IsTrue (is_slash tokens place) → IsTrue (is_hash_sign tokens place) → ⊥
+slash_not_hash : (tokens : List TokenView) (place : ℕ) → IsTrue (is_slash_sign tokens place) → IsTrue (is_hash_sign tokens place) → ⊥
 slash_not_hash tokens place h g =
     differ (codes "/") (codes "#") refl (values_one (codes "/") (codes "#") tokens place (sign_value (codes "/") tokens place h) (sign_value (codes "#") tokens place g))
 
@@ -207,7 +207,7 @@ module _ (text : List ℕ) (tokens : List TokenView) (are_tokens : AreLenientTok
           search_at_one g.0 (subst (λ until. SearchAt text tokens until c) e h.3) g.3,
         )
 
-    slash_alone : (place : ℕ) → IsTrue (is_slash tokens place) → IsTrue (is_search_sign tokens place || is_hash_sign tokens place) → ⊥
+    slash_alone : (place : ℕ) → IsTrue (is_slash_sign tokens place) → IsTrue (is_search_sign tokens place || is_hash_sign tokens place) → ⊥
     slash_alone place slash signs = elim (or_cases (is_search_sign tokens place) (is_hash_sign tokens place) signs) [
       | inl search ↦ slash_not_search tokens place slash search
       | inr hash ↦ slash_not_hash tokens place slash hash
@@ -361,7 +361,7 @@ module _ (IsSpecial : List ℕ → Bool → Type 0) (text : List ℕ) where
   abbrev HasTwoAnswers : Type 0
   HasTwoAnswers = HasProtocol text (λ protocol. IsSpecial protocol true × IsSpecial protocol false)
 
-  two_answers : (tokens : List TokenView) (colon : ℕ) (found other : Option (List ℕ)) → AreLenientTokens text tokens → EndsAt Protocol tokens 0 0 colon → IsTrue (is_colon tokens colon) → Takes text tokens 0 colon found → found ≡ other → IsSomeAnd found (λ protocol. IsSpecial protocol true) → IsSomeAnd other (λ protocol. IsSpecial protocol false) → HasTwoAnswers
+  two_answers : (tokens : List TokenView) (colon : ℕ) (found other : Option (List ℕ)) → AreLenientTokens text tokens → EndsAt Protocol tokens 0 0 colon → IsTrue (is_colon_sign tokens colon) → Takes text tokens 0 colon found → found ≡ other → IsSomeAnd found (λ protocol. IsSpecial protocol true) → IsSomeAnd other (λ protocol. IsSpecial protocol false) → HasTwoAnswers
   two_answers tokens colon None other t ends sign takes e h g = absurd h
   two_answers tokens colon (Some protocol) other t ends sign takes e h g =
       (tokens, colon, protocol, t, ends, sign, takes, (h, subst (λ o. IsSomeAnd o (λ p. IsSpecial p false)) (sym e) g))

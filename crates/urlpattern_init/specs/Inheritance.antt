@@ -1,17 +1,18 @@
 -- The values of an init, and what it inherits from its base URL, after the URLPattern Standard, section "Processing", at
 -- "process a URLPatternInit".
-use Rattle.std.specs.Prelude.{ℕ, ◌+◌, Bool, true, false, ◌&&◌, ◌||◌, ◌==◌, List, [], ◌∷◌, ◌++◌, map, codes, slice_index, sum, Option, Some, None, is_none, option_map, unwrap_or, Ok, Err, if◌then◌else◌}
+use Rattle.std.specs.Prelude.{ℕ, Bool, true, false, ◌&&◌, ◌||◌, ◌==◌, fold, max, List, [], ◌∷◌, ◌++◌, map, Option, Some, None, is_none, option_map, unwrap_or, Ok, Err, if◌then◌else◌}
 use Rattle.std.specs.List.{list_all, list_any}
 use Rattle.std.specs.Option.{option_or}
 use Rattle.std.specs.Str.{chars}
 use Rattle.url.specs.declared.slicing.Position.TheVariants.{BeforePort, AfterPort}
+use Rattle.url.specs.Ascii.{backslash, slash}
 use Rattle.url.specs.Host.{host_text}
 use Rattle.url.specs.Parser.{Parsed, and_then}
 use Rattle.url.specs.Parts.{Parts, cannot_be_a_base, host_or_empty, text_between}
 use Rattle.urlpattern_init.specs.declared.init.processing.Component.{Component}
 use Rattle.urlpattern_init.specs.declared.init.processing.Component.TheVariants.{Protocol, Username, Password, Hostname, Port, Pathname, Search, Hash}
 use Rattle.urlpattern_init.specs.declared.init.UrlPatternInit.{UrlPatternInit}
-use Rattle.urlpattern_canonical.specs.Canonical.{bytes_asked, processed_base, processed_hash, processed_hostname, processed_password, processed_pathname, processed_port, processed_protocol, processed_search, processed_username, without_first}
+use Rattle.urlpattern_canonical.specs.Canonical.{bytes_asked, left_brace, processed_base, processed_hash, processed_hostname, processed_password, processed_pathname, processed_port, processed_protocol, processed_search, processed_username, without_first}
 use Rattle.urlpattern_canonical.specs.declared.canonicalize_and_process.ProcessType.{ProcessType}
 use Rattle.urlpattern_canonical.specs.declared.canonicalize_and_process.ProcessType.TheVariants.{Pattern, Url}
 use Rattle.urlpattern_syntax.specs.Text.{begins_with, byte_len, text_of}
@@ -93,12 +94,12 @@ processed_text mode protocol Hash text = processed_hash mode text
 -- ---- a relative pathname
 
 abbrev pub is_slash : ℕ → Bool
-is_slash c = c == slice_index (codes "/") 0
+is_slash c = c == slash
 
 -- an absolute pathname begins with a slash; in a pattern the slash may stand behind one backslash or one open brace
 abbrev pub is_absolute : ProcessType → List ℕ → Bool
 is_absolute Pattern text =
-    begins_with is_slash (without_first (slice_index (codes "\\") 0) text) || begins_with is_slash (without_first (slice_index (codes "{") 0) text)
+    begins_with is_slash (without_first backslash text) || begins_with is_slash (without_first left_brace text)
 is_absolute Url text = begins_with is_slash text
 
 -- a path up to its last slash, the slash included
@@ -135,29 +136,29 @@ abbrev pub missing : ProcessType → Option (List ℕ)
 missing Pattern = None
 missing Url = Some []
 
--- the value of one component, given or lacking
-abbrev pub component_value : ProcessType → Values → Option Parts → (protocol : Option (List ℕ)) → Component → Option (List ℕ)
+-- the value of a component for which the init has this
+abbrev pub value_given : ProcessType → Values → Option Parts → (protocol : Option (List ℕ)) → Component → Option (List ℕ)
     → Parsed (Option (List ℕ))
-component_value mode values base protocol component None = Ok (option_or (inherited mode values base component) (missing mode))
-component_value mode values base protocol component (Some text) =
+value_given mode values base protocol component None = Ok (option_or (inherited mode values base component) (missing mode))
+value_given mode values base protocol component (Some text) =
     and_then (processed_text mode protocol component (given_text mode base component text)) (λ value. Ok (Some value))
 
--- the value that a component comes to, or its refusal
-abbrev pub value_or_refusal : ProcessType → Values → Option Parts → (protocol : Option (List ℕ)) → Component → Parsed (Option (List ℕ))
-value_or_refusal mode values base protocol component =
-    component_value mode values base protocol component (value_of component values)
+-- the value that a component comes to
+abbrev pub processed_value : ProcessType → Values → Option Parts → (protocol : Option (List ℕ)) → Component → Parsed (Option (List ℕ))
+processed_value mode values base protocol component =
+    value_given mode values base protocol component (value_of component values)
 
 -- the values that an init with this base comes to, or the first refusal
 unfoldable pub processed_values : ProcessType → Values → Option Parts → Parsed Values
 processed_values mode values base =
-    and_then (value_or_refusal mode values base None Protocol) (λ protocol.
-    and_then (value_or_refusal mode values base protocol Username) (λ username.
-    and_then (value_or_refusal mode values base protocol Password) (λ password.
-    and_then (value_or_refusal mode values base protocol Hostname) (λ hostname.
-    and_then (value_or_refusal mode values base protocol Port) (λ port.
-    and_then (value_or_refusal mode values base protocol Pathname) (λ pathname.
-    and_then (value_or_refusal mode values base protocol Search) (λ search.
-    and_then (value_or_refusal mode values base protocol Hash) (λ hash.
+    and_then (processed_value mode values base None Protocol) (λ protocol.
+    and_then (processed_value mode values base protocol Username) (λ username.
+    and_then (processed_value mode values base protocol Password) (λ password.
+    and_then (processed_value mode values base protocol Hostname) (λ hostname.
+    and_then (processed_value mode values base protocol Port) (λ port.
+    and_then (processed_value mode values base protocol Pathname) (λ pathname.
+    and_then (processed_value mode values base protocol Search) (λ search.
+    and_then (processed_value mode values base protocol Hash) (λ hash.
     Ok (record {
       protocol = protocol;
       username = username;
@@ -187,10 +188,10 @@ abbrev pub protocol_bytes : Parsed (Option (List ℕ)) → ℕ
 protocol_bytes (Ok protocol) = bytes_of protocol
 protocol_bytes (Err reason) = 0
 
--- the bytes of all texts about which `url` is asked, of which a pattern has none
+-- the bytes of the longest text about which `url` is asked; for a pattern it is asked about none
 unfoldable pub asked_bytes : ProcessType → Values → Option Parts → ℕ
 asked_bytes mode values base =
-    bytes_asked mode (protocol_bytes (value_or_refusal mode values base None Protocol) + sum (map (given_bytes mode values base) components))
+    bytes_asked mode (fold max (protocol_bytes (processed_value mode values base None Protocol)) (map (given_bytes mode values base) components))
 
 -- ---- texts that are all there
 

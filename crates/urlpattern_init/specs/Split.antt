@@ -42,16 +42,16 @@ abbrev pub is_sign : (mark : List ℕ) → TokenView → Bool
 is_sign mark token = is_character token.kind && bytes_eq token.value mark
 
 -- a colon, behind a protocol, a username or a hostname
-abbrev pub is_colon : List TokenView → ℕ → Bool
-is_colon tokens place = at (is_sign (codes ":")) tokens place
+abbrev pub is_colon_sign : List TokenView → ℕ → Bool
+is_colon_sign tokens place = at (is_sign (codes ":")) tokens place
 
 -- what stands between a password or a username and the hostname
 abbrev pub is_at_sign : List TokenView → ℕ → Bool
 is_at_sign tokens place = at (is_sign (codes "@")) tokens place
 
 -- a slash, two of which begin an authority, and one a pathname
-abbrev pub is_slash : List TokenView → ℕ → Bool
-is_slash tokens place = at (is_sign (codes "/")) tokens place
+abbrev pub is_slash_sign : List TokenView → ℕ → Bool
+is_slash_sign tokens place = at (is_sign (codes "/")) tokens place
 
 -- what begins the hash
 abbrev pub is_hash_sign : List TokenView → ℕ → Bool
@@ -114,14 +114,14 @@ is_balanced tokens from depth place =
 
 -- the signs with which a section ends; `balanced` says that a colon there stands outside of square brackets
 abbrev pub is_ending : Section → (balanced : Bool) → List TokenView → ℕ → Bool
-is_ending Protocol balanced tokens place = is_colon tokens place
+is_ending Protocol balanced tokens place = is_colon_sign tokens place
 is_ending Authority balanced tokens place =
-    is_at_sign tokens place || is_slash tokens place || is_search_sign tokens place || is_hash_sign tokens place
-is_ending Username balanced tokens place = is_colon tokens place || is_at_sign tokens place
+    is_at_sign tokens place || is_slash_sign tokens place || is_search_sign tokens place || is_hash_sign tokens place
+is_ending Username balanced tokens place = is_colon_sign tokens place || is_at_sign tokens place
 is_ending Password balanced tokens place = is_at_sign tokens place
 is_ending Hostname balanced tokens place =
-    (balanced && is_colon tokens place) || is_slash tokens place || is_search_sign tokens place || is_hash_sign tokens place
-is_ending Port balanced tokens place = is_slash tokens place || is_search_sign tokens place || is_hash_sign tokens place
+    (balanced && is_colon_sign tokens place) || is_slash_sign tokens place || is_search_sign tokens place || is_hash_sign tokens place
+is_ending Port balanced tokens place = is_slash_sign tokens place || is_search_sign tokens place || is_hash_sign tokens place
 is_ending Pathname balanced tokens place = is_search_sign tokens place || is_hash_sign tokens place
 is_ending Search balanced tokens place = is_hash_sign tokens place
 is_ending Hash balanced tokens place = false
@@ -197,7 +197,7 @@ implied_pathname false = []
 -- behind a hostname or a port a pathname begins with its slash
 abbrev pub PathnameAt : (text : List ℕ) → List TokenView → (special : Bool) → (place : ℕ) → Components → Type 0
 PathnameAt text tokens special place components =
-    (IsTrue (is_slash tokens place) × PathnameFrom text tokens place 0 components)
+    (IsTrue (is_slash_sign tokens place) × PathnameFrom text tokens place 0 components)
     ⊎ (IsTrue (is_search_sign tokens place || is_hash_sign tokens place) × (components.pathname ≡ Some (implied_pathname special))
     × SearchAt text tokens place components)
     ⊎ (IsTrue (ends_at tokens place) × (components.pathname ≡ None) × (components.search ≡ None) × (components.hash ≡ None))
@@ -205,10 +205,10 @@ PathnameAt text tokens special place components =
 -- the port follows a colon; without one it is empty
 abbrev pub PortAt : (text : List ℕ) → List TokenView → (special : Bool) → (place : ℕ) → Components → Type 0
 PortAt text tokens special place components =
-    (IsTrue (is_colon tokens place)
+    (IsTrue (is_colon_sign tokens place)
     × ((until : ℕ) × EndsAt Port tokens (place + 1) 0 until × Takes text tokens (place + 1) until components.port
     × PathnameAt text tokens special until components))
-    ⊎ (¬ IsTrue (is_colon tokens place) × (components.port ≡ Some []) × PathnameAt text tokens special place components)
+    ⊎ (¬ IsTrue (is_colon_sign tokens place) × (components.port ≡ Some []) × PathnameAt text tokens special place components)
 
 -- the hostname begins there
 abbrev pub HostnameFrom : (text : List ℕ) → List TokenView → (special : Bool) → (from depth : ℕ) → Components → Type 0
@@ -251,11 +251,11 @@ pub record IsRelativeSplit (text : List ℕ) (tokens : List TokenView) (componen
 
 -- two slashes follow the place
 abbrev pub has_slashes : List TokenView → ℕ → Bool
-has_slashes tokens place = is_slash tokens (place + 1) && is_slash tokens (place + 2)
+has_slashes tokens place = is_slash_sign tokens (place + 1) && is_slash_sign tokens (place + 2)
 
 -- Behind the protocol stands an authority if slashes or a special protocol tell so, else a pathname with an empty hostname.
 pub record IsAbsoluteSplit (text : List ℕ) (tokens : List TokenView) (special : Bool) (colon : ℕ) (components : Components) : Type 0 where
-  pub is_colon_there : IsTrue (is_colon tokens colon)
+  pub is_colon_there : IsTrue (is_colon_sign tokens colon)
   pub protocol_ends : EndsAt Protocol tokens 0 0 colon
   pub protocol : Takes text tokens 0 colon components.protocol
   pub behind :
@@ -281,4 +281,4 @@ LacksProtocol text =
 abbrev pub HasProtocol : (text : List ℕ) → (Is : List ℕ → Type 0) → Type 0
 HasProtocol text Is =
     (tokens : List TokenView) × (colon : ℕ) × (protocol : List ℕ) × AreLenientTokens text tokens
-    × EndsAt Protocol tokens 0 0 colon × IsTrue (is_colon tokens colon) × IsTextBetween text tokens 0 colon protocol × Is protocol
+    × EndsAt Protocol tokens 0 0 colon × IsTrue (is_colon_sign tokens colon) × IsTextBetween text tokens 0 colon protocol × Is protocol

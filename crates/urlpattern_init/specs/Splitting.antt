@@ -1,7 +1,7 @@
 -- Words of the private contracts of the splitting of a constructor string. No public contract cites them.
 use Rattle.std.specs.Prelude.{◌≡◌, ℕ, ◌+◌, ◌-◌, ◌*◌, ◌<◌, ◌≤◌, Bool, true, false, List, length, None, IsTrue}
 use Rattle.std.specs.Str.{chars}
-use Rattle.urlpattern_init.specs.Split.{Components, ends_at, is_seen, is_slash}
+use Rattle.urlpattern_init.specs.Split.{Components, ends_at, is_seen, is_slash_sign}
 use Rattle.urlpattern_init.specs.declared.constructor_parser.Place.{Place}
 use Rattle.urlpattern_init.specs.declared.constructor_parser.Section.{Section}
 use Rattle.urlpattern_init.specs.declared.constructor_parser.Section.TheVariants.{Hostname}
@@ -48,7 +48,7 @@ pub record HasRead (source : Source) (place : Place) : Type 0 where
 -- a slash that is seen from the place on is looked at a second time
 abbrev pub HasTurnForSlash : Source → (index depth turns : ℕ) → Type 0
 HasTurnForSlash source index depth turns =
-    (other : ℕ) → index ≤ other → IsTrue (is_seen (tokens_of source) index depth other) → IsTrue (is_slash (tokens_of source) other)
+    (other : ℕ) → index ≤ other → IsTrue (is_seen (tokens_of source) index depth other) → IsTrue (is_slash_sign (tokens_of source) other)
     → turns + (length source.tokens.now - index) ≤ 2 * length source.tokens.now
 
 -- the section in which square brackets are counted

@@ -4,13 +4,15 @@
 
 ghost use Rattle.std.specs.Prelude.{◌≡◌, ◌↔◌, Any, IfErr, IfOk, MatchBool, Some, false, option_map, ℕ, ◌+◌, ◌-◌, ◌*◌, ◌^◌, ◌<◌, ◌≤◌, ◌∷◌, ◌&&◌, ◌||◌, ◌==◌, not, if◌then◌else◌, [], length, IsTrue, None};
 ghost use Rattle.std.specs.Str.{bytes_eq, chars};
+ghost use Rattle.urlpattern_core.specs.Compiling.{MayRefuseAtFirst};
 ghost use Rattle.urlpattern_init.specs.ConstructorString.{AreFewTurns, HasProtocolOrBase, RefusesString, SplitsInto, init_components};
 ghost use Rattle.urlpattern_init.specs.SpecialProtocol.{AcceptsSpecialScheme, CanonicalizesProtocol, IsSpecialBy, RefusesProtocol};
-ghost use Rattle.urlpattern_init.specs.Split.{AuthorityFrom, EndsAt, HashAt, HashFrom, HasProtocol, HostnameFrom, IsAbsoluteSplit, IsRelativeSplit, IsSplit, IsTextBetween, PathnameAt, PathnameFrom, PortAt, SearchAt, SearchFrom, UserinfoFrom, at, depth_before, depth_behind, ends_at, follows_modified, has_slashes, implied_pathname, is_at_sign, is_character, is_colon, is_end, is_ending, is_open, is_hash_sign, is_search_sign, is_sign, is_slash, takes_modifier};
+ghost use Rattle.urlpattern_init.specs.Split.{AuthorityFrom, EndsAt, HashAt, HashFrom, HasProtocol, HostnameFrom, IsAbsoluteSplit, IsRelativeSplit, IsSplit, IsTextBetween, PathnameAt, PathnameFrom, PortAt, SearchAt, SearchFrom, UserinfoFrom, at, depth_before, depth_behind, ends_at, follows_modified, has_slashes, implied_pathname, is_at_sign, is_character, is_colon_sign, is_end, is_ending, is_open, is_hash_sign, is_search_sign, is_sign, is_slash_sign, takes_modifier};
 ghost use Rattle.urlpattern_init.specs.Splitting.{CanRead, HasRead, HasTurnForSlash, IsSource, NoAuthority, NoPathname, NoSearch, components_of, is_hostname, text_of_source, tokens_of};
 ghost use Rattle.urlpattern_core.specs.Matchers.{matcher_view};
 ghost use Rattle.urlpattern_laws.specs.Matching.{IsMatched};
-ghost use Rattle.urlpattern_syntax.specs.Parsing.{MemoryOr, name_view};
+ghost use Rattle.urlpattern_syntax.specs.Parsing.{name_view};
+ghost use Rattle.urlpattern_syntax.specs.Errors.{MemoryOr};
 ghost use Rattle.urlpattern_syntax.specs.Text.{text_of};
 ghost use Rattle.urlpattern_syntax.specs.declared.error.Error.TheVariants as errors;
 
@@ -423,8 +425,8 @@ impl<'t, 'a> Source<'t, 'a> {
     fn pathname_at(&self, end: Place, special: bool) -> Split<'a>
         requires source { IsSource self.now }
         requires reads { HasRead self.now end }
-        requires sign { IsTrue (is_slash (tokens_of self.now) end.index || is_search_sign (tokens_of self.now) end.index || is_hash_sign (tokens_of self.now) end.index || ends_at (tokens_of self.now) end.index) }
-        requires slash { IsTrue (is_slash (tokens_of self.now) end.index) → end.turns + (length self.now.tokens.now - end.index) ≤ 2 * length self.now.tokens.now }
+        requires sign { IsTrue (is_slash_sign (tokens_of self.now) end.index || is_search_sign (tokens_of self.now) end.index || is_hash_sign (tokens_of self.now) end.index || ends_at (tokens_of self.now) end.index) }
+        requires slash { IsTrue (is_slash_sign (tokens_of self.now) end.index) → end.turns + (length self.now.tokens.now - end.index) ≤ 2 * length self.now.tokens.now }
         ensures split { PathnameAt (text_of_source self.now) (tokens_of self.now) special end.index (components_of result) }
         ensures nothing { NoAuthority (components_of result) }
         ensures turns { result.turns ≤ 2 * length self.now.tokens.now }
@@ -445,7 +447,7 @@ impl<'t, 'a> Source<'t, 'a> {
     fn port_at(&self, end: Place, special: bool) -> Split<'a>
         requires source { IsSource self.now }
         requires reads { HasRead self.now end }
-        requires sign { IsTrue (is_colon (tokens_of self.now) end.index || is_slash (tokens_of self.now) end.index || is_search_sign (tokens_of self.now) end.index || is_hash_sign (tokens_of self.now) end.index || ends_at (tokens_of self.now) end.index) }
+        requires sign { IsTrue (is_colon_sign (tokens_of self.now) end.index || is_slash_sign (tokens_of self.now) end.index || is_search_sign (tokens_of self.now) end.index || is_hash_sign (tokens_of self.now) end.index || ends_at (tokens_of self.now) end.index) }
         requires slash { HasTurnForSlash self.now end.index 0 end.turns }
         ensures split { PortAt (text_of_source self.now) (tokens_of self.now) special end.index (components_of result) }
         ensures turns { result.turns ≤ 2 * length self.now.tokens.now }
@@ -562,7 +564,7 @@ impl<'t, 'a> Source<'t, 'a> {
         requires source { IsSource self.now }
         requires protocol { IsTextBetween (text_of_source self.now) (tokens_of self.now) 0 colon.index (chars protocol.now) }
         requires ends { EndsAt Section.Protocol (tokens_of self.now) 0 0 colon.index }
-        requires sign { IsTrue (is_colon (tokens_of self.now) colon.index) }
+        requires sign { IsTrue (is_colon_sign (tokens_of self.now) colon.index) }
         requires turns { colon.turns ≤ 2 * (colon.index + 1) }
         ensures split { IsAbsoluteSplit (text_of_source self.now) (tokens_of self.now) special colon.index (components_of result) }
         ensures protocol { (components_of result).protocol ≡ Some (chars protocol.now) }
@@ -601,7 +603,7 @@ impl UrlPatternInit {
         pattern: &str,
         base_url: Option<Url>,
     ) -> Result<UrlPatternInit, Error>
-        ensures split { IfOk result (λ init. SplitsInto (IsSpecialBy R.IsMade (λ regexp flags. R.MayRefuse regexp flags false) R.answer)
+        ensures split { IfOk result (λ init. SplitsInto (IsSpecialBy R.IsMade (MayRefuseAtFirst R.MayRefuse) R.answer)
             (chars pattern.now) (init_components init)) }
         ensures base { IfOk result (λ init. init.base_url ≡ base_url) }
         ensures complete { IfOk result HasProtocolOrBase }
@@ -617,7 +619,7 @@ impl UrlPatternInit {
         pattern: &str,
         base_url: Option<Url>,
     ) -> Result<(UrlPatternInit, usize), Error>
-        ensures split { IfOk result (λ found. SplitsInto (IsSpecialBy R.IsMade (λ regexp flags. R.MayRefuse regexp flags false) R.answer)
+        ensures split { IfOk result (λ found. SplitsInto (IsSpecialBy R.IsMade (MayRefuseAtFirst R.MayRefuse) R.answer)
             (chars pattern.now) (init_components found.0)) }
         ensures turns { IfOk result (λ found. AreFewTurns (chars pattern.now) found.1) }
         ensures base { IfOk result (λ found. found.0.base_url ≡ base_url) }
@@ -644,7 +646,7 @@ impl<'t, 'a> Source<'t, 'a> {
     /// The error is that of the protocol's pattern, or that memory ran out.
     fn split<R: RegExp>(&self, alloc: Global) -> Result<Split<'a>, Error>
         requires { IsSource self.now }
-        ensures split { IfOk result (λ split. IsSplit (IsSpecialBy R.IsMade (λ regexp flags. R.MayRefuse regexp flags false) R.answer)
+        ensures split { IfOk result (λ split. IsSplit (IsSpecialBy R.IsMade (MayRefuseAtFirst R.MayRefuse) R.answer)
             (text_of_source self.now) (tokens_of self.now) (components_of split)) }
         ensures turns { IfOk result (λ split. split.turns ≤ 2 * length self.now.tokens.now) }
         ensures refused { IfErr result (MemoryOr (λ error. HasProtocol (text_of_source self.now) (λ protocol. RefusesProtocol protocol error))) }
@@ -683,7 +685,7 @@ fn owned(alloc: Global, text: Option<&str>) -> Result<Option<String>, Error>
 ///
 /// <https://urlpattern.spec.whatwg.org/#compute-protocol-matches-a-special-scheme-flag>
 fn is_special_protocol<R: RegExp>(alloc: Global, protocol: &str) -> Result<bool, Error>
-    ensures special { IfOk result (IsSpecialBy R.IsMade (λ regexp flags. R.MayRefuse regexp flags false) R.answer (chars protocol.now)) }
+    ensures special { IfOk result (IsSpecialBy R.IsMade (MayRefuseAtFirst R.MayRefuse) R.answer (chars protocol.now)) }
     ensures refused { IfErr result (MemoryOr (RefusesProtocol (chars protocol.now))) }
 {
     let options = Options::default(alloc);

@@ -3,6 +3,7 @@
 //! Each function here does nothing; what it promises is a theorem.
 
 ghost use Rattle.std.specs.Prelude.{◌≡◌, ◌⊎◌, ℕ, Bool, true, false, List};
+ghost use Rattle.urlpattern_core.specs.Compiling.{MayRefuseAtFirst};
 ghost use Rattle.urlpattern_init.specs.ConstructorString.{SplitsAs, SplitsInto};
 ghost use Rattle.urlpattern_init.specs.SpecialProtocol.{IsSpecialBy};
 ghost use Rattle.urlpattern_init.specs.Split.{Components, HasProtocol};
@@ -15,7 +16,7 @@ pub fn splits_are_one<R: RegExp>()
     ensures exist { (text : List ℕ) (special : Bool) → (components : Components) × SplitsAs text special components }
     ensures given { (text : List ℕ) (special : Bool) (components others : Components) → SplitsAs text special components → SplitsAs text special others → components ≡ others }
     ensures computed { (text : List ℕ) (components others : Components) →
-        let IsSpecial = IsSpecialBy R.IsMade (λ regexp flags. R.MayRefuse regexp flags false) R.answer in
+        let IsSpecial = IsSpecialBy R.IsMade (MayRefuseAtFirst R.MayRefuse) R.answer in
         SplitsInto IsSpecial text components → SplitsInto IsSpecial text others →
         (components ≡ others) ⊎ HasProtocol text (λ protocol. IsSpecial protocol true × IsSpecial protocol false) }
 {}

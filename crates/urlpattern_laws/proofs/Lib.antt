@@ -11,7 +11,9 @@ pub mod MeaningLaws
 pub mod PrintingLaws
 pub mod MatchingLaws
 pub mod TokenLaws
+pub mod Encodings
 pub mod ReadingLaws
+pub mod CallbackLaws
 pub mod NameLaws
 pub mod RoundTripWords
 pub mod PartTrees

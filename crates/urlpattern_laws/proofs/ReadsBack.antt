@@ -15,7 +15,7 @@ use Rattle.urlpattern_syntax.specs.Reading.{AreParts, Encoding, FirstFails, Item
 use Rattle.urlpattern_syntax.specs.RegexpText.{group_names}
 use Rattle.urlpattern_syntax.specs.Tokens.{end_of}
 use Rattle.urlpattern_laws.specs.Printing.{HaveTexts, Keeps, KeepsTexts, encoded_texts, joined, printed}
-use Rattle.urlpattern_laws.specs.RoundTrip.{ArePatternParts, AreUnskipped, IsPrefixPoint, IsPrintable, IsStandard, KeepsAnswered, ReadsBack, WereRead}
+use Rattle.urlpattern_laws.specs.RoundTrip.{ArePatternParts, AreUnskipped, IsPrefixPoint, IsPrintable, IsStandard, KeepsAnswered, MayKeep, ReadsBack, WereRead}
 use Rattle.urlpattern_laws.proofs.JoinedParts.{joined_apart, joined_pattern_parts, joined_unskipped}
 use Rattle.urlpattern_laws.proofs.NameLaws.{Differ, NewNames}
 use Rattle.urlpattern_laws.proofs.PrintedParts.{prints_its_parts}
@@ -150,6 +150,10 @@ module _ (options : OptionsView) (encoding : Encoding) (parts : List PartView) (
 -- ---- encodings that may answer by an error
 
 module _ (options : OptionsView) (encoding : Encoding) (parts : List PartView) (printable : IsPrintable options parts) where
+  -- the printed pattern may read as the joined parts
+  pub answered_reads : MayKeep encoding parts → Reads (printed options parts) options encoding (joined parts)
+  answered_reads keeps = reads_back options encoding (Contains (encoded_texts (joined parts))) parts printable (each_contained (encoded_texts (joined parts))) keeps
+
   -- the joined parts are all that the printed pattern may read as
   pub answered_only : KeepsAnswered encoding parts → (others : List PartView) → Reads (printed options parts) options encoding others → others ≡ joined parts
   answered_only only = reads_back_only options encoding (Contains (encoded_texts (joined parts))) parts printable (each_contained (encoded_texts (joined parts))) only

@@ -1,11 +1,12 @@
--- Words in which the laws of the definitions are told. No other contract cites them.
-use Rattle.std.specs.Prelude.{◌≡◌, ℕ, suc, ◌+◌, ◌⊎◌, List, [], ◌∷◌, ◌++◌, codes, Contains, Result, Ok, Err, IsTrue, decimal, filter}
+-- What the laws of the definitions speak of: where tokens stand, what encodings answer, and outcomes.
+use Rattle.std.specs.Prelude.{◌≡◌, ◌≢◌, ℕ, suc, ◌+◌, ◌⊎◌, List, [], ◌∷◌, ◌++◌, codes, Contains, Result, Ok, Err, IsTrue, decimal, filter}
 use Rattle.std.specs.Char.{is_ascii_digit}
 use Rattle.std.specs.List.{list_all}
 use Rattle.urlpattern_syntax.specs.declared.tokenizer.TokenType.{TokenType}
 use Rattle.urlpattern_syntax.specs.declared.tokenizer.TokenType.TheVariants.{Regexp, Name, EscapedChar, End}
 use Rattle.urlpattern_laws.specs.Matching.{IsMadeOf, MatcherView}
 use Rattle.urlpattern_syntax.specs.Errors.{ErrorView}
+use Rattle.urlpattern_syntax.specs.Errors.{ErrorView as errors}
 use Rattle.urlpattern_syntax.specs.Options.{OptionsView}
 use Rattle.urlpattern_syntax.specs.Parts.{PartView}
 use Rattle.urlpattern_syntax.specs.Pieces.{ArePieces, Ending, Piece}
@@ -45,13 +46,23 @@ HasLenientTokens text = (tokens : List TokenView) × AreLenientTokens text token
 
 -- ---- encodings
 
--- the encoding that such a list of texts with their answers is
-abbrev pub listed : List (List ℕ × Result (List ℕ) ErrorView) → Encoding
+-- texts with the answers that an encoding has to them
+abbrev pub Answered : Type 0
+Answered = List (List ℕ × Result (List ℕ) ErrorView)
+
+-- the encoding that has these answers and no others
+abbrev pub listed : Answered → Encoding
 listed answers text answer = Contains answers (text, answer)
 
 -- the encoding has one answer at most to each text
 abbrev pub AnswersOnce : Encoding → Type 0
 AnswersOnce encoding = (text : List ℕ) (answer other : Result (List ℕ) ErrorView) → encoding text answer → encoding text other → answer ≡ other
+
+-- the same, besides that memory may run out
+abbrev pub AnswersOnceGivenMemory : Encoding → Type 0
+AnswersOnceGivenMemory encoding =
+    (text : List ℕ) (answer other : Result (List ℕ) ErrorView) → encoding text answer → encoding text other →
+    answer ≢ Err errors.OutOfMemory → other ≢ Err errors.OutOfMemory → answer ≡ other
 
 -- the encoding has an answer to the text
 abbrev pub HasAnswer : Encoding → (text : List ℕ) → Type 0
@@ -77,14 +88,19 @@ AnswersAsked text options encoding = (asked : List ℕ) → Asks text options en
 abbrev pub LacksAnswer : (text : List ℕ) → OptionsView → Encoding → Type 0
 LacksAnswer text options encoding = (asked : List ℕ) × Asks text options encoding asked × ¬ HasAnswer encoding asked
 
--- the text reads as these parts, or is refused with this error
-abbrev pub HasOutcome : (text : List ℕ) → OptionsView → Encoding → Result (List PartView) ErrorView → Type 0
+-- ---- outcomes
+
+-- what a text reads as, or the error that it is refused with
+abbrev pub Outcome : Type 0
+Outcome = Result (List PartView) ErrorView
+
+abbrev pub HasOutcome : (text : List ℕ) → OptionsView → Encoding → Outcome → Type 0
 HasOutcome text options encoding (Ok parts) = Reads text options encoding parts
 HasOutcome text options encoding (Err error) = Refuses text options encoding error
 
 -- the text reads as some parts, or is refused with some error
 abbrev pub HasSomeOutcome : (text : List ℕ) → OptionsView → Encoding → Type 0
-HasSomeOutcome text options encoding = (outcome : Result (List PartView) ErrorView) × HasOutcome text options encoding outcome
+HasSomeOutcome text options encoding = (outcome : Outcome) × HasOutcome text options encoding outcome
 
 -- ---- names
 

@@ -1,5 +1,5 @@
 -- Lists of parts whose printed pattern reads as these parts again: the premises of that theorem.
-use Rattle.std.specs.Prelude.{◌≡◌, ◌≢◌, ℕ, suc, ◌⊎◌, not, List, [], ◌∷◌, AllPairs, Contains, IsTrue, Ok, decimal, if◌then◌else◌}
+use Rattle.std.specs.Prelude.{◌≡◌, ◌≢◌, ℕ, suc, ◌⊎◌, not, List, [], ◌∷◌, AllPairs, Contains, IsTrue, Ok, Err, decimal, if◌then◌else◌}
 use Rattle.std.specs.List.{list_all}
 use Rattle.urlpattern_syntax.specs.declared.parser.PartType.{PartType}
 use Rattle.urlpattern_syntax.specs.declared.parser.PartType.TheVariants.{FixedText, Regexp, SegmentWildcard, FullWildcard}
@@ -99,6 +99,14 @@ pub record WereRead (text : List ℕ) (options : OptionsView) (encoding : Encodi
 -- finds no memory
 abbrev pub KeepsAnswered : Encoding → List PartView → Type 0
 KeepsAnswered encoding parts = (text other : List ℕ) → Contains (encoded_texts (joined parts)) text → encoding text (Ok other) → other ≡ text
+
+-- the encoding may answer each text of the joined parts by itself
+abbrev pub MayKeep : Encoding → List PartView → Type 0
+MayKeep encoding parts = (text : List ℕ) → Contains (encoded_texts (joined parts)) text → encoding text (Ok text)
+
+-- the encoding may answer one of these texts by this error
+abbrev pub FailsText : Encoding → (texts : List (List ℕ)) → ErrorView → Type 0
+FailsText encoding texts error = (text : List ℕ) × Contains texts text × encoding text (Err error)
 
 -- ---- the theorem of one text
 

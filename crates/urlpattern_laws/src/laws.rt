@@ -9,8 +9,9 @@ ghost use Rattle.std.specs.Str.{all_scalars};
 ghost use Rattle.urlpattern_syntax.specs.declared.parser.PartType.TheVariants.{Regexp};
 ghost use Rattle.urlpattern_syntax.specs.declared.tokenizer.TokenType.TheVariants.{End, Name};
 ghost use Rattle.urlpattern_syntax.specs.Errors.{ErrorView};
+ghost use Rattle.urlpattern_syntax.specs.Errors.{ErrorView as errors};
 ghost use Rattle.urlpattern_laws.specs.Dialect.{Follows, HasMeaningOf, IsTreeOf, Items, Means};
-ghost use Rattle.urlpattern_laws.specs.Laws.{AnswersAsked, AnswersOnce, CountFrom, HasLenientTokens, HasShapeOf, HasSomeOutcome, HasTokensOrFault, LacksAnswer, Lays, listed, numbers_among, spelling};
+ghost use Rattle.urlpattern_laws.specs.Laws.{Answered, AnswersAsked, AnswersOnce, AnswersOnceGivenMemory, CountFrom, HasLenientTokens, HasOutcome, HasShapeOf, HasSomeOutcome, HasTokensOrFault, LacksAnswer, Lays, Outcome, listed, numbers_among, spelling};
 ghost use Rattle.urlpattern_laws.specs.Matching.{Agrees, AgreesInMiddle, Answers, ArePeeled, FollowsMiddle, MatcherView, end_text};
 ghost use Rattle.urlpattern_syntax.specs.Options.{OptionsView};
 ghost use Rattle.urlpattern_laws.specs.PartMeaning.{Allows, AreCopies, Captures, PartMeans, PartsMean, capture_of_none};
@@ -18,7 +19,7 @@ ghost use Rattle.urlpattern_syntax.specs.Parts.{PartView};
 ghost use Rattle.urlpattern_syntax.specs.Pieces.{ArePieces, Ending, Piece};
 ghost use Rattle.urlpattern_laws.specs.Printing.{HaveTexts, Keeps, encoded_texts, joined, printed};
 ghost use Rattle.urlpattern_syntax.specs.Reading.{Reads, Refuses, encoding_of};
-ghost use Rattle.urlpattern_laws.specs.RoundTrip.{ArePatternParts, IsPrintable, KeepsAnswered, WereRead};
+ghost use Rattle.urlpattern_laws.specs.RoundTrip.{ArePatternParts, FailsText, IsPrintable, KeepsAnswered, MayKeep, WereRead};
 ghost use Rattle.urlpattern_syntax.specs.RegexpText.{IsWildcard, group_names, is_empty, regexp_text};
 ghost use Rattle.urlpattern_syntax.specs.Text.{byte_len, lacks, line_feed, BeginsWith};
 ghost use Rattle.urlpattern_syntax.specs.Tokens.{AreLenientTokens, AreTokens, FaultView, IsFault, TokenView, end_of};
@@ -95,21 +96,30 @@ pub fn pieces_are_one()
 /// A text has one outcome at most, which is a reading or a refusal, wherever the encoding has one answer at most to each
 /// text. That it has one says [`every_text_has_an_outcome`]. The encoding is any list of texts with their answers.
 pub fn readings_are_one()
-    ensures readings { (text : List ℕ) (options : OptionsView) (answers : List (List ℕ × Result (List ℕ) ErrorView)) (parts others : List PartView) → AnswersOnce (listed answers) →
+    ensures readings { (text : List ℕ) (options : OptionsView) (answers : Answered) (parts others : List PartView) → AnswersOnce (listed answers) →
         Reads text options (listed answers) parts → Reads text options (listed answers) others → parts ≡ others }
-    ensures refusals { (text : List ℕ) (options : OptionsView) (answers : List (List ℕ × Result (List ℕ) ErrorView)) (error other : ErrorView) → AnswersOnce (listed answers) →
+    ensures refusals { (text : List ℕ) (options : OptionsView) (answers : Answered) (error other : ErrorView) → AnswersOnce (listed answers) →
         Refuses text options (listed answers) error → Refuses text options (listed answers) other → error ≡ other }
-    ensures not_both { (text : List ℕ) (options : OptionsView) (answers : List (List ℕ × Result (List ℕ) ErrorView)) (parts : List PartView) (error : ErrorView) → AnswersOnce (listed answers) →
+    ensures not_both { (text : List ℕ) (options : OptionsView) (answers : Answered) (parts : List PartView) (error : ErrorView) → AnswersOnce (listed answers) →
         Reads text options (listed answers) parts → ¬ Refuses text options (listed answers) error }
+{}
+
+/// The same of a callback's own answers, among which may be that memory ran out: of the outcomes that are not that, a text
+/// has one, wherever the callback has one other answer at most to each text.
+pub fn readings_by_callbacks_are_one<F: Fn(&str) -> Result<String, Error>>()
+    ensures { (callback : F) (text : List ℕ) (options : OptionsView) (outcome other : Outcome) →
+        let encoding = encoding_of (FnReturnsAt F.Fn callback) in
+        AnswersOnceGivenMemory encoding → outcome ≢ Err errors.OutOfMemory → other ≢ Err errors.OutOfMemory →
+        HasOutcome text options encoding outcome → HasOutcome text options encoding other → outcome ≡ other }
 {}
 
 /// Under any options every text has an outcome, which is a reading or a refusal, or else it asks the encoding about a text
 /// to which that has no answer. So it has an outcome where the encoding answers whatever the text asks it about. The
 /// encoding is any list of texts with their answers or, in the last clause, any callback: `F` is the callback's type.
 pub fn every_text_has_an_outcome<F: Fn(&str) -> Result<String, Error>>()
-    ensures listed { (text : List ℕ) (options : OptionsView) (answers : List (List ℕ × Result (List ℕ) ErrorView)) →
+    ensures listed { (text : List ℕ) (options : OptionsView) (answers : Answered) →
         HasSomeOutcome text options (listed answers) ⊎ LacksAnswer text options (listed answers) }
-    ensures answered { (text : List ℕ) (options : OptionsView) (answers : List (List ℕ × Result (List ℕ) ErrorView)) →
+    ensures answered { (text : List ℕ) (options : OptionsView) (answers : Answered) →
         AnswersAsked text options (listed answers) → HasSomeOutcome text options (listed answers) }
     ensures called { (text : List ℕ) (options : OptionsView) (callback : F) → let encoding = encoding_of (FnReturnsAt F.Fn callback) in
         AnswersAsked text options encoding → HasSomeOutcome text options encoding }
@@ -118,11 +128,11 @@ pub fn every_text_has_an_outcome<F: Fn(&str) -> Result<String, Error>>()
 /// In a reading the names of the groups are not empty, and no two are equal. Those that begin with a digit are `0`, `1`
 /// and so on in order. A name that the pattern gives begins with none, so they are the groups without a name.
 pub fn names_are_new()
-    ensures nonempty { (text : List ℕ) (options : OptionsView) (answers : List (List ℕ × Result (List ℕ) ErrorView)) (parts : List PartView) →
+    ensures nonempty { (text : List ℕ) (options : OptionsView) (answers : Answered) (parts : List PartView) →
         Reads text options (listed answers) parts → All (λ name. name ≢ []) (group_names parts) }
-    ensures distinct { (text : List ℕ) (options : OptionsView) (answers : List (List ℕ × Result (List ℕ) ErrorView)) (parts : List PartView) →
+    ensures distinct { (text : List ℕ) (options : OptionsView) (answers : Answered) (parts : List PartView) →
         Reads text options (listed answers) parts → AllPairs (λ name other. name ≢ other) (group_names parts) }
-    ensures numbered { (text : List ℕ) (options : OptionsView) (answers : List (List ℕ × Result (List ℕ) ErrorView)) (parts : List PartView) →
+    ensures numbered { (text : List ℕ) (options : OptionsView) (answers : Answered) (parts : List PartView) →
         Reads text options (listed answers) parts → CountFrom 0 (numbers_among (group_names parts)) }
     ensures given { (text : List ℕ) (tokens front back : List TokenView) (token : TokenView) → AreTokens text tokens → tokens ≡ front ++ token ∷ back → token.kind ≡ Name →
         ¬ BeginsWith is_ascii_digit token.value }
@@ -171,7 +181,7 @@ pub fn joining_keeps_regexp()
 /// Parts that a text reads as are such as a pattern text may be read as: their kinds, values and names fit together.
 /// This holds under any options and any encoding.
 pub fn read_parts_are_pattern_parts()
-    ensures { (text : List ℕ) (options : OptionsView) (answers : List (List ℕ × Result (List ℕ) ErrorView)) (parts : List PartView) →
+    ensures { (text : List ℕ) (options : OptionsView) (answers : Answered) (parts : List PartView) →
         Reads text options (listed answers) parts → ArePatternParts options parts }
 {}
 
@@ -179,36 +189,54 @@ pub fn read_parts_are_pattern_parts()
 /// it is not refused. Printing what it reads as gives the same text. The parts may be any that are printable, and the
 /// encoding any list of answers that keeps their texts; for all parts there is such a list.
 pub fn printed_patterns_read_back()
-    ensures reads { (options : OptionsView) (answers : List (List ℕ × Result (List ℕ) ErrorView)) (parts : List PartView) →
+    ensures reads { (options : OptionsView) (answers : Answered) (parts : List PartView) →
         IsPrintable options parts → Keeps (listed answers) parts → Reads (printed options parts) options (listed answers) (joined parts) }
-    ensures only { (options : OptionsView) (answers : List (List ℕ × Result (List ℕ) ErrorView)) (parts others : List PartView) →
+    ensures only { (options : OptionsView) (answers : Answered) (parts others : List PartView) →
         IsPrintable options parts → Keeps (listed answers) parts → Reads (printed options parts) options (listed answers) others → others ≡ joined parts }
-    ensures not_refused { (options : OptionsView) (answers : List (List ℕ × Result (List ℕ) ErrorView)) (parts : List PartView) (error : ErrorView) →
+    ensures not_refused { (options : OptionsView) (answers : Answered) (parts : List PartView) (error : ErrorView) →
         IsPrintable options parts → Keeps (listed answers) parts → ¬ Refuses (printed options parts) options (listed answers) error }
-    ensures same { (options : OptionsView) (answers : List (List ℕ × Result (List ℕ) ErrorView)) (parts others : List PartView) →
+    ensures same { (options : OptionsView) (answers : Answered) (parts others : List PartView) →
         IsPrintable options parts → Keeps (listed answers) parts → Reads (printed options parts) options (listed answers) others → printed options others ≡ printed options parts }
-    ensures kept { (parts : List PartView) → (answers : List (List ℕ × Result (List ℕ) ErrorView)) × Keeps (listed answers) parts }
+    ensures kept { (parts : List PartView) → (answers : Answered) × Keeps (listed answers) parts }
 {}
 
 /// A printed pattern is refused only by an error that the encoding answers to one of the texts of the joined parts. Where
 /// the encoding answers none of them by another text, the pattern reads as the joined parts if it reads at all.
 pub fn printed_patterns_fail_by_the_encoding_alone()
-    ensures only { (options : OptionsView) (answers : List (List ℕ × Result (List ℕ) ErrorView)) (parts others : List PartView) →
+    ensures only { (options : OptionsView) (answers : Answered) (parts others : List PartView) →
         IsPrintable options parts → KeepsAnswered (listed answers) parts → Reads (printed options parts) options (listed answers) others → others ≡ joined parts }
-    ensures refused { (options : OptionsView) (answers : List (List ℕ × Result (List ℕ) ErrorView)) (parts : List PartView) (error : ErrorView) →
+    ensures refused { (options : OptionsView) (answers : Answered) (parts : List PartView) (error : ErrorView) →
         IsPrintable options parts → Refuses (printed options parts) options (listed answers) error → (text : List ℕ) × Contains (encoded_texts (joined parts)) text × listed answers text (Err error) }
+{}
+
+/// The same of a callback's own answers. Under a callback that may answer each text of the joined parts by itself, the printed
+/// pattern may be read as the joined parts; under one that answers none of them by another text, it is read as nothing else;
+/// and it is refused only by an error that the callback may answer to one of them. Parts that were read under the callback
+/// are printable.
+pub fn printed_patterns_read_back_by_callbacks<F: Fn(&str) -> Result<String, Error>>()
+    ensures printable { (callback : F) (text : List ℕ) (options : OptionsView) (parts : List PartView) →
+        WereRead text options (encoding_of (FnReturnsAt F.Fn callback)) parts → IsPrintable options parts }
+    ensures reads { (callback : F) (options : OptionsView) (parts : List PartView) →
+        let encoding = encoding_of (FnReturnsAt F.Fn callback) in
+        IsPrintable options parts → MayKeep encoding parts → Reads (printed options parts) options encoding (joined parts) }
+    ensures only { (callback : F) (options : OptionsView) (parts others : List PartView) →
+        let encoding = encoding_of (FnReturnsAt F.Fn callback) in
+        IsPrintable options parts → KeepsAnswered encoding parts → Reads (printed options parts) options encoding others → others ≡ joined parts }
+    ensures refused { (callback : F) (options : OptionsView) (parts : List PartView) (error : ErrorView) →
+        let encoding = encoding_of (FnReturnsAt F.Fn callback) in
+        IsPrintable options parts → Refuses (printed options parts) options encoding error → FailsText encoding (encoded_texts (joined parts)) error }
 {}
 
 /// Parts that a text was read as under the default, hostname or pathname options, in either syntax, print as a pattern
 /// that reads back: as the joined parts, and as nothing else, and printing these gives the same text. The two encodings
 /// are any lists of answers: the first made the parts, and the second keeps their texts.
 pub fn parts_that_were_read_print_and_read_back()
-    ensures reads { (text : List ℕ) (options : OptionsView) (first answers : List (List ℕ × Result (List ℕ) ErrorView)) (parts : List PartView) →
+    ensures reads { (text : List ℕ) (options : OptionsView) (first answers : Answered) (parts : List PartView) →
         WereRead text options (listed first) parts → Keeps (listed answers) parts → Reads (printed options parts) options (listed answers) (joined parts) }
-    ensures only { (text : List ℕ) (options : OptionsView) (first answers : List (List ℕ × Result (List ℕ) ErrorView)) (parts others : List PartView) →
+    ensures only { (text : List ℕ) (options : OptionsView) (first answers : Answered) (parts others : List PartView) →
         WereRead text options (listed first) parts → Keeps (listed answers) parts → Reads (printed options parts) options (listed answers) others → others ≡ joined parts }
-    ensures not_refused { (text : List ℕ) (options : OptionsView) (first answers : List (List ℕ × Result (List ℕ) ErrorView)) (parts : List PartView) (error : ErrorView) →
+    ensures not_refused { (text : List ℕ) (options : OptionsView) (first answers : Answered) (parts : List PartView) (error : ErrorView) →
         WereRead text options (listed first) parts → Keeps (listed answers) parts → ¬ Refuses (printed options parts) options (listed answers) error }
-    ensures same { (text : List ℕ) (options : OptionsView) (first answers : List (List ℕ × Result (List ℕ) ErrorView)) (parts others : List PartView) →
+    ensures same { (text : List ℕ) (options : OptionsView) (first answers : Answered) (parts others : List PartView) →
         WereRead text options (listed first) parts → Keeps (listed answers) parts → Reads (printed options parts) options (listed answers) others → printed options others ≡ printed options parts }
 {}

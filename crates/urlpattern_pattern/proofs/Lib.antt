@@ -5,3 +5,4 @@ pub mod MatchExamples
 pub mod MatchLaws
 pub mod MatchSteps
 pub mod CompiledLemmas
+pub mod MeaningLemmas

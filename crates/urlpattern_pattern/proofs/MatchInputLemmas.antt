@@ -10,7 +10,7 @@ use Rattle.urlpattern_canonical.specs.Canonical.{Tells}
 use Rattle.urlpattern_canonical.specs.declared.canonicalize_and_process.ProcessType.TheVariants.{Url}
 use Rattle.urlpattern_syntax.specs.declared.error.Error.{Error}
 use Rattle.urlpattern_syntax.specs.declared.error.Error.TheVariants as errors
-use Rattle.urlpattern_syntax.specs.Parsing.{MemoryOr}
+use Rattle.urlpattern_syntax.specs.Errors.{MemoryOr}
 
 -- an init of which `url` refuses a value
 pub no_input : (init : UrlPatternInit) (error : Error) (reason : ParseError) → error ≡ errors.Url reason

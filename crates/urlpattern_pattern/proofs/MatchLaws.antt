@@ -3,7 +3,6 @@ use Rattle.std.proofs.Common.{◌≡◌, ℕ, Bool, List, refl, sym, ap, ◌∙�
 use Rattle.std.specs.Prelude.{Option, Ok, Err}
 use Rattle.urlpattern_init.specs.declared.init.processing.Component.{Component}
 use Rattle.urlpattern_init.specs.declared.init.UrlPatternMatchInput.{UrlPatternMatchInput}
-use Rattle.urlpattern_init.specs.declared.init.UrlPatternMatchInput.TheVariants.{Init, Url as UrlInput}
 use Rattle.urlpattern_init.specs.Inheritance.{Texts}
 use Rattle.urlpattern_pattern.specs.Match.{HasMatch, HasNoMatch, IsLongInput, IsMatch, IsSameResult, ResultView, group_of, text_at}
 use Rattle.urlpattern_pattern.specs.MatchInput.{IsNoInput, input_texts}
@@ -49,7 +48,7 @@ matches-one : {E : Type 0} (answer : E → List ℕ → Option Captures) (matche
 matches-one answer matcher text captures others (middle, cut, accepts) other =
     accepts-one answer matcher.ignore_case matcher.inner middle captures others accepts ((matches-accepts answer matcher text middle others cut).0 other)
 
-texts-one : (input : UrlPatternMatchInput) (texts others : Texts) → input_texts input ≡ Ok texts → input_texts input ≡ Ok others → texts ≡ others
+pub texts-one : (input : UrlPatternMatchInput) (texts others : Texts) → input_texts input ≡ Ok texts → input_texts input ≡ Ok others → texts ≡ others
 texts-one input texts others one other = cc
 
 pub match-one : {E : Type 0} (answer : E → List ℕ → Option Captures) (pattern : PatternView E) (input : UrlPatternMatchInput) (result other : Component → ResultView) →
@@ -68,10 +67,9 @@ match-one answer pattern input result other (texts, are_texts, match) (texts', a
 
 -- ---- not both
 
-no_input-long : (input : UrlPatternMatchInput) (texts : Texts) → input_texts input ≡ Ok texts → IsNoInput input → IsLongInput input
-no_input-long (Init init) texts are_texts (inl refused) = absurd (let e = refused.1 in let never : ⊥ = cc in never)
-no_input-long (Init init) texts are_texts (inr long) = long
-no_input-long (UrlInput url) texts are_texts never = never
+pub no_input-long : (input : UrlPatternMatchInput) (texts : Texts) → input_texts input ≡ Ok texts → IsNoInput input → IsLongInput input
+no_input-long input texts are_texts (inl refused) = absurd (let e = refused.1 in let never : ⊥ = cc in never)
+no_input-long input texts are_texts (inr long) = long
 
 pub match-not_both : {E : Type 0} (answer : E → List ℕ → Option Captures) (pattern : PatternView E) (input : UrlPatternMatchInput) →
     HasMatch answer pattern input → HasNoMatch answer pattern input → IsLongInput input

@@ -2,4 +2,5 @@ pub mod Compiled
 pub mod Eight
 pub mod Match
 pub mod MatchInput
+pub mod Meaning
 pub mod Patterns

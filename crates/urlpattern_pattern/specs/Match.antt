@@ -7,14 +7,12 @@ use Rattle.std.specs.declared.alloc.Global.{Global}
 use Rattle.urlpattern_init.specs.declared.init.processing.Component.{Component}
 use Rattle.urlpattern_init.specs.declared.init.processing.Component.TheVariants.{Protocol, Username, Password, Hostname, Port, Pathname, Search, Hash}
 use Rattle.urlpattern_init.specs.declared.init.UrlPatternMatchInput.{UrlPatternMatchInput}
-use Rattle.urlpattern_init.specs.declared.init.UrlPatternMatchInput.TheVariants.{Init, Url as UrlInput}
 use Rattle.urlpattern_pattern.specs.declared.pattern.result.UrlPatternComponentResult.{UrlPatternComponentResult}
 use Rattle.urlpattern_pattern.specs.declared.pattern.result.UrlPatternResult.{UrlPatternResult}
-use Rattle.urlpattern_init.specs.Inheritance.{Texts, asked_bytes, values_view}
-use Rattle.urlpattern_pattern.specs.MatchInput.{IsNoInput, input_texts}
+use Rattle.urlpattern_init.specs.Inheritance.{Texts}
+use Rattle.urlpattern_pattern.specs.MatchInput.{IsNoInput, input_bytes, input_texts}
 use Rattle.urlpattern_pattern.specs.Patterns.{PatternView}
 use Rattle.urlpattern_canonical.specs.Canonical.{long_text}
-use Rattle.urlpattern_canonical.specs.declared.canonicalize_and_process.ProcessType.TheVariants.{Url}
 use Rattle.urlpattern_laws.specs.Matching.{Answers, IsMatched}
 use Rattle.urlpattern_laws.specs.PartMeaning.{Captures}
 use Rattle.urlpattern_syntax.specs.Text.{text_of}
@@ -107,7 +105,6 @@ HasNoMatch answer pattern input =
 abbrev pub IsSameResult : (result other : ResultView) → Type 0
 IsSameResult result other = (result.input ≡ other.input) × ((name : List ℕ) → result.group name ≡ other.group name)
 
--- the texts about which `url` is asked are longer than it is sure to take
+-- a text about which `url` is asked is longer than it is sure to take
 abbrev pub IsLongInput : UrlPatternMatchInput → Type 0
-IsLongInput (Init init) = long_text ≤ asked_bytes Url (values_view init) init.base_url
-IsLongInput (UrlInput url) = ⊥
+IsLongInput input = long_text ≤ input_bytes input

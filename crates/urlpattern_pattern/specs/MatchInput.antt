@@ -1,11 +1,10 @@
 -- The texts of a match input, after the URLPattern Standard, section "Matching", at "perform a match".
-use Rattle.std.specs.Prelude.{◌≡◌, ◌≤◌, ◌⊎◌, Ok, Err}
-use Rattle.url.specs.declared.error.ParseError.{ParseError}
+use Rattle.std.specs.Prelude.{ℕ, Ok}
 use Rattle.url.specs.Parser.{Parsed, and_then}
 use Rattle.urlpattern_init.specs.declared.init.UrlPatternMatchInput.{UrlPatternMatchInput}
 use Rattle.urlpattern_init.specs.declared.init.UrlPatternMatchInput.TheVariants.{Init, Url as UrlInput}
 use Rattle.urlpattern_init.specs.Inheritance.{Texts, asked_bytes, processed_values, texts_of_url, texts_of_values, values_view}
-use Rattle.urlpattern_canonical.specs.Canonical.{long_text}
+use Rattle.urlpattern_canonical.specs.Canonical.{IsRefusedByUrl}
 use Rattle.urlpattern_canonical.specs.declared.canonicalize_and_process.ProcessType.TheVariants.{Url}
 use Rattle.urlpattern_inputs.specs.declared.match_input.MatchInput.{MatchInput}
 use Rattle.urlpattern_syntax.specs.Text.{text_of}
@@ -27,8 +26,11 @@ abbrev pub input_texts : UrlPatternMatchInput → Parsed Texts
 input_texts (Init init) = and_then (processed_values Url (values_view init) init.base_url) (λ values. Ok (texts_of_values values))
 input_texts (UrlInput url) = Ok (texts_of_url url)
 
--- `url` refuses the input, or its texts are too long
+-- the bytes of the longest text about which `url` is asked; of a URL there is none
+abbrev pub input_bytes : UrlPatternMatchInput → ℕ
+input_bytes (Init init) = asked_bytes Url (values_view init) init.base_url
+input_bytes (UrlInput url) = 0
+
+-- the input has no texts
 abbrev pub IsNoInput : UrlPatternMatchInput → Type 0
-IsNoInput (Init init) =
-    ((reason : ParseError) × (input_texts (Init init) ≡ Err reason)) ⊎ (long_text ≤ asked_bytes Url (values_view init) init.base_url)
-IsNoInput (UrlInput url) = ⊥
+IsNoInput input = IsRefusedByUrl (input_texts input) (input_bytes input)

@@ -2,12 +2,35 @@
 //!
 //! Each function here does nothing; what it promises is a theorem.
 
-ghost use Rattle.std.specs.Prelude.{◌↔◌, ℕ, List, Option};
+ghost use Rattle.std.specs.Prelude.{◌≡◌, ◌↔◌, ℕ, List, Ok, Option};
 ghost use Rattle.urlpattern_init.specs.declared.init.processing.Component.{Component};
 ghost use Rattle.urlpattern_init.specs.declared.init.UrlPatternMatchInput.{UrlPatternMatchInput};
+ghost use Rattle.urlpattern_core.specs.Compiling.{IsCompiledFrom};
+ghost use Rattle.urlpattern_init.specs.Inheritance.{Texts, Values};
+ghost use Rattle.urlpattern_inputs.specs.declared.options.UrlPatternOptions.{UrlPatternOptions};
+ghost use Rattle.urlpattern_pattern.specs.Compiled.{AreCompiled};
+ghost use Rattle.urlpattern_pattern.specs.MatchInput.{input_texts};
+ghost use Rattle.urlpattern_pattern.specs.Meaning.{IsExecuted, IsFoundByMeaning};
 ghost use Rattle.urlpattern_pattern.specs.Match.{HasMatch, HasNoMatch, IsLongInput, IsMatch, IsSameResult, ResultView};
 ghost use Rattle.urlpattern_pattern.specs.Patterns.{PatternView};
 ghost use Rattle.urlpattern_laws.specs.PartMeaning.{Captures};
+
+use urlpattern_core::regexp::RegExp;
+
+/// What a pattern answers to an input is what its pattern texts mean. In a match each component's pattern text means the
+/// component's text, and the groups are the names of its parts beside the captures of one such meaning. No match is answered
+/// only where the pattern texts do not mean all eight texts.
+///
+/// It holds of a component without a custom regular expression, where case is kept and the text is of characters without line
+/// feed, and where an engine that is needed took the regular expression that it was given and follows it. No text of the
+/// input is longer than `url` is sure to take.
+pub fn groups_mean_the_parts<R: RegExp>()
+    ensures { (asked : UrlPatternOptions) (values : Values) (pattern : PatternView R) (input : UrlPatternMatchInput) (texts : Texts)
+        (found : Option (Component → ResultView)) →
+        (compiled : AreCompiled (IsCompiledFrom R.IsMade R.MayRefuse R.syntax_of) R.answer asked values pattern) →
+        input_texts input ≡ Ok texts → ¬ IsLongInput input →
+        IsExecuted R.answer pattern input found → IsFoundByMeaning R.answer asked values compiled.hierarchical pattern texts found }
+{}
 
 /// A test of a pattern is true exactly where there is a match, and then there is one match. It is not false there, unless
 /// the texts of an init are longer than `url` takes.

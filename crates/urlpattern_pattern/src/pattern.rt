@@ -9,6 +9,7 @@ ghost use Rattle.urlpattern_init.specs.declared.init.processing.Component.TheVar
 mod eight;
 mod groups;
 mod matching;
+mod once;
 mod parse;
 mod result;
 

@@ -1,5 +1,5 @@
 -- The errors: what a clause sees of them.
-use Rattle.std.specs.Prelude.{ℕ, List}
+use Rattle.std.specs.Prelude.{◌≡◌, ◌⊎◌, ℕ, List}
 use Rattle.url.specs.declared.error.ParseError.{ParseError}
 use Rattle.urlpattern_syntax.specs.declared.error.Error.{Error}
 use Rattle.urlpattern_syntax.specs.declared.error.Error.TheVariants as errors
@@ -31,3 +31,7 @@ error_view (errors.Parser error) = parser_error_view error
 error_view (errors.Url error) = Url error
 error_view (errors.RegExp error) = RegExp
 error_view errors.OutOfMemory = OutOfMemory
+
+-- The error is that memory ran out, or one of these.
+abbrev pub MemoryOr : (Is : ErrorView → Type 0) → Error → Type 0
+MemoryOr Is error = (error_view error ≡ OutOfMemory) ⊎ Is (error_view error)

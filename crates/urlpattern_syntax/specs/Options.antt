@@ -1,5 +1,6 @@
 -- The options of a component: what a clause sees of them.
-use Rattle.std.specs.Prelude.{ℕ, Bool, false, List, [], Option, None, Some, codes, slice_index}
+use Rattle.std.specs.Prelude.{ℕ, Bool, false, List, [], Option, None, Some, codes}
+use Rattle.url.specs.Ascii.{dot, slash}
 use Rattle.urlpattern_syntax.specs.declared.parser.RegexSyntax.{RegexSyntax}
 use Rattle.urlpattern_syntax.specs.declared.parser.RegexSyntax.TheVariants.{Rust}
 use Rattle.urlpattern_syntax.specs.declared.parser.Options.{Options}
@@ -28,7 +29,7 @@ abbrev pub default_options : OptionsView
 default_options = standard_options None []
 
 abbrev pub hostname_options : OptionsView
-hostname_options = standard_options (Some (slice_index (codes ".") 0)) []
+hostname_options = standard_options (Some dot) []
 
 abbrev pub pathname_options : OptionsView
-pathname_options = standard_options (Some (slice_index (codes "/") 0)) (codes "/")
+pathname_options = standard_options (Some slash) (codes "/")

@@ -17,6 +17,7 @@ use Rattle.urlpattern_syntax.specs.declared.error.Error.{Error}
 use Rattle.urlpattern_syntax.specs.declared.parser.PartList.{PartList}
 use Rattle.urlpattern_syntax.specs.declared.parser.PartModifier.TheVariants as modifiers
 use Rattle.urlpattern_syntax.specs.Errors.{ErrorView, error_view}
+pub use Rattle.urlpattern_syntax.specs.Errors.{MemoryOr}
 use Rattle.urlpattern_syntax.specs.Errors.{ErrorView as error_views}
 use Rattle.urlpattern_syntax.specs.Options.{OptionsView}
 use Rattle.urlpattern_syntax.specs.Parts.{PartView, part_view}
@@ -161,10 +162,6 @@ pub record AddsParts (options : OptionsView) (encoding : Encoding) (old : PartLi
 abbrev pub AddsItem : OptionsView → Encoding → PartListView → Item → PartListView → Type 0
 AddsItem options encoding old (Fixed text modifiers.None) new = (new.parts ≡ old.parts) × (new.pending ≡ old.pending ++ text)
 AddsItem options encoding old item new = AddsParts options encoding old (pending_items old.pending ++ item ∷ []) new
-
--- memory ran out, or this is the error
-abbrev pub MemoryOr : (ErrorView → Type 0) → Error → Type 0
-MemoryOr P error = (error_view error ≡ error_views.OutOfMemory) ⊎ P (error_view error)
 
 -- memory ran out, or a demand of these items behind the parts fails with the error
 abbrev pub FailsItems : Encoding → List PartView → List Item → Error → Type 0

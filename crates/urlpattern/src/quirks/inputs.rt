@@ -8,7 +8,8 @@ ghost use Rattle.urlpattern_canonical.specs.Canonical.{Tells};
 ghost use Rattle.urlpattern_inputs.specs.declared.input.StringOrInit.TheVariants as plain_inputs;
 ghost use Rattle.urlpattern_syntax.specs.declared.error.Error.TheVariants as errors;
 ghost use Rattle.urlpattern_syntax.specs.Errors.{ErrorView as views};
-ghost use Rattle.urlpattern_syntax.specs.Parsing.{MemoryOr, name_view};
+ghost use Rattle.urlpattern_syntax.specs.Parsing.{name_view};
+ghost use Rattle.urlpattern_syntax.specs.Errors.{MemoryOr};
 ghost use Rattle.urlpattern_syntax.specs.Text.{text_of};
 
 use regex::Regex;

@@ -6,7 +6,7 @@ ghost use Rattle.urlpattern.specs.Quirks.{plain_pattern};
 ghost use Rattle.urlpattern_core.specs.Compiling.{IsCompiledFrom};
 ghost use Rattle.urlpattern_plain.specs.Values.{pattern_by};
 ghost use Rattle.urlpattern_syntax.specs.declared.error.Error.TheVariants as errors;
-ghost use Rattle.urlpattern_syntax.specs.Parsing.{MemoryOr};
+ghost use Rattle.urlpattern_syntax.specs.Errors.{MemoryOr};
 ghost use Rattle.urlpattern_syntax.specs.Text.{text_of};
 
 use std::alloc::Global;

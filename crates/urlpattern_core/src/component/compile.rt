@@ -8,7 +8,7 @@ ghost use Rattle.urlpattern_core.specs.Matchers.{engine_view, matcher_view};
 ghost use Rattle.urlpattern_laws.specs.Matching.{AnswersByMeaning, IsEngineOf};
 ghost use Rattle.urlpattern_syntax.specs.declared.error.Error.TheVariants as errors;
 ghost use Rattle.urlpattern_syntax.specs.Options.{options_view};
-ghost use Rattle.urlpattern_syntax.specs.Parsing.{MemoryOr};
+ghost use Rattle.urlpattern_syntax.specs.Errors.{MemoryOr};
 ghost use Rattle.urlpattern_syntax.specs.Parts.{PartView, part_view};
 ghost use Rattle.urlpattern_syntax.specs.Reading.{Refuses, encoding_of};
 

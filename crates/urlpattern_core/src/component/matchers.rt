@@ -2,6 +2,7 @@
 
 ghost use Rattle.std.specs.Prelude.{◌≡◌, false, [], ◌++◌, map, IfErr, IfOk, IfSome};
 ghost use Rattle.std.specs.Str.{chars};
+ghost use Rattle.urlpattern_core.specs.Compiling.{MayRefuseAtFirst};
 ghost use Rattle.urlpattern_core.specs.Matchers.{PeelsBack, PeelsFront, PeelsTo, capture_of, engine_view, matcher_view};
 ghost use Rattle.urlpattern_laws.specs.Matching.{AnswersByMeaning, IsEngineOf, IsMadeByEngine, IsMadeOf, Literal, single_capture};
 ghost use Rattle.urlpattern_syntax.specs.declared.error.Error.TheVariants as errors;
@@ -29,7 +30,7 @@ pub fn generate_matcher<R: RegExp>(
     options: &Options,
     flags: &str,
 ) -> Result<Matcher<R>, Error>
-    ensures made { IfOk result (λ matcher. IsMadeOf R.IsMade (λ regexp flags. R.MayRefuse regexp flags false) (options_view options.now) (chars flags.now)
+    ensures made { IfOk result (λ matcher. IsMadeOf R.IsMade (MayRefuseAtFirst R.MayRefuse) (options_view options.now) (chars flags.now)
         (map part_view part_list.now) (matcher_view matcher)) }
     ensures means { IfOk result (λ matcher. AnswersByMeaning R.answer (options_view options.now) (map part_view part_list.now) (matcher_view matcher)) }
     ensures memory { IfErr result (λ error. error ≡ errors.OutOfMemory) }
@@ -46,7 +47,7 @@ pub(crate) fn generate_matcher_knowing<R: RegExp>(
     whole: Option<&str>,
 ) -> Result<Matcher<R>, Error>
     requires { IfSome whole (λ text. chars text.now ≡ regexp_text (options_view options.now) (map part_view part_list.now)) }
-    ensures made { IfOk result (λ matcher. IsMadeOf R.IsMade (λ regexp flags. R.MayRefuse regexp flags false) (options_view options.now) (chars flags.now)
+    ensures made { IfOk result (λ matcher. IsMadeOf R.IsMade (MayRefuseAtFirst R.MayRefuse) (options_view options.now) (chars flags.now)
         (map part_view part_list.now) (matcher_view matcher)) }
     ensures memory { IfErr result (λ error. error ≡ errors.OutOfMemory) }
 {
@@ -177,7 +178,7 @@ fn engine_matcher<R: RegExp>(
     known: Option<&str>,
 ) -> Result<Matcher<R>, Error>
     requires { IfSome known (λ text. chars text.now ≡ regexp_text (options_view options.now) (map part_view middle.now)) }
-    ensures made { IfOk result (λ matcher. IsMadeByEngine (IsEngineOf R.IsMade (λ regexp flags. R.MayRefuse regexp flags false) (chars flags.now)) (options_view options.now)
+    ensures made { IfOk result (λ matcher. IsMadeByEngine (IsEngineOf R.IsMade (MayRefuseAtFirst R.MayRefuse) (chars flags.now)) (options_view options.now)
         (chars prefix.now) (map part_view middle.now) (chars suffix.now) (matcher_view matcher)) }
     ensures memory { IfErr result (λ error. error ≡ errors.OutOfMemory) }
 {

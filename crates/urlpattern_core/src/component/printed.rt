@@ -2,12 +2,11 @@
 //!
 //! <https://urlpattern.spec.whatwg.org/#converting-part-lists-to-pattern-strings>
 
-ghost use Rattle.std.specs.Prelude.{ℕ, List, Result, ◌≡◌, ◌++◌, ◌&&◌, ◌∷◌, [], false, not, map, bytes_eq, IfOk, IfErr, OnOk};
+ghost use Rattle.std.specs.Prelude.{◌≡◌, ◌++◌, ◌&&◌, ◌∷◌, [], false, not, map, bytes_eq, IfOk, IfErr, OnOk};
 ghost use Rattle.std.specs.Str.{chars};
 ghost use Rattle.urlpattern_core.specs.Neighbours.{neighbour};
-ghost use Rattle.urlpattern_laws.specs.Laws.{listed};
+ghost use Rattle.urlpattern_laws.specs.Laws.{Answered, listed};
 ghost use Rattle.urlpattern_laws.specs.RoundTrip.{IsPrintable, ReadsBack};
-ghost use Rattle.urlpattern_syntax.specs.Errors.{ErrorView};
 ghost use Rattle.urlpattern_laws.specs.Printing.{Keeps, escaped_pattern, goes_on, has_custom_name, has_other_prefix, is_asterisk, is_name_alone, last_of, needs_braces, pattern_marks, printed, printed_fixed, printed_group, printed_match, printed_name, printed_part, printed_suffix, takes_before, takes_next, admits_asterisk};
 ghost use Rattle.urlpattern_syntax.specs.declared.error.Error.TheVariants as errors;
 ghost use Rattle.urlpattern_syntax.specs.declared.parser.PartType.TheVariants as kinds;
@@ -35,7 +34,7 @@ pub fn generate_pattern_string(
     options: &Options,
 ) -> Result<String, Error>
     ensures text { IfOk result (λ text. text_of text ≡ printed (options_view options.now) (map part_view part_list.now)) }
-    ensures reads_back { IfOk result (λ text. (answers : List (List ℕ × Result (List ℕ) ErrorView)) → IsPrintable (options_view options.now) (map part_view part_list.now) →
+    ensures reads_back { IfOk result (λ text. (answers : Answered) → IsPrintable (options_view options.now) (map part_view part_list.now) →
         Keeps (listed answers) (map part_view part_list.now) → ReadsBack (text_of text) (options_view options.now) (listed answers) (map part_view part_list.now)) }
     ensures memory { IfErr result (λ error. error ≡ errors.OutOfMemory) }
 {

@@ -1,13 +1,13 @@
 //! The processing of an init, in either mode, by one table.
-ghost use Rattle.std.specs.Prelude.{◌≡◌, ◌+◌, ◌&&◌, [], None, Ok, is_none, option_copied, option_map, unwrap_or, length, IfOk, IfErr, IsAscii};
+ghost use Rattle.std.specs.Prelude.{◌≡◌, ◌&&◌, max, [], None, Ok, is_none, option_copied, option_map, unwrap_or, length, IfOk, IfErr, IsAscii};
 ghost use Rattle.std.specs.Option.{option_or};
 ghost use Rattle.std.specs.Str.{chars};
 ghost use Rattle.urlpattern_syntax.specs.declared.error.Error.TheVariants as errors;
-ghost use Rattle.urlpattern_syntax.specs.Parsing.{MemoryOr};
+ghost use Rattle.urlpattern_syntax.specs.Errors.{MemoryOr};
 ghost use Rattle.urlpattern_syntax.specs.Text.{byte_len, text_of};
 ghost use Rattle.urlpattern_canonical.specs.Canonical.{IsAnswer, Tells, bytes_asked, processed_pathname};
 ghost use Rattle.urlpattern_init.specs.Inheritance as spec;
-ghost use Rattle.urlpattern_init.specs.Inheritance.{asked_bytes, bytes_of, given_bytes, given_text, is_inheritable, missing, must_lack, processed_text, processed_values, up_to_last_slash, value_of, value_or_refusal, values_view};
+ghost use Rattle.urlpattern_init.specs.Inheritance.{asked_bytes, bytes_of, given_bytes, given_text, is_inheritable, missing, must_lack, processed_text, processed_values, up_to_last_slash, value_of, processed_value, values_view};
 
 use crate::init::UrlPatternInit;
 use std::alloc::Global;
@@ -148,7 +148,7 @@ struct Processing<'a> {
 impl Processing<'_> {
     /// The values that the init comes to, with this one for the protocol.
     fn values(&self, protocol: Option<String>) -> Result<UrlPatternInit, Error>
-        requires { value_or_refusal self.now.kind.now (values_view self.now.init.now) self.now.init.now.base_url None Component.Protocol
+        requires { processed_value self.now.kind.now (values_view self.now.init.now) self.now.init.now.base_url None Component.Protocol
             ≡ Ok (option_map text_of protocol) }
         ensures ok { IfOk result (λ values. processed_values self.now.kind.now (values_view self.now.init.now) self.now.init.now.base_url ≡ Ok (values_view values)) }
         ensures err { IfErr result (MemoryOr (Tells (processed_values self.now.kind.now (values_view self.now.init.now) self.now.init.now.base_url)
@@ -180,11 +180,11 @@ impl Processing<'_> {
         component: Component,
         protocol: &Option<String>,
     ) -> Result<Option<String>, Error>
-        ensures ok { IfOk result (λ value. value_or_refusal self.now.kind.now (values_view self.now.init.now) self.now.init.now.base_url
+        ensures ok { IfOk result (λ value. processed_value self.now.kind.now (values_view self.now.init.now) self.now.init.now.base_url
             (option_map text_of protocol.now) component ≡ Ok (option_map text_of value)) }
-        ensures err { IfErr result (MemoryOr (Tells (value_or_refusal self.now.kind.now (values_view self.now.init.now) self.now.init.now.base_url
+        ensures err { IfErr result (MemoryOr (Tells (processed_value self.now.kind.now (values_view self.now.init.now) self.now.init.now.base_url
             (option_map text_of protocol.now) component)
-            (bytes_asked self.now.kind.now (bytes_of (option_map text_of protocol.now) + given_bytes self.now.kind.now (values_view self.now.init.now) self.now.init.now.base_url component)))) }
+            (bytes_asked self.now.kind.now (max (bytes_of (option_map text_of protocol.now)) (given_bytes self.now.kind.now (values_view self.now.init.now) self.now.init.now.base_url component))))) }
     {
         match protocol {
             Some(protocol) => self.value(component, Some(protocol)),
@@ -194,11 +194,11 @@ impl Processing<'_> {
 
     /// The value that a component comes to, under the protocol that the init comes to.
     fn value(&self, component: Component, protocol: Option<&str>) -> Result<Option<String>, Error>
-        ensures ok { IfOk result (λ value. value_or_refusal self.now.kind.now (values_view self.now.init.now) self.now.init.now.base_url
+        ensures ok { IfOk result (λ value. processed_value self.now.kind.now (values_view self.now.init.now) self.now.init.now.base_url
             (option_map chars (option_copied protocol.entry)) component ≡ Ok (option_map text_of value)) }
-        ensures err { IfErr result (MemoryOr (Tells (value_or_refusal self.now.kind.now (values_view self.now.init.now) self.now.init.now.base_url
+        ensures err { IfErr result (MemoryOr (Tells (processed_value self.now.kind.now (values_view self.now.init.now) self.now.init.now.base_url
             (option_map chars (option_copied protocol.entry)) component)
-            (bytes_asked self.now.kind.now (length (unwrap_or (option_copied protocol.entry) []) + given_bytes self.now.kind.now (values_view self.now.init.now) self.now.init.now.base_url component)))) }
+            (bytes_asked self.now.kind.now (max (length (unwrap_or (option_copied protocol.entry) [])) (given_bytes self.now.kind.now (values_view self.now.init.now) self.now.init.now.base_url component))))) }
     {
         match given(self.init, component) {
             Some(text) => Ok(Some(self.processed(component, text, protocol)?)),
@@ -248,7 +248,7 @@ impl Processing<'_> {
     ) -> Result<String, Error>
         ensures { IsAnswer (processed_text self.now.kind.now (option_map chars (option_copied protocol.entry)) component
             (given_text self.now.kind.now self.now.init.now.base_url component (chars text.now)))
-            (bytes_asked self.now.kind.now (length (unwrap_or (option_copied protocol.entry) []) + byte_len (given_text self.now.kind.now self.now.init.now.base_url component (chars text.now))))
+            (bytes_asked self.now.kind.now (max (length (unwrap_or (option_copied protocol.entry) [])) (byte_len (given_text self.now.kind.now self.now.init.now.base_url component (chars text.now)))))
             result }
     {
         let values = &self.canonicalizer;

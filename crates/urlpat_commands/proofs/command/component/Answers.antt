@@ -1,14 +1,18 @@
-use Rattle.std.proofs.Common.{rules, map, inl, inr, ap, ◌∙◌}
+use Rattle.std.proofs.Common.{◌≢◌, ℕ, List, rules, map, inl, inr, ap, subst, ◌∙◌}
 use Rattle.std.proofs.lemmas.Result.{err_from_is_err_and}
-use Rattle.std.specs.Prelude.{string_bytes, encode_utf8_all}
+use Rattle.std.specs.Prelude.{All, string_bytes, encode_utf8_all}
 use Rattle.urlpat_commands.proofs.AnswerLemmas.{bytes_of_text, bytes_of_texts}
 use Rattle.urlpat_commands.specs.Answers.{kept}
 use Rattle.urlpat_commands.specs.Report.{component_lines}
+use Rattle.urlpattern.specs.Dialect.{HasMeaningOf}
+use Rattle.urlpattern.specs.Laws.{listed}
 use Rattle.urlpattern.specs.Options.{options_view}
-use Rattle.urlpattern.specs.Parts.{part_view}
-use Rattle.urlpattern.specs.Printing.{printed}
+use Rattle.urlpattern.specs.Parts.{PartView, part_view}
+use Rattle.urlpattern.specs.Printing.{Keeps, printed}
 use Rattle.urlpattern.specs.RegexpText.{group_names, regexp_text}
-use Rattle.urlpattern_init.proofs.Encodings.{reads_weaker, refuses_weaker}
+use Rattle.urlpattern.specs.RoundTrip.{IsPrintable, ReadsBack}
+use Rattle.urlpattern_syntax.specs.declared.parser.PartType.TheVariants.{Regexp}
+use Rattle.urlpattern_laws.proofs.Encodings.{reads_weaker, refuses_weaker}
 use Rattle.urlpat_commands.proofs.command.component.Goals as goal
 
 pub returns-in_err-parts-clause-fails : goal.returns-in_err-parts-clause-fails
@@ -37,6 +41,12 @@ returns-clause-text c =
       parts = parts;
       is_named = rw c.in-Some.is at c.in_ok-options.ensures.some;
       reads = reads_weaker _ kept (λ text answer h. (h.0, search rules, h.2)) _ _ _ c.in_ok-parts.ensures.reads;
+      means = subst (λ (list : List PartView). All (λ part. part.kind ≢ Regexp) list → HasMeaningOf (regexp_text options list) options list) same
+          (λ plain. subst (λ (text : List ℕ). HasMeaningOf text options (map part_view c.deref.result.now)) c.in_ok-regexp.ensures.text
+          (c.in_ok-regexp.ensures.meaning plain));
+      reads_back = λ answers. subst (λ (list : List PartView). IsPrintable options list → Keeps (listed answers) list → ReadsBack (printed options list) options (listed answers) list) again
+          (λ printable keeps. subst (λ (text : List ℕ). ReadsBack text options (listed answers) (map part_view c.deref-2.result.now)) c.in_ok-printed.ensures.text
+          (c.in_ok-printed.ensures.reads_back answers printable keeps));
       is_text = c.in_ok-component_report.ensures
           ∙ ap (λ n. component_lines n c.deref-4.result.now c.deref-5.result.now) names
           ∙ ap (λ r. component_lines (map encode_utf8_all (group_names parts)) r c.deref-5.result.now) regexp

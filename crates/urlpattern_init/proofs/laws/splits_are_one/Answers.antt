@@ -1,3 +1,4 @@
+use Rattle.urlpattern_core.specs.Compiling.{MayRefuseAtFirst}
 use Rattle.std.specs.Prelude.{false}
 use Rattle.urlpattern_init.proofs.SplitExists.{split_exists}
 use Rattle.urlpattern_init.proofs.SplitUnique.{splits_one, splits_one_given}
@@ -11,4 +12,4 @@ pub returns-clause-given : goal.returns-clause-given
 returns-clause-given g c = splits_one_given
 
 pub returns-clause-computed : goal.returns-clause-computed
-returns-clause-computed g c = splits_one (IsSpecialBy g.R.RegExp.IsMade (λ regexp flags. g.R.RegExp.MayRefuse regexp flags false) g.R.RegExp.answer)
+returns-clause-computed g c = splits_one (IsSpecialBy g.R.RegExp.IsMade (MayRefuseAtFirst g.R.RegExp.MayRefuse) g.R.RegExp.answer)

@@ -2,7 +2,7 @@ use Rattle.std.proofs.Common.{List, ℕ, subst}
 use Rattle.std.specs.Prelude.{IfErr, IfOk, option_copied}
 use Rattle.std.specs.Str.{chars}
 use Rattle.urlpattern.specs.Inputs.{IsInitOfString, RefusesText}
-use Rattle.urlpattern_syntax.specs.Parsing.{MemoryOr}
+use Rattle.urlpattern_syntax.specs.Errors.{MemoryOr}
 use Rattle.urlpattern.proofs.quirks.inputs.process_construct_pattern_input.Goals as goal
 
 pub returns-in-String-clause-constructed : goal.returns-in-String-clause-constructed

@@ -1,9 +1,8 @@
-use Rattle.std.proofs.Common.{ℕ, List, map, refl, subst}
-use Rattle.std.specs.Prelude.{false}
+use Rattle.std.proofs.Common.{map, refl, subst}
 use Rattle.std.proofs.lemmas.Result.{err_from_is_err_and}
 use Rattle.urlpattern_core.proofs.CompileLemmas.{text-or_asterisk}
 use Rattle.urlpattern_core.proofs.Peeling.{if_ok-map}
-use Rattle.urlpattern_core.specs.Compiling.{IsComponentOf, component_view, engine_flags}
+use Rattle.urlpattern_core.specs.Compiling.{IsComponentOf, MayRefuseAtFirst, component_view, engine_flags}
 use Rattle.urlpattern_core.specs.Matchers.{matcher_view}
 use Rattle.urlpattern_laws.proofs.MatcherMeaning.{matcher_means}
 use Rattle.urlpattern_syntax.specs.Options.{options_view}
@@ -30,7 +29,7 @@ returns-clause-compiled g c =
 pub returns-clause-means : goal.returns-clause-means
 returns-clause-means g c =
     let IsMade = g.R.RegExp.IsMade in
-    let MayRefuse = λ (regexp : List ℕ) (flags : List ℕ). g.R.RegExp.MayRefuse regexp flags false in
+    let MayRefuse = MayRefuseAtFirst g.R.RegExp.MayRefuse in
     let options = options_view c.args.options in
     if_ok-map _ _ c.from_parts.result
     (λ component made parts of plain kept follows text answered lacks scalars answers.

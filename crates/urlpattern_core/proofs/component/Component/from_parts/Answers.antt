@@ -1,6 +1,7 @@
-use Rattle.std.proofs.Common.{false, map, ap, ◌∙◌, subst}
+use Rattle.std.proofs.Common.{map, ap, ◌∙◌, subst}
 use Rattle.std.specs.Str.{chars}
 use Rattle.urlpattern_core.proofs.CompileLemmas.{engine-along}
+use Rattle.urlpattern_core.specs.Compiling.{MayRefuseAtFirst}
 use Rattle.urlpattern_core.specs.Matchers.{engine_view, matcher_view}
 use Rattle.urlpattern_laws.specs.Matching.{IsMadeOf}
 use Rattle.urlpattern_syntax.specs.Options.{options_view}
@@ -20,6 +21,6 @@ returns-clause-made g c =
       has_engine = engine-along IsMade MayRefuse g.R.RegExp.syntax_of (engine_view c.in_ok-regexp.regexp) told flags_are
           (ap chars c.deref.ensures ∙ c.in_ok-text.ensures.text) c.in_ok-regexp.ensures.made;
       has_names = c.in_ok-generate_name_list.ensures.names;
-      has_matcher = subst (λ flags. IsMadeOf IsMade (λ regexp flags. MayRefuse regexp flags false) options flags parts (matcher_view c.in_ok-matcher.matcher)) flags_are c.in_ok-matcher.ensures.made;
+      has_matcher = subst (λ flags. IsMadeOf IsMade (MayRefuseAtFirst MayRefuse) options flags parts (matcher_view c.in_ok-matcher.matcher)) flags_are c.in_ok-matcher.ensures.made;
       tells_regexps = told;
     }

@@ -1,6 +1,6 @@
-use Rattle.std.proofs.Common.{List, ℕ, map}
-use Rattle.std.specs.Prelude.{false}
+use Rattle.std.proofs.Common.{map}
 use Rattle.std.specs.Str.{chars}
+use Rattle.urlpattern_core.specs.Compiling.{MayRefuseAtFirst}
 use Rattle.urlpattern_core.specs.Matchers.{matcher_view}
 use Rattle.urlpattern_core.proofs.Peeling.{if_ok-map}
 use Rattle.urlpattern_laws.proofs.MatcherMeaning.{matcher_means}
@@ -11,7 +11,7 @@ use Rattle.urlpattern_core.proofs.component.matchers.generate_matcher.Goals as g
 pub returns-clause-means : goal.returns-clause-means
 returns-clause-means g c =
     let IsMade = g.R.RegExp.IsMade in
-    let MayRefuse = λ (regexp : List ℕ) (flags : List ℕ). g.R.RegExp.MayRefuse regexp flags false in
+    let MayRefuse = MayRefuseAtFirst g.R.RegExp.MayRefuse in
     let options = options_view c.args.options.now in
     let flags = chars c.args.flags.now in
     let parts = map part_view c.args.part_list.now in

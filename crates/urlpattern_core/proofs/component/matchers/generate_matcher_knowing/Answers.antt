@@ -1,7 +1,7 @@
 use Rattle.std.proofs.Common.{◌≤◌, length, map, arith}
 use Rattle.std.proofs.lemmas.List.{length-map}
-use Rattle.std.specs.Prelude.{false, List, ℕ}
 use Rattle.std.specs.Str.{chars}
+use Rattle.urlpattern_core.specs.Compiling.{MayRefuseAtFirst}
 use Rattle.urlpattern_core.specs.Matchers.{matcher_view}
 use Rattle.urlpattern_core.proofs.Peeling.{if_ok-map, made-of, many-by_engine}
 use Rattle.urlpattern_laws.specs.Matching.{IsEngineOf}
@@ -12,7 +12,7 @@ use Rattle.urlpattern_core.proofs.component.matchers.generate_matcher_knowing.Go
 pub returns-in_default-clause-made : goal.returns-in_default-clause-made
 returns-in_default-clause-made g c =
     let IsMade = g.R.RegExp.IsMade in
-    let MayRefuse = λ (regexp : List ℕ) (flags : List ℕ). g.R.RegExp.MayRefuse regexp flags false in
+    let MayRefuse = MayRefuseAtFirst g.R.RegExp.MayRefuse in
     let options = options_view c.args.options.now in
     let flags = chars c.args.flags.now in
     let middle = map part_view c.peel.result.1.now in

@@ -1,7 +1,7 @@
 use Rattle.std.proofs.Common.{ap, sym, ◌∙◌, inl, inr, arith}
 use Rattle.std.proofs.lemmas.Result.{err_from_is_err_and}
 use Rattle.std.specs.Str.{chars}
-use Rattle.urlpattern_init.specs.Split.{EndsAt, is_colon}
+use Rattle.urlpattern_init.specs.Split.{EndsAt, is_colon_sign}
 use Rattle.urlpattern_init.specs.Splitting.{tokens_of}
 use Rattle.urlpattern_init.specs.declared.constructor_parser.Section.TheVariants.{Protocol}
 use Rattle.urlpattern_init.proofs.SplitLemmas.{colon_again, depth_at_end, sign_not_end}
@@ -17,7 +17,7 @@ absolute-requires-clause-sign g c =
     let level = depth_at_end Protocol tokens 0 0 c.end_of-end.result.index c.end_of-end.ensures.ends (sign_not_end (codes ":") tokens c.end_of-end.result.index colon) in
     let again : EndsAt Protocol tokens 0 0 c.end_of-colon.result.index = rw (c.end_of-end.ensures.depth, level) at c.end_of-colon.ensures.ends in
     let same = colon_again tokens c.end_of-end.result.index c.end_of-colon.result.index closed c.end_of-end.ensures.ends colon again in
-    ap (is_colon tokens) same ∙ colon
+    ap (is_colon_sign tokens) same ∙ colon
 
 pub absolute-requires-clause-turns : goal.absolute-requires-clause-turns
 absolute-requires-clause-turns g c =
@@ -41,5 +41,5 @@ returns-in_err-special-clause-refused g c =
     rw (p.1, p.2)
     (elim c.in_err-special.ensures.refused [
       | inl memory ↦ inl memory
-      | inr refused ↦ inr (tokens, c.end_of-colon.result.index, chars c.text_between-protocol.result.now, c.requires, again, ap (is_colon tokens) same ∙ colon, c.text_between-protocol.ensures, refused)
+      | inr refused ↦ inr (tokens, c.end_of-colon.result.index, chars c.text_between-protocol.result.now, c.requires, again, ap (is_colon_sign tokens) same ∙ colon, c.text_between-protocol.ensures, refused)
     ])
