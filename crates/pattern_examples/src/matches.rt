@@ -126,12 +126,10 @@ fn id_once(alloc: Global, pathname: &str, url: &str) -> Result<Option<String>, E
     let Some(found) = <UrlPattern>::exec_once(alloc, init, options, input)? else {
         return Ok(None);
     };
-    let id = match found.pathname.groups.get("id") {
-        Some(Some(id)) => id.clone(),
-        _ => Ok(String::new(alloc)),
-    };
-    drop(found);
-    Ok(Some(id?))
+    match found.pathname.groups.get("id") {
+        Some(Some(id)) => Ok(Some(String::from_str(alloc, id)?)),
+        _ => Ok(None),
+    }
 }
 
 #[test]

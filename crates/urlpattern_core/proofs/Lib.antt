@@ -1,5 +1,6 @@
 pub mod CompileLemmas
 pub mod EngineLemmas
+pub mod FoldedEnds
 pub mod PrintedTexts
 pub mod RegexpTexts
 pub mod MatcherTexts

@@ -1,29 +1,51 @@
 -- Lemmas on what a matcher answers, by what it holds between prefix and suffix.
-use Rattle.std.proofs.Common.{◌≡◌, ◌↔◌, ℕ, Bool, true, false, List, [], ◌∷◌, ◌++◌, refl, sym, ◌∙◌, subst}
+use Rattle.std.proofs.Common.{◌≡◌, ◌↔◌, ℕ, ◌+◌, Bool, true, false, List, [], ◌∷◌, ◌++◌, length, take, drop, refl, sym, ap, ◌∙◌, subst, arith}
 use Rattle.std.proofs.lemmas.Bool.{false≢true}
-use Rattle.std.proofs.lemmas.List.{append_cancel_left, append_cancel_right}
+use Rattle.std.proofs.lemmas.List.{drop_at, length-append, length-map, take_at}
+use Rattle.std.specs.Char.{to_ascii_lowercase}
 use Rattle.std.specs.Prelude.{IsTrue, Option, Some, None, Result, Ok, Err, IfErr, is_some, option_map}
-use Rattle.urlpattern_laws.specs.Matching.{Accepts, Answers, InnerView, IsMatched, Literal, Matches, MatcherView, MayBeEmpty, PassesFilter, RegExp, SingleCapture, folded}
+use Rattle.urlpattern_laws.specs.Matching.{Accepts, Answers, HasMiddle, InnerView, IsMatched, IsSame, Literal, Matches, MatcherView, MayBeEmpty, PassesFilter, RegExp, SingleCapture}
 use Rattle.urlpattern_laws.specs.PartMeaning.{Captures}
 
+-- wholes that are equal and whose fronts are as long have equal rests
+pub rest_one : (front other rest last : List ℕ) → length front ≡ length other → front ++ rest ≡ other ++ last → rest ≡ last
+rest_one front other rest last len e =
+    sym (drop_at front rest (length other) len) ∙ ap (λ t. drop (length other) t) e ∙ drop_at other last (length other) refl
+
+front_one : (front other rest last : List ℕ) → length rest ≡ length last → front ++ rest ≡ other ++ last → front ≡ other
+front_one front other rest last len e =
+    let both : length front + length rest ≡ length other + length last = sym (length-append front rest) ∙ ap length e ∙ length-append other last in
+    let same : length front ≡ length other = omega arith in
+    sym (take_at front rest (length other) same) ∙ ap (λ t. take (length other) t) e ∙ take_at other last (length other) refl
+
+-- texts that are the same but for case have one length
+pub same-length : (ignore_case : Bool) (text other : List ℕ) → IsSame ignore_case text other → length text ≡ length other
+same-length true text other same = sym (length-map text to_ascii_lowercase) ∙ ap length same ∙ length-map other to_ascii_lowercase
+same-length false text other same = ap length same
+
 -- one text stands between prefix and suffix
-middle-one : (prefix suffix one other : List ℕ) → prefix ++ one ++ suffix ≡ prefix ++ other ++ suffix → one ≡ other
-middle-one prefix suffix one other e =
-    append_cancel_left prefix one other (append_cancel_right (prefix ++ one) (prefix ++ other) suffix e)
+middle-one : {E : Type 0} (matcher : MatcherView E) (text one other : List ℕ) → HasMiddle matcher text one → HasMiddle matcher text other → one ≡ other
+middle-one matcher text one other (front, back, e, begins, ends) (front', back', e', begins', ends') =
+    let fronts : length front ≡ length front' = same-length matcher.ignore_case front matcher.prefix begins ∙ sym (same-length matcher.ignore_case front' matcher.prefix begins') in
+    let backs : length back ≡ length back' = same-length matcher.ignore_case back matcher.suffix ends ∙ sym (same-length matcher.ignore_case back' matcher.suffix ends') in
+    rest_one front front' one other fronts (front_one (front ++ one) (front' ++ other) back back' backs (sym e ∙ e'))
 
 -- a text with this middle is matched where the middle is accepted
 pub matches-accepts : {E : Type 0} (answer : E → List ℕ → Option Captures) (matcher : MatcherView E) (text middle : List ℕ) (captures : Captures) →
-    text ≡ matcher.prefix ++ middle ++ matcher.suffix →
-    Matches answer matcher text captures ↔ Accepts answer matcher.ignore_case matcher.inner middle captures
-matches-accepts answer matcher text middle captures e = (
-  λ (other, cut, accepts).
-      subst (λ m. Accepts answer matcher.ignore_case matcher.inner m captures) (middle-one matcher.prefix matcher.suffix other middle (sym cut ∙ e)) accepts,
-  λ accepts. (middle, e, accepts),
+    HasMiddle matcher text middle → Matches answer matcher text captures ↔ Accepts answer matcher.ignore_case matcher.inner middle captures
+matches-accepts answer matcher text middle captures cut = (
+  λ (other, is, accepts). subst (λ m. Accepts answer matcher.ignore_case matcher.inner m captures) (middle-one matcher text other middle is cut) accepts,
+  λ accepts. (middle, cut, accepts),
 )
+
+-- a text that has no middle is not matched
+pub not_matched-without : {E : Type 0} (answer : E → List ℕ → Option Captures) (matcher : MatcherView E) (text : List ℕ) →
+    ((middle : List ℕ) → ¬ HasMiddle matcher text middle) → (captures : Captures) → ¬ Matches answer matcher text captures
+not_matched-without answer matcher text none captures (middle, cut, accepts) = none middle cut
 
 -- a test tells whether the text is matched, where it tells whether its middle is accepted
 pub matched-by : {E : Type 0} (answer : E → List ℕ → Option Captures) (matcher : MatcherView E) (text middle : List ℕ) (inner : InnerView E) (test : Bool) →
-    text ≡ matcher.prefix ++ middle ++ matcher.suffix → matcher.inner ≡ inner →
+    HasMiddle matcher text middle → matcher.inner ≡ inner →
     (IsTrue test ↔ ((captures : Captures) × Accepts answer matcher.ignore_case inner middle captures)) →
     IsTrue test ↔ IsMatched answer matcher text
 matched-by answer matcher text middle inner test e is_inner h = (
@@ -34,7 +56,7 @@ matched-by answer matcher text middle inner test e is_inner h = (
 
 -- it is not matched, where the test fails
 pub not_matched-by : {E : Type 0} (answer : E → List ℕ → Option Captures) (matcher : MatcherView E) (text middle : List ℕ) (inner : InnerView E) (test : Bool) →
-    text ≡ matcher.prefix ++ middle ++ matcher.suffix → matcher.inner ≡ inner → test ≡ false →
+    HasMiddle matcher text middle → matcher.inner ≡ inner → test ≡ false →
     (IsTrue test ↔ ((captures : Captures) × Accepts answer matcher.ignore_case inner middle captures)) →
     (captures : Captures) → ¬ Matches answer matcher text captures
 not_matched-by answer matcher text middle inner test e is_inner fails h captures matches =
@@ -59,7 +81,7 @@ not_captured-by false text P test full empty fails = (λ t. absurd (false≢true
 -- ---- by the inner matcher
 
 pub accepts-literal : {E : Type 0} (answer : E → List ℕ → Option Captures) (ignore_case : Bool) (literal middle : List ℕ) (test : Bool) →
-    (IsTrue test ↔ (folded ignore_case middle ≡ folded ignore_case literal)) →
+    (IsTrue test ↔ IsSame ignore_case middle literal) →
     IsTrue test ↔ ((captures : Captures) × Accepts answer ignore_case (Literal literal) middle captures)
 accepts-literal answer ignore_case literal middle test h = (λ t. ([], (h.0 t, refl)), λ (captures, (same, none)). h.1 same)
 
@@ -85,7 +107,7 @@ if_err P (Err x) p = p
 
 -- an engine's answer is the matcher's
 pub answers-engine : {E : Type 0} (answer : E → List ℕ → Option Captures) (matcher : MatcherView E) (text middle : List ℕ) (engine : E) (found : Option Captures) →
-    text ≡ matcher.prefix ++ middle ++ matcher.suffix → matcher.inner ≡ RegExp (Ok engine) → found ≡ answer engine middle →
+    HasMiddle matcher text middle → matcher.inner ≡ RegExp (Ok engine) → found ≡ answer engine middle →
     Answers answer matcher text found
 answers-engine answer matcher text middle engine (Some captures) e is_inner f =
     (middle, e, subst (λ x. Accepts answer matcher.ignore_case x middle captures) (sym is_inner) (sym f))

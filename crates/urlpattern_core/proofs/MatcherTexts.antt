@@ -86,14 +86,14 @@ lower-encode_by c (inl low) =
 lower-encode_by c (inr high) = lower-fixed_all (encode_utf8 c) (high-bytes c high) ∙ ap encode_utf8 (sym (lower-fixed c high))
 
 -- small letters of the bytes are the bytes of small letters
-lower-encodes : (cs : List ℕ) → map to_ascii_lowercase (encode_utf8_all cs) ≡ encode_utf8_all (map to_ascii_lowercase cs)
+pub lower-encodes : (cs : List ℕ) → map to_ascii_lowercase (encode_utf8_all cs) ≡ encode_utf8_all (map to_ascii_lowercase cs)
 lower-encodes [] = refl
 lower-encodes (c ∷ cs) =
     map-append to_ascii_lowercase (encode_utf8 c) (encode_utf8_all cs)
     ∙ ap (λ x. x ++ map to_ascii_lowercase (encode_utf8_all cs)) (lower-encode_by c (cases_lt c 128))
     ∙ ap (λ x. encode_utf8 (to_ascii_lowercase c) ++ x) (lower-encodes cs)
 
-lower-bytes : (bytes : List ℕ) → IsUtf8 bytes → map to_ascii_lowercase bytes ≡ encode_utf8_all (map to_ascii_lowercase (chars bytes))
+pub lower-bytes : (bytes : List ℕ) → IsUtf8 bytes → map to_ascii_lowercase bytes ≡ encode_utf8_all (map to_ascii_lowercase (chars bytes))
 lower-bytes bytes u = ap (λ x. map to_ascii_lowercase x) (sym (encodes-chars bytes u)) ∙ lower-encodes (chars bytes)
 
 -- two texts are the same but for case by their bytes where they are by their characters

@@ -3,7 +3,7 @@ use Rattle.std.specs.Prelude.{◌≡◌, ℕ, Bool, true, false, List, Option, S
 use Rattle.urlpattern_core.specs.declared.matcher.InnerMatcher.{InnerMatcher}
 use Rattle.urlpattern_core.specs.declared.matcher.InnerMatcher.TheVariants as inners
 use Rattle.urlpattern_core.specs.declared.matcher.Matcher.{Matcher}
-use Rattle.urlpattern_laws.specs.Matching.{ArePeeled, BeginsPlain, EndsPlain, GoesOff, InnerView, Literal, MatcherView, RegExp, SingleCapture, end_text}
+use Rattle.urlpattern_laws.specs.Matching.{ArePeeled, BeginsPlain, EndsPlain, GoesOff, InnerView, IsSame, Literal, MatcherView, RegExp, SingleCapture, end_text}
 use Rattle.urlpattern_syntax.specs.declared.error.Error.{Error}
 use Rattle.urlpattern_syntax.specs.declared.parser.PartModifier.{PartModifier}
 use Rattle.urlpattern_syntax.specs.declared.parser.PartModifier.TheVariants as modifiers
@@ -54,3 +54,11 @@ abbrev pub capture_of : OptionsView → PartType → PartModifier → Option (Op
 capture_of options FullWildcard modifiers.None = Some (None, true)
 capture_of options SegmentWildcard modifiers.None = Some (options.delimiter, false)
 capture_of options kind modifier = None
+
+-- the text begins with this prefix but for the case of ASCII letters, and the rest follows
+abbrev pub BeginsWithFolded : (prefix text rest : List ℕ) → Type 0
+BeginsWithFolded prefix text rest = (front : List ℕ) × (text ≡ front ++ rest) × IsSame true front prefix
+
+-- the text ends with this suffix but for the case of ASCII letters, and the rest stands before it
+abbrev pub EndsWithFolded : (suffix text rest : List ℕ) → Type 0
+EndsWithFolded suffix text rest = (back : List ℕ) × (text ≡ rest ++ back) × IsSame true back suffix

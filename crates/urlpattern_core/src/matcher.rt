@@ -1,13 +1,13 @@
 //! Matchers: what a component is matched with, past the engine of regular expressions where that is not needed.
 
-ghost use Rattle.std.specs.Prelude.{◌≡◌, ◌↔◌, ℕ, List, ◌++◌, IfErr, IfNone, IfOk, IfSome, IsTrue, map, not};
+ghost use Rattle.std.specs.Prelude.{◌≡◌, ◌↔◌, ℕ, List, IfErr, IfNone, IfOk, IfSome, IsTrue, map, not};
 ghost use Rattle.std.specs.Char.{to_ascii_lowercase};
 ghost use Rattle.std.specs.Str.{chars};
 ghost use Rattle.urlpattern_core.specs.Captured.{captures_view};
-ghost use Rattle.urlpattern_core.specs.Matchers.{matcher_view};
-ghost use Rattle.urlpattern_laws.specs.Matching.{Answers, AsksEngine, IsMatched, MayBeEmpty, MayWantMemory, PassesFilter, folded};
+ghost use Rattle.urlpattern_core.specs.Matchers.{BeginsWithFolded, EndsWithFolded, matcher_view};
+ghost use Rattle.urlpattern_laws.specs.Matching.{Answers, AsksEngine, HasMiddle, IsMatched, IsSame, MayBeEmpty, MayWantMemory, PassesFilter};
 ghost use Rattle.urlpattern_syntax.specs.declared.error.Error.TheVariants as errors;
-ghost use Rattle.urlpattern_syntax.specs.Text.{lacks, text_of};
+ghost use Rattle.urlpattern_syntax.specs.Text.{lacks};
 
 mod look;
 
@@ -25,7 +25,7 @@ pub struct Matcher<R> {
     pub suffix: String,
     /// What stands between prefix and suffix.
     pub inner: InnerMatcher<R>,
-    /// Whether the case of ASCII letters is ignored between prefix and suffix.
+    /// Whether the case of ASCII letters is ignored: in prefix, suffix, literal and filter. An engine has flags of its own.
     pub ignore_case: bool,
 }
 
@@ -124,16 +124,21 @@ impl<R: RegExp> Matcher<R> {
 impl<R> Matcher<R> {
     /// What stands in a text between prefix and suffix, if it begins and ends with them and they do not overlap.
     fn middle<'a>(&self, input: &'a str) -> Option<&'a str>
-        ensures some { IfSome result (λ middle. chars input.now ≡ text_of self.now.prefix ++ chars middle.now ++ text_of self.now.suffix) }
-        ensures none { IfNone result ((middle : List ℕ) → ¬ (chars input.now ≡ text_of self.now.prefix ++ middle ++ text_of self.now.suffix)) }
+        ensures some { IfSome result (λ middle. HasMiddle (matcher_view self.now) (chars input.now) (chars middle.now)) }
+        ensures none { IfNone result ((middle : List ℕ) → ¬ HasMiddle (matcher_view self.now) (chars input.now) middle) }
     {
-        let rest = input.strip_prefix(self.prefix.as_str())?;
-        rest.strip_suffix(self.suffix.as_str())
+        if self.ignore_case {
+            let rest = strip_prefix_ignoring_case(input, &self.prefix)?;
+            strip_suffix_ignoring_case(rest, &self.suffix)
+        } else {
+            let rest = input.strip_prefix(self.prefix.as_str())?;
+            rest.strip_suffix(self.suffix.as_str())
+        }
     }
 
     /// Whether a text is the literal.
     fn is_same(&self, text: &str, literal: &str) -> bool
-        ensures { IsTrue result ↔ (folded self.now.ignore_case (chars text.now) ≡ folded self.now.ignore_case (chars literal.now)) }
+        ensures { IsTrue result ↔ IsSame self.now.ignore_case (chars text.now) (chars literal.now) }
     {
         if self.ignore_case {
             text.eq_ignore_ascii_case(literal)
@@ -159,6 +164,25 @@ impl<R> Matcher<R> {
             Some(c) => !text.contains(c),
         }
     }
+}
+
+/// What follows a prefix in a text, where the case of ASCII letters is ignored.
+fn strip_prefix_ignoring_case<'a>(text: &'a str, prefix: &str) -> Option<&'a str>
+    ensures some { IfSome result (λ rest. BeginsWithFolded (chars prefix.now) (chars text.now) (chars rest.now)) }
+    ensures none { IfNone result ((rest : List ℕ) → ¬ BeginsWithFolded (chars prefix.now) (chars text.now) rest) }
+{
+    let (front, rest) = text.split_at_checked(prefix.len())?;
+    front.eq_ignore_ascii_case(prefix).then_some(rest)
+}
+
+/// What precedes a suffix in a text, where the case of ASCII letters is ignored.
+fn strip_suffix_ignoring_case<'a>(text: &'a str, suffix: &str) -> Option<&'a str>
+    ensures some { IfSome result (λ rest. EndsWithFolded (chars suffix.now) (chars text.now) (chars rest.now)) }
+    ensures none { IfNone result ((rest : List ℕ) → ¬ EndsWithFolded (chars suffix.now) (chars text.now) rest) }
+{
+    let at = text.len().checked_sub(suffix.len())?;
+    let (rest, back) = text.split_at_checked(at)?;
+    back.eq_ignore_ascii_case(suffix).then_some(rest)
 }
 
 /// Whether a character stands in a text, where the case of ASCII letters is ignored.

@@ -13,7 +13,7 @@ use Rattle.urlpattern_syntax.specs.Errors.{ErrorView}
 use Rattle.urlpattern_syntax.specs.Options.{OptionsView}
 use Rattle.urlpattern_syntax.specs.Parts.{PartView}
 use Rattle.urlpattern_syntax.specs.Text.{lacks, line_feed}
-use Rattle.urlpattern_laws.proofs.MatchingLaws.{IsFast, and_right, fast_means}
+use Rattle.urlpattern_laws.proofs.MatchingLaws.{IsFast, and_right, fast_means, middle_kept}
 use Rattle.urlpattern_laws.proofs.MeaningLaws.{peeled_means}
 use Rattle.urlpattern_laws.proofs.OneMeaning.{follows_agrees}
 use Rattle.urlpattern_laws.proofs.PartTrees.{IsNotCustom}
@@ -39,36 +39,37 @@ scalars_middle front text back h = scalars_right front text (scalars_left (front
 
 -- ---- a matcher that asks an engine
 
--- its prefix and suffix are the texts that went off
-abbrev pub HasEnds : {E : Type 0} → MatcherView E → (front back : List ℕ) → Type 0
-HasEnds matcher front back = (matcher.prefix ≡ front) × (matcher.suffix ≡ back)
+-- its prefix and suffix are the texts that went off, compared as the options say
+abbrev pub HasEnds : {E : Type 0} → OptionsView → MatcherView E → (front back : List ℕ) → Type 0
+HasEnds options matcher front back = (matcher.prefix ≡ front) × (matcher.suffix ≡ back) × (matcher.ignore_case ≡ options.ignore_case)
 
 -- no matcher without an engine has one
 not_fast : {E : Type 0} (inner other : InnerView E) (value : Result E ErrorView) → inner ≡ other → IsFast other → inner ≡ RegExp value → ⊥
 not_fast inner other value e fast f = subst (λ i. IsFast i) (sym e ∙ f) fast
 
 ends_of_one : {E : Type 0} (IsEngine : List ℕ → Result E ErrorView → Type 0) (options : OptionsView) (kind : PartType) (modifier : PartModifier) (front : List ℕ) (part : PartView) (back : List ℕ) (matcher : MatcherView E) (value : Result E ErrorView) →
-    IsMadeOfOne IsEngine kind modifier options front part back matcher → matcher.inner ≡ RegExp value → HasEnds matcher front back
+    IsMadeOfOne IsEngine kind modifier options front part back matcher → matcher.inner ≡ RegExp value → HasEnds options matcher front back
 ends_of_one IsEngine options FullWildcard modifiers.None front part back matcher value made e = absurd (not_fast matcher.inner (SingleCapture None true) value (ap (λ m. m.inner) made) tt e)
 ends_of_one IsEngine options SegmentWildcard modifiers.None front part back matcher value made e = absurd (not_fast matcher.inner (SingleCapture options.delimiter false) value (ap (λ m. m.inner) made) tt e)
-ends_of_one IsEngine options kind modifier front part back matcher value made e = (ap (λ m. m.prefix) made.2, ap (λ m. m.suffix) made.2)
+ends_of_one IsEngine options kind modifier front part back matcher value made e = (ap (λ m. m.prefix) made.2, ap (λ m. m.suffix) made.2, ap (λ m. m.ignore_case) made.2)
 
 ends_of : {E : Type 0} (IsEngine : List ℕ → Result E ErrorView → Type 0) (options : OptionsView) (front : List ℕ) (middle : List PartView) (back : List ℕ) (matcher : MatcherView E) (value : Result E ErrorView) →
-    IsMadeBetween IsEngine options front middle back matcher → matcher.inner ≡ RegExp value → HasEnds matcher front back
+    IsMadeBetween IsEngine options front middle back matcher → matcher.inner ≡ RegExp value → HasEnds options matcher front back
 ends_of IsEngine options front [] back matcher value made e = absurd (not_fast matcher.inner (Literal (front ++ back)) value (ap (λ m. m.inner) made) tt e)
 ends_of IsEngine options front (part ∷ []) back matcher value made e = ends_of_one IsEngine options part.kind part.modifier front part back matcher value made e
-ends_of IsEngine options front (part ∷ next ∷ parts) back matcher value made e = (ap (λ m. m.prefix) made.2, ap (λ m. m.suffix) made.2)
+ends_of IsEngine options front (part ∷ next ∷ parts) back matcher value made e = (ap (λ m. m.prefix) made.2, ap (λ m. m.suffix) made.2, ap (λ m. m.ignore_case) made.2)
 
 -- an engine's captures, or None, are those of the parts where its own are those of the middle
 engine_agrees : {E : Type 0} (answer : E → List ℕ → Option Captures) (options : OptionsView) (parts : List PartView) (front : Option PartView) (middle : List PartView) (back : Option PartView) (matcher : MatcherView E) (engine : E) (text : List ℕ) (result : Option Captures) →
-    ArePeeled parts front middle back → HasEnds matcher (end_text front) (end_text back) → matcher.inner ≡ RegExp (Ok engine) →
+    ArePeeled parts front middle back → HasEnds options matcher (end_text front) (end_text back) → matcher.inner ≡ RegExp (Ok engine) → options.ignore_case ≡ false →
     ((t : List ℕ) → IsTrue (all_scalars t) → Agrees options middle t (answer engine t)) → IsTrue (all_scalars text) → Answers answer matcher text result → Agrees options parts text result
-engine_agrees answer options parts front middle back matcher engine text (Some captures) peeled ends is agrees scalars (inner, e, accepts) =
+engine_agrees answer options parts front middle back matcher engine text (Some captures) peeled ends is case agrees scalars (inner, has_middle, accepts) =
+    let e = (middle_kept matcher text inner (ends.2 ∙ case)).0 has_middle in
     let found : answer engine inner ≡ Some captures = subst (λ i. Accepts answer matcher.ignore_case i inner captures) is accepts in
     let cut : text ≡ end_text front ++ inner ++ end_text back = e ∙ ap (λ t. t ++ inner ++ matcher.suffix) ends.0 ∙ ap (λ t. end_text front ++ inner ++ t) ends.1 in
     let here : IsTrue (all_scalars inner) = scalars_middle (end_text front) inner (end_text back) (subst (λ t. IsTrue (all_scalars t)) cut scalars) in
     (peeled_means options parts front middle back text captures peeled).1 (inner, cut, subst (λ a. Agrees options middle inner a) found (agrees inner here))
-engine_agrees answer options parts front middle back matcher engine text None peeled ends is agrees scalars never = λ captures means.
+engine_agrees answer options parts front middle back matcher engine text None peeled ends is case agrees scalars never = λ captures means.
     let cut = (peeled_means options parts front middle back text captures peeled).0 means in
     let here : IsTrue (all_scalars cut.0) = scalars_middle (end_text front) cut.0 (end_text back) (subst (λ t. IsTrue (all_scalars t)) cut.1 scalars) in
     let whole : text ≡ matcher.prefix ++ cut.0 ++ matcher.suffix = cut.1 ∙ ap (λ t. t ++ cut.0 ++ end_text back) (sym ends.0) ∙ ap (λ t. matcher.prefix ++ cut.0 ++ t) (sym ends.1) in
@@ -77,7 +78,7 @@ engine_agrees answer options parts front middle back matcher engine text None pe
     refused : (inner : List ℕ) (captures : Captures) (found : Option Captures) → answer engine inner ≡ found → text ≡ matcher.prefix ++ inner ++ matcher.suffix →
         PartsMean options middle inner captures → Agrees options middle inner found → ⊥
     refused inner captures None e cut means none = none captures means
-    refused inner captures (Some others) e cut means agreed = never others (inner, cut, subst (λ i. Accepts answer matcher.ignore_case i inner others) (sym is) e)
+    refused inner captures (Some others) e cut means agreed = never others (inner, (middle_kept matcher text inner (ends.2 ∙ case)).1 cut, subst (λ i. Accepts answer matcher.ignore_case i inner others) (sym is) e)
 
 -- ---- every matcher
 
@@ -104,7 +105,7 @@ matcher_agrees {E} answer IsMade MayRefuse options flags parts matcher text resu
     by_inner (RegExp (Ok engine)) e (front, middle, back, peeled, agrees) =
         let same : middle ≡ made.middle = middle_one parts front made.front middle made.middle back made.back peeled made.are_peeled in
         engine_agrees answer options parts made.front made.middle made.back matcher engine text result made.are_peeled
-        (ends_of (IsEngineOf IsMade MayRefuse flags) options (end_text made.front) made.middle (end_text made.back) matcher (Ok engine) made.is_made e) e
+        (ends_of (IsEngineOf IsMade MayRefuse flags) options (end_text made.front) made.middle (end_text made.back) matcher (Ok engine) made.is_made e) e case
         (subst (λ m. (t : List ℕ) → IsTrue (all_scalars t) → Agrees options m t (answer engine t)) same agrees) scalars answers
 
 -- ---- engines that follow

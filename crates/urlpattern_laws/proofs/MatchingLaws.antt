@@ -8,7 +8,7 @@ use Rattle.urlpattern_syntax.specs.declared.parser.PartModifier.TheVariants as m
 use Rattle.urlpattern_syntax.specs.declared.parser.PartType.{PartType}
 use Rattle.urlpattern_syntax.specs.declared.parser.PartType.TheVariants.{SegmentWildcard, FullWildcard}
 use Rattle.urlpattern_syntax.specs.Errors.{ErrorView}
-use Rattle.urlpattern_laws.specs.Matching.{MayBeEmpty, PassesFilter, InnerView, Literal, SingleCapture, RegExp, MatcherView, IsEngineOf, IsMadeBetween, IsMadeOf, IsMadeOfOne, Matches, end_text, single_capture}
+use Rattle.urlpattern_laws.specs.Matching.{HasMiddle, IsSame, MayBeEmpty, PassesFilter, InnerView, Literal, SingleCapture, RegExp, MatcherView, IsEngineOf, IsMadeBetween, IsMadeOf, IsMadeOfOne, Matches, end_text, single_capture}
 use Rattle.urlpattern_syntax.specs.Options.{OptionsView}
 use Rattle.urlpattern_laws.specs.PartMeaning.{AreCaptures, Captures, IsCapture, IsWildcardText, PartMeans, PartsMean}
 use Rattle.urlpattern_syntax.specs.Parts.{PartView}
@@ -40,6 +40,22 @@ lacks_middle c front text back h = lacks_right c front text (lacks_left c (front
 
 pub middle_cancel : (front a b back : List ℕ) → front ++ a ++ back ≡ front ++ b ++ back → a ≡ b
 middle_cancel front a b back e = append_cancel_left front a b (append_cancel_right (front ++ a) (front ++ b) back e)
+
+-- ---- prefix and suffix where case is kept
+
+same_kept : (ignore_case : Bool) (text other : List ℕ) → ignore_case ≡ false → IsSame ignore_case text other → text ≡ other
+same_kept false text other kept same = same
+same_kept true text other kept same = absurd (no (sym kept))
+
+-- a middle stands between prefix and suffix as they are
+pub middle_kept : {E : Type 0} (matcher : MatcherView E) (text middle : List ℕ) → matcher.ignore_case ≡ false →
+    HasMiddle matcher text middle ↔ (text ≡ matcher.prefix ++ middle ++ matcher.suffix)
+middle_kept matcher text middle kept = (
+  λ (front, back, e, begins, ends).
+      e ∙ ap (λ t. t ++ middle ++ back) (same_kept matcher.ignore_case front matcher.prefix kept begins)
+      ∙ ap (λ t. matcher.prefix ++ middle ++ t) (same_kept matcher.ignore_case back matcher.suffix kept ends),
+  λ e. (matcher.prefix, matcher.suffix, e, refl, refl),
+)
 
 -- ---- one wildcard
 
@@ -96,20 +112,22 @@ regrouped front prefix piece suffix back =
 
 -- a single capture accepts what its wildcard stands for
 matches_single : {E : Type 0} (answer : E → List ℕ → Option Captures) (options : OptionsView) (front back : List ℕ) (part : PartView) (filter : Option ℕ) (allow_empty : Bool) (text : List ℕ) (captures : Captures) →
-    IsTrue (lacks line_feed text) →
+    options.ignore_case ≡ false → IsTrue (lacks line_feed text) →
     ((piece : List ℕ) → IsTrue (lacks line_feed piece) → (MayBeEmpty allow_empty piece × PassesFilter options.ignore_case filter piece) ↔ IsWildcardText options part.kind piece) →
     Matches answer (single_capture options front part back filter allow_empty) text captures ↔ ((inner : List ℕ) × (text ≡ front ++ inner ++ back) × IsOnePiece options part inner captures)
-matches_single answer options front back part filter allow_empty text captures no_feed accepts = (
-  λ (piece, e, (may, passes, is)). (
-    part.prefix ++ piece ++ part.suffix,
-    e ∙ regrouped front part.prefix piece part.suffix back,
-    (piece, refl, (accepts piece (lacks_middle line_feed (front ++ part.prefix) piece (part.suffix ++ back) (rw e at no_feed))).0 (may, passes), is),
-  ),
-  λ (inner, e, (piece, f, is, g)).
-      let whole : text ≡ front ++ part.prefix ++ piece ++ (part.suffix ++ back) = e ∙ ap (λ t. front ++ t ++ back) f ∙ sym (regrouped front part.prefix piece part.suffix back) in
-      let both = (accepts piece (lacks_middle line_feed (front ++ part.prefix) piece (part.suffix ++ back) (rw whole at no_feed))).1 is in
-      (piece, whole, (both.0, both.1, g)),
-)
+matches_single {E} answer options front back part filter allow_empty text captures case no_feed accepts =
+    let matcher : MatcherView E = single_capture options front part back filter allow_empty in (
+      λ (piece, cut, (may, passes, is)).
+          let e = (middle_kept matcher text piece case).0 cut in (
+            part.prefix ++ piece ++ part.suffix,
+            e ∙ regrouped front part.prefix piece part.suffix back,
+            (piece, refl, (accepts piece (lacks_middle line_feed (front ++ part.prefix) piece (part.suffix ++ back) (rw e at no_feed))).0 (may, passes), is),
+          ),
+      λ (inner, e, (piece, f, is, g)).
+          let whole : text ≡ front ++ part.prefix ++ piece ++ (part.suffix ++ back) = e ∙ ap (λ t. front ++ t ++ back) f ∙ sym (regrouped front part.prefix piece part.suffix back) in
+          let both = (accepts piece (lacks_middle line_feed (front ++ part.prefix) piece (part.suffix ++ back) (rw whole at no_feed))).1 is in
+          (piece, (middle_kept matcher text piece case).1 whole, (both.0, both.1, g)),
+    )
 
 -- a full wildcard without line feed
 accepts_full : (options : OptionsView) (piece : List ℕ) → IsTrue (lacks line_feed piece) →
@@ -145,7 +163,7 @@ one_between : {E : Type 0} (answer : E → List ℕ → Option Captures) (IsEngi
     AcceptsBetween answer front back text captures (PartMeans options (part_of kind modifier value name prefix suffix)) matcher
 one_between answer IsEngine options front back FullWildcard modifiers.None value name prefix suffix matcher text captures case no_feed made fast =
     let part = part_of FullWildcard modifiers.None value name prefix suffix in
-    let matches = matches_single answer options front back part None true text captures no_feed (accepts_full options) in (
+    let matches = matches_single answer options front back part None true text captures case no_feed (accepts_full options) in (
       λ h.
           let found = matches.0 (subst (λ m. Matches answer m text captures) made h) in
           (found.0, found.1, (one_by options FullWildcard value name prefix suffix found.0 captures tt).1 found.2),
@@ -155,7 +173,7 @@ one_between answer IsEngine options front back FullWildcard modifiers.None value
     )
 one_between answer IsEngine options front back SegmentWildcard modifiers.None value name prefix suffix matcher text captures case no_feed made fast =
     let part = part_of SegmentWildcard modifiers.None value name prefix suffix in
-    let matches = matches_single answer options front back part options.delimiter false text captures no_feed (accepts_segment options case) in (
+    let matches = matches_single answer options front back part options.delimiter false text captures case no_feed (accepts_segment options case) in (
       λ h.
           let found = matches.0 (subst (λ m. Matches answer m text captures) made h) in
           (found.0, found.1, (one_by options SegmentWildcard value name prefix suffix found.0 captures tt).1 found.2),
@@ -173,10 +191,14 @@ part_single options part text captures means = (text, [], captures, [], sym (app
 -- the literal
 matches_literal : {E : Type 0} (answer : E → List ℕ → Option Captures) (front back text : List ℕ) (captures : Captures) →
     Matches answer (record { prefix = []; suffix = []; inner = Literal (front ++ back); ignore_case = false }) text captures ↔ ((inner : List ℕ) × (text ≡ front ++ inner ++ back) × (inner ≡ []) × (captures ≡ []))
-matches_literal answer front back text captures = (
-  λ (middle, e, (f, g)). ([], e ∙ append-nil middle ∙ f ∙ ap (λ t. t ++ back) (sym (append-nil front)), refl, g),
-  λ (inner, e, f, g). (text, sym (append-nil text), (e ∙ ap (λ t. front ++ t ++ back) f ∙ ap (λ t. t ++ back) (append-nil front), g)),
-)
+matches_literal {E} answer front back text captures =
+    let matcher : MatcherView E = record { prefix = []; suffix = []; inner = Literal (front ++ back); ignore_case = false } in (
+      λ (middle, cut, (f, g)).
+          let e = (middle_kept matcher text middle refl).0 cut in
+          ([], e ∙ append-nil middle ∙ f ∙ ap (λ t. t ++ back) (sym (append-nil front)), refl, g),
+      λ (inner, e, f, g).
+          (text, (middle_kept matcher text text refl).1 (sym (append-nil text)), (e ∙ ap (λ t. front ++ t ++ back) f ∙ ap (λ t. t ++ back) (append-nil front), g)),
+    )
 
 between : {E : Type 0} (answer : E → List ℕ → Option Captures) (IsEngine : List ℕ → Result E ErrorView → Type 0) (options : OptionsView) (front : List ℕ) (middle : List PartView) (back : List ℕ) (matcher : MatcherView E) (text : List ℕ) (captures : Captures) →
     options.ignore_case ≡ false → IsTrue (lacks line_feed text) → IsMadeBetween IsEngine options front middle back matcher →

@@ -119,7 +119,7 @@ pub feed_shape : (E : Type 0) → HasShapeOf default_options (wildcard (codes "0
 feed_shape E = record { front = None; middle = wildcard (codes "0") ∷ []; back = None; are_peeled = record { cut = refl; front_goes = no; back_goes = no }; is_made = refl }
 
 pub feed_answered : (E : Type 0) (answer : E → List ℕ → Option Captures) → Answers answer (wildcard_matcher E [] []) (codes "\n") (Some (Some (codes "\n") ∷ []))
-feed_answered E answer = (codes "\n", refl, (tt, tt, refl))
+feed_answered E answer = (codes "\n", ([], [], refl, refl, refl), (tt, tt, refl))
 
 feed_copies : (n : ℕ) → n ≡ 1 → ¬ IsRepeated (λ stretch. (piece : List ℕ) × (stretch ≡ piece ++ []) × IsTrue (lacks line_feed piece)) n (codes "\n")
 feed_copies n e is = alone (rw e at is)
@@ -143,7 +143,7 @@ pub letter_shape : (E : Type 0) → HasShapeOf ignoring_case (plain (codes "A") 
 letter_shape E = record { front = Some (plain (codes "A")); middle = []; back = None; are_peeled = record { cut = refl; front_goes = refl; back_goes = λ h. h }; is_made = refl }
 
 pub letter_answered : (E : Type 0) (answer : E → List ℕ → Option Captures) → Answers answer (letter_matcher E) (codes "a") (Some [])
-letter_answered E answer = (codes "a", refl, (refl, refl))
+letter_answered E answer = (codes "a", ([], [], refl, refl, refl), (refl, refl))
 
 pub letter_differs : ¬ Agrees ignoring_case (plain (codes "A") ∷ []) (codes "a") (Some [])
 letter_differs means =

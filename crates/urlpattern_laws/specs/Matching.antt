@@ -111,6 +111,10 @@ folded ignore_case text = if ignore_case then map to_ascii_lowercase text else t
 abbrev pub folded_character : (ignore_case : Bool) → ℕ → ℕ
 folded_character ignore_case c = if ignore_case then to_ascii_lowercase c else c
 
+-- the two texts are the same; where case is ignored, but for the case of ASCII letters
+abbrev pub IsSame : (ignore_case : Bool) → (text other : List ℕ) → Type 0
+IsSame ignore_case text other = folded ignore_case text ≡ folded ignore_case other
+
 -- the text does not have the filter's character
 abbrev pub PassesFilter : (ignore_case : Bool) → Option ℕ → List ℕ → Type 0
 PassesFilter ignore_case None text = Unit {0}
@@ -123,17 +127,22 @@ MayBeEmpty false text = text ≢ []
 
 -- the text between prefix and suffix is accepted, with these captures
 abbrev pub Accepts : {E : Type 0} → (answer : E → List ℕ → Option Captures) → (ignore_case : Bool) → InnerView E → List ℕ → Captures → Type 0
-Accepts answer ignore_case (Literal literal) text captures = (folded ignore_case text ≡ folded ignore_case literal) × (captures ≡ [])
+Accepts answer ignore_case (Literal literal) text captures = IsSame ignore_case text literal × (captures ≡ [])
 Accepts answer ignore_case (SingleCapture filter allow_empty) text captures =
     MayBeEmpty allow_empty text × PassesFilter ignore_case filter text × (captures ≡ Some text ∷ [])
 Accepts answer ignore_case (RegExp (Ok engine)) text captures = answer engine text ≡ Some captures
 Accepts answer ignore_case (RegExp (Err error)) text captures = ⊥
 
--- the text is prefix, a middle that is accepted, and suffix, without overlap
+-- the text is prefix, this middle and suffix, without overlap; prefix and suffix are compared as a literal is
+abbrev pub HasMiddle : {E : Type 0} → MatcherView E → List ℕ → (middle : List ℕ) → Type 0
+HasMiddle matcher text middle =
+    (front back : List ℕ) × (text ≡ front ++ middle ++ back)
+    × IsSame matcher.ignore_case front matcher.prefix × IsSame matcher.ignore_case back matcher.suffix
+
+-- what stands between prefix and suffix is accepted, with these captures
 abbrev pub Matches : {E : Type 0} → (answer : E → List ℕ → Option Captures) → MatcherView E → List ℕ → Captures → Type 0
 Matches answer matcher text captures =
-    (middle : List ℕ) × (text ≡ matcher.prefix ++ middle ++ matcher.suffix)
-    × Accepts answer matcher.ignore_case matcher.inner middle captures
+    (middle : List ℕ) × HasMiddle matcher text middle × Accepts answer matcher.ignore_case matcher.inner middle captures
 
 -- what a matcher answers to a text, where engines' values answer in this way: captures, or None where there are none
 abbrev pub Answers : {E : Type 0} → (answer : E → List ℕ → Option Captures) → MatcherView E → List ℕ → Option Captures → Type 0
@@ -158,7 +167,7 @@ CapturesOne other = ⊥
 
 -- an engine is asked, as the text begins with the prefix and ends with the suffix
 abbrev pub AsksEngine : {E : Type 0} → MatcherView E → List ℕ → Type 0
-AsksEngine matcher text = (middle : List ℕ) × (text ≡ matcher.prefix ++ middle ++ matcher.suffix) × HoldsEngine matcher.inner
+AsksEngine matcher text = (middle : List ℕ) × HasMiddle matcher text middle × HoldsEngine matcher.inner
 
 -- memory is asked for: by an engine, or for the list of one capture
 abbrev pub MayWantMemory : {E : Type 0} → (answer : E → List ℕ → Option Captures) → MatcherView E → List ℕ → Type 0

@@ -11,6 +11,7 @@ use Rattle.urlpattern_pattern.specs.Patterns.{PatternView}
 use Rattle.urlpattern_core.specs.Compiling.{ComponentView}
 use Rattle.urlpattern_laws.specs.Matching.{InnerView, Literal, SingleCapture}
 use Rattle.urlpattern_laws.specs.PartMeaning.{Captures}
+use Rattle.urlpattern_laws.proofs.MatchingLaws.{middle_kept}
 use Rattle.urlpattern_syntax.specs.Errors.{ErrorView as views}
 
 -- ---- groups
@@ -68,7 +69,7 @@ wildcards-texts : (texts : Texts) → IsMatchOf no_engine wildcards texts
     (λ component. record { input = text_at texts component; group = group_of (codes "0" ∷ []) (Some (text_at texts component) ∷ []) })
 wildcards-texts texts = record {
   captures = λ component. Some (text_at texts component) ∷ [];
-  are_answers = λ component. (text_at texts component, sym (append-nil (text_at texts component)), (tt, tt, refl));
+  are_answers = λ component. (text_at texts component, ([], [], sym (append-nil (text_at texts component)), refl, refl), (tt, tt, refl));
   are_results = λ component. record { has_input = refl; has_groups = λ name. refl };
 }
 
@@ -85,4 +86,13 @@ wildcards_but_path component = wildcards component
 -- one component that is not matched is no match
 wildcards_but_path-url : (url : Parts) → ¬ (text_at (texts_of_url url) Pathname ≡ []) → HasNoMatch no_engine wildcards_but_path (Url url)
 wildcards_but_path-url url other =
-    inr (texts_of_url url, refl, (Pathname, λ captures (middle, cut, (empty, none)). other (rw empty at (rw append-nil at cut))))
+    inr (
+      texts_of_url url,
+      refl,
+      (
+        Pathname,
+        λ captures (middle, cut, (empty, none)).
+            let e = (middle_kept (wildcards_but_path Pathname).matcher (text_at (texts_of_url url) Pathname) middle refl).0 cut in
+            other (rw empty at (rw append-nil at e)),
+      ),
+    )

@@ -1,12 +1,19 @@
 use Rattle.std.proofs.Common.{ap, sym, ◌∙◌}
+use Rattle.std.proofs.lemmas.Bool.{false≢true}
 use Rattle.std.specs.Prelude.{◌≡◌, Ok, is_some}
 use Rattle.std.specs.Str.{chars}
 use Rattle.urlpattern_laws.specs.Matching.{RegExp}
 use Rattle.urlpattern_syntax.specs.Text.{text_of}
 use Rattle.urlpattern_core.specs.Captured.{captures_view}
 use Rattle.urlpattern_core.specs.Matchers.{engine_view, inner_view, matcher_view}
-use Rattle.urlpattern_core.proofs.MatcherAnswers.{accepts-engine, accepts-literal, accepts-single, is_some-map, matched-by}
+use Rattle.urlpattern_core.proofs.MatcherAnswers.{accepts-engine, accepts-literal, accepts-single, is_some-map, matched-by, not_matched-without}
 use Rattle.urlpattern_core.proofs.matcher.Matcher.accepts.Goals as goal
+
+pub returns-in_default-clause-answer : goal.returns-in_default-clause-answer
+returns-in_default-clause-answer g c = (
+  λ t. absurd (false≢true t),
+  λ (captures, matches). absurd (not_matched-without g.R.RegExp.answer (matcher_view c.args.self.now) (chars c.args.input.now) c.in_default.ensures.none captures matches),
+)
 
 pub returns-in-Literal-clause-answer : goal.returns-in-Literal-clause-answer
 returns-in-Literal-clause-answer g c =

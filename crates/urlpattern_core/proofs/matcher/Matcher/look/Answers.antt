@@ -3,8 +3,12 @@ use Rattle.std.specs.Str.{chars}
 use Rattle.urlpattern_laws.specs.Matching.{RegExp}
 use Rattle.urlpattern_syntax.specs.Text.{text_of}
 use Rattle.urlpattern_core.specs.Matchers.{engine_view, inner_view, matcher_view}
-use Rattle.urlpattern_core.proofs.MatcherAnswers.{accepts-literal, accepts-single, answers-engine, not_matched-by}
+use Rattle.urlpattern_core.proofs.MatcherAnswers.{accepts-literal, accepts-single, answers-engine, not_matched-by, not_matched-without}
 use Rattle.urlpattern_core.proofs.matcher.Matcher.look.Goals as goal
+
+pub returns-in_err-middle : goal.returns-in_err-middle
+returns-in_err-middle g c =
+    rw c.from_residual.ensures (not_matched-without g.R.RegExp.answer (matcher_view c.args.self.now) (chars c.args.input.now) c.in_err-middle.ensures.none)
 
 pub returns-else-is_same : goal.returns-else-is_same
 returns-else-is_same g c =

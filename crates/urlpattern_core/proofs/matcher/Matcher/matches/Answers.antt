@@ -4,8 +4,12 @@ use Rattle.urlpattern_laws.specs.Matching.{CapturesOne, MayWantMemory, RegExp, S
 use Rattle.urlpattern_syntax.specs.Text.{text_of}
 use Rattle.urlpattern_core.specs.Captured.{captures_view}
 use Rattle.urlpattern_core.specs.Matchers.{engine_view, inner_view, matcher_view}
-use Rattle.urlpattern_core.proofs.MatcherAnswers.{accepts-literal, accepts-single, answers-engine, if_err, matched-by, not_matched-by}
+use Rattle.urlpattern_core.proofs.MatcherAnswers.{accepts-literal, accepts-single, answers-engine, if_err, matched-by, not_matched-by, not_matched-without}
 use Rattle.urlpattern_core.proofs.matcher.Matcher.matches.Goals as goal
+
+pub returns-in_default-clause-answer : goal.returns-in_default-clause-answer
+returns-in_default-clause-answer g c =
+    not_matched-without g.R.RegExp.answer (matcher_view c.args.self.now) (chars c.args.input.now) c.in_default.ensures.none
 
 pub returns-in_err-captures-in-SingleCapture-clause-asked :
     goal.returns-in_err-captures-in-SingleCapture-clause-asked
