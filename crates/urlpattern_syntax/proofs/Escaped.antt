@@ -1,5 +1,6 @@
 -- Lemmas on escaped texts.
-use Rattle.std.proofs.Common.{◌≡◌, ℕ, List, [], ◌∷◌, ◌++◌, true, false, if◌then◌else◌, codes}
+use Rattle.std.proofs.Common.{◌≡◌, ℕ, suc, ◌<◌, List, [], ◌∷◌, ◌++◌, length, get_or, take, drop, map, true, false, if◌then◌else◌, codes, sym, ap, ◌∙◌, drop-cons}
+use Rattle.std.proofs.lemmas.List.{map-id, take-append-drop}
 use Rattle.std.proofs.lemmas.List.Concat.{flat_map-append}
 use Rattle.urlpattern_syntax.specs.RegexpText.{escaped}
 use Rattle.urlpattern_syntax.specs.Text.{is_among}
@@ -16,3 +17,16 @@ escaped-mark marks c e = rw (← e)
 pub escaped-other : (marks : List ℕ) (c : ℕ) → false ≡ is_among marks c → escaped marks (c ∷ []) ≡ c ∷ []
 unfolding escaped
 escaped-other marks c e = rw (← e)
+
+-- a character of a text, between those before it and those after it
+pub turn_of : (text front : List ℕ) (c : ℕ) → map (λ x. x) front ≡ take (length front) text → (length front < length text) × (c ≡ get_or text (length front) c)
+    → text ≡ front ++ (c ∷ drop (suc (length front)) text)
+turn_of text front c before turn =
+    sym (take-append-drop (length front) text)
+    ∙ ap (λ xs. xs ++ drop (length front) text) (sym before ∙ map-id front)
+    ∙ ap (λ xs. front ++ xs) (drop-cons text (length front) c turn.0 ∙ ap (λ d. d ∷ drop (suc (length front)) text) (sym turn.1))
+
+-- the same of the text with its backslashes
+pub escaped-turn : (marks text front rest : List ℕ) (c : ℕ) → text ≡ front ++ (c ∷ rest) → escaped marks text ≡ escaped marks front ++ (escaped marks (c ∷ []) ++ escaped marks rest)
+escaped-turn marks text front rest c e =
+    ap (λ x. escaped marks x) e ∙ escaped-append marks front (c ∷ rest) ∙ ap (λ x. escaped marks front ++ x) (escaped-append marks (c ∷ []) rest)
