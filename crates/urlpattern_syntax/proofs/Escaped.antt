@@ -18,13 +18,15 @@ pub escaped-other : (marks : List ℕ) (c : ℕ) → false ≡ is_among marks c 
 unfolding escaped
 escaped-other marks c e = rw (← e)
 
--- a character of a text, between those before it and those after it
+-- an element of a list, between those before it and those after it
+pub cut_at : {X : Type 0} (xs : List X) (i : ℕ) (x : X) → i < length xs → x ≡ get_or xs i x → xs ≡ take i xs ++ (x ∷ drop (suc i) xs)
+cut_at xs i x below here = sym (take-append-drop i xs) ∙ ap (λ rest. take i xs ++ rest) (drop-cons xs i x below ∙ ap (λ y. y ∷ drop (suc i) xs) (sym here))
+
+-- the character of a turn of a loop over a text
 pub turn_of : (text front : List ℕ) (c : ℕ) → map (λ x. x) front ≡ take (length front) text → (length front < length text) × (c ≡ get_or text (length front) c)
     → text ≡ front ++ (c ∷ drop (suc (length front)) text)
 turn_of text front c before turn =
-    sym (take-append-drop (length front) text)
-    ∙ ap (λ xs. xs ++ drop (length front) text) (sym before ∙ map-id front)
-    ∙ ap (λ xs. front ++ xs) (drop-cons text (length front) c turn.0 ∙ ap (λ d. d ∷ drop (suc (length front)) text) (sym turn.1))
+    cut_at text (length front) c turn.0 turn.1 ∙ ap (λ xs. xs ++ (c ∷ drop (suc (length front)) text)) (sym before ∙ map-id front)
 
 -- the same of the text with its backslashes
 pub escaped-turn : (marks text front rest : List ℕ) (c : ℕ) → text ≡ front ++ (c ∷ rest) → escaped marks text ≡ escaped marks front ++ (escaped marks (c ∷ []) ++ escaped marks rest)
