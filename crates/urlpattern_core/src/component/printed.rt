@@ -90,8 +90,8 @@ impl Writable for PrintedPart<'_> {
         match self.part.kind {
             PartType::FixedText => self.write_fixed_text(writer),
             _ => {
-                let grouped = needs_grouping(self.options, self.previous, self.part, self.next);
-                self.write_group(writer, grouped);
+                let braces = needs_grouping(self.options, self.previous, self.part, self.next);
+                self.write_group(writer, braces);
             }
         }
     }
@@ -103,43 +103,45 @@ impl PrintedPart<'_> {
         requires { W.Fits writer.old (printed_fixed (part_view self.now.part.now)) }
         ensures { W.Writes writer.old (printed_fixed (part_view self.now.part.now)) writer.new }
     {
-        let grouped = self.part.modifier != PartModifier::None;
-        let value = Escaped::pattern(&self.part.value);
-        (InBraces(grouped, value), self.part.modifier.as_str()).write_to(writer);
+        let braces = self.part.modifier != PartModifier::None;
+        let inner = Escaped::pattern(&self.part.value);
+        (InBraces { braces, inner }, self.part.modifier.as_str()).write_to(writer);
     }
 
     /// Writes a part that is no fixed text, between braces or not.
-    fn write_group<W: Writer>(&self, writer: &mut W, grouped: bool)
-        requires { W.Fits writer.old (printed_group (options_view self.now.options.now) (neighbour self.now.previous) (part_view self.now.part.now) grouped) }
-        ensures { W.Writes writer.old (printed_group (options_view self.now.options.now) (neighbour self.now.previous) (part_view self.now.part.now) grouped) writer.new }
+    fn write_group<W: Writer>(&self, writer: &mut W, braces: bool)
+        requires { W.Fits writer.old (printed_group (options_view self.now.options.now) (neighbour self.now.previous) (part_view self.now.part.now) braces) }
+        ensures { W.Writes writer.old (printed_group (options_view self.now.options.now) (neighbour self.now.previous) (part_view self.now.part.now) braces) writer.new }
     {
         let part = self.part;
         let matched = Matched {
             options: self.options,
             part,
-            asterisk: is_asterisk(self.previous, part, grouped),
+            asterisk: is_asterisk(self.previous, part, braces),
         };
         let prefix = Escaped::pattern(&part.prefix);
-        let group = (prefix, Name(part), matched, Suffix(part));
-        (InBraces(grouped, group), part.modifier.as_str()).write_to(writer);
+        let inner = (prefix, Name(part), matched, Suffix(part));
+        (InBraces { braces, inner }, part.modifier.as_str()).write_to(writer);
     }
 }
 
 /// A text between braces, or as it is.
 #[derive(Clone, Copy)]
-struct InBraces<T>(bool, T);
+struct InBraces<T> {
+    braces: bool,
+    inner: T,
+}
 
 impl<T: Writable> Writable for InBraces<T> {
-    ghost text = { λ piece. in_braces piece.0 (T.text piece.1) };
+    ghost text = { λ piece. in_braces piece.braces (T.text piece.inner) };
 
     fn write_to<W: Writer>(&self, writer: &mut W) {
-        if self.0 {
-            writer.write_char('{');
-            self.1.write_to(writer);
-            writer.write_char('}');
-        } else {
-            self.1.write_to(writer);
+        if !self.braces {
+            return self.inner.write_to(writer);
         }
+        writer.write_char('{');
+        self.inner.write_to(writer);
+        writer.write_char('}');
     }
 }
 
@@ -151,9 +153,10 @@ impl Writable for Name<'_> {
     ghost text = { λ name. printed_name (part_view name.0.now) };
 
     fn write_to<W: Writer>(&self, writer: &mut W) {
-        if has_custom_name(self.0) {
-            (':', self.0.name.as_str()).write_to(writer);
+        if !has_custom_name(self.0) {
+            return;
         }
+        (':', self.0.name.as_str()).write_to(writer);
     }
 }
 
