@@ -5,3 +5,4 @@ pub mod RegexpTexts
 pub mod MatcherTexts
 pub mod MatcherAnswers
 pub mod Peeling
+pub mod NameLists
