@@ -5,6 +5,7 @@ use Rattle.std.specs.Prelude.{slice_range}
 use Rattle.std.proofs.Math.Seq.{take-append_seam}
 use Rattle.std.specs.Char.{encode_utf8}
 use Rattle.std.specs.Str.{chars, IsUtf8}
+use Rattle.std.proofs.lemmas.List.{append-nil}
 use Rattle.std.proofs.lemmas.Str.{chars-nil, length-le-encodes, encodes-append, encodes-chars}
 use Rattle.urlpattern_syntax.specs.Text.{byte_len, BeginsAt}
 
@@ -83,3 +84,7 @@ full_wildcard_bytes = refl
 
 pub chars_nothing : chars [] ≡ []
 chars_nothing = chars-nil
+
+pub byte_len-char : (c : ℕ) → byte_len (c ∷ []) ≡ length (encode_utf8 c)
+unfolding byte_len
+byte_len-char c = ap length (append-nil (encode_utf8 c))
