@@ -15,4 +15,6 @@ mod matchers;
 #[cfg(test)]
 mod parts;
 #[cfg(test)]
+mod texts;
+#[cfg(test)]
 mod values;

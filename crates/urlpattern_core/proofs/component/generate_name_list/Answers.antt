@@ -31,20 +31,22 @@ loop-part-preserved c =
     let before = names_of (take c.loop-part.part-index list) in
     let more = names-more list c.loop-part.part-index part c.loop-part-test.true c.part-item.is in
     elim c.if-is_group.branch [
-      | then-is_group+in_ok-clone w ↦
-          (ap (λ names. map (λ name. text_of name) names.items) w.names-is
-          ∙ ap (λ items. map (λ name. text_of name) items) (rw w.unwrap.ensures at w.push.ensures.items)
-          ∙ map_push (λ name. text_of name) c.loop-part.names.items w.in_ok-clone.field-0
-          ∙ ap (λ names. names ++ text_of w.in_ok-clone.field-0 ∷ []) c.loop-part.invariant.0
-          ∙ ap (λ bytes. before ++ chars bytes ∷ []) w.in_ok-clone.ensures.cases
-          ∙ ap (λ names. before ++ names) (sym (names-group part (sym c.is_group.ensures ∙ w.if-is_group.true)))
-          ∙ sym more,
-          omega (arith, c.loop-part.invariant.1, w.push.ensures.capacity, ap (λ names. vec_capacity names) w.names-is))
-      | else-is_group w ↦
-          (ap (λ names. map (λ name. text_of name) names.items) w.names-is
-          ∙ c.loop-part.invariant.0
-          ∙ sym (append-nil before)
-          ∙ ap (λ names. before ++ names) (sym (names-other part (sym c.is_group.ensures ∙ w.if-is_group.false)))
-          ∙ sym more,
-          omega (arith, c.loop-part.invariant.1, ap (λ names. vec_capacity names) w.names-is))
+      | then-is_group+in_ok-clone w ↦ (
+        ap (λ names. map (λ name. text_of name) names.items) w.names-is
+            ∙ ap (λ items. map (λ name. text_of name) items) (rw w.unwrap.ensures at w.push.ensures.items)
+            ∙ map_push (λ name. text_of name) c.loop-part.names.items w.in_ok-clone.field-0
+            ∙ ap (λ names. names ++ text_of w.in_ok-clone.field-0 ∷ []) c.loop-part.invariant.0
+            ∙ ap (λ bytes. before ++ chars bytes ∷ []) w.in_ok-clone.ensures.cases
+            ∙ ap (λ names. before ++ names) (sym (names-group part (sym c.is_group.ensures ∙ w.if-is_group.true)))
+            ∙ sym more,
+        omega (arith, c.loop-part.invariant.1, w.push.ensures.capacity, ap (λ names. vec_capacity names) w.names-is),
+      )
+      | else-is_group w ↦ (
+        ap (λ names. map (λ name. text_of name) names.items) w.names-is
+            ∙ c.loop-part.invariant.0
+            ∙ sym (append-nil before)
+            ∙ ap (λ names. before ++ names) (sym (names-other part (sym c.is_group.ensures ∙ w.if-is_group.false)))
+            ∙ sym more,
+        omega (arith, c.loop-part.invariant.1, ap (λ names. vec_capacity names) w.names-is),
+      )
     ]
