@@ -1,14 +1,14 @@
 //! Canonical values of the components of a URL, and the values of an init.
 //!
 //! <https://urlpattern.spec.whatwg.org/#canon>
-ghost use Rattle.std.specs.Prelude.{◌≡◌, ◌<◌, ◌≤◌, ◌∷◌, ◌==◌, None, Ok, Some, codes, slice_index, ◌++◌, [], max, length, option_copied, option_map, unwrap_or, IfOk, IfErr, IsAscii, IsErrAnd, OnOk, MatchResult};
+ghost use Rattle.std.specs.Prelude.{◌≡◌, ◌<◌, ◌≤◌, ◌==◌, None, Ok, Some, codes, slice_index, [], max, length, option_copied, option_map, unwrap_or, IfOk, IfErr, IsAscii, IsErrAnd, MatchResult};
 ghost use Rattle.std.specs.List.{list_all};
 ghost use Rattle.std.specs.Option.{ForSome};
 ghost use Rattle.std.specs.Str.{chars};
 ghost use Rattle.url.specs.Ascii.{colon, slash};
 ghost use Rattle.url.specs.Parser.{parse_url};
 ghost use Rattle.urlpattern_syntax.specs.Errors.{MemoryOr, error_view};
-ghost use Rattle.urlpattern_syntax.specs.Text.{begins_with, is_among, text_of};
+ghost use Rattle.urlpattern_syntax.specs.Text.{begins_with, text_of};
 ghost use Rattle.urlpattern_syntax.specs.declared.error.Error.TheVariants as errors;
 ghost use Rattle.urlpattern_canonical.specs.Asking.{reported_as};
 ghost use Rattle.urlpattern_canonical.specs.Canonical.{IsAnswer, Tells, bytes_asked, canonical_hash, canonical_hostname, canonical_ipv6_hostname, canonical_opaque_pathname, canonical_password, canonical_pathname, canonical_port, canonical_protocol, canonical_search, canonical_username, default_port, dummy_url, is_hierarchical, is_hierarchical_under, is_ipv6_character, is_special, opaque_url, path_of, scheme_for_port, without_first, without_guard, without_last, reported, processed_base, processed_hash, processed_hostname, processed_password, processed_pathname, processed_port, processed_protocol, processed_search, processed_username};

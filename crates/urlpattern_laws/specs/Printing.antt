@@ -11,7 +11,6 @@ use Rattle.urlpattern_syntax.specs.Parts.{PartView}
 use Rattle.urlpattern_syntax.specs.Reading.{Encoding}
 use Rattle.urlpattern_syntax.specs.RegexpText.{captured, full_wildcard, is_empty, is_fixed_text, is_plain, is_unmodified, modifier_text, segment_wildcard}
 use Rattle.urlpattern_syntax.specs.Text.{begins_with, is_name_part}
-
 pub use Rattle.urlpattern_syntax.specs.PatternText.{escaped_pattern, pattern_marks}
 
 -- ---- tests of parts

@@ -12,16 +12,16 @@ use Rattle.urlpattern_syntax.specs.declared.escape.Marks.TheVariants.{Pattern, R
 
 -- the bytes of this text were added to those that were counted, unless that is the largest number or more
 pub record Counts (before : ℕ) (piece : List ℕ) (after : ℕ) : Type 0 where
-    pub count : after < MAX → after ≡ before + byte_len piece
+  pub count : after < MAX → after ≡ before + byte_len piece
 
 -- the `String` has memory for this text too
 pub record HasRoom (string : String Global) (piece : List ℕ) : Type 0 where
-    pub room : string_len string + byte_len piece ≤ string_capacity string
+  pub room : string_len string + byte_len piece ≤ string_capacity string
 
 -- this text was put after that of the `String`, which has as much memory as before, or more
 pub record Appends (before : String Global) (piece : List ℕ) (after : String Global) : Type 0 where
-    pub text : text_of after ≡ text_of before ++ piece
-    pub capacity : string_capacity before ≤ string_capacity after
+  pub text : text_of after ≡ text_of before ++ piece
+  pub capacity : string_capacity before ≤ string_capacity after
 
 -- the characters that take a backslash
 abbrev pub marks_of : Marks → List ℕ

@@ -1,5 +1,5 @@
--- What the writers keep of what is written: the laws of the trait `Writer`.
-use Rattle.std.specs.Prelude.{◌≡◌, ◌+◌, ◌<◌, ◌≤◌, ◌++◌, ℕ, List, [], String, string_bytes, string_capacity, string_len, encode_utf8_all, length}
+-- The laws of the trait `Writer`, for its two impls. An impl cites the proof of a law, so these lemmas can't stand in proofs/.
+use Rattle.std.specs.Prelude.{◌≡◌, ◌+◌, ◌++◌, ℕ, List, [], String, string_bytes, string_len, encode_utf8_all, length}
 use Rattle.std.proofs.Common.{refl, sym, ap, ◌∙◌, arith, append_assoc, length-append}
 use Rattle.std.proofs.lemmas.List.{append-nil}
 use Rattle.std.proofs.lemmas.Str.{encodes-append, encodes-chars, IsUtf8-string_bytes}
@@ -7,11 +7,11 @@ use Rattle.std.specs.declared.alloc.Global.{Global}
 use Rattle.urlpattern_syntax.specs.Text.{byte_len, text_of}
 use Rattle.urlpattern_syntax.specs.Writing.{Appends, Counts, HasRoom}
 
-byte_len-nil : byte_len [] ≡ 0
+pub byte_len-nil : byte_len [] ≡ 0
 unfolding byte_len
 byte_len-nil = refl
 
-byte_len-append : (xs ys : List ℕ) → byte_len (xs ++ ys) ≡ byte_len xs + byte_len ys
+pub byte_len-append : (xs ys : List ℕ) → byte_len (xs ++ ys) ≡ byte_len xs + byte_len ys
 unfolding byte_len
 byte_len-append xs ys = ap length (encodes-append xs ys) ∙ length-append (encode_utf8_all xs) (encode_utf8_all ys)
 
@@ -23,10 +23,12 @@ pub counts_nothing : (bytes : ℕ) → Counts bytes [] bytes
 counts_nothing bytes = record { count = λ below. omega (arith, byte_len-nil) }
 
 pub counts_both : (before between after : ℕ) (xs ys : List ℕ) → Counts before xs between → Counts between ys after → Counts before (xs ++ ys) after
-counts_both before between after xs ys first second = record { count = λ below.
-    let last = second.count below in
-    let front = first.count (omega arith) in
-    omega (arith, byte_len-append xs ys) }
+counts_both before between after xs ys first second = record {
+  count = λ below.
+      let last = second.count below in
+      let front = first.count (omega arith) in
+      omega (arith, byte_len-append xs ys);
+}
 
 pub room_front : (string : String Global) (xs ys : List ℕ) → HasRoom string (xs ++ ys) → HasRoom string xs
 room_front string xs ys h = record { room = omega (arith, byte_len-append xs ys, h.room) }

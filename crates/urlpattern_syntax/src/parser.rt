@@ -2,9 +2,9 @@
 //!
 //! <https://urlpattern.spec.whatwg.org/#parts-and-part-lists>
 ghost use Rattle.urlpattern_syntax.specs.declared.error.Error.TheVariants as errors;
-ghost use Rattle.urlpattern_syntax.specs.Text.{is_among, text_of};
-ghost use Rattle.urlpattern_syntax.specs.RegexpText.{escaped_marks, escaped_regexp, regexp_marks, segment_wildcard, modifier_text};
-ghost use Rattle.urlpattern_syntax.specs.Options.{options_view, default_options, hostname_options, pathname_options};
+ghost use Rattle.urlpattern_syntax.specs.Text.{text_of};
+ghost use Rattle.urlpattern_syntax.specs.RegexpText.{segment_wildcard, modifier_text};
+ghost use Rattle.urlpattern_syntax.specs.Options.{options_view};
 ghost use Rattle.std.specs.Prelude.{◌<◌, Contains, Result, map, ◌≡◌, ◌∷◌, ◌++◌, ◌↔◌, IsTrue, [], Some, IfOk, IfErr, OnOk};
 ghost use Rattle.std.specs.Str.{chars};
 ghost use Rattle.std.specs.Fn.{FnReturnsAt};

@@ -2,21 +2,20 @@
 //!
 //! <https://urlpattern.spec.whatwg.org/#converting-part-lists-to-pattern-strings>
 
-ghost use Rattle.std.specs.Prelude.{◌≡◌, ◌++◌, ◌&&◌, ◌∷◌, [], false, not, map, bytes_eq, IfOk, IfErr, OnOk};
+ghost use Rattle.std.specs.Prelude.{◌≡◌, ◌&&◌, false, not, map, bytes_eq, IfOk, IfErr};
 ghost use Rattle.std.specs.Str.{chars};
 ghost use Rattle.urlpattern_core.specs.Neighbours.{neighbour};
 ghost use Rattle.urlpattern_laws.specs.Laws.{Answered, listed};
 ghost use Rattle.urlpattern_laws.specs.RoundTrip.{IsPrintable, ReadsBack};
-ghost use Rattle.urlpattern_laws.specs.Printing.{Keeps, escaped_pattern, goes_on, has_custom_name, has_other_prefix, in_braces, is_asterisk, is_name_alone, last_of, needs_braces, pattern_marks, printed, printed_fixed, printed_group, printed_match, printed_name, printed_part, printed_suffix, takes_before, takes_next, admits_asterisk};
+ghost use Rattle.urlpattern_laws.specs.Printing.{Keeps, goes_on, has_custom_name, has_other_prefix, in_braces, is_asterisk, is_name_alone, last_of, needs_braces, printed, printed_fixed, printed_group, printed_match, printed_name, printed_part, printed_suffix, takes_before, takes_next, admits_asterisk};
 ghost use Rattle.urlpattern_syntax.specs.declared.error.Error.TheVariants as errors;
-ghost use Rattle.urlpattern_syntax.specs.declared.parser.PartType.TheVariants as kinds;
 ghost use Rattle.urlpattern_syntax.specs.Options.{options_view};
 ghost use Rattle.urlpattern_syntax.specs.Parts.{part_view};
-ghost use Rattle.urlpattern_syntax.specs.RegexpText.{captured, is_empty};
-ghost use Rattle.urlpattern_syntax.specs.Text.{begins_with, is_among, is_name_part, text_of};
+ghost use Rattle.urlpattern_syntax.specs.RegexpText.{is_empty};
+ghost use Rattle.urlpattern_syntax.specs.Text.{begins_with, is_name_part, text_of};
 
-use crate::error::Error;
 use super::regexp_text::Captured;
+use crate::error::Error;
 use crate::parser::{FULL_WILDCARD_REGEXP_VALUE, Options, Part, PartModifier, PartType};
 use crate::tokenizer::is_name_part;
 use std::alloc::Global;

@@ -1,4 +1,4 @@
-use Rattle.std.proofs.Common.{◌≡◌, ◌∙◌, ◌++◌, ◌∷◌, [], true, false, length, map, take, sym, ap, arith, rules, tests}
+use Rattle.std.proofs.Common.{◌≡◌, ◌∙◌, ◌++◌, ◌∷◌, [], length, map, take, sym, ap, arith, rules, tests}
 use Rattle.std.proofs.lemmas.Iterator.{YieldsList-from_slice}
 use Rattle.std.proofs.lemmas.Iterator.Consumers.{YieldsList-from_filter, count_from_yields_List}
 use Rattle.std.proofs.lemmas.List.{append-nil, length-map, map_push}
@@ -31,20 +31,22 @@ loop-part-preserved c =
     let before = names_of (take c.loop-part.part-index list) in
     let more = names-more list c.loop-part.part-index part c.loop-part-test.true c.part-item.is in
     elim c.if-is_group.branch [
-      | then-is_group+in_ok-clone w ↦
-          (ap (λ names. map (λ name. text_of name) names.items) w.names-is
-          ∙ ap (λ items. map (λ name. text_of name) items) (rw w.unwrap.ensures at w.push.ensures.items)
-          ∙ map_push (λ name. text_of name) c.loop-part.names.items w.in_ok-clone.field-0
-          ∙ ap (λ names. names ++ text_of w.in_ok-clone.field-0 ∷ []) c.loop-part.invariant.0
-          ∙ ap (λ bytes. before ++ chars bytes ∷ []) w.in_ok-clone.ensures.cases
-          ∙ ap (λ names. before ++ names) (sym (names-group part (sym c.is_group.ensures ∙ w.if-is_group.true)))
-          ∙ sym more,
-          omega (arith, c.loop-part.invariant.1, w.push.ensures.capacity, ap (λ names. vec_capacity names) w.names-is))
-      | else-is_group w ↦
-          (ap (λ names. map (λ name. text_of name) names.items) w.names-is
-          ∙ c.loop-part.invariant.0
-          ∙ sym (append-nil before)
-          ∙ ap (λ names. before ++ names) (sym (names-other part (sym c.is_group.ensures ∙ w.if-is_group.false)))
-          ∙ sym more,
-          omega (arith, c.loop-part.invariant.1, ap (λ names. vec_capacity names) w.names-is))
+      | then-is_group+in_ok-clone w ↦ (
+        ap (λ names. map (λ name. text_of name) names.items) w.names-is
+            ∙ ap (λ items. map (λ name. text_of name) items) (rw w.unwrap.ensures at w.push.ensures.items)
+            ∙ map_push (λ name. text_of name) c.loop-part.names.items w.in_ok-clone.field-0
+            ∙ ap (λ names. names ++ text_of w.in_ok-clone.field-0 ∷ []) c.loop-part.invariant.0
+            ∙ ap (λ bytes. before ++ chars bytes ∷ []) w.in_ok-clone.ensures.cases
+            ∙ ap (λ names. before ++ names) (sym (names-group part (sym c.is_group.ensures ∙ w.if-is_group.true)))
+            ∙ sym more,
+        omega (arith, c.loop-part.invariant.1, w.push.ensures.capacity, ap (λ names. vec_capacity names) w.names-is),
+      )
+      | else-is_group w ↦ (
+        ap (λ names. map (λ name. text_of name) names.items) w.names-is
+            ∙ c.loop-part.invariant.0
+            ∙ sym (append-nil before)
+            ∙ ap (λ names. before ++ names) (sym (names-other part (sym c.is_group.ensures ∙ w.if-is_group.false)))
+            ∙ sym more,
+        omega (arith, c.loop-part.invariant.1, ap (λ names. vec_capacity names) w.names-is),
+      )
     ]

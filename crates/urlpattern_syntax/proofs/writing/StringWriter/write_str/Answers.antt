@@ -1,5 +1,4 @@
-use Rattle.std.proofs.Common.{◌∙◌, ◌++◌, ap, if◌then◌else◌, arith}
-use Rattle.std.specs.Prelude.{is_ok, string_bytes}
+use Rattle.std.proofs.Common.{arith}
 use Rattle.urlpattern_syntax.proofs.StringTexts.{text-append}
 use Rattle.urlpattern_syntax.proofs.TextLemmas.{byte_len-chars}
 use Rattle.urlpattern_syntax.proofs.writing.StringWriter.write_str.Goals as goal

@@ -1,4 +1,4 @@
-use Rattle.std.proofs.Common.{◌≡◌, ◌++◌, ◌∙◌, [], List, ℕ, Some, sym, ap, map, refl, subst, append_assoc, arith}
+use Rattle.std.proofs.Common.{◌≡◌, ◌++◌, ◌∙◌, [], List, ℕ, Some, sym, ap, map, refl, subst, append_assoc}
 use Rattle.std.proofs.lemmas.List.{append-nil, nil_from_length}
 use Rattle.urlpattern_core.proofs.PrintedTexts.{first_neighbour}
 use Rattle.urlpattern_core.specs.Neighbours.{neighbour}

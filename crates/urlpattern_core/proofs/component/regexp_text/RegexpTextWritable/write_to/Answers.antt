@@ -1,4 +1,4 @@
-use Rattle.std.proofs.Common.{◌++◌, codes, suc, ap, arith, drop, map, take}
+use Rattle.std.proofs.Common.{◌++◌, codes, suc, arith, drop, map, take}
 use Rattle.std.proofs.lemmas.List.{take_all}
 use Rattle.std.specs.List.{flat_map}
 use Rattle.urlpattern_core.proofs.RegexpTexts.{regexps-more, regexps-turn}
