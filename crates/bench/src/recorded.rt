@@ -57,6 +57,8 @@ pub enum Operation {
     Pattern,
     /// A pattern as plain data.
     QuirksPattern,
+    /// The first match of inputs in a list of patterns.
+    FirstMatch,
 }
 
 impl Operation {
@@ -75,6 +77,7 @@ impl Operation {
             "constructor" => Operation::Constructor,
             "pattern" => Operation::Pattern,
             "quirks_pattern" => Operation::QuirksPattern,
+            "first_match" => Operation::FirstMatch,
             _ => return Err(Fault::NoCase),
         })
     }

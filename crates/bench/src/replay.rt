@@ -4,6 +4,7 @@ mod compiled;
 mod components;
 mod constructors;
 mod engines;
+mod first_match;
 mod given;
 mod matchers;
 mod patterns;
@@ -46,6 +47,7 @@ pub fn replay(alloc: Global, line: &str) -> Result<Outcome, Fault> {
         Operation::Constructor => constructors::is_same(alloc, question, answer),
         Operation::Pattern => patterns::is_same(alloc, question, answer),
         Operation::QuirksPattern => plain::is_same(alloc, question, answer),
+        Operation::FirstMatch => first_match::is_same(alloc, question, answer),
     }?;
     Ok(Outcome {
         operation,

@@ -58,6 +58,7 @@ struct Report {
     constructor: Tally,
     pattern: Tally,
     quirks_pattern: Tally,
+    first_match: Tally,
     unreadable: u64,
 }
 
@@ -103,6 +104,7 @@ impl Report {
             Operation::Constructor => &mut self.constructor,
             Operation::Pattern => &mut self.pattern,
             Operation::QuirksPattern => &mut self.quirks_pattern,
+            Operation::FirstMatch => &mut self.first_match,
         }
     }
 
@@ -120,6 +122,7 @@ impl Report {
         self.constructor.print(out, "constructor")?;
         self.pattern.print(out, "pattern")?;
         self.quirks_pattern.print(out, "quirks_pattern")?;
+        self.first_match.print(out, "first_match")?;
         let unreadable = self.unreadable;
         writeln!(out, "lines without a case: {unreadable}")
     }
@@ -139,6 +142,7 @@ impl Report {
             &self.constructor,
             &self.pattern,
             &self.quirks_pattern,
+            &self.first_match,
         ] {
             if tally.differing != 0 {
                 return false;

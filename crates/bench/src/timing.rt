@@ -1,24 +1,23 @@
-//! Times the library's calls on pairs of a pattern and URLs, in nanoseconds for each call.
+//! Times the library's calls on pairs of a pattern and URLs, in nanoseconds for each call, and the first match of lists of
+//! routes.
+
+mod lists;
+mod rounds;
 
 use crate::recorded::{is_set, optional_text};
+use rounds::{Timed, least};
 use serde_json::Value;
 use std::alloc::Global;
 use std::borrow::CowStr;
 use std::io::Write;
 use std::rt::Files;
-use std::time::{Clock, Instant};
+use std::time::Clock;
 use std::{fs, io};
 use url::Url;
 use urlpattern::quirks::{
     StringOrInit, UrlPatternInit, process_construct_pattern_input, process_match_input,
 };
 use urlpattern::{Error, UrlPattern, UrlPatternMatchInput, UrlPatternOptions};
-
-/// How many rounds are timed. The least of them counts.
-const ROUNDS: u32 = 12;
-
-/// How many nanoseconds a round takes at least.
-const ROUND: u128 = 10_000_000;
 
 /// What is timed.
 #[derive(Clone, Copy, Drop)]
@@ -134,32 +133,18 @@ impl<'a> Subject<'a> {
     fn parse_url(&self, alloc: Global) -> Result<bool, Error> {
         Ok(Url::parse(alloc, self.hit).is_ok())
     }
+}
 
-    /// The nanoseconds that this many calls take.
-    fn time<C: Clock>(&self, clock: &C, alloc: Global, call: Call, calls: u64) -> io::Result<u128> {
-        let start = Instant::now(clock)?;
-        for _ in 0..calls {
-            if self.call(alloc, call).is_err() {
-                return Err(io::Error::from(io::ErrorKind::OutOfMemory));
-            }
-        }
-        Ok(start.elapsed(clock)?.as_nanos())
-    }
+/// A call on a subject.
+#[derive(Drop)]
+struct SubjectCall<'s, 'a> {
+    subject: &'s Subject<'a>,
+    call: Call,
+}
 
-    /// The least nanoseconds of a call, over rounds of as many calls as fill a round.
-    fn least<C: Clock>(&self, clock: &C, alloc: Global, call: Call) -> io::Result<u128> {
-        let mut calls = 1u64;
-        for _ in 0..30 {
-            if self.time(clock, alloc, call, calls)? >= ROUND {
-                break;
-            }
-            calls = calls.saturating_mul(2);
-        }
-        let mut least = u128::MAX;
-        for _ in 0..ROUNDS {
-            least = least.min(self.time(clock, alloc, call, calls)?);
-        }
-        Ok(least / u128::from(calls.max(1)))
+impl<'s, 'a> Timed for SubjectCall<'s, 'a> {
+    fn call(&self, alloc: Global) -> Result<bool, Error> {
+        self.subject.call(alloc, self.call)
     }
 }
 
@@ -189,7 +174,7 @@ fn make_pattern(
     UrlPattern::parse(alloc, init, options)
 }
 
-/// Prints what each pair takes: its name, and a column for each call. Each line of a file holds a pair.
+/// Prints what each pair takes: its name, and a column for each call. Each line of a file holds a pair. Lists of routes follow.
 pub fn run<R: Files + AllocGlobal + Clock, O: Write>(
     rt: &R,
     paths: &[String],
@@ -205,7 +190,7 @@ pub fn run<R: Files + AllocGlobal + Clock, O: Write>(
             time_line(rt, line, out)?;
         }
     }
-    Ok(())
+    lists::run(rt, out)
 }
 
 /// Prints what the pair of a line takes.
@@ -245,7 +230,7 @@ fn time_subject<R: AllocGlobal + Clock, O: Write>(
 ) -> io::Result<()> {
     write!(out, "{name}")?;
     for call in CALLS {
-        let time = subject.least(rt, rt.alloc(), call)?;
+        let time = least(rt, rt.alloc(), &SubjectCall { subject, call })?;
         write!(out, "\t{time}")?;
     }
     writeln!(out)

@@ -1,6 +1,6 @@
 //! Examples of whole patterns and what they are built of, beside the recorded cases that `bench` replays: JSON, plain
-//! data, inputs that are handed back, components put together by hand, ignored case, long strings, what `urlpat` prints, and
-//! calls for which memory may run out. It holds tests alone.
+//! data, inputs that are handed back, components put together by hand, lists of patterns, ignored case, long strings, what
+//! `urlpat` prints, and calls for which memory may run out. It holds tests alone.
 #![tactic(auto)]
 
 #[cfg(test)]
@@ -21,6 +21,8 @@ mod inits;
 mod inputs;
 #[cfg(test)]
 mod json;
+#[cfg(test)]
+mod lists;
 #[cfg(test)]
 mod match_inputs;
 #[cfg(test)]

@@ -1,2 +1,3 @@
 mod AnswerExamples
 mod AnswerLemmas
+mod FirstLemmas

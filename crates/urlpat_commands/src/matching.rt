@@ -43,7 +43,7 @@ pub fn matched_groups(
 }
 
 /// The base URL that a word stands for.
-fn base_of(word: &str) -> Option<&str>
+pub fn base_of(word: &str) -> Option<&str>
     ensures { option_copied result ≡ base_of word.now }
 {
     if word == NO_BASE { None } else { Some(word) }
@@ -52,7 +52,7 @@ fn base_of(word: &str) -> Option<&str>
 /// The pattern of a constructor string.
 ///
 /// The error is why the pattern or its base is refused, or that memory ran out.
-fn compiled(alloc: Global, pattern: &str, base: Option<&str>) -> Result<UrlPattern, Error>
+pub fn compiled(alloc: Global, pattern: &str, base: Option<&str>) -> Result<UrlPattern, Error>
     ensures compiled { IfOk result (λ compiled. IsPatternOf pattern.now (option_copied base.entry) (pattern_view compiled)) }
     ensures refused { IfErr result (MemoryOr (RefusesPatternOf pattern.now (option_copied base.entry))) }
 {
@@ -80,15 +80,17 @@ fn groups_of_match(
     let Some(found) = pattern.exec(alloc, url)? else {
         return Ok(None);
     };
-    let report = groups_report(alloc, &found);
+    let mut text = String::new(alloc);
+    let pushed = push_match(alloc, &mut text, &found);
     drop(found);
-    Ok(Some(report?))
+    pushed?;
+    Ok(Some(text))
 }
 
 /// What an input is matched as: its URL, or None where `url` refuses it.
 ///
 /// The error is that memory ran out.
-fn url_of(
+pub fn url_of(
     alloc: Global,
     base: Option<&str>,
     input: &str,
@@ -107,20 +109,23 @@ fn url_of(
     }
 }
 
-/// A line for each group of a match.
-fn groups_report(alloc: Global, found: &UrlPatternResult) -> Result<String, AllocError>
-    ensures { IfOk result (λ text. AreLines (components_of found.now) (string_bytes text)) }
+/// Appends a line for each group of a match.
+pub fn push_match(
+    alloc: Global,
+    text: &mut String,
+    found: &UrlPatternResult,
+) -> Result<(), AllocError>
+    ensures { OnOk result ((lines : List ℕ) × (string_bytes text.new ≡ string_bytes text.old ++ lines) × AreLines (components_of found.now) lines) }
 {
-    let mut text = String::new(alloc);
-    push_groups(alloc, &mut text, "protocol", &found.protocol)?;
-    push_groups(alloc, &mut text, "username", &found.username)?;
-    push_groups(alloc, &mut text, "password", &found.password)?;
-    push_groups(alloc, &mut text, "hostname", &found.hostname)?;
-    push_groups(alloc, &mut text, "port", &found.port)?;
-    push_groups(alloc, &mut text, "pathname", &found.pathname)?;
-    push_groups(alloc, &mut text, "search", &found.search)?;
-    push_groups(alloc, &mut text, "hash", &found.hash)?;
-    Ok(text)
+    push_groups(alloc, text, "protocol", &found.protocol)?;
+    push_groups(alloc, text, "username", &found.username)?;
+    push_groups(alloc, text, "password", &found.password)?;
+    push_groups(alloc, text, "hostname", &found.hostname)?;
+    push_groups(alloc, text, "port", &found.port)?;
+    push_groups(alloc, text, "pathname", &found.pathname)?;
+    push_groups(alloc, text, "search", &found.search)?;
+    push_groups(alloc, text, "hash", &found.hash)?;
+    Ok(())
 }
 
 /// Appends a line for each group of a component, in the order of the bytes of their names.
@@ -164,29 +169,31 @@ fn names_of<'a>(
     groups.keys().collect(alloc)
 }
 
-/// What a group captured, empty if it took no part.
-fn capture_of<'a>(groups: &'a HashMap<String, Option<String>>, name: &str) -> &'a str
-    ensures { result.now ≡ capture_of (get_by_text groups.now name.now) }
+/// What a group captured. `None`: it took no part.
+fn capture_of<'a>(groups: &'a HashMap<String, Option<String>>, name: &str) -> Option<&'a str>
+    ensures { option_copied result ≡ capture_of (get_by_text groups.now name.now) }
 {
     match groups.get(name) {
-        Some(Some(capture)) => capture,
-        _ => "",
+        Some(Some(capture)) => Some(capture),
+        _ => None,
     }
 }
 
-/// Appends the line of a group: its component, its name, and what it captures.
+/// Appends the line of a group: its component and its name, and what it captured, if it took part.
 fn push_group(
     text: &mut String,
     component: &str,
     name: &str,
-    capture: &str,
+    capture: Option<&str>,
 ) -> Result<(), AllocError>
-    ensures { OnOk result (string_bytes text.new ≡ string_bytes text.old ++ group_line component.now name.now capture.now) }
+    ensures { OnOk result (string_bytes text.new ≡ string_bytes text.old ++ group_line component.now name.now (option_copied capture.entry)) }
 {
     text.push_str(component)?;
     text.push(' ')?;
     text.push_str(name)?;
-    text.push('=')?;
-    text.push_str(capture)?;
+    if let Some(capture) = capture {
+        text.push('=')?;
+        text.push_str(capture)?;
+    }
     text.push('\n')
 }

@@ -31,6 +31,7 @@ pub use Rattle.urlpattern_syntax.specs.Tokens
 pub use Rattle.urlpattern_syntax.specs.declared.parser.RegexSyntax
 pub use Rattle.urlpattern_pattern.specs.Compiled
 pub use Rattle.urlpattern_pattern.specs.Eight
+pub use Rattle.urlpattern_pattern.specs.FirstMatch
 pub use Rattle.urlpattern_pattern.specs.Match
 pub use Rattle.urlpattern_pattern.specs.MatchInput
 pub use Rattle.urlpattern_pattern.specs.Meaning

@@ -15,4 +15,6 @@ pub use urlpattern_core::{
 };
 pub use urlpattern_init::{UrlPatternInit, UrlPatternMatchInput};
 pub use urlpattern_inputs::UrlPatternOptions;
-pub use urlpattern_pattern::{UrlPattern, UrlPatternComponentResult, UrlPatternResult};
+pub use urlpattern_pattern::{
+    UrlPattern, UrlPatternComponentResult, UrlPatternList, UrlPatternResult,
+};

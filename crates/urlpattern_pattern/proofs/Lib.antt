@@ -1,6 +1,7 @@
 pub mod MatchInputLemmas
 pub mod Each
 pub mod GroupLemmas
+pub mod ListLemmas
 pub mod MatchExamples
 pub mod MatchLaws
 pub mod MatchSteps

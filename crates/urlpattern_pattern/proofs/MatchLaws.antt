@@ -4,7 +4,7 @@ use Rattle.std.specs.Prelude.{Option, Ok, Err}
 use Rattle.urlpattern_init.specs.declared.init.processing.Component.{Component}
 use Rattle.urlpattern_init.specs.declared.init.UrlPatternMatchInput.{UrlPatternMatchInput}
 use Rattle.urlpattern_init.specs.Inheritance.{Texts}
-use Rattle.urlpattern_pattern.specs.Match.{HasMatch, HasNoMatch, IsLongInput, IsMatch, IsSameResult, ResultView, group_of, text_at}
+use Rattle.urlpattern_pattern.specs.Match.{HasMatch, HasNoMatch, IsLongInput, IsMatch, IsRefused, IsSameResult, ResultView, group_of, text_at}
 use Rattle.urlpattern_pattern.specs.MatchInput.{IsNoInput, input_texts}
 use Rattle.urlpattern_pattern.specs.Patterns.{PatternView}
 use Rattle.urlpattern_core.proofs.MatcherAnswers.{matches-accepts}
@@ -71,10 +71,15 @@ pub no_input-long : (input : UrlPatternMatchInput) (texts : Texts) → input_tex
 no_input-long input texts are_texts (inl refused) = absurd (let e = refused.1 in let never : ⊥ = cc in never)
 no_input-long input texts are_texts (inr long) = long
 
+-- texts of which one is refused are not matched
+pub refused-unmatched : {E : Type 0} (answer : E → List ℕ → Option Captures) (pattern : PatternView E) (input : UrlPatternMatchInput) (texts : Texts) →
+    input_texts input ≡ Ok texts → IsRefused answer pattern texts → ¬ HasMatch answer pattern input
+refused-unmatched answer pattern input texts are_texts (component, refused) = λ (others, are_others, matched).
+    let same = texts-one input others texts are_others are_texts in
+    let found = matched component in
+    refused found.0 (subst (λ (t : Texts). Matches answer (pattern component).matcher (text_at t component) found.0) same found.1)
+
 pub match-not_both : {E : Type 0} (answer : E → List ℕ → Option Captures) (pattern : PatternView E) (input : UrlPatternMatchInput) →
     HasMatch answer pattern input → HasNoMatch answer pattern input → IsLongInput input
 match-not_both answer pattern input (texts, are_texts, matched) (inl no_input) = no_input-long input texts are_texts no_input
-match-not_both answer pattern input (texts, are_texts, matched) (inr (texts', are_texts', (component, refused))) =
-    let same = texts-one input texts texts' are_texts are_texts' in
-    let found = matched component in
-    absurd (refused found.0 (subst (λ (t : Texts). Matches answer (pattern component).matcher (text_at t component) found.0) same found.1))
+match-not_both answer pattern input has (inr (texts, are_texts, refused)) = absurd (refused-unmatched answer pattern input texts are_texts refused has)

@@ -1,5 +1,5 @@
 -- Words of the private contracts of matching. No public contract cites them.
-use Rattle.std.specs.Prelude.{◌≡◌, ℕ, List, [], ◌∷◌, map, Option, String}
+use Rattle.std.specs.Prelude.{◌≡◌, ℕ, List, [], ◌∷◌, map, take, All, Option, Some, String, slice_get}
 use Rattle.std.specs.Borrow.{Bor}
 use Rattle.std.specs.HashMap.{HashMap}
 use Rattle.std.specs.Str.{chars}
@@ -10,7 +10,7 @@ use Rattle.urlpattern_pattern.specs.declared.pattern.eight.Eight.{Eight}
 use Rattle.urlpattern_pattern.specs.declared.pattern.matching.Captured.{Captured}
 use Rattle.urlpattern_pattern.specs.declared.pattern.matching.Captured.TheVariants as captured
 use Rattle.urlpattern_init.specs.Inheritance.{Texts}
-use Rattle.urlpattern_pattern.specs.Match.{AreAnswers, group_in, group_of}
+use Rattle.urlpattern_pattern.specs.Match.{AreAnswers, IsRefused, group_in, group_of}
 use Rattle.urlpattern_pattern.specs.Patterns.{PatternView}
 use Rattle.urlpattern_core.specs.Captured.{capture_view}
 use Rattle.urlpattern_laws.specs.PartMeaning.{Captures}
@@ -54,3 +54,14 @@ abbrev pub HaveGroups : {E S : Type 0} → (answer : E → List ℕ → Option C
 HaveGroups answer pattern texts groups =
     (captures : Component → Captures) × AreAnswers answer pattern texts captures
     × ((component : Component) → AreGroups (pattern component).group_name_list (captures component) (at groups component))
+
+-- these patterns do not match the texts
+abbrev pub AreRefused : {E : Type 0} → (answer : E → List ℕ → Option Captures) → List (PatternView E) → Texts → Type 0
+AreRefused answer patterns texts = All (λ pattern. IsRefused answer pattern texts) patterns
+
+-- The pattern at an index of a list meets this, and those before it do not match the texts.
+pub record IsFirstAt {E : Type 0} (answer : E → List ℕ → Option Captures) (patterns : List (PatternView E)) (texts : Texts) (index : ℕ) (Meets : PatternView E → Type 0) : Type 0 where
+  pub pattern : PatternView E
+  pub is_there : slice_get patterns index ≡ Some pattern
+  pub meets : Meets pattern
+  pub others_refuse : AreRefused answer (take index patterns) texts

@@ -1,5 +1,6 @@
 pub mod Compiled
 pub mod Eight
+pub mod FirstMatch
 pub mod Match
 pub mod MatchInput
 pub mod Meaning

@@ -14,6 +14,8 @@ mod parse;
 mod result;
 
 pub(crate) use eight::Eight;
+pub(crate) use groups::Groups;
+pub(crate) use matching::Captured;
 pub use result::{UrlPatternComponentResult, UrlPatternResult};
 use urlpattern_core::component::Component;
 use urlpattern_core::regexp::RegExp;

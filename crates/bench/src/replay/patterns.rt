@@ -43,7 +43,7 @@ fn is_same_over<R: RegExp>(
 }
 
 /// The pattern of what is given.
-fn built<R: RegExp>(
+pub fn built<R: RegExp>(
     alloc: Global,
     input: StringOrInit<'_>,
     base: Option<&str>,
@@ -120,7 +120,7 @@ fn is_same_result(
 }
 
 /// Whether the results of all components are the recorded ones.
-fn are_same_components(found: &UrlPatternResult, recorded: &Value) -> bool {
+pub fn are_same_components(found: &UrlPatternResult, recorded: &Value) -> bool {
     is_same_component(&found.protocol, recorded, "protocol")
         && is_same_component(&found.username, recorded, "username")
         && is_same_component(&found.password, recorded, "password")

@@ -10,7 +10,7 @@ use std::collections::HashMap;
 use urlpattern_core::Error;
 
 /// What groups capture, by their names. A group that took no part has None.
-pub(super) type Groups = HashMap<String, Option<String>>;
+pub(crate) type Groups = HashMap<String, Option<String>>;
 
 /// What the groups with these names capture, which stand in the same order. Of equal names the last counts.
 ///

@@ -31,7 +31,7 @@ use urlpattern_inputs::MatchInput;
 
 /// What the groups of a component capture of its text.
 #[derive(Drop)]
-pub(super) enum Captured<'a> {
+pub(crate) enum Captured<'a> {
     /// There are no groups.
     Nothing,
     /// There is one group.
@@ -217,13 +217,29 @@ impl<R: RegExp> UrlPattern<R> {
             AreAnswers R.answer (pattern_view self.now) (borrowed_texts texts.entry) (λ name. captures_of (at answer.captures name)))) }
         ensures memory { IfErr result (λ error. error ≡ errors.OutOfMemory) }
     {
-        let Some(looks) = self.look(&texts) else {
-            return Ok(None);
-        };
-        match captures_of_looks(alloc, looks)? {
+        match self.captures(alloc, &texts)? {
             Some(captures) => Ok(Some(Match { texts, captures })),
             None => Ok(None),
         }
+    }
+
+    /// What the groups capture of these texts. None if one of the texts is not matched.
+    ///
+    /// The error is that memory ran out. None is asked for but by an engine.
+    pub(crate) fn captures<'a>(
+        &'a self,
+        alloc: Global,
+        texts: &Eight<&'a str>,
+    ) -> Result<Option<Eight<Captured<'a>>>, Error>
+        ensures refused { IfOk result (λ found. IfNone found (IsRefused R.answer (pattern_view self.now) (borrowed_texts texts.now))) }
+        ensures answers { IfOk result (λ found. IfSome found (λ captures.
+            AreAnswers R.answer (pattern_view self.now) (borrowed_texts texts.now) (λ name. captures_of (at captures name)))) }
+        ensures memory { IfErr result (λ error. error ≡ errors.OutOfMemory) }
+    {
+        let Some(looks) = self.look(texts) else {
+            return Ok(None);
+        };
+        captures_of_looks(alloc, looks)
     }
 
     /// What the groups capture of these texts, by name. None if one of the texts is not matched.
@@ -247,7 +263,11 @@ impl<R: RegExp> UrlPattern<R> {
     }
 
     /// What the groups of the components capture, by name.
-    fn groups(&self, alloc: Global, captures: &Eight<Captured<'_>>) -> Result<Eight<Groups>, Error>
+    pub(crate) fn groups(
+        &self,
+        alloc: Global,
+        captures: &Eight<Captured<'_>>,
+    ) -> Result<Eight<Groups>, Error>
         ensures groups { IfOk result (λ groups. (name : Name) →
             AreGroups (pattern_view self.now name).group_name_list (captures_of (at captures.now name)) (at groups name)) }
         ensures memory { IfErr result (λ error. error ≡ errors.OutOfMemory) }

@@ -47,7 +47,7 @@ pub struct UrlPatternComponentResult {
 
 impl UrlPatternResult {
     /// The results of these texts with these groups.
-    pub(super) fn new(texts: MatchInput, groups: Eight<Groups>) -> Self
+    pub(crate) fn new(texts: MatchInput, groups: Eight<Groups>) -> Self
         ensures inputs { (name : Name) → (result_view result name).input ≡ text_at (texts_view texts) name }
         ensures groups { (name : Name) (group : List ℕ) → (result_view result name).group group ≡ group_in (at groups name) group }
     {

@@ -1,0 +1,112 @@
+//! Builds the lists of patterns that were built when a case was recorded, and asks for the first match of the same inputs.
+
+use super::patterns::{are_same_components, built};
+use super::{given, prints};
+use crate::recorded::{Answer, Fault, list, optional_text};
+use regex::Regex;
+use serde_json::Value;
+use std::alloc::{AllocError, Global};
+use urlpattern::quirks::process_match_input;
+use urlpattern::{Error, UrlPatternList, UrlPatternResult};
+
+/// What comes of an input: an index and its match, None where there is none.
+type First = Option<(usize, UrlPatternResult)>;
+
+/// Whether the first matches of the inputs in a list are what was recorded.
+pub fn is_same(alloc: Global, question: &Value, answer: Answer<'_>) -> Result<bool, Fault> {
+    let found = built_list(alloc, question)?;
+    let is_same = match (&found, answer) {
+        (Ok(patterns), Answer::Ok(recorded)) => has_same_results(
+            alloc, patterns, question, recorded,
+        ),
+        (Err(error), Answer::Err(text)) => prints(alloc, error, text).map_err(Fault::from),
+        _ => Ok(false),
+    };
+    drop(found);
+    is_same
+}
+
+/// The list of the patterns that a question gives, or why the first that is refused is so.
+fn built_list(alloc: Global, question: &Value) -> Result<Result<UrlPatternList, Error>, Fault> {
+    let mut patterns = UrlPatternList::new(alloc);
+    for pattern in list(question, "patterns")? {
+        let options = given::options(alloc, pattern)?;
+        let input = given::input(alloc, pattern)?;
+        match built::<Regex>(alloc, input, optional_text(pattern, "base"), options) {
+            Ok(pattern) => {
+                if patterns.push(pattern).is_err() {
+                    return Err(Fault::OutOfMemory);
+                }
+            }
+            Err(error) => return Ok(Err(error)),
+        }
+    }
+    Ok(Ok(patterns))
+}
+
+/// Whether what comes of each input of a question is the recorded result.
+fn has_same_results(
+    alloc: Global,
+    patterns: &UrlPatternList,
+    question: &Value,
+    recorded: &Value,
+) -> Result<bool, Fault> {
+    let inputs = list(question, "inputs")?;
+    let Ok(results) = list(recorded, "results") else {
+        return Ok(false);
+    };
+    for (input, expected) in inputs.iter().zip(results) {
+        let found = first_match(alloc, patterns, input)?;
+        let is_same = is_same_result(alloc, &found, expected);
+        drop(found);
+        if !is_same? {
+            return Ok(false);
+        }
+    }
+    Ok(inputs.len() == results.len())
+}
+
+/// The first match of an input that a question gives.
+fn first_match(
+    alloc: Global,
+    patterns: &UrlPatternList,
+    input: &Value,
+) -> Result<Result<First, Error>, Fault> {
+    let base = optional_text(input, "base");
+    Ok(
+        match process_match_input(alloc, given::input(alloc, input)?, base) {
+            Ok(Some((input, _))) => patterns.first_match(alloc, input),
+            Ok(None) => Ok(None),
+            // Where answers were recorded, each pattern asked about the input anew, and an empty list did not.
+            Err(_) if patterns.is_empty() => Ok(None),
+            Err(error) => Err(error),
+        },
+    )
+}
+
+/// Whether the first match is the recorded one: null where there is none.
+fn is_same_result(
+    alloc: Global,
+    found: &Result<First, Error>,
+    recorded: &Value,
+) -> Result<bool, AllocError> {
+    match found {
+        Ok(Some((index, found))) => Ok(
+            is_index(*index, recorded)
+                && match recorded.get("result") {
+                    Some(result) => are_same_components(found, result),
+                    None => false,
+                },
+        ),
+        Ok(None) => Ok(recorded.is_null()),
+        Err(error) => match optional_text(recorded, "err") {
+            Some(text) => prints(alloc, error, text),
+            None => Ok(false),
+        },
+    }
+}
+
+/// Whether the recorded index is this one.
+fn is_index(index: usize, recorded: &Value) -> bool {
+    recorded.get("index").and_then(Value::as_u64) == Some(index as u64)
+}

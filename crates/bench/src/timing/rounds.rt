@@ -1,0 +1,45 @@
+//! The time of a call: the least over rounds, each of as many calls as fill it.
+
+use std::alloc::Global;
+use std::io;
+use std::time::{Clock, Instant};
+use urlpattern::Error;
+
+/// How many rounds are timed. The least of them counts.
+const ROUNDS: u32 = 12;
+
+/// How many nanoseconds a round takes at least.
+const ROUND: u128 = 10_000_000;
+
+/// A call that is timed.
+pub trait Timed {
+    /// Calls once. Says whether something was made, or is matched.
+    fn call(&self, alloc: Global) -> Result<bool, Error>;
+}
+
+/// The nanoseconds that this many calls take.
+fn time<C: Clock, T: Timed>(clock: &C, alloc: Global, timed: &T, calls: u64) -> io::Result<u128> {
+    let start = Instant::now(clock)?;
+    for _ in 0..calls {
+        if timed.call(alloc).is_err() {
+            return Err(io::Error::from(io::ErrorKind::OutOfMemory));
+        }
+    }
+    Ok(start.elapsed(clock)?.as_nanos())
+}
+
+/// The least nanoseconds of a call, over rounds of as many calls as fill a round.
+pub fn least<C: Clock, T: Timed>(clock: &C, alloc: Global, timed: &T) -> io::Result<u128> {
+    let mut calls = 1u64;
+    for _ in 0..30 {
+        if time(clock, alloc, timed, calls)? >= ROUND {
+            break;
+        }
+        calls = calls.saturating_mul(2);
+    }
+    let mut least = u128::MAX;
+    for _ in 0..ROUNDS {
+        least = least.min(time(clock, alloc, timed, calls)?);
+    }
+    Ok(least / u128::from(calls.max(1)))
+}

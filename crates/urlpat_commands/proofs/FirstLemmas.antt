@@ -1,0 +1,65 @@
+-- Lemmas on the patterns of the command `first`.
+use Rattle.std.proofs.Common.{◌≡◌, ℕ, ◌<◌, ◌+◌, List, [], ◌∷◌, ◌++◌, map, length, take, get_or, refl, ap, ◌∙◌, sym, subst, inl, inr}
+use Rattle.std.proofs.lemmas.List.{take-map}
+use Rattle.std.proofs.lemmas.Option.{slice_get-map, slice_get_read}
+use Rattle.std.specs.List.{AllZip}
+use Rattle.std.specs.Prelude.{MatchOption, Option, None, Some, String, option_map, slice_get, string_bytes}
+use Rattle.std.specs.declared.alloc.Global.{Global}
+use Rattle.regex.specs.declared.string.regex.Regex.{Regex}
+use Rattle.urlpat_commands.specs.Answers.{ArePatternsOf, IsFirstText, IsFirstTextBy, IsPatternOf, IsUnmatchedByAll, IsUnmatchedByEach, RefusesOneOf, RefusesPatternOf}
+use Rattle.urlpattern.specs.Errors.{MemoryOr}
+use Rattle.urlpattern.specs.Patterns.{PatternView, pattern_view}
+use Rattle.urlpattern.specs.FirstMatch.{patterns_view}
+use Rattle.urlpattern_pattern.specs.declared.pattern.UrlPattern.{UrlPattern}
+use Rattle.urlpattern_syntax.specs.declared.error.Error.{Error}
+
+-- ---- patterns one after the other
+
+all_zip-push : {X Y : Type 0} (R : X → Y → Type 0) (xs : List X) (ys : List Y) (x : X) (y : Y) → AllZip R xs ys → R x y → AllZip R (xs ++ x ∷ []) (ys ++ y ∷ [])
+all_zip-push R [] [] x y are is = (is, tt)
+all_zip-push R [] (z ∷ ys) x y are is = absurd are
+all_zip-push R (z ∷ xs) [] x y are is = absurd are
+all_zip-push R (z ∷ xs) (w ∷ ys) x y are is = (are.0, all_zip-push R xs ys x y are.1 is)
+
+map-push : {X Y : Type 0} (f : X → Y) (xs : List X) (x : X) → map f (xs ++ x ∷ []) ≡ map f xs ++ f x ∷ []
+map-push f [] x = refl
+map-push f (y ∷ xs) x = ap (λ rest. f y ∷ rest) (map-push f xs x)
+
+take-more : {X : Type 0} (xs : List X) (i : ℕ) (x : X) → i < length xs → x ≡ get_or xs i x → take (i + 1) xs ≡ take i xs ++ x ∷ []
+take-more [] i x within is = absurd (omega arith)
+take-more (y ∷ xs) zero x within is = ap (λ first. first ∷ []) (sym is)
+take-more (y ∷ xs) (suc i) x within is = ap (λ rest. y ∷ rest) (take-more xs i x (omega (arith, within)) is)
+
+module _ (base : Option (List ℕ)) (words : List (String Global)) (index : ℕ) (word : String Global) (within : index < length words) (is_word : word ≡ get_or words index word) where
+  -- the next word is compiled
+  pub patterns-more : (list next : List (UrlPattern Regex)) (pattern : UrlPattern Regex) → next ≡ list ++ pattern ∷ []
+      → ArePatternsOf (map (λ w. string_bytes w) (take index words)) base (patterns_view list) → IsPatternOf (string_bytes word) base (pattern_view pattern)
+      → ArePatternsOf (map (λ w. string_bytes w) (take (index + 1) words)) base (patterns_view next)
+  patterns-more list next pattern is_next are is =
+      let texts = ap (map (λ w. string_bytes w)) (take-more words index word within is_word) ∙ map-push (λ w. string_bytes w) (take index words) word in
+      let views = ap (λ patterns. patterns_view patterns) is_next ∙ map-push (λ p. pattern_view p) list pattern in
+      subst (λ (ts : List (List ℕ)). ArePatternsOf ts base (patterns_view next)) (sym texts)
+      (subst (λ (vs : List (PatternView Regex)). ArePatternsOf (map (λ w. string_bytes w) (take index words) ++ string_bytes word ∷ []) base vs) (sym views)
+      (all_zip-push (λ text view. IsPatternOf text base view) (map (λ w. string_bytes w) (take index words)) (patterns_view list) (string_bytes word) (pattern_view pattern) are is))
+
+  -- the next word is refused
+  pub refuses-one : (list : List (UrlPattern Regex)) (error : Error) → ArePatternsOf (map (λ w. string_bytes w) (take index words)) base (patterns_view list)
+      → MemoryOr (RefusesPatternOf (string_bytes word) base) error → MemoryOr (RefusesOneOf (map (λ w. string_bytes w) words) base) error
+  refuses-one list error are (inl memory) = inl memory
+  refuses-one list error are (inr refused) = inr (record {
+    index = index;
+    text = string_bytes word;
+    earlier = patterns_view list;
+    is_there = slice_get-map (λ w. string_bytes w) words index ∙ ap (option_map (λ w. string_bytes w)) (slice_get_read words (length words) index word refl within is_word);
+    are_compiled = subst (λ (ts : List (List ℕ)). ArePatternsOf ts base (patterns_view list)) (sym (take-map (λ w. string_bytes w) index words)) are;
+    refuses = refused;
+  })
+
+-- ---- the first match
+
+-- what a list answers is an answer of the texts that it is compiled from
+pub first_found_by : (patterns : List (List ℕ)) (input : List ℕ) (base : Option (List ℕ)) (compiled : List (PatternView Regex)) (found : Option (String Global)) → ArePatternsOf patterns base compiled
+    → MatchOption found (IsUnmatchedByAll compiled input base) (λ text. IsFirstTextBy compiled input base (string_bytes text))
+    → MatchOption found (IsUnmatchedByEach patterns input base) (λ text. IsFirstText patterns input base (string_bytes text))
+first_found_by patterns input base compiled None are answer = (compiled, are, answer)
+first_found_by patterns input base compiled (Some text) are answer = (compiled, are, answer)

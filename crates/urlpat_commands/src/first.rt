@@ -1,0 +1,80 @@
+//! The command `first`: the first of some patterns that matches a URL, and what its groups capture.
+
+ghost use Rattle.std.specs.Prelude.{◌≡◌, map, option_copied, string_bytes, IfErr, IfOk, MatchOption};
+ghost use Rattle.urlpat_commands.specs.Answers.{ArePatternsOf, IsFirstText, IsFirstTextBy, IsUnmatchedByAll, IsUnmatchedByEach, RefusesOneOf, base_of};
+ghost use Rattle.urlpattern.specs.Errors.{MemoryOr};
+ghost use Rattle.urlpattern.specs.FirstMatch.{patterns_view};
+ghost use Rattle.urlpattern_syntax.specs.declared.error.Error.TheVariants as errors;
+
+use crate::matching::{base_of, compiled, push_match, url_of};
+use std::alloc::Global;
+use urlpattern::{Error, UrlPatternList};
+
+/// A line with the index of the first pattern that matches an input, and a line for each group of the match. `None`: no
+/// pattern matches it.
+///
+/// The error is why the first pattern that is refused, or its base, is so, or that memory ran out.
+pub fn first_groups(
+    alloc: Global,
+    base: &str,
+    input: &str,
+    patterns: &[String],
+) -> Result<Option<String>, Error>
+    ensures found { IfOk result (λ found. MatchOption found (IsUnmatchedByEach (map (λ pattern. string_bytes pattern) patterns.now) input.now (base_of base.now))
+        (λ text. IsFirstText (map (λ pattern. string_bytes pattern) patterns.now) input.now (base_of base.now) (string_bytes text))) }
+    ensures refused { IfErr result (MemoryOr (RefusesOneOf (map (λ pattern. string_bytes pattern) patterns.now) (base_of base.now))) }
+{
+    let base = base_of(base);
+    let list = compiled_list(alloc, patterns, base)?;
+    let answer = groups_of_first(alloc, &list, base, input);
+    drop(list);
+    Ok(answer?)
+}
+
+/// The patterns of constructor strings, in their order.
+///
+/// The error is why the first that is refused, or its base, is so, or that memory ran out.
+fn compiled_list(
+    alloc: Global,
+    patterns: &[String],
+    base: Option<&str>,
+) -> Result<UrlPatternList, Error>
+    ensures compiled { IfOk result (λ list. ArePatternsOf (map (λ pattern. string_bytes pattern) patterns.now) (option_copied base.entry) (patterns_view list)) }
+    ensures refused { IfErr result (MemoryOr (RefusesOneOf (map (λ pattern. string_bytes pattern) patterns.now) (option_copied base.entry))) }
+{
+    let mut list = UrlPatternList::new(alloc);
+    for pattern in patterns {
+        let pattern = compiled(alloc, pattern, base)?;
+        if list.push(pattern).is_err() {
+            return Err(Error::OutOfMemory);
+        }
+    }
+    Ok(list)
+}
+
+/// A line with the index of the first pattern that matches an input, and a line for each group of the match. `None`: no
+/// pattern matches it.
+///
+/// The error is that memory ran out.
+fn groups_of_first(
+    alloc: Global,
+    list: &UrlPatternList,
+    base: Option<&str>,
+    input: &str,
+) -> Result<Option<String>, Error>
+    ensures found { IfOk result (λ found. MatchOption found (IsUnmatchedByAll (patterns_view list.now) input.now (option_copied base.entry))
+        (λ text. IsFirstTextBy (patterns_view list.now) input.now (option_copied base.entry) (string_bytes text))) }
+    ensures memory { IfErr result (λ error. error ≡ errors.OutOfMemory) }
+{
+    let Some(url) = url_of(alloc, base, input)? else {
+        return Ok(None);
+    };
+    let Some((index, found)) = list.first_match(alloc, url)? else {
+        return Ok(None);
+    };
+    let mut text = format!(in alloc; "match {index}\n")?;
+    let pushed = push_match(alloc, &mut text, &found);
+    drop(found);
+    pushed?;
+    Ok(Some(text))
+}

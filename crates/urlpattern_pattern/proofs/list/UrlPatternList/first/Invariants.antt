@@ -1,0 +1,10 @@
+use Rattle.std.proofs.Common.{take}
+use Rattle.std.specs.Prelude.{All}
+use Rattle.urlpattern_pattern.specs.Eight.{borrowed_texts}
+use Rattle.urlpattern_pattern.specs.Match.{IsRefused}
+use Rattle.urlpattern_pattern.specs.Patterns.{pattern_view}
+use Rattle.urlpattern_pattern.proofs.list.UrlPatternList.first.Given as goal
+
+abbrev pub invariant-loop-index : goal.invariant-loop-index
+invariant-loop-index g l =
+    All (λ pattern. IsRefused g.R.RegExp.answer (pattern_view pattern) (borrowed_texts l.texts)) (take l.index l.pattern-items)

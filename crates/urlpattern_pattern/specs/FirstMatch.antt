@@ -1,0 +1,28 @@
+-- What the first match of a list of patterns is.
+use Rattle.std.specs.Prelude.{◌≡◌, ℕ, List, map, take, All, Option, Some, None, option_map, slice_get}
+use Rattle.urlpattern_init.specs.declared.init.UrlPatternMatchInput.{UrlPatternMatchInput}
+use Rattle.urlpattern_init.specs.declared.init.processing.Component.{Component}
+use Rattle.urlpattern_pattern.specs.declared.pattern.UrlPattern.{UrlPattern}
+use Rattle.urlpattern_pattern.specs.declared.pattern.result.UrlPatternResult.{UrlPatternResult}
+use Rattle.urlpattern_pattern.specs.Match.{HasMatch, HasNoMatch, IsMatch, ResultView, result_view}
+use Rattle.urlpattern_pattern.specs.Patterns.{PatternView, pattern_view}
+use Rattle.urlpattern_laws.specs.PartMeaning.{Captures}
+
+-- A `UrlPatternList`: what the components of each pattern are compiled to.
+abbrev pub patterns_view : {E : Type 0} → List (UrlPattern E) → List (PatternView E)
+patterns_view patterns = map (λ pattern. pattern_view pattern) patterns
+
+-- An index with the results of its pattern's components.
+abbrev pub FirstView : Type 0
+FirstView = ℕ × (Component → ResultView)
+
+abbrev pub first_view : Option (ℕ × UrlPatternResult) → Option FirstView
+first_view found = option_map (λ first. (first.0, result_view first.1)) found
+
+-- what is found of a list on an input: the least index whose pattern has a match of it, with that match, and none where no
+-- pattern has one
+abbrev pub IsFirstMatch : {E : Type 0} → (answer : E → List ℕ → Option Captures) → List (PatternView E) → UrlPatternMatchInput → Option FirstView → Type 0
+IsFirstMatch {E} answer patterns input (Some first) =
+    ((pattern : PatternView E) × (slice_get patterns first.0 ≡ Some pattern) × IsMatch answer pattern input first.1)
+    × All (λ earlier. ¬ HasMatch answer earlier input) (take first.0 patterns)
+IsFirstMatch answer patterns input None = All (λ pattern. HasNoMatch answer pattern input) patterns
