@@ -17,4 +17,6 @@ mod normal;
 #[cfg(test)]
 mod parts;
 #[cfg(test)]
+mod texts;
+#[cfg(test)]
 mod values;

@@ -138,7 +138,12 @@ fn a_pattern_is_matched_once(rt: HostRuntime) -> Result<(), Fail> {
     let found = id_once(alloc, "/users/:id", "https://example.com/users/123")?;
     assert_eq!(rt; found.as_deref(), Some("123"));
     assert!(rt; id_once(alloc, "/users/:id", "https://example.com/x")?.is_none());
-    assert!(rt; matches!(id_once(alloc, "}:", "https://example.com/x"), Err(Error::Tokenizer(_, 1))));
+    assert!(rt;
+        matches!(
+            id_once(alloc, "}:", "https://example.com/x"),
+            Err(Error::Tokenizer(_, 1))
+        )
+    );
     Ok(())
 }
 

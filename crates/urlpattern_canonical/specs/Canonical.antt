@@ -17,7 +17,7 @@ use Rattle.url.specs.Quirks as quirks
 use Rattle.url.specs.Setters.{set_fragment, set_password, set_path, set_query, set_username}
 use Rattle.urlpattern_canonical.specs.declared.canonicalize_and_process.ProcessType.{ProcessType}
 use Rattle.urlpattern_canonical.specs.declared.canonicalize_and_process.ProcessType.TheVariants.{Pattern, Url}
-use Rattle.urlpattern_laws.specs.Printing.{escaped_pattern}
+use Rattle.urlpattern_syntax.specs.PatternText.{escaped_pattern}
 use Rattle.urlpattern_syntax.specs.declared.error.Error.{Error}
 use Rattle.urlpattern_syntax.specs.Errors.{ErrorView}
 use Rattle.urlpattern_syntax.specs.Errors.{ErrorView as views}

@@ -1,15 +1,14 @@
 //! Canonical values of the components of a URL, and the values of an init.
 //!
 //! <https://urlpattern.spec.whatwg.org/#canon>
-ghost use Rattle.std.specs.Prelude.{◌≡◌, ◌<◌, ◌≤◌, ◌∷◌, ◌==◌, None, Ok, Some, codes, slice_index, ◌++◌, [], max, length, option_copied, option_map, unwrap_or, IfOk, IfErr, IsAscii, IsErrAnd, OnOk, MatchResult};
+ghost use Rattle.std.specs.Prelude.{◌≡◌, ◌<◌, ◌≤◌, ◌==◌, None, Ok, Some, codes, slice_index, [], max, length, option_copied, option_map, unwrap_or, IfOk, IfErr, IsAscii, IsErrAnd, MatchResult};
 ghost use Rattle.std.specs.List.{list_all};
 ghost use Rattle.std.specs.Option.{ForSome};
 ghost use Rattle.std.specs.Str.{chars};
 ghost use Rattle.url.specs.Ascii.{colon, slash};
 ghost use Rattle.url.specs.Parser.{parse_url};
-ghost use Rattle.urlpattern_laws.specs.Printing.{escaped_pattern, pattern_marks};
 ghost use Rattle.urlpattern_syntax.specs.Errors.{MemoryOr, error_view};
-ghost use Rattle.urlpattern_syntax.specs.Text.{begins_with, is_among, text_of};
+ghost use Rattle.urlpattern_syntax.specs.Text.{begins_with, text_of};
 ghost use Rattle.urlpattern_syntax.specs.declared.error.Error.TheVariants as errors;
 ghost use Rattle.urlpattern_canonical.specs.Asking.{reported_as};
 ghost use Rattle.urlpattern_canonical.specs.Canonical.{IsAnswer, Tells, bytes_asked, canonical_hash, canonical_hostname, canonical_ipv6_hostname, canonical_opaque_pathname, canonical_password, canonical_pathname, canonical_port, canonical_protocol, canonical_search, canonical_username, default_port, dummy_url, is_hierarchical, is_hierarchical_under, is_ipv6_character, is_special, opaque_url, path_of, scheme_for_port, without_first, without_guard, without_last, reported, processed_base, processed_hash, processed_hostname, processed_password, processed_pathname, processed_port, processed_protocol, processed_search, processed_username};
@@ -17,6 +16,7 @@ ghost use Rattle.urlpattern_canonical.specs.Canonical.{IsAnswer, Tells, bytes_as
 use std::alloc::Global;
 use url::{ParseError, ParseResult, Url, quirks};
 use urlpattern_syntax::Error;
+pub use urlpattern_syntax::escape::escape_pattern_string;
 
 /// The URL on which values are set.
 const DUMMY_URL: &str = "http://dummy.test";
@@ -768,39 +768,4 @@ pub fn process_base_url(alloc: Global, input: &str, kind: &ProcessType) -> Resul
         ProcessType::Pattern => escape_pattern_string(alloc, input),
         ProcessType::Url => Ok(String::from_str(alloc, input)?),
     }
-}
-
-/// The text, with a backslash before each character that means more than itself in a pattern.
-///
-/// The error is that memory ran out.
-///
-/// <https://urlpattern.spec.whatwg.org/#escape-a-pattern-string>
-pub fn escape_pattern_string(alloc: Global, input: &str) -> Result<String, Error>
-    ensures escaped { IfOk result (λ text. text_of text ≡ escaped_pattern (chars input.now)) }
-    ensures memory { IfErr result (λ error. error ≡ errors.OutOfMemory) }
-{
-    let mut text = String::with_capacity(alloc, input.len())?;
-    for c in input.chars() {
-        push_escaped_char(&mut text, c)?;
-    }
-    Ok(text)
-}
-
-/// Appends the character, with a backslash before it if it means more than itself in a pattern.
-fn push_escaped_char(text: &mut String, c: char) -> Result<(), Error>
-    ensures appends { OnOk result (text_of text.new ≡ text_of text.old ++ escaped_pattern (c ∷ [])) }
-    ensures memory { IfErr result (λ error. error ≡ errors.OutOfMemory) }
-{
-    if is_pattern_mark(c) {
-        text.push('\\')?;
-    }
-    text.push(c)?;
-    Ok(())
-}
-
-/// Whether the character means more than itself in a pattern.
-fn is_pattern_mark(c: char) -> bool
-    ensures { result ≡ is_among pattern_marks c }
-{
-    matches!(c, '+' | '*' | '?' | ':' | '{' | '}' | '(' | ')' | '\\')
 }

@@ -6,3 +6,4 @@ pub mod RegexpTexts
 pub mod MatcherTexts
 pub mod MatcherAnswers
 pub mod Peeling
+pub mod NameLists

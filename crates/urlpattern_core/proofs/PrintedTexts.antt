@@ -1,5 +1,5 @@
 -- Lemmas on the texts of printed patterns.
-use Rattle.std.proofs.Common.{◌≡◌, ℕ, Bool, true, false, not, ◌&&◌, ◌||◌, ◌==◌, List, [], ◌∷◌, ◌++◌, length, take, Option, Some, None, String, refl, sym, ap, subst, ◌∙◌, append_assoc, bytes_eq, map, codes, arith}
+use Rattle.std.proofs.Common.{◌≡◌, ℕ, Bool, true, false, not, ◌&&◌, ◌||◌, ◌==◌, List, [], ◌∷◌, ◌++◌, length, take, Option, Some, None, String, refl, sym, ap, subst, ◌∙◌, bytes_eq, map, arith}
 use denote.Ref.{Bor}
 use Rattle.std.proofs.lemmas.Slice.Eq.{bytes_eq-Decides}
 use Rattle.std.proofs.Math.Dec.{eqb}
@@ -18,8 +18,6 @@ use Rattle.urlpattern_laws.specs.Printing.{escaped_pattern, first_part, in_brace
 use Rattle.urlpattern_syntax.proofs.StringTexts.{chars-encode}
 use Rattle.urlpattern_syntax.proofs.TextLemmas.{bytes_same, chars-some}
 use Rattle.urlpattern_syntax.specs.declared.parser.Part.{Part}
-use Rattle.urlpattern_syntax.specs.declared.parser.PartModifier.{PartModifier}
-use Rattle.urlpattern_syntax.specs.declared.parser.PartModifier.TheVariants as modifiers
 use Rattle.urlpattern_syntax.specs.declared.parser.PartType.TheVariants.{FixedText}
 use Rattle.urlpattern_syntax.specs.Options.{OptionsView}
 use Rattle.urlpattern_syntax.specs.Parts.{PartView, part_view}
@@ -133,56 +131,25 @@ first_neighbour None (part ∷ parts) e = absurd (cc e)
 first_neighbour (Some first) [] e = absurd (cc e)
 first_neighbour (Some first) (part ∷ parts) e = ap (λ found. option_map part_view found) e
 
--- ---- what the calls append, one after another
+-- ---- the texts of parts, by those of their pieces
 
--- a text between braces, and a modifier
-pub braced-appended : {b c d all spelled : List ℕ} (start text modifier : List ℕ)
-    → b ≡ start ++ chars (codes "{") → c ≡ b ++ text → d ≡ c ++ chars (codes "}") → spelled ≡ modifier → all ≡ d ++ spelled → all ≡ start ++ (in_braces true text ++ modifier)
-unfolding chars
-braced-appended start text modifier h1 h2 h3 h4 h5 = simp (h5, h4, h3, h2, h1, append_assoc)
+pub fixed-as : (part : PartView) (braces : Bool) (value modifier : List ℕ) → braces ≡ not (is_unmodified part.modifier) → value ≡ escaped_pattern part.value → modifier ≡ modifier_text part.modifier
+    → in_braces braces value ++ modifier ≡ printed_fixed part
+fixed-as part braces value modifier b v m =
+    ap (λ x. in_braces x value ++ modifier) b ∙ ap (λ x. in_braces (not (is_unmodified part.modifier)) x ++ modifier) v
+    ∙ ap (λ x. in_braces (not (is_unmodified part.modifier)) (escaped_pattern part.value) ++ x) m
 
-modified : (modifier : PartModifier) → (modifier ≡ modifiers.None → ⊥) → is_unmodified modifier ≡ false
-modified modifiers.None some = absurd (some refl)
-modified modifiers.Optional some = refl
-modified modifiers.ZeroOrMore some = refl
-modified modifiers.OneOrMore some = refl
+abbrev group_of : OptionsView → PartView → (asterisk braces : Bool) → (prefix modifier : List ℕ) → List ℕ
+group_of options part asterisk braces prefix modifier =
+    in_braces braces (prefix ++ printed_name part ++ printed_match options part.kind part asterisk ++ printed_suffix part) ++ modifier
 
-pub fixed-printed : {b c d all spelled : List ℕ} (start : List ℕ) (part : PartView) → (part.modifier ≡ modifiers.None → ⊥)
-    → b ≡ start ++ chars (codes "{") → c ≡ b ++ escaped_pattern part.value → d ≡ c ++ chars (codes "}") → spelled ≡ modifier_text part.modifier → all ≡ d ++ spelled → all ≡ start ++ printed_fixed part
-fixed-printed start part some h1 h2 h3 h4 h5 =
-    rw (modified part.modifier some) (braced-appended start (escaped_pattern part.value) (modifier_text part.modifier) h1 h2 h3 h4 h5)
-
--- a backslash before a text
-pub marked-appended : {b all : List ℕ} (start text : List ℕ) → b ≡ start ++ chars (codes "\\") → all ≡ b ++ text → all ≡ start ++ (codes "\\" ++ text)
-unfolding chars
-marked-appended start text h1 h2 = simp (h2, h1, append_assoc)
-
--- a text without braces, and a modifier
-pub bare-printed : {b all spelled : List ℕ} (start text modifier : List ℕ) → b ≡ start ++ text → spelled ≡ modifier → all ≡ b ++ spelled → all ≡ start ++ (in_braces false text ++ modifier)
-bare-printed start text modifier h1 h2 h3 = simp (h3, h2, h1, append_assoc)
-
-abbrev pub inner : OptionsView → PartView → (asterisk : Bool) → List ℕ
-inner options part asterisk = escaped_pattern part.prefix ++ printed_name part ++ printed_match options part.kind part asterisk ++ printed_suffix part
-
-grouped_as : (options : OptionsView) (before : Option PartView) (part : PartView) (asterisk grouped shape : Bool) → asterisk ≡ is_asterisk before part grouped → grouped ≡ shape →
-    in_braces shape (inner options part asterisk) ++ modifier_text part.modifier ≡ printed_group options before part grouped
-grouped_as options before part asterisk grouped shape h g =
-    ap (λ a. in_braces shape (inner options part a) ++ modifier_text part.modifier) h
-    ∙ ap (λ b. in_braces b (inner options part (is_asterisk before part grouped)) ++ modifier_text part.modifier) (sym g)
-
--- a group between braces
-pub group-braced : {b c d e all spelled : List ℕ} (start : List ℕ) (options : OptionsView) (before : Option PartView) (part : PartView) (asterisk grouped : Bool) → asterisk ≡ is_asterisk before part grouped → grouped ≡ true
-    → b ≡ start ++ chars (codes "{") → c ≡ b ++ inner options part asterisk → d ≡ c ++ chars (codes "}") → e ≡ d → spelled ≡ modifier_text part.modifier → all ≡ e ++ spelled
-    → all ≡ start ++ printed_group options before part grouped
-group-braced start options before part asterisk grouped h g h1 h2 h3 h4 h5 h6 =
-    braced-appended start (inner options part asterisk) (modifier_text part.modifier) h1 h2 (h4 ∙ h3) h5 h6 ∙ ap (λ text. start ++ text) (grouped_as options before part asterisk grouped true h g)
-
--- a group without braces
-pub group-bare : {b c all spelled : List ℕ} (start : List ℕ) (options : OptionsView) (before : Option PartView) (part : PartView) (asterisk grouped : Bool) → asterisk ≡ is_asterisk before part grouped → grouped ≡ false
-    → b ≡ start ++ inner options part asterisk → c ≡ b → spelled ≡ modifier_text part.modifier → all ≡ c ++ spelled
-    → all ≡ start ++ printed_group options before part grouped
-group-bare start options before part asterisk grouped h g h1 h2 h3 h4 =
-    bare-printed start (inner options part asterisk) (modifier_text part.modifier) (h2 ∙ h1) h3 h4 ∙ ap (λ text. start ++ text) (grouped_as options before part asterisk grouped false h g)
+pub group-as : (options : OptionsView) (before : Option PartView) (part : PartView) (asterisk braces : Bool) (prefix modifier : List ℕ)
+    → asterisk ≡ is_asterisk before part braces → prefix ≡ escaped_pattern part.prefix → modifier ≡ modifier_text part.modifier
+    → in_braces braces (prefix ++ printed_name part ++ printed_match options part.kind part asterisk ++ printed_suffix part) ++ modifier ≡ printed_group options before part braces
+group-as options before part asterisk braces prefix modifier a p m =
+    ap (λ x. group_of options part x braces prefix modifier) a
+    ∙ ap (λ x. group_of options part (is_asterisk before part braces) braces x modifier) p
+    ∙ ap (λ x. group_of options part (is_asterisk before part braces) braces (escaped_pattern part.prefix) x) m
 
 -- ---- a part between its neighbours, by what it is
 

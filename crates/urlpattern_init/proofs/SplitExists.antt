@@ -1,8 +1,8 @@
 -- A constructor string has a split, whatever the answer on its protocol.
-use Rattle.std.proofs.Common.{◌≡◌, ℕ, zero, suc, ◌+◌, ◌<◌, ◌≤◌, ◌⊎◌, Bool, true, false, not, ◌&&◌, ◌||◌, Option, Some, None, List, [], ◌∷◌, ◌++◌, length, refl, sym, ap, ◌∙◌, inl, inr, arith, length-append}
+use Rattle.std.proofs.Common.{◌≡◌, ℕ, zero, suc, ◌+◌, ◌<◌, ◌≤◌, ◌⊎◌, Bool, true, false, not, ◌&&◌, ◌||◌, Option, Some, None, List, [], ◌∷◌, length, refl, sym, ap, ◌∙◌, inl, inr, arith, length-append}
 use Rattle.std.proofs.lemmas.Bool.{and_from, and_parts, both_ways, cases_eq, cases_lt, false≢true, or_cases, or_left, or_right}
 use Rattle.std.specs.Prelude.{codes, IsSomeAnd, IsTrue}
-use Rattle.urlpattern_init.specs.ConstructorString.{SplitsInto}
+use Rattle.urlpattern_init.specs.ConstructorString.{SplitsAs}
 use Rattle.urlpattern_init.specs.Split.{AuthorityFrom, Components, EndsAt, HashAt, HashFrom, HostnameFrom, IsAbsoluteSplit, IsRelativeSplit, PathnameAt, PathnameFrom, PortAt, SearchAt, SearchFrom, Takes, UserinfoFrom}
 use Rattle.urlpattern_init.specs.Split.{depth_before, ends_at, has_slashes, implied_pathname, is_at_sign, is_balanced, is_colon_sign, is_hash_sign, is_search_sign, is_slash_sign, may_end}
 use Rattle.urlpattern_init.specs.Splitting.{IsClosed}
@@ -37,17 +37,21 @@ HostnameFor Is =
 abbrev UserinfoFor : (Is : Components → Type 0) → Type 0
 UserinfoFor Is = (username password : Option (List ℕ)) × ((c : Components) → Is (record c { username = username; password = password }))
 
-abbrev nothing : Components
-nothing = record {
-  protocol = None;
-  username = None;
-  password = None;
-  hostname = None;
-  port = None;
-  pathname = None;
-  search = None;
-  hash = None;
+-- this for each component
+abbrev each : Option (List ℕ) → Components
+each one = record {
+  protocol = one;
+  username = one;
+  password = one;
+  hostname = one;
+  port = one;
+  pathname = one;
+  search = one;
+  hash = one;
 }
+
+abbrev nothing : Components
+nothing = each None
 
 module _ (text : List ℕ) (tokens : List TokenView) (are_tokens : AreLenientTokens text tokens) where
   closed : IsClosed tokens
@@ -358,7 +362,7 @@ answered text tokens until special None h = absurd h
 answered text tokens until special (Some protocol) h = refl
 
 -- A text has a split, whatever the answer on its protocol.
-pub split_exists : (text : List ℕ) (special : Bool) → (components : Components) × SplitsInto (λ protocol answer. answer ≡ special) text components
+pub split_exists : (text : List ℕ) (special : Bool) → (components : Components) × SplitsAs text special components
 split_exists text special =
     let (tokens, are_tokens) = lenient_tokens_exist text in
     let (until, ends) = ends_some text tokens are_tokens Protocol 0 0 (some_token text tokens are_tokens) in

@@ -5,7 +5,7 @@ use Rattle.std.proofs.lemmas.List.{append_cancel_left}
 use Rattle.std.proofs.lemmas.Slice.Eq.{bytes_eq-Decides}
 use Rattle.std.specs.Prelude.{codes, IsSomeAnd, IsTrue, slice_get}
 use Rattle.std.specs.Str.{bytes_eq}
-use Rattle.urlpattern_init.specs.ConstructorString.{SplitsInto}
+use Rattle.urlpattern_init.specs.ConstructorString.{SplitsAs, SplitsInto}
 use Rattle.urlpattern_init.specs.Split.{AuthorityFrom, Components, EndsAt, HasProtocol, HashAt, HashFrom, HostnameFrom, IsAbsoluteSplit, IsRelativeSplit, IsSplit, IsTextBetween, PathnameAt, PathnameFrom, PortAt, SearchAt, SearchFrom, Takes, UserinfoFrom}
 use Rattle.urlpattern_init.specs.Split.{at, ends_at, has_slashes, is_at_sign, is_character, is_colon_sign, is_end, is_hash_sign, is_search_sign, is_sign, is_slash_sign, follows_modified, depth_before}
 use Rattle.urlpattern_init.specs.Splitting.{IsClosed}
@@ -387,7 +387,7 @@ module _ (IsSpecial : List ℕ → Bool → Type 0) (text : List ℕ) where
       split_one g.0 c d g.1 (subst (λ tokens. IsSplit IsSpecial text tokens c) e h.2) g.2
 
 -- Under one answer for the protocol two splits of a text are one.
-pub splits_one_given : (text : List ℕ) (special : Bool) (c d : Components) → SplitsInto (λ protocol answer. answer ≡ special) text c → SplitsInto (λ protocol answer. answer ≡ special) text d → c ≡ d
+pub splits_one_given : (text : List ℕ) (special : Bool) (c d : Components) → SplitsAs text special c → SplitsAs text special d → c ≡ d
 splits_one_given text special c d h g = elim (splits_one (λ protocol answer. answer ≡ special) text c d h g) [
   | inl same ↦ same
   | inr two ↦ let both = two.7 in absurd (false≢true (both.1 ∙ sym both.0))

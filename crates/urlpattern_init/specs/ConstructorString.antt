@@ -27,6 +27,10 @@ abbrev pub SplitsInto : (IsSpecial : List ℕ → Bool → Type 0) → (text : L
 SplitsInto IsSpecial text components =
     (tokens : List TokenView) × AreLenientTokens text tokens × IsSplit IsSpecial text tokens components
 
+-- The text is split into these components where its protocol, if it has one, is given this answer.
+abbrev pub SplitsAs : (text : List ℕ) → (special : Bool) → Components → Type 0
+SplitsAs text special components = SplitsInto (λ protocol answer. answer ≡ special) text components
+
 -- so many turns are at most two for each lenient token of the text
 abbrev pub AreFewTurns : (text : List ℕ) → (turns : ℕ) → Type 0
 AreFewTurns text turns = (tokens : List TokenView) × AreLenientTokens text tokens × (turns ≤ 2 * length tokens)

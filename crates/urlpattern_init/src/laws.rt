@@ -4,7 +4,7 @@
 
 ghost use Rattle.std.specs.Prelude.{◌≡◌, ◌⊎◌, ℕ, Bool, true, false, List};
 ghost use Rattle.urlpattern_core.specs.Compiling.{MayRefuseAtFirst};
-ghost use Rattle.urlpattern_init.specs.ConstructorString.{SplitsInto};
+ghost use Rattle.urlpattern_init.specs.ConstructorString.{SplitsAs, SplitsInto};
 ghost use Rattle.urlpattern_init.specs.SpecialProtocol.{IsSpecialBy};
 ghost use Rattle.urlpattern_init.specs.Split.{Components, HasProtocol};
 
@@ -13,9 +13,8 @@ use urlpattern_core::regexp::RegExp;
 /// A constructor string has one split under a given answer on whether its protocol is special. By the answers of a type of
 /// engines it has one at most, unless its protocol is special by them and also not.
 pub fn splits_are_one<R: RegExp>()
-    ensures exist { (text : List ℕ) (special : Bool) → (components : Components) × SplitsInto (λ protocol answer. answer ≡ special) text components }
-    ensures given { (text : List ℕ) (special : Bool) (components others : Components) →
-        SplitsInto (λ protocol answer. answer ≡ special) text components → SplitsInto (λ protocol answer. answer ≡ special) text others → components ≡ others }
+    ensures exist { (text : List ℕ) (special : Bool) → (components : Components) × SplitsAs text special components }
+    ensures given { (text : List ℕ) (special : Bool) (components others : Components) → SplitsAs text special components → SplitsAs text special others → components ≡ others }
     ensures computed { (text : List ℕ) (components others : Components) →
         let IsSpecial = IsSpecialBy R.IsMade (MayRefuseAtFirst R.MayRefuse) R.answer in
         SplitsInto IsSpecial text components → SplitsInto IsSpecial text others →

@@ -9,16 +9,9 @@ use Rattle.urlpattern_syntax.specs.Errors.{ErrorView}
 use Rattle.urlpattern_syntax.specs.Options.{OptionsView}
 use Rattle.urlpattern_syntax.specs.Parts.{PartView}
 use Rattle.urlpattern_syntax.specs.Reading.{Encoding}
-use Rattle.urlpattern_syntax.specs.RegexpText.{captured, escaped, full_wildcard, is_empty, is_fixed_text, is_plain, is_unmodified, modifier_text, segment_wildcard}
+use Rattle.urlpattern_syntax.specs.RegexpText.{captured, full_wildcard, is_empty, is_fixed_text, is_plain, is_unmodified, modifier_text, segment_wildcard}
 use Rattle.urlpattern_syntax.specs.Text.{begins_with, is_name_part}
-
--- the characters that mean more than themselves in a pattern
-abbrev pub pattern_marks : List ℕ
-pattern_marks = codes "+*?:{}()\\"
-
--- a backslash before each of these
-abbrev pub escaped_pattern : List ℕ → List ℕ
-escaped_pattern text = escaped pattern_marks text
+pub use Rattle.urlpattern_syntax.specs.PatternText.{escaped_pattern, pattern_marks}
 
 -- ---- tests of parts
 

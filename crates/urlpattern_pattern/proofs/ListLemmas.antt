@@ -69,12 +69,11 @@ module _ {E : Type 0} (answer : E → List ℕ → Option Captures) (patterns : 
       → IfOk result (λ found. IfNone found (AreRefused answer patterns texts))
       → IfOk result (λ found. IfSome found (λ first. IsFirstAt answer patterns texts first.0 (λ pattern. IsMatchOf answer pattern texts (result_view first.1))))
       → IfOk result (λ found. IsFirstMatch answer patterns input (first_view found))
-  first-of_texts texts (Ok (Some first)) are_texts none some =
-      (
-        (some.pattern, some.is_there, (texts, are_texts, some.meets)),
-        All-weaker (λ earlier. IsRefused answer earlier texts) (λ earlier. ¬ HasMatch answer earlier input)
+  first-of_texts texts (Ok (Some first)) are_texts none some = (
+    (some.pattern, some.is_there, (texts, are_texts, some.meets)),
+    All-weaker (λ earlier. IsRefused answer earlier texts) (λ earlier. ¬ HasMatch answer earlier input)
         (λ earlier refused. refused-unmatched answer earlier input texts are_texts refused) (take first.0 patterns) some.others_refuse,
-      )
+  )
   first-of_texts texts (Ok None) are_texts none some =
       All-weaker (λ pattern. IsRefused answer pattern texts) (λ pattern. HasNoMatch answer pattern input) (λ pattern refused. inr (texts, are_texts, refused)) patterns none
   first-of_texts texts (Err error) are_texts none some = tt

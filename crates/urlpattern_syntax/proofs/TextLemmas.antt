@@ -1,12 +1,14 @@
 -- Lemmas on texts: characters against bytes, places, and where a text may be cut.
-use Rattle.std.proofs.Common.{◌≡◌, ℕ, ◌+◌, ◌-◌, ◌≤◌, List, [], ◌∷◌, ◌++◌, length, take, refl, sym, ap, ◌∙◌, arith, length-append}
+use Rattle.std.proofs.Common.{◌≡◌, ℕ, ◌-◌, ◌≤◌, List, [], ◌∷◌, ◌++◌, length, take, refl, sym, ap, ◌∙◌, arith, length-append}
 use Rattle.std.specs.Prelude.{codes, encode_utf8_all}
 use Rattle.std.specs.Prelude.{slice_range}
 use Rattle.std.proofs.Math.Seq.{take-append_seam}
 use Rattle.std.specs.Char.{encode_utf8}
 use Rattle.std.specs.Str.{chars, IsUtf8}
+use Rattle.std.proofs.lemmas.List.{append-nil}
 use Rattle.std.proofs.lemmas.Str.{chars-nil, length-le-encodes, encodes-append, encodes-chars}
 use Rattle.urlpattern_syntax.specs.Text.{byte_len, BeginsAt}
+pub use Rattle.urlpattern_syntax.specs.WritingLaws.{byte_len-append, byte_len-nil}
 
 -- the bytes of a text whose characters are these and those of an end of it
 pub bytes_before : (text end : List ℕ) (front : List ℕ) → IsUtf8 text → IsUtf8 end → chars text ≡ front ++ chars end → text ≡ encode_utf8_all front ++ end
@@ -21,14 +23,6 @@ slice_before xs front end e =
     ∙ ap (λ k. take k (front ++ end)) (let same : length front - 0 ≡ length front = omega arith in same) ∙ take-append_seam front end
 
 -- ---- bytes and characters
-
-pub byte_len-nil : byte_len [] ≡ 0
-unfolding byte_len
-byte_len-nil = refl
-
-pub byte_len-append : (xs ys : List ℕ) → byte_len (xs ++ ys) ≡ byte_len xs + byte_len ys
-unfolding byte_len
-byte_len-append xs ys = ap length (encodes-append xs ys) ∙ length-append (encode_utf8_all xs) (encode_utf8_all ys)
 
 pub byte_len-chars : (bytes : List ℕ) → IsUtf8 bytes → byte_len (chars bytes) ≡ length bytes
 unfolding byte_len
@@ -83,3 +77,7 @@ full_wildcard_bytes = refl
 
 pub chars_nothing : chars [] ≡ []
 chars_nothing = chars-nil
+
+pub byte_len-char : (c : ℕ) → byte_len (c ∷ []) ≡ length (encode_utf8 c)
+unfolding byte_len
+byte_len-char c = ap length (append-nil (encode_utf8 c))

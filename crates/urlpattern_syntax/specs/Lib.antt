@@ -3,8 +3,11 @@ pub mod Errors
 pub mod Options
 pub mod Parsing
 pub mod Parts
+pub mod PatternText
 pub mod Pieces
 pub mod Reading
 pub mod RegexpText
 pub mod Text
 pub mod Tokens
+pub mod Writing
+pub mod WritingLaws

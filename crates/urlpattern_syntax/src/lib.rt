@@ -2,8 +2,10 @@
 #![tactic(auto)]
 
 pub mod error;
+pub mod escape;
 pub mod parser;
 pub mod tokenizer;
+pub mod writing;
 
 pub use error::Error;
 pub use parser::RegexSyntax;

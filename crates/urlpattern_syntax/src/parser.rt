@@ -2,9 +2,9 @@
 //!
 //! <https://urlpattern.spec.whatwg.org/#parts-and-part-lists>
 ghost use Rattle.urlpattern_syntax.specs.declared.error.Error.TheVariants as errors;
-ghost use Rattle.urlpattern_syntax.specs.Text.{is_among, text_of};
-ghost use Rattle.urlpattern_syntax.specs.RegexpText.{escaped_marks, escaped_regexp, regexp_marks, segment_wildcard, modifier_text};
-ghost use Rattle.urlpattern_syntax.specs.Options.{options_view, default_options, hostname_options, pathname_options};
+ghost use Rattle.urlpattern_syntax.specs.Text.{text_of};
+ghost use Rattle.urlpattern_syntax.specs.RegexpText.{segment_wildcard, modifier_text};
+ghost use Rattle.urlpattern_syntax.specs.Options.{options_view};
 ghost use Rattle.std.specs.Prelude.{◌<◌, Contains, Result, map, ◌≡◌, ◌∷◌, ◌++◌, ◌↔◌, IsTrue, [], Some, IfOk, IfErr, OnOk};
 ghost use Rattle.std.specs.Str.{chars};
 ghost use Rattle.std.specs.Fn.{FnReturnsAt};
@@ -15,6 +15,7 @@ ghost use Rattle.urlpattern_syntax.specs.Parts.{fixed_text, part_view};
 ghost use Rattle.urlpattern_syntax.specs.Reading.{Expect, FirstFails, Fixed, Reads, Refuses, compared, encode_fixed, encoding_of, kind_of, name_or, next_number, value_of};
 ghost use Rattle.urlpattern_syntax.specs.RegexpText.{group_names};
 
+mod option_sets;
 mod pieces;
 
 use crate::error::{Error, ParserError};
@@ -52,144 +53,6 @@ pub struct Options {
     pub regex_syntax: RegexSyntax,
     /// Whether case is ignored.
     pub ignore_case: bool,
-}
-
-impl Options {
-    /// The options of most components: no delimiter and no prefix code point.
-    ///
-    /// <https://urlpattern.spec.whatwg.org/#default-options>
-    pub fn default(alloc: Global) -> Self
-        ensures { options_view result ≡ default_options }
-    {
-        Self {
-            delimiter_code_point: None,
-            prefix_code_point: String::new(alloc),
-            regex_syntax: RegexSyntax::Rust,
-            ignore_case: false,
-        }
-    }
-
-    /// The options of a hostname, whose segments end at a dot.
-    ///
-    /// <https://urlpattern.spec.whatwg.org/#hostname-options>
-    pub fn hostname(alloc: Global) -> Self
-        ensures { options_view result ≡ hostname_options }
-    {
-        Self {
-            delimiter_code_point: Some('.'),
-            ..Self::default(alloc)
-        }
-    }
-
-    /// The options of a pathname, whose segments begin and end at a slash.
-    ///
-    /// The error is that memory ran out.
-    ///
-    /// <https://urlpattern.spec.whatwg.org/#pathname-options>
-    pub fn pathname(alloc: Global) -> Result<Self, Error>
-        ensures ok { IfOk result (λ options. options_view options ≡ pathname_options) }
-        ensures memory { IfErr result (λ error. error ≡ errors.OutOfMemory) }
-    {
-        Ok(Self {
-            delimiter_code_point: Some('/'),
-            prefix_code_point: String::from_str(alloc, "/")?,
-            regex_syntax: RegexSyntax::Rust,
-            ignore_case: false,
-        })
-    }
-
-    /// The text, with a backslash before each character that means more than itself in a regular expression.
-    ///
-    /// The error is that memory ran out.
-    ///
-    /// <https://urlpattern.spec.whatwg.org/#escape-a-regexp-string>
-    pub fn escape_regexp_string(&self, alloc: Global, input: &str) -> Result<String, Error>
-        ensures escaped { IfOk result (λ text. text_of text ≡ escaped_regexp (options_view self.now) (chars input.now)) }
-        ensures memory { IfErr result (λ error. error ≡ errors.OutOfMemory) }
-    {
-        let mut text = String::new(alloc);
-        self.push_escaped(&mut text, input)?;
-        Ok(text)
-    }
-
-    /// The regular expression of a segment: some characters that are no delimiter.
-    ///
-    /// The error is that memory ran out.
-    ///
-    /// <https://urlpattern.spec.whatwg.org/#generate-a-segment-wildcard-regexp>
-    pub fn generate_segment_wildcard_regexp(&self, alloc: Global) -> Result<String, Error>
-        ensures wildcard { IfOk result (λ text. text_of text ≡ segment_wildcard (options_view self.now)) }
-        ensures memory { IfErr result (λ error. error ≡ errors.OutOfMemory) }
-    {
-        let mut text = String::new(alloc);
-        self.push_segment_wildcard(&mut text)?;
-        Ok(text)
-    }
-
-    /// Appends the escaped text.
-    pub fn push_escaped(&self, text: &mut String, input: &str) -> Result<(), Error>
-        ensures appends { OnOk result (text_of text.new ≡ text_of text.old ++ escaped_regexp (options_view self.now) (chars input.now)) }
-        ensures memory { IfErr result (λ error. error ≡ errors.OutOfMemory) }
-    {
-        for c in input.chars() {
-            self.push_escaped_char(text, c)?;
-        }
-        Ok(())
-    }
-
-    /// Appends the regular expression of a segment.
-    pub fn push_segment_wildcard(&self, text: &mut String) -> Result<(), Error>
-        ensures appends { OnOk result (text_of text.new ≡ text_of text.old ++ segment_wildcard (options_view self.now)) }
-        ensures memory { IfErr result (λ error. error ≡ errors.OutOfMemory) }
-    {
-        let Some(delimiter) = self.delimiter_code_point else {
-            return push_text(text, ".+?");
-        };
-        push_text(text, "[^")?;
-        self.push_escaped_char(text, delimiter)?;
-        push_text(text, "]+?")
-    }
-
-    /// Appends the character, with a backslash before it if it means more than itself.
-    fn push_escaped_char(&self, text: &mut String, c: char) -> Result<(), Error>
-        ensures appends { OnOk result (text_of text.new ≡ text_of text.old ++ escaped_regexp (options_view self.now) (c ∷ [])) }
-        ensures memory { IfErr result (λ error. error ≡ errors.OutOfMemory) }
-    {
-        if self.is_escaped(c) {
-            text.push('\\')?;
-        }
-        text.push(c)?;
-        Ok(())
-    }
-
-    /// Whether the character takes a backslash in a regular expression.
-    fn is_escaped(&self, c: char) -> bool
-        ensures { result ≡ is_among (escaped_marks (options_view self.now).syntax) c }
-    {
-        match self.regex_syntax {
-            RegexSyntax::Rust => is_regexp_mark(c),
-            RegexSyntax::EcmaScript => is_regexp_mark(c) || c == '/',
-        }
-    }
-}
-
-/// Whether the character means more than itself in a regular expression.
-fn is_regexp_mark(c: char) -> bool
-    ensures { result ≡ is_among regexp_marks c }
-{
-    matches!(
-        c,
-        '.' | '+' | '*' | '?' | '^' | '$' | '{' | '}' | '(' | ')' | '[' | ']' | '|' | '\\'
-    )
-}
-
-/// Appends the piece.
-pub fn push_text(text: &mut String, piece: &str) -> Result<(), Error>
-    ensures appends { OnOk result (text_of text.new ≡ text_of text.old ++ chars piece.now) }
-    ensures memory { IfErr result (λ error. error ≡ errors.OutOfMemory) }
-{
-    text.push_str(piece)?;
-    Ok(())
 }
 
 /// What a part stands for.

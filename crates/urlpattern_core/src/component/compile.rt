@@ -14,7 +14,8 @@ ghost use Rattle.urlpattern_syntax.specs.Reading.{Refuses, encoding_of};
 
 use super::matchers::{ask_engine, generate_matcher_knowing};
 use super::printed::generate_pattern_string;
-use super::{Component, generate_name_list, generate_regular_expression};
+use super::regexp_text::generate_regular_expression;
+use super::{Component, generate_name_list};
 use crate::error::Error;
 use crate::parser::{Options, Part, PartType, RegexSyntax, parse_pattern_string};
 use crate::regexp::RegExp;

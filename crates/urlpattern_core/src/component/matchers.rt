@@ -11,12 +11,13 @@ ghost use Rattle.urlpattern_syntax.specs.Parts.{part_view};
 ghost use Rattle.urlpattern_syntax.specs.RegexpText.{is_plain, regexp_text};
 ghost use Rattle.urlpattern_syntax.specs.Text.{text_of};
 
-use super::generate_regular_expression;
+use super::regexp_text::generate_regular_expression;
 use crate::error::{Error, RegExpError};
 use crate::matcher::{InnerMatcher, Matcher};
 use crate::parser::{Options, Part, PartModifier, PartType};
 use crate::regexp::RegExp;
 use std::alloc::Global;
+use urlpattern_syntax::writing::written;
 
 /// The matcher of a list of parts. Plain fixed texts at the ends of the list become its prefix and its suffix.
 ///
@@ -221,8 +222,5 @@ fn joined(alloc: Global, front: &str, back: &str) -> Result<String, Error>
     ensures text { IfOk result (λ text. text_of text ≡ chars front.now ++ chars back.now) }
     ensures memory { IfErr result (λ error. error ≡ errors.OutOfMemory) }
 {
-    let mut text = String::with_capacity(alloc, front.len() + back.len())?;
-    text.push_str(front)?;
-    text.push_str(back)?;
-    Ok(text)
+    written(alloc, &(front, back))
 }

@@ -2,23 +2,25 @@
 //!
 //! <https://urlpattern.spec.whatwg.org/#converting-part-lists-to-pattern-strings>
 
-ghost use Rattle.std.specs.Prelude.{◌≡◌, ◌++◌, ◌&&◌, ◌∷◌, [], false, not, map, bytes_eq, IfOk, IfErr, OnOk};
+ghost use Rattle.std.specs.Prelude.{◌≡◌, ◌&&◌, false, not, map, bytes_eq, IfOk, IfErr};
 ghost use Rattle.std.specs.Str.{chars};
 ghost use Rattle.urlpattern_core.specs.Neighbours.{neighbour};
 ghost use Rattle.urlpattern_laws.specs.Laws.{Answered, listed};
 ghost use Rattle.urlpattern_laws.specs.RoundTrip.{IsPrintable, ReadsBack};
-ghost use Rattle.urlpattern_laws.specs.Printing.{Keeps, escaped_pattern, goes_on, has_custom_name, has_other_prefix, is_asterisk, is_name_alone, last_of, needs_braces, pattern_marks, printed, printed_fixed, printed_group, printed_match, printed_name, printed_part, printed_suffix, takes_before, takes_next, admits_asterisk};
+ghost use Rattle.urlpattern_laws.specs.Printing.{Keeps, goes_on, has_custom_name, has_other_prefix, in_braces, is_asterisk, is_name_alone, last_of, needs_braces, printed, printed_fixed, printed_group, printed_match, printed_name, printed_part, printed_suffix, takes_before, takes_next, admits_asterisk};
 ghost use Rattle.urlpattern_syntax.specs.declared.error.Error.TheVariants as errors;
-ghost use Rattle.urlpattern_syntax.specs.declared.parser.PartType.TheVariants as kinds;
 ghost use Rattle.urlpattern_syntax.specs.Options.{options_view};
 ghost use Rattle.urlpattern_syntax.specs.Parts.{part_view};
-ghost use Rattle.urlpattern_syntax.specs.RegexpText.{captured, is_empty};
-ghost use Rattle.urlpattern_syntax.specs.Text.{begins_with, is_among, is_name_part, text_of};
+ghost use Rattle.urlpattern_syntax.specs.RegexpText.{is_empty};
+ghost use Rattle.urlpattern_syntax.specs.Text.{begins_with, is_name_part, text_of};
 
+use super::regexp_text::Captured;
 use crate::error::Error;
-use crate::parser::{FULL_WILDCARD_REGEXP_VALUE, Options, Part, PartModifier, PartType, push_text};
+use crate::parser::{FULL_WILDCARD_REGEXP_VALUE, Options, Part, PartModifier, PartType};
 use crate::tokenizer::is_name_part;
 use std::alloc::Global;
+use urlpattern_syntax::escape::{Escaped, SegmentWildcard};
+use urlpattern_syntax::writing::{Writable, Writer, written};
 
 /// The pattern text of a list of parts.
 ///
@@ -38,186 +40,162 @@ pub fn generate_pattern_string(
         Keeps (listed answers) (map part_view part_list.now) → ReadsBack (text_of text) (options_view options.now) (listed answers) (map part_view part_list.now)) }
     ensures memory { IfErr result (λ error. error ≡ errors.OutOfMemory) }
 {
-    let mut text = String::new(alloc);
-    let mut previous = None;
-    let mut rest = part_list;
-    while let Some((part, after)) = rest.split_first() {
-        push_part(&mut text, options, previous, part, after.first())?;
-        previous = Some(part);
-        rest = after;
-    }
-    Ok(text)
+    written(alloc, &PrintedText { part_list, options })
 }
 
-/// Appends the text of a part between its neighbours.
-fn push_part(
-    text: &mut String,
-    options: &Options,
-    previous: Option<&Part>,
-    part: &Part,
-    next: Option<&Part>,
-) -> Result<(), Error>
-    ensures appends { OnOk result (text_of text.new ≡ text_of text.old ++ printed_part (options_view options.now) (neighbour previous.entry) (part_view part.now) (neighbour next.entry)) }
-    ensures memory { IfErr result (λ error. error ≡ errors.OutOfMemory) }
-{
-    match part.kind {
-        PartType::FixedText => push_fixed_text(text, part),
-        _ => {
-            let grouped = needs_grouping(options, previous, part, next);
-            push_group(text, options, previous, part, grouped)
+/// The pattern text of a list of parts.
+#[derive(Clone, Copy)]
+struct PrintedText<'a> {
+    part_list: &'a [Part],
+    options: &'a Options,
+}
+
+impl Writable for PrintedText<'_> {
+    ghost text = { λ list. printed (options_view list.options.now) (map part_view list.part_list.now) };
+
+    fn write_to<W: Writer>(&self, writer: &mut W) {
+        let options = self.options;
+        let mut previous = None;
+        let mut rest = self.part_list;
+        while let Some((part, after)) = rest.split_first() {
+            let next = after.first();
+            PrintedPart {
+                options,
+                previous,
+                part,
+                next,
+            }
+            .write_to(writer);
+            previous = Some(part);
+            rest = after;
         }
     }
 }
 
-/// Appends a fixed text, between braces if it has a modifier.
-fn push_fixed_text(text: &mut String, part: &Part) -> Result<(), Error>
-    ensures appends { OnOk result (text_of text.new ≡ text_of text.old ++ printed_fixed (part_view part.now)) }
-    ensures memory { IfErr result (λ error. error ≡ errors.OutOfMemory) }
-{
-    match part.modifier {
-        PartModifier::None => push_escaped_pattern(text, &part.value),
-        _ => {
-            push_text(text, "{")?;
-            push_escaped_pattern(text, &part.value)?;
-            push_text(text, "}")?;
-            push_text(text, part.modifier.as_str())
+/// The text of a part between its neighbours.
+#[derive(Clone, Copy)]
+struct PrintedPart<'a> {
+    options: &'a Options,
+    previous: Option<&'a Part>,
+    part: &'a Part,
+    next: Option<&'a Part>,
+}
+
+impl Writable for PrintedPart<'_> {
+    ghost text = { λ printed. printed_part (options_view printed.options.now) (neighbour printed.previous) (part_view printed.part.now) (neighbour printed.next) };
+
+    fn write_to<W: Writer>(&self, writer: &mut W) {
+        match self.part.kind {
+            PartType::FixedText => self.write_fixed_text(writer),
+            _ => {
+                let braces = needs_grouping(self.options, self.previous, self.part, self.next);
+                self.write_group(writer, braces);
+            }
         }
     }
 }
 
-/// Appends a part that is no fixed text, between braces or not.
-fn push_group(
-    text: &mut String,
-    options: &Options,
-    previous: Option<&Part>,
-    part: &Part,
-    grouped: bool,
-) -> Result<(), Error>
-    ensures appends { OnOk result (text_of text.new ≡ text_of text.old ++ printed_group (options_view options.now) (neighbour previous.entry) (part_view part.now) grouped) }
-    ensures memory { IfErr result (λ error. error ≡ errors.OutOfMemory) }
-{
-    let asterisk = is_asterisk(previous, part, grouped);
-    if grouped {
-        push_text(text, "{")?;
-        push_inner(text, options, part, asterisk)?;
-        push_text(text, "}")?;
-    } else {
-        push_inner(text, options, part, asterisk)?;
+impl PrintedPart<'_> {
+    /// Writes a fixed text, between braces if it has a modifier.
+    fn write_fixed_text<W: Writer>(&self, writer: &mut W)
+        requires { W.Fits writer.old (printed_fixed (part_view self.now.part.now)) }
+        ensures { W.Writes writer.old (printed_fixed (part_view self.now.part.now)) writer.new }
+    {
+        let braces = self.part.modifier != PartModifier::None;
+        let inner = Escaped::pattern(&self.part.value);
+        (InBraces { braces, inner }, self.part.modifier.as_str()).write_to(writer);
     }
-    push_text(text, part.modifier.as_str())
+
+    /// Writes a part that is no fixed text, between braces or not.
+    fn write_group<W: Writer>(&self, writer: &mut W, braces: bool)
+        requires { W.Fits writer.old (printed_group (options_view self.now.options.now) (neighbour self.now.previous) (part_view self.now.part.now) braces) }
+        ensures { W.Writes writer.old (printed_group (options_view self.now.options.now) (neighbour self.now.previous) (part_view self.now.part.now) braces) writer.new }
+    {
+        let part = self.part;
+        let matched = Matched {
+            options: self.options,
+            part,
+            asterisk: is_asterisk(self.previous, part, braces),
+        };
+        let prefix = Escaped::pattern(&part.prefix);
+        let inner = (prefix, Name(part), matched, Suffix(part));
+        (InBraces { braces, inner }, part.modifier.as_str()).write_to(writer);
+    }
 }
 
-/// Appends the prefix of a part, its name, what it matches and its suffix.
-fn push_inner(
-    text: &mut String,
-    options: &Options,
-    part: &Part,
+/// A text between braces, or as it is.
+#[derive(Clone, Copy)]
+struct InBraces<T> {
+    braces: bool,
+    inner: T,
+}
+
+impl<T: Writable> Writable for InBraces<T> {
+    ghost text = { λ piece. in_braces piece.braces (T.text piece.inner) };
+
+    fn write_to<W: Writer>(&self, writer: &mut W) {
+        if !self.braces {
+            return self.inner.write_to(writer);
+        }
+        writer.write_char('{');
+        self.inner.write_to(writer);
+        writer.write_char('}');
+    }
+}
+
+/// A colon and the name of a part, if the pattern gave it one.
+#[derive(Clone, Copy)]
+struct Name<'a>(&'a Part);
+
+impl Writable for Name<'_> {
+    ghost text = { λ name. printed_name (part_view name.0.now) };
+
+    fn write_to<W: Writer>(&self, writer: &mut W) {
+        if !has_custom_name(self.0) {
+            return;
+        }
+        (':', self.0.name.as_str()).write_to(writer);
+    }
+}
+
+/// What a part matches, which a name alone does not say.
+#[derive(Clone, Copy)]
+struct Matched<'a> {
+    options: &'a Options,
+    part: &'a Part,
     asterisk: bool,
-) -> Result<(), Error>
-    ensures appends { let view = part_view part.now in OnOk result (text_of text.new ≡ text_of text.old ++ (escaped_pattern view.prefix ++ printed_name view ++ printed_match (options_view options.now) view.kind view asterisk ++ printed_suffix view)) }
-    ensures memory { IfErr result (λ error. error ≡ errors.OutOfMemory) }
-{
-    push_escaped_pattern(text, &part.prefix)?;
-    push_name(text, part)?;
-    push_match(text, options, part, asterisk)?;
-    push_suffix(text, part)
 }
 
-/// Appends a colon and the name, if the pattern gave the part one.
-fn push_name(text: &mut String, part: &Part) -> Result<(), Error>
-    ensures appends { OnOk result (text_of text.new ≡ text_of text.old ++ printed_name (part_view part.now)) }
-    ensures memory { IfErr result (λ error. error ≡ errors.OutOfMemory) }
-{
-    if !has_custom_name(part) {
-        return Ok(());
-    }
-    push_text(text, ":")?;
-    push_text(text, &part.name)
-}
+impl Writable for Matched<'_> {
+    ghost text = { λ matched. let part = part_view matched.part.now in printed_match (options_view matched.options.now) part.kind part matched.asterisk };
 
-/// Appends what a part matches, which a name alone does not tell.
-fn push_match(
-    text: &mut String,
-    options: &Options,
-    part: &Part,
-    asterisk: bool,
-) -> Result<(), Error>
-    ensures appends { let view = part_view part.now in OnOk result (text_of text.new ≡ text_of text.old ++ printed_match (options_view options.now) view.kind view asterisk) }
-    ensures memory { IfErr result (λ error. error ≡ errors.OutOfMemory) }
-{
-    match part.kind {
-        PartType::FixedText => Ok(()),
-        PartType::Regexp => push_regexp(text, &part.value),
-        PartType::SegmentWildcard => push_segment_wildcard(text, options, part),
-        PartType::FullWildcard if asterisk => push_text(text, "*"),
-        PartType::FullWildcard => push_regexp(text, FULL_WILDCARD_REGEXP_VALUE),
+    fn write_to<W: Writer>(&self, writer: &mut W) {
+        match self.part.kind {
+            PartType::FixedText => (),
+            PartType::Regexp => Captured(self.part.value.as_str()).write_to(writer),
+            PartType::SegmentWildcard if has_custom_name(self.part) => (),
+            PartType::SegmentWildcard => Captured(SegmentWildcard(self.options)).write_to(writer),
+            PartType::FullWildcard if self.asterisk => writer.write_char('*'),
+            PartType::FullWildcard => Captured(FULL_WILDCARD_REGEXP_VALUE).write_to(writer),
+        }
     }
 }
 
-/// Appends a regular expression in brackets.
-fn push_regexp(text: &mut String, regexp: &str) -> Result<(), Error>
-    ensures appends { OnOk result (text_of text.new ≡ text_of text.old ++ captured (chars regexp.now)) }
-    ensures memory { IfErr result (λ error. error ≡ errors.OutOfMemory) }
-{
-    push_text(text, "(")?;
-    push_text(text, regexp)?;
-    push_text(text, ")")
-}
+/// The suffix of a part. A backslash keeps it from the name before it, which would go on with it.
+#[derive(Clone, Copy)]
+struct Suffix<'a>(&'a Part);
 
-/// Appends the regular expression of a segment in brackets, or nothing behind a name.
-fn push_segment_wildcard(text: &mut String, options: &Options, part: &Part) -> Result<(), Error>
-    ensures appends { OnOk result (text_of text.new ≡ text_of text.old ++ printed_match (options_view options.now) kinds.SegmentWildcard (part_view part.now) false) }
-    ensures memory { IfErr result (λ error. error ≡ errors.OutOfMemory) }
-{
-    if has_custom_name(part) {
-        return Ok(());
+impl Writable for Suffix<'_> {
+    ghost text = { λ suffix. printed_suffix (part_view suffix.0.now) };
+
+    fn write_to<W: Writer>(&self, writer: &mut W) {
+        let suffix = Escaped::pattern(&self.0.suffix);
+        if goes_on_with_suffix(self.0) {
+            ('\\', suffix).write_to(writer);
+        } else {
+            suffix.write_to(writer);
+        }
     }
-    push_text(text, "(")?;
-    options.push_segment_wildcard(text)?;
-    push_text(text, ")")
-}
-
-/// Appends the suffix. A backslash keeps it from the name before it, which would go on with it.
-fn push_suffix(text: &mut String, part: &Part) -> Result<(), Error>
-    ensures appends { OnOk result (text_of text.new ≡ text_of text.old ++ printed_suffix (part_view part.now)) }
-    ensures memory { IfErr result (λ error. error ≡ errors.OutOfMemory) }
-{
-    if goes_on_with_suffix(part) {
-        push_text(text, "\\")?;
-    }
-    push_escaped_pattern(text, &part.suffix)
-}
-
-/// Appends a text, with a backslash before each character that means more than itself in a pattern.
-///
-/// <https://urlpattern.spec.whatwg.org/#escape-a-pattern-string>
-pub(crate) fn push_escaped_pattern(text: &mut String, input: &str) -> Result<(), Error>
-    ensures appends { OnOk result (text_of text.new ≡ text_of text.old ++ escaped_pattern (chars input.now)) }
-    ensures memory { IfErr result (λ error. error ≡ errors.OutOfMemory) }
-{
-    for c in input.chars() {
-        push_escaped_char(text, c)?;
-    }
-    Ok(())
-}
-
-/// Appends a character, with a backslash before it if it means more than itself in a pattern.
-fn push_escaped_char(text: &mut String, c: char) -> Result<(), Error>
-    ensures appends { OnOk result (text_of text.new ≡ text_of text.old ++ escaped_pattern (c ∷ [])) }
-    ensures memory { IfErr result (λ error. error ≡ errors.OutOfMemory) }
-{
-    if is_pattern_mark(c) {
-        text.push('\\')?;
-    }
-    text.push(c)?;
-    Ok(())
-}
-
-/// Whether the character means more than itself in a pattern.
-fn is_pattern_mark(c: char) -> bool
-    ensures { result ≡ is_among pattern_marks c }
-{
-    matches!(c, '+' | '*' | '?' | ':' | '{' | '}' | '(' | ')' | '\\')
 }
 
 /// Whether the part has to stand between braces.

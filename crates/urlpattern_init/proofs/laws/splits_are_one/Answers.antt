@@ -1,5 +1,4 @@
 use Rattle.urlpattern_core.specs.Compiling.{MayRefuseAtFirst}
-use Rattle.std.specs.Prelude.{false}
 use Rattle.urlpattern_init.proofs.SplitExists.{split_exists}
 use Rattle.urlpattern_init.proofs.SplitUnique.{splits_one, splits_one_given}
 use Rattle.urlpattern_init.specs.SpecialProtocol.{IsSpecialBy}

@@ -1,8 +1,0 @@
-use Rattle.std.proofs.Common.{rules, append_assoc}
-use Rattle.std.proofs.lemmas.Result.{IfOk-equal}
-use Rattle.std.specs.Str.{chars}
-use Rattle.urlpattern_core.proofs.component.printed.push_name.Goals as goal
-
-pub returns-clause-appends : goal.returns-clause-appends
-unfolding chars
-returns-clause-appends c = rw (← c.has_custom_name.ensures, c.if-not-has_custom_name.false) (search (rules, IfOk-equal, append_assoc))

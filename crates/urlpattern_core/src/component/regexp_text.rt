@@ -1,0 +1,208 @@
+//! The regular expression of a list of parts.
+//!
+//! <https://urlpattern.spec.whatwg.org/#generate-a-regular-expression-and-name-list>
+
+ghost use Rattle.std.specs.Prelude.{◌≡◌, ◌++◌, map, IfErr, IfOk};
+ghost use Rattle.urlpattern_syntax.specs.declared.error.Error.TheVariants as errors;
+ghost use Rattle.urlpattern_syntax.specs.Options.{options_view};
+ghost use Rattle.urlpattern_syntax.specs.Parts.{part_view};
+ghost use Rattle.urlpattern_syntax.specs.RegexpText.{affixed_regexp, bare_regexp, captured, escaped_regexp, fixed_regexp, grouped, matched_by, part_regexp, regexp_text, repeated_regexp};
+ghost use Rattle.urlpattern_syntax.specs.Text.{text_of};
+ghost use Rattle.urlpattern_syntax.specs.Writing.{escaped_text};
+
+use crate::error::Error;
+use crate::parser::{FULL_WILDCARD_REGEXP_VALUE, Options, Part, PartModifier, PartType};
+use std::alloc::Global;
+use urlpattern_syntax::escape::{Escaped, SegmentWildcard};
+use urlpattern_syntax::writing::{Writable, Writer, written};
+
+/// The regular expression of a list of parts.
+///
+/// The error is that memory ran out.
+pub(super) fn generate_regular_expression(
+    alloc: Global,
+    part_list: &[Part],
+    options: &Options,
+) -> Result<String, Error>
+    ensures text { IfOk result (λ text. text_of text ≡ regexp_text (options_view options.now) (map part_view part_list.now)) }
+    ensures memory { IfErr result (λ error. error ≡ errors.OutOfMemory) }
+{
+    written(alloc, &RegexpText { part_list, options })
+}
+
+/// A text in brackets that capture.
+#[derive(Clone, Copy)]
+pub(super) struct Captured<T>(pub T);
+
+impl<T: Writable> Writable for Captured<T> {
+    ghost text = { λ piece. captured (T.text piece.0) };
+
+    fn write_to<W: Writer>(&self, writer: &mut W) {
+        writer.write_char('(');
+        self.0.write_to(writer);
+        writer.write_char(')');
+    }
+}
+
+/// A text in brackets that do not capture.
+#[derive(Clone, Copy)]
+struct Grouped<T>(T);
+
+impl<T: Writable> Writable for Grouped<T> {
+    ghost text = { λ piece. grouped (T.text piece.0) };
+
+    fn write_to<W: Writer>(&self, writer: &mut W) {
+        writer.write_str("(?:");
+        self.0.write_to(writer);
+        writer.write_char(')');
+    }
+}
+
+/// The regular expression of a list of parts.
+#[derive(Clone, Copy)]
+struct RegexpText<'a> {
+    part_list: &'a [Part],
+    options: &'a Options,
+}
+
+impl Writable for RegexpText<'_> {
+    ghost text = { λ list. regexp_text (options_view list.options.now) (map part_view list.part_list.now) };
+
+    fn write_to<W: Writer>(&self, writer: &mut W) {
+        writer.write_char('^');
+        for part in self.part_list {
+            let options = self.options;
+            PartRegexp { part, options }.write_to(writer);
+        }
+        writer.write_char('$');
+    }
+}
+
+/// The regular expression of a part.
+#[derive(Clone, Copy)]
+struct PartRegexp<'a> {
+    part: &'a Part,
+    options: &'a Options,
+}
+
+impl Writable for PartRegexp<'_> {
+    ghost text = { λ regexp. part_regexp (options_view regexp.options.now) (part_view regexp.part.now) };
+
+    fn write_to<W: Writer>(&self, writer: &mut W) {
+        match self.part.kind {
+            PartType::FixedText => self.write_fixed(writer),
+            _ if self.part.prefix.is_empty() && self.part.suffix.is_empty() => {
+                self.write_bare(writer);
+            }
+            _ => self.write_affixed(writer),
+        }
+    }
+}
+
+impl<'a> PartRegexp<'a> {
+    /// The value of a fixed text.
+    fn value(&self) -> Escaped<'a>
+        ensures { escaped_text result ≡ escaped_regexp (options_view self.now.options.now) (text_of self.now.part.now.value) }
+    {
+        Escaped::regexp(&self.part.value, self.options)
+    }
+
+    /// The prefix of a group.
+    fn prefix(&self) -> Escaped<'a>
+        ensures { escaped_text result ≡ escaped_regexp (options_view self.now.options.now) (text_of self.now.part.now.prefix) }
+    {
+        Escaped::regexp(&self.part.prefix, self.options)
+    }
+
+    /// The suffix of a group.
+    fn suffix(&self) -> Escaped<'a>
+        ensures { escaped_text result ≡ escaped_regexp (options_view self.now.options.now) (text_of self.now.part.now.suffix) }
+    {
+        Escaped::regexp(&self.part.suffix, self.options)
+    }
+
+    /// Writes a fixed text, in brackets if it has a modifier.
+    fn write_fixed<W: Writer>(&self, writer: &mut W)
+        requires { W.Fits writer.old (fixed_regexp self.now.part.now.modifier (escaped_regexp (options_view self.now.options.now) (text_of self.now.part.now.value))) }
+        ensures { W.Writes writer.old (fixed_regexp self.now.part.now.modifier (escaped_regexp (options_view self.now.options.now) (text_of self.now.part.now.value))) writer.new }
+    {
+        match self.part.modifier {
+            PartModifier::None => self.value().write_to(writer),
+            _ => (Grouped(self.value()), self.part.modifier.as_str()).write_to(writer),
+        }
+    }
+
+    /// Writes a group that has neither prefix nor suffix.
+    fn write_bare<W: Writer>(&self, writer: &mut W)
+        requires { W.Fits writer.old (bare_regexp self.now.part.now.modifier (matched_by (options_view self.now.options.now) self.now.part.now.kind (text_of self.now.part.now.value))) }
+        ensures { W.Writes writer.old (bare_regexp self.now.part.now.modifier (matched_by (options_view self.now.options.now) self.now.part.now.kind (text_of self.now.part.now.value))) writer.new }
+    {
+        let modifier = self.part.modifier.as_str();
+        match self.part.modifier {
+            PartModifier::None | PartModifier::Optional => {
+                (Captured(Matched(*self)), modifier).write_to(writer);
+            }
+            PartModifier::ZeroOrMore | PartModifier::OneOrMore => {
+                Captured((Grouped(Matched(*self)), modifier)).write_to(writer);
+            }
+        }
+    }
+
+    /// Writes a group that has a prefix or a suffix.
+    fn write_affixed<W: Writer>(&self, writer: &mut W)
+        requires { W.Fits writer.old (affixed_regexp self.now.part.now.modifier (escaped_regexp (options_view self.now.options.now) (text_of self.now.part.now.prefix)) (matched_by (options_view self.now.options.now) self.now.part.now.kind (text_of self.now.part.now.value)) (escaped_regexp (options_view self.now.options.now) (text_of self.now.part.now.suffix))) }
+        ensures { W.Writes writer.old (affixed_regexp self.now.part.now.modifier (escaped_regexp (options_view self.now.options.now) (text_of self.now.part.now.prefix)) (matched_by (options_view self.now.options.now) self.now.part.now.kind (text_of self.now.part.now.value)) (escaped_regexp (options_view self.now.options.now) (text_of self.now.part.now.suffix))) writer.new }
+    {
+        match self.part.modifier {
+            PartModifier::None => Single(*self).write_to(writer),
+            PartModifier::Optional => (Single(*self), '?').write_to(writer),
+            PartModifier::ZeroOrMore => (Repeated(*self), '?').write_to(writer),
+            PartModifier::OneOrMore => Repeated(*self).write_to(writer),
+        }
+    }
+}
+
+/// What one copy of a part matches, without its prefix and its suffix.
+#[derive(Clone, Copy)]
+struct Matched<'a>(PartRegexp<'a>);
+
+impl Writable for Matched<'_> {
+    ghost text = { λ matched. matched_by (options_view matched.0.options.now) matched.0.part.now.kind (text_of matched.0.part.now.value) };
+
+    fn write_to<W: Writer>(&self, writer: &mut W) {
+        match self.0.part.kind {
+            PartType::FixedText => self.0.value().write_to(writer),
+            PartType::Regexp => writer.write_str(&self.0.part.value),
+            PartType::SegmentWildcard => SegmentWildcard(self.0.options).write_to(writer),
+            PartType::FullWildcard => writer.write_str(FULL_WILDCARD_REGEXP_VALUE),
+        }
+    }
+}
+
+/// One copy of a group between its prefix and its suffix.
+#[derive(Clone, Copy)]
+struct Single<'a>(PartRegexp<'a>);
+
+impl Writable for Single<'_> {
+    ghost text = { λ single. grouped (escaped_regexp (options_view single.0.options.now) (text_of single.0.part.now.prefix) ++ captured (matched_by (options_view single.0.options.now) single.0.part.now.kind (text_of single.0.part.now.value)) ++ escaped_regexp (options_view single.0.options.now) (text_of single.0.part.now.suffix)) };
+
+    fn write_to<W: Writer>(&self, writer: &mut W) {
+        let matched = Captured(Matched(self.0));
+        Grouped((self.0.prefix(), matched, self.0.suffix())).write_to(writer);
+    }
+}
+
+/// One or more copies of a group between its prefix and its suffix, which also stand between the copies.
+#[derive(Clone, Copy)]
+struct Repeated<'a>(PartRegexp<'a>);
+
+impl Writable for Repeated<'_> {
+    ghost text = { λ repeated. repeated_regexp (escaped_regexp (options_view repeated.0.options.now) (text_of repeated.0.part.now.prefix)) (matched_by (options_view repeated.0.options.now) repeated.0.part.now.kind (text_of repeated.0.part.now.value)) (escaped_regexp (options_view repeated.0.options.now) (text_of repeated.0.part.now.suffix)) };
+
+    fn write_to<W: Writer>(&self, writer: &mut W) {
+        let (prefix, suffix) = (self.0.prefix(), self.0.suffix());
+        let matched = Grouped(Matched(self.0));
+        let more = Grouped((suffix, prefix, matched));
+        Grouped((prefix, Captured((matched, more, '*')), suffix)).write_to(writer);
+    }
+}

@@ -1,0 +1,33 @@
+-- Texts that are written piece by piece, into memory that was asked for at once.
+use Rattle.std.specs.Prelude.{◌≡◌, ◌+◌, ◌<◌, ◌≤◌, ◌++◌, ℕ, List, String, string_capacity, string_len}
+use Rattle.std.below.core.specs.declared.int.usize.TheConstants.{MAX}
+use Rattle.std.specs.Str.{chars}
+use Rattle.std.specs.declared.alloc.Global.{Global}
+use Rattle.urlpattern_syntax.specs.PatternText.{pattern_marks}
+use Rattle.urlpattern_syntax.specs.RegexpText.{escaped, escaped_marks}
+use Rattle.urlpattern_syntax.specs.Text.{byte_len, text_of}
+use Rattle.urlpattern_syntax.specs.declared.escape.Escaped.{Escaped}
+use Rattle.urlpattern_syntax.specs.declared.escape.Marks.{Marks}
+use Rattle.urlpattern_syntax.specs.declared.escape.Marks.TheVariants.{Pattern, Regexp}
+
+-- the bytes of this text were added to those that were counted, unless that is the largest number or more
+pub record Counts (before : ℕ) (piece : List ℕ) (after : ℕ) : Type 0 where
+  pub count : after < MAX → after ≡ before + byte_len piece
+
+-- the `String` has memory for this text too
+pub record HasRoom (string : String Global) (piece : List ℕ) : Type 0 where
+  pub room : string_len string + byte_len piece ≤ string_capacity string
+
+-- this text was put after that of the `String`, which has as much memory as before, or more
+pub record Appends (before : String Global) (piece : List ℕ) (after : String Global) : Type 0 where
+  pub text : text_of after ≡ text_of before ++ piece
+  pub capacity : string_capacity before ≤ string_capacity after
+
+-- the characters that take a backslash
+abbrev pub marks_of : Marks → List ℕ
+marks_of (Regexp syntax) = escaped_marks syntax
+marks_of Pattern = pattern_marks
+
+-- the text with its backslashes
+unfoldable pub escaped_text : Escaped → List ℕ
+escaped_text text = escaped (marks_of text.marks) (chars text.text.now)

@@ -1,0 +1,146 @@
+//! Texts with a backslash before each character that means more than itself.
+ghost use Rattle.std.specs.Prelude.{◌≡◌, ◌∷◌, [], IfErr, IfOk};
+ghost use Rattle.std.specs.Str.{chars};
+ghost use Rattle.urlpattern_syntax.specs.declared.error.Error.TheVariants as errors;
+ghost use Rattle.urlpattern_syntax.specs.Options.{options_view};
+ghost use Rattle.urlpattern_syntax.specs.PatternText.{escaped_pattern, pattern_marks};
+ghost use Rattle.urlpattern_syntax.specs.RegexpText.{escaped, escaped_regexp, regexp_marks, segment_wildcard};
+ghost use Rattle.urlpattern_syntax.specs.Text.{is_among, text_of};
+ghost use Rattle.urlpattern_syntax.specs.Writing.{escaped_text, marks_of};
+
+use crate::error::Error;
+use crate::parser::{Options, RegexSyntax};
+use crate::writing::{Writable, Writer, written};
+use std::alloc::Global;
+
+/// The text of a pattern that stands for this text.
+///
+/// The error is that memory ran out.
+///
+/// <https://urlpattern.spec.whatwg.org/#escape-a-pattern-string>
+pub fn escape_pattern_string(alloc: Global, input: &str) -> Result<String, Error>
+    ensures escaped { IfOk result (λ text. text_of text ≡ escaped_pattern (chars input.now)) }
+    ensures memory { IfErr result (λ error. error ≡ errors.OutOfMemory) }
+{
+    written(alloc, &Escaped::pattern(input))
+}
+
+/// The characters that take a backslash.
+#[derive(Clone, Copy)]
+pub enum Marks {
+    /// Those that mean more than themselves in a regular expression of this syntax.
+    Regexp(RegexSyntax),
+    /// Those that mean more than themselves in a pattern.
+    Pattern,
+}
+
+impl Marks {
+    /// Whether the character is one of these.
+    fn contain(self, c: char) -> bool
+        ensures { result ≡ is_among (marks_of self) c }
+    {
+        match self {
+            Self::Regexp(RegexSyntax::Rust) => is_regexp_mark(c),
+            Self::Regexp(RegexSyntax::EcmaScript) => is_regexp_mark(c) || c == '/',
+            Self::Pattern => is_pattern_mark(c),
+        }
+    }
+
+    /// Writes the text, with a backslash before each of these.
+    fn write_escaped<W: Writer>(self, text: &str, writer: &mut W)
+        requires { W.Fits writer.old (escaped (marks_of self) (chars text.now)) }
+        ensures { W.Writes writer.old (escaped (marks_of self) (chars text.now)) writer.new }
+    {
+        for c in text.chars() {
+            EscapedChar(self, c).write_to(writer);
+        }
+    }
+}
+
+/// Whether the character means more than itself in a regular expression.
+fn is_regexp_mark(c: char) -> bool
+    ensures { result ≡ is_among regexp_marks c }
+{
+    matches!(
+        c,
+        '.' | '+' | '*' | '?' | '^' | '$' | '{' | '}' | '(' | ')' | '[' | ']' | '|' | '\\'
+    )
+}
+
+/// Whether the character means more than itself in a pattern.
+fn is_pattern_mark(c: char) -> bool
+    ensures { result ≡ is_among pattern_marks c }
+{
+    matches!(c, '+' | '*' | '?' | ':' | '{' | '}' | '(' | ')' | '\\')
+}
+
+/// A text, with a backslash before each of some characters.
+#[derive(Clone, Copy)]
+pub struct Escaped<'a> {
+    marks: Marks,
+    text: &'a str,
+}
+
+impl<'a> Escaped<'a> {
+    /// The text as it stands in a regular expression.
+    pub fn regexp(text: &'a str, options: &Options) -> Self
+        ensures { escaped_text result ≡ escaped_regexp (options_view options.now) (chars text.now) }
+    {
+        Self {
+            marks: Marks::Regexp(options.regex_syntax),
+            text,
+        }
+    }
+
+    /// The text as it stands in a pattern.
+    pub fn pattern(text: &'a str) -> Self
+        ensures { escaped_text result ≡ escaped_pattern (chars text.now) }
+    {
+        Self {
+            marks: Marks::Pattern,
+            text,
+        }
+    }
+}
+
+impl Writable for Escaped<'_> {
+    ghost text = { escaped_text };
+
+    fn write_to<W: Writer>(&self, writer: &mut W) {
+        self.marks.write_escaped(self.text, writer);
+    }
+}
+
+/// A character, with a backslash before it if it is one of these.
+#[derive(Clone, Copy)]
+struct EscapedChar(Marks, char);
+
+impl Writable for EscapedChar {
+    ghost text = { λ piece. escaped (marks_of piece.0) (piece.1 ∷ []) };
+
+    fn write_to<W: Writer>(&self, writer: &mut W) {
+        if self.0.contain(self.1) {
+            ('\\', self.1).write_to(writer);
+        } else {
+            writer.write_char(self.1);
+        }
+    }
+}
+
+/// The regular expression of a segment: some characters that are no delimiter.
+///
+/// <https://urlpattern.spec.whatwg.org/#generate-a-segment-wildcard-regexp>
+#[derive(Clone, Copy)]
+pub struct SegmentWildcard<'a>(pub &'a Options);
+
+impl Writable for SegmentWildcard<'_> {
+    ghost text = { λ wildcard. segment_wildcard (options_view wildcard.0.now) };
+
+    fn write_to<W: Writer>(&self, writer: &mut W) {
+        let Some(delimiter) = self.0.delimiter_code_point else {
+            return writer.write_str(".+?");
+        };
+        let delimiter = EscapedChar(Marks::Regexp(self.0.regex_syntax), delimiter);
+        ("[^", delimiter, "]+?").write_to(writer);
+    }
+}

@@ -1,0 +1,82 @@
+//! The options of the components, and the texts that go by them.
+ghost use Rattle.std.specs.Prelude.{◌≡◌, IfErr, IfOk};
+ghost use Rattle.std.specs.Str.{chars};
+ghost use Rattle.urlpattern_syntax.specs.declared.error.Error.TheVariants as errors;
+ghost use Rattle.urlpattern_syntax.specs.Options.{default_options, hostname_options, options_view, pathname_options};
+ghost use Rattle.urlpattern_syntax.specs.RegexpText.{escaped_regexp, segment_wildcard};
+ghost use Rattle.urlpattern_syntax.specs.Text.{text_of};
+
+use super::{Options, RegexSyntax};
+use crate::error::Error;
+use crate::escape::{Escaped, SegmentWildcard};
+use crate::writing::written;
+use std::alloc::Global;
+
+impl Options {
+    /// The options of most components: no delimiter and no prefix code point.
+    ///
+    /// <https://urlpattern.spec.whatwg.org/#default-options>
+    pub fn default(alloc: Global) -> Self
+        ensures { options_view result ≡ default_options }
+    {
+        Self {
+            delimiter_code_point: None,
+            prefix_code_point: String::new(alloc),
+            regex_syntax: RegexSyntax::Rust,
+            ignore_case: false,
+        }
+    }
+
+    /// The options of a hostname, whose segments end at a dot.
+    ///
+    /// <https://urlpattern.spec.whatwg.org/#hostname-options>
+    pub fn hostname(alloc: Global) -> Self
+        ensures { options_view result ≡ hostname_options }
+    {
+        Self {
+            delimiter_code_point: Some('.'),
+            ..Self::default(alloc)
+        }
+    }
+
+    /// The options of a pathname, whose segments begin and end at a slash.
+    ///
+    /// The error is that memory ran out.
+    ///
+    /// <https://urlpattern.spec.whatwg.org/#pathname-options>
+    pub fn pathname(alloc: Global) -> Result<Self, Error>
+        ensures ok { IfOk result (λ options. options_view options ≡ pathname_options) }
+        ensures memory { IfErr result (λ error. error ≡ errors.OutOfMemory) }
+    {
+        Ok(Self {
+            delimiter_code_point: Some('/'),
+            prefix_code_point: String::from_str(alloc, "/")?,
+            regex_syntax: RegexSyntax::Rust,
+            ignore_case: false,
+        })
+    }
+
+    /// The text, with a backslash before each character that means more than itself in a regular expression.
+    ///
+    /// The error is that memory ran out.
+    ///
+    /// <https://urlpattern.spec.whatwg.org/#escape-a-regexp-string>
+    pub fn escape_regexp_string(&self, alloc: Global, input: &str) -> Result<String, Error>
+        ensures escaped { IfOk result (λ text. text_of text ≡ escaped_regexp (options_view self.now) (chars input.now)) }
+        ensures memory { IfErr result (λ error. error ≡ errors.OutOfMemory) }
+    {
+        written(alloc, &Escaped::regexp(input, self))
+    }
+
+    /// The regular expression of a segment: some characters that are no delimiter.
+    ///
+    /// The error is that memory ran out.
+    ///
+    /// <https://urlpattern.spec.whatwg.org/#generate-a-segment-wildcard-regexp>
+    pub fn generate_segment_wildcard_regexp(&self, alloc: Global) -> Result<String, Error>
+        ensures wildcard { IfOk result (λ text. text_of text ≡ segment_wildcard (options_view self.now)) }
+        ensures memory { IfErr result (λ error. error ≡ errors.OutOfMemory) }
+    {
+        written(alloc, &SegmentWildcard(self))
+    }
+}

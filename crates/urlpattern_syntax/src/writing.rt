@@ -1,0 +1,168 @@
+//! Texts that are written piece by piece, in one request for memory.
+//!
+//! A text says once how it is written, to any [`Writer`]. [`written`] first has its bytes counted, asks for that much
+//! memory, and then has it written, which can't fail. For the crates of this project.
+ghost use Rattle.std.specs.Prelude.{◌≡◌, ◌∷◌, ◌++◌, ℕ, List, [], IfErr, IfOk};
+ghost use Rattle.std.specs.Str.{chars};
+ghost use Rattle.urlpattern_syntax.specs.declared.error.Error.TheVariants as errors;
+ghost use Rattle.urlpattern_syntax.specs.Text.{text_of};
+ghost use Rattle.urlpattern_syntax.specs.Writing.{Appends, Counts, HasRoom};
+ghost use Rattle.urlpattern_syntax.specs.WritingLaws.{appends_both, appends_nothing, counts_both, counts_nothing, room_front, room_rest};
+
+use crate::error::Error;
+use std::alloc::Global;
+
+/// Where a text is written: a counter of its bytes, or a `String` that has memory for it.
+pub trait Writer {
+    ghost Fits: { Self → List ℕ → Type 0 };
+
+    ghost Writes: { Self → List ℕ → Self → Type 0 };
+
+    /// Writes the text.
+    fn write_str(&mut self, text: &str)
+        requires { Fits self.old (chars text.now) }
+        ensures { Writes self.old (chars text.now) self.new };
+
+    /// Writes the character.
+    fn write_char(&mut self, c: char)
+        requires { Fits self.old (c ∷ []) }
+        ensures { Writes self.old (c ∷ []) self.new };
+
+    ghost fits_front: { (writer : Self) (xs ys : List ℕ) → Fits writer (xs ++ ys) → Fits writer xs };
+
+    ghost fits_rest: { (before after : Self) (xs ys : List ℕ) → Fits before (xs ++ ys) → Writes before xs after → Fits after ys };
+
+    ghost writes_nothing: { (writer : Self) → Writes writer [] writer };
+
+    ghost writes_both: { (before between after : Self) (xs ys : List ℕ) → Writes before xs between → Writes between ys after → Writes before (xs ++ ys) after };
+}
+
+/// A counter of bytes, which stays at the largest number once it is there.
+#[derive(Drop)]
+struct Counter {
+    bytes: usize,
+}
+
+impl Writer for Counter {
+    ghost Fits = { λ counter text. Unit {0} };
+
+    ghost Writes = { λ before text after. Counts before.bytes text after.bytes };
+
+    fn write_str(&mut self, text: &str) {
+        self.bytes = self.bytes.saturating_add(text.len());
+    }
+
+    fn write_char(&mut self, c: char) {
+        self.bytes = self.bytes.saturating_add(c.len_utf8());
+    }
+
+    ghost fits_front = { λ counter xs ys fits. tt };
+
+    ghost fits_rest = { λ before after xs ys fits writes. tt };
+
+    ghost writes_nothing = { λ counter. counts_nothing counter.bytes };
+
+    ghost writes_both = { λ before between after xs ys first second. counts_both before.bytes between.bytes after.bytes xs ys first second };
+}
+
+/// A `String` takes what it has memory for, and then no request is made.
+impl Writer for String {
+    ghost Fits = { HasRoom };
+
+    ghost Writes = { Appends };
+
+    fn write_str(&mut self, text: &str) {
+        self.push_str(text).unwrap();
+    }
+
+    fn write_char(&mut self, c: char) {
+        self.push(c).unwrap();
+    }
+
+    ghost fits_front = { room_front };
+
+    ghost fits_rest = { room_rest };
+
+    ghost writes_nothing = { appends_nothing };
+
+    ghost writes_both = { appends_both };
+}
+
+/// A text that is written piece by piece.
+pub trait Writable {
+    ghost text: { Self → List ℕ };
+
+    /// Writes the text.
+    fn write_to<W: Writer>(&self, writer: &mut W)
+        requires { W.Fits writer.old (text self.now) }
+        ensures { W.Writes writer.old (text self.now) writer.new };
+}
+
+/// The text as a `String`, in one request for memory, or none if it is empty.
+///
+/// The error is that memory ran out, or that the text is longer than any `String`.
+pub fn written<T: Writable>(alloc: Global, text: &T) -> Result<String, Error>
+    ensures text { IfOk result (λ string. text_of string ≡ T.text text.now) }
+    ensures memory { IfErr result (λ error. error ≡ errors.OutOfMemory) }
+{
+    let mut counter = Counter { bytes: 0 };
+    text.write_to(&mut counter);
+    let bytes = counter.bytes;
+    if bytes == usize::MAX {
+        return Err(Error::OutOfMemory);
+    }
+    let mut string = String::with_capacity(alloc, bytes)?;
+    text.write_to(&mut string);
+    Ok(string)
+}
+
+/// A character as it is.
+impl Writable for char {
+    ghost text = { λ c. c ∷ [] };
+
+    fn write_to<W: Writer>(&self, writer: &mut W) {
+        writer.write_char(*self);
+    }
+}
+
+/// A text as it is.
+impl Writable for &str {
+    ghost text = { λ text. chars text.now };
+
+    fn write_to<W: Writer>(&self, writer: &mut W) {
+        writer.write_str(self);
+    }
+}
+
+/// Two texts, end to end.
+impl<A: Writable, B: Writable> Writable for (A, B) {
+    ghost text = { λ texts. A.text texts.0 ++ B.text texts.1 };
+
+    fn write_to<W: Writer>(&self, writer: &mut W) {
+        self.0.write_to(writer);
+        self.1.write_to(writer);
+    }
+}
+
+/// Three texts, end to end.
+impl<A: Writable, B: Writable, C: Writable> Writable for (A, B, C) {
+    ghost text = { λ texts. A.text texts.0 ++ B.text texts.1 ++ C.text texts.2 };
+
+    fn write_to<W: Writer>(&self, writer: &mut W) {
+        self.0.write_to(writer);
+        self.1.write_to(writer);
+        self.2.write_to(writer);
+    }
+}
+
+/// Four texts, end to end.
+impl<A: Writable, B: Writable, C: Writable, D: Writable> Writable for (A, B, C, D) {
+    ghost text = { λ texts. A.text texts.0 ++ B.text texts.1 ++ C.text texts.2 ++ D.text texts.3 };
+
+    fn write_to<W: Writer>(&self, writer: &mut W) {
+        self.0.write_to(writer);
+        self.1.write_to(writer);
+        self.2.write_to(writer);
+        self.3.write_to(writer);
+    }
+}
