@@ -64,16 +64,13 @@ fn tells_the_usage(rt: HostRuntime) -> Result<(), Fail> {
         "usage: urlpat component default|hostname|pathname PATTERN\n",
     )?;
     usage.push_str("       urlpat match PATTERN BASE INPUT\n")?;
-    usage.push_str("       urlpat first BASE INPUT PATTERN..\n")?;
-    let lines: [&[&str]; 8] = [
+    let lines: [&[&str]; 6] = [
         &[],
         &["component"],
         &["component", "pathname"],
         &["component", "search", "/"],
         &["component", "pathname", "/", "/"],
         &["match", "/", "-"],
-        &["match", USERS, "-", "https://example.com/", USERS],
-        &["first", "-", "https://example.com/"],
     ];
     for line in lines {
         expect_run(&rt, rt.alloc(), line, 2, "", &usage)?;
@@ -152,60 +149,6 @@ fn prints_the_groups_of_a_match(rt: HostRuntime) -> Result<(), Fail> {
         printed,
         "",
     )?;
-    Ok(())
-}
-
-#[test]
-fn tells_a_group_that_took_no_part_from_an_empty_one(rt: HostRuntime) -> Result<(), Fail> {
-    let rows = [
-        ("https://example.com/a", "x"),
-        ("https://example.com/a/", "x="),
-        ("https://example.com/a/b", "x=b"),
-    ];
-    for (input, group) in rows {
-        let line = ["match", "https://example.com/a{/:x(b*)}?", "-", input];
-        let mut printed = String::from_str(rt.alloc(), "username 0=\npassword 0=\n")?;
-        writeln!(printed, "pathname {group}\nsearch 0=\nhash 0=")?;
-        expect_run(&rt, rt.alloc(), &line, 0, &printed, "")?;
-    }
-    Ok(())
-}
-
-#[test]
-fn prints_the_first_match(rt: HostRuntime) -> Result<(), Fail> {
-    let printed = "match 1\nusername 0=\npassword 0=\npathname y=b\nsearch 0=\nhash 0=\n";
-    let input = "https://example.com/a/b";
-    let patterns = ["https://example.com/x", "https://example.com/a/:y"];
-    let line = ["first", "-", input, patterns[0], patterns[1]];
-    expect_run(&rt, rt.alloc(), &line, 0, printed, "")?;
-    let line = [
-        "first",
-        "-",
-        "https://example.com/",
-        patterns[0],
-        patterns[1],
-    ];
-    expect_run(&rt, rt.alloc(), &line, 1, "no match\n", "")?;
-    let line = ["first", "-", "nonsense", patterns[0]];
-    expect_run(&rt, rt.alloc(), &line, 1, "no match\n", "")?;
-    Ok(())
-}
-
-#[test]
-fn the_first_pattern_that_is_refused_ends_the_run(rt: HostRuntime) -> Result<(), Fail> {
-    let relative = "a relative input without a base URL is not valid\n";
-    let line = [
-        "first",
-        "-",
-        "https://example.com/",
-        "https://example.com/",
-        "/x",
-        "https://:",
-    ];
-    expect_run(&rt, rt.alloc(), &line, 2, "", relative)?;
-    let line = ["first", "https://example.com", "nonsense", "/x", "/{"];
-    let told = "parser error: expected token Close, found '' of type End\n";
-    expect_run(&rt, rt.alloc(), &line, 2, "", told)?;
     Ok(())
 }
 

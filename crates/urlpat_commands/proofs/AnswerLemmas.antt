@@ -1,15 +1,14 @@
 -- Lemmas on what the program answers.
-use Rattle.std.proofs.Common.{◌≡◌, ℕ, ◌+◌, ◌<◌, ◌≤◌, codes, get_or, inl, inr, Bool, false, List, [], ◌∷◌, ◌++◌, map, length, drop, refl, ap, ap₂, ◌∙◌, sym, subst, arith, append_assoc}
+use Rattle.std.proofs.Common.{◌≡◌, ℕ, ◌+◌, ◌<◌, ◌≤◌, codes, get_or, inl, inr, Bool, false, List, [], ◌∷◌, ◌++◌, map, length, refl, ap, ap₂, ◌∙◌, sym, subst, arith, append_assoc}
 use Rattle.std.proofs.lemmas.List.{get_or-map, length-map}
 use Rattle.std.proofs.lemmas.Str.{encodes-chars, IsUtf8-string_bytes}
 use Rattle.std.specs.Borrow.{Bor}
 use Rattle.regex.specs.declared.string.regex.Regex.{Regex}
 use Rattle.std.specs.Prelude.{IsSortedBy, MatchOption, Option, None, Some, String, string_bytes, encode_utf8_all}
 use Rattle.std.specs.declared.alloc.Global.{Global}
-use Rattle.urlpat_commands.specs.Answers.{IsAnswer, IsComponentFailure, IsComponentText, IsFailure, IsFirstText, IsMatchText, IsMatchTextBy, RefusesOneOf, RefusesPatternOf, TellsMatch, base_of, IsPatternOf, IsUnmatched, IsUnmatchedBy, IsUnmatchedByEach, default_pattern_options}
+use Rattle.urlpat_commands.specs.Answers.{IsAnswer, IsComponentFailure, IsComponentText, IsFailure, IsMatchText, IsMatchTextBy, RefusesPatternOf, base_of, IsPatternOf, IsUnmatched, IsUnmatchedBy, default_pattern_options}
 use Rattle.urlpat_commands.specs.declared.command.Failure.{Failure}
 use Rattle.urlpat_commands.specs.declared.command.Failure.TheVariants as failures
-use Rattle.urlpat_commands.specs.declared.command.Printed.{Printed}
 use Rattle.urlpattern.specs.Errors.{MemoryOr}
 use Rattle.urlpattern.specs.Patterns.{PatternView}
 use Rattle.urlpattern.specs.Text.{text_of}
@@ -85,50 +84,20 @@ four_words (x ∷ y ∷ z ∷ []) a b c d least most is_a is_b is_c is_d = absur
 four_words (x ∷ y ∷ z ∷ w ∷ []) a b c d least most is_a is_b is_c is_d = rw (is_a, is_b, is_c, is_d) refl
 four_words (x ∷ y ∷ z ∷ w ∷ v ∷ rest) a b c d least most is_a is_b is_c is_d = absurd (omega (arith, most))
 
--- the words of a command with one more word at least
-pub more_words : (words : List (String Global)) (a b c : String Global) (rest : List (String Global)) → 3 ≤ length words
-    → a ≡ get_or words 0 a → b ≡ get_or words 1 b → c ≡ get_or words 2 c → rest ≡ drop 3 words → words ≡ a ∷ b ∷ c ∷ rest
-more_words [] a b c rest least is_a is_b is_c is_rest = absurd (omega (arith, least))
-more_words (x ∷ []) a b c rest least is_a is_b is_c is_rest = absurd (omega (arith, least))
-more_words (x ∷ y ∷ []) a b c rest least is_a is_b is_c is_rest = absurd (omega (arith, least))
-more_words (x ∷ y ∷ z ∷ others) a b c rest least is_a is_b is_c is_rest = rw (is_a, is_b, is_c, is_rest) refl
-
 module _ (words : List (String Global)) (command kind pattern : String Global) (are : words ≡ command ∷ kind ∷ pattern ∷ []) (named : string_bytes command ≡ codes "component") where
   pub component_answers : (text : List ℕ) → IsComponentText (string_bytes kind) (string_bytes pattern) text → IsAnswer (map (λ word. string_bytes word) words) text 0
-  component_answers text told = rw are (inl (named, told, refl))
+  component_answers text told = rw are (named, told, refl)
 
   pub component_fails : (failure : Failure) → IsComponentFailure (string_bytes kind) (string_bytes pattern) failure → IsFailure (map (λ word. string_bytes word) words) failure
   component_fails failures.Usage told = rw are (λ command. told command.1)
-  component_fails (failures.Refused error) told = rw are (inl (named, told))
-
--- an answer that tells of lines, or that there are none, tells of a match
-pub tells_match : (Matched : List ℕ → Type 0) (Unmatched : Type 0) (lines : Option (String Global)) (answer : Printed)
-    → MatchOption lines ((string_bytes answer.text ≡ codes "no match\n") × (answer.status ≡ 1)) (λ text. (answer.text ≡ text) × (answer.status ≡ 0))
-    → MatchOption lines Unmatched (λ text. Matched (string_bytes text))
-    → TellsMatch (Matched (string_bytes answer.text)) Unmatched (string_bytes answer.text) answer.status
-tells_match Matched Unmatched None answer is unmatched = inr (unmatched, is.0, is.1)
-tells_match Matched Unmatched (Some text) answer is matched = inl (subst (λ (told : String Global). Matched (string_bytes told)) (sym is.0) matched, is.1)
+  component_fails (failures.Refused error) told = rw are (named, told)
 
 module _ (words : List (String Global)) (command pattern base input : String Global) (are : words ≡ command ∷ pattern ∷ base ∷ input ∷ []) (named : string_bytes command ≡ codes "match") where
-  pub match_answers : (text : List ℕ) (status : ℕ)
-      → TellsMatch (IsMatchText (string_bytes pattern) (string_bytes input) (base_of (string_bytes base)) text) (IsUnmatched (string_bytes pattern) (string_bytes input) (base_of (string_bytes base))) text status
-      → IsAnswer (map (λ word. string_bytes word) words) text status
-  match_answers text status told = rw are (inr (inl (named, told)))
+  pub match_answers : (text : List ℕ) → IsMatchText (string_bytes pattern) (string_bytes input) (base_of (string_bytes base)) text → IsAnswer (map (λ word. string_bytes word) words) text 0
+  match_answers text told = rw are (named, inl (told, refl))
+
+  pub no_match_answers : (text : List ℕ) → text ≡ codes "no match\n" → IsUnmatched (string_bytes pattern) (string_bytes input) (base_of (string_bytes base)) → IsAnswer (map (λ word. string_bytes word) words) text 1
+  no_match_answers text says told = rw are (named, inr (told, says, refl))
 
   pub match_fails : (error : Error) → MemoryOr (RefusesPatternOf (string_bytes pattern) (base_of (string_bytes base))) error → IsFailure (map (λ word. string_bytes word) words) (failures.Refused error)
-  match_fails error told = rw are (inr (inl (named, told)))
-
-abbrev texts_of : List (String Global) → List (List ℕ)
-texts_of words = map (λ word. string_bytes word) words
-
-module _ (command base input : String Global) (named : string_bytes command ≡ codes "first") where
-  pub first_answers : (words patterns : List (String Global)) → words ≡ command ∷ base ∷ input ∷ patterns → 0 < length patterns → (text : List ℕ) (status : ℕ)
-      → TellsMatch (IsFirstText (texts_of patterns) (string_bytes input) (base_of (string_bytes base)) text) (IsUnmatchedByEach (texts_of patterns) (string_bytes input) (base_of (string_bytes base))) text status
-      → IsAnswer (texts_of words) text status
-  first_answers words [] are some text status told = absurd (omega (arith, some))
-  first_answers words (pattern ∷ patterns) are some text status told = rw are (inr (inr (named, told)))
-
-  pub first_fails : (words patterns : List (String Global)) → words ≡ command ∷ base ∷ input ∷ patterns → 0 < length patterns → (error : Error)
-      → MemoryOr (RefusesOneOf (texts_of patterns) (base_of (string_bytes base))) error → IsFailure (texts_of words) (failures.Refused error)
-  first_fails words [] are some error told = absurd (omega (arith, some))
-  first_fails words (pattern ∷ patterns) are some error told = rw are (inr (inr (named, told)))
+  match_fails error told = rw are (named, told)

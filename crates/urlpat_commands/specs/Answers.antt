@@ -1,8 +1,8 @@
 -- What the program answers to its words, and what it refuses. Words and texts are bytes.
-use Rattle.std.specs.Prelude.{◌≡◌, ◌≢◌, ◌⊎◌, All, ◌++◌, ⊤, ℕ, false, if◌then◌else◌, List, [], ◌∷◌, length, map, max, codes, bytes_eq, IsPermutation, IsSorted, Option, None, Some, Result, Ok, Err, String, string_bytes, string_eq, encode_utf8_all, slice_get, take}
+use Rattle.std.specs.Prelude.{◌≡◌, ◌≢◌, ◌⊎◌, All, ◌++◌, ⊤, ℕ, false, if◌then◌else◌, List, [], ◌∷◌, length, map, max, codes, bytes_eq, IsPermutation, IsSorted, Option, None, Some, Result, Ok, Err, String, string_bytes, string_eq, encode_utf8_all}
 use Rattle.std.specs.Cmp.Lexicographic.{slice_cmp}
 use Rattle.std.specs.HashMap.{IsUnique, get_by_text, keys}
-use Rattle.std.specs.List.{AllZip, flat_map}
+use Rattle.std.specs.List.{flat_map}
 use Rattle.std.specs.Ordering.{nat_cmp}
 use Rattle.std.specs.Str.{chars}
 use Rattle.std.specs.declared.alloc.Global.{Global}
@@ -10,14 +10,13 @@ use Rattle.regex.specs.declared.string.regex.Regex.{Regex}
 use Rattle.urlpat_commands.specs.declared.command.Failure.{Failure}
 use Rattle.urlpat_commands.specs.declared.command.Failure.TheVariants as failures
 use Rattle.urlpat_commands.specs.Kinds.{IsKind, IsNamed}
-use Rattle.urlpat_commands.specs.Report.{component_lines, first_line, group_line}
+use Rattle.urlpat_commands.specs.Report.{component_lines, group_line}
 use Rattle.urlpattern.specs.Compiled.{Compiles, IsCompiled, RefusesPattern}
 use Rattle.urlpattern.specs.Compiling.{IsCompiledFrom}
 use Rattle.urlpattern.specs.Dialect.{HasMeaningOf}
 use Rattle.urlpattern.specs.Engines.{IsRegexOf, regex_answer}
 use Rattle.urlpattern.specs.Errors.{ErrorView}
 use Rattle.urlpattern.specs.Canonical.{IsRefusedByUrl}
-use Rattle.urlpattern.specs.FirstMatch.{IsFirstMatch}
 use Rattle.urlpattern.specs.Inputs.{IsInitOfString, RefusesText, parsed_text, text_bytes}
 use Rattle.urlpattern.specs.Laws.{Answered, listed}
 use Rattle.urlpattern.specs.Match.{HasNoMatch, IsMatch, result_view}
@@ -98,10 +97,10 @@ RefusesPatternOf text base error =
     RefusesText (chars text) base error
     ⊎ ((init : UrlPatternInit) × IsInitOfString (chars text) base init × RefusesPattern compiles_by_regex regex_answer init default_pattern_options error)
 
--- what a group captured, if it took part
-abbrev pub capture_of : Option (Option (String Global)) → Option (List ℕ)
-capture_of (Some (Some text)) = Some (string_bytes text)
-capture_of capture = None
+-- what a group captured, empty if it took no part
+abbrev pub capture_of : Option (Option (String Global)) → List ℕ
+capture_of (Some (Some text)) = string_bytes text
+capture_of capture = []
 
 -- The text has a line for each group of the component, in the order of the bytes of their names. No two have one name.
 pub record AreGroupLines (component : List ℕ) (found : UrlPatternComponentResult) (text : List ℕ) : Type 0 where
@@ -159,100 +158,25 @@ abbrev pub IsUnmatched : (pattern input : List ℕ) → (base : Option (List ℕ
 IsUnmatched pattern input base =
     (compiled : PatternView Regex) × IsPatternOf pattern base compiled × IsUnmatchedBy compiled input base
 
--- ---- what the first match captures
-
--- the constructor strings with this base URL are compiled to the patterns, one to each
-abbrev pub ArePatternsOf : (texts : List (List ℕ)) → (base : Option (List ℕ)) → List (PatternView Regex) → Type 0
-ArePatternsOf texts base patterns = AllZip (λ text pattern. IsPatternOf text base pattern) texts patterns
-
--- One of the constructor strings is refused with this error, and those before it are compiled.
-pub record RefusesOneOf (texts : List (List ℕ)) (base : Option (List ℕ)) (error : ErrorView) : Type 0 where
-  pub index : ℕ
-  pub text : List ℕ
-  pub earlier : List (PatternView Regex)
-  pub is_there : slice_get texts index ≡ Some text
-  pub are_compiled : ArePatternsOf (take index texts) base earlier
-  pub refuses : RefusesPatternOf text base error
-
--- A pattern of the list is the first that matches the input, a URL under this base URL, and the text tells its index and
--- what its groups capture.
-pub record IsFirstTextBy (compiled : List (PatternView Regex)) (input : List ℕ) (base : Option (List ℕ)) (text : List ℕ) : Type 0 where
-  pub url : UrlPatternMatchInput
-  pub index : ℕ
-  pub result : UrlPatternResult
-  pub lines : List ℕ
-  pub is_url : IsUrlOf input base url
-  pub is_first : IsFirstMatch regex_answer compiled url (Some (index, result_view result))
-  pub are_lines : AreLines (components_of result) lines
-  pub is_text : text ≡ first_line index ++ lines
-
-abbrev pub IsFirstText : (patterns : List (List ℕ)) → (input : List ℕ) → (base : Option (List ℕ)) → (text : List ℕ) → Type 0
-IsFirstText patterns input base text =
-    (compiled : List (PatternView Regex)) × ArePatternsOf patterns base compiled × IsFirstTextBy compiled input base text
-
--- no pattern of the list matches the input: `url` refuses it, or none has a match on it
-abbrev pub IsUnmatchedByAll : (compiled : List (PatternView Regex)) → (input : List ℕ) → (base : Option (List ℕ)) → Type 0
-IsUnmatchedByAll compiled input base =
-    IsRefusedText input base ⊎ ((url : UrlPatternMatchInput) × IsUrlOf input base url × IsFirstMatch regex_answer compiled url None)
-
-abbrev pub IsUnmatchedByEach : (patterns : List (List ℕ)) → (input : List ℕ) → (base : Option (List ℕ)) → Type 0
-IsUnmatchedByEach patterns input base =
-    (compiled : List (PatternView Regex)) × ArePatternsOf patterns base compiled × IsUnmatchedByAll compiled input base
-
 -- ---- commands
-
--- the answer tells a match, with the status 0, or that there is none, with 1
-abbrev pub TellsMatch : (Matched Unmatched : Type 0) → (text : List ℕ) → (status : ℕ) → Type 0
-TellsMatch Matched Unmatched text status = (Matched × (status ≡ 0)) ⊎ (Unmatched × (text ≡ codes "no match\n") × (status ≡ 1))
-
--- the answers to the words behind each command
-abbrev pub IsComponentAnswer : (words : List (List ℕ)) → (text : List ℕ) → (status : ℕ) → Type 0
-IsComponentAnswer (kind ∷ pattern ∷ []) text status = IsComponentText kind pattern text × (status ≡ 0)
-IsComponentAnswer words text status = ⊥
-
-abbrev pub IsMatchAnswer : (words : List (List ℕ)) → (text : List ℕ) → (status : ℕ) → Type 0
-IsMatchAnswer (pattern ∷ base ∷ input ∷ []) text status =
-    TellsMatch (IsMatchText pattern input (base_of base) text) (IsUnmatched pattern input (base_of base)) text status
-IsMatchAnswer words text status = ⊥
-
-abbrev pub IsFirstAnswer : (words : List (List ℕ)) → (text : List ℕ) → (status : ℕ) → Type 0
-IsFirstAnswer (base ∷ input ∷ pattern ∷ patterns) text status =
-    TellsMatch (IsFirstText (pattern ∷ patterns) input (base_of base) text) (IsUnmatchedByEach (pattern ∷ patterns) input (base_of base)) text status
-IsFirstAnswer words text status = ⊥
 
 -- the answer to the words, and the status of the run: 0, or 1 where an input is not matched
 abbrev pub IsAnswer : (words : List (List ℕ)) → (text : List ℕ) → (status : ℕ) → Type 0
-IsAnswer [] text status = ⊥
-IsAnswer (command ∷ words) text status =
-    ((command ≡ codes "component") × IsComponentAnswer words text status)
-    ⊎ ((command ≡ codes "match") × IsMatchAnswer words text status)
-    ⊎ ((command ≡ codes "first") × IsFirstAnswer words text status)
-
--- the words are a command
-abbrev pub IsCommand : (words : List (List ℕ)) → Type 0
-IsCommand (command ∷ kind ∷ pattern ∷ []) = (command ≡ codes "component") × IsKind kind
-IsCommand (command ∷ pattern ∷ base ∷ input ∷ []) = (command ≡ codes "match") ⊎ (command ≡ codes "first")
-IsCommand (command ∷ base ∷ input ∷ pattern ∷ patterns) = command ≡ codes "first"
-IsCommand words = ⊥
-
--- what the words behind each command are refused with, or memory ran out
-abbrev pub RefusesComponentWords : (words : List (List ℕ)) → Error → Type 0
-RefusesComponentWords (kind ∷ pattern ∷ []) error = MemoryOr (RefusesComponent kind pattern) error
-RefusesComponentWords words error = ⊥
-
-abbrev pub RefusesMatchWords : (words : List (List ℕ)) → Error → Type 0
-RefusesMatchWords (pattern ∷ base ∷ input ∷ []) error = MemoryOr (RefusesPatternOf pattern (base_of base)) error
-RefusesMatchWords words error = ⊥
-
-abbrev pub RefusesFirstWords : (words : List (List ℕ)) → Error → Type 0
-RefusesFirstWords (base ∷ input ∷ pattern ∷ patterns) error = MemoryOr (RefusesOneOf (pattern ∷ patterns) (base_of base)) error
-RefusesFirstWords words error = ⊥
+IsAnswer (command ∷ kind ∷ pattern ∷ []) text status =
+    (command ≡ codes "component") × IsComponentText kind pattern text × (status ≡ 0)
+IsAnswer (command ∷ pattern ∷ base ∷ input ∷ []) text status =
+    (command ≡ codes "match")
+    × ((IsMatchText pattern input (base_of base) text × (status ≡ 0))
+    ⊎ (IsUnmatched pattern input (base_of base) × (text ≡ codes "no match\n") × (status ≡ 1)))
+IsAnswer words text status = ⊥
 
 -- why there is none: the words are no command, something is refused, or memory ran out
 abbrev pub IsFailure : (words : List (List ℕ)) → Failure → Type 0
-IsFailure words failures.Usage = ¬ IsCommand words
-IsFailure [] (failures.Refused error) = ⊥
-IsFailure (command ∷ words) (failures.Refused error) =
-    ((command ≡ codes "component") × RefusesComponentWords words error)
-    ⊎ ((command ≡ codes "match") × RefusesMatchWords words error)
-    ⊎ ((command ≡ codes "first") × RefusesFirstWords words error)
+IsFailure (command ∷ kind ∷ pattern ∷ []) failures.Usage = (command ≡ codes "component") × IsKind kind → ⊥
+IsFailure (command ∷ pattern ∷ base ∷ input ∷ []) failures.Usage = command ≡ codes "match" → ⊥
+IsFailure words failures.Usage = ⊤
+IsFailure (command ∷ kind ∷ pattern ∷ []) (failures.Refused error) =
+    (command ≡ codes "component") × MemoryOr (RefusesComponent kind pattern) error
+IsFailure (command ∷ pattern ∷ base ∷ input ∷ []) (failures.Refused error) =
+    (command ≡ codes "match") × MemoryOr (RefusesPatternOf pattern (base_of base)) error
+IsFailure words (failures.Refused error) = ⊥

@@ -1,5 +1,5 @@
 -- What the program prints.
-use Rattle.std.specs.Prelude.{ℕ, List, [], ◌++◌, codes, decimal, Option, None, Some}
+use Rattle.std.specs.Prelude.{ℕ, List, ◌++◌, codes, Option, Some}
 use Rattle.std.specs.Fmt.{with_newline}
 use Rattle.std.specs.List.{flat_map}
 use Rattle.urlpat_commands.specs.declared.command.Failure.{Failure}
@@ -13,24 +13,14 @@ component_lines names regexp pattern =
     codes "names:" ++ flat_map (λ name. codes " " ++ name) names ++ codes "\nregexp: " ++ regexp
     ++ codes "\npattern: " ++ pattern ++ codes "\n"
 
--- what a group captured; of one that took no part nothing is printed
-abbrev pub capture_text : Option (List ℕ) → List ℕ
-capture_text None = []
-capture_text (Some capture) = codes "=" ++ capture
-
--- the line of a group of a match: its component, its name, and what it captured
-abbrev pub group_line : (component name : List ℕ) → (capture : Option (List ℕ)) → List ℕ
-group_line component name capture = component ++ codes " " ++ name ++ capture_text capture ++ codes "\n"
-
--- the line of the first match: its index
-abbrev pub first_line : (index : ℕ) → List ℕ
-first_line index = codes "match " ++ decimal index ++ codes "\n"
+-- the line of a group of a match: its component, its name, and what it captures
+abbrev pub group_line : (component name capture : List ℕ) → List ℕ
+group_line component name capture = component ++ codes " " ++ name ++ codes "=" ++ capture ++ codes "\n"
 
 -- how the program is used
 abbrev pub usage : List ℕ
 usage =
     codes "usage: urlpat component default|hostname|pathname PATTERN\n" ++ codes "       urlpat match PATTERN BASE INPUT\n"
-    ++ codes "       urlpat first BASE INPUT PATTERN..\n"
 
 -- why there is no answer: how the program is used, or the text of an error, where one is promised, and a line end
 abbrev pub failure_lines : Failure → Option (List ℕ)

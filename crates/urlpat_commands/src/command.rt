@@ -1,7 +1,7 @@
 //! The commands of the program: what its words ask for, and what it prints.
 
 ghost use Rattle.std.specs.Io.KnownBytes.{Appends};
-ghost use Rattle.std.specs.Prelude.{◌≡◌, ◌≢◌, ◌⊎◌, ℕ, List, codes, map, string_bytes, IfErr, IfOk, IfSome, MatchOption, OnOk, Ok, None};
+ghost use Rattle.std.specs.Prelude.{◌≡◌, ◌≢◌, ◌⊎◌, ℕ, List, map, string_bytes, IfErr, IfOk, IfSome, OnOk, Ok, None};
 ghost use Rattle.urlpat_commands.specs.Answers.{IsAnswer, IsComponentFailure, IsComponentText, IsCopy, IsFailure};
 ghost use Rattle.urlpat_commands.specs.Kinds.{IsKind, IsNamed};
 ghost use Rattle.urlpat_commands.specs.Report.{component_lines, failure_lines};
@@ -10,7 +10,6 @@ ghost use Rattle.urlpat_commands.specs.declared.command.Failure.TheVariants as f
 ghost use Rattle.urlpattern.specs.Options.{options_view};
 ghost use Rattle.urlpattern_syntax.specs.declared.error.Error.TheVariants as errors;
 
-use crate::first::first_groups;
 use crate::matching::matched_groups;
 use std::alloc::{AllocError, Global};
 use std::io;
@@ -34,9 +33,6 @@ const COMPONENT_USAGE: &str = "usage: urlpat component default|hostname|pathname
 /// How a match is asked for.
 const MATCH_USAGE: &str = "       urlpat match PATTERN BASE INPUT\n";
 
-/// How the first match is asked for.
-const FIRST_USAGE: &str = "       urlpat first BASE INPUT PATTERN..\n";
-
 /// An answer: what is printed, and the status to end with.
 #[derive(Drop)]
 struct Printed {
@@ -45,8 +41,8 @@ struct Printed {
 }
 
 /// Why there is no answer.
-#[derive(Debug, Drop)]
-pub enum Failure {
+#[derive(Drop)]
+enum Failure {
     /// The words are no command.
     Usage,
     /// The library refused a word, or memory ran out.
@@ -90,16 +86,11 @@ pub fn run<Out: Write, Err: Write>(
             Ok(()) => answer.status,
             Err(_) => FAILED,
         },
-        Err(failure) => fail(&failure, err),
+        Err(failure) => {
+            let _ = tell(&failure, err);
+            FAILED
+        }
     }
-}
-
-/// Reports why there is no answer, and gives the status to end with.
-pub fn fail<Err: Write>(failure: &Failure, err: &mut Err) -> u8
-    ensures { result ≡ FAILED }
-{
-    let _ = tell(failure, err);
-    FAILED
 }
 
 /// Writes why there is no answer: how the program is used, or the error and a line end.
@@ -107,7 +98,7 @@ fn tell<Err: Write>(failure: &Failure, err: &mut Err) -> io::Result<()>
     ensures { IfSome (failure_lines failure.now) (λ lines. OnOk result (Appends (Err.contents err.old) (Err.contents err.new) lines)) }
 {
     match failure {
-        Failure::Usage => write!(err, "{COMPONENT_USAGE}{MATCH_USAGE}{FIRST_USAGE}"),
+        Failure::Usage => write!(err, "{COMPONENT_USAGE}{MATCH_USAGE}"),
         Failure::Refused(error) => writeln!(err, "{error}"),
     }
 }
@@ -123,27 +114,15 @@ fn answer(alloc: Global, words: &[String]) -> Result<Printed, Failure>
             status: DONE,
         }),
         [command, pattern, base, input] if command.as_str() == "match" => {
-            Ok(answer_of(alloc, matched_groups(alloc, pattern, base, input)?)?)
-        }
-        [command, base, input, patterns @ ..]
-            if command.as_str() == "first" && !patterns.is_empty() => {
-            Ok(answer_of(alloc, first_groups(alloc, base, input, patterns)?)?)
+            match matched_groups(alloc, pattern, base, input)? {
+                Some(text) => Ok(Printed { text, status: DONE }),
+                None => Ok(Printed {
+                    text: String::from_str(alloc, "no match\n")?,
+                    status: NO_MATCH,
+                }),
+            }
         }
         _ => Err(Failure::Usage),
-    }
-}
-
-/// The lines of a match, or that there is none.
-fn answer_of(alloc: Global, lines: Option<String>) -> Result<Printed, AllocError>
-    ensures { IfOk result (λ answer. MatchOption lines ((string_bytes answer.text ≡ codes "no match\n") × (answer.status ≡ NO_MATCH))
-        (λ text. (answer.text ≡ text) × (answer.status ≡ DONE))) }
-{
-    match lines {
-        Some(text) => Ok(Printed { text, status: DONE }),
-        None => Ok(Printed {
-            text: String::from_str(alloc, "no match\n")?,
-            status: NO_MATCH,
-        }),
     }
 }
 

@@ -1,9 +1,8 @@
-//! The commands of the program `urlpat`: it matches a URL against a pattern, or finds the first of some patterns that matches
-//! it, and prints what the groups capture, or it shows what the pattern of one component is compiled to.
+//! The commands of the program `urlpat`: it matches a URL against a pattern and prints what the groups capture, or shows
+//! what the pattern of one component is compiled to.
 #![tactic(auto)]
 
 mod command;
-mod first;
 mod matching;
 
-pub use command::{FAILED, Failure, fail, run};
+pub use command::{FAILED, run};

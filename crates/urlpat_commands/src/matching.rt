@@ -43,7 +43,7 @@ pub fn matched_groups(
 }
 
 /// The base URL that a word stands for.
-pub fn base_of(word: &str) -> Option<&str>
+fn base_of(word: &str) -> Option<&str>
     ensures { option_copied result ≡ base_of word.now }
 {
     if word == NO_BASE { None } else { Some(word) }
@@ -52,7 +52,7 @@ pub fn base_of(word: &str) -> Option<&str>
 /// The pattern of a constructor string.
 ///
 /// The error is why the pattern or its base is refused, or that memory ran out.
-pub fn compiled(alloc: Global, pattern: &str, base: Option<&str>) -> Result<UrlPattern, Error>
+fn compiled(alloc: Global, pattern: &str, base: Option<&str>) -> Result<UrlPattern, Error>
     ensures compiled { IfOk result (λ compiled. IsPatternOf pattern.now (option_copied base.entry) (pattern_view compiled)) }
     ensures refused { IfErr result (MemoryOr (RefusesPatternOf pattern.now (option_copied base.entry))) }
 {
@@ -80,17 +80,15 @@ fn groups_of_match(
     let Some(found) = pattern.exec(alloc, url)? else {
         return Ok(None);
     };
-    let mut text = String::new(alloc);
-    let pushed = push_match(alloc, &mut text, &found);
+    let report = groups_report(alloc, &found);
     drop(found);
-    pushed?;
-    Ok(Some(text))
+    Ok(Some(report?))
 }
 
 /// What an input is matched as: its URL, or None where `url` refuses it.
 ///
 /// The error is that memory ran out.
-pub fn url_of(
+fn url_of(
     alloc: Global,
     base: Option<&str>,
     input: &str,
@@ -109,23 +107,20 @@ pub fn url_of(
     }
 }
 
-/// Appends a line for each group of a match.
-pub fn push_match(
-    alloc: Global,
-    text: &mut String,
-    found: &UrlPatternResult,
-) -> Result<(), AllocError>
-    ensures { OnOk result ((lines : List ℕ) × (string_bytes text.new ≡ string_bytes text.old ++ lines) × AreLines (components_of found.now) lines) }
+/// A line for each group of a match.
+fn groups_report(alloc: Global, found: &UrlPatternResult) -> Result<String, AllocError>
+    ensures { IfOk result (λ text. AreLines (components_of found.now) (string_bytes text)) }
 {
-    push_groups(alloc, text, "protocol", &found.protocol)?;
-    push_groups(alloc, text, "username", &found.username)?;
-    push_groups(alloc, text, "password", &found.password)?;
-    push_groups(alloc, text, "hostname", &found.hostname)?;
-    push_groups(alloc, text, "port", &found.port)?;
-    push_groups(alloc, text, "pathname", &found.pathname)?;
-    push_groups(alloc, text, "search", &found.search)?;
-    push_groups(alloc, text, "hash", &found.hash)?;
-    Ok(())
+    let mut text = String::new(alloc);
+    push_groups(alloc, &mut text, "protocol", &found.protocol)?;
+    push_groups(alloc, &mut text, "username", &found.username)?;
+    push_groups(alloc, &mut text, "password", &found.password)?;
+    push_groups(alloc, &mut text, "hostname", &found.hostname)?;
+    push_groups(alloc, &mut text, "port", &found.port)?;
+    push_groups(alloc, &mut text, "pathname", &found.pathname)?;
+    push_groups(alloc, &mut text, "search", &found.search)?;
+    push_groups(alloc, &mut text, "hash", &found.hash)?;
+    Ok(text)
 }
 
 /// Appends a line for each group of a component, in the order of the bytes of their names.
@@ -169,31 +164,29 @@ fn names_of<'a>(
     groups.keys().collect(alloc)
 }
 
-/// What a group captured. `None`: it took no part.
-fn capture_of<'a>(groups: &'a HashMap<String, Option<String>>, name: &str) -> Option<&'a str>
-    ensures { option_copied result ≡ capture_of (get_by_text groups.now name.now) }
+/// What a group captured, empty if it took no part.
+fn capture_of<'a>(groups: &'a HashMap<String, Option<String>>, name: &str) -> &'a str
+    ensures { result.now ≡ capture_of (get_by_text groups.now name.now) }
 {
     match groups.get(name) {
-        Some(Some(capture)) => Some(capture),
-        _ => None,
+        Some(Some(capture)) => capture,
+        _ => "",
     }
 }
 
-/// Appends the line of a group: its component and its name, and what it captured, if it took part.
+/// Appends the line of a group: its component, its name, and what it captures.
 fn push_group(
     text: &mut String,
     component: &str,
     name: &str,
-    capture: Option<&str>,
+    capture: &str,
 ) -> Result<(), AllocError>
-    ensures { OnOk result (string_bytes text.new ≡ string_bytes text.old ++ group_line component.now name.now (option_copied capture.entry)) }
+    ensures { OnOk result (string_bytes text.new ≡ string_bytes text.old ++ group_line component.now name.now capture.now) }
 {
     text.push_str(component)?;
     text.push(' ')?;
     text.push_str(name)?;
-    if let Some(capture) = capture {
-        text.push('=')?;
-        text.push_str(capture)?;
-    }
+    text.push('=')?;
+    text.push_str(capture)?;
     text.push('\n')
 }

@@ -1,6 +1,6 @@
-use Rattle.std.proofs.Common.{[], ◌++◌, sym, refl, append-nil}
+use Rattle.std.proofs.Common.{[], ◌++◌, ap, ◌∙◌, sym, refl, append-nil}
 use Rattle.urlpat_commands.proofs.AnswerLemmas.{behind}
-use Rattle.urlpat_commands.proofs.matching.push_match.Goals as goal
+use Rattle.urlpat_commands.proofs.matching.groups_report.Goals as goal
 
 pub returns : goal.returns
 returns c =
@@ -22,45 +22,41 @@ returns c =
     let whole = behind _ _ _ protocol.0 from_username protocol.1 (behind _ _ _ username.0 from_password username.1 (behind _ _ _ password.0 from_hostname password.1 (
     behind _ _ _ hostname.0 from_port hostname.1 (behind _ _ _ port.0 from_pathname port.1 (behind _ _ _ pathname.0 from_search pathname.1 (
     behind _ _ _ search.0 from_hash search.1 (behind _ _ _ hash.0 [] hash.1 (sym (append-nil _))))))))) in (
-      protocol.0 ++ from_username,
-      whole,
+      protocol.0,
+      from_username,
+      whole ∙ ap (λ text. text ++ (protocol.0 ++ from_username)) c.new-text.ensures.bytes,
+      protocol.2,
       (
-        protocol.0,
-        from_username,
+        username.0,
+        from_password,
         refl,
-        protocol.2,
+        username.2,
         (
-          username.0,
-          from_password,
+          password.0,
+          from_hostname,
           refl,
-          username.2,
+          password.2,
           (
-            password.0,
-            from_hostname,
+            hostname.0,
+            from_port,
             refl,
-            password.2,
+            hostname.2,
             (
-              hostname.0,
-              from_port,
+              port.0,
+              from_pathname,
               refl,
-              hostname.2,
+              port.2,
               (
-                port.0,
-                from_pathname,
+                pathname.0,
+                from_search,
                 refl,
-                port.2,
+                pathname.2,
                 (
-                  pathname.0,
-                  from_search,
+                  search.0,
+                  from_hash,
                   refl,
-                  pathname.2,
-                  (
-                    search.0,
-                    from_hash,
-                    refl,
-                    search.2,
-                    (hash.0, [], refl, hash.2, refl),
-                  ),
+                  search.2,
+                  (hash.0, [], refl, hash.2, refl),
                 ),
               ),
             ),
