@@ -73,15 +73,22 @@ fn first_match(
     input: &Value,
 ) -> Result<Result<First, Error>, Fault> {
     let base = optional_text(input, "base");
-    Ok(
-        match process_match_input(alloc, given::input(alloc, input)?, base) {
-            Ok(Some((input, _))) => patterns.first_match(alloc, input),
-            Ok(None) => Ok(None),
-            // Where answers were recorded, each pattern asked about the input anew, and an empty list did not.
-            Err(_) if patterns.is_empty() => Ok(None),
-            Err(error) => Err(error),
-        },
-    )
+    let given = given::input(alloc, input)?;
+    Ok(match process_match_input(alloc, given, base) {
+        Ok(Some((input, inputs))) => {
+            drop(inputs);
+            patterns.first_match(alloc, input)
+        }
+        Ok(None) => Ok(None),
+        // Where answers were recorded, each pattern asked about the input anew, and an empty list did not.
+        Err(error) => {
+            if patterns.is_empty() {
+                drop(error);
+                return Ok(Ok(None));
+            }
+            Err(error)
+        }
+    })
 }
 
 /// Whether the first match is the recorded one: null where there is none.
