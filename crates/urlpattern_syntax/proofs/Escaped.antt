@@ -1,6 +1,6 @@
 -- Lemmas on escaped texts.
-use Rattle.std.proofs.Common.{◌≡◌, ℕ, suc, ◌<◌, List, [], ◌∷◌, ◌++◌, length, get_or, take, drop, map, true, false, if◌then◌else◌, codes, sym, ap, ◌∙◌, drop-cons}
-use Rattle.std.proofs.lemmas.List.{map-id, take-append-drop}
+use Rattle.std.proofs.Common.{◌≡◌, ℕ, List, [], ◌∷◌, ◌++◌, true, false, if◌then◌else◌, codes, refl, sym, ap, ◌∙◌, append_assoc}
+use Rattle.std.proofs.lemmas.List.{append-nil, append_cancel_right}
 use Rattle.std.proofs.lemmas.List.Concat.{flat_map-append}
 use Rattle.urlpattern_syntax.specs.RegexpText.{escaped}
 use Rattle.urlpattern_syntax.specs.Text.{is_among}
@@ -18,17 +18,64 @@ pub escaped-other : (marks : List ℕ) (c : ℕ) → false ≡ is_among marks c 
 unfolding escaped
 escaped-other marks c e = rw (← e)
 
--- an element of a list, between those before it and those after it
-pub cut_at : {X : Type 0} (xs : List X) (i : ℕ) (x : X) → i < length xs → x ≡ get_or xs i x → xs ≡ take i xs ++ (x ∷ drop (suc i) xs)
-cut_at xs i x below here = sym (take-append-drop i xs) ∙ ap (λ rest. take i xs ++ rest) (drop-cons xs i x below ∙ ap (λ y. y ∷ drop (suc i) xs) (sym here))
+-- A text is escaped up to `rest`: this was written, and what is from the start of `unwritten` to there is still to be
+-- written as it stands.
+pub record IsEscapedTo (marks text unwritten rest written : List ℕ) : Type 0 where
+  pub seen : List ℕ
+  pub pending : List ℕ
+  pub are_seen : text ≡ seen ++ rest
+  pub are_pending : unwritten ≡ pending ++ rest
+  pub are_escaped : escaped marks seen ≡ written ++ pending
 
--- the character of a turn of a loop over a text
-pub turn_of : (text front : List ℕ) (c : ℕ) → map (λ x. x) front ≡ take (length front) text → (length front < length text) × (c ≡ get_or text (length front) c)
-    → text ≡ front ++ (c ∷ drop (suc (length front)) text)
-turn_of text front c before turn =
-    cut_at text (length front) c turn.0 turn.1 ∙ ap (λ xs. xs ++ (c ∷ drop (suc (length front)) text)) (sym before ∙ map-id front)
+pub escapes_from_start : (marks text : List ℕ) → IsEscapedTo marks text text text []
+unfolding escaped
+escapes_from_start marks text = record { seen = []; pending = []; are_seen = refl; are_pending = refl; are_escaped = refl }
 
--- the same of the text with its backslashes
-pub escaped-turn : (marks text front rest : List ℕ) (c : ℕ) → text ≡ front ++ (c ∷ rest) → escaped marks text ≡ escaped marks front ++ (escaped marks (c ∷ []) ++ escaped marks rest)
-escaped-turn marks text front rest c e =
-    ap (λ x. escaped marks x) e ∙ escaped-append marks front (c ∷ rest) ∙ ap (λ x. escaped marks front ++ x) (escaped-append marks (c ∷ []) rest)
+-- what was looked at, with one character more
+escaped_so_far : (marks seen written pending piece : List ℕ) (c : ℕ) → escaped marks seen ≡ written ++ pending → escaped marks (c ∷ []) ≡ piece
+    → escaped marks (seen ++ c ∷ []) ≡ written ++ (pending ++ piece)
+escaped_so_far marks seen written pending piece c before now =
+    escaped-append marks seen (c ∷ []) ∙ ap (λ xs. xs ++ escaped marks (c ∷ [])) before ∙ ap (λ xs. (written ++ pending) ++ xs) now ∙ append_assoc written pending piece
+
+pub escapes_other : (marks text unwritten rest written after : List ℕ) (c : ℕ) → IsEscapedTo marks text unwritten rest written → rest ≡ c ∷ after → false ≡ is_among marks c
+    → IsEscapedTo marks text unwritten after written
+escapes_other marks text unwritten rest written after c h cut other = record {
+  seen = h.seen ++ c ∷ [];
+  pending = h.pending ++ c ∷ [];
+  are_seen = h.are_seen ∙ ap (λ xs. h.seen ++ xs) cut ∙ sym (append_assoc h.seen (c ∷ []) after);
+  are_pending = h.are_pending ∙ ap (λ xs. h.pending ++ xs) cut ∙ sym (append_assoc h.pending (c ∷ []) after);
+  are_escaped = escaped_so_far marks h.seen written h.pending (c ∷ []) c h.are_escaped (escaped-other marks c other);
+}
+
+pub escapes_mark : (marks text unwritten rest written after run : List ℕ) (c : ℕ) → IsEscapedTo marks text unwritten rest written → rest ≡ c ∷ after → true ≡ is_among marks c
+    → unwritten ≡ run ++ rest → IsEscapedTo marks text rest after ((written ++ run) ++ codes "\\")
+escapes_mark marks text unwritten rest written after run c h cut mark is_run =
+    let same = append_cancel_right h.pending run rest (sym h.are_pending ∙ is_run) in
+    record {
+      seen = h.seen ++ c ∷ [];
+      pending = c ∷ [];
+      are_seen = h.are_seen ∙ ap (λ xs. h.seen ++ xs) cut ∙ sym (append_assoc h.seen (c ∷ []) after);
+      are_pending = cut;
+      are_escaped = escaped_so_far marks h.seen written h.pending (codes "\\" ++ c ∷ []) c h.are_escaped (escaped-mark marks c mark)
+          ∙ ap (λ xs. written ++ (xs ++ (codes "\\" ++ c ∷ []))) same ∙ sym (append_assoc written run (codes "\\" ++ c ∷ []))
+          ∙ sym (append_assoc (written ++ run) (codes "\\") (c ∷ []));
+    }
+
+-- what is still to be written
+pub escaped-rest : (marks text unwritten rest written : List ℕ) → (h : IsEscapedTo marks text unwritten rest written) → escaped marks text ≡ written ++ (h.pending ++ escaped marks rest)
+escaped-rest marks text unwritten rest written h =
+    ap (λ xs. escaped marks xs) h.are_seen ∙ escaped-append marks h.seen rest ∙ ap (λ xs. xs ++ escaped marks rest) h.are_escaped ∙ append_assoc written h.pending (escaped marks rest)
+
+pub escaped-at_mark : (marks text unwritten rest written after run : List ℕ) (c : ℕ) → IsEscapedTo marks text unwritten rest written → rest ≡ c ∷ after → true ≡ is_among marks c
+    → unwritten ≡ run ++ rest → escaped marks text ≡ written ++ (run ++ (codes "\\" ++ (c ∷ escaped marks after)))
+escaped-at_mark marks text unwritten rest written after run c h cut mark is_run =
+    let same = append_cancel_right h.pending run rest (sym h.are_pending ∙ is_run) in
+    let here = ap (λ xs. escaped marks xs) cut ∙ escaped-append marks (c ∷ []) after ∙ ap (λ xs. xs ++ escaped marks after) (escaped-mark marks c mark)
+        ∙ append_assoc (codes "\\") (c ∷ []) (escaped marks after) in
+    escaped-rest marks text unwritten rest written h ∙ ap (λ xs. written ++ (xs ++ escaped marks rest)) same ∙ ap (λ xs. written ++ (run ++ xs)) here
+
+pub escaped-at_end : (marks text unwritten rest written : List ℕ) → IsEscapedTo marks text unwritten rest written → rest ≡ [] → escaped marks text ≡ written ++ unwritten
+unfolding escaped
+escaped-at_end marks text unwritten rest written h e =
+    escaped-rest marks text unwritten rest written h ∙ ap (λ xs. written ++ (h.pending ++ escaped marks xs)) e
+    ∙ ap (λ xs. written ++ xs) (sym (h.are_pending ∙ ap (λ xs. h.pending ++ xs) e))

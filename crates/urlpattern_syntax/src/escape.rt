@@ -10,6 +10,7 @@ ghost use Rattle.urlpattern_syntax.specs.Writing.{escaped_text, marks_of};
 
 use crate::error::Error;
 use crate::parser::{Options, RegexSyntax};
+use crate::tokenizer::{before, split_first};
 use crate::writing::{Writable, Writer, written};
 use std::alloc::Global;
 
@@ -46,14 +47,22 @@ impl Marks {
         }
     }
 
-    /// Writes the text, with a backslash before each of these.
+    /// Writes the text, with a backslash before each of these. What stands between two backslashes is written at once.
     fn write_escaped<W: Writer>(self, text: &str, writer: &mut W)
         requires { W.Fits writer.old (escaped (marks_of self) (chars text.now)) }
         ensures { W.Writes writer.old (escaped (marks_of self) (chars text.now)) writer.new }
     {
-        for c in text.chars() {
-            EscapedChar(self, c).write_to(writer);
+        let mut unwritten = text;
+        let mut rest = text;
+        while let Some((first, after)) = split_first(rest) {
+            if self.contain(first) {
+                writer.write_str(before(unwritten, rest));
+                writer.write_char('\\');
+                unwritten = rest;
+            }
+            rest = after;
         }
+        writer.write_str(unwritten);
     }
 }
 

@@ -320,7 +320,7 @@ fn skip_name(text: &str) -> &str
 }
 
 /// What stands in a text before this end of it.
-fn before<'a>(text: &'a str, end: &str) -> &'a str
+pub(crate) fn before<'a>(text: &'a str, end: &str) -> &'a str
     requires { (front : List ℕ) × (chars text.now ≡ front ++ chars end.now) }
     ensures { chars text.now ≡ chars result.now ++ chars end.now }
 {
@@ -328,7 +328,7 @@ fn before<'a>(text: &'a str, end: &str) -> &'a str
 }
 
 /// The first character of a text and what follows it.
-fn split_first(text: &str) -> Option<(char, &str)>
+pub(crate) fn split_first(text: &str) -> Option<(char, &str)>
     ensures empty { IfNone result (chars text.now ≡ []) }
     ensures cut { IfSome result (λ found. chars text.now ≡ found.0 ∷ chars found.1.now) }
     ensures len { IfSome result (λ found. length found.1.now < length text.now) }
