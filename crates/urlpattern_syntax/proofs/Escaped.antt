@@ -1,6 +1,6 @@
 -- Lemmas on escaped texts.
-use Rattle.std.proofs.Common.{◌≡◌, ℕ, List, [], ◌∷◌, ◌++◌, true, false, if◌then◌else◌, codes, refl, sym, ap, ◌∙◌, append_assoc}
-use Rattle.std.proofs.lemmas.List.{append-nil, append_cancel_right}
+use Rattle.std.proofs.Common.{◌≡◌, ◌<◌, ℕ, suc, List, [], ◌∷◌, ◌++◌, length, get_or, take, drop, true, false, if◌then◌else◌, codes, refl, sym, ap, ◌∙◌, append_assoc, drop-cons}
+use Rattle.std.proofs.lemmas.List.{append_cancel_right, take-append-drop}
 use Rattle.std.proofs.lemmas.List.Concat.{flat_map-append}
 use Rattle.urlpattern_syntax.specs.RegexpText.{escaped}
 use Rattle.urlpattern_syntax.specs.Text.{is_among}
@@ -17,6 +17,10 @@ escaped-mark marks c e = rw (← e)
 pub escaped-other : (marks : List ℕ) (c : ℕ) → false ≡ is_among marks c → escaped marks (c ∷ []) ≡ c ∷ []
 unfolding escaped
 escaped-other marks c e = rw (← e)
+
+-- an element of a list, between those before it and those after it
+pub cut_at : {X : Type 0} (xs : List X) (i : ℕ) (x : X) → i < length xs → x ≡ get_or xs i x → xs ≡ take i xs ++ (x ∷ drop (suc i) xs)
+cut_at xs i x below here = sym (take-append-drop i xs) ∙ ap (λ rest. take i xs ++ rest) (drop-cons xs i x below ∙ ap (λ y. y ∷ drop (suc i) xs) (sym here))
 
 -- A text is escaped up to `rest`: this was written, and what is from the start of `unwritten` to there is still to be
 -- written as it stands.
@@ -73,9 +77,3 @@ escaped-at_mark marks text unwritten rest written after run c h cut mark is_run 
     let here = ap (λ xs. escaped marks xs) cut ∙ escaped-append marks (c ∷ []) after ∙ ap (λ xs. xs ++ escaped marks after) (escaped-mark marks c mark)
         ∙ append_assoc (codes "\\") (c ∷ []) (escaped marks after) in
     escaped-rest marks text unwritten rest written h ∙ ap (λ xs. written ++ (xs ++ escaped marks rest)) same ∙ ap (λ xs. written ++ (run ++ xs)) here
-
-pub escaped-at_end : (marks text unwritten rest written : List ℕ) → IsEscapedTo marks text unwritten rest written → rest ≡ [] → escaped marks text ≡ written ++ unwritten
-unfolding escaped
-escaped-at_end marks text unwritten rest written h e =
-    escaped-rest marks text unwritten rest written h ∙ ap (λ xs. written ++ (h.pending ++ escaped marks xs)) e
-    ∙ ap (λ xs. written ++ xs) (sym (h.are_pending ∙ ap (λ xs. h.pending ++ xs) e))

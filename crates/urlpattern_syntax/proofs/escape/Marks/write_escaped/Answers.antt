@@ -1,6 +1,6 @@
 use Rattle.std.proofs.Common.{◌∷◌, ◌++◌, [], rules, codes}
 use Rattle.std.specs.Str.{chars}
-use Rattle.urlpattern_syntax.proofs.Escaped.{escaped-at_end, escaped-at_mark, escapes_from_start, escapes_mark, escapes_other}
+use Rattle.urlpattern_syntax.proofs.Escaped.{escaped-at_mark, escapes_from_start, escapes_mark, escapes_other}
 use Rattle.urlpattern_syntax.specs.RegexpText.{escaped}
 use Rattle.urlpattern_syntax.specs.Writing.{marks_of}
 use Rattle.urlpattern_syntax.proofs.escape.Marks.write_escaped.Goals as goal
