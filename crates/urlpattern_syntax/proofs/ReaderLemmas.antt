@@ -97,12 +97,15 @@ gives_some reader more stands t = by_kind reader.token.kind refl
     first = token_view reader.token
 
     given : reader.token.kind ≢ End → (tokens : List TokenView) × Gives reader tokens
-    given other = (token_view reader.token ∷ more, record {
-      more = more;
-      first = refl;
-      closed = IsTokenList-more (token_view reader.token) more other stands.mark (are_token_list_after (reader_text reader) (chars reader.cursor.rest.now) more t);
-      others = inr (other, t);
-    })
+    given other = (
+      token_view reader.token ∷ more,
+      record {
+        more = more;
+        first = refl;
+        closed = IsTokenList-more (token_view reader.token) more other stands.mark (are_token_list_after (reader_text reader) (chars reader.cursor.rest.now) more t);
+        others = inr (other, t);
+      },
+    )
 
     by_kind : (kind : TokenType) → reader.token.kind ≡ kind → (tokens : List TokenView) × Gives reader tokens
     by_kind End e = (token_view reader.token ∷ [], record { more = []; first = refl; closed = e; others = inl (e, refl) })
@@ -168,13 +171,16 @@ module _ (old new : Reader) (whole : new.cursor.input.now ≡ old.cursor.input.n
     gives = λ rest g.
         let t : AreTokensAfter (reader_text new) (chars old.cursor.rest.now) rest =
         given_after new (chars old.cursor.rest.now) rest
-        (subst (λ text. IsTokenAfter text (chars old.cursor.rest.now) (token_view new.token) (chars new.cursor.rest.now)) (sym (ap chars whole)) after) g in
-        (token_view old.token ∷ rest, record {
-          more = rest;
-          first = refl;
-          closed = IsTokenList-more (token_view old.token) rest other stands.mark g.closed;
-          others = inr (other, subst (λ text. AreTokensAfter text (chars old.cursor.rest.now) rest) (ap chars whole) t);
-        }, refl);
+        (subst (λ text. IsTokenAfter text (chars old.cursor.rest.now) (token_view new.token) (chars new.cursor.rest.now)) (sym (ap chars whole)) after) g in (
+          token_view old.token ∷ rest,
+          record {
+            more = rest;
+            first = refl;
+            closed = IsTokenList-more (token_view old.token) rest other stands.mark g.closed;
+            others = inr (other, subst (λ text. AreTokensAfter text (chars old.cursor.rest.now) rest) (ap chars whole) t);
+          },
+          refl,
+        );
   }
 
 -- nothing is taken

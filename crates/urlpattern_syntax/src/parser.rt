@@ -200,11 +200,7 @@ impl<F: Fn(&str) -> Result<String, Error>> PatternParser<'_, F> {
                 },
                 Next::LacksClose => {
                     reader.read_to_end()?;
-                    return Err(expected_token(
-                        self.alloc,
-                        TokenType::Close,
-                        reader.token(),
-                    ));
+                    return Err(expected_token(self.alloc, TokenType::Close, reader.token()));
                 }
                 Next::Stops => return self.finish(list, reader),
             }
@@ -226,11 +222,7 @@ impl<F: Fn(&str) -> Result<String, Error>> PatternParser<'_, F> {
         }
         if reader.token().kind != TokenType::End {
             reader.read_to_end()?;
-            return Err(expected_token(
-                self.alloc,
-                TokenType::End,
-                reader.token(),
-            ));
+            return Err(expected_token(self.alloc, TokenType::End, reader.token()));
         }
         Ok(list.into_parts())
     }

@@ -184,12 +184,7 @@ impl<'a> Reader<'a> {
         let placeholder = self.placeholder()?;
         let after = self.texts()?;
         match self.close()? {
-            Some(modifier) => Ok(Next::Piece(Piece::Group(
-                before,
-                placeholder,
-                after,
-                modifier,
-            ))),
+            Some(modifier) => Ok(Next::Piece(Piece::Group(before, placeholder, after, modifier))),
             None => Ok(Next::LacksClose),
         }
     }

@@ -36,13 +36,18 @@ returns-in-None-clause-next c =
     let new = c.close.new.self in
     let lacks : Takes c.texts.new.self new (λ tokens rest. tokens ≡ rest) = rw c.in-None.is at c.in_ok-modifier.ensures.lacks in
     let other : new.token.kind ≢ Close = rw c.in-None.is at c.in_ok-modifier.ensures.other in
-    let none : is_placeholder c.texts.new.self.token.kind ≡ false = search rules in
+    let none : is_placeholder c.texts.new.self.token.kind ≡ false = sym c.is_placeholder.ensures ∙ c.if-not-is_placeholder.true in
     takes_then old c.texts.new.self new (λ tokens rest. (behind : List TokenView) × (tokens ≡ token ∷ behind) × BeginsWithTexts behind before rest) (λ tokens rest. tokens ≡ rest)
     (λ tokens rest. List ℕ → EndsAt tokens endings.LacksClose rest) first lacks
     (λ x y z gx gy gz p q point. subst (λ w. EndsAt w endings.LacksClose z) (sym p.1)
-    (open_ending token p.2.front p.0 z gz.more (token_view new.token) c.requires.opening (p.2.cut ∙ ap (λ w. p.2.front ++ w) q) gz.first
-    (subst (λ w. ¬ BeginsWithKind is_text w) q p.2.all, inl (before, p.2.are_texts,
-    subst (λ w. ¬ BeginsWithKind is_placeholder w) q (not_first is_placeholder (token_view c.texts.new.self.token) gy.more y gy.first none)))
+    (open_ending token p.2.front p.0 z gz.more (token_view new.token) c.requires.opening (p.2.cut ∙ ap (λ w. p.2.front ++ w) q) gz.first (
+      subst (λ w. ¬ BeginsWithKind is_text w) q p.2.all,
+      inl (
+        before,
+        p.2.are_texts,
+        subst (λ w. ¬ BeginsWithKind is_placeholder w) q (not_first is_placeholder (token_view c.texts.new.self.token) gy.more y gy.first none),
+      ),
+    )
     other))
 
 pub returns-in-Some-2-clause-next : goal.returns-in-Some-2-clause-next
@@ -96,7 +101,8 @@ returns-in-None-2-clause-next c =
     (λ tokens rest. List ℕ → EndsAt tokens endings.LacksClose rest) third lacks
     (λ x y z gx gy gz p q point. subst (λ w. EndsAt w endings.LacksClose z) (sym p.3)
     (open_ending token (p.4.front ++ p.5.front ++ p.6.front) p.0 z gz.more (token_view new.token) c.requires.opening
-    (filled_cut p.0 p.1 p.2 y before after what p.4 p.5 p.6 ∙ ap (λ w. (p.4.front ++ p.5.front ++ p.6.front) ++ w) q) gz.first
-    (subst (λ w. ¬ BeginsWithKind is_text w) q p.6.all,
-    inr (before, after, what, subst (IsFilled (p.4.front ++ p.5.front ++ p.6.front) before what after) q (filled p.0 p.1 p.2 y before after what p.4 p.5 p.6)))
+    (filled_cut p.0 p.1 p.2 y before after what p.4 p.5 p.6 ∙ ap (λ w. (p.4.front ++ p.5.front ++ p.6.front) ++ w) q) gz.first (
+      subst (λ w. ¬ BeginsWithKind is_text w) q p.6.all,
+      inr (before, after, what, subst (IsFilled (p.4.front ++ p.5.front ++ p.6.front) before what after) q (filled p.0 p.1 p.2 y before after what p.4 p.5 p.6)),
+    )
     other))

@@ -32,7 +32,7 @@ loop-self-preserved c =
       p.0 ++ token_view token ∷ [],
       p.1 ∙ ap (λ w. p.0 ++ w) q ∙ sym (append_assoc p.0 (token_view token ∷ []) z),
       subst (AreTexts (p.0 ++ token_view token ∷ [])) (sym pushed)
-      (AreTexts-push p.0 (text_of was) (chars value) (token_view token) p.2 is (ap (λ (t : TokenView). t.value) same)),
+          (AreTexts-push p.0 (text_of was) (chars value) (token_view token) p.2 is (ap (λ (t : TokenView). t.value) same)),
     ))
 
 pub returns-clause-texts : goal.returns-clause-texts
