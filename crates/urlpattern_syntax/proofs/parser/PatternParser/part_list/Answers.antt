@@ -80,7 +80,7 @@ returns-in-LacksClose-clause-refuses g c =
     subst (λ point. Takes old new (λ tokens rest. IsNext point tokens nexts.LacksClose rest)) (ap chars c.deref.ensures)
     (subst (λ next. Takes old new (λ tokens rest. IsNext (chars c.deref.result.now) tokens next rest)) c.in-LacksClose.is c.in_ok-piece.ensures.next) in
     let same : reader_text new ≡ text = ap chars takes.whole ∙ c.loop-list.invariant.whole in
-    group_fails options encoding text old new list read c.expected_token.result takes c.in_ok-read_to_end.ensures.tokens
+    group_fails options encoding text old new list read c.expected_token.result takes c.in_ok-read_to_end-in-LacksClose.ensures.tokens
     (subst (λ (token : Token). MemoryOr (λ view. view ≡ error_views.ExpectedToken Close token.kind (chars token.value.now)) c.expected_token.result) c.token.ensures c.expected_token.ensures)
 
 pub returns-in-Stops-clause-reads : goal.returns-in-Stops-clause-reads
