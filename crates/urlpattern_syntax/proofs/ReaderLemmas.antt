@@ -3,7 +3,6 @@ use Rattle.std.proofs.Common.{◌≡◌, ◌≢◌, ℕ, ◌+◌, ◌<◌, ◌�
 use Rattle.std.specs.Prelude.{Result, OnOk, IfErr, IfOk}
 use Rattle.std.specs.Str.{chars, IsUtf8}
 use Rattle.urlpattern_syntax.specs.declared.error.Error.{Error}
-use Rattle.urlpattern_syntax.specs.declared.error.Error.TheVariants as errors
 use Rattle.urlpattern_syntax.specs.declared.parser.pieces.Next.{Next}
 use Rattle.urlpattern_syntax.specs.declared.parser.pieces.Next.TheVariants as nexts
 use Rattle.urlpattern_syntax.specs.declared.parser.pieces.Reader.{Reader}
@@ -12,7 +11,7 @@ use Rattle.urlpattern_syntax.specs.declared.tokenizer.TokenType.TheVariants.{Ast
 use Rattle.urlpattern_syntax.specs.Cursors.{AreTokensAfter, IsPlace, IsTokenAfter, tokens_left}
 use Rattle.urlpattern_syntax.specs.Parsing.{Gives, IsModifierSpelled, IsShorter, Stands, StartsText, Takes, reader_left, reader_text}
 use Rattle.urlpattern_syntax.specs.Text.{BeginsAt, BeginsWith, byte_len}
-use Rattle.urlpattern_syntax.specs.Tokens.{AreTokens, IsCut, IsLexed, IsTokenOf, Skips, Spells, TellsFault, TokenView, end_of, is_ignored, token_view}
+use Rattle.urlpattern_syntax.specs.Tokens.{AreTokens, IsCut, IsLexed, IsTokenOf, Skips, Spells, TellsFault, TokenView, is_ignored, token_view}
 use Rattle.urlpattern_syntax.proofs.PieceLemmas.{IsTokenList-more, are_token_list_after, spelled_kind, spelled_modifier}
 use Rattle.urlpattern_syntax.proofs.TextLemmas.{byte_len-append, byte_len-chars}
 use Rattle.urlpattern_syntax.proofs.TokenLemmas.{IsCut-more, IsLexed-shorter, SkipsBy-joined, SkipsBy-none}

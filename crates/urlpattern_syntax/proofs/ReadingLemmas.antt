@@ -2,7 +2,7 @@
 use Rattle.std.proofs.Common.{◌≡◌, ◌≢◌, ℕ, Bool, true, false, not, List, [], ◌∷◌, ◌++◌, map, refl, sym, ap, ◌∙◌, subst, inl, inr, append_assoc}
 use Rattle.std.specs.Prelude.{Result, Ok, Err, bytes_eq, filter, if◌then◌else◌}
 use Rattle.std.proofs.Common.{◌+◌, ◌<◌, length, take, drop, get_or}
-use Rattle.std.specs.Prelude.{Contains, IfErr, IfOk, String, string_bytes}
+use Rattle.std.specs.Prelude.{Contains, IfErr, IfOk, String}
 use Rattle.std.specs.Str.{IsUtf8}
 use Rattle.std.proofs.lemmas.Str.{encodes-chars}
 use Rattle.urlpattern_syntax.specs.declared.error.Error.{Error}
@@ -12,7 +12,6 @@ use Rattle.std.specs.Str.{chars}
 use Rattle.std.proofs.lemmas.List.{append-nil, map-append, take-append-drop, take_more}
 use Rattle.std.proofs.lemmas.List.Elements.{Contains-append_left}
 use Rattle.urlpattern_syntax.specs.declared.parser.Part.{Part}
-use Rattle.std.proofs.Common.{arith}
 use Rattle.std.proofs.lemmas.Bool.{cond_both, false≢true, false_from_ne_true}
 use Rattle.std.proofs.lemmas.Slice.Eq.{bytes_eq-Decides}
 use Rattle.urlpattern_syntax.specs.declared.parser.PartModifier.{PartModifier}

@@ -1,5 +1,5 @@
 -- Lemmas on reading a text piece by piece, whatever tokens are left of it.
-use Rattle.std.proofs.Common.{◌≡◌, ◌⊎◌, ℕ, List, [], ◌∷◌, ◌++◌, refl, sym, ap, ◌∙◌, subst, inl, inr}
+use Rattle.std.proofs.Common.{◌≡◌, ◌⊎◌, ℕ, List, [], ◌∷◌, ◌++◌, refl, sym, ◌∙◌, subst, inl, inr}
 use Rattle.urlpattern_syntax.specs.declared.error.Error.{Error}
 use Rattle.urlpattern_syntax.specs.declared.error.Error.TheVariants as errors
 use Rattle.urlpattern_syntax.specs.declared.parser.pieces.Reader.{Reader}
@@ -8,7 +8,7 @@ use Rattle.urlpattern_syntax.specs.Errors.{ErrorView, error_view}
 use Rattle.urlpattern_syntax.specs.Errors.{ErrorView as error_views}
 use Rattle.urlpattern_syntax.specs.Options.{OptionsView}
 use Rattle.urlpattern_syntax.specs.Parsing.{AddsItem, AddsParts, BeginsWithPiece, EndsAt, FailsItem, FailsTokens, FaultOr, Gives, MemoryOr, PartListView, ReadsTokens, StartsText, Takes, pending_items, reader_text}
-use Rattle.urlpattern_syntax.specs.Pieces.{Ending, IsEnding, Piece}
+use Rattle.urlpattern_syntax.specs.Pieces.{IsEnding, Piece}
 use Rattle.urlpattern_syntax.specs.Pieces.{Ending as endings}
 use Rattle.urlpattern_syntax.specs.Reading.{Encoding, Expect, FirstFails, Reads, Refuses, encode_fixed, item, number_after}
 use Rattle.urlpattern_syntax.specs.Tokens.{AreTokens, TellsFault, TokenView, fault_view, token_view}

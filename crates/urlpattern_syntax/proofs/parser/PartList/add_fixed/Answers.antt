@@ -1,4 +1,4 @@
-use Rattle.std.proofs.Common.{◌≡◌, ◌++◌, ◌∷◌, [], Ok, Err, false, map, sym, ap, ◌∙◌, subst, inr, refl, rules, tests}
+use Rattle.std.proofs.Common.{◌≡◌, ◌++◌, ◌∷◌, [], Ok, false, map, sym, ap, ◌∙◌, subst, inr, refl}
 use Rattle.std.specs.Str.{chars}
 use Rattle.std.specs.Fn.{FnReturnsAt}
 use Rattle.std.proofs.lemmas.List.{append-nil, map-append}

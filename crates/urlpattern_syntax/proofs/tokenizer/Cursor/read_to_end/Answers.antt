@@ -1,4 +1,4 @@
-use Rattle.std.proofs.Common.{◌≡◌, ◌≢◌, ◌∷◌, [], subst, sym, ap, ◌∙◌, rules}
+use Rattle.std.proofs.Common.{◌≡◌, ◌≢◌, ◌∷◌, [], subst, ◌∙◌, rules}
 use Rattle.std.specs.Str.{chars}
 use Rattle.urlpattern_syntax.specs.declared.tokenizer.TokenType.TheVariants.{End}
 use Rattle.urlpattern_syntax.specs.Cursors.{IsPlace, IsTokenAfter}

@@ -1,7 +1,6 @@
-use Rattle.std.proofs.Common.{◌≡◌, ◌∷◌, ◌++◌, [], List, Bool, false, refl, ap, ◌∙◌, sym, subst, append_assoc, rules}
+use Rattle.std.proofs.Common.{◌≡◌, ◌∷◌, ◌++◌, [], List, false, refl, ap, ◌∙◌, sym, subst, append_assoc, rules}
 use Rattle.std.specs.Prelude.{IsTrue}
 use Rattle.std.specs.Str.{chars}
-use Rattle.urlpattern_syntax.specs.declared.tokenizer.Token.{Token}
 use Rattle.urlpattern_syntax.specs.Parsing.{BeginsWithTexts}
 use Rattle.urlpattern_syntax.specs.Pieces.{AreTexts, is_text}
 use Rattle.urlpattern_syntax.specs.Text.{text_of}
