@@ -7,6 +7,8 @@ pub mod PiecesExist
 pub mod ReadingLemmas
 pub mod PartListLemmas
 pub mod TokenLemmas
+pub mod ReaderLemmas
+pub mod TextReadingLemmas
 pub mod ErrorTextExamples
 pub mod RegexpTextExamples
 pub mod TokenExamples

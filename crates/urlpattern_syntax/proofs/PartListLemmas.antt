@@ -1,87 +1,31 @@
 -- Lemmas on reading a list of tokens piece by piece: what is read so far, one more piece, and the end.
-use Rattle.std.proofs.Common.{◌≡◌, ℕ, ◌+◌, ◌-◌, ◌≤◌, List, [], ◌∷◌, ◌++◌, length, take, drop, Option, Some, None, refl, sym, ap, ◌∙◌, subst, inl, append_assoc, arith}
-use Rattle.std.proofs.lemmas.List.{drop-map, length-append, length-map, length-drop, map-append, take-append-drop, take_rest}
-use Rattle.urlpattern_syntax.specs.declared.parser.pieces.Piece.{Piece as PieceValue}
-use Rattle.urlpattern_syntax.specs.declared.parser.pieces.Placeholder.{Placeholder as PlaceholderValue}
-use Rattle.std.proofs.Math.Seq.{drop-append_seam}
+use Rattle.std.proofs.Common.{◌≡◌, ℕ, ◌+◌, ◌≤◌, List, [], ◌∷◌, ◌++◌, Option, Some, None, refl, sym, ap, ◌∙◌, subst, inl, append_assoc, arith}
 use Rattle.urlpattern_syntax.specs.declared.error.Error.{Error}
 use Rattle.urlpattern_syntax.specs.declared.parser.PartModifier.TheVariants as modifiers
-use Rattle.urlpattern_syntax.specs.declared.tokenizer.Token.{Token}
 use Rattle.urlpattern_syntax.specs.declared.tokenizer.TokenType.TheVariants.{Close, End}
 use Rattle.urlpattern_syntax.specs.Errors.{ErrorView}
 use Rattle.urlpattern_syntax.specs.Errors.{ErrorView as error_views}
 use Rattle.urlpattern_syntax.specs.Options.{OptionsView}
-use Rattle.urlpattern_syntax.specs.Parsing.{AddsItem, AddsParts, BeginsWithPiece, FailsItem, FailsTokens, IsTokenList, MemoryOr, PartListView, ReadsTokens, item_demands, number_by, pending_items, placeholder_view, views}
-use Rattle.urlpattern_syntax.specs.Pieces.{ArePieces, Ending, IsEnding, IsPiece, IsPlaceholderOf, Matched, Piece}
-use Rattle.urlpattern_syntax.specs.Pieces.{Ending as endings, Matched as matched, Piece as kinds_of_piece}
+use Rattle.urlpattern_syntax.specs.Parsing.{AddsItem, AddsParts, FailsItem, FailsTokens, IsTokenList, MemoryOr, PartListView, ReadsTokens, item_demands, pending_items}
+use Rattle.urlpattern_syntax.specs.Pieces.{ArePieces, Ending, IsEnding, IsPiece, Piece}
+use Rattle.urlpattern_syntax.specs.Pieces.{Ending as endings, Piece as kinds_of_piece}
 use Rattle.urlpattern_syntax.specs.Reading.{AreMet, AreParts, Capture, Encoding, Expect, FirstFails, Fixed, Item, demands, demands_after, encode_fixed, item, items_from, items_of, joined_items, next_number, number_after, with_text}
 use Rattle.urlpattern_syntax.specs.RegexpText.{group_names}
-use Rattle.urlpattern_syntax.specs.Tokens.{TokenView, token_view}
+use Rattle.urlpattern_syntax.specs.Tokens.{TokenView}
 use Rattle.urlpattern_syntax.proofs.PiecesExist.{pieces_exist}
 use Rattle.urlpattern_syntax.proofs.ReadingLemmas.{AreMet-append, AreParts-append, EndsOther, EndsOther-push, FirstFails-before, FirstFails-behind, IsPlain, MemoryOr-weaker, demands-lacking, demands-pending, demands-split, item_demands-append, item_names, joined-other, names-AreParts, with_text-nil, with_text-other, with_text-twice}
 
--- ---- lists of tokens
-
-placeholder_some : (tokens : List TokenView) (name : Option (List ℕ)) (match : Matched) → IsPlaceholderOf tokens name match → 1 ≤ length tokens
-placeholder_some (token ∷ tokens) name match h = omega arith
-placeholder_some [] (Some name) matched.Segment h = let e = ap length h.0 in omega (arith, e)
-placeholder_some [] (Some name) (matched.Custom body) h = let e = ap length h.0 in omega (arith, e)
-placeholder_some [] None (matched.Custom body) h = let e = ap length h.0 in omega (arith, e)
-placeholder_some [] None matched.Anything h = let e = ap length h in omega (arith, e)
-placeholder_some [] (Some name) matched.Anything h = absurd h
-placeholder_some [] None matched.Segment h = absurd h
-
--- a piece has a token
-pub piece_some : (point : List ℕ) (front : List TokenView) (piece : Piece) (rest : List TokenView) → IsPiece point front piece rest → 1 ≤ length front
-piece_some point front (kinds_of_piece.Text text) rest h = let e = ap length h.1 in omega (arith, e)
-piece_some point front (kinds_of_piece.Bare prefix placeholder modifier) rest h =
-    let e = ap length h.cut ∙ length-append (h.front ++ h.middle) h.back in
-    let f = length-append h.front h.middle in
-    let some = placeholder_some h.middle placeholder.name placeholder.matched h.is_placeholder in
-    omega (arith, e, f, some)
-piece_some point front (kinds_of_piece.TextGroup text modifier) rest h = let e = ap length h.1.cut in omega (arith, e)
-piece_some point front (kinds_of_piece.Group before placeholder after modifier) rest h = let e = ap length h.1.cut in omega (arith, e)
-
--- what follows a piece is a shorter rest of the tokens, and the place where it begins is told by its length
-pub behind_is : (tokens behind : List Token) (at : ℕ) (front : List TokenView) → at ≤ length tokens → views (drop at tokens) ≡ front ++ views behind → views (drop (length tokens - length behind) tokens) ≡ views behind
-behind_is tokens behind at front le e =
-    let before = views (take at tokens) ++ front in
-    let whole : views tokens ≡ before ++ views behind =
-    ap views (sym (take-append-drop at tokens)) ∙ map-append token_view (take at tokens) (drop at tokens)
-    ∙ ap (λ x. views (take at tokens) ++ x) e ∙ sym (append_assoc (views (take at tokens)) front (views behind)) in
-    let lengths = sym (length-map tokens token_view) ∙ ap length whole ∙ length-append before (views behind) in
-    let shown = length-map behind token_view in
-    let place : length tokens - length behind ≡ length before = omega (arith, lengths, shown) in
-    sym (drop-map token_view (length tokens - length behind) tokens)
-    ∙ ap (λ n. drop n (views tokens)) place ∙ ap (drop (length before)) whole ∙ drop-append_seam before (views behind)
-
-pub behind_shorter : (tokens behind : List Token) (at : ℕ) (front : List TokenView) → at ≤ length tokens → views (drop at tokens) ≡ front ++ views behind → 1 ≤ length front → at + 1 + length behind ≤ length tokens
-behind_shorter tokens behind at front le e some =
-    let lengths = sym (length-map (drop at tokens) token_view) ∙ ap length e ∙ length-append front (views behind) in
-    let shown = length-map behind token_view in
-    let dropped = length-drop at tokens in
-    omega (arith, lengths, shown, dropped, some, le)
-
--- what the code finds behind a place, of the rest of the tokens
-pub piece_at : (point asked : List ℕ) (tokens behind : List Token) (at : ℕ) (value : PieceValue) → asked ≡ point → BeginsWithPiece asked (views (take (length tokens - at) (drop at tokens))) value (views behind) → BeginsWithPiece point (views (drop at tokens)) value (views behind)
-piece_at point asked tokens behind at value e h =
-    subst (λ x. BeginsWithPiece x (views (drop at tokens)) value (views behind)) e
-    (subst (λ x. BeginsWithPiece asked (views x) value (views behind)) (take_rest tokens at) h)
-
-pub ending_at : (tokens : List Token) (at : ℕ) (ending : Ending) → IsEnding (views (take (length tokens - at) (drop at tokens))) ending → IsEnding (views (drop at tokens)) ending
-ending_at tokens at ending h = subst (λ x. IsEnding (views x) ending) (take_rest tokens at) h
-
-pub piece_shorter : (point : List ℕ) (tokens behind : List Token) (at : ℕ) (value : PieceValue) → at ≤ length tokens → BeginsWithPiece point (views (drop at tokens)) value (views behind) → at + 1 + length behind ≤ length tokens
-piece_shorter point tokens behind at value le b =
-    behind_shorter tokens behind at b.front le b.cut (piece_some point b.front b.piece (views behind) b.is_piece)
+-- ---- numbers
 
 next_number_most : (name : Option (List ℕ)) (number : ℕ) → next_number name number ≤ number + 1
 next_number_most None number = omega arith
 next_number_most (Some name) number = omega arith
 
-pub number_most : (placeholder : Option PlaceholderValue) (number : ℕ) → number_by placeholder number ≤ number + 1
-number_most None number = omega arith
-number_most (Some value) number = next_number_most (placeholder_view value).name number
+pub number_most : (piece : Piece) (number : ℕ) → number_after number piece ≤ number + 1
+number_most (kinds_of_piece.Text text) number = omega arith
+number_most (kinds_of_piece.TextGroup text modifier) number = omega arith
+number_most (kinds_of_piece.Bare prefix placeholder modifier) number = next_number_most placeholder.name number
+number_most (kinds_of_piece.Group before placeholder after modifier) number = next_number_most placeholder.name number
 
 -- ---- what is read so far
 

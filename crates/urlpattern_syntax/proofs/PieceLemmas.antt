@@ -1,30 +1,27 @@
 -- Lemmas on pieces: what tokens begin with.
-use Rattle.std.proofs.Common.{◌≡◌, ◌≢◌, ℕ, ◌⊎◌, true, List, [], ◌∷◌, ◌++◌, Option, Some, None, refl, sym, ap, ◌∙◌, subst, inl, inr}
+use Rattle.std.proofs.Common.{◌≡◌, ◌≢◌, ℕ, ◌⊎◌, Bool, true, false, List, [], ◌∷◌, ◌++◌, Some, None, refl, sym, ap, ◌∙◌, subst, inl, inr}
 use Rattle.std.specs.Prelude.{codes, IsTrue}
 use Rattle.std.specs.List.{list_all}
-use Rattle.std.proofs.Common.{append_assoc, take, drop}
-use Rattle.std.specs.Str.{chars}
+use Rattle.std.proofs.Common.{append_assoc}
 use Rattle.std.proofs.lemmas.List.{append-nil}
-use Rattle.urlpattern_syntax.specs.declared.tokenizer.Token.{Token}
-use Rattle.std.proofs.lemmas.Bool.{false≢true, and_parts}
-use Rattle.urlpattern_syntax.specs.declared.parser.pieces.Piece.{Piece as PieceValue}
-use Rattle.urlpattern_syntax.specs.declared.parser.pieces.Placeholder.{Placeholder as PlaceholderValue}
+use Rattle.std.proofs.lemmas.List.Folds.{list_all-append}
+use Rattle.std.proofs.lemmas.Bool.{false≢true, and_from, and_parts}
 use Rattle.urlpattern_syntax.specs.declared.parser.PartModifier.{PartModifier}
 use Rattle.urlpattern_syntax.specs.declared.parser.PartModifier.TheVariants as modifiers
 use Rattle.urlpattern_syntax.specs.declared.tokenizer.TokenType.{TokenType}
 use Rattle.urlpattern_syntax.specs.declared.tokenizer.TokenType.TheVariants.{Asterisk, Char, Close, End, EscapedChar, InvalidChar, Name, Open, OtherModifier, Regexp}
-use Rattle.urlpattern_syntax.specs.Parsing.{BeginsWithPiece, IsInner, StandsAlone, item_by, joined_values, number_by, placeholder_view, views, BeginsWithToken, BeginsWithPlaceholder, BeginsWithModifier, IsTokenList, IsModifierSpelled}
-use Rattle.urlpattern_syntax.specs.Pieces.{AreTexts, IsBraced, IsFilled, IsOpenGroup, IsPrefixOf, TakesPrefix, is_text, BeginsWithKind, IsModifier, TakesModifier, TakesRegexp, Matched, Placeholder, is_placeholder, is_regexp}
-use Rattle.urlpattern_syntax.specs.Pieces.{Matched as matched, Piece as pieces}
-use Rattle.urlpattern_syntax.specs.Reading.{Fixed}
-use Rattle.urlpattern_syntax.specs.Tokens.{AreTokens, IsCut, IsTokenOf, Spells, TokenView, end_of, token_view}
+use Rattle.urlpattern_syntax.specs.Cursors.{AreTokensAfter}
+use Rattle.urlpattern_syntax.specs.Parsing.{BeginsWithClose, BeginsWithPiece, BeginsWithTexts, EndsAt, joined_values, BeginsWithToken, BeginsWithPlaceholder, BeginsWithModifier, IsTokenList, IsModifierSpelled}
+use Rattle.urlpattern_syntax.specs.Pieces.{AreTexts, IsBraced, IsFilled, IsOpenGroup, IsPrefixOf, TakesPrefix, is_text, BeginsWithKind, IsModifier, TakesModifier, TakesRegexp, Matched, Placeholder, is_modifier, is_placeholder, is_regexp, is_stop}
+use Rattle.urlpattern_syntax.specs.Pieces.{Ending as endings, Matched as matched, Piece as pieces}
+use Rattle.urlpattern_syntax.specs.Tokens.{AreTokens, IsCut, IsTokenOf, Spells, TokenView, end_of}
 
 -- ---- token lists
 
-spelled_kind : (kind known : TokenType) (value spelling : List ℕ) → kind ≡ known → Spells kind value spelling → Spells known value spelling
+pub spelled_kind : (kind known : TokenType) (value spelling : List ℕ) → kind ≡ known → Spells kind value spelling → Spells known value spelling
 spelled_kind kind known value spelling e h = subst (λ k. Spells k value spelling) e h
 
-spelled_modifier : (token : TokenView) (spelling : List ℕ) → Spells token.kind token.value spelling → IsModifierSpelled token
+pub spelled_modifier : (token : TokenView) (spelling : List ℕ) → Spells token.kind token.value spelling → IsModifierSpelled token
 spelled_modifier token spelling h e = by_spelling (spelled_kind token.kind OtherModifier token.value spelling e h)
   where
     by_spelling : Spells OtherModifier token.value spelling → (token.value ≡ codes "+") ⊎ (token.value ≡ codes "?")
@@ -47,6 +44,15 @@ cut_token_list whole text left (token ∷ next ∷ tokens) last e h =
 -- the tokens of a text
 pub are_token_list : (text : List ℕ) (tokens : List TokenView) → AreTokens text tokens → IsTokenList tokens
 are_token_list text tokens h = subst IsTokenList (sym h.all) (cut_token_list text text [] h.front (end_of text) refl h.cut)
+
+-- the tokens after a place
+pub are_token_list_after : (whole rest : List ℕ) (tokens : List TokenView) → AreTokensAfter whole rest tokens → IsTokenList tokens
+are_token_list_after whole rest tokens h = subst IsTokenList (sym h.all) (cut_token_list whole rest [] h.front (end_of whole) refl h.cut)
+
+-- one token more at their front
+pub IsTokenList-more : (token : TokenView) (tokens : List TokenView) → token.kind ≢ End → IsModifierSpelled token → IsTokenList tokens → IsTokenList (token ∷ tokens)
+IsTokenList-more token [] other mark h = absurd h
+IsTokenList-more token (next ∷ tokens) other mark h = (other, mark, h)
 
 pub IsTokenList-rest : (token : TokenView) (rest : List TokenView) → IsTokenList (token ∷ rest) → token.kind ≢ End → IsTokenList rest
 IsTokenList-rest token [] h other = absurd (other h)
@@ -159,53 +165,39 @@ IsTokenList-texts (token ∷ front) rest h g =
     let p = and_parts (is_text token.kind) (list_all (λ (t : TokenView). is_text t.kind) front) h in
     IsTokenList-texts front rest p.1 (IsTokenList-rest token (front ++ rest) g (text_not_end token.kind p.0))
 
+-- one more text
+pub AreTexts-push : (front : List TokenView) (text value : List ℕ) (token : TokenView) → AreTexts front text → IsTrue (is_text token.kind) → token.value ≡ value → AreTexts (front ++ token ∷ []) (text ++ value)
+AreTexts-push front text value token t h e = (
+  list_all-append (λ (x : TokenView). is_text x.kind) front (token ∷ []) ∙ and_from _ _ t.0 (and_from _ _ h refl),
+  ap (λ x. x ++ value) t.1 ∙ ap (λ x. joined_values front ++ x) (sym e ∙ sym (append-nil token.value)) ∙ sym (joined_values-append front (token ∷ [])),
+)
+  where
+    joined_values-append : (xs ys : List TokenView) → joined_values (xs ++ ys) ≡ joined_values xs ++ joined_values ys
+    joined_values-append [] ys = refl
+    joined_values-append (x ∷ xs) ys = ap (λ z. x.value ++ z) (joined_values-append xs ys) ∙ sym (append_assoc x.value (joined_values xs) (joined_values ys))
+
 -- ---- pieces
 
-pub bare_piece : (point : List ℕ) (before tokens behind rest : List TokenView) (value : PlaceholderValue) (piece : PieceValue) → IsPrefixOf point before (joined_values before) → BeginsWithPlaceholder tokens (placeholder_view value) behind → BeginsWithModifier behind piece.modifier rest → views piece.before.now ≡ before → piece.placeholder ≡ Some value → views piece.after.now ≡ [] → BeginsWithPiece point (before ++ tokens) piece rest
-bare_piece point before tokens behind rest value piece prefix p m e f g = record {
-  front = before ++ p.front ++ m.front;
-  piece = pieces.Bare (joined_values before) (placeholder_view value) piece.modifier;
-  cut = ap (λ x. before ++ x) (p.cut ∙ ap (λ x. p.front ++ x) m.cut ∙ sym (append_assoc p.front m.front rest))
-      ∙ sym (append_assoc before (p.front ++ m.front) rest) ∙ ap (λ x. x ++ rest) (sym (append_assoc before p.front m.front));
-  is_piece = record {
+pub text_piece : (point : List ℕ) (token : TokenView) (rest : List TokenView) → IsTrue (is_text token.kind) → TakesPrefix point token rest → BeginsWithPiece point (token ∷ rest) (pieces.Text token.value) rest
+text_piece point token rest text alone = (token ∷ [], refl, (token, refl, text, refl, alone))
+
+pub bare_piece : (point : List ℕ) (before tokens behind rest : List TokenView) (prefix : List ℕ) (placeholder : Placeholder) (modifier : PartModifier) → IsPrefixOf point before prefix → BeginsWithPlaceholder tokens placeholder behind → BeginsWithModifier behind modifier rest → BeginsWithPiece point (before ++ tokens) (pieces.Bare prefix placeholder modifier) rest
+bare_piece point before tokens behind rest prefix placeholder modifier is_prefix p m = (
+  before ++ p.front ++ m.front,
+  ap (λ x. before ++ x) (p.cut ∙ ap (λ x. p.front ++ x) m.cut ∙ sym (append_assoc p.front m.front rest))
+      ∙ sym (append_assoc before (p.front ++ m.front) rest) ∙ ap (λ x. x ++ rest) (sym (append_assoc before p.front m.front)),
+  record {
     front = before;
     middle = p.front;
     back = m.front;
     cut = refl;
-    is_prefix = prefix;
+    is_prefix = is_prefix;
     is_placeholder = p.is_placeholder;
     is_modifier = m.is_modifier;
-    takes_regexp = subst (TakesRegexp (placeholder_view value).matched) m.cut p.takes_regexp;
+    takes_regexp = subst (TakesRegexp placeholder.matched) m.cut p.takes_regexp;
     takes_modifier = m.takes_modifier;
-  };
-  shows = record {
-    item = λ number. sym (ap (λ x. item_by (joined_values x) piece.placeholder (joined_values (views piece.after.now)) piece.modifier number) e
-        ∙ ap (λ x. item_by (joined_values before) x (joined_values (views piece.after.now)) piece.modifier number) f
-        ∙ ap (λ x. item_by (joined_values before) (Some value) (joined_values x) piece.modifier number) g);
-    number = λ number. sym (ap (λ x. number_by x number) f);
-  };
-  closed = m.closed;
-}
-
-pub text_piece : (point : List ℕ) (tokens before rest : List Token) (piece : PieceValue) → before ≡ take 1 tokens → rest ≡ drop 1 tokens → BeginsWithKind is_text (views tokens) → IsTokenList (views tokens) → StandsAlone point (views tokens) → piece.before.now ≡ before → piece.placeholder ≡ None → piece.modifier ≡ modifiers.None → BeginsWithPiece point (views tokens) piece (views rest)
-text_piece point [] before rest piece b r text closed alone e f g = absurd text
-text_piece point (token ∷ tokens) before rest piece b r text closed alone e f g =
-    let one : views piece.before.now ≡ token_view token ∷ [] = ap views (e ∙ b) in
-    let behind : views tokens ≡ views rest = ap views (sym r) in
-    record {
-      front = token_view token ∷ [];
-      piece = pieces.Text (chars token.value.now);
-      cut = ap (λ x. token_view token ∷ x) behind;
-      is_piece = (token_view token, refl, text, refl, subst (TakesPrefix point (token_view token)) behind alone);
-      shows = record {
-        item = λ number.
-            ap (λ x. Fixed x modifiers.None) (sym (append-nil (chars token.value.now)) ∙ ap joined_values (sym one))
-            ∙ ap (λ m. Fixed (joined_values (views piece.before.now)) m) (sym g)
-            ∙ ap (λ p. item_by (joined_values (views piece.before.now)) p (joined_values (views piece.after.now)) piece.modifier number) (sym f);
-        number = λ number. ap (λ p. number_by p number) (sym f);
-      };
-      closed = subst IsTokenList behind (IsTokenList-rest (token_view token) (views tokens) closed (text_not_end token.kind text));
-    }
+  },
+)
 
 takes_narrower : (what : Matched) (back behind : List TokenView) (closing : TokenView) → TakesRegexp what (back ++ closing ∷ behind) → TakesRegexp what (back ++ closing ∷ [])
 takes_narrower matched.Segment [] behind closing h = h
@@ -225,77 +217,118 @@ narrower inner before after behind closing placeholder f = record {
   are_texts_after = f.are_texts_after;
 }
 
--- a group, with or without a placeholder, and its modifier
-pub group_piece : (point : List ℕ) (opening closing : TokenView) (inner behind rest : List TokenView) (piece : PieceValue) → opening.kind ≡ Open → closing.kind ≡ Close → BeginsWithModifier behind piece.modifier rest → IsInner inner (joined_values (views piece.before.now)) piece.placeholder (joined_values (views piece.after.now)) (closing ∷ behind) → BeginsWithPiece point (opening ∷ inner ++ closing ∷ behind) piece rest
-group_piece point opening closing inner behind rest piece k l m h = by_placeholder piece.placeholder refl
-  where
-    cut : opening ∷ inner ++ closing ∷ behind ≡ (opening ∷ inner ++ closing ∷ m.front) ++ rest
-    cut = ap (λ x. opening ∷ inner ++ closing ∷ x) m.cut ∙ ap (λ x. opening ∷ x) (sym (append_assoc inner (closing ∷ m.front) rest))
+-- braces round what stands between them, and a modifier
+module _ (opening : TokenView) (inner tokens behind rest : List TokenView) (modifier : PartModifier) (is_open : opening.kind ≡ Open) (inner_cut : tokens ≡ inner ++ behind) (c : BeginsWithClose behind modifier rest) where
+  braced_cut : opening ∷ tokens ≡ (opening ∷ inner ++ c.closing ∷ c.begins.front) ++ rest
+  braced_cut =
+      ap (λ x. opening ∷ x) (inner_cut ∙ ap (λ x. inner ++ x) (c.cut ∙ ap (λ x. c.closing ∷ x) c.begins.cut)
+      ∙ sym (append_assoc inner (c.closing ∷ c.begins.front) rest))
 
-    braced : IsBraced (opening ∷ inner ++ closing ∷ m.front) inner piece.modifier rest
-    braced = record {
-      opening = opening;
-      closing = closing;
-      back = m.front;
-      cut = refl;
-      is_open = k;
-      is_close = l;
-      is_modifier = m.is_modifier;
-      takes_modifier = m.takes_modifier;
-    }
+  braced : IsBraced (opening ∷ inner ++ c.closing ∷ c.begins.front) inner modifier rest
+  braced = record {
+    opening = opening;
+    closing = c.closing;
+    back = c.begins.front;
+    cut = refl;
+    is_open = is_open;
+    is_close = c.is_close;
+    is_modifier = c.begins.is_modifier;
+    takes_modifier = c.begins.takes_modifier;
+  }
 
-    by_placeholder : (filling : Option PlaceholderValue) → piece.placeholder ≡ filling → BeginsWithPiece point (opening ∷ inner ++ closing ∷ behind) piece rest
-    by_placeholder None e =
-        let is = subst (λ p. IsInner inner (joined_values (views piece.before.now)) p (joined_values (views piece.after.now)) (closing ∷ behind)) e h in
-        record {
-          front = opening ∷ inner ++ closing ∷ m.front;
-          piece = pieces.TextGroup (joined_values (views piece.before.now)) piece.modifier;
-          cut = cut;
-          is_piece = (inner, braced, is.0);
-          shows = record {
-            item = λ number. ap (λ p. item_by (joined_values (views piece.before.now)) p (joined_values (views piece.after.now)) piece.modifier number) (sym e);
-            number = λ number. ap (λ p. number_by p number) (sym e);
-          };
-          closed = m.closed;
-        }
-    by_placeholder (Some value) e =
-        let is = subst (λ p. IsInner inner (joined_values (views piece.before.now)) p (joined_values (views piece.after.now)) (closing ∷ behind)) e h in
-        record {
-          front = opening ∷ inner ++ closing ∷ m.front;
-          piece = pieces.Group (joined_values (views piece.before.now)) (placeholder_view value) (joined_values (views piece.after.now)) piece.modifier;
-          cut = cut;
-          is_piece = (inner, braced, narrower inner (joined_values (views piece.before.now)) (joined_values (views piece.after.now)) behind closing (placeholder_view value) is);
-          shows = record {
-            item = λ number. ap (λ p. item_by (joined_values (views piece.before.now)) p (joined_values (views piece.after.now)) piece.modifier number) (sym e);
-            number = λ number. ap (λ p. number_by p number) (sym e);
-          };
-          closed = m.closed;
-        }
+  pub text_group : (point text : List ℕ) → AreTexts inner text → BeginsWithPiece point (opening ∷ tokens) (pieces.TextGroup text modifier) rest
+  text_group point text t = (opening ∷ inner ++ c.closing ∷ c.begins.front, braced_cut, (inner, braced, t))
 
--- a first token that is the prefix of what follows
-pub prefix_of : (point : List ℕ) (tokens rest : List Token) (token : Token) → tokens ≡ token ∷ rest → token.kind ≡ Char → chars token.value.now ≡ point → IsPrefixOf point (views (take 1 tokens)) (joined_values (views (take 1 tokens)))
-prefix_of point tokens rest token e k v =
-    subst (λ ts. IsPrefixOf point (views (take 1 ts)) (joined_values (views (take 1 ts)))) (sym e)
-    (inr (ap (λ kind. kind ∷ []) k, ap (λ x. x ∷ []) (sym (append-nil (chars token.value.now))), append-nil (chars token.value.now) ∙ v))
+  pub filled_group : (point before after : List ℕ) (placeholder : Placeholder) → IsFilled inner before placeholder after (c.closing ∷ c.behind) → BeginsWithPiece point (opening ∷ tokens) (pieces.Group before placeholder after modifier) rest
+  unfolding braced
+  filled_group point before after placeholder f =
+      (opening ∷ inner ++ c.closing ∷ c.begins.front, braced_cut, (inner, braced, narrower inner before after c.behind c.closing placeholder f))
 
--- no text begins what texts end before
-no_texts : (front rest : List TokenView) → IsTrue (list_all (λ token. is_text token.kind) front) → ¬ BeginsWithKind is_text (front ++ rest) → front ≡ []
-no_texts [] rest h g = refl
-no_texts (token ∷ front) rest h g = absurd (g (and_parts (is_text token.kind) (list_all (λ (t : TokenView). is_text t.kind) front) h).0)
+-- texts, a placeholder and texts
+pub filled : (tokens behind others rest : List TokenView) (before after : List ℕ) (placeholder : Placeholder) → (t : BeginsWithTexts tokens before behind) → (p : BeginsWithPlaceholder behind placeholder others) → (u : BeginsWithTexts others after rest) → IsFilled (t.front ++ p.front ++ u.front) before placeholder after rest
+filled tokens behind others rest before after placeholder t p u = record {
+  front = t.front;
+  middle = p.front;
+  back = u.front;
+  cut = refl;
+  are_texts_before = t.are_texts;
+  is_placeholder = p.is_placeholder;
+  takes_regexp = subst (TakesRegexp placeholder.matched) u.cut p.takes_regexp;
+  are_texts_after = u.are_texts;
+}
+
+pub filled_cut : (tokens behind others rest : List TokenView) (before after : List ℕ) (placeholder : Placeholder) → (t : BeginsWithTexts tokens before behind) → (p : BeginsWithPlaceholder behind placeholder others) → (u : BeginsWithTexts others after rest) → tokens ≡ (t.front ++ p.front ++ u.front) ++ rest
+filled_cut tokens behind others rest before after placeholder t p u =
+    t.cut ∙ ap (λ x. t.front ++ x) (p.cut ∙ ap (λ x. p.front ++ x) u.cut ∙ sym (append_assoc p.front u.front rest))
+    ∙ sym (append_assoc t.front (p.front ++ u.front) rest) ∙ ap (λ x. x ++ rest) (sym (append_assoc t.front p.front u.front))
 
 -- a group that is all texts
 pub open_texts : (inner rest : List TokenView) → AreTexts inner (joined_values inner) → ¬ BeginsWithKind is_text rest → ¬ BeginsWithKind is_placeholder rest → IsOpenGroup inner rest
 open_texts inner rest t h g = (h, inl (joined_values inner, t, g))
 
--- texts, a placeholder and texts
-pub filled : (before tokens after rest : List TokenView) (placeholder : Placeholder) → AreTexts before (joined_values before) → (p : BeginsWithPlaceholder tokens placeholder (after ++ rest)) → AreTexts after (joined_values after) → IsFilled (before ++ p.front ++ after) (joined_values before) placeholder (joined_values after) rest
-filled before tokens after rest placeholder t p u = record {
-  front = before;
-  middle = p.front;
-  back = after;
-  cut = refl;
-  are_texts_before = t;
-  is_placeholder = p.is_placeholder;
-  takes_regexp = p.takes_regexp;
-  are_texts_after = u;
-}
+-- a group that lacks its Close
+pub open_ending : (opening : TokenView) (inner tokens rest more : List TokenView) (found : TokenView) → opening.kind ≡ Open → tokens ≡ inner ++ rest → rest ≡ found ∷ more → IsOpenGroup inner rest → found.kind ≢ Close → EndsAt (opening ∷ tokens) endings.LacksClose rest
+open_ending opening inner tokens rest more found k cut e left other = (
+  found,
+  more,
+  e,
+  (opening, inner, more, ap (λ x. opening ∷ x) (cut ∙ ap (λ x. inner ++ x) e), k, subst (IsOpenGroup inner) e left, other),
+)
+
+-- no placeholder begins where the first token is no placeholder's
+pub not_first : (test : TokenType → Bool) (token : TokenView) (more tokens : List TokenView) → tokens ≡ token ∷ more → test token.kind ≡ false → ¬ BeginsWithKind test tokens
+not_first test token more tokens e f h = false≢true (sym f ∙ subst (BeginsWithKind test) e h)
+
+pub no_modifier : (kind : TokenType) → kind ≢ OtherModifier → kind ≢ Asterisk → is_modifier kind ≡ false
+no_modifier OtherModifier h g = absurd (h refl)
+no_modifier Asterisk h g = absurd (g refl)
+no_modifier Open h g = refl
+no_modifier Close h g = refl
+no_modifier Regexp h g = refl
+no_modifier Name h g = refl
+no_modifier Char h g = refl
+no_modifier EscapedChar h g = refl
+no_modifier End h g = refl
+no_modifier InvalidChar h g = refl
+
+pub not_regexp : (kind : TokenType) → kind ≢ Regexp → is_regexp kind ≡ false
+not_regexp Regexp h = absurd (h refl)
+not_regexp Asterisk h = refl
+not_regexp OtherModifier h = refl
+not_regexp Open h = refl
+not_regexp Close h = refl
+not_regexp Name h = refl
+not_regexp Char h = refl
+not_regexp EscapedChar h = refl
+not_regexp End h = refl
+not_regexp InvalidChar h = refl
+
+-- a placeholder that is neither a name nor a custom regular expression is an asterisk
+pub asterisk_left : (kind : TokenType) → IsTrue (is_placeholder kind) → kind ≢ Name → kind ≢ Regexp → kind ≡ Asterisk
+asterisk_left Asterisk h f g = refl
+asterisk_left Name h f g = absurd (f refl)
+asterisk_left Regexp h f g = absurd (g refl)
+asterisk_left Open h f g = absurd (false≢true h)
+asterisk_left Close h f g = absurd (false≢true h)
+asterisk_left Char h f g = absurd (false≢true h)
+asterisk_left EscapedChar h f g = absurd (false≢true h)
+asterisk_left OtherModifier h f g = absurd (false≢true h)
+asterisk_left End h f g = absurd (false≢true h)
+asterisk_left InvalidChar h f g = absurd (false≢true h)
+
+-- the kinds with which no piece begins
+pub stop_left : (kind : TokenType) → kind ≢ Open → kind ≢ Name → kind ≢ Regexp → kind ≢ Asterisk → kind ≢ Char → kind ≢ EscapedChar → IsTrue (is_stop kind)
+stop_left Open a b c d e f = absurd (a refl)
+stop_left Name a b c d e f = absurd (b refl)
+stop_left Regexp a b c d e f = absurd (c refl)
+stop_left Asterisk a b c d e f = absurd (d refl)
+stop_left Char a b c d e f = absurd (e refl)
+stop_left EscapedChar a b c d e f = absurd (f refl)
+stop_left Close a b c d e f = refl
+stop_left OtherModifier a b c d e f = refl
+stop_left End a b c d e f = refl
+stop_left InvalidChar a b c d e f = refl
+
+-- a token that is tested is not the last
+pub tested_not_end : (test : TokenType → Bool) (kind : TokenType) → test End ≡ false → IsTrue (test kind) → kind ≢ End
+tested_not_end test kind f h e = false≢true (sym f ∙ subst (λ k. test k ≡ true) e h)

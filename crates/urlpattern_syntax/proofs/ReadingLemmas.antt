@@ -2,36 +2,32 @@
 use Rattle.std.proofs.Common.{◌≡◌, ◌≢◌, ℕ, Bool, true, false, not, List, [], ◌∷◌, ◌++◌, map, refl, sym, ap, ◌∙◌, subst, inl, inr, append_assoc}
 use Rattle.std.specs.Prelude.{Result, Ok, Err, bytes_eq, filter, if◌then◌else◌}
 use Rattle.std.proofs.Common.{◌+◌, ◌<◌, length, take, drop, get_or}
-use Rattle.std.specs.Prelude.{Contains, IfErr, IfOk, String, string_bytes}
+use Rattle.std.specs.Prelude.{Contains, IfErr, IfOk, String}
 use Rattle.std.specs.Str.{IsUtf8}
 use Rattle.std.proofs.lemmas.Str.{encodes-chars}
 use Rattle.urlpattern_syntax.specs.declared.error.Error.{Error}
 use Rattle.std.specs.declared.alloc.Global.{Global}
 use Rattle.urlpattern_syntax.specs.Text.{text_of}
-use Rattle.urlpattern_syntax.proofs.StringTexts.{text-append}
 use Rattle.std.specs.Str.{chars}
 use Rattle.std.proofs.lemmas.List.{append-nil, map-append, take-append-drop, take_more}
 use Rattle.std.proofs.lemmas.List.Elements.{Contains-append_left}
 use Rattle.urlpattern_syntax.specs.declared.parser.Part.{Part}
-use Rattle.urlpattern_syntax.specs.declared.tokenizer.Token.{Token}
-use Rattle.std.proofs.Common.{arith}
 use Rattle.std.proofs.lemmas.Bool.{cond_both, false≢true, false_from_ne_true}
-use Rattle.std.proofs.lemmas.Str.{chars-nil}
 use Rattle.std.proofs.lemmas.Slice.Eq.{bytes_eq-Decides}
 use Rattle.urlpattern_syntax.specs.declared.parser.PartModifier.{PartModifier}
 use Rattle.urlpattern_syntax.specs.declared.parser.PartModifier.TheVariants as modifiers
 use Rattle.urlpattern_syntax.specs.declared.parser.PartType.{PartType}
 use Rattle.urlpattern_syntax.specs.declared.parser.PartType.TheVariants.{FixedText, SegmentWildcard, FullWildcard, Regexp}
-use Rattle.urlpattern_syntax.specs.declared.tokenizer.TokenType.TheVariants.{Open, Close, End}
+use Rattle.urlpattern_syntax.specs.declared.tokenizer.TokenType.TheVariants.{Close, End}
 use Rattle.urlpattern_syntax.specs.Errors.{ErrorView, error_view}
 use Rattle.urlpattern_syntax.specs.Options.{OptionsView}
-use Rattle.urlpattern_syntax.specs.Parsing.{AddsParts, PartListView, MemoryOr, item_demands, joined_values, pending_items, views}
+use Rattle.urlpattern_syntax.specs.Parsing.{AddsParts, PartListView, MemoryOr, item_demands, pending_items}
 use Rattle.urlpattern_syntax.specs.Parts.{PartView, fixed_text, part_view}
 use Rattle.urlpattern_syntax.specs.Pieces.{Ending, Matched}
 use Rattle.urlpattern_syntax.specs.Pieces.{Ending as endings}
 use Rattle.urlpattern_syntax.specs.Reading.{AreMet, AreParts, Capture, Demand, Encode, Encoding, Expect, FirstFails, Fixed, Item, NewName, capture_part, compared, demands_after, encode_fixed, encoding_of, item, joined_items, kind_of, value_of, with_text}
 use Rattle.urlpattern_syntax.specs.RegexpText.{is_empty, full_wildcard, group_names, is_fixed_text, segment_wildcard}
-use Rattle.urlpattern_syntax.specs.Tokens.{TokenView, token_view}
+use Rattle.urlpattern_syntax.specs.Tokens.{TokenView}
 
 -- ---- demands
 
@@ -186,29 +182,7 @@ names-AreParts options encoding (Capture prefix name match suffix modifier ∷ i
     ∙ ap (λ b. map (λ (part : PartView). part.name) (if not b then capture_part options h.0 name match h.1 modifier ∷ filter (λ part. not (is_fixed_text part.kind)) h.2 else filter (λ part. not (is_fixed_text part.kind)) h.2)) (capture_is_group options (compared options match))
     ∙ ap (λ x. name ∷ x) (names-AreParts options encoding items h.2 h.6)
 
--- ---- lists of tokens and parts, one element after another
-
-pub joined_values-append : (xs ys : List TokenView) → joined_values (xs ++ ys) ≡ joined_values xs ++ joined_values ys
-joined_values-append [] ys = refl
-joined_values-append (x ∷ xs) ys = ap (λ z. x.value ++ z) (joined_values-append xs ys) ∙ sym (append_assoc x.value (joined_values xs) (joined_values ys))
-
-pub joined_more : (tokens : List Token) (i : ℕ) (token : Token) → i < length tokens → joined_values (views (take (i + 1) tokens)) ≡ joined_values (views (take i tokens)) ++ chars (get_or tokens i token).value.now
-joined_more tokens i token h =
-    ap (λ x. joined_values (views x)) (take_more tokens i token h)
-    ∙ ap joined_values (map-append token_view (take i tokens) (get_or tokens i token ∷ []))
-    ∙ joined_values-append (views (take i tokens)) (token_view (get_or tokens i token) ∷ [])
-    ∙ ap (λ x. joined_values (views (take i tokens)) ++ x) (append-nil (chars (get_or tokens i token).value.now))
-
--- the token that stands past the end of a list
-abbrev pub no_token : Token
-no_token = record { kind = Open; index = 0; value = record { ref_ptr = (0, 0); now = [] } }
-
--- one more value behind a text
-pub joined_pushed : (tokens : List Token) (i : ℕ) (was : String Global) (now start : List ℕ) → i < length tokens → now ≡ string_bytes was ++ (get_or tokens i no_token).value.now → text_of was ≡ start ++ joined_values (views (take i tokens)) → chars now ≡ start ++ joined_values (views (take (i + 1) tokens))
-joined_pushed tokens i was now start h e f =
-    text-append was (get_or tokens i no_token).value.now e ∙ ap (λ x. x ++ chars (get_or tokens i no_token).value.now) f
-    ∙ append_assoc start (joined_values (views (take i tokens))) (chars (get_or tokens i no_token).value.now)
-    ∙ ap (λ x. start ++ x) (sym (joined_more tokens i no_token h))
+-- ---- the names of parts
 
 pub group_names-append : (xs ys : List PartView) → group_names (xs ++ ys) ≡ group_names xs ++ group_names ys
 group_names-append [] ys = refl
@@ -277,11 +251,6 @@ pub MemoryOr-weaker : (P Q : ErrorView → Type 0) (error : Error) → ((view : 
 MemoryOr-weaker P Q error f (inl h) = inl h
 MemoryOr-weaker P Q error f (inr h) = inr (f (error_view error) h)
 
--- no tokens have no text
-pub joined_empty : (tokens : List Token) → length tokens < 1 → chars [] ≡ joined_values (views tokens)
-joined_empty [] h = chars-nil
-joined_empty (token ∷ tokens) h = absurd (omega arith)
-
 -- ---- the pending text
 
 pub pending_parts : (options : OptionsView) (encoding : Encoding) (text value : List ℕ) → is_empty text ≡ false → encoding text (Ok value) → AreParts options encoding (pending_items text) (fixed_text value modifiers.None ∷ [])
@@ -304,10 +273,6 @@ nothing_pending options encoding old e = record {
   are_met = subst (λ text. AreMet encoding (item_demands (group_names old.parts) (pending_items text))) (sym e) tt;
   pending = e;
 }
-
-pub memory_or : {T : Type 0} (P : ErrorView → Type 0) (result : Result T Error) → IfErr result (λ error. P (error_view error)) → IfErr result (MemoryOr P)
-memory_or P (Ok x) h = tt
-memory_or P (Err error) h = inr h
 
 -- ---- one more item behind what was added
 

@@ -35,6 +35,10 @@ is_empty-chars : (bytes : List ℕ) → IsUtf8 bytes → is_empty (chars bytes) 
 is_empty-chars [] u = ap is_empty chars-nil
 is_empty-chars (b ∷ bytes) u = is_empty-encodes (chars (b ∷ bytes)) b bytes (encodes-chars (b ∷ bytes) u) ∙ grind arith
 
+-- the same of a text in UTF-8
+pub is_empty-str : (bytes : List ℕ) → IsUtf8 bytes → is_empty (chars bytes) ≡ (length bytes == 0)
+is_empty-str bytes u = is_empty-chars bytes u
+
 pub is_empty-text : (string : String Global) → is_empty (text_of string) ≡ (string_len string == 0)
 is_empty-text string = is_empty-chars (string_bytes string) (IsUtf8-string_bytes string) ∙ ap (λ n. n == 0) (sym string.bytes.ok.0)
 

@@ -1,3 +1,4 @@
+pub mod Cursors
 pub mod ErrorText
 pub mod Errors
 pub mod Options

@@ -1,5 +1,5 @@
 -- Words of the private contracts of the parser. No public contract cites them.
-use Rattle.std.specs.Prelude.{◌≡◌, ◌≢◌, ℕ, ◌⊎◌, List, [], ◌∷◌, ◌++◌, map, codes, Option, Some, None, option_map}
+use Rattle.std.specs.Prelude.{◌≡◌, ◌≢◌, ◌<◌, ◌≤◌, ◌+◌, ℕ, ◌⊎◌, List, [], ◌∷◌, ◌++◌, length, map, codes, Option, option_map}
 use Rattle.std.specs.List.{flat_map}
 use Rattle.std.specs.Str.{chars}
 use Rattle.std.specs.Borrow.{Bor}
@@ -10,12 +10,15 @@ use Rattle.urlpattern_syntax.specs.declared.parser.pieces.Next.TheVariants as ne
 use Rattle.urlpattern_syntax.specs.declared.parser.PartModifier.{PartModifier}
 use Rattle.urlpattern_syntax.specs.declared.parser.pieces.Piece.{Piece as PieceValue}
 use Rattle.urlpattern_syntax.specs.declared.parser.pieces.Placeholder.{Placeholder as PlaceholderValue}
+use Rattle.urlpattern_syntax.specs.declared.parser.pieces.Piece.TheVariants as piece_values
 use Rattle.urlpattern_syntax.specs.declared.tokenizer.Token.{Token}
+use Rattle.urlpattern_syntax.specs.declared.parser.pieces.Reader.{Reader}
 use Rattle.urlpattern_syntax.specs.declared.tokenizer.TokenType.{TokenType}
-use Rattle.urlpattern_syntax.specs.declared.tokenizer.TokenType.TheVariants.{OtherModifier, End}
+use Rattle.urlpattern_syntax.specs.declared.tokenizer.TokenType.TheVariants.{Close, OtherModifier, End}
 use Rattle.urlpattern_syntax.specs.declared.error.Error.{Error}
 use Rattle.urlpattern_syntax.specs.declared.parser.PartList.{PartList}
 use Rattle.urlpattern_syntax.specs.declared.parser.PartModifier.TheVariants as modifiers
+use Rattle.urlpattern_syntax.specs.Cursors.{AreTokensAfter, IsPlace, tokens_left}
 use Rattle.urlpattern_syntax.specs.Errors.{ErrorView, error_view}
 pub use Rattle.urlpattern_syntax.specs.Errors.{MemoryOr}
 use Rattle.urlpattern_syntax.specs.Errors.{ErrorView as error_views}
@@ -23,10 +26,10 @@ use Rattle.urlpattern_syntax.specs.Options.{OptionsView}
 use Rattle.urlpattern_syntax.specs.Parts.{PartView, part_view}
 use Rattle.urlpattern_syntax.specs.RegexpText.{group_names}
 use Rattle.urlpattern_syntax.specs.Text.{text_of}
-use Rattle.urlpattern_syntax.specs.Pieces.{ArePieces, Piece, Placeholder, Matched, Ending, IsPiece, IsEnding, IsPlaceholderOf, IsModifier, TakesModifier, TakesPrefix, TakesRegexp, AreTexts, IsFilled}
-use Rattle.urlpattern_syntax.specs.Pieces.{Matched as matched, Ending as endings}
-use Rattle.urlpattern_syntax.specs.Reading.{demands, items_of, AreMet, AreParts, Demand, Encode, Encoding, FirstFails, Item, Fixed, Capture, NewName, encode_fixed, item, name_or, next_number, number_after}
-use Rattle.urlpattern_syntax.specs.Tokens.{TokenView, token_view}
+use Rattle.urlpattern_syntax.specs.Pieces.{ArePieces, Piece, Placeholder, Matched, Ending, IsPiece, IsEnding, IsPlaceholderOf, IsModifier, TakesModifier, TakesRegexp, AreTexts, BeginsWithKind, is_text}
+use Rattle.urlpattern_syntax.specs.Pieces.{Matched as matched, Ending as endings, Piece as pieces}
+use Rattle.urlpattern_syntax.specs.Reading.{demands, items_of, AreMet, AreParts, Demand, Encode, Encoding, FirstFails, Item, Fixed, Capture, NewName, encode_fixed, name_or}
+use Rattle.urlpattern_syntax.specs.Tokens.{AreTokens, TellsFault, TokenView, token_view}
 
 abbrev pub views : List Token → List TokenView
 views tokens = map token_view tokens
@@ -66,10 +69,41 @@ pub record BeginsWithModifier (tokens : List TokenView) (modifier : PartModifier
   pub takes_modifier : TakesModifier modifier rest
   pub closed : IsTokenList rest
 
--- the first token is not the prefix of a placeholder behind it
-abbrev pub StandsAlone : (point : List ℕ) → List TokenView → Type 0
-StandsAlone point [] = ⊥
-StandsAlone point (token ∷ rest) = TakesPrefix point token rest
+-- ---- what is left of a text
+
+-- the text that is read
+abbrev pub reader_text : Reader → List ℕ
+reader_text reader = chars reader.cursor.input.now
+
+-- more than the tokens that are left, End apart
+abbrev pub reader_left : Reader → ℕ
+reader_left reader = length reader.cursor.rest.now + tokens_left reader.token.kind
+
+-- these tokens are left: the first, and those of the rest of the text
+pub record Gives (reader : Reader) (tokens : List TokenView) : Type 0 where
+  pub more : List TokenView
+  pub first : tokens ≡ token_view reader.token ∷ more
+  pub closed : IsTokenList tokens
+  pub others : ((reader.token.kind ≡ End) × (more ≡ []))
+      ⊎ ((reader.token.kind ≢ End) × AreTokensAfter (reader_text reader) (chars reader.cursor.rest.now) more)
+
+-- the reader is at a place of its text, and the token before that is spelled as its kind is
+pub record Stands (reader : Reader) : Type 0 where
+  pub place : IsPlace (reader_text reader) (chars reader.cursor.rest.now)
+  pub mark : IsModifierSpelled (token_view reader.token)
+
+-- what is left after the taking (`rest`) is so related to what was left before it (`tokens`)
+pub record Takes (old new : Reader) (Is : (tokens rest : List TokenView) → Type 0) : Type 0 where
+  pub whole : new.cursor.input.now ≡ old.cursor.input.now
+  pub stands : Stands new
+  pub left : reader_left new ≤ reader_left old
+  pub gives : (rest : List TokenView) → Gives new rest → (tokens : List TokenView) × Gives old tokens × Is tokens rest
+
+-- all tokens of the text are left
+pub record StartsText (text : List ℕ) (reader : Reader) : Type 0 where
+  pub whole : reader_text reader ≡ text
+  pub stands : Stands reader
+  pub all : (tokens : List TokenView) → Gives reader tokens → AreTokens text tokens
 
 -- ---- what the code's pieces show
 
@@ -84,48 +118,51 @@ name_view name = option_map (λ (text : Bor (List ℕ)). chars text.now) name
 abbrev pub placeholder_view : PlaceholderValue → Placeholder
 placeholder_view value = record { name = name_view value.name; matched = matched_view value.matched }
 
-abbrev pub item_by : (before : List ℕ) → Option PlaceholderValue → (after : List ℕ) → PartModifier → ℕ → Item
-item_by before None after modifier number = Fixed before modifier
-item_by before (Some value) after modifier number =
-    Capture before (name_or (placeholder_view value).name number) (matched_view value.matched) after modifier
+abbrev pub piece_view : PieceValue → Piece
+piece_view (piece_values.Text text) = pieces.Text (chars text.now)
+piece_view (piece_values.Bare prefix placeholder modifier) = pieces.Bare (chars prefix.now) (placeholder_view placeholder) modifier
+piece_view (piece_values.TextGroup text modifier) = pieces.TextGroup (text_of text) modifier
+piece_view (piece_values.Group before placeholder after modifier) =
+    pieces.Group (text_of before) (placeholder_view placeholder) (text_of after) modifier
 
-abbrev pub number_by : Option PlaceholderValue → ℕ → ℕ
-number_by None number = number
-number_by (Some value) number = next_number (placeholder_view value).name number
+-- a placeholder between texts, as an item
+abbrev pub group_item : (before : List ℕ) → PlaceholderValue → (after : List ℕ) → PartModifier → ℕ → Item
+group_item before value after modifier number =
+    Capture before (name_or (name_view value.name) number) (matched_view value.matched) after modifier
 
--- what a piece of the code stands for
-abbrev pub item_view : PieceValue → ℕ → Item
-item_view piece number =
-    item_by (joined_values (views piece.before.now)) piece.placeholder (joined_values (views piece.after.now)) piece.modifier number
-
--- what stands between braces, before the rest
-abbrev pub IsInner : List TokenView → (before : List ℕ) → Option PlaceholderValue → (after : List ℕ) → (rest : List TokenView) → Type 0
-IsInner inner before None after rest = AreTexts inner before × (after ≡ [])
-IsInner inner before (Some value) after rest = IsFilled inner before (placeholder_view value) after rest
-
--- a placeholder in a piece of the code, as an item
-abbrev pub group_item : PieceValue → PlaceholderValue → ℕ → Item
-group_item piece value number = item_by (joined_values (views piece.before.now)) (Some value) (joined_values (views piece.after.now)) piece.modifier number
-
--- a piece of the code is one of the tokens
-pub record Shows (value : PieceValue) (piece : Piece) : Type 0 where
-  pub item : (number : ℕ) → item number piece ≡ item_view value number
-  pub number : (number : ℕ) → number_after number piece ≡ number_by value.placeholder number
-
--- tokens begin with a piece
-pub record BeginsWithPiece (point : List ℕ) (tokens : List TokenView) (value : PieceValue) (rest : List TokenView) : Type 0 where
+-- the tokens begin with these texts, and no text follows them
+pub record BeginsWithTexts (tokens : List TokenView) (text : List ℕ) (rest : List TokenView) : Type 0 where
   pub front : List TokenView
-  pub piece : Piece
   pub cut : tokens ≡ front ++ rest
-  pub is_piece : IsPiece point front piece rest
-  pub shows : Shows value piece
-  pub closed : IsTokenList rest
+  pub are_texts : AreTexts front text
+  pub all : ¬ BeginsWithKind is_text rest
+
+-- the tokens begin with the end of a group and its modifier
+pub record BeginsWithClose (tokens : List TokenView) (modifier : PartModifier) (rest : List TokenView) : Type 0 where
+  pub closing : TokenView
+  pub behind : List TokenView
+  pub cut : tokens ≡ closing ∷ behind
+  pub is_close : closing.kind ≡ Close
+  pub begins : BeginsWithModifier behind modifier rest
+
+-- the tokens begin with the piece
+abbrev pub BeginsWithPiece : (point : List ℕ) → List TokenView → Piece → (rest : List TokenView) → Type 0
+BeginsWithPiece point tokens piece rest = (front : List TokenView) × (tokens ≡ front ++ rest) × IsPiece point front piece rest
+
+-- the tokens have this ending, at the first token of the rest
+abbrev pub EndsAt : List TokenView → (TokenView → Ending) → (rest : List TokenView) → Type 0
+EndsAt tokens ending rest = (found : TokenView) × (more : List TokenView) × (rest ≡ found ∷ more) × IsEnding tokens (ending found)
 
 -- the next piece of tokens, or how they end
-abbrev pub IsNext : (point : List ℕ) → List TokenView → Next → Type 0
-IsNext point tokens (nexts.Piece piece rest) = BeginsWithPiece point tokens piece (views rest.now)
-IsNext point tokens (nexts.Stops found) = IsEnding tokens (endings.Stops (token_view found))
-IsNext point tokens (nexts.LacksClose found) = IsEnding tokens (endings.LacksClose (token_view found))
+abbrev pub IsNext : (point : List ℕ) → (tokens : List TokenView) → Next → (rest : List TokenView) → Type 0
+IsNext point tokens (nexts.Piece piece) rest = BeginsWithPiece point tokens (piece_view piece) rest
+IsNext point tokens nexts.Stops rest = EndsAt tokens endings.Stops rest
+IsNext point tokens nexts.LacksClose rest = EndsAt tokens endings.LacksClose rest
+
+-- a piece leaves less
+abbrev pub IsShorter : (new old : ℕ) → Next → Type 0
+IsShorter new old (nexts.Piece piece) = new < old
+IsShorter new old other = Unit {0}
 
 -- ---- what is read so far
 
@@ -186,3 +223,7 @@ pub record FailsTokens (tokens : List TokenView) (options : OptionsView) (encodi
   pub ending : Ending
   pub are_pieces : ArePieces options.prefix tokens pieces ending
   pub fails : FirstFails encoding (demands (items_of pieces) ending) error
+
+-- memory ran out, or the error is the first fault of the text, or it is one of these and the rest has tokens
+abbrev pub FaultOr : Reader → (ErrorView → Type 0) → Error → Type 0
+FaultOr reader Is error = TellsFault (reader_text reader) error ⊎ (((tokens : List TokenView) × Gives reader tokens) × MemoryOr Is error)

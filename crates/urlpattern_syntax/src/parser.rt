@@ -5,22 +5,22 @@ ghost use Rattle.urlpattern_syntax.specs.declared.error.Error.TheVariants as err
 ghost use Rattle.urlpattern_syntax.specs.Text.{text_of};
 ghost use Rattle.urlpattern_syntax.specs.RegexpText.{segment_wildcard, modifier_text};
 ghost use Rattle.urlpattern_syntax.specs.Options.{options_view};
-ghost use Rattle.std.specs.Prelude.{◌<◌, Contains, Result, map, ◌≡◌, ◌∷◌, ◌++◌, ◌↔◌, IsTrue, [], Some, IfOk, IfErr, OnOk};
+ghost use Rattle.std.specs.Prelude.{◌<◌, ◌≤◌, Contains, Result, map, ◌≡◌, ◌∷◌, ◌++◌, ◌↔◌, IsTrue, [], Some, IfOk, IfErr, OnOk};
 ghost use Rattle.std.specs.Str.{chars};
 ghost use Rattle.std.specs.Fn.{FnReturnsAt};
 ghost use Rattle.urlpattern_syntax.specs.Errors.{ErrorView, error_view};
-ghost use Rattle.urlpattern_syntax.specs.Parsing.{MemoryOr, AddsItem, AddsParts, FailsItem, FailsItems, FailsTokens, IsTokenList, ReadsTokens, group_item, item_view, joined_values, matched_view, name_view, number_by, part_list_view, pending_items, placeholder_view, views};
+ghost use Rattle.urlpattern_syntax.specs.Parsing.{MemoryOr, AddsItem, AddsParts, FailsItem, FailsItems, FaultOr, Stands, StartsText, group_item, matched_view, name_view, part_list_view, pending_items, piece_view, reader_left, reader_text};
 ghost use Rattle.urlpattern_syntax.specs.Tokens.{token_view};
 ghost use Rattle.urlpattern_syntax.specs.Parts.{fixed_text, part_view};
-ghost use Rattle.urlpattern_syntax.specs.Reading.{Expect, FirstFails, Fixed, Reads, Refuses, compared, encode_fixed, encoding_of, kind_of, name_or, next_number, value_of};
+ghost use Rattle.urlpattern_syntax.specs.Reading.{Expect, FirstFails, Fixed, Reads, Refuses, compared, encode_fixed, encoding_of, item, kind_of, name_or, next_number, number_after, value_of};
 ghost use Rattle.urlpattern_syntax.specs.RegexpText.{group_names};
 
 mod option_sets;
 mod pieces;
 
 use crate::error::{Error, ParserError};
-use crate::tokenizer::{Token, TokenType, TokenizePolicy, tokenize};
-use pieces::{Matched, Next, Piece, Placeholder, next_piece};
+use crate::tokenizer::{Token, TokenType};
+use pieces::{Matched, Next, Piece, Placeholder, Reader};
 use serde::{Deserialize, Serialize};
 use std::alloc::Global;
 use std::fmt;
@@ -168,7 +168,7 @@ pub fn parse_pattern_string<F: Fn(&str) -> Result<String, Error> + Drop>(
     ensures refuses { IfErr result (MemoryOr (Refuses (chars input.now) (options_view options.now)
         (encoding_of (FnReturnsAt F.Fn encoding_callback)))) }
 {
-    let tokens = tokenize(alloc, input, TokenizePolicy::Strict)?;
+    let mut reader = Reader::new(alloc, input)?;
     let segment_wildcard_regexp = options.generate_segment_wildcard_regexp(alloc)?;
     let parser = PatternParser {
         alloc,
@@ -176,50 +176,53 @@ pub fn parse_pattern_string<F: Fn(&str) -> Result<String, Error> + Drop>(
         segment_wildcard_regexp,
         encoding_callback,
     };
-    parser.part_list(&tokens)
+    parser.part_list(&mut reader)
 }
 
 impl<F: Fn(&str) -> Result<String, Error>> PatternParser<'_, F> {
-    /// The parts of a list of tokens.
-    fn part_list<'t, 'a>(&self, tokens: &'t [Token<'a>]) -> Result<Vec<Part>, Error>
+    /// The parts of a text, of which no token is taken.
+    fn part_list(&self, reader: &mut Reader<'_>) -> Result<Vec<Part>, Error>
         requires callable { F.IsAlwaysCallable self.now.encoding_callback }
         requires wildcard { text_of self.now.segment_wildcard_regexp ≡ segment_wildcard (options_view self.now.options.now) }
-        requires closed { IsTokenList (views tokens.now) }
-        ensures reads { IfOk result (λ parts. ReadsTokens (views tokens.now) (options_view self.now.options.now)
+        requires starts { StartsText (reader_text reader.old) reader.old }
+        requires room { reader_left reader.old ≤ usize.MAX }
+        ensures reads { IfOk result (λ parts. Reads (reader_text reader.old) (options_view self.now.options.now)
             (encoding_of (FnReturnsAt F.Fn self.now.encoding_callback)) (map part_view parts.items)) }
-        ensures fails { IfErr result (MemoryOr (FailsTokens (views tokens.now) (options_view self.now.options.now)
+        ensures refuses { IfErr result (MemoryOr (Refuses (reader_text reader.old) (options_view self.now.options.now)
             (encoding_of (FnReturnsAt F.Fn self.now.encoding_callback)))) }
     {
         let mut list = PartList::new(self.alloc);
-        let mut at = 0;
         loop {
-            match next_piece(&tokens[at..], &self.options.prefix_code_point) {
-                Next::Piece(piece, behind) => {
-                    at = tokens.len() - behind.len();
-                    list.add(self, piece)?;
+            match reader.next_piece(&self.options.prefix_code_point)? {
+                Next::Piece(piece) => match list.add(self, piece) {
+                    Ok(()) => {}
+                    Err(error) => return Err(first_fault(reader, error)),
+                },
+                Next::LacksClose => {
+                    reader.read_to_end()?;
+                    return Err(expected_token(self.alloc, TokenType::Close, reader.token()));
                 }
-                Next::LacksClose(found) => return Err(expected_token(
-                    self.alloc,
-                    TokenType::Close,
-                    found,
-                )),
-                Next::Stops(found) => return self.finish(list, found),
+                Next::Stops => return self.finish(list, reader),
             }
         }
     }
 
     /// The parts up to the token with which no piece begins, which has to be the end.
-    fn finish(&self, mut list: PartList, found: Token<'_>) -> Result<Vec<Part>, Error>
-        requires { F.IsAlwaysCallable self.now.encoding_callback }
-        ensures ok { IfOk result (λ parts. (found.entry.kind ≡ TokenType.End)
+    fn finish(&self, mut list: PartList, reader: &Reader<'_>) -> Result<Vec<Part>, Error>
+        requires callable { F.IsAlwaysCallable self.now.encoding_callback }
+        requires stands { Stands reader.now }
+        ensures ok { IfOk result (λ parts. (reader.now.token.kind ≡ TokenType.End)
             × AddsParts (options_view self.now.options.now) (encoding_of (FnReturnsAt F.Fn self.now.encoding_callback)) (part_list_view list)
             (pending_items (part_list_view list).pending) (record { parts = map part_view parts.items; pending = []; number = 0 })) }
-        ensures err { IfErr result (MemoryOr (FirstFails (encoding_of (FnReturnsAt F.Fn self.now.encoding_callback))
-            (encode_fixed (part_list_view list).pending ++ Expect TokenType.End (token_view found.entry) ∷ []))) }
+        ensures err { IfErr result (FaultOr reader.now (FirstFails (encoding_of (FnReturnsAt F.Fn self.now.encoding_callback))
+            (encode_fixed (part_list_view list).pending ++ Expect TokenType.End (token_view reader.now.token) ∷ []))) }
     {
-        list.add_pending(self)?;
-        if found.kind != TokenType::End {
-            return Err(expected_token(self.alloc, TokenType::End, found));
+        if let Err(error) = list.add_pending(self) {
+            return Err(first_fault(reader, error));
+        }
+        if reader.token().kind != TokenType::End {
+            reader.read_to_end()?;
+            return Err(expected_token(self.alloc, TokenType::End, reader.token()));
         }
         Ok(list.into_parts())
     }
@@ -231,19 +234,6 @@ impl<F: Fn(&str) -> Result<String, Error>> PatternParser<'_, F> {
         ensures err { IfErr result (λ error. encoding_of (FnReturnsAt F.Fn self.now.encoding_callback) (chars text.now) (Result.Err (error_view error))) }
     {
         (self.encoding_callback)(text)
-    }
-
-    /// What the callback answers for the values of tokens, end to end.
-    fn encode(&self, tokens: &[Token<'_>]) -> Result<String, Error>
-        requires { F.IsAlwaysCallable self.now.encoding_callback }
-        ensures ok { IfOk result (λ answer. encoding_of (FnReturnsAt F.Fn self.now.encoding_callback) (joined_values (views tokens.now)) (Result.Ok (text_of answer))) }
-        ensures err { IfErr result (MemoryOr (λ error. encoding_of (FnReturnsAt F.Fn self.now.encoding_callback) (joined_values (views tokens.now)) (Result.Err error))) }
-    {
-        match tokens {
-            [] => self.ask(""),
-            [token] => self.ask(token.value),
-            _ => self.ask(&joined(self.alloc, tokens)?),
-        }
     }
 
     /// The regular expression by which the kind of a placeholder's part goes.
@@ -295,90 +285,94 @@ impl PartList {
     fn add<F: Fn(&str) -> Result<String, Error>>(
         &mut self,
         parser: &PatternParser<'_, F>,
-        piece: Piece<'_, '_>,
+        piece: Piece<'_>,
     ) -> Result<(), Error>
         requires callable { F.IsAlwaysCallable parser.now.encoding_callback }
         requires wildcard { text_of parser.now.segment_wildcard_regexp ≡ segment_wildcard (options_view parser.now.options.now) }
         requires room { self.old.next_numeric_name < usize.MAX }
         ensures ok { OnOk result (AddsItem (options_view parser.now.options.now) (encoding_of (FnReturnsAt F.Fn parser.now.encoding_callback))
-            (part_list_view self.old) (item_view piece.entry self.old.next_numeric_name) (part_list_view self.new)) }
-        ensures number { OnOk result (self.new.next_numeric_name ≡ number_by piece.entry.placeholder self.old.next_numeric_name) }
+            (part_list_view self.old) (item self.old.next_numeric_name (piece_view piece.entry)) (part_list_view self.new)) }
+        ensures number { OnOk result (self.new.next_numeric_name ≡ number_after self.old.next_numeric_name (piece_view piece.entry)) }
         ensures err { IfErr result (FailsItem (encoding_of (FnReturnsAt F.Fn parser.now.encoding_callback))
-            (part_list_view self.old) (item_view piece.entry self.old.next_numeric_name)) }
+            (part_list_view self.old) (item self.old.next_numeric_name (piece_view piece.entry))) }
     {
-        match piece.placeholder {
-            Some(placeholder) => self.add_group(parser, piece, placeholder),
-            None if piece.modifier == PartModifier::None => self.add_plain(piece.before),
-            None => self.add_fixed(parser, piece),
+        match piece {
+            Piece::Text(text) => self.add_plain(text),
+            Piece::TextGroup(text, PartModifier::None) => self.add_plain(&text),
+            Piece::TextGroup(text, modifier) => self.add_fixed(parser, &text, modifier),
+            Piece::Bare(prefix, placeholder, modifier) => {
+                self.add_group(parser, prefix, placeholder, "", modifier)
+            }
+            Piece::Group(before, placeholder, after, modifier) => {
+                self.add_group(parser, &before, placeholder, &after, modifier)
+            }
         }
     }
 
-    /// Puts texts behind the pending text.
-    fn add_plain(&mut self, texts: &[Token<'_>]) -> Result<(), Error>
+    /// Puts a text after the pending text.
+    fn add_plain(&mut self, text: &str) -> Result<(), Error>
         ensures parts { self.new.parts ≡ self.old.parts }
-        ensures pending { OnOk result (text_of self.new.pending_fixed_value ≡ text_of self.old.pending_fixed_value ++ joined_values (views texts.now)) }
+        ensures pending { OnOk result (text_of self.new.pending_fixed_value ≡ text_of self.old.pending_fixed_value ++ chars text.now) }
         ensures number { self.new.next_numeric_name ≡ self.old.next_numeric_name }
         ensures memory { IfErr result (λ error. error ≡ errors.OutOfMemory) }
     {
-        for token in texts {
-            self.pending_fixed_value.push_str(token.value)?;
-        }
+        self.pending_fixed_value.push_str(text)?;
         Ok(())
     }
 
-    /// Adds texts with a modifier, and the pending text before them.
+    /// Adds a text with a modifier, and the pending text before it.
     fn add_fixed<F: Fn(&str) -> Result<String, Error>>(
         &mut self,
         parser: &PatternParser<'_, F>,
-        piece: Piece<'_, '_>,
+        text: &str,
+        modifier: PartModifier,
     ) -> Result<(), Error>
         requires { F.IsAlwaysCallable parser.now.encoding_callback }
         ensures ok { OnOk result (AddsParts (options_view parser.now.options.now) (encoding_of (FnReturnsAt F.Fn parser.now.encoding_callback)) (part_list_view self.old)
-            (pending_items (part_list_view self.old).pending ++ Fixed (joined_values (views piece.entry.before.now)) piece.entry.modifier ∷ [])
-            (part_list_view self.new)) }
+            (pending_items (part_list_view self.old).pending ++ Fixed (chars text.now) modifier ∷ []) (part_list_view self.new)) }
         ensures number { OnOk result (self.new.next_numeric_name ≡ self.old.next_numeric_name) }
         ensures err { IfErr result (FailsItems (encoding_of (FnReturnsAt F.Fn parser.now.encoding_callback)) (part_list_view self.old).parts
-            (pending_items (part_list_view self.old).pending ++ Fixed (joined_values (views piece.entry.before.now)) piece.entry.modifier ∷ [])) }
+            (pending_items (part_list_view self.old).pending ++ Fixed (chars text.now) modifier ∷ [])) }
     {
         self.add_pending(parser)?;
-        let text = joined(parser.alloc, piece.before)?;
         if !text.is_empty() {
-            let value = parser.ask(&text)?;
-            self.parts
-                .push(Part::fixed(parser.alloc, value, piece.modifier))?;
+            let value = parser.ask(text)?;
+            self.parts.push(Part::fixed(parser.alloc, value, modifier))?;
         }
         Ok(())
     }
 
-    /// Adds a placeholder with the texts round it, and the pending text before them.
+    /// Adds a placeholder with the texts around it, and the pending text before them.
     fn add_group<F: Fn(&str) -> Result<String, Error>>(
         &mut self,
         parser: &PatternParser<'_, F>,
-        piece: Piece<'_, '_>,
+        before: &str,
         placeholder: Placeholder<'_>,
+        after: &str,
+        modifier: PartModifier,
     ) -> Result<(), Error>
         requires callable { F.IsAlwaysCallable parser.now.encoding_callback }
         requires wildcard { text_of parser.now.segment_wildcard_regexp ≡ segment_wildcard (options_view parser.now.options.now) }
         requires room { self.old.next_numeric_name < usize.MAX }
         ensures ok { OnOk result (AddsParts (options_view parser.now.options.now) (encoding_of (FnReturnsAt F.Fn parser.now.encoding_callback)) (part_list_view self.old)
-            (pending_items (part_list_view self.old).pending ++ group_item piece.entry placeholder.entry self.old.next_numeric_name ∷ [])
+            (pending_items (part_list_view self.old).pending ++ group_item (chars before.now) placeholder.entry (chars after.now) modifier self.old.next_numeric_name ∷ [])
             (part_list_view self.new)) }
-        ensures number { OnOk result (self.new.next_numeric_name ≡ next_number (placeholder_view placeholder.entry).name self.old.next_numeric_name) }
+        ensures number { OnOk result (self.new.next_numeric_name ≡ next_number (name_view placeholder.entry.name) self.old.next_numeric_name) }
         ensures err { IfErr result (FailsItems (encoding_of (FnReturnsAt F.Fn parser.now.encoding_callback)) (part_list_view self.old).parts
-            (pending_items (part_list_view self.old).pending ++ group_item piece.entry placeholder.entry self.old.next_numeric_name ∷ [])) }
+            (pending_items (part_list_view self.old).pending ++ group_item (chars before.now) placeholder.entry (chars after.now) modifier self.old.next_numeric_name ∷ [])) }
     {
         self.add_pending(parser)?;
         let name = self.name_of(parser.alloc, placeholder.name)?;
         if has_name(&self.parts, &name) {
             return Err(Error::Parser(ParserError::DuplicateName(name)));
         }
-        let prefix = parser.encode(piece.before)?;
-        let suffix = parser.encode(piece.after)?;
+        let prefix = parser.ask(before)?;
+        let suffix = parser.ask(after)?;
         let (kind, value) = parser.kind_and_value(placeholder.matched)?;
         self.parts.push(Part {
             kind,
             value,
-            modifier: piece.modifier,
+            modifier,
             name,
             prefix,
             suffix,
@@ -466,16 +460,18 @@ fn has_name(parts: &[Part], name: &str) -> bool
     false
 }
 
-/// The values of tokens, end to end.
-fn joined(alloc: Global, tokens: &[Token<'_>]) -> Result<String, Error>
-    ensures value { IfOk result (λ text. text_of text ≡ joined_values (views tokens.now)) }
-    ensures memory { IfErr result (λ error. error ≡ errors.OutOfMemory) }
+/// The first fault of the text that is read, if it has one, or else this error. Out of memory stays as it is.
+fn first_fault(reader: &Reader<'_>, error: Error) -> Error
+    requires { Stands reader.now }
+    ensures { FaultOr reader.now (λ view. view ≡ error_view error) result }
 {
-    let mut text = String::new(alloc);
-    for token in tokens {
-        text.push_str(token.value)?;
+    if matches!(error, Error::OutOfMemory) {
+        return error;
     }
-    Ok(text)
+    match reader.read_to_end() {
+        Ok(()) => error,
+        Err(fault) => fault,
+    }
 }
 
 /// The error where a token of this kind has to stand and another does, or that memory ran out.

@@ -2,10 +2,11 @@
 //!
 //! <https://urlpattern.spec.whatwg.org/#tokens>
 
-ghost use Rattle.std.specs.Prelude.{◌≡◌, ◌<◌, ◌≤◌, List, map, ℕ, ◌∷◌, ◌++◌, [], length, codes, IfNone, IfSome, IfOk, IfErr};
+ghost use Rattle.std.specs.Prelude.{◌≡◌, ◌<◌, ◌≤◌, ◌+◌, List, map, ℕ, ◌∷◌, ◌++◌, [], length, codes, IfNone, IfSome, IfOk, IfErr, OnOk};
 ghost use Rattle.std.specs.Str.{chars};
-ghost use Rattle.urlpattern_syntax.specs.Text.{BeginsWith, is_among, is_name_start, is_name_part};
-ghost use Rattle.urlpattern_syntax.specs.Tokens.{AreTokensUnder, FaultView, IsFaultAt, IsInvalidChar, LacksEscaped, LacksQuestionMark, Lexes, LexesUnder, Skips, SkipsBy, TellsFaultUnder, fault_view, is_ignored, token_view};
+ghost use Rattle.urlpattern_syntax.specs.Cursors.{AreTokensAfter, IsPlace, IsTokenAfter, tokens_left};
+ghost use Rattle.urlpattern_syntax.specs.Text.{BeginsAt, BeginsWith, is_among, is_name_start, is_name_part};
+ghost use Rattle.urlpattern_syntax.specs.Tokens.{AreTokensUnder, FaultView, IsFaultAt, IsInvalidChar, LacksEscaped, LacksQuestionMark, Lexes, LexesUnder, Skips, SkipsBy, TellsFault, TellsFaultUnder, TokenView, fault_view, is_ignored, token_view};
 
 use crate::error::{Error, RegexFault, TokenizerError};
 use std::alloc::Global;
@@ -131,6 +132,88 @@ pub fn tokenize<'a>(
     };
     tokens.push(end)?;
     Ok(tokens)
+}
+
+/// A place between the tokens of a text, from which its strict tokens are read one by one.
+///
+/// <https://urlpattern.spec.whatwg.org/#tokenizer>
+#[derive(Clone, Copy)]
+pub(crate) struct Cursor<'a> {
+    input: &'a str,
+    rest: &'a str,
+}
+
+impl<'a> Cursor<'a> {
+    /// The place before the first token of a text.
+    pub(crate) fn new(input: &'a str) -> Self
+        ensures whole { result.input.now ≡ input.now }
+        ensures skips { Skips (chars input.now) (chars result.rest.now) }
+        ensures place { IsPlace (chars input.now) (chars result.rest.now) }
+        ensures len { length result.rest.now ≤ length input.now }
+    {
+        Cursor {
+            input,
+            rest: skip_ignored(input),
+        }
+    }
+
+    /// The token after this place, which then is the place after it. After the last token it is `End`, again and again.
+    ///
+    /// The error is the first fault of the text. It leaves the place as it was.
+    pub(crate) fn next(&mut self) -> Result<Token<'a>, Error>
+        requires { IsPlace (chars self.old.input.now) (chars self.old.rest.now) }
+        ensures whole { self.new.input.now ≡ self.old.input.now }
+        ensures place { OnOk result (IsPlace (chars self.old.input.now) (chars self.new.rest.now)) }
+        ensures token { IfOk result (λ token. IsTokenAfter (chars self.old.input.now) (chars self.old.rest.now) (token_view token) (chars self.new.rest.now)) }
+        ensures len { IfOk result (λ token. length self.new.rest.now + tokens_left token.kind ≤ length self.old.rest.now) }
+        ensures fault { IfErr result (TellsFault (chars self.old.input.now)) }
+    {
+        let place = place_of(self.input, self.rest);
+        if self.rest.is_empty() {
+            return Ok(Token {
+                kind: TokenType::End,
+                index: place,
+                value: self.rest,
+            });
+        }
+        match next_lexeme(self.rest) {
+            Ok(lexeme) => {
+                let token = Token {
+                    kind: lexeme.kind,
+                    index: place,
+                    value: lexeme.value,
+                };
+                self.rest = skip_ignored(lexeme.rest);
+                Ok(token)
+            }
+            Err(fault) => Err(Error::Tokenizer(fault, place)),
+        }
+    }
+
+    /// Reads all tokens after this place. It does not allocate.
+    ///
+    /// The error is the first fault of the text.
+    pub(crate) fn read_to_end(&self) -> Result<(), Error>
+        requires { IsPlace (chars self.now.input.now) (chars self.now.rest.now) }
+        ensures tokens { OnOk result ((tokens : List TokenView) × AreTokensAfter (chars self.now.input.now) (chars self.now.rest.now) tokens) }
+        ensures fault { IfErr result (TellsFault (chars self.now.input.now)) }
+    {
+        let mut cursor = *self;
+        loop {
+            let token = cursor.next()?;
+            if token.kind == TokenType::End {
+                return Ok(());
+            }
+        }
+    }
+}
+
+/// The byte of a text at which this rest of it begins.
+fn place_of(input: &str, rest: &str) -> usize
+    requires { IsPlace (chars input.now) (chars rest.now) }
+    ensures { BeginsAt (chars input.now) (chars rest.now) result }
+{
+    input.len() - rest.len()
 }
 
 /// The token at the front of a text that is not empty and begins with no character that is skipped. Under the lenient

@@ -1,14 +1,18 @@
-//! The pieces of a pattern: what its tokens begin with.
+//! The pieces of a pattern, read from its tokens one by one.
 //!
 //! <https://urlpattern.spec.whatwg.org/#parse-a-pattern-string>
-ghost use Rattle.std.specs.Prelude.{◌≡◌, ◌∷◌, ◌++◌, ◌↔◌, ℕ, List, IsTrue, IfNone, IfSome};
+ghost use Rattle.std.specs.Prelude.{◌≡◌, ◌≢◌, ◌∷◌, ◌++◌, ◌<◌, ◌≤◌, ℕ, List, IsTrue, IfErr, IfNone, IfOk, IfSome, OnOk, length};
 ghost use Rattle.std.specs.Str.{chars};
-ghost use Rattle.urlpattern_syntax.specs.Parsing.{BeginsWithModifier, BeginsWithPlaceholder, BeginsWithToken, IsInner, IsNext, IsTokenList, StandsAlone, joined_values, placeholder_view, views};
-ghost use Rattle.urlpattern_syntax.specs.Pieces.{AreTexts, BeginsWithKind, IsOpenGroup, IsPrefixOf, is_placeholder, is_text};
-ghost use Rattle.urlpattern_syntax.specs.Tokens.{TokenView, token_view};
+ghost use Rattle.urlpattern_syntax.specs.declared.tokenizer.TokenType.TheVariants as kinds;
+ghost use Rattle.urlpattern_syntax.specs.Parsing.{BeginsWithClose, BeginsWithModifier, BeginsWithPiece, BeginsWithPlaceholder, BeginsWithTexts, Gives, IsNext, IsShorter, Stands, StartsText, Takes, piece_view, placeholder_view, reader_left, reader_text};
+ghost use Rattle.urlpattern_syntax.specs.Pieces.{IsPrefixOf, is_placeholder, is_text};
+ghost use Rattle.urlpattern_syntax.specs.Text.{text_of};
+ghost use Rattle.urlpattern_syntax.specs.Tokens.{TellsFault, TokenView, token_view};
 
+use crate::error::Error;
 use crate::parser::PartModifier;
-use crate::tokenizer::{Token, TokenType};
+use crate::tokenizer::{Cursor, Token, TokenType};
+use std::alloc::Global;
 
 /// What a placeholder stands for.
 #[derive(Clone, Copy)]
@@ -28,58 +32,251 @@ pub(super) struct Placeholder<'a> {
     pub(super) matched: Matched<'a>,
 }
 
-/// A piece of a pattern: texts, perhaps a placeholder among them, and a modifier.
+/// A piece of a pattern.
 #[derive(Drop)]
-pub(super) struct Piece<'t, 'a> {
-    pub(super) before: &'t [Token<'a>],
-    pub(super) placeholder: Option<Placeholder<'a>>,
-    pub(super) after: &'t [Token<'a>],
-    pub(super) modifier: PartModifier,
+pub(super) enum Piece<'a> {
+    /// One character.
+    Text(&'a str),
+    /// A placeholder without braces, with the prefix code point before it or nothing.
+    Bare(&'a str, Placeholder<'a>, PartModifier),
+    /// Texts in braces.
+    TextGroup(String, PartModifier),
+    /// A placeholder in braces, with the texts before and after it.
+    Group(String, Placeholder<'a>, String, PartModifier),
 }
 
-/// What tokens begin with.
+/// What the tokens that are left begin with.
 #[derive(Drop)]
-pub(super) enum Next<'t, 'a> {
-    /// A piece, and the tokens behind it.
-    Piece(Piece<'t, 'a>, &'t [Token<'a>]),
-    /// A token with which no piece begins.
-    Stops(Token<'a>),
-    /// A group without its end, where this token stands instead.
-    LacksClose(Token<'a>),
+pub(super) enum Next<'a> {
+    /// A piece, which is taken.
+    Piece(Piece<'a>),
+    /// A token with which no piece begins. It is not taken.
+    Stops,
+    /// A group without its end. The token in place of that is not taken.
+    LacksClose,
 }
 
-/// The piece that the tokens begin with.
-pub(super) fn next_piece<'t, 'a>(tokens: &'t [Token<'a>], prefix_code_point: &str) -> Next<'t, 'a>
-    requires { IsTokenList (views tokens.now) }
-    ensures { IsNext (chars prefix_code_point.now) (views tokens.now) result }
-{
-    let (first, rest) = split_token(tokens);
-    match first.kind {
-        TokenType::Open => group(rest),
-        TokenType::Name | TokenType::Regexp | TokenType::Asterisk => bare(&tokens[..0], tokens),
-        TokenType::Char => {
-            if first.value == prefix_code_point && begins_placeholder(rest) {
-                bare(&tokens[..1], rest)
-            } else {
-                text(tokens)
+/// The tokens of a pattern that no piece has taken: the first of them, and where the others begin.
+#[derive(Clone, Copy)]
+pub(super) struct Reader<'a> {
+    alloc: Global,
+    cursor: Cursor<'a>,
+    token: Token<'a>,
+}
+
+impl<'a> Reader<'a> {
+    /// The tokens of a text.
+    ///
+    /// The error is the first fault of the text.
+    pub(super) fn new(alloc: Global, input: &'a str) -> Result<Self, Error>
+        ensures starts { IfOk result (λ reader. StartsText (chars input.now) reader) }
+        ensures room { IfOk result (λ reader. reader_left reader ≤ length input.now) }
+        ensures fault { IfErr result (TellsFault (chars input.now)) }
+    {
+        let mut cursor = Cursor::new(input);
+        let token = cursor.next()?;
+        Ok(Reader {
+            alloc,
+            cursor,
+            token,
+        })
+    }
+
+    /// The first token that no piece has taken.
+    pub(super) fn token(&self) -> Token<'a>
+        ensures { result ≡ self.now.token }
+    {
+        self.token
+    }
+
+    /// Reads the other tokens, to the end of the text. It does not allocate.
+    ///
+    /// The error is the first fault of the text.
+    pub(super) fn read_to_end(&self) -> Result<(), Error>
+        requires { Stands self.now }
+        ensures tokens { OnOk result ((tokens : List TokenView) × Gives self.now tokens) }
+        ensures fault { IfErr result (TellsFault (reader_text self.now)) }
+    {
+        self.cursor.read_to_end()
+    }
+
+    /// Takes the next piece, if the tokens begin with one.
+    ///
+    /// The error is the first fault of the text, or that memory ran out.
+    pub(super) fn next_piece(&mut self, prefix_code_point: &str) -> Result<Next<'a>, Error>
+        requires { Stands self.old }
+        ensures next { IfOk result (λ next. Takes self.old self.new (λ tokens rest. IsNext (chars prefix_code_point.now) tokens next rest)) }
+        ensures less { IfOk result (IsShorter (reader_left self.new) (reader_left self.old)) }
+        ensures fault { IfErr result (TellsFault (reader_text self.old)) }
+    {
+        match self.token.kind {
+            TokenType::Open => self.group(),
+            TokenType::Name | TokenType::Regexp | TokenType::Asterisk => self.bare(""),
+            TokenType::Char => self.character(prefix_code_point),
+            TokenType::EscapedChar => {
+                let token = self.take()?;
+                Ok(Next::Piece(Piece::Text(token.value)))
             }
+            _ => Ok(Next::Stops),
         }
-        TokenType::EscapedChar => text(tokens),
-        _ => Next::Stops(first),
     }
-}
 
-/// The texts that the tokens begin with, and the tokens behind them.
-fn take_texts<'t, 'a>(tokens: &'t [Token<'a>]) -> (&'t [Token<'a>], &'t [Token<'a>])
-    ensures cut { views tokens.now ≡ views result.0.now ++ views result.1.now }
-    ensures texts { AreTexts (views result.0.now) (joined_values (views result.0.now)) }
-    ensures all { ¬ BeginsWithKind is_text (views result.1.now) }
-{
-    let mut count = 0;
-    while count < tokens.len() && is_text(tokens[count].kind) {
-        count += 1;
+    /// Takes the first token.
+    fn take(&mut self) -> Result<Token<'a>, Error>
+        requires stands { Stands self.old }
+        requires more { self.old.token.kind ≢ kinds.End }
+        ensures token { IfOk result (λ token. token ≡ self.old.token) }
+        ensures takes { OnOk result (Takes self.old self.new (λ tokens rest. tokens ≡ token_view self.old.token ∷ rest)) }
+        ensures less { OnOk result (reader_left self.new < reader_left self.old) }
+        ensures fault { IfErr result (TellsFault (reader_text self.old)) }
+    {
+        let next = self.cursor.next()?;
+        let token = self.token;
+        self.token = next;
+        Ok(token)
     }
-    tokens.split_at(count)
+
+    /// Takes a character, and the placeholder after it if the character is its prefix.
+    fn character(&mut self, prefix_code_point: &str) -> Result<Next<'a>, Error>
+        requires stands { Stands self.old }
+        requires character { self.old.token.kind ≡ kinds.Char }
+        ensures next { IfOk result (λ next. Takes self.old self.new (λ tokens rest. IsNext (chars prefix_code_point.now) tokens next rest)) }
+        ensures less { OnOk result (reader_left self.new < reader_left self.old) }
+        ensures fault { IfErr result (TellsFault (reader_text self.old)) }
+    {
+        let token = self.take()?;
+        if token.value == prefix_code_point && is_placeholder(self.token.kind) {
+            return self.bare(token.value);
+        }
+        Ok(Next::Piece(Piece::Text(token.value)))
+    }
+
+    /// Takes a placeholder without braces and its modifier, after this prefix.
+    fn bare(&mut self, prefix: &'a str) -> Result<Next<'a>, Error>
+        requires stands { Stands self.old }
+        requires placeholder { IsTrue (is_placeholder self.old.token.kind) }
+        ensures next { IfOk result (λ next. Takes self.old self.new (λ tokens rest. (point : List ℕ) (before : List TokenView)
+            → IsPrefixOf point before (chars prefix.now) → IsNext point (before ++ tokens) next rest)) }
+        ensures less { OnOk result (reader_left self.new < reader_left self.old) }
+        ensures fault { IfErr result (TellsFault (reader_text self.old)) }
+    {
+        let placeholder = self.placeholder()?;
+        let modifier = self.modifier()?;
+        Ok(Next::Piece(Piece::Bare(prefix, placeholder, modifier)))
+    }
+
+    /// Takes a group from its opening brace on, up to where its end has to be.
+    fn group(&mut self) -> Result<Next<'a>, Error>
+        requires stands { Stands self.old }
+        requires opening { self.old.token.kind ≡ kinds.Open }
+        ensures next { IfOk result (λ next. Takes self.old self.new (λ tokens rest. (point : List ℕ) → IsNext point tokens next rest)) }
+        ensures less { OnOk result (reader_left self.new < reader_left self.old) }
+        ensures fault { IfErr result (TellsFault (reader_text self.old)) }
+    {
+        let _opening = self.take()?;
+        let before = self.texts()?;
+        if !is_placeholder(self.token.kind) {
+            return match self.close()? {
+                Some(modifier) => Ok(Next::Piece(Piece::TextGroup(before, modifier))),
+                None => Ok(Next::LacksClose),
+            };
+        }
+        let placeholder = self.placeholder()?;
+        let after = self.texts()?;
+        match self.close()? {
+            Some(modifier) => Ok(Next::Piece(Piece::Group(before, placeholder, after, modifier))),
+            None => Ok(Next::LacksClose),
+        }
+    }
+
+    /// Takes the texts that the tokens begin with. Their values, end to end.
+    fn texts(&mut self) -> Result<String, Error>
+        requires { Stands self.old }
+        ensures texts { IfOk result (λ text. Takes self.old self.new (λ tokens rest. BeginsWithTexts tokens (text_of text) rest)) }
+        ensures fault { IfErr result (TellsFault (reader_text self.old)) }
+    {
+        let mut text = String::new(self.alloc);
+        while is_text(self.token.kind) {
+            let token = self.take()?;
+            text.push_str(token.value)?;
+        }
+        Ok(text)
+    }
+
+    /// Takes a placeholder.
+    ///
+    /// <https://urlpattern.spec.whatwg.org/#try-to-consume-a-regexp-or-wildcard-token>
+    fn placeholder(&mut self) -> Result<Placeholder<'a>, Error>
+        requires stands { Stands self.old }
+        requires placeholder { IsTrue (is_placeholder self.old.token.kind) }
+        ensures placeholder { IfOk result (λ placeholder. Takes self.old self.new (λ tokens rest. BeginsWithPlaceholder tokens (placeholder_view placeholder) rest)) }
+        ensures less { OnOk result (reader_left self.new < reader_left self.old) }
+        ensures fault { IfErr result (TellsFault (reader_text self.old)) }
+    {
+        let first = self.take()?;
+        match first.kind {
+            TokenType::Name => {
+                if self.token.kind != TokenType::Regexp {
+                    return Ok(Placeholder {
+                        name: Some(first.value),
+                        matched: Matched::Segment,
+                    });
+                }
+                let regexp = self.take()?;
+                Ok(Placeholder {
+                    name: Some(first.value),
+                    matched: Matched::Custom(regexp.value),
+                })
+            }
+            TokenType::Regexp => Ok(Placeholder {
+                name: None,
+                matched: Matched::Custom(first.value),
+            }),
+            _ => Ok(Placeholder {
+                name: None,
+                matched: Matched::Anything,
+            }),
+        }
+    }
+
+    /// Takes the end of a group and its modifier, if the tokens begin with that end.
+    fn close(&mut self) -> Result<Option<PartModifier>, Error>
+        requires { Stands self.old }
+        ensures closes { IfOk result (λ found. IfSome found (λ modifier. Takes self.old self.new (λ tokens rest. BeginsWithClose tokens modifier rest))) }
+        ensures lacks { IfOk result (λ found. IfNone found (Takes self.old self.new (λ tokens rest. tokens ≡ rest))) }
+        ensures other { IfOk result (λ found. IfNone found (self.new.token.kind ≢ kinds.Close)) }
+        ensures fault { IfErr result (TellsFault (reader_text self.old)) }
+    {
+        if self.token.kind != TokenType::Close {
+            return Ok(None);
+        }
+        let _closing = self.take()?;
+        Ok(Some(self.modifier()?))
+    }
+
+    /// Takes the modifier that the tokens begin with, if there is one.
+    ///
+    /// <https://urlpattern.spec.whatwg.org/#try-to-consume-a-modifier-token>
+    fn modifier(&mut self) -> Result<PartModifier, Error>
+        requires { Stands self.old }
+        ensures modifier { IfOk result (λ modifier. Takes self.old self.new (λ tokens rest. BeginsWithModifier tokens modifier rest)) }
+        ensures fault { IfErr result (TellsFault (reader_text self.old)) }
+    {
+        match self.token.kind {
+            TokenType::OtherModifier => {
+                let token = self.take()?;
+                if token.value == "?" {
+                    return Ok(PartModifier::Optional);
+                }
+                Ok(PartModifier::OneOrMore)
+            }
+            TokenType::Asterisk => {
+                let _asterisk = self.take()?;
+                Ok(PartModifier::ZeroOrMore)
+            }
+            _ => Ok(PartModifier::None),
+        }
+    }
 }
 
 /// Whether a token is a character, escaped or not.
@@ -89,184 +286,12 @@ fn is_text(kind: TokenType) -> bool
     matches!(kind, TokenType::Char | TokenType::EscapedChar)
 }
 
-/// The first token and those behind it.
-fn split_token<'t, 'a>(tokens: &'t [Token<'a>]) -> (Token<'a>, &'t [Token<'a>])
-    requires { IsTokenList (views tokens.now) }
-    ensures { tokens.now ≡ result.0 ∷ result.1.now }
+/// Whether a placeholder begins with a token of this kind.
+fn is_placeholder(kind: TokenType) -> bool
+    ensures { result ≡ is_placeholder kind }
 {
-    let (first, rest) = tokens.split_first().unwrap();
-    (*first, rest)
-}
-
-/// The first token, if it is of this kind, and the tokens behind it.
-///
-/// <https://urlpattern.spec.whatwg.org/#try-to-consume-a-token>
-fn try_consume_token<'t, 'a>(
-    tokens: &'t [Token<'a>],
-    kind: TokenType,
-) -> Option<(Token<'a>, &'t [Token<'a>])>
-    ensures none { IfNone result (¬ BeginsWithToken kind (views tokens.now)) }
-    ensures some { IfSome result (λ found. (views tokens.now ≡ token_view found.0 ∷ views found.1.now) × (found.0.kind ≡ kind)) }
-{
-    match tokens.split_first() {
-        Some((first, rest)) if first.kind == kind => Some((*first, rest)),
-        _ => None,
-    }
-}
-
-/// The placeholder that the tokens begin with, and the tokens behind it.
-///
-/// <https://urlpattern.spec.whatwg.org/#try-to-consume-a-regexp-or-wildcard-token>
-fn take_placeholder<'t, 'a>(tokens: &'t [Token<'a>]) -> Option<(Placeholder<'a>, &'t [Token<'a>])>
-    ensures none { IfNone result (¬ BeginsWithKind is_placeholder (views tokens.now)) }
-    ensures some { IfSome result (λ found. BeginsWithPlaceholder (views tokens.now) (placeholder_view found.0) (views found.1.now)) }
-{
-    if let Some((name, rest)) = try_consume_token(tokens, TokenType::Name) {
-        return match try_consume_token(rest, TokenType::Regexp) {
-            Some((regexp, rest)) => {
-                let matched = Matched::Custom(regexp.value);
-                Some((
-                    Placeholder {
-                        name: Some(name.value),
-                        matched,
-                    },
-                    rest,
-                ))
-            }
-            None => Some((
-                Placeholder {
-                    name: Some(name.value),
-                    matched: Matched::Segment,
-                },
-                rest,
-            )),
-        };
-    }
-    if let Some((regexp, rest)) = try_consume_token(tokens, TokenType::Regexp) {
-        return Some((
-            Placeholder {
-                name: None,
-                matched: Matched::Custom(regexp.value),
-            },
-            rest,
-        ));
-    }
-    let (_, rest) = try_consume_token(tokens, TokenType::Asterisk)?;
-    Some((
-        Placeholder {
-            name: None,
-            matched: Matched::Anything,
-        },
-        rest,
-    ))
-}
-
-/// The modifier that the tokens begin with, and the tokens behind it.
-///
-/// <https://urlpattern.spec.whatwg.org/#try-to-consume-a-modifier-token>
-fn take_modifier<'t, 'a>(tokens: &'t [Token<'a>]) -> (PartModifier, &'t [Token<'a>])
-    requires { IsTokenList (views tokens.now) }
-    ensures { BeginsWithModifier (views tokens.now) result.0 (views result.1.now) }
-{
-    if let Some((token, rest)) = try_consume_token(tokens, TokenType::OtherModifier) {
-        if token.value == "?" {
-            return (PartModifier::Optional, rest);
-        }
-        return (PartModifier::OneOrMore, rest);
-    }
-    match try_consume_token(tokens, TokenType::Asterisk) {
-        Some((_, rest)) => (PartModifier::ZeroOrMore, rest),
-        None => (PartModifier::None, tokens),
-    }
-}
-
-/// The piece that a placeholder and a modifier make behind this prefix, where they stand without braces.
-fn bare<'t, 'a>(before: &'t [Token<'a>], tokens: &'t [Token<'a>]) -> Next<'t, 'a>
-    requires placeholder { BeginsWithKind is_placeholder (views tokens.now) }
-    requires closed { IsTokenList (views tokens.now) }
-    ensures { (point : List ℕ) → IsPrefixOf point (views before.now) (joined_values (views before.now))
-        → IsNext point (views before.now ++ views tokens.now) result }
-{
-    let (placeholder, rest) = take_placeholder(tokens).unwrap();
-    let (modifier, rest) = take_modifier(rest);
-    let piece = Piece {
-        before,
-        placeholder: Some(placeholder),
-        after: &tokens[..0],
-        modifier,
-    };
-    Next::Piece(piece, rest)
-}
-
-/// The text of the first token.
-fn text<'t, 'a>(tokens: &'t [Token<'a>]) -> Next<'t, 'a>
-    requires text { BeginsWithKind is_text (views tokens.now) }
-    requires closed { IsTokenList (views tokens.now) }
-    ensures { (point : List ℕ) → StandsAlone point (views tokens.now) → IsNext point (views tokens.now) result }
-{
-    let (before, rest) = tokens.split_at(1);
-    let piece = Piece {
-        before,
-        placeholder: None,
-        after: &tokens[..0],
-        modifier: PartModifier::None,
-    };
-    Next::Piece(piece, rest)
-}
-
-/// The group behind an opening brace.
-fn group<'t, 'a>(tokens: &'t [Token<'a>]) -> Next<'t, 'a>
-    requires { IsTokenList (views tokens.now) }
-    ensures { (point : List ℕ) (opening : TokenView) → opening.kind ≡ TokenType.Open
-        → IsNext point (opening ∷ views tokens.now) result }
-{
-    let (before, rest) = take_texts(tokens);
-    match take_placeholder(rest) {
-        None => close_group(before, None, &tokens[..0], rest),
-        Some((placeholder, rest)) => {
-            let (after, rest) = take_texts(rest);
-            close_group(before, Some(placeholder), after, rest)
-        }
-    }
-}
-
-/// The group with these texts and this placeholder, up to its closing brace and its modifier.
-fn close_group<'t, 'a>(
-    before: &'t [Token<'a>],
-    filling: Option<Placeholder<'a>>,
-    after: &'t [Token<'a>],
-    tokens: &'t [Token<'a>],
-) -> Next<'t, 'a>
-    requires { IsTokenList (views tokens.now) }
-    ensures { (point : List ℕ) (opening : TokenView) (inner : List TokenView) → opening.kind ≡ TokenType.Open
-        → IsInner inner (joined_values (views before.now)) filling.entry (joined_values (views after.now)) (views tokens.now)
-        → IsOpenGroup inner (views tokens.now) → IsNext point (opening ∷ inner ++ views tokens.now) result }
-{
-    let (found, rest) = split_token(tokens);
-    if found.kind != TokenType::Close {
-        return Next::LacksClose(found);
-    }
-    let (modifier, rest) = take_modifier(rest);
-    Next::Piece(
-        Piece {
-            before,
-            placeholder: filling,
-            after,
-            modifier,
-        },
-        rest,
+    matches!(
+        kind,
+        TokenType::Name | TokenType::Regexp | TokenType::Asterisk
     )
-}
-
-/// Whether a placeholder begins the tokens.
-fn begins_placeholder(tokens: &[Token<'_>]) -> bool
-    ensures { IsTrue result ↔ BeginsWithKind is_placeholder (views tokens.now) }
-{
-    match tokens.first() {
-        Some(token) => matches!(
-            token.kind,
-            TokenType::Name | TokenType::Regexp | TokenType::Asterisk
-        ),
-        None => false,
-    }
 }

@@ -1,4 +1,4 @@
-use Rattle.std.proofs.Common.{◌≡◌, ◌++◌, ◌∷◌, [], Ok, Err, false, map, sym, ap, ◌∙◌, subst, inr, refl}
+use Rattle.std.proofs.Common.{◌≡◌, ◌++◌, ◌∷◌, [], Ok, false, map, sym, ap, ◌∙◌, subst, inr, refl}
 use Rattle.std.specs.Str.{chars}
 use Rattle.std.specs.Fn.{FnReturnsAt}
 use Rattle.std.proofs.lemmas.List.{append-nil, map-append}
@@ -6,13 +6,13 @@ use Rattle.std.proofs.lemmas.Result.{err_from_is_err_and}
 use Rattle.urlpattern_syntax.specs.declared.parser.PartList.{PartList}
 use Rattle.urlpattern_syntax.specs.Errors.{error_view}
 use Rattle.urlpattern_syntax.specs.Options.{options_view}
-use Rattle.urlpattern_syntax.specs.Parsing.{AddsParts, joined_values, pending_items, part_list_view, views}
+use Rattle.urlpattern_syntax.specs.Parsing.{AddsParts, pending_items, part_list_view}
 use Rattle.urlpattern_syntax.specs.Parts.{fixed_text, part_view}
 use Rattle.urlpattern_syntax.specs.Reading.{Fixed, encoding_of}
 use Rattle.urlpattern_syntax.specs.RegexpText.{is_empty, group_names}
 use Rattle.urlpattern_syntax.specs.Text.{text_of}
 use Rattle.urlpattern_syntax.proofs.ReadingLemmas.{adds_item, fails_item, fixed_fails, fixed_met, fixed_parts}
-use Rattle.urlpattern_syntax.proofs.StringTexts.{is_empty-text, nothing_from_is_empty}
+use Rattle.urlpattern_syntax.proofs.StringTexts.{is_empty-str, nothing_from_is_empty}
 use Rattle.urlpattern_syntax.proofs.parser.PartList.add_fixed.Goals as goal
 use Rattle.urlpattern_syntax.proofs.parser.PartList.add_fixed.Goals.{then-not-is_empty+in_ok-value+in_ok-push, else-not-is_empty}
 
@@ -22,15 +22,13 @@ returns-in_err-value-clause-err g c =
     let encoding = encoding_of (FnReturnsAt g.F.Fn c.args.parser.now.encoding_callback) in
     let old = part_list_view c.args.self.now in
     let mid = part_list_view c.add_pending.new.self in
-    let text = joined_values (views c.args.piece.before.now) in
+    let text = chars c.args.text.now in
     let error = error_view c.in_err-value.field-0.0 in
     let a : AddsParts options encoding old (pending_items old.pending) mid = c.in_ok-add_pending.ensures.ok in
-    let is_text : text_of c.in_ok-text.text ≡ text = c.in_ok-text.ensures.value in
-    let some : is_empty text ≡ false = ap is_empty (sym is_text) ∙ is_empty-text c.in_ok-text.text ∙ sym c.is_empty.ensures ∙ c.if-not-is_empty.true in
-    let answered : encoding text (Err error) = subst (λ x. encoding x (Err error)) (ap chars c.deref.ensures ∙ is_text) c.in_err-value.ensures.err in
+    let some : is_empty text ≡ false = is_empty-str c.args.text.now c.utf8.text ∙ sym c.is_empty.ensures ∙ c.if-not-is_empty.true in
     let p = err_from_is_err_and c.from_residual-in_err-value.result c.from_residual-in_err-value.ensures.1 in
-    rw (p.1, p.2) (inr (fails_item options encoding old mid (pending_items old.pending) a (Fixed text c.args.piece.modifier) error
-    (fixed_fails encoding (group_names mid.parts) text c.args.piece.modifier error some answered)))
+    rw (p.1, p.2) (inr (fails_item options encoding old mid (pending_items old.pending) a (Fixed text c.args.modifier) error
+    (fixed_fails encoding (group_names mid.parts) text c.args.modifier error some c.in_err-value.ensures.err)))
 
 pub returns-clause-ok : goal.returns-clause-ok
 returns-clause-ok g c =
@@ -38,16 +36,15 @@ returns-clause-ok g c =
     let encoding = encoding_of (FnReturnsAt g.F.Fn c.args.parser.now.encoding_callback) in
     let old = part_list_view c.args.self.now in
     let mid = part_list_view c.add_pending.new.self in
-    let text = joined_values (views c.args.piece.before.now) in
-    let modifier = c.args.piece.modifier in
+    let text = chars c.args.text.now in
+    let modifier = c.args.modifier in
     let a : AddsParts options encoding old (pending_items old.pending) mid = c.in_ok-add_pending.ensures.ok in
-    let is_text : text_of c.in_ok-text.text ≡ text = c.in_ok-text.ensures.value in
-    let emptiness = ap is_empty (sym is_text) ∙ is_empty-text c.in_ok-text.text ∙ sym c.is_empty.ensures in
+    let emptiness = is_empty-str c.args.text.now c.utf8.text ∙ sym c.is_empty.ensures in
     elim c.if-not-is_empty.branch [
       | then-not-is_empty+in_ok-value+in_ok-push w ↦
           let value = text_of w.in_ok-value.value in
           let parts = c.add_pending.new.self.parts.items in
-          let answered : encoding text (Ok value) = subst (λ x. encoding x (Ok value)) (ap chars w.deref.ensures ∙ is_text) w.in_ok-value.ensures.ok in
+          let answered : encoding text (Ok value) = w.in_ok-value.ensures.ok in
           adds_item options encoding old mid (pending_items old.pending) a (part_list_view c.if-not-is_empty.self) (Fixed text modifier) (fixed_text value modifier ∷ [])
           (fixed_parts options encoding text value modifier (emptiness ∙ w.if-not-is_empty.true) answered)
           (fixed_met encoding (group_names mid.parts) text value modifier answered)

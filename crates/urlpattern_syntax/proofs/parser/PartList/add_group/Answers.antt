@@ -1,4 +1,4 @@
-use Rattle.std.proofs.Common.{◌≡◌, ◌++◌, ◌∷◌, [], Ok, Err, List, map, sym, ap, ◌∙◌, subst, refl, Vec, Global}
+use Rattle.std.proofs.Common.{◌≡◌, ◌++◌, ◌∷◌, [], Ok, List, map, sym, ap, ◌∙◌, subst, refl, inr, Vec, Global}
 use Rattle.std.specs.Prelude.{Contains}
 use Rattle.std.specs.Str.{chars}
 use Rattle.std.specs.Fn.{FnReturnsAt}
@@ -6,13 +6,14 @@ use Rattle.std.proofs.lemmas.Bool.{false≢true}
 use Rattle.std.proofs.lemmas.List.{map-append}
 use Rattle.std.proofs.lemmas.Result.{err_from_is_err_and}
 use Rattle.urlpattern_syntax.specs.declared.parser.Part.{Part}
+use Rattle.urlpattern_syntax.specs.Errors.{error_view}
 use Rattle.urlpattern_syntax.specs.Options.{options_view}
-use Rattle.urlpattern_syntax.specs.Parsing.{AddsParts, item_demands, joined_values, matched_view, name_view, pending_items, part_list_view, views}
+use Rattle.urlpattern_syntax.specs.Parsing.{AddsParts, matched_view, name_view, pending_items, part_list_view}
 use Rattle.urlpattern_syntax.specs.Parts.{PartView, part_view}
-use Rattle.urlpattern_syntax.specs.Reading.{Capture, FirstFails, capture_part, encoding_of, name_or}
+use Rattle.urlpattern_syntax.specs.Reading.{Capture, capture_part, encoding_of, name_or}
 use Rattle.urlpattern_syntax.specs.RegexpText.{group_names}
 use Rattle.urlpattern_syntax.specs.Text.{text_of}
-use Rattle.urlpattern_syntax.proofs.ReadingLemmas.{MemoryOr-weaker, adds_item, fails_item, capture_met, capture_view, prefix_fails, suffix_fails}
+use Rattle.urlpattern_syntax.proofs.ReadingLemmas.{adds_item, fails_item, capture_met, capture_view, prefix_fails, suffix_fails}
 use Rattle.urlpattern_syntax.proofs.parser.PartList.add_group.Goals as goal
 
 pub returns-in_err-prefix-clause-err : goal.returns-in_err-prefix-clause-err
@@ -21,11 +22,11 @@ returns-in_err-prefix-clause-err g c =
     let encoding = encoding_of (FnReturnsAt g.F.Fn c.args.parser.now.encoding_callback) in
     let old = part_list_view c.args.self.now in
     let mid = part_list_view c.add_pending.new.self in
-    let prefix = joined_values (views c.args.piece.before.now) in
-    let suffix = joined_values (views c.args.piece.after.now) in
+    let prefix = chars c.args.before.now in
+    let suffix = chars c.args.after.now in
     let number = c.args.self.now.next_numeric_name in
     let match = matched_view c.args.placeholder.matched in
-    let modifier = c.args.piece.modifier in
+    let modifier = c.args.modifier in
     let name = name_or (name_view c.args.placeholder.name) number in
     let a : AddsParts options encoding old (pending_items old.pending) mid = c.in_ok-add_pending.ensures.ok in
     let is_name : text_of c.in_ok-name.name ≡ name = c.in_ok-name.ensures.name ∙ ap (name_or (name_view c.args.placeholder.name)) c.in_ok-add_pending.ensures.number in
@@ -37,10 +38,8 @@ returns-in_err-prefix-clause-err g c =
     (subst (Contains (group_names mid.parts)) (sym asked_name) h))) in
     let error = c.in_err-prefix.field-0.0 in
     let p = err_from_is_err_and c.from_residual-in_err-prefix.result c.from_residual-in_err-prefix.ensures.1 in
-    rw (p.1, p.2) (MemoryOr-weaker (λ view. encoding prefix (Err view)) (FirstFails encoding (item_demands (group_names old.parts) (pending_items old.pending ++ Capture prefix name match suffix modifier ∷ []))) error
-    (λ view h. fails_item options encoding old mid (pending_items old.pending) a (Capture prefix name match suffix modifier) view
-    (prefix_fails encoding (group_names mid.parts) prefix name match suffix modifier view new_name h))
-    c.in_err-prefix.ensures.err)
+    rw (p.1, p.2) (inr (fails_item options encoding old mid (pending_items old.pending) a (Capture prefix name match suffix modifier) (error_view error)
+    (prefix_fails encoding (group_names mid.parts) prefix name match suffix modifier (error_view error) new_name c.in_err-prefix.ensures.err)))
 
 pub returns-in_err-suffix-clause-err : goal.returns-in_err-suffix-clause-err
 returns-in_err-suffix-clause-err g c =
@@ -48,11 +47,11 @@ returns-in_err-suffix-clause-err g c =
     let encoding = encoding_of (FnReturnsAt g.F.Fn c.args.parser.now.encoding_callback) in
     let old = part_list_view c.args.self.now in
     let mid = part_list_view c.add_pending.new.self in
-    let prefix = joined_values (views c.args.piece.before.now) in
-    let suffix = joined_values (views c.args.piece.after.now) in
+    let prefix = chars c.args.before.now in
+    let suffix = chars c.args.after.now in
     let number = c.args.self.now.next_numeric_name in
     let match = matched_view c.args.placeholder.matched in
-    let modifier = c.args.piece.modifier in
+    let modifier = c.args.modifier in
     let name = name_or (name_view c.args.placeholder.name) number in
     let a : AddsParts options encoding old (pending_items old.pending) mid = c.in_ok-add_pending.ensures.ok in
     let is_name : text_of c.in_ok-name.name ≡ name = c.in_ok-name.ensures.name ∙ ap (name_or (name_view c.args.placeholder.name)) c.in_ok-add_pending.ensures.number in
@@ -64,10 +63,8 @@ returns-in_err-suffix-clause-err g c =
     (subst (Contains (group_names mid.parts)) (sym asked_name) h))) in
     let error = c.in_err-suffix.field-0.0 in
     let p = err_from_is_err_and c.from_residual-in_err-suffix.result c.from_residual-in_err-suffix.ensures.1 in
-    rw (p.1, p.2) (MemoryOr-weaker (λ view. encoding suffix (Err view)) (FirstFails encoding (item_demands (group_names old.parts) (pending_items old.pending ++ Capture prefix name match suffix modifier ∷ []))) error
-    (λ view h. fails_item options encoding old mid (pending_items old.pending) a (Capture prefix name match suffix modifier) view
-    (suffix_fails encoding (group_names mid.parts) prefix name match suffix modifier (text_of c.in_ok-prefix.prefix) view new_name c.in_ok-prefix.ensures.ok h))
-    c.in_err-suffix.ensures.err)
+    rw (p.1, p.2) (inr (fails_item options encoding old mid (pending_items old.pending) a (Capture prefix name match suffix modifier) (error_view error)
+    (suffix_fails encoding (group_names mid.parts) prefix name match suffix modifier (text_of c.in_ok-prefix.prefix) (error_view error) new_name c.in_ok-prefix.ensures.ok c.in_err-suffix.ensures.err)))
 
 pub returns-clause-ok : goal.returns-clause-ok
 returns-clause-ok g c =
@@ -75,11 +72,11 @@ returns-clause-ok g c =
     let encoding = encoding_of (FnReturnsAt g.F.Fn c.args.parser.now.encoding_callback) in
     let old = part_list_view c.args.self.now in
     let mid = part_list_view c.add_pending.new.self in
-    let prefix = joined_values (views c.args.piece.before.now) in
-    let suffix = joined_values (views c.args.piece.after.now) in
+    let prefix = chars c.args.before.now in
+    let suffix = chars c.args.after.now in
     let number = c.args.self.now.next_numeric_name in
     let match = matched_view c.args.placeholder.matched in
-    let modifier = c.args.piece.modifier in
+    let modifier = c.args.modifier in
     let name = name_or (name_view c.args.placeholder.name) number in
     let a : AddsParts options encoding old (pending_items old.pending) mid = c.in_ok-add_pending.ensures.ok in
     let is_name : text_of c.in_ok-name.name ≡ name = c.in_ok-name.ensures.name ∙ ap (name_or (name_view c.args.placeholder.name)) c.in_ok-add_pending.ensures.number in

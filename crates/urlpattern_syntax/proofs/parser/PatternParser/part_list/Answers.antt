@@ -1,129 +1,122 @@
-use Rattle.std.proofs.Common.{◌≡◌, ◌<◌, ◌-◌, ◌++◌, ◌∷◌, [], map, drop, length, sym, ap, ◌∙◌, subst, arith}
+use Rattle.std.proofs.Common.{◌≡◌, ◌<◌, ◌++◌, ◌∷◌, [], map, refl, sym, ap, ◌∙◌, subst, arith}
 use Rattle.std.specs.Fn.{FnReturnsAt}
 use Rattle.std.specs.Str.{chars}
-use Rattle.std.proofs.lemmas.Result.{IfErr-weaker, IfOk-weaker, err_from_is_err_and}
+use Rattle.std.proofs.lemmas.Result.{IfErr-weaker, IfOk-weaker}
+use Rattle.urlpattern_syntax.specs.declared.parser.pieces.Next.TheVariants as nexts
+use Rattle.urlpattern_syntax.specs.declared.tokenizer.Token.{Token}
+use Rattle.urlpattern_syntax.specs.declared.tokenizer.TokenType.TheVariants.{Close, End}
+use Rattle.urlpattern_syntax.specs.Errors.{ErrorView as error_views}
 use Rattle.urlpattern_syntax.specs.Options.{options_view}
-use Rattle.urlpattern_syntax.specs.Parsing.{AddsItem, AddsParts, BeginsWithPiece, FailsItem, FailsTokens, MemoryOr, ReadsTokens, pending_items, IsTokenList, PartListView, part_list_view, views}
+use Rattle.urlpattern_syntax.specs.Parsing.{AddsParts, FaultOr, IsNext, IsShorter, MemoryOr, PartListView, Takes, part_list_view, pending_items, piece_view, reader_left, reader_text}
 use Rattle.urlpattern_syntax.specs.Parts.{part_view}
-use Rattle.urlpattern_syntax.specs.Reading.{Expect, FirstFails, encode_fixed, encoding_of}
-use Rattle.urlpattern_syntax.specs.declared.tokenizer.TokenType.TheVariants.{End}
-use Rattle.urlpattern_syntax.specs.Pieces.{Ending as endings}
+use Rattle.urlpattern_syntax.specs.Reading.{Expect, FirstFails, Reads, Refuses, encode_fixed, encoding_of}
 use Rattle.urlpattern_syntax.specs.Tokens.{token_view}
-use Rattle.urlpattern_syntax.proofs.PartListLemmas.{HasRead, behind_is, ending_at, fails_end, fails_open, fails_piece, nothing_read, number_most, piece_at, piece_shorter, reads_end, reads_piece}
+use Rattle.urlpattern_syntax.proofs.PartListLemmas.{number_most}
+use Rattle.urlpattern_syntax.proofs.TextReadingLemmas.{HasReadUpTo, end_fails, end_read, gives_end, group_fails, nothing_read_yet, piece_fails, piece_read}
 use Rattle.urlpattern_syntax.proofs.parser.PatternParser.part_list.Goals as goal
 
-pub loop-piece-init : goal.loop-piece-init
-loop-piece-init g c =
+pub loop-list-init : goal.loop-list-init
+loop-list-init g c =
     let options = options_view c.args.self.now.options.now in
     let encoding = encoding_of (FnReturnsAt g.F.Fn c.args.self.now.encoding_callback) in
-    let tokens = views c.args.tokens.now in
+    let text = reader_text c.args.reader.now in
     record {
-      within = omega arith;
+      whole = refl;
+      stands = c.requires.starts.stands;
       few = let e = ap (λ (list : PartListView). list.number) c.new-list.ensures in omega (arith, e);
-      closed = c.requires.closed;
-      read = subst (HasRead options encoding tokens tokens) (sym c.new-list.ensures) (nothing_read options encoding tokens);
+      read = subst (HasReadUpTo options encoding text c.args.reader.now) (sym c.new-list.ensures) (nothing_read_yet options encoding text c.args.reader.now c.requires.starts);
     }
 
-pub overflow_sub-at : goal.overflow_sub-at
-overflow_sub-at g c =
-    let tokens = c.args.tokens.now in
-    let at = c.loop-piece.at in
-    let behind = c.in-Piece.behind.now in
-    let point = (options_view c.args.self.now.options.now).prefix in
-    let b : BeginsWithPiece point (views (drop at tokens)) c.in-Piece.piece (views behind) = piece_at point (chars c.deref.result.now) tokens behind at c.in-Piece.piece (ap chars c.deref.ensures) c.in-Piece.ensures in
-    let shorter = piece_shorter point tokens behind at c.in-Piece.piece c.loop-piece.invariant.within b in
-    omega (arith, shorter)
-
-pub loop-piece-smaller : goal.loop-piece-smaller
-loop-piece-smaller g c =
-    let tokens = c.args.tokens.now in
-    let at = c.loop-piece.at in
-    let behind = c.in-Piece.behind.now in
-    let point = (options_view c.args.self.now.options.now).prefix in
-    let b : BeginsWithPiece point (views (drop at tokens)) c.in-Piece.piece (views behind) = piece_at point (chars c.deref.result.now) tokens behind at c.in-Piece.piece (ap chars c.deref.ensures) c.in-Piece.ensures in
-    let shorter = piece_shorter point tokens behind at c.in-Piece.piece c.loop-piece.invariant.within b in
-    let less : length tokens - (length tokens - length behind) < length tokens - at = omega (arith, shorter) in
-    less
-
-pub loop-piece-preserved : goal.loop-piece-preserved
-loop-piece-preserved g c =
+pub loop-list-preserved : goal.loop-list-preserved
+loop-list-preserved g c =
     let options = options_view c.args.self.now.options.now in
     let encoding = encoding_of (FnReturnsAt g.F.Fn c.args.self.now.encoding_callback) in
-    let tokens = c.args.tokens.now in
-    let at = c.loop-piece.at in
-    let behind = c.in-Piece.behind.now in
-    let point = (options_view c.args.self.now.options.now).prefix in
-    let b : BeginsWithPiece point (views (drop at tokens)) c.in-Piece.piece (views behind) = piece_at point (chars c.deref.result.now) tokens behind at c.in-Piece.piece (ap chars c.deref.ensures) c.in-Piece.ensures in
-    let shorter = piece_shorter point tokens behind at c.in-Piece.piece c.loop-piece.invariant.within b in
-    let old = part_list_view c.loop-piece.list in
-    let new = part_list_view c.add.new.self in
-    let number = c.in_ok-add-in-Piece.ensures.number in
-    let most = number_most c.in-Piece.piece.placeholder old.number in
-    let few = c.loop-piece.invariant.few in
-    let is_behind = sym (behind_is tokens behind at b.front c.loop-piece.invariant.within b.cut) in
+    let text = reader_text c.args.reader.now in
+    let old = c.loop-list.reader in
+    let new = c.next_piece.new.self in
+    let list = part_list_view c.loop-list.list in
+    let read = c.loop-list.invariant.read in
+    let takes : Takes old new (λ tokens rest. IsNext options.prefix tokens (nexts.Piece c.in-Piece.piece) rest) =
+    subst (λ point. Takes old new (λ tokens rest. IsNext point tokens (nexts.Piece c.in-Piece.piece) rest)) (ap chars c.deref.ensures)
+    (subst (λ next. Takes old new (λ tokens rest. IsNext (chars c.deref.result.now) tokens next rest)) c.in-Piece.is c.in_ok-piece.ensures.next) in
+    let same : reader_text new ≡ text = ap chars takes.whole ∙ c.loop-list.invariant.whole in
+    let piece = piece_view c.in-Piece.piece in
+    let less : reader_left new < reader_left old = subst (IsShorter (reader_left new) (reader_left old)) c.in-Piece.is c.in_ok-piece.ensures.less in
+    let number = c.in-Ok.ensures.number in
+    let most = number_most piece list.number in
+    let few = c.loop-list.invariant.few in
     record {
-      within = omega arith;
-      few = omega (arith, shorter, most, few, number);
-      closed = subst IsTokenList is_behind b.closed;
-      read = subst (λ rest. HasRead options encoding (views tokens) rest new) is_behind
-          (reads_piece options encoding (views tokens) (views (drop at tokens)) old c.loop-piece.invariant.read b.front (views behind) b.piece b.cut b.is_piece new
-          (number ∙ sym (b.shows.number old.number))
-          (subst (λ x. AddsItem options encoding old x new) (sym (b.shows.item old.number)) c.in_ok-add-in-Piece.ensures.ok));
+      whole = same;
+      stands = takes.stands;
+      few = omega (arith, less, number, most, few);
+      read = piece_read options encoding text old new list read piece (part_list_view c.add.new.self) takes number c.in-Ok.ensures.ok;
     }
 
-pub returns-in_err-add-in-Piece-clause-fails : goal.returns-in_err-add-in-Piece-clause-fails
-returns-in_err-add-in-Piece-clause-fails g c =
+pub returns-in-Err-clause-refuses : goal.returns-in-Err-clause-refuses
+returns-in-Err-clause-refuses g c =
     let options = options_view c.args.self.now.options.now in
     let encoding = encoding_of (FnReturnsAt g.F.Fn c.args.self.now.encoding_callback) in
-    let tokens = c.args.tokens.now in
-    let at = c.loop-piece.at in
-    let behind = c.in-Piece.behind.now in
-    let point = (options_view c.args.self.now.options.now).prefix in
-    let b : BeginsWithPiece point (views (drop at tokens)) c.in-Piece.piece (views behind) = piece_at point (chars c.deref.result.now) tokens behind at c.in-Piece.piece (ap chars c.deref.ensures) c.in-Piece.ensures in
-    let shorter = piece_shorter point tokens behind at c.in-Piece.piece c.loop-piece.invariant.within b in
-    let old = part_list_view c.loop-piece.list in
-    let p = err_from_is_err_and c.from_residual.result c.from_residual.ensures.1 in
-    rw (p.1, p.2)
-    (fails_piece options encoding (views tokens) (views (drop at tokens)) old c.loop-piece.invariant.read b.front (views behind) b.piece b.cut b.is_piece c.in_err-add-in-Piece.field-0.0 b.closed
-    (subst (λ x. FailsItem encoding old x c.in_err-add-in-Piece.field-0.0) (sym (b.shows.item old.number)) c.in_err-add-in-Piece.ensures.err))
+    let text = reader_text c.args.reader.now in
+    let old = c.loop-list.reader in
+    let new = c.next_piece.new.self in
+    let list = part_list_view c.loop-list.list in
+    let read = c.loop-list.invariant.read in
+    let takes : Takes old new (λ tokens rest. IsNext options.prefix tokens (nexts.Piece c.in-Piece.piece) rest) =
+    subst (λ point. Takes old new (λ tokens rest. IsNext point tokens (nexts.Piece c.in-Piece.piece) rest)) (ap chars c.deref.ensures)
+    (subst (λ next. Takes old new (λ tokens rest. IsNext (chars c.deref.result.now) tokens next rest)) c.in-Piece.is c.in_ok-piece.ensures.next) in
+    let same : reader_text new ≡ text = ap chars takes.whole ∙ c.loop-list.invariant.whole in
+    piece_fails options encoding text old new list read (piece_view c.in-Piece.piece) c.in-Err.error c.first_fault.result takes c.in-Err.ensures.err same c.first_fault.ensures
 
-pub returns-in-LacksClose-clause-fails : goal.returns-in-LacksClose-clause-fails
-returns-in-LacksClose-clause-fails g c =
+pub returns-in-LacksClose-clause-refuses : goal.returns-in-LacksClose-clause-refuses
+returns-in-LacksClose-clause-refuses g c =
     let options = options_view c.args.self.now.options.now in
     let encoding = encoding_of (FnReturnsAt g.F.Fn c.args.self.now.encoding_callback) in
-    let tokens = c.args.tokens.now in
-    let at = c.loop-piece.at in
-    let found = token_view c.in-LacksClose.found in
-    fails_open options encoding (views tokens) (views (drop at tokens)) (part_list_view c.loop-piece.list) c.loop-piece.invariant.read found c.expected_token.result
-    (ending_at tokens at (endings.LacksClose found) c.in-LacksClose.ensures) c.expected_token.ensures
+    let text = reader_text c.args.reader.now in
+    let old = c.loop-list.reader in
+    let new = c.next_piece.new.self in
+    let list = part_list_view c.loop-list.list in
+    let read = c.loop-list.invariant.read in
+    let takes : Takes old new (λ tokens rest. IsNext options.prefix tokens nexts.LacksClose rest) =
+    subst (λ point. Takes old new (λ tokens rest. IsNext point tokens nexts.LacksClose rest)) (ap chars c.deref.ensures)
+    (subst (λ next. Takes old new (λ tokens rest. IsNext (chars c.deref.result.now) tokens next rest)) c.in-LacksClose.is c.in_ok-piece.ensures.next) in
+    let same : reader_text new ≡ text = ap chars takes.whole ∙ c.loop-list.invariant.whole in
+    group_fails options encoding text old new list read c.expected_token.result takes c.in_ok-read_to_end-in-LacksClose.ensures.tokens
+    (subst (λ (token : Token). MemoryOr (λ view. view ≡ error_views.ExpectedToken Close token.kind (chars token.value.now)) c.expected_token.result) c.token.ensures c.expected_token.ensures)
 
 pub returns-in-Stops-clause-reads : goal.returns-in-Stops-clause-reads
 returns-in-Stops-clause-reads g c =
     let options = options_view c.args.self.now.options.now in
     let encoding = encoding_of (FnReturnsAt g.F.Fn c.args.self.now.encoding_callback) in
-    let tokens = c.args.tokens.now in
-    let at = c.loop-piece.at in
-    let list = part_list_view c.loop-piece.list in
-    let found = token_view c.in-Stops.found in
-    let is_ending = ending_at tokens at (endings.Stops found) c.in-Stops.ensures in
+    let text = reader_text c.args.reader.now in
+    let old = c.loop-list.reader in
+    let new = c.next_piece.new.self in
+    let list = part_list_view c.loop-list.list in
+    let read = c.loop-list.invariant.read in
+    let takes : Takes old new (λ tokens rest. IsNext options.prefix tokens nexts.Stops rest) =
+    subst (λ point. Takes old new (λ tokens rest. IsNext point tokens nexts.Stops rest)) (ap chars c.deref.ensures)
+    (subst (λ next. Takes old new (λ tokens rest. IsNext (chars c.deref.result.now) tokens next rest)) c.in-Stops.is c.in_ok-piece.ensures.next) in
+    let same : reader_text new ≡ text = ap chars takes.whole ∙ c.loop-list.invariant.whole in
     IfOk-weaker c.finish.result
-    (λ parts. (found.kind ≡ End) × AddsParts options encoding list (pending_items list.pending) (record { parts = map part_view parts.items; pending = []; number = 0 }))
-    (λ parts. ReadsTokens (views tokens) options encoding (map part_view parts.items))
-    (λ parts h. reads_end options encoding (views tokens) (views (drop at tokens)) list c.loop-piece.invariant.read found
-    (record { parts = map part_view parts.items; pending = []; number = 0 }) is_ending h.0 h.1)
+    (λ parts. (new.token.kind ≡ End) × AddsParts options encoding list (pending_items list.pending) (record { parts = map part_view parts.items; pending = []; number = 0 }))
+    (λ parts. Reads text options encoding (map part_view parts.items))
+    (λ parts h. end_read options encoding text old new list read (record { parts = map part_view parts.items; pending = []; number = 0 }) takes (gives_end new h.0) h.0 h.1)
     c.finish.ensures.ok
 
-pub returns-in-Stops-clause-fails : goal.returns-in-Stops-clause-fails
-returns-in-Stops-clause-fails g c =
+pub returns-in-Stops-clause-refuses : goal.returns-in-Stops-clause-refuses
+returns-in-Stops-clause-refuses g c =
     let options = options_view c.args.self.now.options.now in
     let encoding = encoding_of (FnReturnsAt g.F.Fn c.args.self.now.encoding_callback) in
-    let tokens = c.args.tokens.now in
-    let at = c.loop-piece.at in
-    let list = part_list_view c.loop-piece.list in
-    let found = token_view c.in-Stops.found in
-    let is_ending = ending_at tokens at (endings.Stops found) c.in-Stops.ensures in
+    let text = reader_text c.args.reader.now in
+    let old = c.loop-list.reader in
+    let new = c.next_piece.new.self in
+    let list = part_list_view c.loop-list.list in
+    let read = c.loop-list.invariant.read in
+    let takes : Takes old new (λ tokens rest. IsNext options.prefix tokens nexts.Stops rest) =
+    subst (λ point. Takes old new (λ tokens rest. IsNext point tokens nexts.Stops rest)) (ap chars c.deref.ensures)
+    (subst (λ next. Takes old new (λ tokens rest. IsNext (chars c.deref.result.now) tokens next rest)) c.in-Stops.is c.in_ok-piece.ensures.next) in
+    let same : reader_text new ≡ text = ap chars takes.whole ∙ c.loop-list.invariant.whole in
     IfErr-weaker c.finish.result
-    (MemoryOr (FirstFails encoding (encode_fixed list.pending ++ Expect End found ∷ [])))
-    (MemoryOr (FailsTokens (views tokens) options encoding))
-    (λ error h. fails_end options encoding (views tokens) (views (drop at tokens)) list c.loop-piece.invariant.read found error is_ending h)
+    (FaultOr new (FirstFails encoding (encode_fixed list.pending ++ Expect End (token_view new.token) ∷ [])))
+    (MemoryOr (Refuses text options encoding))
+    (λ error h. end_fails options encoding text old new list read error takes same h)
     c.finish.ensures.err

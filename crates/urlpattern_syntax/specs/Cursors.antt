@@ -1,0 +1,29 @@
+-- Strict tokens that are read one by one, and where the reading is. No public contract cites these words.
+use Rattle.std.specs.Prelude.{◌≡◌, ℕ, ◌⊎◌, List, [], ◌∷◌, ◌++◌}
+use Rattle.urlpattern_syntax.specs.declared.tokenizer.TokenType.{TokenType}
+use Rattle.urlpattern_syntax.specs.declared.tokenizer.TokenType.TheVariants.{End}
+use Rattle.urlpattern_syntax.specs.Text.{BeginsWith}
+use Rattle.urlpattern_syntax.specs.Tokens.{IsCut, IsStrictCut, IsTokenOf, Skips, TokenView, end_of, is_ignored}
+
+-- the whole text is cut into strict tokens up to this rest of it, and nothing is skipped where that begins
+pub record IsPlace (whole rest : List ℕ) : Type 0 where
+  pub front : List TokenView
+  pub cut : IsStrictCut whole front rest
+  pub begins : ¬ BeginsWith is_ignored rest
+
+-- these are the strict tokens that this rest of the whole text gives
+pub record AreTokensAfter (whole rest : List ℕ) (tokens : List TokenView) : Type 0 where
+  pub front : List TokenView
+  pub cut : IsCut (IsTokenOf whole) rest front []
+  pub all : tokens ≡ front ++ end_of whole ∷ []
+
+-- the first of them, and the rest where the next begins
+abbrev pub IsTokenAfter : (whole rest : List ℕ) → TokenView → (next : List ℕ) → Type 0
+IsTokenAfter whole rest token next =
+    ((rest ≡ []) × (token ≡ end_of whole) × (next ≡ []))
+    ⊎ ((behind : List ℕ) × IsTokenOf whole rest token behind × Skips behind next)
+
+-- End is no token that is read on from
+abbrev pub tokens_left : TokenType → ℕ
+tokens_left End = 0
+tokens_left kind = 1
