@@ -49,3 +49,8 @@ pub mod StandingItems
 pub mod ReadsBack
 pub mod RoundTripExamples
 pub mod KeptTexts
+pub mod WayLists
+pub mod WaysSound
+pub mod WaysComplete
+pub mod FirstWay
+pub mod WayExamples

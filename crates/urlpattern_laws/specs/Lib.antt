@@ -4,3 +4,4 @@ pub mod Matching
 pub mod PartMeaning
 pub mod Printing
 pub mod RoundTrip
+pub mod Ways
