@@ -1,4 +1,4 @@
--- Items of the dialect are read as what they stand for.
+-- As what the crate `regex` reads the text of items, with their quantifiers and groups.
 use Rattle.std.proofs.Common.{◌≡◌, ℕ, suc, ◌+◌, ◌-◌, ◌*◌, ◌^◌, ◌≤◌, ◌<◌, List, [], ◌∷◌, ◌++◌, length, replicate, Option, Some, None, Bool, true, false, ◌||◌, ◌==◌, refl, sym, ap, ◌∙◌, subst, arith, ne_eqb, lt-ltb, append_assoc, append-nil, length-append, nat_eq}
 use Rattle.std.proofs.lemmas.Bool.{and_left, both_ways}
 use Rattle.std.proofs.lemmas.List.{length-replicate, replicate_more}
@@ -15,7 +15,7 @@ use Rattle.urlpattern_laws.specs.Dialect.{Character, Plain, Escaped, character_o
 use Rattle.urlpattern_core.proofs.TreeAttempts.{re_taken}
 use Rattle.urlpattern_core.proofs.AtomsRead.{differs, itself, any_character, any_but, read_character, read_dot, read_class, full}
 
--- a place in front of a text, with so many groups opened, none of which has a name
+-- where the text is left to read, after so many groups that have no names
 abbrev pub place : ℕ → Text → Place
 place g t = record { config = default_config; names = replicate g None; text = t }
 
@@ -73,7 +73,7 @@ quantified LazyOneOrMore sub g rest free =
       repetitions_end default_config (length (43 ∷ 63 ∷ rest)) (length (63 ∷ rest)) (repeated_as LazyOneOrMore sub) rest rest (omega arith) refl free,
     )
 
--- an atom with its quantifier is an item
+-- an atom that is no group, and its quantifier
 pub item_of_atom : (inner : Place → Read (Nested Re)) (t : Text) (q : Quantifier) (rest : Text) (sub : Nested Re) (g : ℕ) → is_at "(" t ≡ false
     → atom default_config t ≡ Some (sub, quantifier_text q ++ rest) → Free rest → item inner (place g t) ≡ Some (repeated_as q sub, place g rest)
 unfolding item
@@ -81,7 +81,7 @@ item_of_atom inner t q rest sub g no_group reads free = rw (item, no_group, read
 
 -- ---- what begins a text
 
--- no question mark, no operator: the front of an item, or of what follows a group's items
+-- a text that is free begins with no word that begins with a question mark
 pub begins_no : (word : List ℕ) (t : Text) → Free t → starts_with nat_eq t (63 ∷ word) ≡ false
 unfolding first
 begins_no word [] h = refl
@@ -152,14 +152,14 @@ pub opens_grouped : (g : ℕ) (t : Text) → opening (place g (40 ∷ 63 ∷ 58 
 unfolding opening set_flags first skip
 opens_grouped g t = refl
 
--- from the closing bracket on
+-- what closes a group, and its quantifier
 closed : (sub : Nested Re) (make : Re → Re) (g : ℕ) (q : Quantifier) (more : Text) (inner : Place → Read (Nested Re)) (inside : Place) → Free more
     → inner inside ≡ Some (sub, place g (41 ∷ (quantifier_text q ++ more)))
     → rest_of_group inner default_config (opens make) inside ≡ Some (repeated_as q (level make sub), place g more)
 unfolding first
 closed sub make g q more inner inside free reads = rw (rest_of_group, reads) (quantified q (level make sub) g more free)
 
--- the items of a group, up to its closing bracket
+-- what is in a group
 branch_read : (tree : Items) (g h : ℕ) (rest : Text) (top n m : ℕ) → top ≡ suc n
     → join_after cat_all [] (items n (place g (items_text tree ++ 41 ∷ rest))) ≡ join_after cat_all (parts g tree) (items m (place h (41 ∷ rest)))
     → 0 < m → group_inside top (place g (items_text tree ++ 41 ∷ rest)) ≡ Some (alone_in (parts g tree), place h (41 ∷ rest))
@@ -169,14 +169,14 @@ branch_read tree g h rest top n m e same le =
     ∙ ap (λ o. o >>= more_branches n []) (join_parts_is cat_all _ ∙ same ∙ branch_ends m (m - 1) (parts g tree) (place h (41 ∷ rest)) (41 ∷ rest) (omega arith) refl (rw (full 41 rest)))
     ∙ join_ends alt_all (join cat_all (parts g tree) ∷ []) _
 
--- a group is an item
+-- a group with its quantifier
 group_item : (sub : Nested Re) (make : Re → Re) (g h k : ℕ) {inside : Text} (t : Text) (q : Quantifier) (more : Text) (m : ℕ)
     → opening (place g (40 ∷ t)) ≡ Some (opens make, place h inside) → Free more → group_inside m (place h inside) ≡ Some (sub, place k (41 ∷ (quantifier_text q ++ more)))
     → item (group_inside m) (place g (40 ∷ t)) ≡ Some (repeated_as q (level make sub), place k more)
 unfolding item first
 group_item sub make g h k {inside} t q more m is_open free reads = rw (item, is_open) (closed sub make k q more (group_inside m) (place h inside) free reads)
 
--- ---- trees
+-- ---- items
 
 no_group : (ch : Character) → IsCharacter ch → (rest : Text) → is_at "(" (character_text ch ++ rest) ≡ false
 unfolding first
@@ -199,7 +199,7 @@ AreRead g tree rest n earlier =
     (m : ℕ) × (2 * length rest < m)
     × (join_after cat_all earlier (items n (place g (items_text tree ++ rest))) ≡ join_after cat_all (earlier ++ parts g tree) (items m (place (g + group_count tree) rest)))
 
--- an item and then the others
+-- the first item, and the others
 goes_on : (a : Atom) (q : Quantifier) (tree : Items) (g : ℕ) (rest : Text) (n : ℕ) (earlier : List (Nested Re))
     → join_after cat_all earlier (items n (place g (items_text (Item a q tree) ++ rest)))
     ≡ join_after cat_all (earlier ++ repeated_as q (part g a) ∷ []) (items (n - 1) (place (g + atom_group_count a) (items_text tree ++ rest)))

@@ -7,3 +7,16 @@ pub mod MatcherTexts
 pub mod MatcherAnswers
 pub mod Peeling
 pub mod NameLists
+pub mod WayAnswers
+pub mod GroupSlots
+pub mod LoopAttempts
+pub mod TreeAttempts
+pub mod TreeSearch
+pub mod AtomsRead
+pub mod ItemsRead
+pub mod TreeTextsRead
+pub mod TreesRead
+pub mod GroupsRefused
+pub mod TreeDepths
+pub mod RegexWays
+pub mod Bytes

@@ -1,4 +1,4 @@
--- Attempts at the pattern of a tree go the ways of the tree.
+-- Attempts at a character and at a loop try their ways in order.
 use Rattle.std.proofs.Common.{◌≡◌, ℕ, zero, suc, ◌+◌, ◌-◌, ◌≤◌, ◌<◌, List, [], ◌∷◌, ◌++◌, length, drop, Option, Some, None, Bool, true, false, cond, if◌then◌else◌, nat_lt, option_and_then, refl, sym, ap, ◌∙◌, subst, append_assoc, append-nil, length-append, inl, inr, arith, lt-ltb, le-ltb, encode_utf8}
 use Rattle.std.proofs.lemmas.Bool.{and_parts}
 use Rattle.std.proofs.lemmas.List.{drop_at, nil_from_length}
@@ -33,7 +33,7 @@ module _ (Shown : ℕ → Captures → Writes → Type 0)
   abbrev Shows : ℕ → List ℕ → Rest → List Way → Option Trace → Type 0
   Shows = Gave Shown shown-append shown-idle
 
-  -- attempts go these ways, from any place of the text
+  -- what is attempted tries the ways of this choice, at each place of the text
   abbrev pub Suits : ℕ → Choice → (Rest → Rest) → Type 0
   Suits g choice body = (before text : List ℕ) → before ++ text ≡ whole → (k : Rest) → Shows g before k (choice text) (body k (at before))
 
@@ -42,7 +42,7 @@ module _ (Shown : ℕ → Captures → Writes → Type 0)
       ap length (encodes-append before (c ∷ [])) ∙ length-append (encodes before) (encodes (c ∷ []))
       ∙ ap (λ n. at before + n) (ap length (append-nil _) ∙ length-encode c)
 
-  -- one character of a class
+  -- ---- a character
   pub leaf : (g : ℕ) (passes : ℕ → Bool) (rs : List (ℕ × ℕ)) → ((c : ℕ) → IsScalar c → in_ranges rs c ≡ passes c) → Suits g (one_that passes) (attempt hay (char_in rs))
   unfolding attempt
   leaf g passes rs same before [] e k =
@@ -71,7 +71,7 @@ module _ (Shown : ℕ → Captures → Writes → Type 0)
     abbrev more : Rest
     more = trace_more_rounds hay greedy (attempt hay a) k
 
-    -- another round goes on only if it took something
+    -- a round is followed by another where it took something
     further : (before text taken rest : List ℕ) (ways : List Way) (o : Rest) → text ≡ taken ++ rest → (none : List Way) (leave : Rest)
         → (taken ≡ [] → Shows g (before ++ taken) k none (leave (at (before ++ taken))))
         → (length rest < length text → Shows g (before ++ taken) k ways (o (at (before ++ taken))))

@@ -1,4 +1,4 @@
--- A search for the pattern of a tree answers the first way.
+-- A search for the pattern of a tree, between `^` and `$`, finds what the first way captures.
 use Rattle.std.proofs.Common.{◌≡◌, ℕ, zero, suc, ◌+◌, ◌*◌, ◌≤◌, ◌<◌, List, [], ◌∷◌, ◌++◌, map, find, length, Option, Some, None, option_map, true, false, cond, if◌then◌else◌, ◌==◌, refl, sym, ap, ap₂, ◌∙◌, subst, append-nil, length-append, inl, inr, arith, ne_eqb}
 use Rattle.std.proofs.lemmas.Bool.{cond-true, cond-false, cond_both}
 use Rattle.std.proofs.lemmas.Option.{none-some, same_Some, slice_get_past, slice_get-get_or}
@@ -25,7 +25,7 @@ use Rattle.urlpattern_core.proofs.WayAnswers.{at, Gave}
 use Rattle.urlpattern_core.proofs.GroupSlots.{Shown, Spans, text_at, shown-append, shown-idle, shown-capturing}
 use Rattle.urlpattern_core.proofs.TreeAttempts.{re_items, items-fit}
 
--- what groups from g on span in a match
+-- the texts of n groups in a match, the first of which is g
 abbrev pub texts_from : List ℕ → Match → ℕ → ℕ → Captures
 texts_from hay m g n = map (λ k. option_map (text_at hay) (group_of m k)) (range_with_len g n)
 
@@ -126,7 +126,7 @@ module _ (tree : Items) (h : AreItems tree) (text : List ℕ) (good : scalars te
   nowhere e zero p le = at_start None e
   nowhere e (suc i) p le = later_on (suc i) (omega arith) le
 
-  -- the search's answer is the first way's
+  -- the groups of what is found are the captures of the first way
   pub found_is_first : option_map (λ m. texts_from hay m 1 (group_count tree)) (find_str pattern hay 0) ≡ first_way tree text
   unfolding first_way find_str
   found_is_first = by (attempt hay (re_items 1 tree) (to_end hay) 0) refl

@@ -1,11 +1,10 @@
--- What the text of a tree stands for is the pattern of the tree.
-use Rattle.std.proofs.Common.{◌≡◌, ℕ, suc, ◌+◌, ◌^◌, replicate, ◌≤◌, max, List, [], ◌∷◌, ◌++◌, map, Some, None, true, false, not, ◌&&◌, ◌==◌, refl, sym, ap, ◌∙◌, arith, codes, encode_utf8, nat_lt, nat_le, lt-ltb, eqb-true, ⊎_elim}
+-- What the text of a tree is read as is the pattern of the tree, and it has as many groups.
+use Rattle.std.proofs.Common.{◌≡◌, ℕ, suc, ◌+◌, ◌^◌, replicate, ◌≤◌, max, List, [], ◌∷◌, ◌++◌, map, Some, None, true, false, not, ◌&&◌, ◌==◌, refl, sym, ap, ◌∙◌, arith, codes, chars, encode_utf8, nat_lt, nat_le, lt-ltb, eqb-true, ⊎_elim}
 use Rattle.std.proofs.lemmas.Bool.{and_parts, and_right, and_from, cases_Bool}
 use Rattle.std.proofs.lemmas.Bool.Decides.{nat_tests}
 use Rattle.std.proofs.lemmas.List.{map_push}
 use Rattle.std.specs.Char.{IsScalar}
-use Rattle.std.proofs.lemmas.Str.{chars-encodes}
-use lib.Utf8.{scalars, encodes}
+use lib.Utf8.{scalars}
 use Rattle.regex_class.proofs.RangesLemmas.{or-false}
 use Rattle.regex_hir.proofs.Utf8Lemmas.{InScalarRange-of_IsScalar}
 use Rattle.regex_hir.specs.declared.look.Look.TheVariants.{Start, End}
@@ -67,7 +66,7 @@ same_class : (c : ℕ) → SameTree (any_but c).value (char_in (members (λ d. n
 unfolding one_of negate
 same_class c = same_set _ _ (λ d le. let fits : nat_le d 0x10_FFFF ≡ true = grind (arith, nat_tests) in rw (fits, or-false (d == c)) refl)
 
--- ---- trees
+-- ---- items and atoms
 
 same_taken : (q : Quantifier) (sub : Nested Re) (a : Re) → SameTree sub.value a → SameTree (repeated_as q sub).value (re_taken q a)
 same_taken Once sub a h = h
@@ -103,7 +102,7 @@ same_whole tree h =
     then cat_cong (same_refl _)
     (same_of_eq (ap cat_all (map_push (λ (part : Nested Re). part.value) (parts 1 tree) _)) then cat_all-push _ _ then cat_cong (same_items tree h 1) (same_refl _))
 
--- ---- how many groups
+-- ---- groups
 
 taken_count : (q : Quantifier) (a : Re) → grammar.group_count (re_taken q a) ≡ grammar.group_count a
 taken_count Once a = refl
@@ -128,16 +127,15 @@ mutual
 whole_count : (tree : Items) → scalars (items_text tree) ≡ true → max 1 (grammar.group_count (whole tree).value) ≡ suc (group_count tree)
 whole_count tree h = omega (arith, (same_whole tree h).groups.count, items_count tree 1)
 
--- ---- the text of a tree
+-- ---- whole trees
 
--- the text of a tree is read as the pattern of the tree, and each group has no name
+-- the text is read, in the form that the grammar builds, with groups that have no names
 pub tree_is_read : (tree : Items) → AreItems tree → scalars (items_text tree) ≡ true → suc (group_count tree) ≤ 2 ^ 32
     → read default_config (codes "^" ++ items_text tree ++ codes "$") ≡ Some (whole tree, replicate (suc (group_count tree)) None)
 tree_is_read tree h good small =
     read_is tree h small
     ∙ ap (λ names. Some (whole tree, names)) (no_names (whole tree).value (suc (group_count tree)) (max 1 (grammar.group_count (whole tree).value)) ∙ ap (λ n. replicate n None) (whole_count tree good))
 
-pub tree_is_read_as : (tree : Items) → AreItems tree → scalars (items_text tree) ≡ true → suc (group_count tree) ≤ 2 ^ 32
-    → IsReadAs default_config (encodes (codes "^" ++ items_text tree ++ codes "$")) (re_of tree)
-tree_is_read_as tree h good small =
-    rw (chars-encodes (codes "^" ++ items_text tree ++ codes "$") (scalars-append (items_text tree) (codes "$") good refl), tree_is_read tree h good small) (same_whole tree good)
+pub tree_is_read_as : (tree : Items) → AreItems tree → scalars (items_text tree) ≡ true → suc (group_count tree) ≤ 2 ^ 32 → (bytes : List ℕ)
+    → chars bytes ≡ codes "^" ++ items_text tree ++ codes "$" → IsReadAs default_config bytes (re_of tree)
+tree_is_read_as tree h good small bytes e = rw (e, tree_is_read tree h good small) (same_whole tree good)

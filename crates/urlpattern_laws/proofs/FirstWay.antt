@@ -61,7 +61,7 @@ ways_are_meanings tree h text way = (
 
 -- ---- engines
 
-meant_or_none : (tree : Items) → AreItems tree → (text : List ℕ) (answer : Option Captures) → first_way tree text ≡ answer →
+pub meant_or_none : (tree : Items) → AreItems tree → (text : List ℕ) (answer : Option Captures) → first_way tree text ≡ answer →
     MatchOption answer ((captures : Captures) → ¬ Means tree text captures) (λ captures. Means tree text captures)
 meant_or_none tree h text None e = no_way_means_none tree h text e
 meant_or_none tree h text (Some captures) e = first_way_means tree h text captures e

@@ -54,3 +54,8 @@ pub mod WaysSound
 pub mod WaysComplete
 pub mod FirstWay
 pub mod WayExamples
+pub mod WaysJoined
+pub mod WaysCut
+pub mod FirstPeeled
+pub mod Middles
+pub mod FirstAnswers

@@ -51,6 +51,10 @@ put_allowed : (marks text : List ℕ) (items : Items) → AreMarks marks → Are
 put_allowed marks [] items are allowed = allowed
 put_allowed marks (c ∷ text) items are allowed = (character_by marks are c (is_among marks c) refl, tt, put_allowed marks text items are allowed)
 
+-- a text alone is allowed
+pub text_allowed : (options : OptionsView) (text : List ℕ) → AreItems (put (escaped_marks options.syntax) text Nothing)
+text_allowed options text = put_allowed (escaped_marks options.syntax) text Nothing (marks_of options.syntax) tt
+
 -- a text has no groups
 pub put_groups : (marks text : List ℕ) (items : Items) → group_count (put marks text items) ≡ group_count items
 put_groups marks [] items = refl

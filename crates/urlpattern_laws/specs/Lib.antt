@@ -1,4 +1,5 @@
 pub mod Dialect
+pub mod FirstAnswers
 pub mod Laws
 pub mod Matching
 pub mod PartMeaning

@@ -11,6 +11,7 @@ ghost use Rattle.urlpattern_syntax.specs.declared.tokenizer.TokenType.TheVariant
 ghost use Rattle.urlpattern_syntax.specs.Errors.{ErrorView};
 ghost use Rattle.urlpattern_syntax.specs.Errors.{ErrorView as errors};
 ghost use Rattle.urlpattern_laws.specs.Dialect.{AreItems, Follows, HasMeaningOf, IsTreeOf, Items, Means, group_count};
+ghost use Rattle.urlpattern_laws.specs.FirstAnswers.{AnswersFirstInMiddle, IsFirstOf};
 ghost use Rattle.urlpattern_laws.specs.Laws.{Answered, AnswersAsked, AnswersOnce, AnswersOnceGivenMemory, CountFrom, HasLenientTokens, HasOutcome, HasShapeOf, HasSomeOutcome, HasTokensOrFault, LacksAnswer, Lays, Outcome, listed, numbers_among, spelling};
 ghost use Rattle.urlpattern_laws.specs.Matching.{Agrees, AgreesInMiddle, Answers, ArePeeled, FollowsMiddle, MatcherView, end_text};
 ghost use Rattle.urlpattern_syntax.specs.Options.{OptionsView};
@@ -182,6 +183,20 @@ pub fn matchers_answer_what_parts_mean<E>()
     ensures agrees { (answer : E → List ℕ → Option Captures) (options : OptionsView) (parts : List PartView) (matcher : MatcherView E) (text : List ℕ) (result : Option Captures) →
         HasShapeOf options parts matcher → options.ignore_case ≡ false → IsTrue (lacks line_feed text) → IsTrue (all_scalars text) →
         AgreesInMiddle answer options parts matcher.inner → Answers answer matcher text result → Agrees options parts text result }
+{}
+
+/// A matcher of parts answers the first way of the tree of their regular expression, and that is one answer, which is a
+/// meaning of the parts, or None where they have none. No part is custom, case is kept, and the text is of characters without
+/// line feed. An engine that is asked answers the first way of the tree of its own text; where none is asked, this holds of
+/// every matcher. `E` is any type of engines' values.
+pub fn matchers_answer_the_first_way<E>()
+    ensures first { (answer : E → List ℕ → Option Captures) (options : OptionsView) (parts : List PartView) (matcher : MatcherView E) (text : List ℕ) (result : Option Captures) →
+        HasShapeOf options parts matcher → All (λ part. part.kind ≢ Regexp) parts → options.ignore_case ≡ false → IsTrue (lacks line_feed text) → IsTrue (all_scalars text) →
+        AnswersFirstInMiddle answer options parts matcher.inner → Answers answer matcher text result → IsFirstOf options parts text result }
+    ensures one { (options : OptionsView) (parts : List PartView) (text : List ℕ) (result other : Option Captures) →
+        IsFirstOf options parts text result → IsFirstOf options parts text other → result ≡ other }
+    ensures meant { (options : OptionsView) (parts : List PartView) (text : List ℕ) (result : Option Captures) →
+        All (λ part. part.kind ≢ Regexp) parts → IsFirstOf options parts text result → Agrees options parts text result }
 {}
 
 /// Neighbouring plain fixed texts have the same regular expression, and the same names, as one.
