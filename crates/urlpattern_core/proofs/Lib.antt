@@ -18,5 +18,7 @@ pub mod TreeTextsRead
 pub mod TreesRead
 pub mod GroupsRefused
 pub mod TreeDepths
-pub mod RegexWays
 pub mod Bytes
+pub mod RegexWays
+pub mod RegexMatchers
+pub mod PartDepths

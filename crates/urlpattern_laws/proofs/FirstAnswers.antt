@@ -4,7 +4,7 @@ use Rattle.std.proofs.lemmas.Option.{none-some, same_Some}
 use Rattle.std.specs.Prelude.{All, IsTrue, Ok, Err, option_to_list}
 use Rattle.std.specs.Str.{all_scalars}
 use Rattle.urlpattern_laws.specs.Dialect.{IsTreeOf, Items, Means}
-use Rattle.urlpattern_laws.specs.FirstAnswers.{AnswersFirst, AnswersFirstInMiddle, IsFirstOf, KeepsNoError}
+use Rattle.urlpattern_laws.specs.FirstAnswers.{AnswersFirst, AnswersFirstInMiddle, IsFirstOf, TookText}
 use Rattle.urlpattern_laws.specs.Matching.{Accepts, Agrees, Answers, ArePeeled, InnerView, IsEngineOf, IsMadeBetween, IsMadeByEngine, IsMadeOf, IsMadeOfOne, IsOfMiddle, Literal, MatcherView, Matches, RegExp, SingleCapture, end_text}
 use Rattle.urlpattern_laws.specs.PartMeaning.{Captures, PartsMean}
 use Rattle.urlpattern_laws.specs.Ways.{first_way}
@@ -151,21 +151,21 @@ made_between IsMade MayRefuse flags options front [] back matcher engine made e 
 made_between IsMade MayRefuse flags options front (part ∷ []) back matcher engine made e = made_one IsMade MayRefuse flags options part.kind part.modifier front part back matcher engine made e
 made_between IsMade MayRefuse flags options front (part ∷ next ∷ parts) back matcher engine (value, is, made) e = made_value IsMade MayRefuse flags _ engine value is (sym e ∙ ap (λ m. m.inner) made)
 
--- a matcher that keeps no error has a value of which all is true that is true of each value made of its text
-pub of_made : {E : Type 0} (Is : E → List PartView → Type 0) (IsMade : E → (regexp flags : List ℕ) → Type 0) (MayRefuse : (regexp flags : List ℕ) → Type 0) (options : OptionsView) (flags : List ℕ) (parts : List PartView) (matcher : MatcherView E) →
-    IsMadeOf IsMade MayRefuse options flags parts matcher → All IsNotCustom parts → KeepsNoError matcher.inner →
-    ((engine : E) (middle : List PartView) → All IsNotCustom middle → IsMade engine (regexp_text options middle) flags → Is engine middle) → IsOfMiddle Is parts matcher.inner
-of_made {E} Is IsMade MayRefuse options flags parts matcher made plain keeps is = by_inner matcher.inner refl keeps
+-- where an engine took its text, that is true of the matcher's value which is true of each value made of such a text
+pub of_made : {E : Type 0} (Is : E → List PartView → Type 0) (Holds : E → Type 0) (IsMade : E → (regexp flags : List ℕ) → Type 0) (MayRefuse : (regexp flags : List ℕ) → Type 0) (options : OptionsView) (flags : List ℕ) (parts : List PartView) (matcher : MatcherView E) →
+    IsMadeOf IsMade MayRefuse options flags parts matcher → All IsNotCustom parts → TookText Holds matcher.inner →
+    ((engine : E) (middle : List PartView) → All IsNotCustom middle → IsMade engine (regexp_text options middle) flags → Holds engine → Is engine middle) → IsOfMiddle Is parts matcher.inner
+of_made {E} Is Holds IsMade MayRefuse options flags parts matcher made plain took is = by_inner matcher.inner refl took
   where
-    by_inner : (inner : InnerView E) → matcher.inner ≡ inner → KeepsNoError inner → IsOfMiddle Is parts inner
-    by_inner (Literal literal) e keeps = tt
-    by_inner (SingleCapture filter allow_empty) e keeps = tt
-    by_inner (RegExp (Err error)) e keeps = absurd keeps
-    by_inner (RegExp (Ok engine)) e keeps = (
+    by_inner : (inner : InnerView E) → matcher.inner ≡ inner → TookText Holds inner → IsOfMiddle Is parts inner
+    by_inner (Literal literal) e took = tt
+    by_inner (SingleCapture filter allow_empty) e took = tt
+    by_inner (RegExp (Err error)) e took = absurd took
+    by_inner (RegExp (Ok engine)) e took = (
       made.front,
       made.middle,
       made.back,
       made.are_peeled,
       is engine made.middle (middle_plain parts made.front made.middle made.back made.are_peeled plain)
-          (made_between IsMade MayRefuse flags options (end_text made.front) made.middle (end_text made.back) matcher engine made.is_made e),
+          (made_between IsMade MayRefuse flags options (end_text made.front) made.middle (end_text made.back) matcher engine made.is_made e) took,
     )

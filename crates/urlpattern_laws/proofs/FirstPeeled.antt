@@ -21,7 +21,7 @@ use Rattle.urlpattern_laws.proofs.PartTrees.{IsNotCustom, fixed_tree, part_tree,
 use Rattle.urlpattern_laws.proofs.TreeMeaning.{text_means}
 use Rattle.urlpattern_laws.proofs.WayLists.{Every, every-weaker}
 use Rattle.urlpattern_laws.proofs.WaysCut.{Cut, items-cut, longer}
-use Rattle.urlpattern_laws.proofs.WaysJoined.{Seen, both_items, both_put, both_ways, first_of, first_seen, put_first, put_ways, seen, takes_all}
+use Rattle.urlpattern_laws.proofs.WaysJoined.{Seen, both_items, both_put, both_ways, first_of, first_seen, put_first, put_ways, seen, seen_of, takes_all}
 use Rattle.urlpattern_laws.proofs.WaysSound.{IsSound, ways-sound}
 
 -- ---- a fixed text at the end
@@ -60,8 +60,9 @@ module _ (marks s : List ℕ) (are : AreItems (put marks s Nothing)) where
       by : (ms : List Way) → seen ms ≡ nothing_left → first_of (map (joined_way way) ms ++ xs) ≡ Some way.captures
       by [] f = absurd cc
       by (m ∷ ms) f =
-          let none : m.captures ≡ [] = cc f in
-          let all : m.rest ≡ [] = cc f in
+          let here : seen_of m ≡ ([], []) = cc f in
+          let none : m.captures ≡ [] = ap (λ (s : Seen). s.0) here in
+          let all : m.rest ≡ [] = ap (λ (s : Seen). s.1) here in
           ap (λ (t : List ℕ). option_map (λ (w : Way). w.captures) (cond (length t == 0) (Some (joined_way way m)) (find takes_all (map (joined_way way) ms ++ xs)))) all
           ∙ ap (λ c. Some (way.captures ++ c)) none ∙ ap Some (append-nil way.captures)
 

@@ -1,5 +1,5 @@
 -- What stands between the prefix and the suffix of a matcher in a text is one.
-use Rattle.std.proofs.Common.{◌≡◌, ℕ, ◌+◌, Bool, true, false, List, ◌++◌, length, take, drop, sym, ap, ◌∙◌, arith}
+use Rattle.std.proofs.Common.{◌≡◌, ℕ, ◌+◌, Bool, true, false, List, ◌++◌, length, take, drop, refl, sym, ap, ◌∙◌, arith}
 use Rattle.std.proofs.lemmas.List.{drop_at, length-append, length-map, take_at}
 use Rattle.std.specs.Char.{to_ascii_lowercase}
 use Rattle.urlpattern_laws.specs.Matching.{HasMiddle, IsSame, MatcherView}

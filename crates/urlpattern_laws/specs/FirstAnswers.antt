@@ -1,5 +1,5 @@
 -- Which of the meanings of parts is answered: that of the first way.
-use Rattle.std.specs.Prelude.{◌≡◌, ℕ, List, Option, Err, IsTrue}
+use Rattle.std.specs.Prelude.{◌≡◌, ℕ, List, Option, Ok, Err, IsTrue}
 use Rattle.std.specs.Str.{all_scalars}
 use Rattle.urlpattern_laws.specs.Dialect.{IsTreeOf, Items}
 use Rattle.urlpattern_laws.specs.Matching.{InnerView, IsOfMiddle, RegExp}
@@ -24,7 +24,8 @@ AnswersFirst regexp answer = (tree : Items) (text : List ℕ) → IsTreeOf regex
 abbrev pub AnswersFirstInMiddle : {E : Type 0} → (answer : E → List ℕ → Option Captures) → OptionsView → List PartView → InnerView E → Type 0
 AnswersFirstInMiddle answer options parts inner = IsOfMiddle (λ engine middle. AnswersFirst (regexp_text options middle) (answer engine)) parts inner
 
--- no error is kept: no engine is needed, or it took its text
-abbrev pub KeepsNoError : {E : Type 0} → InnerView E → Type 0
-KeepsNoError (RegExp (Err error)) = ⊥
-KeepsNoError inner = Unit {0}
+-- an engine that is needed took its text: no error is kept, and `Holds` is true of the value
+abbrev pub TookText : {E : Type 0} → (Holds : E → Type 0) → InnerView E → Type 0
+TookText Holds (RegExp (Ok engine)) = Holds engine
+TookText Holds (RegExp (Err error)) = ⊥
+TookText Holds inner = Unit {0}
