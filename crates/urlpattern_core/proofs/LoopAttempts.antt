@@ -13,7 +13,7 @@ use Rattle.regex_hir.proofs.TextLemmas.{char_at_from, char_at_past}
 use Rattle.urlpattern_laws.specs.PartMeaning.{Captures}
 use Rattle.urlpattern_laws.specs.Ways.{Way, Choice, idle, continued, one_that, is_shorter, more_rounds, looped}
 use Rattle.urlpattern_laws.proofs.WayLists.{Every, every-weaker}
-use Rattle.urlpattern_core.proofs.WayAnswers.{Writes, at, Gave, gave-continued, gave-idle, gave-prefer}
+use Rattle.urlpattern_core.proofs.WayAnswers.{Writes, at, Gave, gave-continued, gave-idle, gave-ordered}
 
 no_round : (greedy : Bool) (body : Rest → Rest) (k : Rest) (j : ℕ) → trace_rounds greedy body k zero j ≡ k j
 unfolding trace_rounds
@@ -96,7 +96,7 @@ module _ (Shown : ℕ → Captures → Writes → Type 0)
         let next : Choice = λ rest. if is_shorter rest text then more_rounds greedy choice m rest else [] in
         let b : Rest = λ l. if nat_lt (at before) l then more l else None in
         subst (Shows g before k (more_rounds greedy choice (suc m) text)) (sym (more_rounds_unfold hay greedy a k (at before)))
-        (gave-prefer Shown shown-append shown-idle g before k greedy (continued next (choice text)) (idle 0 text ∷ []) (attempt hay a b (at before)) (k (at before))
+        (gave-ordered Shown shown-append shown-idle g before k greedy (continued next (choice text)) (idle 0 text ∷ []) (attempt hay a b (at before)) (k (at before))
         (gave-continued Shown shown-append shown-idle g before k b next (choice text) (attempt hay a b (at before))
         (every-weaker (λ (way : Way). (text ≡ way.taken ++ way.rest) × (way.captures ≡ [])) _ (choice text)
         (λ way p. subst (λ n. Shows n (before ++ way.taken) k (next way.rest) (b (at (before ++ way.taken)))) (omega (arith, ap length p.1))

@@ -107,10 +107,10 @@ IsRefusedAs kind regexp = Refuses default_config (encode_utf8_all regexp) kind
 
 pub refused_for_memory : (options : OptionsView) (parts : List PartView) (tree : Items) (kind : ErrorKind) → All IsNotCustom parts → IsTreeOf (regexp_text options parts) tree →
     IsTrue (all_scalars (regexp_text options parts)) → group_count tree < 2 ^ 32 - 1 → Refuses default_config (encode_utf8_all (regexp_text options parts)) kind → kind ≡ OutOfMemory
-refused_for_memory options parts tree kind plain is scalars few refuses =
+refused_for_memory options parts tree kind plain is characters few refuses =
     let same : tree ≡ tree_of options parts = trees_are_one (regexp_text options parts) tree (tree_of options parts) is (is_tree_of options parts plain) in
     let shallow : items_depth tree ≤ 20 = subst (λ (t : Items). items_depth t ≤ 20) (sym same) (tree_depth options parts) in
-    let good : scalars (items_text tree) ≡ true = (scalars_parts (items_text tree) (codes "$") (sym (ap scalars is.0) ∙ scalars)).0 in
+    let good : scalars (items_text tree) ≡ true = (scalars_parts (items_text tree) (codes "$") (sym (ap scalars is.0) ∙ characters)).0 in
     reason few shallow (refused_tree tree is.1 good kind (subst (IsRefusedAs kind) is.0 refuses))
   where
     reason : group_count tree < 2 ^ 32 - 1 → items_depth tree ≤ 20 → (kind ≡ OutOfMemory) ⊎ ((2 ^ 32 < suc (group_count tree)) ⊎ (250 ≤ items_depth tree)) → kind ≡ OutOfMemory

@@ -149,10 +149,14 @@ pub fn dialect_trees_are_one()
 /// what the tree means, there is none only where the tree does not mean the text, and it has as many captures as the tree
 /// has groups. What answers it follows the text of the tree: each text of the dialect can be followed.
 pub fn first_ways_are_meant()
-    ensures ways { (tree : Items) → AreItems tree → (text : List ℕ) (way : Way) → Contains (ways tree text) way ↔ ((text ≡ way.taken ++ way.rest) × Means tree way.taken way.captures) }
-    ensures some { (tree : Items) → AreItems tree → (text : List ℕ) (captures : Captures) → first_way tree text ≡ Some captures → Means tree text captures }
-    ensures none { (tree : Items) → AreItems tree → (text : List ℕ) → first_way tree text ≡ None → (captures : Captures) → ¬ Means tree text captures }
-    ensures count { (tree : Items) → AreItems tree → (text : List ℕ) (captures : Captures) → first_way tree text ≡ Some captures → length captures ≡ group_count tree }
+    ensures ways { (tree : Items) → AreItems tree → (text : List ℕ) (way : Way) →
+        Contains (ways tree text) way ↔ ((text ≡ way.taken ++ way.rest) × Means tree way.taken way.captures) }
+    ensures some { (tree : Items) → AreItems tree → (text : List ℕ) (captures : Captures) →
+        first_way tree text ≡ Some captures → Means tree text captures }
+    ensures none { (tree : Items) → AreItems tree → (text : List ℕ) →
+        first_way tree text ≡ None → (captures : Captures) → ¬ Means tree text captures }
+    ensures count { (tree : Items) → AreItems tree → (text : List ℕ) (captures : Captures) →
+        first_way tree text ≡ Some captures → length captures ≡ group_count tree }
     ensures follows { (regexp : List ℕ) (tree : Items) → IsTreeOf regexp tree → Follows regexp (first_way tree) }
 {}
 
@@ -190,8 +194,10 @@ pub fn matchers_answer_what_parts_mean<E>()
 /// line feed. An engine that is asked answers the first way of the tree of its own text; where none is asked, this holds of
 /// every matcher. `E` is any type of engines' values.
 pub fn matchers_answer_the_first_way<E>()
-    ensures first { (answer : E → List ℕ → Option Captures) (options : OptionsView) (parts : List PartView) (matcher : MatcherView E) (text : List ℕ) (result : Option Captures) →
-        HasShapeOf options parts matcher → All (λ part. part.kind ≢ Regexp) parts → options.ignore_case ≡ false → IsTrue (lacks line_feed text) → IsTrue (all_scalars text) →
+    ensures first { (answer : E → List ℕ → Option Captures) (options : OptionsView) (parts : List PartView) (matcher : MatcherView E)
+        (text : List ℕ) (result : Option Captures) →
+        HasShapeOf options parts matcher → All (λ part. part.kind ≢ Regexp) parts → options.ignore_case ≡ false →
+        IsTrue (lacks line_feed text) → IsTrue (all_scalars text) →
         AnswersFirstInMiddle answer options parts matcher.inner → Answers answer matcher text result → IsFirstOf options parts text result }
     ensures one { (options : OptionsView) (parts : List PartView) (text : List ℕ) (result other : Option Captures) →
         IsFirstOf options parts text result → IsFirstOf options parts text other → result ≡ other }
