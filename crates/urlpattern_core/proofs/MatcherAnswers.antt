@@ -1,8 +1,6 @@
 -- Lemmas on what a matcher answers, by what it holds between prefix and suffix.
-use Rattle.std.proofs.Common.{◌≡◌, ◌↔◌, ℕ, ◌+◌, Bool, true, false, List, [], ◌∷◌, ◌++◌, length, take, drop, refl, sym, ap, ◌∙◌, subst, arith}
+use Rattle.std.proofs.Common.{◌≡◌, ◌↔◌, ℕ, Bool, true, false, List, [], ◌∷◌, refl, sym, ◌∙◌, subst}
 use Rattle.std.proofs.lemmas.Bool.{false≢true}
-use Rattle.std.proofs.lemmas.List.{drop_at, length-append, length-map, take_at}
-use Rattle.std.specs.Char.{to_ascii_lowercase}
 use Rattle.std.specs.Prelude.{IsTrue, Option, Some, None, Result, Ok, Err, IfErr, is_some, option_map}
 use Rattle.urlpattern_laws.specs.Matching.{Accepts, Answers, HasMiddle, InnerView, IsMatched, IsSame, Literal, Matches, MatcherView, MayBeEmpty, PassesFilter, RegExp, SingleCapture}
 use Rattle.urlpattern_laws.specs.PartMeaning.{Captures}

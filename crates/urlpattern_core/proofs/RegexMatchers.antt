@@ -1,5 +1,5 @@
 -- Matchers that `regex::Regex` made answer the first way of their parts.
-use Rattle.std.proofs.Common.{◌≡◌, ℕ, List, Option, ◌∙◌}
+use Rattle.std.proofs.Common.{◌≡◌, ℕ, List, Option}
 use Rattle.std.specs.Prelude.{⊤, IsTrue}
 use Rattle.std.specs.Str.{all_scalars}
 use Rattle.regex.specs.declared.string.regex.Regex.{Regex}

@@ -7,7 +7,7 @@ use Rattle.regex_hir.specs.Meaning.{cat_all, alt_all}
 use Rattle.regex_hir.specs.Re.{Re, look}
 use Rattle.regex_syntax.proofs.BranchLemmas.{join_after, branch_ends, branch_goes, more_parts, group_inside, join_parts_is, branches_go, more_branches, join_ends, ends_branch}
 use Rattle.regex_syntax.specs.Brackets.{Nested, flat, join}
-use Rattle.regex_syntax.specs.Grammar.{Names, Place, atom, char_meaning, items, read, names_below, branches, join_parts, has_group}
+use Rattle.regex_syntax.specs.Grammar.{atom, char_meaning, items, read, names_below, branches, join_parts, has_group}
 use Rattle.regex_syntax.specs.Grammar as grammar
 use Rattle.regex_syntax.specs.Reading.{Text, first, skip, is_at, ◌>>=◌}
 use Rattle.regex_syntax.specs.Verdict.{default_config}

@@ -1,11 +1,10 @@
 -- A matcher that is made of parts answers the first way of their tree, and this is one answer.
 use Rattle.std.proofs.Common.{◌≡◌, ℕ, false, true, List, [], ◌∷◌, ◌++◌, refl, sym, subst, ap, Some, None, Option, Result, ◌∙◌, ◌↔◌}
-use Rattle.std.proofs.lemmas.Option.{none-some, same_Some}
 use Rattle.std.specs.Prelude.{All, IsTrue, Ok, Err, option_to_list}
 use Rattle.std.specs.Str.{all_scalars}
-use Rattle.urlpattern_laws.specs.Dialect.{IsTreeOf, Items, Means}
+use Rattle.urlpattern_laws.specs.Dialect.{IsTreeOf, Items}
 use Rattle.urlpattern_laws.specs.FirstAnswers.{AnswersFirst, AnswersFirstInMiddle, IsFirstOf, TookText}
-use Rattle.urlpattern_laws.specs.Matching.{Accepts, Agrees, Answers, ArePeeled, InnerView, IsEngineOf, IsMadeBetween, IsMadeByEngine, IsMadeOf, IsMadeOfOne, IsOfMiddle, Literal, MatcherView, Matches, RegExp, SingleCapture, end_text}
+use Rattle.urlpattern_laws.specs.Matching.{Accepts, Agrees, Answers, ArePeeled, InnerView, IsEngineOf, IsMadeBetween, IsMadeOf, IsMadeOfOne, IsOfMiddle, Literal, MatcherView, Matches, RegExp, SingleCapture, end_text}
 use Rattle.urlpattern_laws.specs.PartMeaning.{Captures, PartsMean}
 use Rattle.urlpattern_laws.specs.Ways.{first_way}
 use Rattle.urlpattern_syntax.specs.declared.parser.PartModifier.{PartModifier}
@@ -19,7 +18,7 @@ use Rattle.urlpattern_syntax.specs.RegexpText.{regexp_text}
 use Rattle.urlpattern_syntax.specs.Text.{lacks, line_feed}
 use Rattle.urlpattern_laws.proofs.DialectUnique.{trees_are_one}
 use Rattle.urlpattern_laws.proofs.FirstPeeled.{first_peeled}
-use Rattle.urlpattern_laws.proofs.FirstWay.{first_way_means, meant_or_none, no_way_means_none}
+use Rattle.urlpattern_laws.proofs.FirstWay.{first_way_means, no_way_means_none}
 use Rattle.urlpattern_laws.proofs.MatcherMeaning.{HasEnds, all_left, all_right, ends_of, not_fast, scalars_middle}
 use Rattle.urlpattern_laws.proofs.MatchingLaws.{IsFast, fast_means, middle_kept}
 use Rattle.urlpattern_laws.proofs.MeaningLaws.{peeled_means}

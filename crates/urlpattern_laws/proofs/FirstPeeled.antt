@@ -1,11 +1,9 @@
 -- The first way of parts is that of the parts between the ends, where plain fixed texts went off.
-use Rattle.std.proofs.Common.{◌≡◌, ℕ, ◌+◌, List, [], ◌∷◌, ◌++◌, map, length, Option, Some, None, option_map, find, Bool, true, false, cond, ◌&&◌, ◌==◌, refl, sym, ap, ap₂, ◌∙◌, subst, append_assoc, append-nil, length-append, inl, inr, arith, ne_eqb}
+use Rattle.std.proofs.Common.{◌≡◌, ℕ, ◌+◌, List, [], ◌∷◌, ◌++◌, map, length, Option, Some, None, option_map, find, false, cond, ◌&&◌, ◌==◌, refl, sym, ap, ap₂, ◌∙◌, append_assoc, append-nil, length-append, inl, inr, arith, ne_eqb}
 use Rattle.std.proofs.lemmas.Bool.{cond-false}
-use Rattle.std.proofs.lemmas.List.Elements.{All-head, All-tail}
-use Rattle.std.specs.Prelude.{All, IsTrue, option_to_list}
-use Rattle.urlpattern_laws.specs.Dialect.{Items, Nothing, Item, AreItems, Means}
+use Rattle.std.specs.Prelude.{IsTrue, option_to_list}
+use Rattle.urlpattern_laws.specs.Dialect.{Items, Nothing, AreItems, Means}
 use Rattle.urlpattern_laws.specs.Matching.{ArePeeled, GoesOff, end_text}
-use Rattle.urlpattern_laws.specs.PartMeaning.{Captures}
 use Rattle.urlpattern_laws.specs.Ways.{Way, joined_way, continued, ways, first_way}
 use Rattle.urlpattern_syntax.specs.declared.parser.PartModifier.{PartModifier}
 use Rattle.urlpattern_syntax.specs.declared.parser.PartModifier.TheVariants as modifiers
@@ -13,15 +11,15 @@ use Rattle.urlpattern_syntax.specs.declared.parser.PartType.{PartType}
 use Rattle.urlpattern_syntax.specs.declared.parser.PartType.TheVariants.{FixedText, Regexp, SegmentWildcard, FullWildcard}
 use Rattle.urlpattern_syntax.specs.Options.{OptionsView}
 use Rattle.urlpattern_syntax.specs.Parts.{PartView}
-use Rattle.urlpattern_syntax.specs.RegexpText.{escaped_marks, is_fixed_text, is_plain, is_unmodified}
+use Rattle.urlpattern_syntax.specs.RegexpText.{escaped_marks, is_fixed_text, is_unmodified}
 use Rattle.urlpattern_syntax.proofs.TokenExamples.{no}
 use Rattle.urlpattern_laws.proofs.MatchingLaws.{part_of}
 use Rattle.urlpattern_laws.proofs.PartTreeAllowed.{text_allowed}
-use Rattle.urlpattern_laws.proofs.PartTrees.{IsNotCustom, fixed_tree, part_tree, part_tree_by, put, tree_of}
+use Rattle.urlpattern_laws.proofs.PartTrees.{fixed_tree, part_tree, part_tree_by, put, tree_of}
 use Rattle.urlpattern_laws.proofs.TreeMeaning.{text_means}
 use Rattle.urlpattern_laws.proofs.WayLists.{Every, every-weaker}
-use Rattle.urlpattern_laws.proofs.WaysCut.{Cut, items-cut, longer}
-use Rattle.urlpattern_laws.proofs.WaysJoined.{Seen, both_items, both_put, both_ways, first_of, first_seen, put_first, put_ways, seen, seen_of, takes_all}
+use Rattle.urlpattern_laws.proofs.WaysCut.{Cut, items-cut}
+use Rattle.urlpattern_laws.proofs.WaysJoined.{Seen, both_items, both_put, both_ways, first_of, put_first, put_ways, seen, seen_of, takes_all}
 use Rattle.urlpattern_laws.proofs.WaysSound.{IsSound, ways-sound}
 
 -- ---- a fixed text at the end

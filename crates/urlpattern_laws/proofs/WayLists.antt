@@ -1,5 +1,5 @@
 -- Lists of ways: what all of them fulfil, and which are among them.
-use Rattle.std.proofs.Common.{◌≡◌, ℕ, zero, suc, ◌<◌, length, arith, refl, sym, List, [], ◌∷◌, ◌++◌, map, Bool, true, false, cond, inl, inr, ◌⊎◌, ap, subst}
+use Rattle.std.proofs.Common.{◌≡◌, zero, suc, arith, sym, List, [], ◌∷◌, ◌++◌, map, Bool, true, false, cond, inl, inr, ◌⊎◌, ap, subst}
 use Rattle.std.specs.List.{Contains}
 use Rattle.urlpattern_laws.specs.Ways.{Way, Choice, joined_way, continued, ordered}
 
