@@ -59,3 +59,4 @@ pub mod WaysCut
 pub mod FirstPeeled
 pub mod Middles
 pub mod FirstAnswers
+pub mod FirstAnswerExamples
