@@ -1,5 +1,5 @@
 -- What the program answers to its words, and what it refuses. Words and texts are bytes.
-use Rattle.std.specs.Prelude.{◌≡◌, ◌≢◌, ◌⊎◌, All, ◌++◌, ⊤, ℕ, false, if◌then◌else◌, List, [], ◌∷◌, length, map, max, codes, bytes_eq, IsPermutation, IsSorted, Option, None, Some, Result, Ok, Err, String, string_bytes, string_eq, encode_utf8_all, slice_get, take}
+use Rattle.std.specs.Prelude.{◌≡◌, ◌≢◌, ◌⊎◌, All, ◌++◌, ℕ, false, if◌then◌else◌, List, [], ◌∷◌, length, map, max, codes, bytes_eq, IsPermutation, IsSorted, Option, None, Some, Result, Ok, Err, String, string_bytes, string_eq, encode_utf8_all, slice_get, take}
 use Rattle.std.specs.Cmp.Lexicographic.{slice_cmp}
 use Rattle.std.specs.HashMap.{IsUnique, get_by_text, keys}
 use Rattle.std.specs.List.{AllZip, flat_map}
@@ -11,16 +11,16 @@ use Rattle.urlpat_commands.specs.declared.command.Failure.{Failure}
 use Rattle.urlpat_commands.specs.declared.command.Failure.TheVariants as failures
 use Rattle.urlpat_commands.specs.Kinds.{IsKind, IsNamed}
 use Rattle.urlpat_commands.specs.Report.{component_lines, first_line, group_line}
-use Rattle.urlpattern.specs.Compiled.{Compiles, IsCompiled, RefusesPattern}
-use Rattle.urlpattern.specs.Compiling.{IsCompiledFrom}
+use Rattle.urlpattern.specs.Compiled.{IsCompiled, RefusesPattern}
 use Rattle.urlpattern.specs.Dialect.{HasMeaningOf}
-use Rattle.urlpattern.specs.Engines.{IsRegexOf, regex_answer}
+use Rattle.urlpattern.specs.Engines.{regex_answer}
 use Rattle.urlpattern.specs.Errors.{ErrorView}
 use Rattle.urlpattern.specs.Canonical.{IsRefusedByUrl}
 use Rattle.urlpattern.specs.FirstMatch.{IsFirstMatch}
 use Rattle.urlpattern.specs.Inputs.{IsInitOfString, RefusesText, parsed_text, text_bytes}
 use Rattle.urlpattern.specs.Laws.{Answered, listed}
 use Rattle.urlpattern.specs.Match.{HasNoMatch, IsMatch, result_view}
+use Rattle.urlpattern.specs.Meaning.{compiles_by_regex}
 use Rattle.urlpattern.specs.Options.{OptionsView}
 use Rattle.urlpattern.specs.Errors.{MemoryOr}
 use Rattle.urlpattern.specs.Parts.{PartView}
@@ -83,12 +83,9 @@ FailsComponent kind pattern (failures.Refused error) = MemoryOr (RefusesComponen
 abbrev pub base_of : List ℕ → Option (List ℕ)
 base_of word = if bytes_eq word (codes "-") then None else Some word
 
--- whole patterns are compiled under the default options, for engines of the crate `regex`
+-- whole patterns are compiled under the default options, by engines of the crate `regex`
 abbrev pub default_pattern_options : UrlPatternOptions
 default_pattern_options = record { regex_syntax = Rust; ignore_case = false }
-
-abbrev pub compiles_by_regex : Compiles Regex
-compiles_by_regex = IsCompiledFrom (λ regex regexp flags. IsRegexOf regexp regex) (λ regexp flags force_eval. ⊤) Rust
 
 -- The constructor string with this base URL is compiled to the pattern.
 pub record IsPatternOf (text : List ℕ) (base : Option (List ℕ)) (pattern : PatternView Regex) : Type 0 where

@@ -10,6 +10,7 @@ pub use Rattle.urlpattern_init.specs.SpecialProtocol
 pub use Rattle.urlpattern_init.specs.Split
 pub use Rattle.urlpattern_init.specs.Splitting
 pub use Rattle.urlpattern_laws.specs.Dialect
+pub use Rattle.urlpattern_laws.specs.FirstAnswers
 pub use Rattle.urlpattern_syntax.specs.ErrorText
 pub use Rattle.urlpattern_syntax.specs.Errors
 pub mod Inputs
@@ -20,6 +21,7 @@ pub use Rattle.urlpattern_laws.specs.Matching
 pub use Rattle.urlpattern_laws.specs.PartMeaning
 pub use Rattle.urlpattern_laws.specs.Printing
 pub use Rattle.urlpattern_laws.specs.RoundTrip
+pub use Rattle.urlpattern_laws.specs.Ways
 pub use Rattle.urlpattern_syntax.specs.Options
 pub use Rattle.urlpattern_syntax.specs.Parsing
 pub use Rattle.urlpattern_syntax.specs.Parts

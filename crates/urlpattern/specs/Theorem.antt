@@ -1,10 +1,14 @@
 -- The sentences of the main theorem. Where one speaks of an encoding, it is any list of texts with their answers.
-use Rattle.std.specs.Prelude.{◌≡◌, ◌≢◌, ◌↔◌, ◌⊎◌, ℕ, List, All, length, Option, Result}
+use Rattle.std.specs.Prelude.{◌≡◌, ◌≢◌, ◌↔◌, ◌⊎◌, ℕ, false, List, All, length, Option, Result, IsTrue}
+use Rattle.std.specs.Str.{all_scalars}
+use Rattle.regex.specs.declared.string.regex.Regex.{Regex}
+use Rattle.urlpattern_core.specs.Engines.{IsTakenByRegex, regex_answer}
 use Rattle.urlpattern_init.specs.declared.init.UrlPatternMatchInput.{UrlPatternMatchInput}
 use Rattle.urlpattern_init.specs.declared.init.processing.Component.{Component}
 use Rattle.urlpattern_laws.specs.Dialect.{IsOnlyTreeOf, IsTreeOf, Items, Means}
+use Rattle.urlpattern_laws.specs.FirstAnswers.{AnswersFirstInMiddle, IsFirstOf}
 use Rattle.urlpattern_laws.specs.Laws.{Answered, AnswersOnce, HasOutcome, HasSomeOutcome, LacksAnswer, Outcome, listed}
-use Rattle.urlpattern_laws.specs.Matching.{AnswersByMeaning, IsMadeOf, MatcherView}
+use Rattle.urlpattern_laws.specs.Matching.{Agrees, Answers, AnswersByMeaning, IsMadeOf, MatcherView}
 use Rattle.urlpattern_laws.specs.PartMeaning.{Captures, PartsMean}
 use Rattle.urlpattern_laws.specs.Printing.{Keeps, joined, printed}
 use Rattle.urlpattern_laws.specs.RoundTrip.{WereRead}
@@ -16,6 +20,7 @@ use Rattle.urlpattern_syntax.specs.Options.{OptionsView}
 use Rattle.urlpattern_syntax.specs.Parts.{PartView}
 use Rattle.urlpattern_syntax.specs.Reading.{Reads, Refuses}
 use Rattle.urlpattern_syntax.specs.RegexpText.{group_names, regexp_text}
+use Rattle.urlpattern_syntax.specs.Text.{lacks, line_feed}
 
 -- none of the parts is a custom regular expression
 abbrev pub AreGenerated : List PartView → Type 0
@@ -50,6 +55,26 @@ abbrev pub MatchersAnswerByMeaning : {E : Type 0} → (IsMade : E → (regexp fl
 MatchersAnswerByMeaning {E} IsMade MayRefuse answer =
     (options : OptionsView) (flags : List ℕ) (parts : List PartView) (matcher : MatcherView E) →
     IsMadeOf IsMade MayRefuse options flags parts matcher → AnswersByMeaning answer options parts matcher
+
+-- A matcher that is made of parts answers the first way of their tree, if an engine that it asks answers that of its text's.
+abbrev pub MatchersAnswerTheFirstWay : {E : Type 0} → (IsMade : E → (regexp flags : List ℕ) → Type 0) → (MayRefuse : (regexp flags : List ℕ) → Type 0) → (answer : E → List ℕ → Option Captures) → Type 0
+MatchersAnswerTheFirstWay {E} IsMade MayRefuse answer =
+    (options : OptionsView) (flags : List ℕ) (parts : List PartView) (matcher : MatcherView E) (text : List ℕ) (result : Option Captures) →
+    IsMadeOf IsMade MayRefuse options flags parts matcher → AreGenerated parts → options.ignore_case ≡ false →
+    AnswersFirstInMiddle answer options parts matcher.inner → IsTrue (lacks line_feed text) → IsTrue (all_scalars text) →
+    Answers answer matcher text result → IsFirstOf options parts text result
+
+-- One that `regex::Regex` made does so by itself, if `regex` took the text where it was needed, and this is what the parts mean.
+abbrev pub DefaultEngineAnswersTheFirstWay : Type 0
+DefaultEngineAnswersTheFirstWay =
+    (options : OptionsView) (flags : List ℕ) (parts : List PartView) (matcher : MatcherView Regex) (text : List ℕ) (result : Option Captures) →
+    IsTakenByRegex options flags parts matcher → IsTrue (lacks line_feed text) → IsTrue (all_scalars text) →
+    Answers regex_answer matcher text result → IsFirstOf options parts text result × Agrees options parts text result
+
+-- There is one such answer.
+abbrev pub FirstWayIsOne : Type 0
+FirstWayIsOne = (options : OptionsView) (parts : List PartView) (text : List ℕ) (result other : Option Captures) →
+    IsFirstOf options parts text result → IsFirstOf options parts text other → result ≡ other
 
 -- The printed pattern of parts that were read reads as these parts, joined.
 abbrev pub PrintedReadsBack : Type 0

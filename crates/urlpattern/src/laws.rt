@@ -1,17 +1,40 @@
-//! Laws of the definitions by which the contracts are written: those of the crates below.
+//! Laws of the definitions by which the contracts are written: those of the crates below, and that of the engine of browsers.
 //!
 //! Each function here does nothing; what it promises is a theorem.
 
+ghost use Rattle.std.specs.Prelude.{ℕ, List, IsTrue, Option};
+ghost use Rattle.std.specs.Str.{all_scalars};
+ghost use Rattle.urlpattern.specs.declared.quirks.ecma_regexp.EcmaRegexp.{EcmaRegexp};
+ghost use Rattle.urlpattern.specs.EcmaRegexps.{IsKeptByEcma, ecma_regexp_answer};
+ghost use Rattle.urlpattern_laws.specs.FirstAnswers.{IsFirstOf};
+ghost use Rattle.urlpattern_laws.specs.Matching.{Agrees, Answers, MatcherView};
+ghost use Rattle.urlpattern_laws.specs.PartMeaning.{Captures};
+ghost use Rattle.urlpattern_syntax.specs.Options.{OptionsView};
+ghost use Rattle.urlpattern_syntax.specs.Parts.{PartView};
+ghost use Rattle.urlpattern_syntax.specs.Text.{lacks, line_feed};
+
 pub use urlpattern_core::laws::{
     captures_are_as_many_as_names, copies_are_one_capture, dialect_trees_are_one,
-    every_text_has_an_outcome, every_text_has_tokens, joining_keeps_meaning,
-    joining_keeps_printed_text, joining_keeps_regexp, matchers_answer_what_parts_mean,
-    names_are_new, parts_and_regexp_mean_the_same, parts_that_were_read_print_and_read_back,
-    pieces_are_one, plain_ends_go_off, printed_patterns_fail_by_the_encoding_alone,
-    printed_patterns_read_back, printed_patterns_read_back_by_callbacks,
-    read_parts_are_pattern_parts, readings_are_one, readings_by_callbacks_are_one, tokens_are_one,
-    tokens_lose_nothing,
+    every_text_has_an_outcome, every_text_has_tokens, first_ways_are_meant, joining_keeps_meaning,
+    joining_keeps_printed_text, joining_keeps_regexp, matchers_answer_the_first_way,
+    matchers_answer_what_parts_mean, matchers_by_regex_answer_the_first_way, names_are_new,
+    parts_and_regexp_mean_the_same, parts_that_were_read_print_and_read_back, pieces_are_one,
+    plain_ends_go_off, printed_patterns_fail_by_the_encoding_alone, printed_patterns_read_back,
+    printed_patterns_read_back_by_callbacks, read_parts_are_pattern_parts, readings_are_one,
+    readings_by_callbacks_are_one, regex_answers_the_first_way, regex_refuses_no_generated_syntax,
+    tokens_are_one, tokens_lose_nothing,
 };
 pub use urlpattern_init::laws::splits_are_one;
-pub use urlpattern_pattern::laws::{groups_mean_the_parts, tests_tell_matches};
+pub use urlpattern_pattern::laws::{
+    groups_by_regex_are_of_the_first_way, groups_mean_the_parts, tests_tell_matches,
+};
 pub use urlpattern_plain::laws::reading_undoes_writing;
+
+/// A matcher that `EcmaRegexp` made answers the first way of the tree of the parts, which is a meaning of them, or None where
+/// they have none, if a value of `regex` is kept where an engine is needed.
+pub fn matchers_by_ecma_regexp_answer_the_first_way()
+    ensures { (options : OptionsView) (flags : List ℕ) (parts : List PartView) (matcher : MatcherView EcmaRegexp)
+        (text : List ℕ) (result : Option Captures) →
+        IsKeptByEcma options flags parts matcher → IsTrue (lacks line_feed text) → IsTrue (all_scalars text) →
+        Answers ecma_regexp_answer matcher text result → IsFirstOf options parts text result × Agrees options parts text result }
+{}

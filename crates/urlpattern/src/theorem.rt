@@ -1,6 +1,6 @@
 //! The main theorem of the whole: what a pattern text is read as, what its parts mean, what is matched and what is printed.
 
-ghost use Rattle.urlpattern.specs.Theorem.{CapturesHaveNames, ExecutesByMatchers, MatchersAnswerByMeaning, OneReading, OneTree, PrintedReadsAsNothingElse, PrintedReadsBack, TreesMeanTheParts};
+ghost use Rattle.urlpattern.specs.Theorem.{CapturesHaveNames, DefaultEngineAnswersTheFirstWay, ExecutesByMatchers, FirstWayIsOne, MatchersAnswerByMeaning, MatchersAnswerTheFirstWay, OneReading, OneTree, PrintedReadsAsNothingElse, PrintedReadsBack, TreesMeanTheParts};
 ghost use Rattle.urlpattern_core.specs.Compiling.{MayRefuseAtFirst};
 
 use crate::regexp::RegExp;
@@ -17,6 +17,11 @@ use crate::regexp::RegExp;
 /// - `matches`: a matcher that is made of parts answers what they mean, captures that they have or None where they have
 ///   none, to each text of characters without line feed where case is kept. If it asks an engine, this has to follow the
 ///   regular expression that it was given.
+/// - `answers`: of several captures it answers those of the first way of the parts' tree (`first_way`), which prefers an earlier
+///   choice to a later one, if an engine that it asks answers so of the regular expression that it was given.
+/// - `one_answer`: the first way is one answer, so that no other result is a match.
+/// - `default_engine`: a matcher that `regex::Regex` made answers the first way, and this is what the parts mean or None where
+///   they mean nothing, without a premise on the engine but that it took the regular expression where it was needed.
 /// - `reads_back`: the printed pattern of parts that were read under the standard's options reads as these parts,
 ///   neighbouring plain fixed texts joined, under each encoding that keeps their texts; no fixed text is empty, and none of
 ///   their texts has a tab or a line end.
@@ -30,6 +35,9 @@ pub fn main_theorem<R: RegExp>()
     ensures exactly { TreesMeanTheParts }
     ensures captures { CapturesHaveNames }
     ensures matches { MatchersAnswerByMeaning R.IsMade (MayRefuseAtFirst R.MayRefuse) R.answer }
+    ensures answers { MatchersAnswerTheFirstWay R.IsMade (MayRefuseAtFirst R.MayRefuse) R.answer }
+    ensures one_answer { FirstWayIsOne }
+    ensures default_engine { DefaultEngineAnswersTheFirstWay }
     ensures reads_back { PrintedReadsBack }
     ensures nothing_else { PrintedReadsAsNothingElse }
     ensures executes { ExecutesByMatchers R.answer }

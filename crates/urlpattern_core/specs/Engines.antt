@@ -1,12 +1,17 @@
 -- What a value of the crate `regex` is made of, and what it answers.
-use Rattle.std.specs.Prelude.{◌≡◌, ℕ, ◌-◌, List, map, length, Option, option_map, encode_utf8_all, slice_range}
+use Rattle.std.specs.Prelude.{◌≡◌, ◌≢◌, ⊤, false, All, ℕ, ◌-◌, List, map, length, Option, option_map, encode_utf8_all, slice_range}
 use Rattle.std.specs.List.{range_with_len}
 use Rattle.std.specs.Str.{chars}
 use Rattle.regex.specs.Patterns.{default_config, find_str}
 use Rattle.regex.specs.Strings.{IsReadFromSource, regex_config, regex_names, regex_pattern, regex_source}
 use Rattle.regex.specs.Writes.{group_of}
 use Rattle.regex.specs.declared.string.regex.Regex.{Regex}
+use Rattle.urlpattern_laws.specs.FirstAnswers.{TookText}
+use Rattle.urlpattern_laws.specs.Matching.{IsMadeOf, MatcherView}
 use Rattle.urlpattern_laws.specs.PartMeaning.{Captures}
+use Rattle.urlpattern_syntax.specs.declared.parser.PartType.TheVariants.{Regexp}
+use Rattle.urlpattern_syntax.specs.Options.{OptionsView}
+use Rattle.urlpattern_syntax.specs.Parts.{PartView}
 
 -- the text that it was built from
 abbrev pub regex_text : Regex → List ℕ
@@ -32,3 +37,14 @@ regex_answer regex text =
     let bytes = encode_utf8_all text in
     let count = length (regex_names regex) - 1 in
     option_map (λ found. group_texts bytes count (group_of found)) (find_str (regex_pattern regex) bytes 0)
+
+-- the matcher is made of the parts by `regex::Regex`, which takes no notice of flags and may refuse any text
+abbrev pub IsMadeByRegex : OptionsView → (flags : List ℕ) → List PartView → MatcherView Regex → Type 0
+IsMadeByRegex options flags parts matcher = IsMadeOf (λ regex regexp flags. IsRegexOf regexp regex) (λ regexp flags. ⊤) options flags parts matcher
+
+-- it is such a matcher, of parts of which none is custom, case is kept, and `regex` took the text where it was needed
+pub record IsTakenByRegex (options : OptionsView) (flags : List ℕ) (parts : List PartView) (matcher : MatcherView Regex) : Type 0 where
+  pub is_made : IsMadeByRegex options flags parts matcher
+  pub generated : All (λ part. part.kind ≢ Regexp) parts
+  pub case_kept : options.ignore_case ≡ false
+  pub took : TookText (λ regex. ⊤) matcher.inner

@@ -4,8 +4,8 @@
 #![tactic(auto)]
 
 pub mod component;
+pub mod laws;
 pub mod matcher;
 pub mod regexp;
 
-pub use urlpattern_laws::laws;
 pub use urlpattern_syntax::{Error, RegexSyntax, error, parser, tokenizer};

@@ -22,7 +22,7 @@ users_tree =
     (once (Grouped (Item (plain (codes "/")) Once (once (Captured (Item (AnyBut (Plain (slice_index (codes "/") 0))) LazyOneOrMore Nothing)))))))))))
 
 pub users_is_tree : IsTreeOf (codes "^/users(?:/([^/]+?))$") users_tree
-users_is_tree = (refl, (no, tt, (no, tt, (no, tt, (no, tt, (no, tt, (no, tt, ((no, tt, ((tt, refl, tt), tt, tt)), tt, tt))))))))
+users_is_tree = (refl, (no, tt, (no, tt, (no, tt, (no, tt, (no, tt, (no, tt, ((no, tt, ((no, refl, tt), tt, tt)), tt, tt))))))))
 
 -- what it captures from `/users/1`
 pub users_means : Means users_tree (codes "/users/1") (Some (codes "1") ∷ [])
@@ -254,10 +254,14 @@ dot_no_literal h = h refl
 pub letter_no_escape : ¬ IsAtom (Literal (Escaped (slice_index (codes "d") 0)))
 letter_no_escape h = no h
 
--- A backslash in a class: `[^\]` alone leaves out a backslash. Before another `]` it is an escape, and there is no other
--- tree, since a `]` does not stand by itself.
-pub backslash_only : IsOnlyTreeOf (codes "^[^\\]$") (once (AnyBut (Plain (slice_index (codes "\\") 0))))
-backslash_only = only_tree _ _ (refl, (tt, tt, tt))
+-- In a class neither a backslash nor a bracket that opens stands by itself: `[^\]` and `[^[]` are no classes of the dialect.
+pub backslash_no_class : ¬ IsAtom (AnyBut (Plain (slice_index (codes "\\") 0)))
+backslash_no_class h = h refl
+
+pub bracket_no_class : ¬ IsAtom (AnyBut (Plain (slice_index (codes "[") 0)))
+bracket_no_class h = h refl
+
+-- Before `]` a backslash is an escape, and there is no other tree.
 
 pub bracket_only : IsOnlyTreeOf (codes "^[^\\]]$") (once (AnyBut (Escaped (slice_index (codes "]") 0))))
 bracket_only = only_tree _ _ (refl, (refl, tt, tt))

@@ -11,7 +11,7 @@ use Rattle.urlpattern_syntax.specs.Text.{is_among}
 -- ---- characters
 
 -- a character among the marks passes a test that each of them passes
-passed : (test : ℕ → Bool) (marks : List ℕ) → IsTrue (list_all test marks) → (c : ℕ) → IsTrue (is_among marks c) → IsTrue (test c)
+pub passed : (test : ℕ → Bool) (marks : List ℕ) → IsTrue (list_all test marks) → (c : ℕ) → IsTrue (is_among marks c) → IsTrue (test c)
 passed test [] h c is = absurd (false≢true is)
 passed test (mark ∷ marks) h c is =
     let all = and_parts (test mark) (list_all test marks) h in
@@ -108,7 +108,8 @@ character_one (Escaped c) (Plain d) rest left h g e = absurd (g (subst (Leads re
 abbrev pub IsUnclosed : List ℕ → Type 0
 IsUnclosed text = ¬ Leads (codes "]") text
 
--- In a class a backslash is read in one way: it stands for itself where `]` follows it and no other `]` does.
+-- In a class a backslash is read in one way, whichever characters may stand there by themselves: for itself where `]`
+-- follows it and no other `]` does, and else before a mark.
 pub class_one : (character other : Character) (rest left : List ℕ) → IsUnclosed rest → IsUnclosed left →
     character_text character ++ codes "]" ++ rest ≡ character_text other ++ codes "]" ++ left → (character ≡ other) × (rest ≡ left)
 class_one (Plain c) (Plain d) rest left h g e = (cc e, cc e)

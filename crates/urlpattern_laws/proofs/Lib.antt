@@ -49,3 +49,14 @@ pub mod StandingItems
 pub mod ReadsBack
 pub mod RoundTripExamples
 pub mod KeptTexts
+pub mod WayLists
+pub mod WaysSound
+pub mod WaysComplete
+pub mod FirstWay
+pub mod WayExamples
+pub mod WaysJoined
+pub mod WaysCut
+pub mod FirstPeeled
+pub mod Middles
+pub mod FirstAnswers
+pub mod FirstAnswerExamples

@@ -34,7 +34,7 @@ scalars_right [] more h = h
 scalars_right (c ∷ text) more h = scalars_right text more (and_right _ (all_scalars (text ++ more)) h)
 
 -- what stands between two texts
-scalars_middle : (front text back : List ℕ) → IsTrue (all_scalars (front ++ text ++ back)) → IsTrue (all_scalars text)
+pub scalars_middle : (front text back : List ℕ) → IsTrue (all_scalars (front ++ text ++ back)) → IsTrue (all_scalars text)
 scalars_middle front text back h = scalars_right front text (scalars_left (front ++ text) back h)
 
 -- ---- a matcher that asks an engine
@@ -44,7 +44,7 @@ abbrev pub HasEnds : {E : Type 0} → OptionsView → MatcherView E → (front b
 HasEnds options matcher front back = (matcher.prefix ≡ front) × (matcher.suffix ≡ back) × (matcher.ignore_case ≡ options.ignore_case)
 
 -- no matcher without an engine has one
-not_fast : {E : Type 0} (inner other : InnerView E) (value : Result E ErrorView) → inner ≡ other → IsFast other → inner ≡ RegExp value → ⊥
+pub not_fast : {E : Type 0} (inner other : InnerView E) (value : Result E ErrorView) → inner ≡ other → IsFast other → inner ≡ RegExp value → ⊥
 not_fast inner other value e fast f = subst (λ i. IsFast i) (sym e ∙ f) fast
 
 ends_of_one : {E : Type 0} (IsEngine : List ℕ → Result E ErrorView → Type 0) (options : OptionsView) (kind : PartType) (modifier : PartModifier) (front : List ℕ) (part : PartView) (back : List ℕ) (matcher : MatcherView E) (value : Result E ErrorView) →
@@ -53,7 +53,7 @@ ends_of_one IsEngine options FullWildcard modifiers.None front part back matcher
 ends_of_one IsEngine options SegmentWildcard modifiers.None front part back matcher value made e = absurd (not_fast matcher.inner (SingleCapture options.delimiter false) value (ap (λ m. m.inner) made) tt e)
 ends_of_one IsEngine options kind modifier front part back matcher value made e = (ap (λ m. m.prefix) made.2, ap (λ m. m.suffix) made.2, ap (λ m. m.ignore_case) made.2)
 
-ends_of : {E : Type 0} (IsEngine : List ℕ → Result E ErrorView → Type 0) (options : OptionsView) (front : List ℕ) (middle : List PartView) (back : List ℕ) (matcher : MatcherView E) (value : Result E ErrorView) →
+pub ends_of : {E : Type 0} (IsEngine : List ℕ → Result E ErrorView → Type 0) (options : OptionsView) (front : List ℕ) (middle : List PartView) (back : List ℕ) (matcher : MatcherView E) (value : Result E ErrorView) →
     IsMadeBetween IsEngine options front middle back matcher → matcher.inner ≡ RegExp value → HasEnds options matcher front back
 ends_of IsEngine options front [] back matcher value made e = absurd (not_fast matcher.inner (Literal (front ++ back)) value (ap (λ m. m.inner) made) tt e)
 ends_of IsEngine options front (part ∷ []) back matcher value made e = ends_of_one IsEngine options part.kind part.modifier front part back matcher value made e
@@ -110,11 +110,11 @@ matcher_agrees {E} answer IsMade MayRefuse options flags parts matcher text resu
 
 -- ---- engines that follow
 
-all_left : (parts others : List PartView) → All IsNotCustom (parts ++ others) → All IsNotCustom parts
+pub all_left : (parts others : List PartView) → All IsNotCustom (parts ++ others) → All IsNotCustom parts
 all_left [] others h = All-nil IsNotCustom
 all_left (part ∷ parts) others h = All-cons IsNotCustom part parts (All-head IsNotCustom part (parts ++ others) h) (all_left parts others (All-tail IsNotCustom part (parts ++ others) h))
 
-all_right : (parts others : List PartView) → All IsNotCustom (parts ++ others) → All IsNotCustom others
+pub all_right : (parts others : List PartView) → All IsNotCustom (parts ++ others) → All IsNotCustom others
 all_right [] others h = h
 all_right (part ∷ parts) others h = all_right parts others (All-tail IsNotCustom part (parts ++ others) h)
 

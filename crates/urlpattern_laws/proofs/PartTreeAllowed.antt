@@ -3,7 +3,7 @@ use Rattle.std.proofs.Common.{◌≡◌, ℕ, ◌+◌, List, [], ◌∷◌, ◌+
 use Rattle.std.proofs.lemmas.List.Elements.{All-head, All-tail}
 use Rattle.std.proofs.lemmas.List.Folds.{list_any-append}
 use Rattle.std.specs.Prelude.{codes, ◌≢◌, ◌==◌, ◌||◌, ◌&&◌, if◌then◌else◌, All, IsTrue}
-use Rattle.urlpattern_laws.specs.Dialect.{AllowsGroups, AreItems, Items, Nothing, IsAtom, IsCharacter, IsClassCharacter, Plain, Escaped, LazyOneOrMore, group_count}
+use Rattle.urlpattern_laws.specs.Dialect.{AllowsGroups, AreItems, Items, Nothing, IsAtom, IsCharacter, IsClassCharacter, class_marks, Plain, Escaped, LazyOneOrMore, group_count}
 use Rattle.urlpattern_syntax.specs.declared.parser.PartModifier.{PartModifier}
 use Rattle.urlpattern_syntax.specs.declared.parser.PartModifier.TheVariants as modifiers
 use Rattle.urlpattern_syntax.specs.declared.parser.PartType.{PartType}
@@ -14,6 +14,7 @@ use Rattle.urlpattern_syntax.specs.Options.{OptionsView}
 use Rattle.urlpattern_syntax.specs.Parts.{PartView}
 use Rattle.urlpattern_syntax.specs.RegexpText.{escaped_marks, is_empty, regexp_marks, IsWildcard}
 use Rattle.urlpattern_syntax.specs.Text.{is_among}
+use Rattle.urlpattern_laws.proofs.DialectLeads.{passed}
 use Rattle.urlpattern_laws.proofs.MatchingLaws.{part_of}
 use Rattle.urlpattern_laws.proofs.PartTrees.{IsNotCustom, affixed_core, alone, bare_core, copies, fixed_tree, further, group_atom, group_quantifier, part_tree, put, segment_atom, tree_of, wildcard_items}
 use Rattle.urlpattern_syntax.proofs.TokenExamples.{no}
@@ -44,11 +45,15 @@ character_by marks are c false e = λ h. no (sym e ∙ are.must c h)
 
 class_character_by : (marks : List ℕ) → AreMarks marks → (c : ℕ) (is_mark : Bool) → is_among marks c ≡ is_mark → IsClassCharacter (if is_mark then Escaped c else Plain c)
 class_character_by marks are c true e = are.may c e
-class_character_by marks are c false e = tt
+class_character_by marks are c false e = λ h. no (sym e ∙ are.must c (passed (is_among regexp_marks) class_marks refl c h))
 
 put_allowed : (marks text : List ℕ) (items : Items) → AreMarks marks → AreItems items → AreItems (put marks text items)
 put_allowed marks [] items are allowed = allowed
 put_allowed marks (c ∷ text) items are allowed = (character_by marks are c (is_among marks c) refl, tt, put_allowed marks text items are allowed)
+
+-- a text alone is allowed
+pub text_allowed : (options : OptionsView) (text : List ℕ) → AreItems (put (escaped_marks options.syntax) text Nothing)
+text_allowed options text = put_allowed (escaped_marks options.syntax) text Nothing (marks_of options.syntax) tt
 
 -- a text has no groups
 pub put_groups : (marks text : List ℕ) (items : Items) → group_count (put marks text items) ≡ group_count items

@@ -80,9 +80,13 @@ abbrev pub IsCharacter : Character → Type 0
 IsCharacter (Plain c) = ¬ IsTrue (is_among regexp_marks c)
 IsCharacter (Escaped c) = IsTrue (is_among (regexp_marks ++ codes "/") c)
 
--- in a class any one character may stand by itself, and a mark or a slash behind a backslash
+-- the characters that do not stand by themselves in a class
+abbrev pub class_marks : List ℕ
+class_marks = codes "[\\"
+
+-- in a class a mark or a slash may stand behind a backslash, and any character but `[` and the backslash by itself
 abbrev pub IsClassCharacter : Character → Type 0
-IsClassCharacter (Plain c) = Unit {0}
+IsClassCharacter (Plain c) = ¬ IsTrue (is_among class_marks c)
 IsClassCharacter (Escaped c) = IsTrue (is_among (regexp_marks ++ codes "/") c)
 
 -- what may be taken more than once captures nothing

@@ -2,7 +2,7 @@
 //!
 //! Each function here does nothing; what it promises is a theorem.
 
-ghost use Rattle.std.specs.Prelude.{◌≡◌, ◌≢◌, ◌↔◌, ◌⊎◌, ℕ, suc, ◌<◌, false, ◌&&◌, List, [], ◌∷◌, ◌++◌, length, All, AllPairs, Contains, IsTrue, Option, Some, Result, Err};
+ghost use Rattle.std.specs.Prelude.{◌≡◌, ◌≢◌, ◌↔◌, ◌⊎◌, ℕ, suc, ◌<◌, false, ◌&&◌, List, [], ◌∷◌, ◌++◌, length, All, AllPairs, Contains, IsTrue, Option, Some, None, Result, Err};
 ghost use Rattle.std.specs.Char.{is_ascii_digit};
 ghost use Rattle.std.specs.Fn.{FnReturnsAt};
 ghost use Rattle.std.specs.Str.{all_scalars};
@@ -10,7 +10,8 @@ ghost use Rattle.urlpattern_syntax.specs.declared.parser.PartType.TheVariants.{R
 ghost use Rattle.urlpattern_syntax.specs.declared.tokenizer.TokenType.TheVariants.{End, Name};
 ghost use Rattle.urlpattern_syntax.specs.Errors.{ErrorView};
 ghost use Rattle.urlpattern_syntax.specs.Errors.{ErrorView as errors};
-ghost use Rattle.urlpattern_laws.specs.Dialect.{Follows, HasMeaningOf, IsTreeOf, Items, Means};
+ghost use Rattle.urlpattern_laws.specs.Dialect.{AreItems, Follows, HasMeaningOf, IsTreeOf, Items, Means, group_count};
+ghost use Rattle.urlpattern_laws.specs.FirstAnswers.{AnswersFirstInMiddle, IsFirstOf};
 ghost use Rattle.urlpattern_laws.specs.Laws.{Answered, AnswersAsked, AnswersOnce, AnswersOnceGivenMemory, CountFrom, HasLenientTokens, HasOutcome, HasShapeOf, HasSomeOutcome, HasTokensOrFault, LacksAnswer, Lays, Outcome, listed, numbers_among, spelling};
 ghost use Rattle.urlpattern_laws.specs.Matching.{Agrees, AgreesInMiddle, Answers, ArePeeled, FollowsMiddle, MatcherView, end_text};
 ghost use Rattle.urlpattern_syntax.specs.Options.{OptionsView};
@@ -22,6 +23,7 @@ ghost use Rattle.urlpattern_syntax.specs.Reading.{Reads, Refuses, encoding_of};
 ghost use Rattle.urlpattern_laws.specs.RoundTrip.{ArePatternParts, FailsText, IsPrintable, KeepsAnswered, MayKeep, WereRead};
 ghost use Rattle.urlpattern_syntax.specs.RegexpText.{IsWildcard, group_names, is_empty, regexp_text};
 ghost use Rattle.urlpattern_syntax.specs.Text.{byte_len, lacks, line_feed, BeginsWith};
+ghost use Rattle.urlpattern_laws.specs.Ways.{Way, first_way, ways};
 ghost use Rattle.urlpattern_syntax.specs.Tokens.{AreLenientTokens, AreTokens, FaultView, IsFault, TokenView, end_of};
 
 use urlpattern_syntax::Error;
@@ -143,6 +145,21 @@ pub fn dialect_trees_are_one()
     ensures { (text : List ℕ) (tree other : Items) → IsTreeOf text tree → IsTreeOf text other → tree ≡ other }
 {}
 
+/// The ways of a tree are exactly its meanings of the fronts of a text. So the first way that takes the whole text captures
+/// what the tree means, there is none only where the tree does not mean the text, and it has as many captures as the tree
+/// has groups. What answers it follows the text of the tree: each text of the dialect can be followed.
+pub fn first_ways_are_meant()
+    ensures ways { (tree : Items) → AreItems tree → (text : List ℕ) (way : Way) →
+        Contains (ways tree text) way ↔ ((text ≡ way.taken ++ way.rest) × Means tree way.taken way.captures) }
+    ensures some { (tree : Items) → AreItems tree → (text : List ℕ) (captures : Captures) →
+        first_way tree text ≡ Some captures → Means tree text captures }
+    ensures none { (tree : Items) → AreItems tree → (text : List ℕ) →
+        first_way tree text ≡ None → (captures : Captures) → ¬ Means tree text captures }
+    ensures count { (tree : Items) → AreItems tree → (text : List ℕ) (captures : Captures) →
+        first_way tree text ≡ Some captures → length captures ≡ group_count tree }
+    ensures follows { (regexp : List ℕ) (tree : Items) → IsTreeOf regexp tree → Follows regexp (first_way tree) }
+{}
+
 /// The regular expression of parts has one tree, and it means what the parts mean: each text, with the same captures.
 /// This holds under all options and for all names, prefixes, suffixes and values, where no part has a regular expression
 /// of its own.
@@ -170,6 +187,22 @@ pub fn matchers_answer_what_parts_mean<E>()
     ensures agrees { (answer : E → List ℕ → Option Captures) (options : OptionsView) (parts : List PartView) (matcher : MatcherView E) (text : List ℕ) (result : Option Captures) →
         HasShapeOf options parts matcher → options.ignore_case ≡ false → IsTrue (lacks line_feed text) → IsTrue (all_scalars text) →
         AgreesInMiddle answer options parts matcher.inner → Answers answer matcher text result → Agrees options parts text result }
+{}
+
+/// A matcher of parts answers the first way of the tree of their regular expression, and that is one answer, which is a
+/// meaning of the parts, or None where they have none. No part is custom, case is kept, and the text is of characters without
+/// line feed. An engine that is asked answers the first way of the tree of its own text; where none is asked, this holds of
+/// every matcher. `E` is any type of engines' values.
+pub fn matchers_answer_the_first_way<E>()
+    ensures first { (answer : E → List ℕ → Option Captures) (options : OptionsView) (parts : List PartView) (matcher : MatcherView E)
+        (text : List ℕ) (result : Option Captures) →
+        HasShapeOf options parts matcher → All (λ part. part.kind ≢ Regexp) parts → options.ignore_case ≡ false →
+        IsTrue (lacks line_feed text) → IsTrue (all_scalars text) →
+        AnswersFirstInMiddle answer options parts matcher.inner → Answers answer matcher text result → IsFirstOf options parts text result }
+    ensures one { (options : OptionsView) (parts : List PartView) (text : List ℕ) (result other : Option Captures) →
+        IsFirstOf options parts text result → IsFirstOf options parts text other → result ≡ other }
+    ensures meant { (options : OptionsView) (parts : List PartView) (text : List ℕ) (result : Option Captures) →
+        All (λ part. part.kind ≢ Regexp) parts → IsFirstOf options parts text result → Agrees options parts text result }
 {}
 
 /// Neighbouring plain fixed texts have the same regular expression, and the same names, as one.

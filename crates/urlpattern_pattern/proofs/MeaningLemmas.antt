@@ -35,7 +35,7 @@ use Rattle.urlpattern_syntax.specs.Text.{text_of}
 not_regexp : (kind : PartType) → is_regexp kind ≡ false → kind ≢ Regexp
 not_regexp kind other is = let e : true ≡ false = ap is_regexp (sym is) ∙ other in cc e
 
-none_custom : (parts : List PartView) → has_regexp parts ≡ false → All (λ part. part.kind ≢ Regexp) parts
+pub none_custom : (parts : List PartView) → has_regexp parts ≡ false → All (λ part. part.kind ≢ Regexp) parts
 none_custom [] none = λ k d lt. absurd (omega (arith, lt))
 none_custom (part ∷ parts) none =
     let split = or_parts (is_regexp part.kind) (has_regexp parts) none in
@@ -43,7 +43,7 @@ none_custom (part ∷ parts) none =
 
 -- ---- canonical values are one
 
-canonical_once : (canonical : List ℕ → Parsed (List ℕ)) → EncodesOnce (canonical_encoding canonical)
+pub canonical_once : (canonical : List ℕ → Parsed (List ℕ)) → EncodesOnce (canonical_encoding canonical)
 canonical_once canonical text answer other (Ok string, is_answer, same) (Ok another, is_other, too) =
     let one : answer ≡ text_of string = cc same in
     let two : other ≡ text_of another = cc too in

@@ -1,19 +1,23 @@
 -- What a match is in the words of pattern texts: the parts that they read as mean the texts of the input, and the groups
 -- are the names of these parts beside what they capture.
-use Rattle.std.specs.Prelude.{◌≡◌, ℕ, Bool, false, List, Option, Some, None, MatchOption, Ok, IsTrue}
+use Rattle.std.specs.Prelude.{◌≡◌, ⊤, ℕ, Bool, false, List, Option, Some, None, MatchOption, Ok, IsTrue}
 use Rattle.std.specs.Str.{all_scalars}
 use Rattle.urlpattern_init.specs.Inheritance.{Texts, Values}
 use Rattle.urlpattern_init.specs.declared.init.UrlPatternInit.{UrlPatternInit}
 use Rattle.urlpattern_init.specs.declared.init.UrlPatternMatchInput.{UrlPatternMatchInput}
 use Rattle.urlpattern_init.specs.declared.init.processing.Component.{Component}
 use Rattle.urlpattern_inputs.specs.declared.options.UrlPatternOptions.{UrlPatternOptions}
-use Rattle.urlpattern_core.specs.Compiling.{ComponentView}
+use Rattle.regex.specs.declared.string.regex.Regex.{Regex}
+use Rattle.urlpattern_core.specs.Compiling.{ComponentView, IsCompiledFrom}
+use Rattle.urlpattern_core.specs.Engines.{IsRegexOf}
+use Rattle.urlpattern_laws.specs.FirstAnswers.{IsFirstOf, TookText}
 use Rattle.urlpattern_laws.specs.Matching.{FollowsMiddle}
 use Rattle.urlpattern_laws.specs.PartMeaning.{Captures, PartsMean}
 use Rattle.urlpattern_pattern.specs.Compiled.{AreCompiled, Compiles, canonical_encoding, manner_of, pattern_of, pattern_values}
 use Rattle.urlpattern_pattern.specs.Match.{HasNoMatch, IsLongInput, IsMatch, IsResultOf, ResultView, text_at}
 use Rattle.urlpattern_pattern.specs.MatchInput.{input_texts}
 use Rattle.urlpattern_pattern.specs.Patterns.{PatternView}
+use Rattle.urlpattern_syntax.specs.declared.parser.RegexSyntax.TheVariants.{Rust}
 use Rattle.urlpattern_syntax.specs.Options.{OptionsView}
 use Rattle.urlpattern_syntax.specs.Parts.{PartView}
 use Rattle.urlpattern_syntax.specs.Reading.{Reads}
@@ -78,3 +82,27 @@ pub record IsExecutedByMeaning {E : Type 0} (IsFrom : Compiles E) (answer : E �
   pub executed : IsExecuted answer pattern input found
   pub means : (texts : Texts) → input_texts input ≡ Ok texts → ¬ IsLongInput input
       → IsFoundByMeaning answer asked values compiled.hierarchical pattern texts found
+
+-- ---- the default engine
+
+-- What is asked of a component that was compiled by `regex::Regex`, and of a text: as above, but of the engine no more than
+-- that it took the regular expression it was given, where one is needed.
+pub record RegexPremises (asked : UrlPatternOptions) (values : Values) (hierarchical : Bool) (component : Component) (compiled : ComponentView Regex) (text : List ℕ) : Type 0 where
+  pub generated : compiled.has_regexp_group ≡ false
+  pub case_kept : (options_of asked values hierarchical component).ignore_case ≡ false
+  pub took : TookText (λ regex. ⊤) compiled.matcher.inner
+  pub no_line_feed : IsTrue (lacks line_feed text)
+  pub characters : IsTrue (all_scalars text)
+
+-- The result of a component tells the first way of its text: as groups the names of the parts that its pattern text reads as,
+-- beside what the first way captures.
+pub record IsFirstResult (asked : UrlPatternOptions) (values : Values) (hierarchical : Bool) (component : Component) (text : List ℕ) (result : ResultView) : Type 0 where
+  pub parts : List PartView
+  pub captures : Captures
+  pub reads : ReadsAs asked values hierarchical component parts
+  pub is_first : IsFirstOf (options_of asked values hierarchical component) parts text (Some captures)
+  pub is_result : IsResultOf (group_names parts) captures text result
+
+-- patterns are compiled by `regex::Regex`
+abbrev pub compiles_by_regex : Compiles Regex
+compiles_by_regex = IsCompiledFrom (λ regex regexp flags. IsRegexOf regexp regex) (λ regexp flags force_eval. ⊤) Rust

@@ -2,16 +2,18 @@
 //!
 //! Each function here does nothing; what it promises is a theorem.
 
-ghost use Rattle.std.specs.Prelude.{◌≡◌, ◌↔◌, ℕ, List, Ok, Option};
+ghost use Rattle.std.specs.Prelude.{◌≡◌, ◌↔◌, ℕ, Bool, List, Ok, Option};
 ghost use Rattle.urlpattern_init.specs.declared.init.processing.Component.{Component};
 ghost use Rattle.urlpattern_init.specs.declared.init.UrlPatternMatchInput.{UrlPatternMatchInput};
+ghost use Rattle.regex.specs.declared.string.regex.Regex.{Regex};
 ghost use Rattle.urlpattern_core.specs.Compiling.{IsCompiledFrom};
+ghost use Rattle.urlpattern_core.specs.Engines.{regex_answer};
 ghost use Rattle.urlpattern_init.specs.Inheritance.{Texts, Values};
 ghost use Rattle.urlpattern_inputs.specs.declared.options.UrlPatternOptions.{UrlPatternOptions};
 ghost use Rattle.urlpattern_pattern.specs.Compiled.{AreCompiled};
 ghost use Rattle.urlpattern_pattern.specs.MatchInput.{input_texts};
-ghost use Rattle.urlpattern_pattern.specs.Meaning.{IsExecuted, IsFoundByMeaning};
-ghost use Rattle.urlpattern_pattern.specs.Match.{HasMatch, HasNoMatch, IsLongInput, IsMatch, IsSameResult, ResultView};
+ghost use Rattle.urlpattern_pattern.specs.Meaning.{IsExecuted, IsFirstResult, IsFoundByMeaning, MeaningPremises, RegexPremises, compiles_by_regex};
+ghost use Rattle.urlpattern_pattern.specs.Match.{HasMatch, HasNoMatch, IsLongInput, IsMatch, IsSameResult, ResultView, text_at};
 ghost use Rattle.urlpattern_pattern.specs.Patterns.{PatternView};
 ghost use Rattle.urlpattern_laws.specs.PartMeaning.{Captures};
 
@@ -41,4 +43,23 @@ pub fn tests_tell_matches<E>()
         IsMatch answer pattern input result → IsMatch answer pattern input other → (component : Component) → IsSameResult (result component) (other component) }
     ensures not_both { (answer : E → List ℕ → Option Captures) (pattern : PatternView E) (input : UrlPatternMatchInput) →
         HasMatch answer pattern input → HasNoMatch answer pattern input → IsLongInput input }
+{}
+
+/// Of a pattern that `regex::Regex` compiled, what is asked of a component's engine is met where it took the regular expression
+/// that it was given. So in a match the groups of a component are the names of its parts beside what the first way captures,
+/// which are determined by the pattern text and the component's text: no other result is a match.
+pub fn groups_by_regex_are_of_the_first_way()
+    ensures premises { (asked : UrlPatternOptions) (values : Values) (pattern : PatternView Regex) (component : Component) (text : List ℕ) →
+        (compiled : AreCompiled compiles_by_regex regex_answer asked values pattern) →
+        RegexPremises asked values compiled.hierarchical component (pattern component) text →
+        MeaningPremises regex_answer asked values compiled.hierarchical component (pattern component) text }
+    ensures first { (asked : UrlPatternOptions) (values : Values) (pattern : PatternView Regex) (input : UrlPatternMatchInput) (texts : Texts)
+        (result : Component → ResultView) (component : Component) →
+        (compiled : AreCompiled compiles_by_regex regex_answer asked values pattern) →
+        input_texts input ≡ Ok texts → IsMatch regex_answer pattern input result →
+        RegexPremises asked values compiled.hierarchical component (pattern component) (text_at texts component) →
+        IsFirstResult asked values compiled.hierarchical component (text_at texts component) (result component) }
+    ensures one { (asked : UrlPatternOptions) (values : Values) (hierarchical : Bool) (component : Component) (text : List ℕ) (result other : ResultView) →
+        IsFirstResult asked values hierarchical component text result → IsFirstResult asked values hierarchical component text other →
+        IsSameResult result other }
 {}

@@ -2,6 +2,8 @@ use Rattle.std.proofs.Common.{refl}
 use Rattle.urlpattern_core.specs.Compiling.{MayRefuseAtFirst}
 use Rattle.urlpattern_laws.proofs.CallbackLaws.{outcome_one}
 use Rattle.urlpattern_laws.proofs.CaptureCount.{captures_counted}
+use Rattle.urlpattern_core.proofs.RegexMatchers.{taken_means}
+use Rattle.urlpattern_laws.proofs.FirstAnswers.{first_one, matcher_first}
 use Rattle.urlpattern_laws.proofs.MatcherMeaning.{matcher_means}
 use Rattle.urlpattern_laws.proofs.OutcomesExist.{outcome_listed}
 use Rattle.urlpattern_laws.proofs.OneMeaning.{each_tree_means, one_meaning}
@@ -26,6 +28,16 @@ returns-clause-captures g c = captures_counted
 pub returns-clause-matches : goal.returns-clause-matches
 returns-clause-matches g c = λ options flags parts matcher made plain kept follows text answered lacks scalars answers.
     matcher_means g.R.RegExp.answer g.R.RegExp.IsMade (MayRefuseAtFirst g.R.RegExp.MayRefuse) options flags parts matcher text answered made plain kept lacks scalars follows answers
+
+pub returns-clause-answers : goal.returns-clause-answers
+returns-clause-answers g c = λ options flags parts matcher text result made plain kept firsts lacks scalars answers.
+    matcher_first g.R.RegExp.answer g.R.RegExp.IsMade (MayRefuseAtFirst g.R.RegExp.MayRefuse) options flags parts matcher text result made plain kept lacks scalars firsts answers
+
+pub returns-clause-one_answer : goal.returns-clause-one_answer
+returns-clause-one_answer g c = first_one
+
+pub returns-clause-default_engine : goal.returns-clause-default_engine
+returns-clause-default_engine g c = taken_means
 
 pub returns-clause-reads_back : goal.returns-clause-reads_back
 returns-clause-reads_back g c = λ text options first answers parts read keeps.

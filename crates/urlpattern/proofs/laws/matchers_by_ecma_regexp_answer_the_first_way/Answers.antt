@@ -1,0 +1,5 @@
+use Rattle.urlpattern.proofs.EcmaMatchers.{ecma_means}
+use Rattle.urlpattern.proofs.laws.matchers_by_ecma_regexp_answer_the_first_way.Goals as goal
+
+pub returns : goal.returns
+returns c = ecma_means

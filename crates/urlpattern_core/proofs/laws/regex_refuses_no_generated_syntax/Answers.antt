@@ -1,0 +1,5 @@
+use Rattle.urlpattern_core.proofs.PartDepths.{refused_for_memory}
+use Rattle.urlpattern_core.proofs.laws.regex_refuses_no_generated_syntax.Goals as goal
+
+pub returns : goal.returns
+returns c = refused_for_memory

@@ -1,0 +1,12 @@
+use Rattle.std.specs.Prelude.{[]}
+use Rattle.urlpattern_laws.proofs.FirstAnswers.{first_agrees, first_one, matcher_first}
+use Rattle.urlpattern_laws.proofs.laws.matchers_answer_the_first_way.Goals as goal
+
+pub returns-clause-first : goal.returns-clause-first
+returns-clause-first g c = λ answer options parts. matcher_first answer (λ engine regexp flags. Unit {0}) (λ regexp flags. Unit {0}) options [] parts
+
+pub returns-clause-one : goal.returns-clause-one
+returns-clause-one g c = first_one
+
+pub returns-clause-meant : goal.returns-clause-meant
+returns-clause-meant g c = first_agrees
