@@ -1,3 +1,4 @@
+pub mod Captures
 pub mod Compiled
 pub mod Eight
 pub mod FirstMatch

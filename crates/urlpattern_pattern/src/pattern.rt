@@ -6,6 +6,7 @@ ghost use Rattle.urlpattern_init.specs.Inheritance.{components};
 ghost use Rattle.urlpattern_pattern.specs.Patterns.{pattern_view};
 ghost use Rattle.urlpattern_init.specs.declared.init.processing.Component.TheVariants as names;
 
+mod captures;
 mod eight;
 mod groups;
 mod matching;
@@ -13,9 +14,9 @@ mod once;
 mod parse;
 mod result;
 
+pub use captures::{UrlPatternCaptures, UrlPatternGroups};
 pub(crate) use eight::Eight;
 pub(crate) use groups::Groups;
-pub(crate) use matching::Captured;
 pub use result::{UrlPatternComponentResult, UrlPatternResult};
 use urlpattern_core::component::Component;
 use urlpattern_core::regexp::RegExp;
