@@ -29,6 +29,7 @@ pub use Rattle.urlpattern_syntax.specs.RegexpText
 pub use Rattle.urlpattern_syntax.specs.Text
 pub use Rattle.urlpattern_syntax.specs.Tokens
 pub use Rattle.urlpattern_syntax.specs.declared.parser.RegexSyntax
+pub use Rattle.urlpattern_pattern.specs.Captures
 pub use Rattle.urlpattern_pattern.specs.Compiled
 pub use Rattle.urlpattern_pattern.specs.Eight
 pub use Rattle.urlpattern_pattern.specs.FirstMatch

@@ -2,15 +2,16 @@
 use Rattle.std.proofs.Common.{◌≡◌, ℕ, Bool, true, false, List, [], ◌∷◌, ◌++◌, reverse, zip, bytes_eq, refl, sym, ap, ◌∙◌, ⊎_elim, inl, inr, cond, map, Bor}
 use Rattle.std.proofs.lemmas.Bool.{cases_Bool, cond-true, cond-false, false≢true}
 use Rattle.std.proofs.lemmas.List.{reverse-append}
-use Rattle.std.proofs.lemmas.Str.{encodes-chars}
+use Rattle.std.proofs.lemmas.Str.{encodes-chars, IsUtf8-string_bytes}
 use Rattle.std.specs.Cmp.Lexicographic.{bytes_decides}
-use Rattle.std.specs.HashMap.{HashMap, Updates}
+use Rattle.std.specs.HashMap.{HashMap, Updates, get_by_text}
 use Rattle.std.specs.Map.{lookup, IsKeyTest, AreApart, KeepsOthers}
 use Rattle.std.specs.Option.{option_or}
-use Rattle.std.specs.Prelude.{◌⊎◌, Option, Some, None, String, option_map, string_bytes, encode_utf8_all}
+use Rattle.std.specs.Prelude.{◌⊎◌, Option, Some, None, String, option_copied, option_map, string_bytes, unwrap_or, encode_utf8_all}
 use Rattle.std.specs.Str.{chars, IsUtf8}
 use Rattle.std.specs.String.{string_eq}
 use Rattle.std.specs.declared.alloc.Global.{Global}
+use Rattle.urlpattern_pattern.specs.Eight.{captured_bytes}
 use Rattle.urlpattern_pattern.specs.Match.{group_in, group_of}
 use Rattle.urlpattern_core.specs.Captured.{capture_view}
 use Rattle.urlpattern_laws.specs.PartMeaning.{Captures}
@@ -152,3 +153,27 @@ named-more before names before_captures captures name capture group old new foun
     ∙ ap (λ texts. option_or (group_of texts (capture_view capture ∷ map capture_view captures) group) old) (ap (map (λ string. text_of string)) (sym is_first))
     ∙ ap (λ captured. option_or (group_of (map (λ string. text_of string) before) captured group) old) (ap (map capture_view) (sym is_capture))
     ∙ was
+
+-- what a map has at a name is what it has at the bytes of it
+pub group_in-text : {S : Type 0} (groups : HashMap (String Global) (Option (String Global)) S) (name : List ℕ) → IsUtf8 name →
+    group_in groups (chars name) ≡ option_map (option_map text_of) (get_by_text groups name)
+group_in-text groups name u =
+    ap (option_map (option_map text_of))
+    (lookup-alike (λ key. bytes_eq (chars name) (text_of key)) (λ key. bytes_eq name (string_bytes key)) (λ key. chars-test name (string_bytes key) u (IsUtf8-string_bytes key)) groups.entries)
+
+-- a capture that is lent, by its characters
+captured-text : (found : Option (Option (String Global))) (capture : Option (Bor (List ℕ))) → option_copied capture ≡ captured_bytes found →
+    capture_view capture ≡ unwrap_or (option_map (option_map text_of) found) None
+captured-text None None e = refl
+captured-text None (Some text) e = absurd cc
+captured-text (Some None) None e = refl
+captured-text (Some None) (Some text) e = absurd cc
+captured-text (Some (Some string)) None e = absurd cc
+captured-text (Some (Some string)) (Some text) e =
+    let same : text.now ≡ string_bytes string = cc in
+    ap (λ bytes. Some (chars bytes)) same
+
+pub group-captured : {S : Type 0} (groups : HashMap (String Global) (Option (String Global)) S) (name : List ℕ) (capture : Option (Bor (List ℕ))) → IsUtf8 name →
+    option_copied capture ≡ captured_bytes (get_by_text groups name) → capture_view capture ≡ unwrap_or (group_in groups (chars name)) None
+group-captured groups name capture u e =
+    captured-text (get_by_text groups name) capture e ∙ ap (λ found. unwrap_or found None) (sym (group_in-text groups name u))

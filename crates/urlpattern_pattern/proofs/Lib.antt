@@ -7,3 +7,4 @@ pub mod MatchLaws
 pub mod MatchSteps
 pub mod CompiledLemmas
 pub mod MeaningLemmas
+pub mod NameOrder

@@ -1,5 +1,5 @@
 -- Words of the private contracts of matching, and of the view of captures.
-use Rattle.std.specs.Prelude.{◌≡◌, ℕ, List, [], ◌∷◌, map, Option, String}
+use Rattle.std.specs.Prelude.{◌≡◌, ℕ, List, [], ◌∷◌, map, Option, None, Some, String, string_bytes}
 use Rattle.std.specs.Borrow.{Bor}
 use Rattle.std.specs.HashMap.{HashMap}
 use Rattle.std.specs.Str.{chars}
@@ -51,3 +51,8 @@ AreGroups names captures groups = (name : List ℕ) → group_in groups name ≡
 -- texts beside groups, as results
 abbrev pub results_of : {S : Type 0} → Texts → Eight (HashMap (String Global) (Option (String Global)) S) → Component → ResultView
 results_of texts groups component = record { input = text_at texts component; group = group_in (at groups component) }
+
+-- the bytes that a group captured, if it is there and took part
+abbrev pub captured_bytes : Option (Option (String Global)) → Option (List ℕ)
+captured_bytes (Some (Some text)) = Some (string_bytes text)
+captured_bytes found = None

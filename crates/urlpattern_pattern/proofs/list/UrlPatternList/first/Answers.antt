@@ -20,7 +20,7 @@ returns-in-Some-clause-first g c =
     let is_there = slice_get_read items (length items) c.loop-index.index pattern refl c.loop-index-test.true c.pattern-item.is in
     let is_match : IsMatchOf answer (pattern_view pattern) texts (captures_view c.with_captures.result) = record {
       captures = λ name. captures_of (at c.in-Some.captures name);
-      are_answers = rw c.in-Some.is at c.in_ok-captured.ensures.answers;
+      are_answers = rw c.in-Some.is at c.in_ok-captures.ensures.answers;
       are_results = c.with_captures.ensures;
     } in
     subst (λ (patterns : List (UrlPattern g.row.R.Denot)). IsFirstMatchOf answer (patterns_view patterns) texts (Some (c.loop-index.index, captures_view c.with_captures.result)))
@@ -30,7 +30,7 @@ returns-in-Some-clause-first g c =
 pub loop-index-preserved : goal.loop-index-preserved
 loop-index-preserved g c =
     let refuses = λ (pattern : UrlPattern g.row.R.Denot). IsRefused g.R.RegExp.answer (pattern_view pattern) (borrowed_texts c.args.texts) in
-    let refused = rw c.in_default.is at c.in_ok-captured.ensures.refused in
+    let refused = rw c.in_default.is at c.in_ok-captures.ensures.refused in
     All-more refuses c.deref-pattern-items.result.now c.loop-index.index c.pattern-item.result c.loop-index-test.true c.loop-index.invariant
     (subst refuses c.pattern-item.is refused)
 

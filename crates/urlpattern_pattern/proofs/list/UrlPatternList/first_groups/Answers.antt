@@ -13,4 +13,4 @@ returns-in_ok-groups-in-Some-clause-first g c =
     let match = captures_view c.in-Some.captures in
     let groups = c.in_ok-groups-in-Some.field-0 in
     first-same answer (patterns_view c.args.self.now) texts c.in-Some.index match (results_of texts groups)
-    (λ pattern is_match. match-of_groups answer pattern texts match groups c.in_ok-groups-in-Some.ensures.groups is_match) (rw c.in-Some.is at c.in_ok-first_captures_of_input.ensures.first)
+    (λ pattern is_match. match-of_groups answer pattern texts match groups c.in_ok-groups-in-Some.ensures.groups is_match) (rw c.in-Some.is at c.in_ok-index.ensures.first)

@@ -14,4 +14,4 @@ returns-in-Some-clause-first g c =
     let result = result_view c.new.result in
     first-same answer (patterns_view c.args.self.now) texts c.in-Some.index match result
     (λ pattern is_match. match-same answer pattern texts match result (λ name. (c.new.ensures.inputs name, c.new.ensures.groups name)) is_match)
-    (rw c.in-Some.is at c.in_ok-groups.ensures.first)
+    (rw c.in-Some.is at c.in_ok-index.ensures.first)

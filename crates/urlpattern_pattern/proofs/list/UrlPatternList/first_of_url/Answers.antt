@@ -13,4 +13,4 @@ returns-in_ok-result-in-Some-clause-first g c =
     let match = captures_view c.in-Some.captures in
     let result = result_view c.in_ok-result-in-Some.field-0 in
     first-same_input answer (patterns_view c.args.self.now) input c.in-Some.index match result
-    (λ pattern is_match. input-same answer pattern input match result c.in_ok-result-in-Some.ensures.same is_match) (rw c.in-Some.is at c.in_ok-first_captures.ensures.first)
+    (λ pattern is_match. input-same answer pattern input match result c.in_ok-result-in-Some.ensures.same is_match) (rw c.in-Some.is at c.in_ok-index.ensures.first)
