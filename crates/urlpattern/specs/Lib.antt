@@ -33,6 +33,7 @@ pub use Rattle.urlpattern_pattern.specs.Captures
 pub use Rattle.urlpattern_pattern.specs.Compiled
 pub use Rattle.urlpattern_pattern.specs.Eight
 pub use Rattle.urlpattern_pattern.specs.FirstMatch
+pub use Rattle.urlpattern_pattern.specs.FromString
 pub use Rattle.urlpattern_pattern.specs.Match
 pub use Rattle.urlpattern_pattern.specs.MatchInput
 pub use Rattle.urlpattern_pattern.specs.Meaning

@@ -10,7 +10,7 @@ use Rattle.urlpattern_pattern.specs.declared.pattern.eight.Eight.{Eight}
 use Rattle.urlpattern_pattern.proofs.Each.{each}
 use Rattle.urlpattern_pattern.specs.Eight.{at, borrowed_texts, results_of}
 use Rattle.urlpattern_init.specs.Inheritance.{Texts}
-use Rattle.urlpattern_pattern.specs.Match.{AreAnswers, AreMatched, HasMatch, HasNoMatch, IsMatch, IsMatchOf, IsRefused, IsSameResult, ResultView, group_in, text_at}
+use Rattle.urlpattern_pattern.specs.Match.{AreMatched, HasMatch, HasNoMatch, IsMatch, IsMatchOf, IsRefused, IsSameResult, ResultView, group_in, text_at}
 use Rattle.urlpattern_pattern.specs.MatchInput.{input_texts}
 use Rattle.urlpattern_pattern.specs.Patterns.{PatternView}
 use Rattle.urlpattern_laws.specs.PartMeaning.{Captures}

@@ -11,4 +11,5 @@ pub use list::UrlPatternList;
 pub use match_input::parse_match_input;
 pub use pattern::{
     UrlPattern, UrlPatternCaptures, UrlPatternComponentResult, UrlPatternGroups, UrlPatternResult,
+    init_of_text, parse_base, parse_url,
 };

@@ -8,6 +8,7 @@ ghost use Rattle.urlpattern_init.specs.declared.init.processing.Component.TheVar
 
 mod captures;
 mod eight;
+mod from_string;
 mod groups;
 mod matching;
 mod once;
@@ -16,6 +17,7 @@ mod result;
 
 pub use captures::{UrlPatternCaptures, UrlPatternGroups};
 pub(crate) use eight::Eight;
+pub use from_string::{init_of_text, parse_base, parse_url};
 pub(crate) use groups::Groups;
 pub use result::{UrlPatternComponentResult, UrlPatternResult};
 use urlpattern_core::component::Component;
