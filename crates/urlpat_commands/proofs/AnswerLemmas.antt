@@ -1,10 +1,8 @@
 -- Lemmas on what the program answers.
-use Rattle.std.proofs.Common.{◌≡◌, ℕ, ◌+◌, ◌<◌, ◌≤◌, codes, get_or, inl, inr, Bool, false, List, [], ◌∷◌, ◌++◌, map, length, drop, refl, ap, ap₂, ◌∙◌, sym, subst, arith, append_assoc}
-use Rattle.std.proofs.lemmas.List.{get_or-map, length-map}
+use Rattle.std.proofs.Common.{◌≡◌, ℕ, ◌<◌, ◌≤◌, codes, get_or, inl, inr, Bool, false, List, [], ◌∷◌, ◌++◌, map, length, drop, refl, ap, ap₂, ◌∙◌, sym, subst, arith, append_assoc}
 use Rattle.std.proofs.lemmas.Str.{encodes-chars, IsUtf8-string_bytes}
-use Rattle.std.specs.Borrow.{Bor}
 use Rattle.regex.specs.declared.string.regex.Regex.{Regex}
-use Rattle.std.specs.Prelude.{IsSortedBy, MatchOption, Option, None, Some, String, string_bytes, encode_utf8_all}
+use Rattle.std.specs.Prelude.{MatchOption, Option, None, Some, String, string_bytes, encode_utf8_all}
 use Rattle.std.specs.declared.alloc.Global.{Global}
 use Rattle.urlpat_commands.specs.Answers.{IsFirstAnswer, IsFirstText, IsMatchAnswer, IsMatchFailure, IsMatchText, IsMatchTextBy, RefusesPatternOf, TellsMatch, base_of, IsPatternOf, IsUnmatched, IsUnmatchedBy, IsUnmatchedByEach, default_pattern_options, words_view}
 use Rattle.urlpat_commands.specs.declared.command.Failure.TheVariants as failures
