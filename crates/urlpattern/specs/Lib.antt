@@ -25,6 +25,7 @@ pub use Rattle.urlpattern_syntax.specs.Parsing
 pub use Rattle.urlpattern_syntax.specs.Parts
 pub use Rattle.urlpattern_syntax.specs.Pieces
 pub use Rattle.urlpattern_syntax.specs.Reading
+pub use Rattle.urlpattern_syntax.specs.Refusals
 pub use Rattle.urlpattern_syntax.specs.RegexpText
 pub use Rattle.urlpattern_syntax.specs.Text
 pub use Rattle.urlpattern_syntax.specs.Tokens
