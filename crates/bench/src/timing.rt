@@ -32,18 +32,24 @@ enum Call {
     ExecUrl,
     /// It is asked whether it matches that URL.
     TestUrl,
+    /// It is asked for the groups of that URL, which is lent, and for nothing of its own.
+    Captures,
+    /// It is asked whether it matches that URL, which is lent.
+    TestLent,
     /// The text of that URL is parsed.
     ParseUrl,
 }
 
 /// What is timed, in the order of the columns.
-const CALLS: [Call; 6] = [
+const CALLS: [Call; 8] = [
     Call::Parse,
     Call::ExecText,
     Call::ExecMiss,
     Call::ExecUrl,
     Call::TestUrl,
     Call::ParseUrl,
+    Call::Captures,
+    Call::TestLent,
 ];
 
 /// A pattern, what it was given as, and what it is asked about.
@@ -92,6 +98,8 @@ impl<'a> Subject<'a> {
             Call::ExecUrl => self.exec_url(alloc),
             Call::TestUrl => self.test_url(alloc),
             Call::ParseUrl => self.parse_url(alloc),
+            Call::Captures => self.captures(alloc),
+            Call::TestLent => self.test_lent(alloc),
         }
     }
 
@@ -126,6 +134,18 @@ impl<'a> Subject<'a> {
     fn test_url(&self, alloc: Global) -> Result<bool, Error> {
         let input = UrlPatternMatchInput::Url(self.url.clone()?);
         self.pattern.test(alloc, input)
+    }
+
+    /// Asks for the groups of the URL, borrowed.
+    #[inline(never)]
+    fn captures(&self, alloc: Global) -> Result<bool, Error> {
+        Ok(self.pattern.captures(alloc, &self.url)?.is_some())
+    }
+
+    /// Asks whether the URL is matched, and lends it.
+    #[inline(never)]
+    fn test_lent(&self, alloc: Global) -> Result<bool, Error> {
+        self.pattern.test_url(alloc, &self.url)
     }
 
     /// Parses the text of the URL.
@@ -182,7 +202,7 @@ pub fn run<R: Files + AllocGlobal + Clock, O: Write>(
 ) -> io::Result<()> {
     writeln!(
         out,
-        "name\tparse\texec\tmiss\texec of Url\ttest of Url\tUrl::parse"
+        "name\tparse\texec\tmiss\texec of Url\ttest of Url\tUrl::parse\tcaptures of &Url\ttest of &Url"
     )?;
     for path in paths {
         let text = fs::read_to_string(rt, path)?;

@@ -5,22 +5,21 @@ use std::alloc::Global;
 use std::io;
 use std::io::Write;
 use url::Url;
-use urlpattern::{Error, UrlPattern, UrlPatternInit, UrlPatternMatchInput, UrlPatternOptions};
+use urlpattern::{ComponentName, Error, UrlPattern, UrlPatternOptions};
 
-/// The user that a URL names, or None where it names none.
+/// The pattern of a user's page.
+const USER: &str = "https://example.com/users/:id";
+
+/// The user that a URL names. `None`: it names none.
 fn user(alloc: Global, url: &str) -> Result<Option<String>, Error> {
-    let init = UrlPatternInit::parse_constructor_string::<regex::Regex>(
-        alloc,
-        "https://example.com/users/:id",
-        None,
-    )?;
-    let pattern = <UrlPattern>::parse(alloc, init, UrlPatternOptions::default())?;
-    let url = Url::parse(alloc, url).map_err(Error::Url)?;
-    let Some(found) = pattern.exec(alloc, UrlPatternMatchInput::Url(url))? else {
+    let options = UrlPatternOptions::default();
+    let pattern = <UrlPattern>::from_constructor_string(alloc, USER, None, options)?;
+    let url = Url::parse(alloc, url)?;
+    let Some(found) = pattern.captures(alloc, &url)? else {
         return Ok(None);
     };
-    match found.pathname.groups.get("id") {
-        Some(Some(id)) => Ok(Some(id.clone()?)),
+    match found.get(ComponentName::Pathname, "id") {
+        Some(Some(id)) => Ok(Some(String::from_str(alloc, id)?)),
         _ => Ok(None),
     }
 }

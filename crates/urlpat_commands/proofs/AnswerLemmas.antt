@@ -1,10 +1,8 @@
 -- Lemmas on what the program answers.
-use Rattle.std.proofs.Common.{◌≡◌, ℕ, ◌+◌, ◌<◌, ◌≤◌, codes, get_or, inl, inr, Bool, false, List, [], ◌∷◌, ◌++◌, map, length, drop, refl, ap, ap₂, ◌∙◌, sym, subst, arith, append_assoc}
-use Rattle.std.proofs.lemmas.List.{get_or-map, length-map}
+use Rattle.std.proofs.Common.{◌≡◌, ℕ, ◌<◌, ◌≤◌, codes, get_or, inl, inr, Bool, false, List, [], ◌∷◌, ◌++◌, map, length, drop, refl, ap, ap₂, ◌∙◌, sym, subst, arith, append_assoc}
 use Rattle.std.proofs.lemmas.Str.{encodes-chars, IsUtf8-string_bytes}
-use Rattle.std.specs.Borrow.{Bor}
 use Rattle.regex.specs.declared.string.regex.Regex.{Regex}
-use Rattle.std.specs.Prelude.{IsSortedBy, MatchOption, Option, None, Some, String, string_bytes, encode_utf8_all}
+use Rattle.std.specs.Prelude.{MatchOption, Option, None, Some, String, string_bytes, encode_utf8_all}
 use Rattle.std.specs.declared.alloc.Global.{Global}
 use Rattle.urlpat_commands.specs.Answers.{IsFirstAnswer, IsFirstText, IsMatchAnswer, IsMatchFailure, IsMatchText, IsMatchTextBy, RefusesPatternOf, TellsMatch, base_of, IsPatternOf, IsUnmatched, IsUnmatchedBy, IsUnmatchedByEach, default_pattern_options, words_view}
 use Rattle.urlpat_commands.specs.declared.command.Failure.TheVariants as failures
@@ -16,19 +14,6 @@ use Rattle.urlpattern_inputs.specs.declared.options.UrlPatternOptions.{UrlPatter
 use Rattle.urlpattern_syntax.specs.declared.error.Error.{Error}
 use Rattle.urlpattern_syntax.specs.declared.parser.RegexSyntax.{RegexSyntax}
 use Rattle.urlpattern_syntax.specs.declared.parser.RegexSyntax.TheVariants.{Rust}
-
--- ---- names
-
--- values that stand in order stay so where each is seen by the function that they are compared by
-pub sorted_map : {X Y : Type 0} (f : X → Y) (lt : Y → Y → Bool) (xs : List X) → IsSortedBy (λ x y. lt (f x) (f y)) xs → IsSortedBy lt (map f xs)
-sorted_map f lt [] h k d low high = absurd (omega (arith, high))
-sorted_map f lt (x ∷ rest) h k d low high =
-    let within : k + 1 < length (x ∷ rest) = subst (λ n. k + 1 < n) (length-map (x ∷ rest) f) high in
-    ap₂ lt (get_or-map f (x ∷ rest) (k + 1) x d within) (get_or-map f (x ∷ rest) k x d (omega (arith, within))) ∙ h k x low within
-
-pub bytes_of_names : (names : List (Bor (String Global))) → map (λ name. string_bytes name.now) names ≡ map (λ name. string_bytes name) (map (λ name. name.now) names)
-bytes_of_names [] = refl
-bytes_of_names (name ∷ names) = ap (λ rest. string_bytes name.now ∷ rest) (bytes_of_names names)
 
 -- ---- texts
 

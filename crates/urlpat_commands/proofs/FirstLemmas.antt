@@ -4,7 +4,7 @@ use Rattle.std.proofs.lemmas.Grind.{take_at_read}
 use Rattle.std.proofs.lemmas.List.{take-map}
 use Rattle.std.proofs.lemmas.Option.{slice_get-map, slice_get_read}
 use Rattle.std.specs.List.{AllZip}
-use Rattle.std.specs.Prelude.{MatchOption, Option, None, Some, String, option_map, slice_get, string_bytes}
+use Rattle.std.specs.Prelude.{MatchOption, Option, None, Some, String, option_map, string_bytes}
 use Rattle.std.specs.declared.alloc.Global.{Global}
 use Rattle.regex.specs.declared.string.regex.Regex.{Regex}
 use Rattle.urlpat_commands.specs.Answers.{ArePatternsOf, IsFirstText, IsFirstTextBy, IsPatternOf, IsUnmatchedByAll, IsUnmatchedByEach, RefusesOneOf, RefusesPatternOf}

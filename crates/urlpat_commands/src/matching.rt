@@ -1,9 +1,7 @@
 //! The command `match`: what the groups of a pattern capture of a URL.
 
-ghost use Rattle.std.specs.Cmp.Lexicographic.{slice_cmp};
-ghost use Rattle.std.specs.HashMap.{IsUnique, get_by_text, keys};
-ghost use Rattle.std.specs.Ordering.{nat_cmp};
-ghost use Rattle.std.specs.Prelude.{◌≡◌, ◌++◌, ℕ, List, map, option_copied, string_bytes, string_eq, IfErr, IfOk, IsPermutation, IsSorted, MatchOption, OnOk};
+ghost use Rattle.std.specs.HashMap.{get_by_text};
+ghost use Rattle.std.specs.Prelude.{◌≡◌, ◌++◌, ℕ, List, option_copied, string_bytes, IfErr, IfOk, MatchOption, OnOk};
 ghost use Rattle.urlpat_commands.specs.Answers.{AreGroupLines, AreLines, IsMatchText, IsMatchTextBy, IsPatternOf, IsRefusedText, IsUnmatched, IsUnmatchedBy, IsUrlOf, RefusesPatternOf, base_of, capture_of, components_of};
 ghost use Rattle.urlpat_commands.specs.Report.{group_line};
 ghost use Rattle.urlpattern.specs.Errors.{MemoryOr};
@@ -137,36 +135,11 @@ fn push_groups(
 ) -> Result<(), AllocError>
     ensures { OnOk result ((lines : List ℕ) × (string_bytes text.new ≡ string_bytes text.old ++ lines) × AreGroupLines component.now found.now lines) }
 {
-    let names = sorted_names(alloc, &found.groups)?;
+    let names = found.sorted_names(alloc)?;
     for name in &names {
         push_group(text, component, name, capture_of(&found.groups, name))?;
     }
     Ok(())
-}
-
-/// The names of groups, in the order of their bytes.
-fn sorted_names<'a>(
-    alloc: Global,
-    groups: &'a HashMap<String, Option<String>>,
-) -> Result<Vec<&'a String>, AllocError>
-    ensures differ { IfOk result (λ names. IsUnique string_eq groups.now) }
-    ensures all { IfOk result (λ names. IsPermutation (map (λ name. string_bytes name) (keys groups.now)) (map (λ name. string_bytes name.now) names.items)) }
-    ensures in_order { IfOk result (λ names. IsSorted (slice_cmp nat_cmp) (map (λ name. string_bytes name.now) names.items)) }
-{
-    let mut names = names_of(alloc, groups)?;
-    names.sort_unstable();
-    Ok(names)
-}
-
-/// The names of groups.
-fn names_of<'a>(
-    alloc: Global,
-    groups: &'a HashMap<String, Option<String>>,
-) -> Result<Vec<&'a String>, AllocError>
-    ensures all { IfOk result (λ names. map (λ name. name.now) names.items ≡ keys groups.now) }
-    ensures differ { IfOk result (λ names. IsUnique string_eq groups.now) }
-{
-    groups.keys().collect(alloc)
 }
 
 /// What a group captured. `None`: it took no part.

@@ -1,12 +1,11 @@
 -- The inputs of a browser: what a pattern is constructed from, and what it is matched against, after the URLPattern
 -- Standard, sections "Constructor", and "Matching", at "match".
-use Rattle.std.specs.Prelude.{◌≡◌, ⊤, ℕ, ◌⊎◌, List, [], length, max, Option, None, Some, Ok, String, option_map, string_bytes, unwrap_or}
+use Rattle.std.specs.Prelude.{◌≡◌, ⊤, ℕ, List, length, max, Option, None, Some, Ok, String, option_map, string_bytes}
 use Rattle.std.specs.Cow.{cow_str_bytes}
 use Rattle.std.specs.Str.{chars}
 use Rattle.std.specs.declared.alloc.Global.{Global}
 use Rattle.url.specs.Parser.{Parsed, and_then, parse_url}
 use Rattle.url.specs.Parts.{Parts}
-use Rattle.urlpattern_init.specs.ConstructorString.{HasProtocolOrBase, RefusesString, SplitsInto, init_components}
 use Rattle.urlpattern_init.specs.Inheritance.{Values, values_view}
 use Rattle.urlpattern_init.specs.SpecialProtocol.{IsSpecialBy}
 use Rattle.urlpattern_init.specs.declared.init.UrlPatternInit.{UrlPatternInit}
@@ -18,23 +17,17 @@ use Rattle.urlpattern_inputs.specs.declared.init.UrlPatternInit.{UrlPatternInit 
 use Rattle.urlpattern_inputs.specs.declared.input.StringOrInit.{StringOrInit}
 use Rattle.urlpattern_inputs.specs.declared.input.StringOrInit.TheVariants as inputs
 use Rattle.urlpattern_inputs.specs.InputValues.{input_view}
+pub use Rattle.urlpattern_pattern.specs.FromString.{RefusesText, parsed_base, text_bytes}
+use Rattle.urlpattern_pattern.specs.FromString.{IsInitOfText}
 use Rattle.urlpattern_syntax.specs.Errors.{ErrorView}
 use Rattle.urlpattern_syntax.specs.Errors.{ErrorView as views}
 use Rattle.urlpattern_syntax.specs.Text.{text_of}
 
 -- ---- URLs: texts are their bytes
 
--- the URL of a text that may be missing
-abbrev pub parsed_base : Option (List ℕ) → Parsed (Option Parts)
-parsed_base None = Ok None
-parsed_base (Some text) = and_then (parse_url None text) (λ url. Ok (Some url))
-
 -- the URL of a text, under the base URL beside it
 abbrev pub parsed_text : (base : Option (List ℕ)) → (text : List ℕ) → Parsed Parts
 parsed_text base text = and_then (parsed_base base) (λ url. parse_url url text)
-
-abbrev pub text_bytes : Option (List ℕ) → ℕ
-text_bytes text = length (unwrap_or text [])
 
 -- ---- inits
 
@@ -65,23 +58,16 @@ HasInitAndBase input base = ⊥
 
 -- ---- what a pattern is constructed from
 
--- The init of a constructor string with this base URL, where the protocol's engine is the crate `regex`
-pub record IsInitOfString (text : List ℕ) (base : Option (List ℕ)) (init : UrlPatternInit) : Type 0 where
-  pub has_base : parsed_base base ≡ Ok init.base_url
-  pub is_split : SplitsInto (IsSpecialBy (λ regex regexp flags. IsRegexOf regexp regex) (λ regexp flags. ⊤) regex_answer) text (init_components init)
-  pub is_complete : HasProtocolOrBase init
+-- the init of a constructor string with this base URL, where the protocol's engine is the crate `regex`
+abbrev pub IsInitOfString : (text : List ℕ) → (base : Option (List ℕ)) → UrlPatternInit → Type 0
+IsInitOfString text base init =
+    IsInitOfText (IsSpecialBy (λ regex regexp flags. IsRegexOf regexp regex) (λ regexp flags. ⊤) regex_answer) text base init
 
 -- the init that a pattern is constructed from
 abbrev pub IsConstructedFrom : StringOrInit → (base : Option (List ℕ)) → UrlPatternInit → Type 0
 IsConstructedFrom (inputs.String text) base init = IsInitOfString (chars (cow_str_bytes text)) base init
 IsConstructedFrom (inputs.Init plain) None init = IsInitOf plain init
 IsConstructedFrom (inputs.Init plain) (Some base) init = ⊥
-
--- a constructor string is refused with this error, that of its base URL or its own
-abbrev pub RefusesText : (text : List ℕ) → (base : Option (List ℕ)) → ErrorView → Type 0
-RefusesText text base error =
-    Tells (parsed_base base) (text_bytes base) error
-    ⊎ ((url : Option Parts) × (parsed_base base ≡ Ok url) × RefusesString text url error)
 
 -- no pattern is constructed, for this error
 abbrev pub RefusesInput : StringOrInit → (base : Option (List ℕ)) → ErrorView → Type 0

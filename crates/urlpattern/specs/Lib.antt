@@ -27,13 +27,16 @@ pub use Rattle.urlpattern_syntax.specs.Parsing
 pub use Rattle.urlpattern_syntax.specs.Parts
 pub use Rattle.urlpattern_syntax.specs.Pieces
 pub use Rattle.urlpattern_syntax.specs.Reading
+pub use Rattle.urlpattern_syntax.specs.Refusals
 pub use Rattle.urlpattern_syntax.specs.RegexpText
 pub use Rattle.urlpattern_syntax.specs.Text
 pub use Rattle.urlpattern_syntax.specs.Tokens
 pub use Rattle.urlpattern_syntax.specs.declared.parser.RegexSyntax
+pub use Rattle.urlpattern_pattern.specs.Captures
 pub use Rattle.urlpattern_pattern.specs.Compiled
 pub use Rattle.urlpattern_pattern.specs.Eight
 pub use Rattle.urlpattern_pattern.specs.FirstMatch
+pub use Rattle.urlpattern_pattern.specs.FromString
 pub use Rattle.urlpattern_pattern.specs.Match
 pub use Rattle.urlpattern_pattern.specs.MatchInput
 pub use Rattle.urlpattern_pattern.specs.Meaning

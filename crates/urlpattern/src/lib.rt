@@ -13,8 +13,9 @@ pub use urlpattern_canonical::canonicalize_and_process;
 pub use urlpattern_core::{
     Error, RegexSyntax, component, error, matcher, parser, regexp, tokenizer,
 };
-pub use urlpattern_init::{UrlPatternInit, UrlPatternMatchInput};
+pub use urlpattern_init::{Component as ComponentName, UrlPatternInit, UrlPatternMatchInput};
 pub use urlpattern_inputs::UrlPatternOptions;
 pub use urlpattern_pattern::{
-    UrlPattern, UrlPatternComponentResult, UrlPatternList, UrlPatternResult,
+    UrlPattern, UrlPatternCaptures, UrlPatternComponentResult, UrlPatternGroups, UrlPatternList,
+    UrlPatternResult,
 };

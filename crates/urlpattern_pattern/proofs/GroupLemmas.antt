@@ -2,14 +2,16 @@
 use Rattle.std.proofs.Common.{◌≡◌, ℕ, Bool, true, false, List, [], ◌∷◌, ◌++◌, reverse, zip, bytes_eq, refl, sym, ap, ◌∙◌, ⊎_elim, inl, inr, cond, map, Bor}
 use Rattle.std.proofs.lemmas.Bool.{cases_Bool, cond-true, cond-false, false≢true}
 use Rattle.std.proofs.lemmas.List.{reverse-append}
+use Rattle.std.proofs.lemmas.Str.{encodes-chars, IsUtf8-string_bytes}
 use Rattle.std.specs.Cmp.Lexicographic.{bytes_decides}
-use Rattle.std.specs.HashMap.{HashMap, Updates}
+use Rattle.std.specs.HashMap.{HashMap, Updates, get_by_text}
 use Rattle.std.specs.Map.{lookup, IsKeyTest, AreApart, KeepsOthers}
 use Rattle.std.specs.Option.{option_or}
-use Rattle.std.specs.Prelude.{◌⊎◌, Option, Some, None, String, option_map, string_bytes, encode_utf8_all}
-use Rattle.std.specs.Str.{chars}
+use Rattle.std.specs.Prelude.{◌⊎◌, Option, Some, None, String, option_copied, option_map, string_bytes, unwrap_or, encode_utf8_all}
+use Rattle.std.specs.Str.{chars, IsUtf8}
 use Rattle.std.specs.String.{string_eq}
 use Rattle.std.specs.declared.alloc.Global.{Global}
+use Rattle.urlpattern_pattern.specs.Eight.{captured_bytes}
 use Rattle.urlpattern_pattern.specs.Match.{group_in, group_of}
 use Rattle.urlpattern_core.specs.Captured.{capture_view}
 use Rattle.urlpattern_laws.specs.PartMeaning.{Captures}
@@ -124,3 +126,54 @@ groups-end names captures group there found ends was =
     let left : (map (λ string. text_of string) names ≡ []) ⊎ (map capture_view captures ≡ []) =
     ⊎_elim (λ e. inl (ap (map (λ string. text_of string)) e)) (λ e. inr (ap (map capture_view) e)) ends in
     ap (λ rest. option_or rest there) (sym (group_of-end (map (λ string. text_of string) names) (map capture_view captures) group left)) ∙ was
+
+-- ---- the group of a name
+
+-- a test of characters is one of bytes
+pub chars-test : (bytes other : List ℕ) → IsUtf8 bytes → IsUtf8 other → bytes_eq (chars bytes) (chars other) ≡ bytes_eq bytes other
+chars-test bytes other one two =
+    ⊎_elim
+    (λ same. (bytes_decides (chars bytes) (chars other)).1 (ap chars ((bytes_decides bytes other).0 same)) ∙ sym same)
+    (λ differ. ⊎_elim
+    (λ alike. absurd (false≢true (sym differ ∙ (bytes_decides bytes other).1
+    (sym (encodes-chars bytes one) ∙ ap encode_utf8_all ((bytes_decides (chars bytes) (chars other)).0 alike) ∙ encodes-chars other two))))
+    (λ unlike. unlike ∙ sym differ)
+    (cases_Bool (bytes_eq (chars bytes) (chars other))))
+    (cases_Bool (bytes_eq bytes other))
+
+-- once the capture of the first name is taken where that is the name, those behind it are still to come
+pub named-more : (before names : List (String Global)) (before_captures captures : List (Option (Bor (List ℕ)))) (name : String Global) (capture : Option (Bor (List ℕ)))
+    (group : List ℕ) (old new found : Option (Option (List ℕ))) →
+    before ≡ name ∷ names → before_captures ≡ capture ∷ captures → new ≡ cond (bytes_eq group (text_of name)) (Some (capture_view capture)) old →
+    option_or (group_of (map (λ string. text_of string) before) (map capture_view before_captures) group) old ≡ found →
+    option_or (group_of (map (λ string. text_of string) names) (map capture_view captures) group) new ≡ found
+named-more before names before_captures captures name capture group old new found is_first is_capture is_new was =
+    ap (λ there. option_or (group_of (map (λ string. text_of string) names) (map capture_view captures) group) there) is_new
+    ∙ sym (group_of-first group (text_of name) (map (λ string. text_of string) names) (capture_view capture) (map capture_view captures) old)
+    ∙ ap (λ texts. option_or (group_of texts (capture_view capture ∷ map capture_view captures) group) old) (ap (map (λ string. text_of string)) (sym is_first))
+    ∙ ap (λ captured. option_or (group_of (map (λ string. text_of string) before) captured group) old) (ap (map capture_view) (sym is_capture))
+    ∙ was
+
+-- what a map has at a name is what it has at the bytes of it
+pub group_in-text : {S : Type 0} (groups : HashMap (String Global) (Option (String Global)) S) (name : List ℕ) → IsUtf8 name →
+    group_in groups (chars name) ≡ option_map (option_map text_of) (get_by_text groups name)
+group_in-text groups name u =
+    ap (option_map (option_map text_of))
+    (lookup-alike (λ key. bytes_eq (chars name) (text_of key)) (λ key. bytes_eq name (string_bytes key)) (λ key. chars-test name (string_bytes key) u (IsUtf8-string_bytes key)) groups.entries)
+
+-- a capture that is lent, by its characters
+captured-text : (found : Option (Option (String Global))) (capture : Option (Bor (List ℕ))) → option_copied capture ≡ captured_bytes found →
+    capture_view capture ≡ unwrap_or (option_map (option_map text_of) found) None
+captured-text None None e = refl
+captured-text None (Some text) e = absurd cc
+captured-text (Some None) None e = refl
+captured-text (Some None) (Some text) e = absurd cc
+captured-text (Some (Some string)) None e = absurd cc
+captured-text (Some (Some string)) (Some text) e =
+    let same : text.now ≡ string_bytes string = cc in
+    ap (λ bytes. Some (chars bytes)) same
+
+pub group-captured : {S : Type 0} (groups : HashMap (String Global) (Option (String Global)) S) (name : List ℕ) (capture : Option (Bor (List ℕ))) → IsUtf8 name →
+    option_copied capture ≡ captured_bytes (get_by_text groups name) → capture_view capture ≡ unwrap_or (group_in groups (chars name)) None
+group-captured groups name capture u e =
+    captured-text (get_by_text groups name) capture e ∙ ap (λ found. unwrap_or found None) (sym (group_in-text groups name u))

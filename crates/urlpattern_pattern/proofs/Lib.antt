@@ -8,3 +8,4 @@ pub mod MatchSteps
 pub mod CompiledLemmas
 pub mod MeaningLemmas
 pub mod RegexGroups
+pub mod NameOrder

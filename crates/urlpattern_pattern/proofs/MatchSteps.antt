@@ -1,15 +1,16 @@
 -- From what eight components answer to what a call tells.
-use Rattle.std.proofs.Common.{◌≡◌, ℕ, List, true, false, sym, ◌∙◌, subst, inr}
+use Rattle.std.proofs.Common.{◌≡◌, ℕ, Bor, List, true, false, refl, sym, ◌∙◌, subst, inr}
 use Rattle.std.specs.HashMap.{HashMap}
 use Rattle.std.specs.Prelude.{Bool, Option, Some, None, Result, Ok, Err, String, is_some, IfOk, IfNone, IfSome, MatchBool, MatchOption}
+use Rattle.std.specs.Str.{chars}
 use Rattle.std.specs.declared.alloc.Global.{Global}
 use Rattle.urlpattern_init.specs.declared.init.processing.Component.{Component}
 use Rattle.urlpattern_init.specs.declared.init.UrlPatternMatchInput.{UrlPatternMatchInput}
 use Rattle.urlpattern_pattern.specs.declared.pattern.eight.Eight.{Eight}
-use Rattle.urlpattern_pattern.specs.declared.pattern.result.UrlPatternResult.{UrlPatternResult}
-use Rattle.urlpattern_pattern.specs.Eight.{HaveGroups, at}
+use Rattle.urlpattern_pattern.proofs.Each.{each}
+use Rattle.urlpattern_pattern.specs.Eight.{at, borrowed_texts, results_of}
 use Rattle.urlpattern_init.specs.Inheritance.{Texts}
-use Rattle.urlpattern_pattern.specs.Match.{AreAnswers, AreMatched, HasMatch, HasNoMatch, IsMatch, IsMatchOf, IsRefused, IsResultOf, ResultView, group_in, result_view, text_at}
+use Rattle.urlpattern_pattern.specs.Match.{AreMatched, HasMatch, HasNoMatch, IsMatch, IsMatchOf, IsRefused, IsSameResult, ResultView, group_in, text_at}
 use Rattle.urlpattern_pattern.specs.MatchInput.{input_texts}
 use Rattle.urlpattern_pattern.specs.Patterns.{PatternView}
 use Rattle.urlpattern_laws.specs.PartMeaning.{Captures}
@@ -29,32 +30,40 @@ test-of_texts answer pattern input texts (Ok true) e h = (texts, e, h)
 test-of_texts answer pattern input texts (Ok false) e h = inr (texts, e, h)
 test-of_texts answer pattern input texts (Err error) e h = tt
 
--- a match of the input's texts is one of the input
-pub exec-of_texts : {E : Type 0} (answer : E → List ℕ → Option Captures) (pattern : PatternView E) (input : UrlPatternMatchInput) (texts : Texts) (result : Result (Option UrlPatternResult) Error) →
-    input_texts input ≡ Ok texts → IfOk result (λ found. IfNone found (IsRefused answer pattern texts)) →
-    IfOk result (λ found. IfSome found (λ match. IsMatchOf answer pattern texts (result_view match))) →
-    IfOk result (λ found. MatchOption found (HasNoMatch answer pattern input) (λ match. IsMatch answer pattern input (result_view match)))
-exec-of_texts answer pattern input texts (Ok (Some match)) e refused matched = (texts, e, matched)
-exec-of_texts answer pattern input texts (Ok None) e refused matched = inr (texts, e, refused)
-exec-of_texts answer pattern input texts (Err error) e refused matched = tt
+-- what is found of the input's texts is found of the input
+pub found-of_texts : {E X : Type 0} (answer : E → List ℕ → Option Captures) (pattern : PatternView E) (view : X → Component → ResultView) (input : UrlPatternMatchInput) (texts : Texts) (result : Result (Option X) Error) →
+    input_texts input ≡ Ok texts → IfOk result (λ found. MatchOption found (IsRefused answer pattern texts) (λ match. IsMatchOf answer pattern texts (view match))) →
+    IfOk result (λ found. MatchOption found (HasNoMatch answer pattern input) (λ match. IsMatch answer pattern input (view match)))
+found-of_texts answer pattern view input texts (Ok (Some match)) e matched = (texts, e, matched)
+found-of_texts answer pattern view input texts (Ok None) e refused = inr (texts, e, refused)
+found-of_texts answer pattern view input texts (Err error) e h = tt
 
--- texts with the groups of their match are its result
-pub match-of_groups : {E S : Type 0} (answer : E → List ℕ → Option Captures) (pattern : PatternView E) (texts : Texts) (groups : Eight (HashMap (String Global) (Option (String Global)) S)) (result : Component → ResultView) →
-    HaveGroups answer pattern texts groups →
-    ((name : Component) → (result name).input ≡ text_at texts name) → ((name : Component) (group : List ℕ) → (result name).group group ≡ group_in (at groups name) group) →
-    IsMatchOf answer pattern texts result
-match-of_groups answer pattern texts groups result (captures, answers, are_groups) inputs have = record {
-  captures = captures;
-  are_answers = answers;
-  are_results = λ name. record { has_input = inputs name; has_groups = λ group. have name group ∙ are_groups name group };
+-- a result that tells the same as a match is one
+pub match-same : {E : Type 0} (answer : E → List ℕ → Option Captures) (pattern : PatternView E) (texts : Texts) (match result : Component → ResultView) →
+    ((name : Component) → IsSameResult (result name) (match name)) → IsMatchOf answer pattern texts match → IsMatchOf answer pattern texts result
+match-same answer pattern texts match result same is_match = record {
+  captures = is_match.captures;
+  are_answers = is_match.are_answers;
+  are_results = λ name. record {
+    has_input = (same name).0 ∙ (is_match.are_results name).has_input;
+    has_groups = λ group. (same name).1 group ∙ (is_match.are_results name).has_groups group;
+  };
 }
 
--- results of texts are a match of these where the texts are answered
-pub match-of_results : {E : Type 0} (answer : E → List ℕ → Option Captures) (pattern : PatternView E) (asked told texts : Texts) (captures : Component → Captures) (result : Component → ResultView) →
-    asked ≡ texts → told ≡ asked → AreAnswers answer pattern asked captures →
-    ((name : Component) → IsResultOf (pattern name).group_name_list (captures name) (text_at told name) (result name)) → IsMatchOf answer pattern texts result
-match-of_results answer pattern asked told texts captures result is_asked is_told answers results = record {
-  captures = captures;
-  are_answers = subst (λ (t : Texts). AreAnswers answer pattern t captures) is_asked answers;
-  are_results = λ name. subst (λ (t : Texts). IsResultOf (pattern name).group_name_list (captures name) (text_at t name) (result name)) (is_told ∙ is_asked) (results name);
+pub input-same : {E : Type 0} (answer : E → List ℕ → Option Captures) (pattern : PatternView E) (input : UrlPatternMatchInput) (match result : Component → ResultView) →
+    ((name : Component) → IsSameResult (result name) (match name)) → IsMatch answer pattern input match → IsMatch answer pattern input result
+input-same answer pattern input match result same (texts, e, is_match) = (texts, e, match-same answer pattern texts match result same is_match)
+
+-- texts that are lent, and the text of one component
+pub text-at : (texts : Eight (Bor (List ℕ))) (name : Component) → text_at (borrowed_texts texts) name ≡ chars (at texts name).now
+text-at texts = each (λ name. text_at (borrowed_texts texts) name ≡ chars (at texts name).now) refl refl refl refl refl refl refl refl
+
+-- texts beside copies of the groups of a match of them are its results
+pub match-of_groups : {E S : Type 0} (answer : E → List ℕ → Option Captures) (pattern : PatternView E) (texts : Texts) (match : Component → ResultView) (groups : Eight (HashMap (String Global) (Option (String Global)) S)) →
+    ((name : Component) (group : List ℕ) → group_in (at groups name) group ≡ (match name).group group) →
+    IsMatchOf answer pattern texts match → IsMatchOf answer pattern texts (results_of texts groups)
+match-of_groups answer pattern texts match groups copied is_match = record {
+  captures = is_match.captures;
+  are_answers = is_match.are_answers;
+  are_results = λ name. record { has_input = refl; has_groups = λ group. copied name group ∙ (is_match.are_results name).has_groups group };
 }

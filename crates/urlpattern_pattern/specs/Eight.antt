@@ -1,5 +1,5 @@
--- Words of the private contracts of matching. No public contract cites them.
-use Rattle.std.specs.Prelude.{◌≡◌, ℕ, List, [], ◌∷◌, map, take, All, Option, Some, String, slice_get}
+-- Words of the private contracts of matching, and of the view of captures.
+use Rattle.std.specs.Prelude.{◌≡◌, ℕ, List, [], ◌∷◌, map, Option, None, Some, String, string_bytes}
 use Rattle.std.specs.Borrow.{Bor}
 use Rattle.std.specs.HashMap.{HashMap}
 use Rattle.std.specs.Str.{chars}
@@ -7,11 +7,10 @@ use Rattle.std.specs.declared.alloc.Global.{Global}
 use Rattle.urlpattern_init.specs.declared.init.processing.Component.{Component}
 use Rattle.urlpattern_init.specs.declared.init.processing.Component.TheVariants.{Protocol, Username, Password, Hostname, Port, Pathname, Search, Hash}
 use Rattle.urlpattern_pattern.specs.declared.pattern.eight.Eight.{Eight}
-use Rattle.urlpattern_pattern.specs.declared.pattern.matching.Captured.{Captured}
-use Rattle.urlpattern_pattern.specs.declared.pattern.matching.Captured.TheVariants as captured
+use Rattle.urlpattern_pattern.specs.declared.pattern.captures.Captured.{Captured}
+use Rattle.urlpattern_pattern.specs.declared.pattern.captures.Captured.TheVariants as captured
 use Rattle.urlpattern_init.specs.Inheritance.{Texts}
-use Rattle.urlpattern_pattern.specs.Match.{AreAnswers, IsRefused, group_in, group_of}
-use Rattle.urlpattern_pattern.specs.Patterns.{PatternView}
+use Rattle.urlpattern_pattern.specs.Match.{ResultView, group_in, group_of, text_at}
 use Rattle.urlpattern_core.specs.Captured.{capture_view}
 use Rattle.urlpattern_laws.specs.PartMeaning.{Captures}
 
@@ -49,19 +48,11 @@ captures_of (captured.Groups captures) = map capture_view captures.items
 abbrev pub AreGroups : {S : Type 0} → (names : List (List ℕ)) → Captures → HashMap (String Global) (Option (String Global)) S → Type 0
 AreGroups names captures groups = (name : List ℕ) → group_in groups name ≡ group_of names captures name
 
--- the maps have the groups of a match of these texts
-abbrev pub HaveGroups : {E S : Type 0} → (answer : E → List ℕ → Option Captures) → PatternView E → Texts → Eight (HashMap (String Global) (Option (String Global)) S) → Type 0
-HaveGroups answer pattern texts groups =
-    (captures : Component → Captures) × AreAnswers answer pattern texts captures
-    × ((component : Component) → AreGroups (pattern component).group_name_list (captures component) (at groups component))
+-- texts beside groups, as results
+abbrev pub results_of : {S : Type 0} → Texts → Eight (HashMap (String Global) (Option (String Global)) S) → Component → ResultView
+results_of texts groups component = record { input = text_at texts component; group = group_in (at groups component) }
 
--- these patterns do not match the texts
-abbrev pub AreRefused : {E : Type 0} → (answer : E → List ℕ → Option Captures) → List (PatternView E) → Texts → Type 0
-AreRefused answer patterns texts = All (λ pattern. IsRefused answer pattern texts) patterns
-
--- The pattern at an index of a list meets this, and those before it do not match the texts.
-pub record IsFirstAt {E : Type 0} (answer : E → List ℕ → Option Captures) (patterns : List (PatternView E)) (texts : Texts) (index : ℕ) (Meets : PatternView E → Type 0) : Type 0 where
-  pub pattern : PatternView E
-  pub is_there : slice_get patterns index ≡ Some pattern
-  pub meets : Meets pattern
-  pub others_refuse : AreRefused answer (take index patterns) texts
+-- the bytes that a group captured, if it is there and took part
+abbrev pub captured_bytes : Option (Option (String Global)) → Option (List ℕ)
+captured_bytes (Some (Some text)) = Some (string_bytes text)
+captured_bytes found = None

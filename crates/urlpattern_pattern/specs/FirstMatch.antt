@@ -2,9 +2,12 @@
 use Rattle.std.specs.Prelude.{◌≡◌, ℕ, List, map, take, All, Option, Some, None, option_map, slice_get}
 use Rattle.urlpattern_init.specs.declared.init.UrlPatternMatchInput.{UrlPatternMatchInput}
 use Rattle.urlpattern_init.specs.declared.init.processing.Component.{Component}
+use Rattle.urlpattern_init.specs.Inheritance.{Texts}
 use Rattle.urlpattern_pattern.specs.declared.pattern.UrlPattern.{UrlPattern}
+use Rattle.urlpattern_pattern.specs.declared.pattern.captures.UrlPatternCaptures.{UrlPatternCaptures}
 use Rattle.urlpattern_pattern.specs.declared.pattern.result.UrlPatternResult.{UrlPatternResult}
-use Rattle.urlpattern_pattern.specs.Match.{HasMatch, HasNoMatch, IsMatch, ResultView, result_view}
+use Rattle.urlpattern_pattern.specs.Captures.{captures_view}
+use Rattle.urlpattern_pattern.specs.Match.{HasMatch, HasNoMatch, IsMatch, IsMatchOf, IsRefused, ResultView, result_view}
 use Rattle.urlpattern_pattern.specs.Patterns.{PatternView, pattern_view}
 use Rattle.urlpattern_laws.specs.PartMeaning.{Captures}
 
@@ -19,6 +22,9 @@ FirstView = ℕ × (Component → ResultView)
 abbrev pub first_view : Option (ℕ × UrlPatternResult) → Option FirstView
 first_view found = option_map (λ first. (first.0, result_view first.1)) found
 
+abbrev pub first_captures_view : Option (ℕ × UrlPatternCaptures) → Option FirstView
+first_captures_view found = option_map (λ first. (first.0, captures_view first.1)) found
+
 -- what is found of a list on an input: the least index whose pattern has a match of it, with that match, and none where no
 -- pattern has one
 abbrev pub IsFirstMatch : {E : Type 0} → (answer : E → List ℕ → Option Captures) → List (PatternView E) → UrlPatternMatchInput → Option FirstView → Type 0
@@ -26,3 +32,10 @@ IsFirstMatch {E} answer patterns input (Some first) =
     ((pattern : PatternView E) × (slice_get patterns first.0 ≡ Some pattern) × IsMatch answer pattern input first.1)
     × All (λ earlier. ¬ HasMatch answer earlier input) (take first.0 patterns)
 IsFirstMatch answer patterns input None = All (λ pattern. HasNoMatch answer pattern input) patterns
+
+-- the same of eight texts: the least index whose pattern matches them
+abbrev pub IsFirstMatchOf : {E : Type 0} → (answer : E → List ℕ → Option Captures) → List (PatternView E) → Texts → Option FirstView → Type 0
+IsFirstMatchOf {E} answer patterns texts (Some first) =
+    ((pattern : PatternView E) × (slice_get patterns first.0 ≡ Some pattern) × IsMatchOf answer pattern texts first.1)
+    × All (λ earlier. IsRefused answer earlier texts) (take first.0 patterns)
+IsFirstMatchOf answer patterns texts None = All (λ pattern. IsRefused answer pattern texts) patterns

@@ -1,6 +1,8 @@
+pub mod Captures
 pub mod Compiled
 pub mod Eight
 pub mod FirstMatch
+pub mod FromString
 pub mod Match
 pub mod MatchInput
 pub mod Meaning

@@ -9,4 +9,7 @@ mod pattern;
 
 pub use list::UrlPatternList;
 pub use match_input::parse_match_input;
-pub use pattern::{UrlPattern, UrlPatternComponentResult, UrlPatternResult};
+pub use pattern::{
+    UrlPattern, UrlPatternCaptures, UrlPatternComponentResult, UrlPatternGroups, UrlPatternResult,
+    init_of_text, parse_base, parse_url,
+};

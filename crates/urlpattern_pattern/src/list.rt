@@ -3,19 +3,17 @@
 //! The texts of the input are made once. Each pattern looks at them, in the order of the list, and nothing is made of those
 //! that do not match.
 ghost use Rattle.std.specs.Iterator.Adapters.{IterYieldsInOrder};
-ghost use Rattle.std.specs.Prelude.{◌≡◌, ◌==◌, ◌++◌, [], ◌∷◌, length, map, option_copied, slice_get, All, IfErr, IfNone, IfOk, IfSome, OnErr, OnOk};
+ghost use Rattle.std.specs.Prelude.{◌≡◌, ◌==◌, ◌++◌, [], ◌∷◌, length, map, option_copied, option_map, slice_get, IfErr, IfOk, OnErr, OnOk};
 ghost use Rattle.std.specs.Slice.Iter.{iter_rest};
-ghost use Rattle.urlpattern_init.specs.Inheritance.{texts_of_url};
-ghost use Rattle.urlpattern_pattern.specs.Eight.{at, borrowed_texts, captures_of, AreRefused, HaveGroups, IsFirstAt};
-ghost use Rattle.urlpattern_pattern.specs.FirstMatch.{first_view, patterns_view, IsFirstMatch};
-ghost use Rattle.urlpattern_pattern.specs.Match.{result_view, AreAnswers, IsMatchOf};
+ghost use Rattle.urlpattern_init.specs.declared.init.UrlPatternMatchInput.TheVariants as inputs;
+ghost use Rattle.urlpattern_pattern.specs.Eight.{borrowed_texts, results_of};
+ghost use Rattle.urlpattern_pattern.specs.FirstMatch.{first_captures_view, first_view, patterns_view, IsFirstMatch, IsFirstMatchOf};
 ghost use Rattle.urlpattern_pattern.specs.MatchInput.{texts_view};
-ghost use Rattle.urlpattern_pattern.specs.Patterns.{pattern_view};
 ghost use Rattle.urlpattern_pattern.specs.declared.pattern.UrlPattern.{UrlPattern};
 ghost use Rattle.urlpattern_syntax.specs.declared.error.Error.TheVariants as errors;
 
 use crate::match_input::parse_match_input;
-use crate::pattern::{Captured, Eight, Groups, UrlPattern, UrlPatternResult};
+use crate::pattern::{Eight, Groups, UrlPattern, UrlPatternCaptures, UrlPatternResult};
 use std::alloc::Global;
 use std::marker::Model;
 use std::slice;
@@ -38,17 +36,6 @@ impl<R: RegExp> Model for UrlPatternList<R> {
     ghost Value = { List (UrlPattern R) };
 
     ghost view = { λ list. list.patterns.items };
-}
-
-/// The first pattern of a list that matches eight texts.
-#[derive(Drop)]
-struct First<'a, R: RegExp> {
-    /// Its index.
-    index: usize,
-    /// The pattern.
-    pattern: &'a UrlPattern<R>,
-    /// What its groups capture of each text.
-    captures: Eight<Captured<'a>>,
 }
 
 impl<R: RegExp> UrlPatternList<R> {
@@ -127,22 +114,52 @@ impl<R: RegExp> UrlPatternList<R> {
         }
     }
 
+    /// The least index whose pattern matches a URL, and that match, borrowed from the pattern and the URL. `None`: no pattern
+    /// matches it.
+    ///
+    /// The answer is that of `UrlPattern::captures` on one pattern after the other until one matches.
+    ///
+    /// The error is that memory ran out. Only an engine allocates.
+    pub fn first_captures<'a>(
+        &'a self,
+        alloc: Global,
+        url: &'a Url,
+    ) -> Result<Option<(usize, UrlPatternCaptures<'a>)>, Error>
+        ensures first { IfOk result (λ found. IsFirstMatch R.answer (patterns_view self.now) (inputs.Url url.now) (first_captures_view found)) }
+        ensures memory { IfErr result (λ error. error ≡ errors.OutOfMemory) }
+    {
+        self.first(alloc, Eight::of_url(url))
+    }
+
+    /// The least index whose pattern matches an input that has its eight texts, and that match, borrowed from the pattern and
+    /// the input. `None`: no pattern matches it.
+    ///
+    /// The error is that memory ran out. Only an engine allocates.
+    pub fn first_captures_of_input<'a>(
+        &'a self,
+        alloc: Global,
+        input: &'a MatchInput,
+    ) -> Result<Option<(usize, UrlPatternCaptures<'a>)>, Error>
+        ensures first { IfOk result (λ found. IsFirstMatchOf R.answer (patterns_view self.now) (texts_view input.now) (first_captures_view found)) }
+        ensures memory { IfErr result (λ error. error ≡ errors.OutOfMemory) }
+    {
+        self.first(alloc, Eight::of_input(input))
+    }
+
     /// The first match of a URL, whose texts are copied.
     fn first_of_url(
         &self,
         alloc: Global,
         url: &Url,
     ) -> Result<Option<(usize, UrlPatternResult)>, Error>
-        ensures none { IfOk result (λ found. IfNone found (AreRefused R.answer (patterns_view self.now) (texts_of_url url.now))) }
-        ensures some { IfOk result (λ found. IfSome found (λ first. IsFirstAt R.answer (patterns_view self.now) (texts_of_url url.now) first.0
-            (λ pattern. IsMatchOf R.answer pattern (texts_of_url url.now) (result_view first.1)))) }
+        ensures first { IfOk result (λ found. IsFirstMatch R.answer (patterns_view self.now) (inputs.Url url.now) (first_view found)) }
         ensures memory { IfErr result (λ error. error ≡ errors.OutOfMemory) }
     {
-        let texts = Eight::of_url(url);
-        match self.first_groups(alloc, &texts)? {
-            Some((index, groups)) => {
-                let texts = texts.copied(alloc)?;
-                Ok(Some((index, UrlPatternResult::new(texts, groups))))
+        match self.first_captures(alloc, url)? {
+            Some((index, captures)) => {
+                let result = captures.to_result(alloc);
+                drop(captures);
+                Ok(Some((index, result?)))
             }
             None => Ok(None),
         }
@@ -154,37 +171,31 @@ impl<R: RegExp> UrlPatternList<R> {
         alloc: Global,
         texts: MatchInput,
     ) -> Result<Option<(usize, UrlPatternResult)>, Error>
-        ensures none { IfOk result (λ found. IfNone found (AreRefused R.answer (patterns_view self.now) (texts_view texts))) }
-        ensures some { IfOk result (λ found. IfSome found (λ first. IsFirstAt R.answer (patterns_view self.now) (texts_view texts) first.0
-            (λ pattern. IsMatchOf R.answer pattern (texts_view texts) (result_view first.1)))) }
+        ensures first { IfOk result (λ found. IsFirstMatchOf R.answer (patterns_view self.now) (texts_view texts) (first_view found)) }
         ensures memory { IfErr result (λ error. error ≡ errors.OutOfMemory) }
     {
-        match self.first_groups(alloc, &Eight::of_input(&texts))? {
+        match self.first_groups(alloc, &texts)? {
             Some((index, groups)) => Ok(Some((index, UrlPatternResult::new(texts, groups)))),
             None => Ok(None),
         }
     }
 
-    /// The index of the first pattern that matches eight texts, and what its groups capture, by name.
+    /// The index of the first pattern that matches an input that has its eight texts, and copies of what its groups capture, by
+    /// name. `None`: no pattern matches it.
+    ///
+    /// The error is that memory ran out.
     fn first_groups(
         &self,
         alloc: Global,
-        texts: &Eight<&str>,
+        input: &MatchInput,
     ) -> Result<Option<(usize, Eight<Groups>)>, Error>
-        ensures none { IfOk result (λ found. IfNone found (AreRefused R.answer (patterns_view self.now) (borrowed_texts texts.now))) }
-        ensures some { IfOk result (λ found. IfSome found (λ first. IsFirstAt R.answer (patterns_view self.now) (borrowed_texts texts.now) first.0
-            (λ pattern. HaveGroups R.answer pattern (borrowed_texts texts.now) first.1))) }
+        ensures first { IfOk result (λ found. IsFirstMatchOf R.answer (patterns_view self.now) (texts_view input.now)
+            (option_map (λ first. (first.0, results_of (texts_view input.now) first.1)) found)) }
         ensures memory { IfErr result (λ error. error ≡ errors.OutOfMemory) }
     {
-        match self.first(alloc, texts)? {
-            Some(
-                First {
-                    index,
-                    pattern,
-                    captures,
-                },
-            ) => {
-                let groups = pattern.groups(alloc, &captures);
+        match self.first_captures_of_input(alloc, input)? {
+            Some((index, captures)) => {
+                let groups = captures.to_groups(alloc);
                 drop(captures);
                 Ok(Some((index, groups?)))
             }
@@ -192,28 +203,20 @@ impl<R: RegExp> UrlPatternList<R> {
         }
     }
 
-    /// The first pattern that matches eight texts. `None`: no pattern matches them.
+    /// The first match of eight texts. `None`: no pattern matches them.
     ///
     /// The error is that memory ran out. Only an engine allocates.
     fn first<'a>(
         &'a self,
         alloc: Global,
-        texts: &Eight<&'a str>,
-    ) -> Result<Option<First<'a, R>>, Error>
-        ensures none { IfOk result (λ found. IfNone found (AreRefused R.answer (patterns_view self.now) (borrowed_texts texts.now))) }
-        ensures some { IfOk result (λ found. IfSome found (λ first. IsFirstAt R.answer (patterns_view self.now) (borrowed_texts texts.now) first.index
-            (λ pattern. pattern ≡ pattern_view first.pattern.now))) }
-        ensures answers { IfOk result (λ found. IfSome found (λ first.
-            AreAnswers R.answer (pattern_view first.pattern.now) (borrowed_texts texts.now) (λ name. captures_of (at first.captures name)))) }
+        texts: Eight<&'a str>,
+    ) -> Result<Option<(usize, UrlPatternCaptures<'a>)>, Error>
+        ensures first { IfOk result (λ found. IsFirstMatchOf R.answer (patterns_view self.now) (borrowed_texts texts.entry) (first_captures_view found)) }
         ensures memory { IfErr result (λ error. error ≡ errors.OutOfMemory) }
     {
         for (index, pattern) in self.patterns.iter().enumerate() {
-            if let Some(captures) = pattern.captures(alloc, texts)? {
-                return Ok(Some(First {
-                    index,
-                    pattern,
-                    captures,
-                }));
+            if let Some(captures) = pattern.captured(alloc, &texts)? {
+                return Ok(Some((index, pattern.with_captures(texts, captures))));
             }
         }
         Ok(None)

@@ -6,16 +6,19 @@ ghost use Rattle.urlpattern_init.specs.Inheritance.{components};
 ghost use Rattle.urlpattern_pattern.specs.Patterns.{pattern_view};
 ghost use Rattle.urlpattern_init.specs.declared.init.processing.Component.TheVariants as names;
 
+mod captures;
 mod eight;
+mod from_string;
 mod groups;
 mod matching;
 mod once;
 mod parse;
 mod result;
 
+pub use captures::{UrlPatternCaptures, UrlPatternGroups};
 pub(crate) use eight::Eight;
+pub use from_string::{init_of_text, parse_base, parse_url};
 pub(crate) use groups::Groups;
-pub(crate) use matching::Captured;
 pub use result::{UrlPatternComponentResult, UrlPatternResult};
 use urlpattern_core::component::Component;
 use urlpattern_core::regexp::RegExp;

@@ -7,6 +7,7 @@ pub mod Parts
 pub mod PatternText
 pub mod Pieces
 pub mod Reading
+pub mod Refusals
 pub mod RegexpText
 pub mod Text
 pub mod Tokens

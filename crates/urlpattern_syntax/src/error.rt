@@ -4,6 +4,7 @@ ghost use Rattle.std.specs.Prelude.{◌≡◌, Some};
 ghost use Rattle.urlpattern_syntax.specs.declared.error.Error.TheVariants as errors;
 ghost use Rattle.urlpattern_syntax.specs.ErrorText.{error_text, fault_text, parser_error_text};
 ghost use Rattle.urlpattern_syntax.specs.Errors.{error_view};
+ghost use Rattle.urlpattern_syntax.specs.Refusals.{url_error};
 ghost use Rattle.urlpattern_syntax.specs.Tokens.{fault_view};
 
 use crate::tokenizer::TokenType;
@@ -77,6 +78,18 @@ impl From<OutOfMemory> for Error {
 
     fn from(_error: OutOfMemory) -> Error {
         Error::OutOfMemory
+    }
+}
+
+/// Out of memory stays so, and is no error of `url`.
+impl From<url::ParseError> for Error {
+    ghost from_gives = { λ reason error. error_view error ≡ url_error reason };
+
+    fn from(reason: url::ParseError) -> Error {
+        match reason {
+            url::ParseError::OutOfMemory => Error::OutOfMemory,
+            _ => Error::Url(reason),
+        }
     }
 }
 

@@ -21,6 +21,7 @@ use urlpattern_core::Error;
 use urlpattern_init as init;
 use urlpattern_init::UrlPatternMatchInput;
 use urlpattern_inputs::{Inputs, StringOrInit, UrlPatternInit};
+use urlpattern_pattern::{init_of_text, parse_base, parse_url};
 
 /// The init of a pattern: of a constructor string, with a base URL if there is one, or of components one by one.
 ///
@@ -37,25 +38,12 @@ pub fn process_construct_pattern_input(
     ensures refused { IfErr result (MemoryOr (RefusesInput input.entry (option_copied base_url.entry))) }
 {
     match input {
-        StringOrInit::String(text) => construct_from_string(alloc, text.as_str(), base_url),
+        StringOrInit::String(text) => init_of_text::<Regex>(alloc, text.as_str(), base_url),
         StringOrInit::Init(init) => match base_url {
             Some(_) => Err(Error::BaseUrlWithInit),
             None => init_of(alloc, init),
         },
     }
-}
-
-/// The init of a constructor string, whose base URL is parsed first.
-fn construct_from_string(
-    alloc: Global,
-    text: &str,
-    base_url: Option<&str>,
-) -> Result<init::UrlPatternInit, Error>
-    ensures constructed { IfOk result (IsInitOfString (chars text.now) (option_copied base_url.entry)) }
-    ensures refused { IfErr result (MemoryOr (RefusesText (chars text.now) (option_copied base_url.entry))) }
-{
-    let base_url = parse_base(alloc, base_url)?;
-    init::UrlPatternInit::parse_constructor_string::<Regex>(alloc, text, base_url)
 }
 
 /// The init of components one by one, with their base URL.
@@ -219,29 +207,6 @@ fn parse_text(alloc: Global, text: &str, base_url: Option<&str>) -> Result<Url, 
         }
         None => parse_url(alloc, text),
     }
-}
-
-/// The URL of a text, if there is one.
-///
-/// The error is the refusal of `url`, or that memory ran out.
-fn parse_base(alloc: Global, text: Option<&str>) -> Result<Option<Url>, Error>
-    ensures ok { IfOk result (λ base. parsed_base (option_copied text.entry) ≡ Ok base) }
-    ensures err { IfErr result (MemoryOr (Tells (parsed_base (option_copied text.entry)) (text_bytes (option_copied text.entry)))) }
-{
-    match text {
-        Some(text) => Ok(Some(parse_url(alloc, text)?)),
-        None => Ok(None),
-    }
-}
-
-/// The URL of a text.
-///
-/// The error is the refusal of `url`, or that memory ran out.
-fn parse_url(alloc: Global, text: &str) -> Result<Url, Error>
-    ensures ok { IfOk result (λ url. url_spec.parse_url None text.now ≡ Ok url) }
-    ensures err { IfErr result (MemoryOr (Tells (url_spec.parse_url None text.now) (length text.now))) }
-{
-    told(Url::parse(alloc, text), text.len())
 }
 
 /// The URL of a text under a base URL, where neither text has more than so many bytes.

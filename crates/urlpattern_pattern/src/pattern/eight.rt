@@ -1,6 +1,6 @@
 //! Eight values, one for each component.
 ghost use Rattle.std.specs.Prelude.{◌≡◌, IfOk};
-ghost use Rattle.urlpattern_pattern.specs.Eight.{borrowed_texts};
+ghost use Rattle.urlpattern_pattern.specs.Eight.{at, borrowed_texts};
 ghost use Rattle.urlpattern_init.specs.Inheritance.{texts_of_url};
 ghost use Rattle.urlpattern_pattern.specs.MatchInput.{texts_view};
 
@@ -20,6 +20,24 @@ pub(crate) struct Eight<T> {
     pub(crate) pathname: T,
     pub(crate) search: T,
     pub(crate) hash: T,
+}
+
+impl<T> Eight<T> {
+    /// The value of a component.
+    pub(crate) fn at(&self, name: Component) -> &T
+        ensures { result.now ≡ at self.now name }
+    {
+        match name {
+            Component::Protocol => &self.protocol,
+            Component::Username => &self.username,
+            Component::Password => &self.password,
+            Component::Hostname => &self.hostname,
+            Component::Port => &self.port,
+            Component::Pathname => &self.pathname,
+            Component::Search => &self.search,
+            Component::Hash => &self.hash,
+        }
+    }
 }
 
 impl<'a> Eight<&'a str> {

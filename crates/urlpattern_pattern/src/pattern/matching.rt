@@ -1,89 +1,31 @@
 //! Matching: what a pattern answers to eight texts, and the groups of the answer.
 //!
 //! All components look at their texts before anything is made. Engines are asked last, and the first refusal ends it.
-ghost use Rattle.std.specs.Prelude.{◌≡◌, None, Some, option_map, map, IfErr, IfNone, IfOk, IfSome, MatchBool, MatchOption};
+ghost use Rattle.std.specs.Prelude.{◌≡◌, None, Some, IfErr, IfNone, IfOk, IfSome, MatchBool, MatchOption};
 ghost use Rattle.urlpattern_init.specs.declared.init.processing.Component.{Component as Name};
-ghost use Rattle.urlpattern_pattern.specs.Eight.{at, borrowed_texts, captures_of, AreGroups, HaveGroups};
-ghost use Rattle.urlpattern_init.specs.Inheritance.{texts_of_url};
+ghost use Rattle.urlpattern_init.specs.declared.init.UrlPatternMatchInput.TheVariants as inputs;
+ghost use Rattle.urlpattern_pattern.specs.Captures.{captures_view};
+ghost use Rattle.urlpattern_pattern.specs.Eight.{at, borrowed_texts, captures_of, results_of};
 ghost use Rattle.urlpattern_pattern.specs.Match.{AreAnswers, AreMatched, HasMatch, HasNoMatch, IsMatch, IsMatchOf, IsRefused, IsResultOf, result_view, text_at};
 ghost use Rattle.urlpattern_pattern.specs.MatchInput.{texts_view};
 ghost use Rattle.urlpattern_pattern.specs.Patterns.{pattern_view};
-ghost use Rattle.urlpattern_core.specs.Captured.{capture_view};
-ghost use Rattle.urlpattern_core.specs.Compiling.{component_view};
 ghost use Rattle.urlpattern_core.specs.Looks.{look_answer};
 ghost use Rattle.urlpattern_laws.specs.Matching.{Answers};
 ghost use Rattle.urlpattern_syntax.specs.declared.error.Error.TheVariants as errors;
 
 use super::UrlPattern;
+use super::captures::{Captured, UrlPatternCaptures};
 use super::eight::Eight;
-use super::groups::{Groups, groups_of};
+use super::groups::Groups;
 use super::result::UrlPatternResult;
 use crate::match_input::parse_match_input;
 use std::alloc::Global;
-use std::slice;
 use url::Url;
 use urlpattern_core::Error;
-use urlpattern_core::component::Component;
 use urlpattern_core::matcher::Look;
 use urlpattern_core::regexp::RegExp;
 use urlpattern_init::UrlPatternMatchInput;
 use urlpattern_inputs::MatchInput;
-
-/// What the groups of a component capture of its text.
-#[derive(Drop)]
-pub(crate) enum Captured<'a> {
-    /// There are no groups.
-    Nothing,
-    /// There is one group.
-    One(Option<&'a str>),
-    /// An engine answered this.
-    Groups(Vec<Option<&'a str>>),
-}
-
-impl<'a> Captured<'a> {
-    /// What a look at a text comes to, once an engine is asked that has to be. None if the text is not matched.
-    fn of_look<R: RegExp>(alloc: Global, look: Look<'a, R>) -> Result<Option<Self>, Error>
-        ensures answer { IfOk result (λ found. option_map captures_of found ≡ look_answer R.answer (Some look.entry)) }
-        ensures memory { IfErr result (λ error. error ≡ errors.OutOfMemory) }
-    {
-        match look {
-            Look::Matched => Ok(Some(Captured::Nothing)),
-            Look::Captured(text) => Ok(Some(Captured::One(Some(text)))),
-            Look::Asks { engine, middle } => match engine.matches(alloc, middle)? {
-                Some(captures) => Ok(Some(Captured::Groups(captures))),
-                None => Ok(None),
-            },
-        }
-    }
-
-    /// What the groups of a component capture, by name.
-    fn groups<R>(&self, alloc: Global, component: &Component<R>) -> Result<Groups, Error>
-        ensures groups { IfOk result (AreGroups (component_view component.now).group_name_list (captures_of self.now)) }
-        ensures memory { IfErr result (λ error. error ≡ errors.OutOfMemory) }
-    {
-        groups_of(alloc, &component.group_name_list, self.as_slice())
-    }
-
-    /// The captures in their order.
-    fn as_slice(&self) -> &[Option<&'a str>]
-        ensures { map capture_view result.now ≡ captures_of self.now }
-    {
-        match self {
-            Captured::Nothing => &[],
-            Captured::One(capture) => slice::from_ref(capture),
-            Captured::Groups(captures) => captures.as_slice(),
-        }
-    }
-}
-
-/// What a pattern answers to eight texts that it matches.
-#[derive(Drop)]
-pub(super) struct Match<'a> {
-    /// The texts.
-    texts: Eight<&'a str>,
-    /// What the groups capture of each text.
-    captures: Eight<Captured<'a>>,
-}
 
 impl<R: RegExp> UrlPattern<R> {
     /// Whether the pattern matches an input. A URL's texts are its own; an init's are those that it comes to, with what it
@@ -97,7 +39,7 @@ impl<R: RegExp> UrlPattern<R> {
         ensures memory { IfErr result (λ error. error ≡ errors.OutOfMemory) }
     {
         match input {
-            UrlPatternMatchInput::Url(url) => self.is_matched(alloc, Eight::of_url(&url)),
+            UrlPatternMatchInput::Url(url) => self.test_url(alloc, &url),
             input => match parse_match_input(alloc, input)? {
                 Some(texts) => self.is_matched(alloc, Eight::of_input(&texts)),
                 None => Ok(false),
@@ -129,31 +71,68 @@ impl<R: RegExp> UrlPattern<R> {
         }
     }
 
-    /// The match of a URL, whose texts are copied.
-    fn exec_url(&self, alloc: Global, url: &Url) -> Result<Option<UrlPatternResult>, Error>
-        ensures refused { IfOk result (λ found. IfNone found (IsRefused R.answer (pattern_view self.now) (texts_of_url url.now))) }
-        ensures matched { IfOk result (λ found. IfSome found (λ result. IsMatchOf R.answer (pattern_view self.now) (texts_of_url url.now) (result_view result))) }
+    /// Whether the pattern matches a URL, as `test` answers it.
+    ///
+    /// The error is that memory ran out. Only an engine allocates.
+    pub fn test_url(&self, alloc: Global, url: &Url) -> Result<bool, Error>
+        ensures matched { IfOk result (λ matched. MatchBool matched (HasMatch R.answer (pattern_view self.now) (inputs.Url url.now))
+            (HasNoMatch R.answer (pattern_view self.now) (inputs.Url url.now))) }
         ensures memory { IfErr result (λ error. error ≡ errors.OutOfMemory) }
     {
-        match self.answer(alloc, Eight::of_url(url))? {
-            Some(answer) => {
-                let copy = self.copied(alloc, &answer);
-                drop(answer);
-                Ok(Some(copy?))
+        self.is_matched(alloc, Eight::of_url(url))
+    }
+
+    /// What the groups capture of a URL, as `exec` answers it. `None`: the pattern does not match the URL.
+    ///
+    /// The error is that memory ran out.
+    pub fn exec_url(&self, alloc: Global, url: &Url) -> Result<Option<UrlPatternResult>, Error>
+        ensures matched { IfOk result (λ found. MatchOption found (HasNoMatch R.answer (pattern_view self.now) (inputs.Url url.now))
+            (λ result. IsMatch R.answer (pattern_view self.now) (inputs.Url url.now) (result_view result))) }
+        ensures memory { IfErr result (λ error. error ≡ errors.OutOfMemory) }
+    {
+        match self.captures(alloc, url)? {
+            Some(captures) => {
+                let result = captures.to_result(alloc);
+                drop(captures);
+                Ok(Some(result?))
             }
             None => Ok(None),
         }
     }
 
-    /// What an answer tells, with copies of its texts.
-    fn copied(&self, alloc: Global, answer: &Match<'_>) -> Result<UrlPatternResult, Error>
-        ensures results { IfOk result (λ copy. (name : Name) →
-            IsResultOf (pattern_view self.now name).group_name_list (captures_of (at answer.now.captures name)) (text_at (borrowed_texts answer.now.texts) name) (result_view copy name)) }
+    /// The match of a URL, borrowed from the pattern and the URL. `None`: the pattern does not match the URL.
+    ///
+    /// The error is that memory ran out. Only an engine allocates.
+    ///
+    /// <https://urlpattern.spec.whatwg.org/#url-pattern-match>
+    pub fn captures<'a>(
+        &'a self,
+        alloc: Global,
+        url: &'a Url,
+    ) -> Result<Option<UrlPatternCaptures<'a>>, Error>
+        ensures matched { IfOk result (λ found. MatchOption found (HasNoMatch R.answer (pattern_view self.now) (inputs.Url url.now))
+            (λ captures. IsMatch R.answer (pattern_view self.now) (inputs.Url url.now) (captures_view captures))) }
         ensures memory { IfErr result (λ error. error ≡ errors.OutOfMemory) }
     {
-        let groups = self.groups(alloc, &answer.captures)?;
-        let texts = answer.texts.copied(alloc)?;
-        Ok(UrlPatternResult::new(texts, groups))
+        self.captures_of_texts(alloc, Eight::of_url(url))
+    }
+
+    /// The match of an input that has its eight texts, borrowed from the pattern and the input. `None`: the pattern does not
+    /// match them.
+    ///
+    /// Of an init, or of what a browser gives, `quirks::parse_match_input` makes such an input.
+    ///
+    /// The error is that memory ran out. Only an engine allocates.
+    pub fn captures_of_input<'a>(
+        &'a self,
+        alloc: Global,
+        input: &'a MatchInput,
+    ) -> Result<Option<UrlPatternCaptures<'a>>, Error>
+        ensures matched { IfOk result (λ found. MatchOption found (IsRefused R.answer (pattern_view self.now) (texts_view input.now))
+            (λ captures. IsMatchOf R.answer (pattern_view self.now) (texts_view input.now) (captures_view captures))) }
+        ensures memory { IfErr result (λ error. error ≡ errors.OutOfMemory) }
+    {
+        self.captures_of_texts(alloc, Eight::of_input(input))
     }
 
     /// The match of texts that are there, which are moved.
@@ -162,12 +141,34 @@ impl<R: RegExp> UrlPattern<R> {
         alloc: Global,
         texts: MatchInput,
     ) -> Result<Option<UrlPatternResult>, Error>
-        ensures refused { IfOk result (λ found. IfNone found (IsRefused R.answer (pattern_view self.now) (texts_view texts))) }
-        ensures matched { IfOk result (λ found. IfSome found (λ result. IsMatchOf R.answer (pattern_view self.now) (texts_view texts) (result_view result))) }
+        ensures matched { IfOk result (λ found. MatchOption found (IsRefused R.answer (pattern_view self.now) (texts_view texts))
+            (λ result. IsMatchOf R.answer (pattern_view self.now) (texts_view texts) (result_view result))) }
         ensures memory { IfErr result (λ error. error ≡ errors.OutOfMemory) }
     {
-        match self.matched_groups(alloc, Eight::of_input(&texts))? {
+        match self.matched_groups(alloc, &texts)? {
             Some(groups) => Ok(Some(UrlPatternResult::new(texts, groups))),
+            None => Ok(None),
+        }
+    }
+
+    /// Copies of what the groups capture of an input that has its eight texts, by name. `None`: the pattern does not match them.
+    ///
+    /// The error is that memory ran out.
+    fn matched_groups(
+        &self,
+        alloc: Global,
+        input: &MatchInput,
+    ) -> Result<Option<Eight<Groups>>, Error>
+        ensures matched { IfOk result (λ found. MatchOption found (IsRefused R.answer (pattern_view self.now) (texts_view input.now))
+            (λ groups. IsMatchOf R.answer (pattern_view self.now) (texts_view input.now) (results_of (texts_view input.now) groups))) }
+        ensures memory { IfErr result (λ error. error ≡ errors.OutOfMemory) }
+    {
+        match self.captures_of_input(alloc, input)? {
+            Some(captures) => {
+                let groups = captures.to_groups(alloc);
+                drop(captures);
+                Ok(Some(groups?))
+            }
             None => Ok(None),
         }
     }
@@ -178,10 +179,54 @@ impl<R: RegExp> UrlPattern<R> {
             (IsRefused R.answer (pattern_view self.now) (borrowed_texts texts.entry))) }
         ensures memory { IfErr result (λ error. error ≡ errors.OutOfMemory) }
     {
-        let answer = self.answer(alloc, texts)?;
+        let answer = self.captured(alloc, &texts)?;
         let is_matched = answer.is_some();
         drop(answer);
         Ok(is_matched)
+    }
+
+    /// The match of these texts. `None`: one of them is not matched.
+    ///
+    /// The error is that memory ran out. Only an engine allocates.
+    fn captures_of_texts<'a>(
+        &'a self,
+        alloc: Global,
+        texts: Eight<&'a str>,
+    ) -> Result<Option<UrlPatternCaptures<'a>>, Error>
+        ensures matched { IfOk result (λ found. MatchOption found (IsRefused R.answer (pattern_view self.now) (borrowed_texts texts.entry))
+            (λ captures. IsMatchOf R.answer (pattern_view self.now) (borrowed_texts texts.entry) (captures_view captures))) }
+        ensures memory { IfErr result (λ error. error ≡ errors.OutOfMemory) }
+    {
+        match self.captured(alloc, &texts)? {
+            Some(captures) => Ok(Some(self.with_captures(texts, captures))),
+            None => Ok(None),
+        }
+    }
+
+    /// The match of texts of which the groups capture this.
+    pub(crate) fn with_captures<'a>(
+        &'a self,
+        texts: Eight<&'a str>,
+        captures: Eight<Captured<'a>>,
+    ) -> UrlPatternCaptures<'a>
+        ensures { (name : Name) →
+            IsResultOf (pattern_view self.now name).group_name_list (captures_of (at captures.entry name)) (text_at (borrowed_texts texts.entry) name) (captures_view result name) }
+    {
+        let names = Eight {
+            protocol: &self.protocol.group_name_list,
+            username: &self.username.group_name_list,
+            password: &self.password.group_name_list,
+            hostname: &self.hostname.group_name_list,
+            port: &self.port.group_name_list,
+            pathname: &self.pathname.group_name_list,
+            search: &self.search.group_name_list,
+            hash: &self.hash.group_name_list,
+        };
+        UrlPatternCaptures {
+            names,
+            texts,
+            captures,
+        }
     }
 
     /// What the components see in their texts, before an engine is asked. None if one of them does not match.
@@ -203,30 +248,10 @@ impl<R: RegExp> UrlPattern<R> {
         })
     }
 
-    /// What the pattern answers to these texts. None if one of them is not matched.
-    ///
-    /// The error is that memory ran out. None is asked for but by an engine.
-    fn answer<'a>(
-        &'a self,
-        alloc: Global,
-        texts: Eight<&'a str>,
-    ) -> Result<Option<Match<'a>>, Error>
-        ensures refused { IfOk result (λ found. IfNone found (IsRefused R.answer (pattern_view self.now) (borrowed_texts texts.entry))) }
-        ensures texts { IfOk result (λ found. IfSome found (λ answer. borrowed_texts answer.texts ≡ borrowed_texts texts.entry)) }
-        ensures answers { IfOk result (λ found. IfSome found (λ answer.
-            AreAnswers R.answer (pattern_view self.now) (borrowed_texts texts.entry) (λ name. captures_of (at answer.captures name)))) }
-        ensures memory { IfErr result (λ error. error ≡ errors.OutOfMemory) }
-    {
-        match self.captures(alloc, &texts)? {
-            Some(captures) => Ok(Some(Match { texts, captures })),
-            None => Ok(None),
-        }
-    }
-
     /// What the groups capture of these texts. None if one of the texts is not matched.
     ///
     /// The error is that memory ran out. None is asked for but by an engine.
-    pub(crate) fn captures<'a>(
+    pub(crate) fn captured<'a>(
         &'a self,
         alloc: Global,
         texts: &Eight<&'a str>,
@@ -240,48 +265,6 @@ impl<R: RegExp> UrlPattern<R> {
             return Ok(None);
         };
         captures_of_looks(alloc, looks)
-    }
-
-    /// What the groups capture of these texts, by name. None if one of the texts is not matched.
-    fn matched_groups(
-        &self,
-        alloc: Global,
-        texts: Eight<&str>,
-    ) -> Result<Option<Eight<Groups>>, Error>
-        ensures refused { IfOk result (λ found. IfNone found (IsRefused R.answer (pattern_view self.now) (borrowed_texts texts.entry))) }
-        ensures matched { IfOk result (λ found. IfSome found (HaveGroups R.answer (pattern_view self.now) (borrowed_texts texts.entry))) }
-        ensures memory { IfErr result (λ error. error ≡ errors.OutOfMemory) }
-    {
-        match self.answer(alloc, texts)? {
-            Some(answer) => {
-                let groups = self.groups(alloc, &answer.captures);
-                drop(answer);
-                Ok(Some(groups?))
-            }
-            None => Ok(None),
-        }
-    }
-
-    /// What the groups of the components capture, by name.
-    pub(crate) fn groups(
-        &self,
-        alloc: Global,
-        captures: &Eight<Captured<'_>>,
-    ) -> Result<Eight<Groups>, Error>
-        ensures groups { IfOk result (λ groups. (name : Name) →
-            AreGroups (pattern_view self.now name).group_name_list (captures_of (at captures.now name)) (at groups name)) }
-        ensures memory { IfErr result (λ error. error ≡ errors.OutOfMemory) }
-    {
-        Ok(Eight {
-            protocol: captures.protocol.groups(alloc, &self.protocol)?,
-            username: captures.username.groups(alloc, &self.username)?,
-            password: captures.password.groups(alloc, &self.password)?,
-            hostname: captures.hostname.groups(alloc, &self.hostname)?,
-            port: captures.port.groups(alloc, &self.port)?,
-            pathname: captures.pathname.groups(alloc, &self.pathname)?,
-            search: captures.search.groups(alloc, &self.search)?,
-            hash: captures.hash.groups(alloc, &self.hash)?,
-        })
     }
 }
 

@@ -1,13 +1,19 @@
 //! What a match tells: the text of each component, and what its groups capture.
-ghost use Rattle.std.specs.Prelude.{◌≡◌, ℕ, List};
+ghost use Rattle.std.specs.Cmp.Lexicographic.{slice_cmp};
+ghost use Rattle.std.specs.HashMap.{IsUnique, get_by_text, keys};
+ghost use Rattle.std.specs.Ordering.{nat_cmp};
+ghost use Rattle.std.specs.Prelude.{◌≡◌, ℕ, List, None, map, option_copied, string_bytes, string_eq, unwrap_or, IfOk, IsPermutation, IsSorted};
+ghost use Rattle.std.specs.Str.{chars};
+ghost use Rattle.urlpattern_core.specs.Captured.{capture_view};
 ghost use Rattle.urlpattern_init.specs.declared.init.processing.Component.{Component as Name};
-ghost use Rattle.urlpattern_pattern.specs.Eight.{at};
+ghost use Rattle.urlpattern_pattern.specs.Eight.{at, captured_bytes};
 ghost use Rattle.urlpattern_pattern.specs.Match.{component_result_view, group_in, result_view, text_at};
 ghost use Rattle.urlpattern_pattern.specs.MatchInput.{texts_view};
 ghost use Rattle.urlpattern_syntax.specs.Text.{text_of};
 
 use super::eight::Eight;
 use super::groups::Groups;
+use std::alloc::{AllocError, Global};
 use std::collections::HashMap;
 use urlpattern_inputs::MatchInput;
 
@@ -65,11 +71,47 @@ impl UrlPatternResult {
 }
 
 impl UrlPatternComponentResult {
+    /// What the group of a name captured. `None`: there is no such group, or it took no part.
+    pub fn get(&self, name: &str) -> Option<&str>
+        ensures { capture_view result ≡ unwrap_or ((component_result_view self.now).group (chars name.now)) None }
+    {
+        capture_of(&self.groups, name)
+    }
+
+    /// The names of the groups, in the order of their bytes.
+    pub fn sorted_names(&self, alloc: Global) -> Result<Vec<&String>, AllocError>
+        ensures differ { IfOk result (λ names. IsUnique string_eq self.now.groups) }
+        ensures all { IfOk result (λ names. IsPermutation (map (λ name. string_bytes name) (keys self.now.groups)) (map (λ name. string_bytes name.now) names.items)) }
+        ensures in_order { IfOk result (λ names. IsSorted (slice_cmp nat_cmp) (map (λ name. string_bytes name.now) names.items)) }
+    {
+        let mut names = names_of(alloc, &self.groups)?;
+        names.sort_unstable();
+        Ok(names)
+    }
+
     /// The result of this text with these groups.
     fn new(input: String, groups: Groups) -> Self
         ensures input { (component_result_view result).input ≡ text_of input }
         ensures groups { (group : List ℕ) → (component_result_view result).group group ≡ group_in groups group }
     {
         Self { input, groups }
+    }
+}
+
+/// The names of groups.
+fn names_of(alloc: Global, groups: &Groups) -> Result<Vec<&String>, AllocError>
+    ensures all { IfOk result (λ names. map (λ name. name.now) names.items ≡ keys groups.now) }
+    ensures differ { IfOk result (λ names. IsUnique string_eq groups.now) }
+{
+    groups.keys().collect(alloc)
+}
+
+/// What the group of a name captured, if it is there and took part.
+fn capture_of<'a>(groups: &'a Groups, name: &str) -> Option<&'a str>
+    ensures { option_copied result ≡ captured_bytes (get_by_text groups.now name.now) }
+{
+    match groups.get(name) {
+        Some(Some(capture)) => Some(capture),
+        _ => None,
     }
 }

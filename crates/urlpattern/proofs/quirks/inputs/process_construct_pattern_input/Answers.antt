@@ -8,11 +8,11 @@ use Rattle.urlpattern.proofs.quirks.inputs.process_construct_pattern_input.Goals
 pub returns-in-String-clause-constructed : goal.returns-in-String-clause-constructed
 returns-in-String-clause-constructed c =
     rw c.in-String.is
-    (subst (λ (bytes : List ℕ). IfOk c.construct_from_string.result (IsInitOfString (chars bytes) (option_copied c.args.base_url))) c.as_str.ensures.value
-    c.construct_from_string.ensures.constructed)
+    (subst (λ (bytes : List ℕ). IfOk c.init_of_text.result (IsInitOfString (chars bytes) (option_copied c.args.base_url))) c.as_str.ensures.value
+    c.init_of_text.ensures.constructed)
 
 pub returns-in-String-clause-refused : goal.returns-in-String-clause-refused
 returns-in-String-clause-refused c =
     rw c.in-String.is
-    (subst (λ (bytes : List ℕ). IfErr c.construct_from_string.result (MemoryOr (RefusesText (chars bytes) (option_copied c.args.base_url)))) c.as_str.ensures.value
-    c.construct_from_string.ensures.refused)
+    (subst (λ (bytes : List ℕ). IfErr c.init_of_text.result (MemoryOr (RefusesText (chars bytes) (option_copied c.args.base_url)))) c.as_str.ensures.value
+    c.init_of_text.ensures.refused)

@@ -1,17 +1,16 @@
-use Rattle.std.proofs.Common.{subst, sym}
-use Rattle.urlpattern_pattern.proofs.ListLemmas.{first-weaker}
-use Rattle.urlpattern_pattern.specs.Eight.{HaveGroups, at, borrowed_texts, captures_of}
+use Rattle.urlpattern_pattern.proofs.ListLemmas.{first-same}
+use Rattle.urlpattern_pattern.proofs.MatchSteps.{match-of_groups}
+use Rattle.urlpattern_pattern.specs.Captures.{captures_view}
+use Rattle.urlpattern_pattern.specs.Eight.{results_of}
 use Rattle.urlpattern_pattern.specs.FirstMatch.{patterns_view}
-use Rattle.urlpattern_pattern.specs.Patterns.{PatternView}
+use Rattle.urlpattern_pattern.specs.MatchInput.{texts_view}
 use Rattle.urlpattern_pattern.proofs.list.UrlPatternList.first_groups.Goals as goal
 
-pub returns-in_ok-groups-in-Some-clause-some : goal.returns-in_ok-groups-in-Some-clause-some
-returns-in_ok-groups-in-Some-clause-some g c =
+pub returns-in_ok-groups-in-Some-clause-first : goal.returns-in_ok-groups-in-Some-clause-first
+returns-in_ok-groups-in-Some-clause-first g c =
     let answer = g.R.RegExp.answer in
-    let texts = borrowed_texts c.args.texts.now in
-    let first = rw c.in-Some.is at c.in_ok-index.ensures.some in
-    let answers = rw c.in-Some.is at c.in_ok-index.ensures.answers in
-    first-weaker answer texts (patterns_view c.args.self.now) c.in-Some.field-0.index _ _
-    (λ pattern is. subst (λ (p : PatternView g.row.R.Denot). HaveGroups answer p texts c.in_ok-groups-in-Some.field-0) (sym is)
-    ((λ name. captures_of (at c.in-Some.field-0.captures name)), answers, c.in_ok-groups-in-Some.ensures.groups))
-    first
+    let texts = texts_view c.args.input.now in
+    let match = captures_view c.in-Some.captures in
+    let groups = c.in_ok-groups-in-Some.field-0 in
+    first-same answer (patterns_view c.args.self.now) texts c.in-Some.index match (results_of texts groups)
+    (λ pattern is_match. match-of_groups answer pattern texts match groups c.in_ok-groups-in-Some.ensures.groups is_match) (rw c.in-Some.is at c.in_ok-index.ensures.first)

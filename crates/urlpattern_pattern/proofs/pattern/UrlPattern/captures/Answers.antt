@@ -1,17 +1,14 @@
-use Rattle.std.proofs.Common.{subst}
-use Rattle.std.proofs.lemmas.Option.{IfSome_then}
-use Rattle.std.proofs.lemmas.Result.{IfOk-weaker}
-use Rattle.std.specs.Prelude.{Option}
-use Rattle.urlpattern_laws.specs.Matching.{Answers}
-use Rattle.urlpattern_laws.specs.PartMeaning.{Captures}
+use Rattle.std.proofs.Common.{ap, sym}
+use Rattle.std.specs.Prelude.{Ok}
+use Rattle.urlpattern_init.specs.declared.init.UrlPatternMatchInput.TheVariants.{Url}
+use Rattle.urlpattern_pattern.proofs.MatchSteps.{found-of_texts}
+use Rattle.urlpattern_pattern.specs.Captures.{captures_view}
 use Rattle.urlpattern_pattern.specs.Eight.{borrowed_texts}
-use Rattle.urlpattern_pattern.specs.Match.{text_at}
 use Rattle.urlpattern_pattern.specs.Patterns.{pattern_view}
+use Rattle.urlpattern_pattern.specs.declared.pattern.captures.UrlPatternCaptures.{UrlPatternCaptures}
 use Rattle.urlpattern_pattern.proofs.pattern.UrlPattern.captures.Goals as goal
 
-pub returns-clause-answers : goal.returns-clause-answers
-returns-clause-answers g c =
-    IfOk-weaker c.captures_of_looks.result _ _ (λ found some. IfSome_then found some (λ captures answered name.
-    subst
-    (λ (found : Option Captures). Answers g.R.RegExp.answer (pattern_view c.args.self.now name).matcher (text_at (borrowed_texts c.args.texts.now) name) found)
-    (answered name) (c.in-Some.ensures.some name))) c.captures_of_looks.ensures.some
+pub returns-clause-matched : goal.returns-clause-matched
+returns-clause-matched g c =
+    found-of_texts g.R.RegExp.answer (pattern_view c.args.self.now) (λ (found : UrlPatternCaptures). captures_view found) (Url c.args.url.now)
+    (borrowed_texts c.of_url.result) c.captures_of_texts.result (ap Ok (sym c.of_url.ensures)) c.captures_of_texts.ensures.matched

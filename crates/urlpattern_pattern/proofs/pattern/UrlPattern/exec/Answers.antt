@@ -1,11 +1,12 @@
-use Rattle.std.proofs.Common.{ap}
-use Rattle.urlpattern_init.specs.Inheritance.{texts_of_url}
-use Rattle.urlpattern_pattern.specs.MatchInput.{input_texts}
+use Rattle.urlpattern_pattern.proofs.MatchSteps.{found-of_texts}
+use Rattle.urlpattern_pattern.specs.Match.{result_view}
+use Rattle.urlpattern_pattern.specs.MatchInput.{texts_view}
 use Rattle.urlpattern_pattern.specs.Patterns.{pattern_view}
-use Rattle.urlpattern_pattern.proofs.MatchSteps.{exec-of_texts}
+use Rattle.urlpattern_pattern.specs.declared.pattern.result.UrlPatternResult.{UrlPatternResult}
 use Rattle.urlpattern_pattern.proofs.pattern.UrlPattern.exec.Goals as goal
 
-pub returns-in-Url-clause-matched : goal.returns-in-Url-clause-matched
-returns-in-Url-clause-matched g c =
-    exec-of_texts g.R.RegExp.answer (pattern_view c.args.self.now) c.args.input (texts_of_url c.in-Url.url) c.exec_url.result
-    (ap input_texts c.in-Url.is) c.exec_url.ensures.refused c.exec_url.ensures.matched
+pub returns-in-Some-clause-matched : goal.returns-in-Some-clause-matched
+returns-in-Some-clause-matched g c =
+    let found = rw c.in-Some.is at c.in_ok-texts-in_default.ensures.found in
+    found-of_texts g.R.RegExp.answer (pattern_view c.args.self.now) (λ (result : UrlPatternResult). result_view result) c.args.input (texts_view c.in-Some.texts) c.exec_texts.result
+    found c.exec_texts.ensures.matched

@@ -1,18 +1,12 @@
 use Rattle.std.proofs.Common.{ap, sym, ◌∙◌}
 use Rattle.std.specs.Prelude.{Ok}
 use Rattle.urlpattern_pattern.specs.Eight.{borrowed_texts}
-use Rattle.urlpattern_pattern.specs.MatchInput.{input_texts}
 use Rattle.urlpattern_pattern.specs.Patterns.{pattern_view}
 use Rattle.urlpattern_pattern.proofs.MatchSteps.{test-of_texts}
 use Rattle.urlpattern_pattern.proofs.pattern.UrlPattern.test.Goals as goal
 
-pub returns-in-Url-clause-matched : goal.returns-in-Url-clause-matched
-returns-in-Url-clause-matched g c =
-    test-of_texts g.R.RegExp.answer (pattern_view c.args.self.now) c.args.input (borrowed_texts c.of_url.result) c.is_matched.result
-    (ap input_texts c.in-Url.is ∙ ap Ok (sym c.of_url.ensures)) c.is_matched.ensures.matched
-
 pub returns-in-Some-clause-matched : goal.returns-in-Some-clause-matched
 returns-in-Some-clause-matched g c =
     let found = rw c.in-Some.is at c.in_ok-texts-in_default.ensures.found in
-    test-of_texts g.R.RegExp.answer (pattern_view c.args.self.now) c.args.input (borrowed_texts c.of_input.result) c.is_matched-in-Some.result
-    (found ∙ ap Ok (sym c.of_input.ensures)) c.is_matched-in-Some.ensures.matched
+    test-of_texts g.R.RegExp.answer (pattern_view c.args.self.now) c.args.input (borrowed_texts c.of_input.result) c.is_matched.result
+    (found ∙ ap Ok (sym c.of_input.ensures)) c.is_matched.ensures.matched

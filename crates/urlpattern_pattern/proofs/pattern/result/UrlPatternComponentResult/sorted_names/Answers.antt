@@ -4,14 +4,14 @@ use Rattle.std.specs.Cmp.Lexicographic.{slice_cmp}
 use Rattle.std.specs.HashMap.{keys}
 use Rattle.std.specs.Ordering.{is_lt, nat_cmp}
 use Rattle.std.specs.Prelude.{IsPermutation}
-use Rattle.urlpat_commands.proofs.AnswerLemmas.{bytes_of_names, sorted_map}
-use Rattle.urlpat_commands.proofs.matching.sorted_names.Goals as goal
+use Rattle.urlpattern_pattern.proofs.NameOrder.{bytes_of_names, sorted_map}
+use Rattle.urlpattern_pattern.proofs.pattern.result.UrlPatternComponentResult.sorted_names.Goals as goal
 
 pub returns-clause-all : goal.returns-clause-all
 returns-clause-all c =
     let now = map (λ name. string_bytes name.now) c.sort_unstable.new.self.items in
     let moved = IsPermutation-map (λ name. string_bytes name.now) c.in_ok-names.names.items c.sort_unstable.new.self.items c.sort_unstable.ensures.permutation in
-    let same : map (λ name. string_bytes name.now) c.in_ok-names.names.items ≡ map (λ name. string_bytes name) (keys c.args.groups.now) =
+    let same : map (λ name. string_bytes name.now) c.in_ok-names.names.items ≡ map (λ name. string_bytes name) (keys c.args.self.now.groups) =
     bytes_of_names c.in_ok-names.names.items ∙ ap (map (λ name. string_bytes name)) c.in_ok-names.ensures.all in
     subst (λ names. IsPermutation names now) same moved
 

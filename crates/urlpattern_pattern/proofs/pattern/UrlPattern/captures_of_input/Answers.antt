@@ -1,0 +1,14 @@
+use Rattle.std.proofs.Common.{subst}
+use Rattle.std.specs.Prelude.{IfOk, MatchOption}
+use Rattle.urlpattern_init.specs.Inheritance.{Texts}
+use Rattle.urlpattern_pattern.specs.Captures.{captures_view}
+use Rattle.urlpattern_pattern.specs.Match.{IsMatchOf, IsRefused}
+use Rattle.urlpattern_pattern.specs.Patterns.{pattern_view}
+use Rattle.urlpattern_pattern.proofs.pattern.UrlPattern.captures_of_input.Goals as goal
+
+pub returns-clause-matched : goal.returns-clause-matched
+returns-clause-matched g c =
+    let answer = g.R.RegExp.answer in
+    let pattern = pattern_view c.args.self.now in
+    subst (λ (texts : Texts). IfOk c.captures_of_texts.result (λ found. MatchOption found (IsRefused answer pattern texts) (λ captures. IsMatchOf answer pattern texts (captures_view captures))))
+    c.of_input.ensures c.captures_of_texts.ensures.matched

@@ -1,0 +1,12 @@
+use Rattle.urlpattern_pattern.specs.Eight.{at, captures_of}
+use Rattle.urlpattern_pattern.proofs.pattern.UrlPattern.captures_of_texts.Goals as goal
+
+pub returns-in-Some-clause-matched : goal.returns-in-Some-clause-matched
+returns-in-Some-clause-matched g c = record {
+  captures = λ name. captures_of (at c.in-Some.captures name);
+  are_answers = rw c.in-Some.is at c.in_ok-captures.ensures.answers;
+  are_results = c.with_captures.ensures;
+}
+
+pub returns-in-None-clause-matched : goal.returns-in-None-clause-matched
+returns-in-None-clause-matched g c = rw c.in-None.is at c.in_ok-captures.ensures.refused

@@ -1,0 +1,176 @@
+//! What the groups of a pattern capture, borrowed from the pattern and from the texts that it matches.
+ghost use Rattle.std.specs.Iterator.Adapters.{zip_first, zip_second};
+ghost use Rattle.std.specs.Prelude.{◌≡◌, Some, List, ℕ, map, option_map, zip, IfErr, IfOk};
+ghost use Rattle.std.specs.Slice.Iter.{iter_rest};
+ghost use Rattle.std.specs.Str.{chars};
+ghost use Rattle.urlpattern_core.specs.Captured.{capture_view};
+ghost use Rattle.urlpattern_core.specs.Looks.{look_answer};
+ghost use Rattle.urlpattern_init.specs.declared.init.processing.Component.{Component as Name};
+ghost use Rattle.urlpattern_pattern.specs.Captures.{captures_view, groups_view};
+ghost use Rattle.urlpattern_pattern.specs.Eight.{at, captures_of};
+ghost use Rattle.urlpattern_pattern.specs.Match.{group_in, group_of, result_view, IsSameResult};
+ghost use Rattle.urlpattern_syntax.specs.Text.{text_of};
+ghost use Rattle.urlpattern_syntax.specs.declared.error.Error.TheVariants as errors;
+
+use super::eight::Eight;
+use super::groups::{Groups, groups_of};
+use super::result::UrlPatternResult;
+use std::alloc::Global;
+use std::iter::Zip;
+use std::slice;
+use urlpattern_core::Error;
+use urlpattern_core::matcher::Look;
+use urlpattern_core::regexp::RegExp;
+use urlpattern_init::Component as ComponentName;
+
+/// The groups of a component in their order: each name, with what the group captures. `None`: the group took no part.
+pub type UrlPatternGroups<'c, 'a> = Zip<slice::Iter<'c, String>, slice::Iter<'c, Option<&'a str>>>;
+
+/// A match whose texts, names and captures are borrowed from the pattern and from what it matches.
+///
+/// `UrlPattern::captures` answers it.
+#[derive(Drop)]
+pub struct UrlPatternCaptures<'a> {
+    /// The names of the groups.
+    pub(super) names: Eight<&'a Vec<String>>,
+    /// The texts that are matched.
+    pub(super) texts: Eight<&'a str>,
+    /// What the groups capture of each text.
+    pub(super) captures: Eight<Captured<'a>>,
+}
+
+impl<'a> UrlPatternCaptures<'a> {
+    /// The text of a component, which was matched.
+    pub fn input(&self, name: ComponentName) -> &'a str
+        ensures { chars result.now ≡ (captures_view self.now name).input }
+    {
+        self.texts.at(name)
+    }
+
+    /// What a group of a component captures. `None`: there is no group of this name. `Some(None)`: the group took no part. Of
+    /// equal names the last counts.
+    pub fn get(&self, name: ComponentName, group: &str) -> Option<Option<&'a str>>
+        ensures { option_map capture_view result ≡ (captures_view self.now name).group (chars group.now) }
+    {
+        group_named(
+            self.names.at(name),
+            self.captures.at(name).as_slice(),
+            group,
+        )
+    }
+
+    /// The groups of a component, in their order.
+    pub fn groups(&self, name: ComponentName) -> UrlPatternGroups<'_, 'a>
+        ensures { zip (map (λ name. text_of name) (iter_rest (zip_first result))) (map capture_view (iter_rest (zip_second result))) ≡ groups_view self.now name }
+    {
+        self.names
+            .at(name)
+            .iter()
+            .zip(self.captures.at(name).as_slice())
+    }
+
+    /// The match with copies of its texts, names and captures, as `UrlPattern::exec` answers it.
+    ///
+    /// The error is that memory ran out.
+    pub fn to_result(&self, alloc: Global) -> Result<UrlPatternResult, Error>
+        ensures same { IfOk result (λ copy. (name : Name) → IsSameResult (result_view copy name) (captures_view self.now name)) }
+        ensures memory { IfErr result (λ error. error ≡ errors.OutOfMemory) }
+    {
+        let groups = self.to_groups(alloc)?;
+        let texts = self.texts.copied(alloc)?;
+        Ok(UrlPatternResult::new(texts, groups))
+    }
+
+    /// Copies of what the groups capture, by name.
+    ///
+    /// The error is that memory ran out.
+    pub(crate) fn to_groups(&self, alloc: Global) -> Result<Eight<Groups>, Error>
+        ensures groups { IfOk result (λ groups. (name : Name) (group : List ℕ) →
+            group_in (at groups name) group ≡ (captures_view self.now name).group group) }
+        ensures memory { IfErr result (λ error. error ≡ errors.OutOfMemory) }
+    {
+        Ok(Eight {
+            protocol: self.groups_of(alloc, ComponentName::Protocol)?,
+            username: self.groups_of(alloc, ComponentName::Username)?,
+            password: self.groups_of(alloc, ComponentName::Password)?,
+            hostname: self.groups_of(alloc, ComponentName::Hostname)?,
+            port: self.groups_of(alloc, ComponentName::Port)?,
+            pathname: self.groups_of(alloc, ComponentName::Pathname)?,
+            search: self.groups_of(alloc, ComponentName::Search)?,
+            hash: self.groups_of(alloc, ComponentName::Hash)?,
+        })
+    }
+
+    /// Copies of what the groups of a component capture, by name.
+    ///
+    /// The error is that memory ran out.
+    fn groups_of(&self, alloc: Global, name: ComponentName) -> Result<Groups, Error>
+        ensures groups { IfOk result (λ groups. (group : List ℕ) → group_in groups group ≡ (captures_view self.now name).group group) }
+        ensures memory { IfErr result (λ error. error ≡ errors.OutOfMemory) }
+    {
+        groups_of(
+            alloc,
+            self.names.at(name),
+            self.captures.at(name).as_slice(),
+        )
+    }
+}
+
+/// What the group of this name captures, where names and captures are in the same order. Of equal names the last counts.
+fn group_named<'a>(
+    names: &[String],
+    captures: &[Option<&'a str>],
+    group: &str,
+) -> Option<Option<&'a str>>
+    ensures { option_map capture_view result ≡ group_of (map (λ name. text_of name) names.now) (map capture_view captures.now) (chars group.now) }
+{
+    let mut found = None;
+    for (name, capture) in names.iter().zip(captures) {
+        if group == name.as_str() {
+            found = Some(*capture);
+        }
+    }
+    found
+}
+
+/// What the groups of a component capture of its text.
+#[derive(Drop)]
+pub(crate) enum Captured<'a> {
+    /// There are no groups.
+    Nothing,
+    /// There is one group.
+    One(Option<&'a str>),
+    /// An engine answered this.
+    Groups(Vec<Option<&'a str>>),
+}
+
+impl<'a> Captured<'a> {
+    /// What a look at a text results in, once an engine is asked that has to be. `None`: the text is not matched.
+    pub(super) fn of_look<R: RegExp>(
+        alloc: Global,
+        look: Look<'a, R>,
+    ) -> Result<Option<Self>, Error>
+        ensures answer { IfOk result (λ found. option_map captures_of found ≡ look_answer R.answer (Some look.entry)) }
+        ensures memory { IfErr result (λ error. error ≡ errors.OutOfMemory) }
+    {
+        match look {
+            Look::Matched => Ok(Some(Captured::Nothing)),
+            Look::Captured(text) => Ok(Some(Captured::One(Some(text)))),
+            Look::Asks { engine, middle } => match engine.matches(alloc, middle)? {
+                Some(captures) => Ok(Some(Captured::Groups(captures))),
+                None => Ok(None),
+            },
+        }
+    }
+
+    /// The captures in their order.
+    fn as_slice(&self) -> &[Option<&'a str>]
+        ensures { map capture_view result.now ≡ captures_of self.now }
+    {
+        match self {
+            Captured::Nothing => &[],
+            Captured::One(capture) => slice::from_ref(capture),
+            Captured::Groups(captures) => captures.as_slice(),
+        }
+    }
+}
