@@ -75,5 +75,5 @@ pub escaped-at_mark : (marks text unwritten rest written after run : List ℕ) (
 escaped-at_mark marks text unwritten rest written after run c h cut mark is_run =
     let same = append_cancel_right h.pending run rest (sym h.are_pending ∙ is_run) in
     let here = ap (λ xs. escaped marks xs) cut ∙ escaped-append marks (c ∷ []) after ∙ ap (λ xs. xs ++ escaped marks after) (escaped-mark marks c mark)
-        ∙ append_assoc (codes "\\") (c ∷ []) (escaped marks after) in
+    ∙ append_assoc (codes "\\") (c ∷ []) (escaped marks after) in
     escaped-rest marks text unwritten rest written h ∙ ap (λ xs. written ++ (xs ++ escaped marks rest)) same ∙ ap (λ xs. written ++ (run ++ xs)) here

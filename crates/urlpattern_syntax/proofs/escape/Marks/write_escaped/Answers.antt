@@ -39,9 +39,11 @@ loop-first-preserved-then-contain g c =
     record {
       unwritten_is_text = search rules;
       rest_is_text = search rules;
-      escapes = ((so_far.0 ++ run) ++ codes "\\",
-          escapes_mark (marks_of c.args.self) _ _ _ so_far.0 (chars c.in-Some.after.now) run c.in-Some.first so_far.1 c.in-Some.ensures.cut c.if-contain.ensures c.before-then-contain.ensures,
-          g.met.W.Writer.writes_both c.args.writer.now c.write_str.new.self c.write_char.new.self (so_far.0 ++ run) (codes "\\") front c.write_char.ensures);
+      escapes = (
+        (so_far.0 ++ run) ++ codes "\\",
+        escapes_mark (marks_of c.args.self) _ _ _ so_far.0 (chars c.in-Some.after.now) run c.in-Some.first so_far.1 c.in-Some.ensures.cut c.if-contain.ensures c.before-then-contain.ensures,
+        g.met.W.Writer.writes_both c.args.writer.now c.write_str.new.self c.write_char.new.self (so_far.0 ++ run) (codes "\\") front c.write_char.ensures,
+      );
     }
 
 pub loop-first-preserved : goal.loop-first-preserved
