@@ -7,6 +7,8 @@ mod canonical;
 #[cfg(test)]
 mod compiled;
 #[cfg(test)]
+mod engines;
+#[cfg(test)]
 mod kept_text;
 #[cfg(test)]
 mod long_texts;

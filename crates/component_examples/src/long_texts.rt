@@ -9,7 +9,7 @@ use urlpattern_core::parser::{Options, PartType};
 use urlpattern_core::tokenizer::TokenType;
 
 /// Appends copies of a piece.
-fn push_copies(text: &mut String, piece: &str, count: usize) -> Result<(), AllocError> {
+pub(crate) fn push_copies(text: &mut String, piece: &str, count: usize) -> Result<(), AllocError> {
     for _ in 0..count {
         text.push_str(piece)?;
     }
@@ -42,6 +42,31 @@ fn a_thousand_names(rt: HostRuntime) -> Result<(), Fail> {
     assert_eq!(rt; parts.len(), 1_000);
     let last = parts.last().ok_or("no parts")?;
     assert_eq!(rt; last.name.as_str(), "a1000");
+    Ok(())
+}
+
+/// How many names a pattern gives that is read in a moment.
+const NAMES: u32 = 30_000;
+
+#[test]
+fn thousands_of_names(rt: HostRuntime) -> Result<(), Fail> {
+    let alloc = rt.alloc();
+    let mut pattern = String::new(alloc);
+    for number in 1..=NAMES {
+        write!(pattern, ":a{number}")?;
+    }
+    let parts = parts_of(alloc, &pattern, &Options::default(alloc))?;
+    assert_eq!(rt; parts.len(), 30_000);
+    let last = parts.last().ok_or("no parts")?;
+    assert_eq!(rt; last.name.as_str(), "a30000");
+    pattern.push_str(":a1")?;
+    let answer = parts_of(alloc, &pattern, &Options::default(alloc));
+    assert!(rt;
+        matches!(
+            &answer,
+            Err(Error::Parser(ParserError::DuplicateName(name))) if name.as_str() == "a1"
+        )
+    );
     Ok(())
 }
 

@@ -1,5 +1,6 @@
 //! The texts of components where memory may run out: the regular expression, the names and the printed pattern.
 
+use crate::long_texts::push_copies;
 use crate::parts::parts_of;
 use std::alloc::Global;
 use std::process::Abort;
@@ -68,4 +69,18 @@ fn the_empty_pattern_is_printed_without_memory(rt: HostRuntime) {
         matches!(&printed, Ok(text) if text.is_empty()),
         "{printed:?}"
     );
+}
+
+/// Groups without a text are read with no request for memory, so that refusing one changes nothing once the pattern is there.
+#[test]
+fn empty_groups_are_read_without_memory(rt: HostRuntime) {
+    let alloc = rt.alloc();
+    for count in [10, 1_000] {
+        let mut pattern = String::new(alloc);
+        if push_copies(&mut pattern, "{}?", count).is_err() {
+            return;
+        }
+        let parts = parts_of(alloc, &pattern, &Options::default(alloc));
+        assert!(rt; matches!(&parts, Ok(parts) if parts.is_empty()), "{count}");
+    }
 }

@@ -1,3 +1,4 @@
 mod AnswerExamples
+mod GroupNames
 mod AnswerLemmas
 mod FirstLemmas

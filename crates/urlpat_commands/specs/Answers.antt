@@ -1,12 +1,14 @@
 -- What the program answers to its words, and what it refuses. Words and texts are bytes.
-use Rattle.std.specs.Prelude.{◌≡◌, ◌≢◌, ◌⊎◌, All, ◌++◌, ℕ, false, if◌then◌else◌, List, [], ◌∷◌, length, map, max, codes, bytes_eq, IsPermutation, IsSorted, Option, None, Some, Result, Ok, Err, String, string_bytes, string_eq, encode_utf8_all, slice_get, take}
+use Rattle.std.specs.Prelude.{◌≡◌, ◌≢◌, ◌↔◌, ◌⊎◌, All, ◌++◌, ℕ, false, if◌then◌else◌, List, [], ◌∷◌, length, map, max, codes, bytes_eq, Option, None, Some, Result, Ok, Err, String, string_bytes, encode_utf8_all, slice_get, take, IsSome}
+use Rattle.std.specs.Ordering.{on}
 use Rattle.std.specs.Cmp.Lexicographic.{slice_cmp}
-use Rattle.std.specs.HashMap.{IsUnique, get_by_text, keys}
-use Rattle.std.specs.List.{AllZip, flat_map}
+use Rattle.std.specs.List.{AllZip, Contains, flat_map}
+use Rattle.std.specs.List.Sorted.{IsStrictlySortedBy}
 use Rattle.std.specs.Ordering.{nat_cmp}
 use Rattle.std.specs.Str.{chars}
 use Rattle.std.specs.declared.alloc.Global.{Global}
 use Rattle.regex.specs.declared.string.regex.Regex.{Regex}
+use Rattle.url.specs.Parts.{Parts}
 use Rattle.urlpat_commands.specs.declared.command.Failure.{Failure}
 use Rattle.urlpat_commands.specs.declared.command.Failure.TheVariants as failures
 use Rattle.urlpat_commands.specs.Kinds.{IsKind, IsNamed}
@@ -19,7 +21,7 @@ use Rattle.urlpattern.specs.Canonical.{IsRefusedByUrl}
 use Rattle.urlpattern.specs.FirstMatch.{IsFirstMatch}
 use Rattle.urlpattern.specs.Inputs.{IsInitOfString, RefusesText, parsed_text, text_bytes}
 use Rattle.urlpattern.specs.Laws.{Answered, listed}
-use Rattle.urlpattern.specs.Match.{HasNoMatch, IsMatch, result_view}
+use Rattle.urlpattern.specs.Match.{HasNoMatch, IsMatch, ResultView}
 use Rattle.urlpattern.specs.Meaning.{compiles_by_regex}
 use Rattle.urlpattern.specs.Options.{OptionsView}
 use Rattle.urlpattern.specs.Errors.{MemoryOr}
@@ -30,11 +32,10 @@ use Rattle.urlpattern.specs.Reading.{Encoding, Reads, Refuses, encoding_of}
 use Rattle.urlpattern.specs.RegexpText.{group_names, regexp_text}
 use Rattle.urlpattern.specs.RoundTrip.{IsPrintable, ReadsBack}
 use Rattle.urlpattern_init.specs.declared.init.UrlPatternInit.{UrlPatternInit}
-use Rattle.urlpattern_init.specs.declared.init.UrlPatternMatchInput.{UrlPatternMatchInput}
+use Rattle.urlpattern_init.specs.declared.init.processing.Component.{Component}
+use Rattle.urlpattern_init.specs.declared.init.processing.Component.TheVariants.{Protocol, Username, Password, Hostname, Port, Pathname, Search, Hash}
 use Rattle.urlpattern_init.specs.declared.init.UrlPatternMatchInput.TheVariants as match_inputs
 use Rattle.urlpattern_inputs.specs.declared.options.UrlPatternOptions.{UrlPatternOptions}
-use Rattle.urlpattern_pattern.specs.declared.pattern.result.UrlPatternComponentResult.{UrlPatternComponentResult}
-use Rattle.urlpattern_pattern.specs.declared.pattern.result.UrlPatternResult.{UrlPatternResult}
 use Rattle.urlpattern_syntax.specs.declared.error.Error.{Error}
 use Rattle.urlpattern_syntax.specs.declared.error.Error.TheVariants as errors
 use Rattle.urlpattern_syntax.specs.declared.parser.PartType.TheVariants.{Regexp}
@@ -99,41 +100,45 @@ RefusesPatternOf text base error =
     RefusesText (chars text) base error
     ⊎ ((init : UrlPatternInit) × IsInitOfString (chars text) base init × RefusesPattern compiles_by_regex regex_answer init default_pattern_options error)
 
--- what a group captured, if it took part
-abbrev pub capture_of : Option (Option (String Global)) → Option (List ℕ)
-capture_of (Some (Some text)) = Some (string_bytes text)
+-- the bytes that a group captured, if it took part
+abbrev pub capture_of : Option (Option (List ℕ)) → Option (List ℕ)
+capture_of (Some (Some text)) = Some (encode_utf8_all text)
 capture_of capture = None
 
--- The text has a line for each group of the component, in the order of the bytes of their names. No two have one name.
-pub record AreGroupLines (component : List ℕ) (found : UrlPatternComponentResult) (text : List ℕ) : Type 0 where
-  pub names : List (List ℕ)
-  pub differ : IsUnique string_eq found.groups
-  pub are_names : IsPermutation (map (λ name. string_bytes name) (keys found.groups)) names
-  pub in_order : IsSorted (slice_cmp nat_cmp) names
-  pub is_text : text ≡ flat_map (λ name. group_line component name (capture_of (get_by_text found.groups name))) names
+-- These are the names of the component's groups, each once, in the order of their bytes.
+pub record AreNames (found : ResultView) (names : List (List ℕ)) : Type 0 where
+  pub are_all : (name : List ℕ) → Contains names name ↔ IsSome (found.group name)
+  pub in_order : IsStrictlySortedBy (on encode_utf8_all (slice_cmp nat_cmp)) names
+
+-- the line of the component's group of this name
+abbrev pub line_of : (component : List ℕ) → ResultView → (name : List ℕ) → List ℕ
+line_of component found name = group_line component (encode_utf8_all name) (capture_of (found.group name))
+
+-- the text has a line for each group of the component
+abbrev pub AreGroupLines : (component : List ℕ) → ResultView → (text : List ℕ) → Type 0
+AreGroupLines component found text = (names : List (List ℕ)) × AreNames found names × (text ≡ flat_map (line_of component found) names)
 
 -- the text has the lines of these components, one after the other
-abbrev pub AreLines : List (List ℕ × UrlPatternComponentResult) → (text : List ℕ) → Type 0
+abbrev pub AreLines : List (List ℕ × ResultView) → (text : List ℕ) → Type 0
 AreLines [] text = text ≡ []
 AreLines (component ∷ rest) text =
     (first others : List ℕ) × (text ≡ first ++ others) × AreGroupLines component.0 component.1 first × AreLines rest others
 
-abbrev pub components_of : UrlPatternResult → List (List ℕ × UrlPatternComponentResult)
+abbrev pub components_of : (Component → ResultView) → List (List ℕ × ResultView)
 components_of result =
-    (codes "protocol", result.protocol)
-    ∷ (codes "username", result.username)
-    ∷ (codes "password", result.password)
-    ∷ (codes "hostname", result.hostname)
-    ∷ (codes "port", result.port)
-    ∷ (codes "pathname", result.pathname)
-    ∷ (codes "search", result.search)
-    ∷ (codes "hash", result.hash)
+    (codes "protocol", result Protocol)
+    ∷ (codes "username", result Username)
+    ∷ (codes "password", result Password)
+    ∷ (codes "hostname", result Hostname)
+    ∷ (codes "port", result Port)
+    ∷ (codes "pathname", result Pathname)
+    ∷ (codes "search", result Search)
+    ∷ (codes "hash", result Hash)
     ∷ []
 
 -- the input is this URL, under the base URL
-abbrev pub IsUrlOf : (input : List ℕ) → (base : Option (List ℕ)) → UrlPatternMatchInput → Type 0
-IsUrlOf input base (match_inputs.Url url) = parsed_text base input ≡ Ok url
-IsUrlOf input base (match_inputs.Init init) = ⊥
+abbrev pub IsUrlOf : (input : List ℕ) → (base : Option (List ℕ)) → (url : Parts) → Type 0
+IsUrlOf input base url = parsed_text base input ≡ Ok url
 
 -- `url` refuses the input or the base URL, or they are too long
 abbrev pub IsRefusedText : (input : List ℕ) → (base : Option (List ℕ)) → Type 0
@@ -141,10 +146,10 @@ IsRefusedText input base = IsRefusedByUrl (parsed_text base input) (max (length 
 
 -- The pattern matches the input, a URL under this base URL, and the text tells what the groups capture.
 pub record IsMatchTextBy (compiled : PatternView Regex) (input : List ℕ) (base : Option (List ℕ)) (text : List ℕ) : Type 0 where
-  pub url : UrlPatternMatchInput
-  pub result : UrlPatternResult
+  pub url : Parts
+  pub result : Component → ResultView
   pub is_url : IsUrlOf input base url
-  pub is_match : IsMatch regex_answer compiled url (result_view result)
+  pub is_match : IsMatch regex_answer compiled (match_inputs.Url url) result
   pub are_lines : AreLines (components_of result) text
 
 abbrev pub IsMatchText : (pattern input : List ℕ) → (base : Option (List ℕ)) → (text : List ℕ) → Type 0
@@ -154,7 +159,7 @@ IsMatchText pattern input base text =
 -- the pattern does not match the input: `url` refuses it, or the pattern has no match on it
 abbrev pub IsUnmatchedBy : (compiled : PatternView Regex) → (input : List ℕ) → (base : Option (List ℕ)) → Type 0
 IsUnmatchedBy compiled input base =
-    IsRefusedText input base ⊎ ((url : UrlPatternMatchInput) × IsUrlOf input base url × HasNoMatch regex_answer compiled url)
+    IsRefusedText input base ⊎ ((url : Parts) × IsUrlOf input base url × HasNoMatch regex_answer compiled (match_inputs.Url url))
 
 abbrev pub IsUnmatched : (pattern input : List ℕ) → (base : Option (List ℕ)) → Type 0
 IsUnmatched pattern input base =
@@ -178,12 +183,12 @@ pub record RefusesOneOf (texts : List (List ℕ)) (base : Option (List ℕ)) (er
 -- A pattern of the list is the first that matches the input, a URL under this base URL, and the text tells its index and
 -- what its groups capture.
 pub record IsFirstTextBy (compiled : List (PatternView Regex)) (input : List ℕ) (base : Option (List ℕ)) (text : List ℕ) : Type 0 where
-  pub url : UrlPatternMatchInput
+  pub url : Parts
   pub index : ℕ
-  pub result : UrlPatternResult
+  pub result : Component → ResultView
   pub lines : List ℕ
   pub is_url : IsUrlOf input base url
-  pub is_first : IsFirstMatch regex_answer compiled url (Some (index, result_view result))
+  pub is_first : IsFirstMatch regex_answer compiled (match_inputs.Url url) (Some (index, result))
   pub are_lines : AreLines (components_of result) lines
   pub is_text : text ≡ first_line index ++ lines
 
@@ -194,7 +199,7 @@ IsFirstText patterns input base text =
 -- no pattern of the list matches the input: `url` refuses it, or none has a match on it
 abbrev pub IsUnmatchedByAll : (compiled : List (PatternView Regex)) → (input : List ℕ) → (base : Option (List ℕ)) → Type 0
 IsUnmatchedByAll compiled input base =
-    IsRefusedText input base ⊎ ((url : UrlPatternMatchInput) × IsUrlOf input base url × IsFirstMatch regex_answer compiled url None)
+    IsRefusedText input base ⊎ ((url : Parts) × IsUrlOf input base url × IsFirstMatch regex_answer compiled (match_inputs.Url url) None)
 
 abbrev pub IsUnmatchedByEach : (patterns : List (List ℕ)) → (input : List ℕ) → (base : Option (List ℕ)) → Type 0
 IsUnmatchedByEach patterns input base =

@@ -70,7 +70,7 @@ fn groups_of_first(
     let Some(url) = url_of(alloc, base, input)? else {
         return Ok(None);
     };
-    let Some((index, found)) = list.first_match(alloc, url)? else {
+    let Some((index, found)) = list.first_captures(alloc, &url)? else {
         return Ok(None);
     };
     let mut text = format!(in alloc; "match {index}\n")?;

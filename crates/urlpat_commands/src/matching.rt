@@ -1,20 +1,22 @@
 //! The command `match`: what the groups of a pattern capture of a URL.
 
-ghost use Rattle.std.specs.HashMap.{get_by_text};
-ghost use Rattle.std.specs.Prelude.{◌≡◌, ◌++◌, ℕ, List, option_copied, string_bytes, IfErr, IfOk, MatchOption, OnOk};
-ghost use Rattle.urlpat_commands.specs.Answers.{AreGroupLines, AreLines, IsMatchText, IsMatchTextBy, IsPatternOf, IsRefusedText, IsUnmatched, IsUnmatchedBy, IsUrlOf, RefusesPatternOf, base_of, capture_of, components_of};
+ghost use Rattle.std.specs.Map.{keys_of};
+ghost use Rattle.std.specs.Prelude.{◌≡◌, ◌++◌, ℕ, List, map, option_copied, string_bytes, IfErr, IfOk, MatchOption, OnOk};
+ghost use Rattle.std.specs.Str.{chars};
+ghost use Rattle.urlpat_commands.specs.Answers.{AreGroupLines, AreLines, AreNames, IsMatchText, IsMatchTextBy, IsPatternOf, IsRefusedText, IsUnmatched, IsUnmatchedBy, IsUrlOf, RefusesPatternOf, base_of, capture_of, components_of};
 ghost use Rattle.urlpat_commands.specs.Report.{group_line};
+ghost use Rattle.urlpattern.specs.Captures.{captures_view, groups_view};
 ghost use Rattle.urlpattern.specs.Errors.{MemoryOr};
 ghost use Rattle.urlpattern.specs.Patterns.{pattern_view};
+ghost use Rattle.urlpattern.specs.Text.{text_of};
 ghost use Rattle.urlpattern_syntax.specs.declared.error.Error.TheVariants as errors;
 
 use std::alloc::{AllocError, Global};
 use std::borrow::CowStr;
-use std::collections::HashMap;
+use url::Url;
 use urlpattern::quirks::{StringOrInit, process_construct_pattern_input, process_match_input};
 use urlpattern::{
-    Error, UrlPattern, UrlPatternComponentResult, UrlPatternMatchInput, UrlPatternOptions,
-    UrlPatternResult,
+    ComponentName, Error, UrlPattern, UrlPatternCaptures, UrlPatternMatchInput, UrlPatternOptions,
 };
 
 /// The word that stands for no base URL.
@@ -75,7 +77,7 @@ fn groups_of_match(
     let Some(url) = url_of(alloc, base, input)? else {
         return Ok(None);
     };
-    let Some(found) = pattern.exec(alloc, url)? else {
+    let Some(found) = pattern.captures(alloc, &url)? else {
         return Ok(None);
     };
     let mut text = String::new(alloc);
@@ -88,20 +90,19 @@ fn groups_of_match(
 /// What an input is matched as: its URL, or None where `url` refuses it.
 ///
 /// The error is that memory ran out.
-pub fn url_of(
-    alloc: Global,
-    base: Option<&str>,
-    input: &str,
-) -> Result<Option<UrlPatternMatchInput>, Error>
+pub fn url_of(alloc: Global, base: Option<&str>, input: &str) -> Result<Option<Url>, Error>
     ensures found { IfOk result (λ found. MatchOption found (IsRefusedText input.now (option_copied base.entry))
         (IsUrlOf input.now (option_copied base.entry))) }
     ensures memory { IfErr result (λ error. error ≡ errors.OutOfMemory) }
 {
     let input = StringOrInit::String(CowStr::Borrowed(input));
     match process_match_input(alloc, input, base)? {
-        Some((url, inputs)) => {
+        Some((found, inputs)) => {
             drop(inputs);
-            Ok(Some(url))
+            match found {
+                UrlPatternMatchInput::Url(url) => Ok(Some(url)),
+                UrlPatternMatchInput::Init(_) => Ok(None),
+            }
         }
         None => Ok(None),
     }
@@ -111,18 +112,18 @@ pub fn url_of(
 pub fn push_match(
     alloc: Global,
     text: &mut String,
-    found: &UrlPatternResult,
+    found: &UrlPatternCaptures<'_>,
 ) -> Result<(), AllocError>
-    ensures { OnOk result ((lines : List ℕ) × (string_bytes text.new ≡ string_bytes text.old ++ lines) × AreLines (components_of found.now) lines) }
+    ensures { OnOk result ((lines : List ℕ) × (string_bytes text.new ≡ string_bytes text.old ++ lines) × AreLines (components_of (captures_view found.now)) lines) }
 {
-    push_groups(alloc, text, "protocol", &found.protocol)?;
-    push_groups(alloc, text, "username", &found.username)?;
-    push_groups(alloc, text, "password", &found.password)?;
-    push_groups(alloc, text, "hostname", &found.hostname)?;
-    push_groups(alloc, text, "port", &found.port)?;
-    push_groups(alloc, text, "pathname", &found.pathname)?;
-    push_groups(alloc, text, "search", &found.search)?;
-    push_groups(alloc, text, "hash", &found.hash)?;
+    push_groups(alloc, text, "protocol", found, ComponentName::Protocol)?;
+    push_groups(alloc, text, "username", found, ComponentName::Username)?;
+    push_groups(alloc, text, "password", found, ComponentName::Password)?;
+    push_groups(alloc, text, "hostname", found, ComponentName::Hostname)?;
+    push_groups(alloc, text, "port", found, ComponentName::Port)?;
+    push_groups(alloc, text, "pathname", found, ComponentName::Pathname)?;
+    push_groups(alloc, text, "search", found, ComponentName::Search)?;
+    push_groups(alloc, text, "hash", found, ComponentName::Hash)?;
     Ok(())
 }
 
@@ -131,22 +132,56 @@ fn push_groups(
     alloc: Global,
     text: &mut String,
     component: &str,
-    found: &UrlPatternComponentResult,
+    found: &UrlPatternCaptures<'_>,
+    name: ComponentName,
 ) -> Result<(), AllocError>
-    ensures { OnOk result ((lines : List ℕ) × (string_bytes text.new ≡ string_bytes text.old ++ lines) × AreGroupLines component.now found.now lines) }
+    ensures { OnOk result ((lines : List ℕ) × (string_bytes text.new ≡ string_bytes text.old ++ lines) × AreGroupLines component.now (captures_view found.now name) lines) }
 {
-    let names = found.sorted_names(alloc)?;
-    for name in &names {
-        push_group(text, component, name, capture_of(&found.groups, name))?;
+    let groups = sorted_names(alloc, found, name)?;
+    for group in &groups {
+        push_group(text, component, group, capture_of(found, name, group))?;
     }
     Ok(())
 }
 
-/// What a group captured. `None`: it took no part.
-fn capture_of<'a>(groups: &'a HashMap<String, Option<String>>, name: &str) -> Option<&'a str>
-    ensures { option_copied result ≡ capture_of (get_by_text groups.now name.now) }
+/// The names of the groups of a component, each once, in the order of their bytes.
+fn sorted_names<'c>(
+    alloc: Global,
+    found: &'c UrlPatternCaptures<'_>,
+    name: ComponentName,
+) -> Result<Vec<&'c String>, AllocError>
+    ensures { IfOk result (λ names. AreNames (captures_view found.now name) (map (λ name. text_of name.now) names.items)) }
 {
-    match groups.get(name) {
+    let mut names = names_of(alloc, found, name)?;
+    names.sort_unstable();
+    names.dedup();
+    Ok(names)
+}
+
+/// The names of the groups of a component, in the order of the pattern.
+fn names_of<'c>(
+    alloc: Global,
+    found: &'c UrlPatternCaptures<'_>,
+    name: ComponentName,
+) -> Result<Vec<&'c String>, AllocError>
+    ensures { IfOk result (λ names. map (λ name. text_of name.now) names.items ≡ keys_of (groups_view found.now name)) }
+{
+    let mut names = Vec::new(alloc);
+    for (group, _) in found.groups(name) {
+        names.push(group)?;
+    }
+    Ok(names)
+}
+
+/// What a group captured. `None`: it took no part.
+fn capture_of<'a>(
+    found: &UrlPatternCaptures<'a>,
+    name: ComponentName,
+    group: &str,
+) -> Option<&'a str>
+    ensures { option_copied result ≡ capture_of ((captures_view found.now name).group (chars group.now)) }
+{
+    match found.get(name, group) {
         Some(Some(capture)) => Some(capture),
         _ => None,
     }

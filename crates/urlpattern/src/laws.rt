@@ -24,6 +24,10 @@ pub use urlpattern_core::laws::{
     readings_by_callbacks_are_one, regex_answers_the_first_way, regex_refuses_no_generated_syntax,
     tokens_are_one, tokens_lose_nothing,
 };
+pub use urlpattern_engine::laws::{
+    matchers_by_pattern_regexp_answer_the_first_way, pattern_regexps_answer_as_regex_does,
+    pattern_regexps_answer_the_first_way,
+};
 pub use urlpattern_init::laws::splits_are_one;
 pub use urlpattern_pattern::laws::{
     groups_by_regex_are_of_the_first_way, groups_mean_the_parts, tests_tell_matches,

@@ -7,12 +7,11 @@
 
 pub mod laws;
 pub mod quirks;
+pub mod regexp;
 pub mod theorem;
 
 pub use urlpattern_canonical::canonicalize_and_process;
-pub use urlpattern_core::{
-    Error, RegexSyntax, component, error, matcher, parser, regexp, tokenizer,
-};
+pub use urlpattern_core::{Error, RegexSyntax, component, error, matcher, parser, tokenizer};
 pub use urlpattern_init::{Component as ComponentName, UrlPatternInit, UrlPatternMatchInput};
 pub use urlpattern_inputs::UrlPatternOptions;
 pub use urlpattern_pattern::{

@@ -11,3 +11,9 @@ look_answer answer None = None
 look_answer answer (Some looks.Matched) = Some []
 look_answer answer (Some (looks.Captured text)) = Some (Some (chars text.now) ∷ [])
 look_answer answer (Some (looks.Asks engine middle)) = answer engine.now (chars middle.now)
+
+-- it is left to an engine whether the text is matched
+abbrev pub IsAsking : {E : Type 0} → Look E → Type 0
+IsAsking looks.Matched = ⊥
+IsAsking (looks.Captured text) = ⊥
+IsAsking (looks.Asks engine middle) = Unit {0}

@@ -7,7 +7,7 @@ use Rattle.std.proofs.lemmas.Bool.{both_ways, cond_both, false≢true}
 use Rattle.std.proofs.lemmas.List.Elements.{All-cons, All-nil, All-weaker, Contains-append_left, Contains-push}
 use Rattle.std.proofs.lemmas.List.Kept.{AllPairs-cons}
 use Rattle.urlpattern_syntax.proofs.ReadingLemmas.{item_names, names-AreParts}
-use Rattle.urlpattern_syntax.proofs.TokenExamples.{literals}
+use Rattle.urlpattern_syntax.proofs.NameCharacters.{decimal_starts, name_start_no_digit, name_starts, starts_with_digit}
 use Rattle.urlpattern_syntax.specs.declared.parser.PartModifier.TheVariants as modifiers
 use Rattle.urlpattern_syntax.specs.declared.tokenizer.TokenType.{TokenType}
 use Rattle.urlpattern_syntax.specs.declared.tokenizer.TokenType.TheVariants.{Name, Regexp}
@@ -20,71 +20,6 @@ use Rattle.urlpattern_syntax.specs.Reading.{AreMet, Capture, Demand, Encoding, F
 use Rattle.urlpattern_syntax.specs.RegexpText.{group_names}
 use Rattle.urlpattern_syntax.specs.Text.{begins_with, BeginsWith, is_name_start}
 use Rattle.urlpattern_syntax.specs.Tokens.{AreTokens, IsCut, IsName, IsTokenOf, Spells, TokenView, end_of}
-
--- ---- names and numbers
-
-unfoldable pub starts_with_digit : List ℕ → Bool
-starts_with_digit name = begins_with is_ascii_digit name
-
-digit_starts_none : (k : ℕ) → k < 10 → is_name_start (48 + k) ≡ false
-unfolding literals
-digit_starts_none zero h = refl
-digit_starts_none (suc zero) h = refl
-digit_starts_none (suc (suc zero)) h = refl
-digit_starts_none (suc (suc (suc zero))) h = refl
-digit_starts_none (suc (suc (suc (suc zero)))) h = refl
-digit_starts_none (suc (suc (suc (suc (suc zero))))) h = refl
-digit_starts_none (suc (suc (suc (suc (suc (suc zero)))))) h = refl
-digit_starts_none (suc (suc (suc (suc (suc (suc (suc zero))))))) h = refl
-digit_starts_none (suc (suc (suc (suc (suc (suc (suc (suc zero)))))))) h = refl
-digit_starts_none (suc (suc (suc (suc (suc (suc (suc (suc (suc zero))))))))) h = refl
-digit_starts_none (suc (suc (suc (suc (suc (suc (suc (suc (suc (suc k)))))))))) h = absurd (omega arith)
-
-glyph_is_digit : (n : ℕ) → is_ascii_digit (digit_glyph false (n % 10)) ≡ true
-glyph_is_digit n = search rules
-
--- the digits before those that are there begin with a digit too
-onto_digit : (k n : ℕ) (ds : List ℕ) → starts_with_digit ds ≡ true → starts_with_digit (digits_onto k 10 false n ds) ≡ true
-unfolding starts_with_digit
-onto_digit zero n ds h = h
-onto_digit (suc k) n ds h =
-    cond_both (n / 10 == 0) (digit_glyph false (n % 10) ∷ ds) (digits_onto k 10 false (n / 10) (digit_glyph false (n % 10) ∷ ds)) (λ x. begins_with is_ascii_digit x ≡ true)
-    (λ _. glyph_is_digit n) (λ _. onto_digit k (n / 10) (digit_glyph false (n % 10) ∷ ds) (glyph_is_digit n))
-
-pub decimal_starts : (n : ℕ) → starts_with_digit (decimal n) ≡ true
-unfolding starts_with_digit digits
-decimal_starts n =
-    cond_both (n / 10 == 0) (digit_glyph false (n % 10) ∷ []) (digits_onto 63 10 false (n / 10) (digit_glyph false (n % 10) ∷ [])) (λ x. begins_with is_ascii_digit x ≡ true)
-    (λ _. glyph_is_digit n) (λ _. onto_digit 63 (n / 10) (digit_glyph false (n % 10) ∷ []) (glyph_is_digit n))
-
-digit_is : (c : ℕ) → is_ascii_digit c ≡ true → (48 ≤ c) × (c ≤ 57)
-digit_is c h = search rules
-
-name_start_no_digit : (c : ℕ) → is_name_start c ≡ true → is_ascii_digit c ≡ false
-name_start_no_digit c h = by_digit (is_ascii_digit c) refl
-  where
-    by_digit : (b : Bool) → is_ascii_digit c ≡ b → is_ascii_digit c ≡ false
-    by_digit false e = e
-    by_digit true e =
-        let range = digit_is c e in
-        let low = range.0 in
-        let high = range.1 in
-        let same : 48 + (c - 48) ≡ c = omega arith in
-        absurd (both_ways (is_name_start c) (subst (λ x. is_name_start x ≡ false) same (digit_starts_none (c - 48) (omega arith))) h)
-
-pub name_starts : (name : List ℕ) → IsName name → starts_with_digit name ≡ false
-unfolding starts_with_digit
-name_starts [] h = absurd h
-name_starts (c ∷ name) h = name_start_no_digit c h.0
-
--- the same, where the test is in sight
-pub decimal_digited : (n : ℕ) → begins_with is_ascii_digit (decimal n) ≡ true
-unfolding starts_with_digit
-decimal_digited n = decimal_starts n
-
-pub name_not_digited : (name : List ℕ) → IsName name → begins_with is_ascii_digit name ≡ false
-unfolding starts_with_digit
-name_not_digited name h = name_starts name h
 
 -- ---- the names that tokens and placeholders give
 

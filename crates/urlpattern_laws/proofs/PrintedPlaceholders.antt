@@ -21,7 +21,7 @@ use Rattle.urlpattern_syntax.specs.Tokens.{IsName, IsRegexpBody, TokenView}
 use Rattle.urlpattern_syntax.specs.Tokens.{Body as bodies}
 use Rattle.urlpattern_laws.specs.Printing.{has_custom_name, is_segment, printed_match, printed_name}
 use Rattle.urlpattern_laws.specs.RoundTrip.{HasFields, IsNamed, number_behind}
-use Rattle.urlpattern_laws.proofs.NameLaws.{decimal_digited, name_not_digited}
+use Rattle.urlpattern_syntax.proofs.NameCharacters.{decimal_digited, name_not_digited}
 use Rattle.urlpattern_laws.proofs.PrintedTokens.{Run, asterisk_lexed, done, mark_ends, name_lexed, next, regexp_lexed, token_at}
 
 -- ---- the wildcards

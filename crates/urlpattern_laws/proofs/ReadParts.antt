@@ -19,7 +19,8 @@ use Rattle.urlpattern_syntax.specs.RegexpText.{full_wildcard, segment_wildcard, 
 use Rattle.urlpattern_syntax.specs.Text.{begins_with, is_among}
 use Rattle.urlpattern_syntax.specs.Tokens.{AreTokens, IsCut, IsName, IsRegexpBody, IsTokenOf, Spells, TokenView, end_of}
 use Rattle.urlpattern_laws.specs.RoundTrip.{AllHaveFields, AreNamed, ArePatternParts, HasFields, IsNamed, number_behind}
-use Rattle.urlpattern_laws.proofs.NameLaws.{GivesName, NamePieces, all_piece_names, decimal_starts, name_starts, names_distinct, starts_with_digit, text_names}
+use Rattle.urlpattern_laws.proofs.NameLaws.{GivesName, NamePieces, all_piece_names, names_distinct, text_names}
+use Rattle.urlpattern_syntax.proofs.NameCharacters.{decimal_starts, name_starts, starts_with_digit}
 
 -- ---- the bodies that tokens and placeholders give
 

@@ -1,5 +1,5 @@
 -- Facts on each component, by the eight of them.
-use Rattle.std.specs.Prelude.{Option, Some, None, IfNone}
+use Rattle.std.specs.Prelude.{Option, Some, None, Result, Ok, Err, IfErr, IfNone}
 use Rattle.urlpattern_init.specs.declared.init.processing.Component.{Component}
 use Rattle.urlpattern_init.specs.declared.init.processing.Component.TheVariants.{Protocol, Username, Password, Hostname, Port, Pathname, Search, Hash}
 
@@ -16,3 +16,7 @@ each P protocol username password hostname port pathname search hash Hash = hash
 pub if_none : {A : Type 0} (P : Type 0) (x : Option A) → P → IfNone x P
 if_none P None p = p
 if_none P (Some x) p = tt
+
+pub if_err : {A B : Type 0} (P : Type 0) (result : Result A B) → P → IfErr result (λ _. P)
+if_err P (Ok x) p = tt
+if_err P (Err x) p = p

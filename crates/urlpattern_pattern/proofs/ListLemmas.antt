@@ -2,15 +2,15 @@
 use Rattle.std.proofs.Common.{◌≡◌, ℕ, List, ap, ◌∙◌, sym, subst, inr, inl, take}
 use Rattle.std.proofs.lemmas.List.{take-map}
 use Rattle.std.proofs.lemmas.List.Elements.{All-map, All-weaker}
-use Rattle.std.proofs.lemmas.Option.{slice_get-map}
+use Rattle.std.proofs.lemmas.Option.{get_or_from_slice_get, slice_get-map, slice_get_within}
 use Rattle.std.specs.Prelude.{All, IfOk, Option, Some, None, Result, Ok, Err, option_map, slice_get}
 use Rattle.urlpattern_init.specs.Inheritance.{Texts}
 use Rattle.urlpattern_init.specs.declared.init.UrlPatternMatchInput.{UrlPatternMatchInput}
 use Rattle.urlpattern_init.specs.declared.init.processing.Component.{Component}
 use Rattle.urlpattern_laws.specs.PartMeaning.{Captures}
 use Rattle.urlpattern_pattern.proofs.MatchLaws.{refused-unmatched}
-use Rattle.urlpattern_pattern.specs.FirstMatch.{IsFirstMatch, IsFirstMatchOf, patterns_view}
-use Rattle.urlpattern_pattern.specs.Match.{HasMatch, HasNoMatch, IsMatch, IsMatchOf, IsRefused, ResultView}
+use Rattle.urlpattern_pattern.specs.FirstMatch.{IsFirstMatch, IsFirstMatchOf, OneAsksAnEngine, patterns_view}
+use Rattle.urlpattern_pattern.specs.Match.{AsksAnEngine, HasMatch, HasNoMatch, IsMatch, IsMatchOf, IsRefused, ResultView}
 use Rattle.urlpattern_pattern.specs.MatchInput.{IsNoInput, input_texts}
 use Rattle.urlpattern_pattern.specs.Patterns.{PatternView, pattern_view}
 use Rattle.urlpattern_pattern.specs.declared.pattern.UrlPattern.{UrlPattern}
@@ -33,6 +33,17 @@ module _ {E : Type 0} (answer : E → List ℕ → Option Captures) (texts : Tex
     (pattern_view pattern, slice_get-map (λ pattern. pattern_view pattern) patterns index ∙ ap (option_map (λ pattern. pattern_view pattern)) is_there, is_match),
     subst (λ views. All (λ pattern. IsRefused answer pattern texts) views) (sym (take-map (λ pattern. pattern_view pattern) index patterns)) (refused-views (take index patterns) refused),
   )
+
+-- ---- when memory is asked for
+
+-- one of the patterns asks an engine where the one at an index does
+pub one_asks-views : {E : Type 0} (texts : Texts) (patterns : List (UrlPattern E)) (index : ℕ) (pattern : UrlPattern E) → slice_get patterns index ≡ Some pattern →
+    AsksAnEngine (pattern_view pattern) texts → OneAsksAnEngine (patterns_view patterns) texts
+one_asks-views texts patterns index pattern is_there asks =
+    let views = patterns_view patterns in
+    let view = pattern_view pattern in
+    let there = slice_get-map (λ pattern. pattern_view pattern) patterns index ∙ ap (option_map (λ pattern. pattern_view pattern)) is_there in
+    (index, view, slice_get_within views index view there, get_or_from_slice_get views index view view there, asks)
 
 -- ---- a first match and its result
 

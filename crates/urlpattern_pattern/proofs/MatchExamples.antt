@@ -1,15 +1,15 @@
 -- Worked examples of groups and matches.
 use Rattle.std.proofs.Common.{◌≡◌, ℕ, false, true, List, [], ◌∷◌, refl, sym, inr}
 use Rattle.std.proofs.lemmas.List.{append-nil}
-use Rattle.std.specs.Prelude.{codes, Option, Some, None, Err}
+use Rattle.std.specs.Prelude.{codes, Option, Some, None, Ok, Err}
 use Rattle.url.specs.Parts.{Parts}
 use Rattle.urlpattern_init.specs.declared.init.processing.Component.TheVariants.{Pathname}
 use Rattle.urlpattern_init.specs.declared.init.UrlPatternMatchInput.TheVariants.{Url}
 use Rattle.urlpattern_init.specs.Inheritance.{Texts, texts_of_url}
-use Rattle.urlpattern_pattern.specs.Match.{HasMatch, HasNoMatch, IsMatchOf, group_of, text_at}
+use Rattle.urlpattern_pattern.specs.Match.{AsksAnEngine, HasMatch, HasNoMatch, IsMatchOf, group_of, text_at}
 use Rattle.urlpattern_pattern.specs.Patterns.{PatternView}
 use Rattle.urlpattern_core.specs.Compiling.{ComponentView}
-use Rattle.urlpattern_laws.specs.Matching.{InnerView, Literal, SingleCapture}
+use Rattle.urlpattern_laws.specs.Matching.{InnerView, Literal, RegExp, SingleCapture}
 use Rattle.urlpattern_laws.specs.PartMeaning.{Captures}
 use Rattle.urlpattern_laws.proofs.MatchingLaws.{middle_kept}
 use Rattle.urlpattern_syntax.specs.Errors.{ErrorView as views}
@@ -96,3 +96,23 @@ wildcards_but_path-url url other =
             other (rw empty at (rw append-nil at e)),
       ),
     )
+
+-- ---- when memory is asked for
+
+-- no engine is asked by wildcards
+wildcards-ask_none : (texts : Texts) → ¬ AsksAnEngine wildcards texts
+wildcards-ask_none texts (component, (middle, cut, never)) = never
+
+-- a component with an engine between an empty prefix and an empty suffix
+abbrev engine_component : ComponentView (Unit {0})
+engine_component = record {
+  pattern_string = [];
+  regexp = Ok tt;
+  group_name_list = [];
+  matcher = record { prefix = []; suffix = []; inner = RegExp (Ok tt); ignore_case = false };
+  has_regexp_group = false;
+}
+
+-- an engine that stands alone is asked about each text
+engine_alone-asked : (texts : Texts) → AsksAnEngine (λ component. engine_component) texts
+engine_alone-asked texts = (Pathname, (text_at texts Pathname, ([], [], sym (append-nil (text_at texts Pathname)), refl, refl), tt))

@@ -9,8 +9,9 @@ use Rattle.urlpattern_init.specs.declared.init.processing.Component.TheVariants.
 use Rattle.urlpattern_pattern.specs.declared.pattern.eight.Eight.{Eight}
 use Rattle.urlpattern_pattern.specs.declared.pattern.captures.Captured.{Captured}
 use Rattle.urlpattern_pattern.specs.declared.pattern.captures.Captured.TheVariants as captured
+use Rattle.urlpattern_pattern.specs.declared.pattern.result.UrlPatternResult.{UrlPatternResult}
 use Rattle.urlpattern_init.specs.Inheritance.{Texts}
-use Rattle.urlpattern_pattern.specs.Match.{ResultView, group_in, group_of, text_at}
+use Rattle.urlpattern_pattern.specs.Match.{ResultView, group_in, group_of, result_view, text_at}
 use Rattle.urlpattern_core.specs.Captured.{capture_view}
 use Rattle.urlpattern_laws.specs.PartMeaning.{Captures}
 
@@ -47,6 +48,14 @@ captures_of (captured.Groups captures) = map capture_view captures.items
 -- the map has the groups of these names, which capture this, and no others
 abbrev pub AreGroups : {S : Type 0} → (names : List (List ℕ)) → Captures → HashMap (String Global) (Option (String Global)) S → Type 0
 AreGroups names captures groups = (name : List ℕ) → group_in groups name ≡ group_of names captures name
+
+-- the map has no groups
+abbrev pub HasNoGroups : {S : Type 0} → HashMap (String Global) (Option (String Global)) S → Type 0
+HasNoGroups groups = (name : List ℕ) → group_in groups name ≡ None
+
+-- no component of the result has groups
+abbrev pub IsWithoutGroups : UrlPatternResult → Type 0
+IsWithoutGroups result = (component : Component) (name : List ℕ) → (result_view result component).group name ≡ None
 
 -- texts beside groups, as results
 abbrev pub results_of : {S : Type 0} → Texts → Eight (HashMap (String Global) (Option (String Global)) S) → Component → ResultView

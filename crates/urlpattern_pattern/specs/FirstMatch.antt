@@ -1,5 +1,5 @@
 -- What the first match of a list of patterns is.
-use Rattle.std.specs.Prelude.{◌≡◌, ℕ, List, map, take, All, Option, Some, None, option_map, slice_get}
+use Rattle.std.specs.Prelude.{◌≡◌, ℕ, List, map, take, All, Any, Option, Some, None, option_map, slice_get}
 use Rattle.urlpattern_init.specs.declared.init.UrlPatternMatchInput.{UrlPatternMatchInput}
 use Rattle.urlpattern_init.specs.declared.init.processing.Component.{Component}
 use Rattle.urlpattern_init.specs.Inheritance.{Texts}
@@ -7,7 +7,7 @@ use Rattle.urlpattern_pattern.specs.declared.pattern.UrlPattern.{UrlPattern}
 use Rattle.urlpattern_pattern.specs.declared.pattern.captures.UrlPatternCaptures.{UrlPatternCaptures}
 use Rattle.urlpattern_pattern.specs.declared.pattern.result.UrlPatternResult.{UrlPatternResult}
 use Rattle.urlpattern_pattern.specs.Captures.{captures_view}
-use Rattle.urlpattern_pattern.specs.Match.{HasMatch, HasNoMatch, IsMatch, IsMatchOf, IsRefused, ResultView, result_view}
+use Rattle.urlpattern_pattern.specs.Match.{AsksAnEngine, HasMatch, HasNoMatch, IsMatch, IsMatchOf, IsRefused, ResultView, result_view}
 use Rattle.urlpattern_pattern.specs.Patterns.{PatternView, pattern_view}
 use Rattle.urlpattern_laws.specs.PartMeaning.{Captures}
 
@@ -39,3 +39,7 @@ IsFirstMatchOf {E} answer patterns texts (Some first) =
     ((pattern : PatternView E) × (slice_get patterns first.0 ≡ Some pattern) × IsMatchOf answer pattern texts first.1)
     × All (λ earlier. IsRefused answer earlier texts) (take first.0 patterns)
 IsFirstMatchOf answer patterns texts None = All (λ pattern. IsRefused answer pattern texts) patterns
+
+-- one of the patterns asks an engine about eight texts
+abbrev pub OneAsksAnEngine : {E : Type 0} → List (PatternView E) → Texts → Type 0
+OneAsksAnEngine patterns texts = Any (λ pattern. AsksAnEngine pattern texts) patterns

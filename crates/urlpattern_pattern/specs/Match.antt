@@ -13,7 +13,7 @@ use Rattle.urlpattern_init.specs.Inheritance.{Texts}
 use Rattle.urlpattern_pattern.specs.MatchInput.{IsNoInput, input_bytes, input_texts}
 use Rattle.urlpattern_pattern.specs.Patterns.{PatternView}
 use Rattle.urlpattern_canonical.specs.Canonical.{long_text}
-use Rattle.urlpattern_laws.specs.Matching.{Answers, IsMatched}
+use Rattle.urlpattern_laws.specs.Matching.{Answers, AsksEngine, IsMatched}
 use Rattle.urlpattern_laws.specs.PartMeaning.{Captures}
 use Rattle.urlpattern_syntax.specs.Text.{text_of}
 
@@ -99,6 +99,12 @@ HasMatch answer pattern input = (texts : Texts) × (input_texts input ≡ Ok tex
 abbrev pub HasNoMatch : {E : Type 0} → (answer : E → List ℕ → Option Captures) → PatternView E → UrlPatternMatchInput → Type 0
 HasNoMatch answer pattern input =
     IsNoInput input ⊎ ((texts : Texts) × (input_texts input ≡ Ok texts) × IsRefused answer pattern texts)
+
+-- ---- when memory is asked for
+
+-- an engine is asked: between prefix and suffix of a component's text
+abbrev pub AsksAnEngine : {E : Type 0} → PatternView E → Texts → Type 0
+AsksAnEngine pattern texts = (component : Component) × AsksEngine (pattern component).matcher (text_at texts component)
 
 -- ---- words of laws
 

@@ -5,9 +5,10 @@
 ghost use Rattle.std.specs.Iterator.Adapters.{IterYieldsInOrder};
 ghost use Rattle.std.specs.Prelude.{◌≡◌, ◌==◌, ◌++◌, [], ◌∷◌, length, map, option_copied, option_map, slice_get, IfErr, IfOk, OnErr, OnOk};
 ghost use Rattle.std.specs.Slice.Iter.{iter_rest};
+ghost use Rattle.urlpattern_init.specs.Inheritance.{texts_of_url};
 ghost use Rattle.urlpattern_init.specs.declared.init.UrlPatternMatchInput.TheVariants as inputs;
 ghost use Rattle.urlpattern_pattern.specs.Eight.{borrowed_texts, results_of};
-ghost use Rattle.urlpattern_pattern.specs.FirstMatch.{first_captures_view, first_view, patterns_view, IsFirstMatch, IsFirstMatchOf};
+ghost use Rattle.urlpattern_pattern.specs.FirstMatch.{first_captures_view, first_view, patterns_view, IsFirstMatch, IsFirstMatchOf, OneAsksAnEngine};
 ghost use Rattle.urlpattern_pattern.specs.MatchInput.{texts_view};
 ghost use Rattle.urlpattern_pattern.specs.declared.pattern.UrlPattern.{UrlPattern};
 ghost use Rattle.urlpattern_syntax.specs.declared.error.Error.TheVariants as errors;
@@ -127,6 +128,7 @@ impl<R: RegExp> UrlPatternList<R> {
     ) -> Result<Option<(usize, UrlPatternCaptures<'a>)>, Error>
         ensures first { IfOk result (λ found. IsFirstMatch R.answer (patterns_view self.now) (inputs.Url url.now) (first_captures_view found)) }
         ensures memory { IfErr result (λ error. error ≡ errors.OutOfMemory) }
+        ensures asked { IfErr result (λ _. OneAsksAnEngine (patterns_view self.now) (texts_of_url url.now)) }
     {
         self.first(alloc, Eight::of_url(url))
     }
@@ -142,6 +144,7 @@ impl<R: RegExp> UrlPatternList<R> {
     ) -> Result<Option<(usize, UrlPatternCaptures<'a>)>, Error>
         ensures first { IfOk result (λ found. IsFirstMatchOf R.answer (patterns_view self.now) (texts_view input.now) (first_captures_view found)) }
         ensures memory { IfErr result (λ error. error ≡ errors.OutOfMemory) }
+        ensures asked { IfErr result (λ _. OneAsksAnEngine (patterns_view self.now) (texts_view input.now)) }
     {
         self.first(alloc, Eight::of_input(input))
     }
@@ -157,9 +160,11 @@ impl<R: RegExp> UrlPatternList<R> {
     {
         match self.first_captures(alloc, url)? {
             Some((index, captures)) => {
-                let result = captures.to_result(alloc);
+                let mut result = UrlPatternResult::empty(alloc);
+                let copied = captures.copy_to(alloc, &mut result);
                 drop(captures);
-                Ok(Some((index, result?)))
+                copied?;
+                Ok(Some((index, result)))
             }
             None => Ok(None),
         }
@@ -213,6 +218,7 @@ impl<R: RegExp> UrlPatternList<R> {
     ) -> Result<Option<(usize, UrlPatternCaptures<'a>)>, Error>
         ensures first { IfOk result (λ found. IsFirstMatchOf R.answer (patterns_view self.now) (borrowed_texts texts.entry) (first_captures_view found)) }
         ensures memory { IfErr result (λ error. error ≡ errors.OutOfMemory) }
+        ensures asked { IfErr result (λ _. OneAsksAnEngine (patterns_view self.now) (borrowed_texts texts.entry)) }
     {
         for (index, pattern) in self.patterns.iter().enumerate() {
             if let Some(captures) = pattern.captured(alloc, &texts)? {

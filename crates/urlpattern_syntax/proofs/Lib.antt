@@ -1,6 +1,7 @@
 pub mod StringTexts
 pub mod Escaped
 pub mod TextLemmas
+pub mod ComparedTexts
 pub mod BodyLemmas
 pub mod PieceLemmas
 pub mod PiecesExist
@@ -8,7 +9,11 @@ pub mod ReadingLemmas
 pub mod PartListLemmas
 pub mod TokenLemmas
 pub mod ReaderLemmas
+pub mod CharacterLemmas
 pub mod TextReadingLemmas
+pub mod NameCharacters
+pub mod NameSets
+pub mod GivenNameLemmas
 pub mod ErrorTextExamples
 pub mod RegexpTextExamples
 pub mod TokenExamples

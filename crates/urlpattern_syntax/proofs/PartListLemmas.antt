@@ -1,13 +1,18 @@
 -- Lemmas on reading a list of tokens piece by piece: what is read so far, one more piece, and the end.
-use Rattle.std.proofs.Common.{◌≡◌, ℕ, ◌+◌, ◌≤◌, List, [], ◌∷◌, ◌++◌, Option, Some, None, refl, sym, ap, ◌∙◌, subst, inl, append_assoc, arith}
+use Rattle.std.proofs.Common.{◌≡◌, ℕ, ◌+◌, ◌≤◌, List, [], ◌∷◌, ◌++◌, false, Option, Some, None, refl, sym, ap, ◌∙◌, subst, inl, append_assoc, arith}
 use Rattle.urlpattern_syntax.specs.declared.error.Error.{Error}
 use Rattle.urlpattern_syntax.specs.declared.parser.PartModifier.TheVariants as modifiers
-use Rattle.urlpattern_syntax.specs.declared.tokenizer.TokenType.TheVariants.{Close, End}
+use Rattle.std.specs.Prelude.{IsTrue}
+use Rattle.std.specs.List.{list_all}
+use Rattle.std.proofs.lemmas.Bool.{and_parts, both_ways}
+use Rattle.std.proofs.lemmas.List.{append-nil}
+use Rattle.urlpattern_syntax.specs.declared.tokenizer.TokenType.{TokenType}
+use Rattle.urlpattern_syntax.specs.declared.tokenizer.TokenType.TheVariants.{Asterisk, Char, Close, End, EscapedChar, InvalidChar, Name, Open, OtherModifier, Regexp}
 use Rattle.urlpattern_syntax.specs.Errors.{ErrorView}
 use Rattle.urlpattern_syntax.specs.Errors.{ErrorView as error_views}
 use Rattle.urlpattern_syntax.specs.Options.{OptionsView}
-use Rattle.urlpattern_syntax.specs.Parsing.{AddsItem, AddsParts, FailsItem, FailsTokens, IsTokenList, MemoryOr, PartListView, ReadsTokens, item_demands, pending_items}
-use Rattle.urlpattern_syntax.specs.Pieces.{ArePieces, Ending, IsEnding, IsPiece, Piece}
+use Rattle.urlpattern_syntax.specs.Parsing.{AddsItem, AddsParts, FailsItem, FailsTokens, IsTokenList, MemoryOr, PartListView, ReadsTokens, item_demands, joined_values, pending_items}
+use Rattle.urlpattern_syntax.specs.Pieces.{ArePieces, BeginsWithKind, Ending, IsEnding, IsPiece, Piece, is_placeholder, is_text}
 use Rattle.urlpattern_syntax.specs.Pieces.{Ending as endings, Piece as kinds_of_piece}
 use Rattle.urlpattern_syntax.specs.Reading.{AreMet, AreParts, Capture, Encoding, Expect, FirstFails, Fixed, Item, demands, demands_after, encode_fixed, item, items_from, items_of, joined_items, next_number, number_after, with_text}
 use Rattle.urlpattern_syntax.specs.RegexpText.{group_names}
@@ -181,3 +186,37 @@ module _ (options : OptionsView) (encoding : Encoding) (tokens rest : List Token
       MemoryOr-weaker (λ view. view ≡ error_views.ExpectedToken Close found.kind found.value) (FailsTokens tokens options encoding) error
       (λ view e. fails_behind [] (endings.LacksClose found) (pending_items old.pending) view is_ending (with_text-nil old.pending)
       (subst (λ x. FirstFails encoding x view) (sym (demands-lacking (item_names r.items) old.pending found)) (inl (is_ending.6, e)))) h
+
+-- ---- a row of characters
+
+text_no_placeholder : (kind : TokenType) → IsTrue (is_text kind) → is_placeholder kind ≡ false
+text_no_placeholder Char h = refl
+text_no_placeholder EscapedChar h = refl
+text_no_placeholder Open h = refl
+text_no_placeholder Close h = refl
+text_no_placeholder OtherModifier h = refl
+text_no_placeholder End h = refl
+text_no_placeholder InvalidChar h = refl
+text_no_placeholder Regexp h = absurd (both_ways false refl h)
+text_no_placeholder Name h = absurd (both_ways false refl h)
+text_no_placeholder Asterisk h = absurd (both_ways false refl h)
+
+no_placeholder : (tokens : List TokenView) → BeginsWithKind is_text tokens → ¬ BeginsWithKind is_placeholder tokens
+no_placeholder [] h g = g
+no_placeholder (token ∷ tokens) h g = both_ways (is_placeholder token.kind) (text_no_placeholder token.kind h) g
+
+row_goes_on : (row behind : List TokenView) → IsTrue (list_all (λ (token : TokenView). is_text token.kind) row) → BeginsWithKind is_text behind → BeginsWithKind is_text (row ++ behind)
+row_goes_on [] behind h g = g
+row_goes_on (token ∷ row) behind h g = (and_parts _ _ h).0
+
+pub reads_row : (options : OptionsView) (encoding : Encoding) (tokens row behind : List TokenView) (old new : PartListView) → HasRead options encoding tokens (row ++ behind) old →
+    IsTrue (list_all (λ (token : TokenView). is_text token.kind) row) → BeginsWithKind is_text behind → new.parts ≡ old.parts → new.number ≡ old.number → new.pending ≡ old.pending ++ joined_values row → HasRead options encoding tokens behind new
+reads_row options encoding tokens [] behind old new read texts next parts number pending =
+    let same : old ≡ new = λ i. record { parts = sym parts i; pending = sym (pending ∙ append-nil old.pending) i; number = sym number i } in
+    subst (HasRead options encoding tokens behind) same read
+reads_row options encoding tokens (token ∷ row) behind old new read texts next parts number pending =
+    let both = and_parts _ _ texts in
+    let mid : PartListView = record { parts = old.parts; pending = old.pending ++ token.value; number = old.number } in
+    let first = reads_piece options encoding tokens (token ∷ row ++ behind) old read (token ∷ []) (row ++ behind) (kinds_of_piece.Text token.value) refl
+    (token, refl, both.0, refl, λ k v. no_placeholder (row ++ behind) (row_goes_on row behind both.1 next)) mid refl (refl, refl) in
+    reads_row options encoding tokens row behind mid new first both.1 next parts number (pending ∙ sym (append_assoc old.pending token.value (joined_values row)))

@@ -9,16 +9,17 @@ use Rattle.urlpattern_syntax.specs.declared.parser.pieces.Reader.{Reader}
 use Rattle.urlpattern_syntax.specs.declared.tokenizer.TokenType.{TokenType}
 use Rattle.urlpattern_syntax.specs.declared.tokenizer.TokenType.TheVariants.{Asterisk, Char, Close, End, EscapedChar, InvalidChar, Name, Open, OtherModifier, Regexp}
 use Rattle.urlpattern_syntax.specs.Cursors.{AreTokensAfter, IsPlace, IsTokenAfter, tokens_left}
-use Rattle.urlpattern_syntax.specs.Parsing.{Gives, IsModifierSpelled, IsShorter, Stands, StartsText, Takes, reader_left, reader_text}
+use Rattle.urlpattern_syntax.specs.Parsing.{Gives, IsModifierSpelled, IsNameSpelled, IsShorter, Stands, StartsText, Takes, reader_left, reader_text}
 use Rattle.urlpattern_syntax.specs.Text.{BeginsAt, BeginsWith, byte_len}
 use Rattle.urlpattern_syntax.specs.Tokens.{AreTokens, IsCut, IsLexed, IsTokenOf, Skips, Spells, TellsFault, TokenView, is_ignored, token_view}
+use Rattle.urlpattern_syntax.proofs.NameCharacters.{name_given}
 use Rattle.urlpattern_syntax.proofs.PieceLemmas.{IsTokenList-more, are_token_list_after, spelled_kind, spelled_modifier}
 use Rattle.urlpattern_syntax.proofs.TextLemmas.{byte_len-append, byte_len-chars}
 use Rattle.urlpattern_syntax.proofs.TokenLemmas.{IsCut-more, IsLexed-shorter, SkipsBy-joined, SkipsBy-none}
 
 -- ---- places
 
-cut_shorter : (whole text left : List ℕ) (tokens : List TokenView) → IsCut (IsTokenOf whole) text tokens left → byte_len left ≤ byte_len text
+pub cut_shorter : (whole text left : List ℕ) (tokens : List TokenView) → IsCut (IsTokenOf whole) text tokens left → byte_len left ≤ byte_len text
 cut_shorter whole text left [] h =
     let e = ap byte_len h.1 ∙ byte_len-append h.0 left in
     omega (arith, e)
@@ -115,7 +116,11 @@ pub mark_after : (whole rest next : List ℕ) (token : TokenView) → IsTokenAft
 mark_after whole rest next token (inl h) e = absurd (let k = ap (λ (x : TokenView). x.kind) h.1 in cc (k, e))
 mark_after whole rest next token (inr h) e = spelled_modifier token h.1.lexed.spelling h.1.lexed.spells e
 
-one_left : (kind : TokenType) → kind ≢ End → tokens_left kind ≡ 1
+pub name_after : (whole rest next : List ℕ) (token : TokenView) → IsTokenAfter whole rest token next → IsNameSpelled token
+name_after whole rest next token (inl h) e = absurd (let k = ap (λ (x : TokenView). x.kind) h.1 in cc (k, e))
+name_after whole rest next token (inr h) e = name_given token.value (subst (λ kind. Spells kind token.value h.1.lexed.spelling) e h.1.lexed.spells).1
+
+pub one_left : (kind : TokenType) → kind ≢ End → tokens_left kind ≡ 1
 one_left End h = absurd (h refl)
 one_left Open h = refl
 one_left Close h = refl
@@ -163,6 +168,7 @@ module _ (old new : Reader) (whole : new.cursor.input.now ≡ old.cursor.input.n
     stands = record {
       place = subst (λ text. IsPlace text (chars new.cursor.rest.now)) (sym (ap chars whole)) place;
       mark = mark_after (reader_text old) (chars old.cursor.rest.now) (chars new.cursor.rest.now) (token_view new.token) after;
+      name = name_after (reader_text old) (chars old.cursor.rest.now) (chars new.cursor.rest.now) (token_view new.token) after;
     };
     left =
         let one = one_left old.token.kind other in
@@ -229,6 +235,7 @@ starts text reader rest whole place skips after = record {
   stands = record {
     place = subst (λ x. IsPlace x (chars reader.cursor.rest.now)) (sym whole) place;
     mark = mark_after text rest (chars reader.cursor.rest.now) (token_view reader.token) after;
+    name = name_after text rest (chars reader.cursor.rest.now) (token_view reader.token) after;
   };
   all = λ tokens g.
       tokens_first text rest tokens skips
@@ -243,5 +250,6 @@ shorter_if (Ok next) new old h = by_next next
   where
     by_next : (next : Next) → IsShorter new old next
     by_next (nexts.Piece piece) = h
+    by_next (nexts.Characters first more) = h
     by_next nexts.Stops = tt
     by_next nexts.LacksClose = tt

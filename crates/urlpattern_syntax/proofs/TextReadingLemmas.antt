@@ -1,5 +1,5 @@
 -- Lemmas on reading a text piece by piece, whatever tokens are left of it.
-use Rattle.std.proofs.Common.{◌≡◌, ◌⊎◌, ℕ, List, [], ◌∷◌, ◌++◌, refl, sym, ◌∙◌, subst, inl, inr}
+use Rattle.std.proofs.Common.{◌≡◌, ◌⊎◌, ℕ, List, [], ◌∷◌, ◌++◌, refl, sym, ap, ◌∙◌, subst, inl, inr}
 use Rattle.urlpattern_syntax.specs.declared.error.Error.{Error}
 use Rattle.urlpattern_syntax.specs.declared.error.Error.TheVariants as errors
 use Rattle.urlpattern_syntax.specs.declared.parser.pieces.Reader.{Reader}
@@ -7,12 +7,12 @@ use Rattle.urlpattern_syntax.specs.declared.tokenizer.TokenType.TheVariants.{Clo
 use Rattle.urlpattern_syntax.specs.Errors.{ErrorView, error_view}
 use Rattle.urlpattern_syntax.specs.Errors.{ErrorView as error_views}
 use Rattle.urlpattern_syntax.specs.Options.{OptionsView}
-use Rattle.urlpattern_syntax.specs.Parsing.{AddsItem, AddsParts, BeginsWithPiece, EndsAt, FailsItem, FailsTokens, FaultOr, Gives, MemoryOr, PartListView, ReadsTokens, StartsText, Takes, pending_items, reader_text}
+use Rattle.urlpattern_syntax.specs.Parsing.{AddsItem, AddsParts, BeginsWithPiece, BeginsWithRow, EndsAt, FailsItem, FailsTokens, FaultOr, Gives, MemoryOr, PartListView, ReadsTokens, StartsText, Takes, pending_items, reader_text}
 use Rattle.urlpattern_syntax.specs.Pieces.{IsEnding, Piece}
 use Rattle.urlpattern_syntax.specs.Pieces.{Ending as endings}
 use Rattle.urlpattern_syntax.specs.Reading.{Encoding, Expect, FirstFails, Reads, Refuses, encode_fixed, item, number_after}
 use Rattle.urlpattern_syntax.specs.Tokens.{AreTokens, TellsFault, TokenView, fault_view, token_view}
-use Rattle.urlpattern_syntax.proofs.PartListLemmas.{HasRead, fails_end, fails_open, fails_piece, nothing_read, reads_end, reads_piece}
+use Rattle.urlpattern_syntax.proofs.PartListLemmas.{HasRead, fails_end, fails_open, fails_piece, nothing_read, reads_end, reads_piece, reads_row}
 use Rattle.urlpattern_syntax.proofs.ReadingLemmas.{MemoryOr-weaker}
 
 -- a fault that is told is a refusal
@@ -54,6 +54,18 @@ module _ (options : OptionsView) (encoding : Encoding) (text : List ℕ) where
         let t = takes.gives rest g in
         let r = read t.0 t.1 in
         (r.0, r.1, reads_piece options encoding r.0 t.0 list r.2 t.2.0 rest piece t.2.1 t.2.2 next number added)
+
+    -- a row of characters more
+    pub row_read : (characters : List ℕ) (next : PartListView) → Takes old new (λ tokens rest. BeginsWithRow tokens characters rest) → next.parts ≡ list.parts → next.number ≡ list.number → next.pending ≡ list.pending ++ characters → HasReadUpTo options encoding text new next
+    row_read characters next takes parts number pending rest g =
+        let t = takes.gives rest g in
+        let r = read t.0 t.1 in
+        let row = t.2 in (
+          r.0,
+          r.1,
+          reads_row options encoding r.0 row.row rest list next (subst (λ x. HasRead options encoding r.0 x list) row.cut r.2) row.are_texts.0 row.goes_on parts number
+              (pending ∙ ap (λ x. list.pending ++ x) row.are_texts.1),
+        )
 
     -- a piece that is not added
     pub piece_fails : (piece : Piece) (error other : Error) → Takes old new (λ tokens rest. BeginsWithPiece options.prefix tokens piece rest) → FailsItem encoding list (item list.number piece) error → reader_text new ≡ text → FaultOr new (λ view. view ≡ error_view error) other → MemoryOr (Refuses text options encoding) other

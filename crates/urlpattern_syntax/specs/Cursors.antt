@@ -1,9 +1,10 @@
 -- Strict tokens that are read one by one, and where the reading is. No public contract cites these words.
-use Rattle.std.specs.Prelude.{◌≡◌, ℕ, ◌⊎◌, List, [], ◌∷◌, ◌++◌}
+use Rattle.std.specs.Prelude.{◌≡◌, ℕ, ◌⊎◌, ◌&&◌, not, Bool, IsTrue, List, [], ◌∷◌, ◌++◌}
+use Rattle.std.specs.List.{list_all}
 use Rattle.urlpattern_syntax.specs.declared.tokenizer.TokenType.{TokenType}
 use Rattle.urlpattern_syntax.specs.declared.tokenizer.TokenType.TheVariants.{End}
-use Rattle.urlpattern_syntax.specs.Text.{BeginsWith}
-use Rattle.urlpattern_syntax.specs.Tokens.{IsCut, IsStrictCut, IsTokenOf, Skips, TokenView, end_of, is_ignored}
+use Rattle.urlpattern_syntax.specs.Text.{BeginsWith, is_among}
+use Rattle.urlpattern_syntax.specs.Tokens.{IsCut, IsStrictCut, IsTokenOf, Skips, TokenView, end_of, is_ignored, marks}
 
 -- the whole text is cut into strict tokens up to this rest of it, and nothing is skipped where that begins
 pub record IsPlace (whole rest : List ℕ) : Type 0 where
@@ -27,3 +28,13 @@ IsTokenAfter whole rest token next =
 abbrev pub tokens_left : TokenType → ℕ
 tokens_left End = 0
 tokens_left kind = 1
+
+-- the character is a token by itself
+abbrev pub stands_for_itself : ℕ → Bool
+stands_for_itself c = not (is_among marks c) && not (is_ignored c)
+
+-- the rest begins with these characters, which stand for themselves, as the first does that follows them
+pub record AreCharactersBefore (rest characters next : List ℕ) : Type 0 where
+  pub cut : rest ≡ characters ++ next
+  pub stand : IsTrue (list_all stands_for_itself characters)
+  pub more : (characters ≡ []) ⊎ BeginsWith stands_for_itself next

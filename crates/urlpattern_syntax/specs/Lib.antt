@@ -1,6 +1,7 @@
 pub mod Cursors
 pub mod ErrorText
 pub mod Errors
+pub mod GivenNames
 pub mod Options
 pub mod Parsing
 pub mod Parts

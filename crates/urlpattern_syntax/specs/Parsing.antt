@@ -1,7 +1,7 @@
--- Words of the private contracts of the parser. No public contract cites them.
-use Rattle.std.specs.Prelude.{◌≡◌, ◌≢◌, ◌<◌, ◌≤◌, ◌+◌, ℕ, ◌⊎◌, List, [], ◌∷◌, ◌++◌, length, map, codes, Option, option_map}
+-- Words of the private contracts of the parser. Of them a public contract cites `MemoryOr` alone, which is passed on.
+use Rattle.std.specs.Prelude.{◌≡◌, ◌≢◌, ◌<◌, ◌≤◌, ◌+◌, ℕ, ◌⊎◌, List, [], ◌∷◌, ◌++◌, length, map, codes, decimal, Contains, IsTrue, ◌^◌, Option, Some, None, option_map, ◌↔◌}
 use Rattle.std.specs.List.{flat_map}
-use Rattle.std.specs.Str.{chars}
+use Rattle.std.specs.Str.{chars, IsUtf8}
 use Rattle.std.specs.Borrow.{Bor}
 use Rattle.urlpattern_syntax.specs.declared.parser.pieces.Matched.{Matched as MatchedValue}
 use Rattle.urlpattern_syntax.specs.declared.parser.pieces.Matched.TheVariants as matched_values
@@ -14,7 +14,7 @@ use Rattle.urlpattern_syntax.specs.declared.parser.pieces.Piece.TheVariants as p
 use Rattle.urlpattern_syntax.specs.declared.tokenizer.Token.{Token}
 use Rattle.urlpattern_syntax.specs.declared.parser.pieces.Reader.{Reader}
 use Rattle.urlpattern_syntax.specs.declared.tokenizer.TokenType.{TokenType}
-use Rattle.urlpattern_syntax.specs.declared.tokenizer.TokenType.TheVariants.{Close, OtherModifier, End}
+use Rattle.urlpattern_syntax.specs.declared.tokenizer.TokenType.TheVariants.{Close, Name, OtherModifier, End}
 use Rattle.urlpattern_syntax.specs.declared.error.Error.{Error}
 use Rattle.urlpattern_syntax.specs.declared.parser.PartList.{PartList}
 use Rattle.urlpattern_syntax.specs.declared.parser.PartModifier.TheVariants as modifiers
@@ -22,10 +22,12 @@ use Rattle.urlpattern_syntax.specs.Cursors.{AreTokensAfter, IsPlace, tokens_left
 use Rattle.urlpattern_syntax.specs.Errors.{ErrorView, error_view}
 pub use Rattle.urlpattern_syntax.specs.Errors.{MemoryOr}
 use Rattle.urlpattern_syntax.specs.Errors.{ErrorView as error_views}
+use Rattle.urlpattern_syntax.specs.declared.parser.given_names.GivenNames.{GivenNames}
+use Rattle.urlpattern_syntax.specs.GivenNames.{has_name}
 use Rattle.urlpattern_syntax.specs.Options.{OptionsView}
 use Rattle.urlpattern_syntax.specs.Parts.{PartView, part_view}
 use Rattle.urlpattern_syntax.specs.RegexpText.{group_names}
-use Rattle.urlpattern_syntax.specs.Text.{text_of}
+use Rattle.urlpattern_syntax.specs.Text.{BeginsWith, is_name_start, text_of}
 use Rattle.urlpattern_syntax.specs.Pieces.{ArePieces, Piece, Placeholder, Matched, Ending, IsPiece, IsEnding, IsPlaceholderOf, IsModifier, TakesModifier, TakesRegexp, AreTexts, BeginsWithKind, is_text}
 use Rattle.urlpattern_syntax.specs.Pieces.{Matched as matched, Ending as endings, Piece as pieces}
 use Rattle.urlpattern_syntax.specs.Reading.{demands, items_of, AreMet, AreParts, Demand, Encode, Encoding, FirstFails, Item, Fixed, Capture, NewName, encode_fixed, name_or}
@@ -46,6 +48,14 @@ BeginsWithToken kind (token ∷ tokens) = token.kind ≡ kind
 -- a modifier is spelled as one
 abbrev pub IsModifierSpelled : TokenView → Type 0
 IsModifierSpelled token = token.kind ≡ OtherModifier → (token.value ≡ codes "+") ⊎ (token.value ≡ codes "?")
+
+-- a name that a pattern gives, which begins as no number does
+abbrev pub IsGiven : List ℕ → Type 0
+IsGiven name = BeginsWith is_name_start name
+
+-- the value of a Name is such a name
+abbrev pub IsNameSpelled : TokenView → Type 0
+IsNameSpelled token = token.kind ≡ Name → IsGiven token.value
 
 -- tokens of which End is the last and only the last
 abbrev pub IsTokenList : List TokenView → Type 0
@@ -91,6 +101,7 @@ pub record Gives (reader : Reader) (tokens : List TokenView) : Type 0 where
 pub record Stands (reader : Reader) : Type 0 where
   pub place : IsPlace (reader_text reader) (chars reader.cursor.rest.now)
   pub mark : IsModifierSpelled (token_view reader.token)
+  pub name : IsNameSpelled (token_view reader.token)
 
 -- what is left after the taking (`rest`) is so related to what was left before it (`tokens`)
 pub record Takes (old new : Reader) (Is : (tokens rest : List TokenView) → Type 0) : Type 0 where
@@ -130,6 +141,35 @@ abbrev pub group_item : (before : List ℕ) → PlaceholderValue → (after : Li
 group_item before value after modifier number =
     Capture before (name_or (name_view value.name) number) (matched_view value.matched) after modifier
 
+-- the name, if there is one, is one that a pattern gives
+abbrev pub IsNamed : Option (List ℕ) → Type 0
+IsNamed None = Unit {0}
+IsNamed (Some name) = IsGiven name
+
+abbrev pub IsPieceNamed : Piece → Type 0
+IsPieceNamed (pieces.Bare prefix placeholder modifier) = IsNamed placeholder.name
+IsPieceNamed (pieces.Group before placeholder after modifier) = IsNamed placeholder.name
+IsPieceNamed other = Unit {0}
+
+abbrev pub IsNextNamed : Next → Type 0
+IsNextNamed (nexts.Piece piece) = IsPieceNamed (piece_view piece)
+IsNextNamed other = Unit {0}
+
+-- the tokens begin with a character and then with more of them (`more`), of which there is none or another one follows
+pub record IsRow (tokens : List TokenView) (first : TokenView) (more : List ℕ) (rest : List TokenView) : Type 0 where
+  pub row : List TokenView
+  pub cut : tokens ≡ first ∷ row ++ rest
+  pub are_texts : AreTexts row more
+  pub none : more ≡ [] → row ≡ []
+  pub goes_on : (more ≡ []) ⊎ BeginsWithKind is_text rest
+
+-- the tokens begin with these texts, and another one follows
+pub record BeginsWithRow (tokens : List TokenView) (text : List ℕ) (rest : List TokenView) : Type 0 where
+  pub row : List TokenView
+  pub cut : tokens ≡ row ++ rest
+  pub are_texts : AreTexts row text
+  pub goes_on : BeginsWithKind is_text rest
+
 -- the tokens begin with these texts, and no text follows them
 pub record BeginsWithTexts (tokens : List TokenView) (text : List ℕ) (rest : List TokenView) : Type 0 where
   pub front : List TokenView
@@ -156,12 +196,14 @@ EndsAt tokens ending rest = (found : TokenView) × (more : List TokenView) × (r
 -- the next piece of tokens, or how they end
 abbrev pub IsNext : (point : List ℕ) → (tokens : List TokenView) → Next → (rest : List TokenView) → Type 0
 IsNext point tokens (nexts.Piece piece) rest = BeginsWithPiece point tokens (piece_view piece) rest
+IsNext point tokens (nexts.Characters first more) rest = BeginsWithRow tokens (chars first.now ++ chars more.now) rest
 IsNext point tokens nexts.Stops rest = EndsAt tokens endings.Stops rest
 IsNext point tokens nexts.LacksClose rest = EndsAt tokens endings.LacksClose rest
 
--- a piece leaves less
+-- what is taken leaves less
 abbrev pub IsShorter : (new old : ℕ) → Next → Type 0
 IsShorter new old (nexts.Piece piece) = new < old
+IsShorter new old (nexts.Characters first more) = new < old
 IsShorter new old other = Unit {0}
 
 -- ---- what is read so far
@@ -174,6 +216,14 @@ pub record PartListView : Type 0 where
 
 abbrev pub part_list_view : PartList → PartListView
 part_list_view list = record { parts = map part_view list.parts.items; pending = text_of list.pending_fixed_value; number = list.next_numeric_name }
+
+-- these are the names so far: those that the pattern gives are kept, and the others are numbers below this one
+pub record KnowsNames (names : List (List ℕ)) (given : GivenNames) (number : ℕ) : Type 0 where
+  pub named : (name : List ℕ) → IsUtf8 name → IsGiven (chars name) → Contains names (chars name) ↔ IsTrue (has_name given name)
+  pub numbered : (other : ℕ) → number ≤ other → other < 2 ^ 64 → ¬ Contains names (decimal other)
+
+abbrev pub KnowsItsNames : PartList → Type 0
+KnowsItsNames list = KnowsNames (group_names (part_list_view list).parts) list.given_names list.next_numeric_name
 
 -- the demands of items, where more may follow them
 abbrev pub item_demands : List (List ℕ) → List Item → List Demand

@@ -1,11 +1,13 @@
 -- Texts that are written piece by piece, into memory that was asked for at once.
-use Rattle.std.specs.Prelude.{◌≡◌, ◌+◌, ◌<◌, ◌≤◌, ◌++◌, ℕ, List, String, string_capacity, string_len}
+use Rattle.std.specs.Prelude.{◌≡◌, ◌+◌, ◌<◌, ◌≤◌, ◌++◌, ℕ, List, Option, Some, None, String, option_map, string_capacity, string_len}
 use Rattle.std.below.core.specs.declared.int.usize.TheConstants.{MAX}
 use Rattle.std.specs.Str.{chars}
 use Rattle.std.specs.declared.alloc.Global.{Global}
 use Rattle.urlpattern_syntax.specs.PatternText.{pattern_marks}
 use Rattle.urlpattern_syntax.specs.RegexpText.{escaped, escaped_marks}
 use Rattle.urlpattern_syntax.specs.Text.{byte_len, text_of}
+use Rattle.std.specs.Borrow.{Bor}
+use Rattle.urlpattern_syntax.specs.declared.writing.Comparison.{Comparison}
 use Rattle.urlpattern_syntax.specs.declared.escape.Escaped.{Escaped}
 use Rattle.urlpattern_syntax.specs.declared.escape.Marks.{Marks}
 use Rattle.urlpattern_syntax.specs.declared.escape.Marks.TheVariants.{Pattern, Regexp}
@@ -22,6 +24,16 @@ pub record HasRoom (string : String Global) (piece : List ℕ) : Type 0 where
 pub record Appends (before : String Global) (piece : List ℕ) (after : String Global) : Type 0 where
   pub text : text_of after ≡ text_of before ++ piece
   pub capacity : string_capacity before ≤ string_capacity after
+
+-- what is left of the text that is compared
+abbrev pub left_view : Comparison → Option (List ℕ)
+left_view comparison = option_map (λ (text : Bor (List ℕ)). chars text.now) comparison.left
+
+-- what a text leaves after this piece at its front: None where it does not begin with it
+abbrev pub Compares : Option (List ℕ) → (piece : List ℕ) → Option (List ℕ) → Type 0
+Compares None piece after = after ≡ None
+Compares (Some text) piece (Some rest) = text ≡ piece ++ rest
+Compares (Some text) piece None = (rest : List ℕ) → ¬ (text ≡ piece ++ rest)
 
 -- the characters that take a backslash
 abbrev pub marks_of : Marks → List ℕ

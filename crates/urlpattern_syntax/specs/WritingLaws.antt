@@ -1,11 +1,12 @@
 -- The laws of the trait `Writer`, for its two impls. An impl cites the proof of a law, so these lemmas can't stand in proofs/.
-use Rattle.std.specs.Prelude.{◌≡◌, ◌+◌, ◌++◌, ℕ, List, [], String, string_bytes, string_len, encode_utf8_all, length}
+use Rattle.std.specs.Prelude.{◌≡◌, ◌+◌, ◌++◌, ℕ, List, [], Option, Some, None, String, string_bytes, string_len, encode_utf8_all, length}
 use Rattle.std.proofs.Common.{refl, sym, ap, ◌∙◌, arith, append_assoc, length-append}
-use Rattle.std.proofs.lemmas.List.{append-nil}
+use Rattle.std.proofs.lemmas.List.{append-nil, append_cancel_left}
+use Rattle.std.proofs.lemmas.Option.{none-some}
 use Rattle.std.proofs.lemmas.Str.{encodes-append, encodes-chars, IsUtf8-string_bytes}
 use Rattle.std.specs.declared.alloc.Global.{Global}
 use Rattle.urlpattern_syntax.specs.Text.{byte_len, text_of}
-use Rattle.urlpattern_syntax.specs.Writing.{Appends, Counts, HasRoom}
+use Rattle.urlpattern_syntax.specs.Writing.{Appends, Compares, Counts, HasRoom}
 
 pub byte_len-nil : byte_len [] ≡ 0
 unfolding byte_len
@@ -49,3 +50,19 @@ appends_both before between after xs ys first second = record {
   text = second.text ∙ ap (λ text. text ++ ys) first.text ∙ append_assoc (text_of before) xs ys;
   capacity = omega (arith, first.capacity, second.capacity);
 }
+
+pub compares_nothing : (left : Option (List ℕ)) → Compares left [] left
+compares_nothing None = refl
+compares_nothing (Some text) = refl
+
+-- a piece and the next are one longer piece
+compares_one : (text between xs ys : List ℕ) → text ≡ xs ++ between → (rest : List ℕ) → text ≡ (xs ++ ys) ++ rest → between ≡ ys ++ rest
+compares_one text between xs ys e rest f = append_cancel_left xs between (ys ++ rest) (sym e ∙ f ∙ append_assoc xs ys rest)
+
+pub compares_both : (before between after : Option (List ℕ)) (xs ys : List ℕ) → Compares before xs between → Compares between ys after → Compares before (xs ++ ys) after
+compares_both None None after xs ys first second = second
+compares_both None (Some between) after xs ys first second = absurd (none-some between (sym first))
+compares_both (Some text) None None xs ys first second = λ rest e. first (ys ++ rest) (e ∙ append_assoc xs ys rest)
+compares_both (Some text) None (Some after) xs ys first second = absurd (none-some after (sym second))
+compares_both (Some text) (Some between) None xs ys first second = λ rest e. second rest (compares_one text between xs ys first rest e)
+compares_both (Some text) (Some between) (Some after) xs ys first second = first ∙ ap (λ rest. xs ++ rest) second ∙ sym (append_assoc xs ys after)

@@ -9,17 +9,21 @@ ghost use Rattle.std.specs.Prelude.{◌<◌, ◌≤◌, Contains, Result, map, �
 ghost use Rattle.std.specs.Str.{chars};
 ghost use Rattle.std.specs.Fn.{FnReturnsAt};
 ghost use Rattle.urlpattern_syntax.specs.Errors.{ErrorView, error_view};
-ghost use Rattle.urlpattern_syntax.specs.Parsing.{MemoryOr, AddsItem, AddsParts, FailsItem, FailsItems, FaultOr, Stands, StartsText, group_item, matched_view, name_view, part_list_view, pending_items, piece_view, reader_left, reader_text};
+ghost use Rattle.urlpattern_syntax.specs.Parsing.{MemoryOr, AddsItem, AddsParts, FailsItem, FailsItems, FaultOr, IsNamed, IsPieceNamed, KnowsItsNames, KnowsNames, Stands, StartsText, group_item, matched_view, name_view, part_list_view, pending_items, piece_view, reader_left, reader_text};
 ghost use Rattle.urlpattern_syntax.specs.Tokens.{token_view};
 ghost use Rattle.urlpattern_syntax.specs.Parts.{fixed_text, part_view};
 ghost use Rattle.urlpattern_syntax.specs.Reading.{Expect, FirstFails, Fixed, Reads, Refuses, compared, encode_fixed, encoding_of, item, kind_of, name_or, next_number, number_after, value_of};
 ghost use Rattle.urlpattern_syntax.specs.RegexpText.{group_names};
 
+mod given_names;
 mod option_sets;
 mod pieces;
 
 use crate::error::{Error, ParserError};
+use crate::escape::SegmentWildcard;
 use crate::tokenizer::{Token, TokenType};
+use crate::writing::is_written;
+use given_names::GivenNames;
 use pieces::{Matched, Next, Piece, Placeholder, Reader};
 use serde::{Deserialize, Serialize};
 use std::alloc::Global;
@@ -137,15 +141,15 @@ pub struct Part {
 struct PatternParser<'o, F> {
     alloc: Global,
     options: &'o Options,
-    segment_wildcard_regexp: String,
     encoding_callback: F,
 }
 
 /// What is read of a pattern text so far.
 #[derive(Drop)]
-struct PartList {
+struct PartList<'a> {
     parts: Vec<Part>,
     pending_fixed_value: String,
+    given_names: GivenNames<'a>,
     next_numeric_name: usize,
 }
 
@@ -169,11 +173,9 @@ pub fn parse_pattern_string<F: Fn(&str) -> Result<String, Error> + Drop>(
         (encoding_of (FnReturnsAt F.Fn encoding_callback)))) }
 {
     let mut reader = Reader::new(alloc, input)?;
-    let segment_wildcard_regexp = options.generate_segment_wildcard_regexp(alloc)?;
     let parser = PatternParser {
         alloc,
         options,
-        segment_wildcard_regexp,
         encoding_callback,
     };
     parser.part_list(&mut reader)
@@ -183,7 +185,6 @@ impl<F: Fn(&str) -> Result<String, Error>> PatternParser<'_, F> {
     /// The parts of a text, of which no token is taken.
     fn part_list(&self, reader: &mut Reader<'_>) -> Result<Vec<Part>, Error>
         requires callable { F.IsAlwaysCallable self.now.encoding_callback }
-        requires wildcard { text_of self.now.segment_wildcard_regexp ≡ segment_wildcard (options_view self.now.options.now) }
         requires starts { StartsText (reader_text reader.old) reader.old }
         requires room { reader_left reader.old ≤ usize.MAX }
         ensures reads { IfOk result (λ parts. Reads (reader_text reader.old) (options_view self.now.options.now)
@@ -198,6 +199,10 @@ impl<F: Fn(&str) -> Result<String, Error>> PatternParser<'_, F> {
                     Ok(()) => {}
                     Err(error) => return Err(first_fault(reader, error)),
                 },
+                Next::Characters(first, more) => {
+                    list.add_plain(first)?;
+                    list.add_plain(more)?;
+                }
                 Next::LacksClose => {
                     reader.read_to_end()?;
                     return Err(expected_token(self.alloc, TokenType::Close, reader.token()));
@@ -208,14 +213,14 @@ impl<F: Fn(&str) -> Result<String, Error>> PatternParser<'_, F> {
     }
 
     /// The parts up to the token with which no piece begins, which has to be the end.
-    fn finish(&self, mut list: PartList, reader: &Reader<'_>) -> Result<Vec<Part>, Error>
+    fn finish(&self, mut list: PartList<'_>, reader: &Reader<'_>) -> Result<Vec<Part>, Error>
         requires callable { F.IsAlwaysCallable self.now.encoding_callback }
         requires stands { Stands reader.now }
         ensures ok { IfOk result (λ parts. (reader.now.token.kind ≡ TokenType.End)
-            × AddsParts (options_view self.now.options.now) (encoding_of (FnReturnsAt F.Fn self.now.encoding_callback)) (part_list_view list)
-            (pending_items (part_list_view list).pending) (record { parts = map part_view parts.items; pending = []; number = 0 })) }
+            × AddsParts (options_view self.now.options.now) (encoding_of (FnReturnsAt F.Fn self.now.encoding_callback)) (part_list_view list.entry)
+            (pending_items (part_list_view list.entry).pending) (record { parts = map part_view parts.items; pending = []; number = 0 })) }
         ensures err { IfErr result (FaultOr reader.now (FirstFails (encoding_of (FnReturnsAt F.Fn self.now.encoding_callback))
-            (encode_fixed (part_list_view list).pending ++ Expect TokenType.End (token_view reader.now.token) ∷ []))) }
+            (encode_fixed (part_list_view list.entry).pending ++ Expect TokenType.End (token_view reader.now.token) ∷ []))) }
     {
         if let Err(error) = list.add_pending(self) {
             return Err(first_fault(reader, error));
@@ -236,45 +241,45 @@ impl<F: Fn(&str) -> Result<String, Error>> PatternParser<'_, F> {
         (self.encoding_callback)(text)
     }
 
-    /// The regular expression by which the kind of a placeholder's part goes.
-    fn compared<'a>(&'a self, matched: Matched<'a>) -> &'a str
-        requires { text_of self.now.segment_wildcard_regexp ≡ segment_wildcard (options_view self.now.options.now) }
-        ensures { chars result.now ≡ compared (options_view self.now.options.now) (matched_view matched.entry) }
-    {
-        match matched {
-            Matched::Segment => &self.segment_wildcard_regexp,
-            Matched::Anything => FULL_WILDCARD_REGEXP_VALUE,
-            Matched::Custom(body) => body,
-        }
-    }
-
     /// The kind of a placeholder's part, and its value: the body of a custom regular expression that is no wildcard.
     fn kind_and_value(&self, matched: Matched<'_>) -> Result<(PartType, String), Error>
-        requires { text_of self.now.segment_wildcard_regexp ≡ segment_wildcard (options_view self.now.options.now) }
         ensures kind { IfOk result (λ found. found.0 ≡ kind_of (options_view self.now.options.now) (compared (options_view self.now.options.now) (matched_view matched.entry))) }
         ensures value { IfOk result (λ found. text_of found.1 ≡ value_of found.0 (compared (options_view self.now.options.now) (matched_view matched.entry))) }
         ensures memory { IfErr result (λ error. error ≡ errors.OutOfMemory) }
     {
-        let wildcard = self.segment_wildcard_regexp.as_str();
-        let body = self.compared(matched);
-        if body == wildcard {
+        match matched {
+            Matched::Segment => Ok((PartType::SegmentWildcard, String::new(self.alloc))),
+            Matched::Anything => self.kind_by_regexp(FULL_WILDCARD_REGEXP_VALUE),
+            Matched::Custom(body) => self.kind_by_regexp(body),
+        }
+    }
+
+    /// The kind and the value of a part that stands for what this regular expression matches.
+    fn kind_by_regexp(&self, regexp: &str) -> Result<(PartType, String), Error>
+        ensures kind { IfOk result (λ found. found.0 ≡ kind_of (options_view self.now.options.now) (chars regexp.now)) }
+        ensures value { IfOk result (λ found. text_of found.1 ≡ value_of found.0 (chars regexp.now)) }
+        ensures memory { IfErr result (λ error. error ≡ errors.OutOfMemory) }
+    {
+        if is_written(regexp, &SegmentWildcard(self.options)) {
             return Ok((PartType::SegmentWildcard, String::new(self.alloc)));
         }
-        if body == FULL_WILDCARD_REGEXP_VALUE {
+        if regexp == FULL_WILDCARD_REGEXP_VALUE {
             return Ok((PartType::FullWildcard, String::new(self.alloc)));
         }
-        Ok((PartType::Regexp, String::from_str(self.alloc, body)?))
+        Ok((PartType::Regexp, String::from_str(self.alloc, regexp)?))
     }
 }
 
-impl PartList {
+impl<'a> PartList<'a> {
     /// No part, and nothing pending.
     fn new(alloc: Global) -> Self
-        ensures { part_list_view result ≡ record { parts = []; pending = []; number = 0 } }
+        ensures empty { part_list_view result ≡ record { parts = []; pending = []; number = 0 } }
+        ensures knows { KnowsItsNames result }
     {
         PartList {
             parts: Vec::new(alloc),
             pending_fixed_value: String::new(alloc),
+            given_names: GivenNames::new(alloc),
             next_numeric_name: 0,
         }
     }
@@ -285,11 +290,13 @@ impl PartList {
     fn add<F: Fn(&str) -> Result<String, Error>>(
         &mut self,
         parser: &PatternParser<'_, F>,
-        piece: Piece<'_>,
+        piece: Piece<'a>,
     ) -> Result<(), Error>
         requires callable { F.IsAlwaysCallable parser.now.encoding_callback }
-        requires wildcard { text_of parser.now.segment_wildcard_regexp ≡ segment_wildcard (options_view parser.now.options.now) }
         requires room { self.old.next_numeric_name < usize.MAX }
+        requires named { IsPieceNamed (piece_view piece) }
+        requires knows { KnowsItsNames self.old }
+        ensures knows { OnOk result (KnowsItsNames self.new) }
         ensures ok { OnOk result (AddsItem (options_view parser.now.options.now) (encoding_of (FnReturnsAt F.Fn parser.now.encoding_callback))
             (part_list_view self.old) (item self.old.next_numeric_name (piece_view piece.entry)) (part_list_view self.new)) }
         ensures number { OnOk result (self.new.next_numeric_name ≡ number_after self.old.next_numeric_name (piece_view piece.entry)) }
@@ -313,6 +320,7 @@ impl PartList {
     fn add_plain(&mut self, text: &str) -> Result<(), Error>
         ensures parts { self.new.parts ≡ self.old.parts }
         ensures pending { OnOk result (text_of self.new.pending_fixed_value ≡ text_of self.old.pending_fixed_value ++ chars text.now) }
+        ensures names { self.new.given_names ≡ self.old.given_names }
         ensures number { self.new.next_numeric_name ≡ self.old.next_numeric_name }
         ensures memory { IfErr result (λ error. error ≡ errors.OutOfMemory) }
     {
@@ -330,6 +338,7 @@ impl PartList {
         requires { F.IsAlwaysCallable parser.now.encoding_callback }
         ensures ok { OnOk result (AddsParts (options_view parser.now.options.now) (encoding_of (FnReturnsAt F.Fn parser.now.encoding_callback)) (part_list_view self.old)
             (pending_items (part_list_view self.old).pending ++ Fixed (chars text.now) modifier ∷ []) (part_list_view self.new)) }
+        ensures names { OnOk result (self.new.given_names ≡ self.old.given_names) }
         ensures number { OnOk result (self.new.next_numeric_name ≡ self.old.next_numeric_name) }
         ensures err { IfErr result (FailsItems (encoding_of (FnReturnsAt F.Fn parser.now.encoding_callback)) (part_list_view self.old).parts
             (pending_items (part_list_view self.old).pending ++ Fixed (chars text.now) modifier ∷ [])) }
@@ -347,13 +356,15 @@ impl PartList {
         &mut self,
         parser: &PatternParser<'_, F>,
         before: &str,
-        placeholder: Placeholder<'_>,
+        placeholder: Placeholder<'a>,
         after: &str,
         modifier: PartModifier,
     ) -> Result<(), Error>
         requires callable { F.IsAlwaysCallable parser.now.encoding_callback }
-        requires wildcard { text_of parser.now.segment_wildcard_regexp ≡ segment_wildcard (options_view parser.now.options.now) }
         requires room { self.old.next_numeric_name < usize.MAX }
+        requires named { IsNamed (name_view placeholder.name) }
+        requires knows { KnowsItsNames self.old }
+        ensures knows { OnOk result (KnowsItsNames self.new) }
         ensures ok { OnOk result (AddsParts (options_view parser.now.options.now) (encoding_of (FnReturnsAt F.Fn parser.now.encoding_callback)) (part_list_view self.old)
             (pending_items (part_list_view self.old).pending ++ group_item (chars before.now) placeholder.entry (chars after.now) modifier self.old.next_numeric_name ∷ [])
             (part_list_view self.new)) }
@@ -362,10 +373,7 @@ impl PartList {
             (pending_items (part_list_view self.old).pending ++ group_item (chars before.now) placeholder.entry (chars after.now) modifier self.old.next_numeric_name ∷ [])) }
     {
         self.add_pending(parser)?;
-        let name = self.name_of(parser.alloc, placeholder.name)?;
-        if has_name(&self.parts, &name) {
-            return Err(Error::Parser(ParserError::DuplicateName(name)));
-        }
+        let name = self.new_name(parser.alloc, placeholder.name)?;
         let prefix = parser.ask(before)?;
         let suffix = parser.ask(after)?;
         let (kind, value) = parser.kind_and_value(placeholder.matched)?;
@@ -380,20 +388,37 @@ impl PartList {
         Ok(())
     }
 
-    /// The name, or else the number of a placeholder among those without a name.
-    fn name_of(&mut self, alloc: Global, name: Option<&str>) -> Result<String, Error>
-        requires { self.old.next_numeric_name < usize.MAX }
+    /// The name, or else the number of a placeholder among those without a name, which is no name so far.
+    ///
+    /// The error is that the name stands before, or that memory ran out.
+    ///
+    /// <https://urlpattern.spec.whatwg.org/#is-a-duplicate-name>
+    fn new_name(&mut self, alloc: Global, name: Option<&'a str>) -> Result<String, Error>
+        requires knows { KnowsItsNames self.old }
+        requires named { IsNamed (name_view name) }
+        requires room { self.old.next_numeric_name < usize.MAX }
         ensures name { IfOk result (λ text. text_of text ≡ name_or (name_view name.entry) self.old.next_numeric_name) }
+        ensures new { OnOk result (¬ Contains (group_names (part_list_view self.old).parts) (name_or (name_view name.entry) self.old.next_numeric_name)) }
+        ensures knows { OnOk result (KnowsNames (group_names (part_list_view self.old).parts ++ name_or (name_view name.entry) self.old.next_numeric_name ∷ [])
+            self.new.given_names self.new.next_numeric_name) }
         ensures number { OnOk result (self.new.next_numeric_name ≡ next_number (name_view name.entry) self.old.next_numeric_name) }
-        ensures same { (self.new.parts ≡ self.old.parts) × (self.new.pending_fixed_value ≡ self.old.pending_fixed_value) }
-        ensures memory { IfErr result (λ error. error ≡ errors.OutOfMemory) }
+        ensures same { OnOk result ((self.new.parts ≡ self.old.parts) × (self.new.pending_fixed_value ≡ self.old.pending_fixed_value)) }
+        ensures err { IfErr result (MemoryOr (λ error. Contains (group_names (part_list_view self.old).parts) (name_or (name_view name.entry) self.old.next_numeric_name)
+            × (error ≡ ErrorView.DuplicateName (name_or (name_view name.entry) self.old.next_numeric_name)))) }
     {
         match name {
-            Some(name) => Ok(String::from_str(alloc, name)?),
             None => {
                 let number = self.next_numeric_name.to_string(alloc)?;
                 self.next_numeric_name += 1;
                 Ok(number)
+            }
+            Some(name) => {
+                let text = String::from_str(alloc, name)?;
+                if self.given_names.contain(name) {
+                    return Err(Error::Parser(ParserError::DuplicateName(text)));
+                }
+                self.given_names.add(name)?;
+                Ok(text)
             }
         }
     }
@@ -408,6 +433,7 @@ impl PartList {
         requires { F.IsAlwaysCallable parser.now.encoding_callback }
         ensures ok { OnOk result (AddsParts (options_view parser.now.options.now) (encoding_of (FnReturnsAt F.Fn parser.now.encoding_callback)) (part_list_view self.old)
             (pending_items (part_list_view self.old).pending) (part_list_view self.new)) }
+        ensures names { OnOk result (self.new.given_names ≡ self.old.given_names) }
         ensures number { OnOk result (self.new.next_numeric_name ≡ self.old.next_numeric_name) }
         ensures err { IfErr result (FailsItems (encoding_of (FnReturnsAt F.Fn parser.now.encoding_callback)) (part_list_view self.old).parts
             (pending_items (part_list_view self.old).pending)) }
@@ -424,7 +450,7 @@ impl PartList {
 
     /// The parts.
     fn into_parts(self) -> Vec<Part>
-        ensures { result ≡ self.parts }
+        ensures { result ≡ self.entry.parts }
     {
         self.parts
     }
@@ -444,20 +470,6 @@ impl Part {
             suffix: String::new(alloc),
         }
     }
-}
-
-/// Whether a group among the parts has this name.
-///
-/// <https://urlpattern.spec.whatwg.org/#is-a-duplicate-name>
-fn has_name(parts: &[Part], name: &str) -> bool
-    ensures { IsTrue result ↔ Contains (group_names (map part_view parts.now)) (chars name.now) }
-{
-    for part in parts {
-        if part.kind != PartType::FixedText && part.name.as_str() == name {
-            return true;
-        }
-    }
-    false
 }
 
 /// The first fault of the text that is read, if it has one, or else this error. Out of memory stays as it is.

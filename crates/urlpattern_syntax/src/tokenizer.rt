@@ -4,7 +4,7 @@
 
 ghost use Rattle.std.specs.Prelude.{◌≡◌, ◌<◌, ◌≤◌, ◌+◌, List, map, ℕ, ◌∷◌, ◌++◌, [], length, codes, IfNone, IfSome, IfOk, IfErr, OnOk};
 ghost use Rattle.std.specs.Str.{chars};
-ghost use Rattle.urlpattern_syntax.specs.Cursors.{AreTokensAfter, IsPlace, IsTokenAfter, tokens_left};
+ghost use Rattle.urlpattern_syntax.specs.Cursors.{AreCharactersBefore, AreTokensAfter, IsPlace, IsTokenAfter, stands_for_itself, tokens_left};
 ghost use Rattle.urlpattern_syntax.specs.Text.{BeginsAt, BeginsWith, is_among, is_name_start, is_name_part};
 ghost use Rattle.urlpattern_syntax.specs.Tokens.{AreTokensUnder, FaultView, IsFaultAt, IsInvalidChar, LacksEscaped, LacksQuestionMark, Lexes, LexesUnder, Skips, SkipsBy, TellsFault, TellsFaultUnder, TokenView, fault_view, is_ignored, token_view};
 
@@ -188,6 +188,30 @@ impl<'a> Cursor<'a> {
             }
             Err(fault) => Err(Error::Tokenizer(fault, place)),
         }
+    }
+
+    /// Takes the characters after this place that stand for themselves, up to the last of them, which is left.
+    ///
+    /// Each of them is a token. The text is empty where fewer than two of them stand there.
+    pub(crate) fn characters(&mut self) -> &'a str
+        requires { IsPlace (chars self.old.input.now) (chars self.old.rest.now) }
+        ensures whole { self.new.input.now ≡ self.old.input.now }
+        ensures place { IsPlace (chars self.old.input.now) (chars self.new.rest.now) }
+        ensures before { AreCharactersBefore (chars self.old.rest.now) (chars result.now) (chars self.new.rest.now) }
+        ensures len { length self.new.rest.now ≤ length self.old.rest.now }
+    {
+        let mut last = self.rest;
+        let mut rest = self.rest;
+        while let Some((first, after)) = split_first(rest) {
+            if !stands_for_itself(first) {
+                break;
+            }
+            last = rest;
+            rest = after;
+        }
+        let characters = before(self.rest, last);
+        self.rest = last;
+        characters
     }
 
     /// Reads all tokens after this place. It does not allocate.
@@ -428,20 +452,36 @@ fn is_ignored(c: char) -> bool
     matches!(c, '\t' | '\n' | '\r')
 }
 
+/// Whether a character is a token by itself, and no mark.
+fn stands_for_itself(c: char) -> bool
+    ensures { result ≡ stands_for_itself c }
+{
+    !matches!(
+        c,
+        '{' | '}' | '*' | '+' | '?' | '\\' | ':' | '(' | '\t' | '\n' | '\r'
+    )
+}
+
 /// Whether a name may begin with the character.
 ///
 /// <https://urlpattern.spec.whatwg.org/#is-a-valid-name-code-point>
-#[tactic(auto, unfolding(crate::specs::Text::is_name_start))]
+#[tactic(auto, using(crate::proofs::NameCharacters::start_ascii, crate::proofs::NameCharacters::start_other))]
 pub fn is_name_start(c: char) -> bool
     ensures { result ≡ is_name_start c }
 {
-    is_id_start(c) || matches!(c, '$' | '_')
+    if c.is_ascii() {
+        return c.is_ascii_alphabetic() || matches!(c, '$' | '_');
+    }
+    is_id_start(c)
 }
 
 /// Whether a name may go on with the character.
-#[tactic(auto, unfolding(crate::specs::Text::is_name_part))]
+#[tactic(auto, using(crate::proofs::NameCharacters::part_ascii, crate::proofs::NameCharacters::part_other))]
 pub fn is_name_part(c: char) -> bool
     ensures { result ≡ is_name_part c }
 {
-    is_id_continue(c) || matches!(c, '$' | '\u{200C}' | '\u{200D}')
+    if c.is_ascii() {
+        return c.is_ascii_alphanumeric() || matches!(c, '$' | '_');
+    }
+    is_id_continue(c) || matches!(c, '\u{200C}' | '\u{200D}')
 }

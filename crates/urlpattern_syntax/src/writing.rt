@@ -2,14 +2,15 @@
 //!
 //! A text says once how it is written, to any [`Writer`]. [`written`] first has its bytes counted, asks for that much
 //! memory, and then has it written, which can't fail. For the crates of this project.
-ghost use Rattle.std.specs.Prelude.{◌≡◌, ◌∷◌, ◌++◌, ℕ, List, [], IfErr, IfOk};
+ghost use Rattle.std.specs.Prelude.{◌≡◌, ◌∷◌, ◌++◌, ℕ, List, [], IfErr, IfOk, MatchBool};
 ghost use Rattle.std.specs.Str.{chars};
 ghost use Rattle.urlpattern_syntax.specs.declared.error.Error.TheVariants as errors;
 ghost use Rattle.urlpattern_syntax.specs.Text.{text_of};
-ghost use Rattle.urlpattern_syntax.specs.Writing.{Appends, Counts, HasRoom};
-ghost use Rattle.urlpattern_syntax.specs.WritingLaws.{appends_both, appends_nothing, counts_both, counts_nothing, room_front, room_rest};
+ghost use Rattle.urlpattern_syntax.specs.Writing.{Appends, Compares, Counts, HasRoom, left_view};
+ghost use Rattle.urlpattern_syntax.specs.WritingLaws.{appends_both, appends_nothing, compares_both, compares_nothing, counts_both, counts_nothing, room_front, room_rest};
 
 use crate::error::Error;
+use crate::tokenizer::split_first;
 use std::alloc::Global;
 
 /// Where a text is written: a counter of its bytes, or a `String` that has memory for it.
@@ -88,6 +89,42 @@ impl Writer for String {
     ghost writes_both = { appends_both };
 }
 
+/// A text with which what is written is compared: what is left of it after that, or `None` where they differ.
+#[derive(Drop)]
+struct Comparison<'a> {
+    left: Option<&'a str>,
+}
+
+/// What is written is taken from the front of the text.
+impl Writer for Comparison<'_> {
+    ghost Fits = { λ comparison text. Unit {0} };
+
+    ghost Writes = { λ before text after. Compares (left_view before) text (left_view after) };
+
+    fn write_str(&mut self, text: &str) {
+        if let Some(left) = self.left {
+            self.left = left.strip_prefix(text);
+        }
+    }
+
+    fn write_char(&mut self, c: char) {
+        if let Some(left) = self.left {
+            self.left = match split_first(left) {
+                Some((first, rest)) if first == c => Some(rest),
+                _ => None,
+            };
+        }
+    }
+
+    ghost fits_front = { λ comparison xs ys fits. tt };
+
+    ghost fits_rest = { λ before after xs ys fits writes. tt };
+
+    ghost writes_nothing = { λ comparison. compares_nothing (left_view comparison) };
+
+    ghost writes_both = { λ before between after xs ys first second. compares_both (left_view before) (left_view between) (left_view after) xs ys first second };
+}
+
 /// A text that is written piece by piece.
 pub trait Writable {
     ghost text: { Self → List ℕ };
@@ -114,6 +151,18 @@ pub fn written<T: Writable>(alloc: Global, text: &T) -> Result<String, Error>
     let mut string = String::with_capacity(alloc, bytes)?;
     text.write_to(&mut string);
     Ok(string)
+}
+
+/// Whether a text is the one that would be written. It does not allocate.
+pub(crate) fn is_written<T: Writable>(text: &str, written: &T) -> bool
+    ensures { MatchBool result (chars text.now ≡ T.text written.now) (¬ (chars text.now ≡ T.text written.now)) }
+{
+    let mut comparison = Comparison { left: Some(text) };
+    written.write_to(&mut comparison);
+    match comparison.left {
+        Some(left) => left.is_empty(),
+        None => false,
+    }
 }
 
 /// A character as it is.

@@ -1,9 +1,10 @@
 //! What a matcher sees in a text before an engine is asked.
 
+ghost use Rattle.std.specs.Prelude.{IfSome};
 ghost use Rattle.std.specs.Str.{chars};
-ghost use Rattle.urlpattern_core.specs.Looks.{look_answer};
+ghost use Rattle.urlpattern_core.specs.Looks.{look_answer, IsAsking};
 ghost use Rattle.urlpattern_core.specs.Matchers.{matcher_view};
-ghost use Rattle.urlpattern_laws.specs.Matching.{Answers};
+ghost use Rattle.urlpattern_laws.specs.Matching.{Answers, AsksEngine};
 
 use super::{InnerMatcher, Matcher};
 use crate::regexp::RegExp;
@@ -26,9 +27,10 @@ pub enum Look<'a, R> {
 
 impl<R: RegExp> Matcher<R> {
     /// What is seen in a text, without memory. None is asked for and no engine is asked; None means that the text is not
-    /// matched.
+    /// matched. An engine is left to be asked only where one stands between the text's prefix and suffix.
     pub fn look<'a>(&'a self, input: &'a str) -> Option<Look<'a, R>>
-        ensures { Answers R.answer (matcher_view self.now) (chars input.now) (look_answer R.answer result) }
+        ensures answer { Answers R.answer (matcher_view self.now) (chars input.now) (look_answer R.answer result) }
+        ensures asked { IfSome result (λ look. IsAsking look → AsksEngine (matcher_view self.now) (chars input.now)) }
     {
         let middle = self.middle(input)?;
         match &self.inner {

@@ -4,17 +4,17 @@ ghost use Rattle.std.specs.Prelude.{◌≡◌, Some, List, ℕ, map, option_map,
 ghost use Rattle.std.specs.Slice.Iter.{iter_rest};
 ghost use Rattle.std.specs.Str.{chars};
 ghost use Rattle.urlpattern_core.specs.Captured.{capture_view};
-ghost use Rattle.urlpattern_core.specs.Looks.{look_answer};
+ghost use Rattle.urlpattern_core.specs.Looks.{look_answer, IsAsking};
 ghost use Rattle.urlpattern_init.specs.declared.init.processing.Component.{Component as Name};
 ghost use Rattle.urlpattern_pattern.specs.Captures.{captures_view, groups_view};
-ghost use Rattle.urlpattern_pattern.specs.Eight.{at, captures_of};
-ghost use Rattle.urlpattern_pattern.specs.Match.{group_in, group_of, result_view, IsSameResult};
+ghost use Rattle.urlpattern_pattern.specs.Eight.{at, captures_of, HasNoGroups, IsWithoutGroups};
+ghost use Rattle.urlpattern_pattern.specs.Match.{component_result_view, group_in, group_of, result_view, IsSameResult};
 ghost use Rattle.urlpattern_syntax.specs.Text.{text_of};
 ghost use Rattle.urlpattern_syntax.specs.declared.error.Error.TheVariants as errors;
 
 use super::eight::Eight;
 use super::groups::{Groups, groups_of};
-use super::result::UrlPatternResult;
+use super::result::{UrlPatternComponentResult, UrlPatternResult};
 use std::alloc::Global;
 use std::iter::Zip;
 use std::slice;
@@ -76,9 +76,48 @@ impl<'a> UrlPatternCaptures<'a> {
         ensures same { IfOk result (λ copy. (name : Name) → IsSameResult (result_view copy name) (captures_view self.now name)) }
         ensures memory { IfErr result (λ error. error ≡ errors.OutOfMemory) }
     {
-        let groups = self.to_groups(alloc)?;
-        let texts = self.texts.copied(alloc)?;
-        Ok(UrlPatternResult::new(texts, groups))
+        let mut result = UrlPatternResult::empty(alloc);
+        self.copy_to(alloc, &mut result)?;
+        Ok(result)
+    }
+
+    /// Copies the texts, names and captures to a result that has no groups yet.
+    ///
+    /// The error is that memory ran out.
+    pub(crate) fn copy_to(&self, alloc: Global, copy: &mut UrlPatternResult) -> Result<(), Error>
+        requires { IsWithoutGroups copy.old }
+        ensures same { IfOk result (λ _. (name : Name) → IsSameResult (result_view copy.new name) (captures_view self.now name)) }
+        ensures memory { IfErr result (λ error. error ≡ errors.OutOfMemory) }
+    {
+        self.copy_component(alloc, ComponentName::Protocol, &mut copy.protocol)?;
+        self.copy_component(alloc, ComponentName::Username, &mut copy.username)?;
+        self.copy_component(alloc, ComponentName::Password, &mut copy.password)?;
+        self.copy_component(alloc, ComponentName::Hostname, &mut copy.hostname)?;
+        self.copy_component(alloc, ComponentName::Port, &mut copy.port)?;
+        self.copy_component(alloc, ComponentName::Pathname, &mut copy.pathname)?;
+        self.copy_component(alloc, ComponentName::Search, &mut copy.search)?;
+        self.copy_component(alloc, ComponentName::Hash, &mut copy.hash)
+    }
+
+    /// Copies the text of a component, and its names and captures, to a result that has no groups yet.
+    ///
+    /// The error is that memory ran out.
+    fn copy_component(
+        &self,
+        alloc: Global,
+        name: ComponentName,
+        copy: &mut UrlPatternComponentResult,
+    ) -> Result<(), Error>
+        requires { HasNoGroups copy.old.groups }
+        ensures same { IfOk result (λ _. IsSameResult (component_result_view copy.new) (captures_view self.now name)) }
+        ensures memory { IfErr result (λ error. error ≡ errors.OutOfMemory) }
+    {
+        copy.fill(
+            alloc,
+            self.input(name),
+            self.names.at(name),
+            self.captures.at(name).as_slice(),
+        )
     }
 
     /// Copies of what the groups capture, by name.
@@ -152,6 +191,7 @@ impl<'a> Captured<'a> {
     ) -> Result<Option<Self>, Error>
         ensures answer { IfOk result (λ found. option_map captures_of found ≡ look_answer R.answer (Some look.entry)) }
         ensures memory { IfErr result (λ error. error ≡ errors.OutOfMemory) }
+        ensures asked { IfErr result (λ _. IsAsking look.entry) }
     {
         match look {
             Look::Matched => Ok(Some(Captured::Nothing)),

@@ -4,10 +4,7 @@ ghost use Rattle.std.specs.Prelude.{◌≡◌, None, Ok, length, option_copied, 
 ghost use Rattle.std.specs.Str.{chars};
 ghost use Rattle.url.specs.Parser.{parse_url};
 ghost use Rattle.urlpattern_canonical.specs.Canonical.{Tells};
-ghost use Rattle.urlpattern_core.specs.Compiling.{IsCompiledFrom, MayRefuseAtFirst};
-ghost use Rattle.urlpattern_init.specs.SpecialProtocol.{IsSpecialBy};
-ghost use Rattle.urlpattern_pattern.specs.FromString.{parsed_base, text_bytes, IsInitOfText, IsPatternOfText, RefusesPatternOfText, RefusesText};
-ghost use Rattle.urlpattern_pattern.specs.Patterns.{pattern_view};
+ghost use Rattle.urlpattern_pattern.specs.FromString.{parsed_base, text_bytes, IsInitOfTextBy, IsPatternOfTextBy, RefusesPatternOfTextBy, RefusesText};
 ghost use Rattle.urlpattern_syntax.specs.Errors.{MemoryOr};
 
 use super::UrlPattern;
@@ -32,10 +29,9 @@ impl<R: RegExp> UrlPattern<R> {
         base_url: Option<&str>,
         options: UrlPatternOptions,
     ) -> Result<Self, Error>
-        ensures compiled { IfOk result (λ compiled. IsPatternOfText (IsCompiledFrom R.IsMade R.MayRefuse R.syntax_of) (IsSpecialBy R.IsMade (MayRefuseAtFirst R.MayRefuse) R.answer)
-            R.answer (chars pattern.now) (option_copied base_url.entry) options (pattern_view compiled)) }
-        ensures refused { IfErr result (MemoryOr (RefusesPatternOfText (IsCompiledFrom R.IsMade R.MayRefuse R.syntax_of) (IsSpecialBy R.IsMade (MayRefuseAtFirst R.MayRefuse) R.answer)
-            R.answer (chars pattern.now) (option_copied base_url.entry) options)) }
+        ensures compiled { IfOk result (IsPatternOfTextBy R.IsMade R.MayRefuse R.syntax_of R.answer pattern.now (option_copied base_url.entry) options) }
+        ensures refused { IfErr result (MemoryOr (RefusesPatternOfTextBy R.IsMade R.MayRefuse R.syntax_of R.answer
+            pattern.now (option_copied base_url.entry) options)) }
     {
         let init = init_of_text::<R>(alloc, pattern, base_url)?;
         Self::parse(alloc, init, options)
@@ -50,7 +46,7 @@ pub fn init_of_text<R: RegExp>(
     text: &str,
     base_url: Option<&str>,
 ) -> Result<UrlPatternInit, Error>
-    ensures constructed { IfOk result (IsInitOfText (IsSpecialBy R.IsMade (MayRefuseAtFirst R.MayRefuse) R.answer) (chars text.now) (option_copied base_url.entry)) }
+    ensures constructed { IfOk result (IsInitOfTextBy R.IsMade R.MayRefuse R.answer text.now (option_copied base_url.entry)) }
     ensures refused { IfErr result (MemoryOr (RefusesText (chars text.now) (option_copied base_url.entry))) }
 {
     let base_url = parse_base(alloc, base_url)?;

@@ -1,6 +1,6 @@
 //! The groups of a match, by their names.
 ghost use Rattle.std.specs.Prelude.{◌≡◌, IfErr, IfOk, map, option_map};
-ghost use Rattle.urlpattern_pattern.specs.Eight.{AreGroups};
+ghost use Rattle.urlpattern_pattern.specs.Eight.{AreGroups, HasNoGroups};
 ghost use Rattle.urlpattern_core.specs.Captured.{capture_view};
 ghost use Rattle.urlpattern_syntax.specs.declared.error.Error.TheVariants as errors;
 ghost use Rattle.urlpattern_syntax.specs.Text.{text_of};
@@ -24,10 +24,27 @@ pub(super) fn groups_of(
     ensures memory { IfErr result (λ error. error ≡ errors.OutOfMemory) }
 {
     let mut groups = HashMap::new(alloc);
+    add_groups(alloc, &mut groups, names, captures)?;
+    Ok(groups)
+}
+
+/// Adds what the groups with these names capture, which stand in the same order. Of equal names the last counts.
+///
+/// The error is that memory ran out.
+pub(super) fn add_groups(
+    alloc: Global,
+    groups: &mut Groups,
+    names: &[String],
+    captures: &[Option<&str>],
+) -> Result<(), Error>
+    requires { HasNoGroups groups.old }
+    ensures groups { IfOk result (λ _. AreGroups (map (λ name. text_of name) names.now) (map capture_view captures.now) groups.new) }
+    ensures memory { IfErr result (λ error. error ≡ errors.OutOfMemory) }
+{
     for (name, capture) in names.iter().zip(captures) {
         groups.insert(name.clone()?, copied(alloc, *capture)?)?;
     }
-    Ok(groups)
+    Ok(())
 }
 
 /// A copy of what a group captures.

@@ -2,15 +2,16 @@
 //!
 //! All components look at their texts before anything is made. Engines are asked last, and the first refusal ends it.
 ghost use Rattle.std.specs.Prelude.{◌≡◌, None, Some, IfErr, IfNone, IfOk, IfSome, MatchBool, MatchOption};
+ghost use Rattle.urlpattern_init.specs.Inheritance.{texts_of_url};
 ghost use Rattle.urlpattern_init.specs.declared.init.processing.Component.{Component as Name};
 ghost use Rattle.urlpattern_init.specs.declared.init.UrlPatternMatchInput.TheVariants as inputs;
 ghost use Rattle.urlpattern_pattern.specs.Captures.{captures_view};
 ghost use Rattle.urlpattern_pattern.specs.Eight.{at, borrowed_texts, captures_of, results_of};
-ghost use Rattle.urlpattern_pattern.specs.Match.{AreAnswers, AreMatched, HasMatch, HasNoMatch, IsMatch, IsMatchOf, IsRefused, IsResultOf, result_view, text_at};
+ghost use Rattle.urlpattern_pattern.specs.Match.{AreAnswers, AreMatched, AsksAnEngine, HasMatch, HasNoMatch, IsMatch, IsMatchOf, IsRefused, IsResultOf, result_view, text_at};
 ghost use Rattle.urlpattern_pattern.specs.MatchInput.{texts_view};
 ghost use Rattle.urlpattern_pattern.specs.Patterns.{pattern_view};
-ghost use Rattle.urlpattern_core.specs.Looks.{look_answer};
-ghost use Rattle.urlpattern_laws.specs.Matching.{Answers};
+ghost use Rattle.urlpattern_core.specs.Looks.{look_answer, IsAsking};
+ghost use Rattle.urlpattern_laws.specs.Matching.{Answers, AsksEngine};
 ghost use Rattle.urlpattern_syntax.specs.declared.error.Error.TheVariants as errors;
 
 use super::UrlPattern;
@@ -78,6 +79,7 @@ impl<R: RegExp> UrlPattern<R> {
         ensures matched { IfOk result (λ matched. MatchBool matched (HasMatch R.answer (pattern_view self.now) (inputs.Url url.now))
             (HasNoMatch R.answer (pattern_view self.now) (inputs.Url url.now))) }
         ensures memory { IfErr result (λ error. error ≡ errors.OutOfMemory) }
+        ensures asked { IfErr result (λ _. AsksAnEngine (pattern_view self.now) (texts_of_url url.now)) }
     {
         self.is_matched(alloc, Eight::of_url(url))
     }
@@ -92,9 +94,11 @@ impl<R: RegExp> UrlPattern<R> {
     {
         match self.captures(alloc, url)? {
             Some(captures) => {
-                let result = captures.to_result(alloc);
+                let mut result = UrlPatternResult::empty(alloc);
+                let copied = captures.copy_to(alloc, &mut result);
                 drop(captures);
-                Ok(Some(result?))
+                copied?;
+                Ok(Some(result))
             }
             None => Ok(None),
         }
@@ -113,6 +117,7 @@ impl<R: RegExp> UrlPattern<R> {
         ensures matched { IfOk result (λ found. MatchOption found (HasNoMatch R.answer (pattern_view self.now) (inputs.Url url.now))
             (λ captures. IsMatch R.answer (pattern_view self.now) (inputs.Url url.now) (captures_view captures))) }
         ensures memory { IfErr result (λ error. error ≡ errors.OutOfMemory) }
+        ensures asked { IfErr result (λ _. AsksAnEngine (pattern_view self.now) (texts_of_url url.now)) }
     {
         self.captures_of_texts(alloc, Eight::of_url(url))
     }
@@ -131,6 +136,7 @@ impl<R: RegExp> UrlPattern<R> {
         ensures matched { IfOk result (λ found. MatchOption found (IsRefused R.answer (pattern_view self.now) (texts_view input.now))
             (λ captures. IsMatchOf R.answer (pattern_view self.now) (texts_view input.now) (captures_view captures))) }
         ensures memory { IfErr result (λ error. error ≡ errors.OutOfMemory) }
+        ensures asked { IfErr result (λ _. AsksAnEngine (pattern_view self.now) (texts_view input.now)) }
     {
         self.captures_of_texts(alloc, Eight::of_input(input))
     }
@@ -178,6 +184,7 @@ impl<R: RegExp> UrlPattern<R> {
         ensures matched { IfOk result (λ matched. MatchBool matched (AreMatched R.answer (pattern_view self.now) (borrowed_texts texts.entry))
             (IsRefused R.answer (pattern_view self.now) (borrowed_texts texts.entry))) }
         ensures memory { IfErr result (λ error. error ≡ errors.OutOfMemory) }
+        ensures asked { IfErr result (λ _. AsksAnEngine (pattern_view self.now) (borrowed_texts texts.entry)) }
     {
         let answer = self.captured(alloc, &texts)?;
         let is_matched = answer.is_some();
@@ -196,6 +203,7 @@ impl<R: RegExp> UrlPattern<R> {
         ensures matched { IfOk result (λ found. MatchOption found (IsRefused R.answer (pattern_view self.now) (borrowed_texts texts.entry))
             (λ captures. IsMatchOf R.answer (pattern_view self.now) (borrowed_texts texts.entry) (captures_view captures))) }
         ensures memory { IfErr result (λ error. error ≡ errors.OutOfMemory) }
+        ensures asked { IfErr result (λ _. AsksAnEngine (pattern_view self.now) (borrowed_texts texts.entry)) }
     {
         match self.captured(alloc, &texts)? {
             Some(captures) => Ok(Some(self.with_captures(texts, captures))),
@@ -234,6 +242,8 @@ impl<R: RegExp> UrlPattern<R> {
         ensures some { IfSome result (λ looks. (name : Name) →
             Answers R.answer (pattern_view self.now name).matcher (text_at (borrowed_texts texts.now) name) (look_answer R.answer (Some (at looks name)))) }
         ensures none { IfNone result (IsRefused R.answer (pattern_view self.now) (borrowed_texts texts.now)) }
+        ensures asked { IfSome result (λ looks. (name : Name) → IsAsking (at looks name) →
+            AsksEngine (pattern_view self.now name).matcher (text_at (borrowed_texts texts.now) name)) }
     {
         // The path refuses most, so it is the first.
         Some(Eight {
@@ -260,6 +270,7 @@ impl<R: RegExp> UrlPattern<R> {
         ensures answers { IfOk result (λ found. IfSome found (λ captures.
             AreAnswers R.answer (pattern_view self.now) (borrowed_texts texts.now) (λ name. captures_of (at captures name)))) }
         ensures memory { IfErr result (λ error. error ≡ errors.OutOfMemory) }
+        ensures asked { IfErr result (λ _. AsksAnEngine (pattern_view self.now) (borrowed_texts texts.now)) }
     {
         let Some(looks) = self.look(texts) else {
             return Ok(None);
@@ -277,6 +288,7 @@ fn captures_of_looks<'a, R: RegExp>(
         look_answer R.answer (Some (at looks.entry name)) ≡ Some (captures_of (at captures name)))) }
     ensures none { IfOk result (λ found. IfNone found ((name : Name) × (look_answer R.answer (Some (at looks.entry name)) ≡ None))) }
     ensures memory { IfErr result (λ error. error ≡ errors.OutOfMemory) }
+    ensures asked { IfErr result (λ _. (name : Name) × IsAsking (at looks.entry name)) }
 {
     let Some(protocol) = Captured::of_look(alloc, looks.protocol)? else {
         return Ok(None);

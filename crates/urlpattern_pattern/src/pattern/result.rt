@@ -2,19 +2,21 @@
 ghost use Rattle.std.specs.Cmp.Lexicographic.{slice_cmp};
 ghost use Rattle.std.specs.HashMap.{IsUnique, get_by_text, keys};
 ghost use Rattle.std.specs.Ordering.{nat_cmp};
-ghost use Rattle.std.specs.Prelude.{◌≡◌, ℕ, List, None, map, option_copied, string_bytes, string_eq, unwrap_or, IfOk, IsPermutation, IsSorted};
+ghost use Rattle.std.specs.Prelude.{◌≡◌, ℕ, List, None, map, option_copied, string_bytes, string_eq, unwrap_or, IfErr, IfOk, IsPermutation, IsSorted};
 ghost use Rattle.std.specs.Str.{chars};
 ghost use Rattle.urlpattern_core.specs.Captured.{capture_view};
 ghost use Rattle.urlpattern_init.specs.declared.init.processing.Component.{Component as Name};
-ghost use Rattle.urlpattern_pattern.specs.Eight.{at, captured_bytes};
+ghost use Rattle.urlpattern_pattern.specs.Eight.{at, captured_bytes, AreGroups, HasNoGroups, IsWithoutGroups};
 ghost use Rattle.urlpattern_pattern.specs.Match.{component_result_view, group_in, result_view, text_at};
 ghost use Rattle.urlpattern_pattern.specs.MatchInput.{texts_view};
+ghost use Rattle.urlpattern_syntax.specs.declared.error.Error.TheVariants as errors;
 ghost use Rattle.urlpattern_syntax.specs.Text.{text_of};
 
 use super::eight::Eight;
-use super::groups::Groups;
+use super::groups::{Groups, add_groups};
 use std::alloc::{AllocError, Global};
 use std::collections::HashMap;
+use urlpattern_core::Error;
 use urlpattern_inputs::MatchInput;
 
 /// What a match tells of each component.
@@ -52,6 +54,22 @@ pub struct UrlPatternComponentResult {
 }
 
 impl UrlPatternResult {
+    /// The result of empty texts that have no groups. It does not allocate.
+    pub(crate) fn empty(alloc: Global) -> Self
+        ensures { IsWithoutGroups result }
+    {
+        Self {
+            protocol: UrlPatternComponentResult::empty(alloc),
+            username: UrlPatternComponentResult::empty(alloc),
+            password: UrlPatternComponentResult::empty(alloc),
+            hostname: UrlPatternComponentResult::empty(alloc),
+            port: UrlPatternComponentResult::empty(alloc),
+            pathname: UrlPatternComponentResult::empty(alloc),
+            search: UrlPatternComponentResult::empty(alloc),
+            hash: UrlPatternComponentResult::empty(alloc),
+        }
+    }
+
     /// The results of these texts with these groups.
     pub(crate) fn new(texts: MatchInput, groups: Eight<Groups>) -> Self
         ensures inputs { (name : Name) → (result_view result name).input ≡ text_at (texts_view texts) name }
@@ -87,6 +105,35 @@ impl UrlPatternComponentResult {
         let mut names = names_of(alloc, &self.groups)?;
         names.sort_unstable();
         Ok(names)
+    }
+
+    /// The result of the empty text that has no groups. It does not allocate.
+    fn empty(alloc: Global) -> Self
+        ensures { HasNoGroups result.groups }
+    {
+        Self {
+            input: String::new(alloc),
+            groups: HashMap::new(alloc),
+        }
+    }
+
+    /// Takes a copy of a text, and copies of what the groups with these names capture of it.
+    ///
+    /// The error is that memory ran out.
+    pub(super) fn fill(
+        &mut self,
+        alloc: Global,
+        text: &str,
+        names: &[String],
+        captures: &[Option<&str>],
+    ) -> Result<(), Error>
+        requires { HasNoGroups self.old.groups }
+        ensures input { IfOk result (λ _. text_of self.new.input ≡ chars text.now) }
+        ensures groups { IfOk result (λ _. AreGroups (map (λ name. text_of name) names.now) (map capture_view captures.now) self.new.groups) }
+        ensures memory { IfErr result (λ error. error ≡ errors.OutOfMemory) }
+    {
+        self.input = String::from_str(alloc, text)?;
+        add_groups(alloc, &mut self.groups, names, captures)
     }
 
     /// The result of this text with these groups.

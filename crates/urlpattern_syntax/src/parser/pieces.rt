@@ -4,7 +4,7 @@
 ghost use Rattle.std.specs.Prelude.{◌≡◌, ◌≢◌, ◌∷◌, ◌++◌, ◌<◌, ◌≤◌, ℕ, List, IsTrue, IfErr, IfNone, IfOk, IfSome, OnOk, length};
 ghost use Rattle.std.specs.Str.{chars};
 ghost use Rattle.urlpattern_syntax.specs.declared.tokenizer.TokenType.TheVariants as kinds;
-ghost use Rattle.urlpattern_syntax.specs.Parsing.{BeginsWithClose, BeginsWithModifier, BeginsWithPiece, BeginsWithPlaceholder, BeginsWithTexts, Gives, IsNext, IsShorter, Stands, StartsText, Takes, piece_view, placeholder_view, reader_left, reader_text};
+ghost use Rattle.urlpattern_syntax.specs.Parsing.{BeginsWithClose, BeginsWithModifier, BeginsWithPiece, BeginsWithPlaceholder, BeginsWithTexts, Gives, IsNamed, IsNext, IsNextNamed, IsRow, IsShorter, Stands, StartsText, Takes, name_view, piece_view, placeholder_view, reader_left, reader_text};
 ghost use Rattle.urlpattern_syntax.specs.Pieces.{IsPrefixOf, is_placeholder, is_text};
 ghost use Rattle.urlpattern_syntax.specs.Text.{text_of};
 ghost use Rattle.urlpattern_syntax.specs.Tokens.{TellsFault, TokenView, token_view};
@@ -50,6 +50,8 @@ pub(super) enum Piece<'a> {
 pub(super) enum Next<'a> {
     /// A piece, which is taken.
     Piece(Piece<'a>),
+    /// A character and the characters after it, which are taken. Each of them is a piece, and another one follows.
+    Characters(&'a str, &'a str),
     /// A token with which no piece begins. It is not taken.
     Stops,
     /// A group without its end. The token in place of that is not taken.
@@ -106,6 +108,7 @@ impl<'a> Reader<'a> {
     pub(super) fn next_piece(&mut self, prefix_code_point: &str) -> Result<Next<'a>, Error>
         requires { Stands self.old }
         ensures next { IfOk result (λ next. Takes self.old self.new (λ tokens rest. IsNext (chars prefix_code_point.now) tokens next rest)) }
+        ensures named { IfOk result IsNextNamed }
         ensures less { IfOk result (IsShorter (reader_left self.new) (reader_left self.old)) }
         ensures fault { IfErr result (TellsFault (reader_text self.old)) }
     {
@@ -136,19 +139,39 @@ impl<'a> Reader<'a> {
         Ok(token)
     }
 
-    /// Takes a character, and the placeholder after it if the character is its prefix.
+    /// Takes a character, and the placeholder after it if the character is its prefix, or else the characters after it.
     fn character(&mut self, prefix_code_point: &str) -> Result<Next<'a>, Error>
         requires stands { Stands self.old }
         requires character { self.old.token.kind ≡ kinds.Char }
         ensures next { IfOk result (λ next. Takes self.old self.new (λ tokens rest. IsNext (chars prefix_code_point.now) tokens next rest)) }
+        ensures named { IfOk result IsNextNamed }
         ensures less { OnOk result (reader_left self.new < reader_left self.old) }
         ensures fault { IfErr result (TellsFault (reader_text self.old)) }
     {
-        let token = self.take()?;
-        if token.value == prefix_code_point && is_placeholder(self.token.kind) {
-            return self.bare(token.value);
+        let (first, more) = self.characters()?;
+        if !more.is_empty() {
+            return Ok(Next::Characters(first, more));
         }
-        Ok(Next::Piece(Piece::Text(token.value)))
+        if first == prefix_code_point && is_placeholder(self.token.kind) {
+            return self.bare(first);
+        }
+        Ok(Next::Piece(Piece::Text(first)))
+    }
+
+    /// Takes a character, and the characters after it up to the last of them. Their values.
+    fn characters(&mut self) -> Result<(&'a str, &'a str), Error>
+        requires stands { Stands self.old }
+        requires character { self.old.token.kind ≡ kinds.Char }
+        ensures first { IfOk result (λ taken. taken.0 ≡ self.old.token.value) }
+        ensures more { IfOk result (λ taken. Takes self.old self.new (λ tokens rest. IsRow tokens (token_view self.old.token) (chars taken.1.now) rest)) }
+        ensures less { OnOk result (reader_left self.new < reader_left self.old) }
+        ensures fault { IfErr result (TellsFault (reader_text self.old)) }
+    {
+        let more = self.cursor.characters();
+        let next = self.cursor.next()?;
+        let first = self.token.value;
+        self.token = next;
+        Ok((first, more))
     }
 
     /// Takes a placeholder without braces and its modifier, after this prefix.
@@ -157,6 +180,7 @@ impl<'a> Reader<'a> {
         requires placeholder { IsTrue (is_placeholder self.old.token.kind) }
         ensures next { IfOk result (λ next. Takes self.old self.new (λ tokens rest. (point : List ℕ) (before : List TokenView)
             → IsPrefixOf point before (chars prefix.now) → IsNext point (before ++ tokens) next rest)) }
+        ensures named { IfOk result IsNextNamed }
         ensures less { OnOk result (reader_left self.new < reader_left self.old) }
         ensures fault { IfErr result (TellsFault (reader_text self.old)) }
     {
@@ -170,6 +194,7 @@ impl<'a> Reader<'a> {
         requires stands { Stands self.old }
         requires opening { self.old.token.kind ≡ kinds.Open }
         ensures next { IfOk result (λ next. Takes self.old self.new (λ tokens rest. (point : List ℕ) → IsNext point tokens next rest)) }
+        ensures named { IfOk result IsNextNamed }
         ensures less { OnOk result (reader_left self.new < reader_left self.old) }
         ensures fault { IfErr result (TellsFault (reader_text self.old)) }
     {
@@ -210,6 +235,7 @@ impl<'a> Reader<'a> {
         requires stands { Stands self.old }
         requires placeholder { IsTrue (is_placeholder self.old.token.kind) }
         ensures placeholder { IfOk result (λ placeholder. Takes self.old self.new (λ tokens rest. BeginsWithPlaceholder tokens (placeholder_view placeholder) rest)) }
+        ensures named { IfOk result (λ placeholder. IsNamed (name_view placeholder.name)) }
         ensures less { OnOk result (reader_left self.new < reader_left self.old) }
         ensures fault { IfErr result (TellsFault (reader_text self.old)) }
     {

@@ -1,20 +1,24 @@
-use Rattle.std.proofs.Common.{◌≡◌, ℕ, List, ◌++◌, map, string_bytes, take, take_all, refl, ap, ◌∙◌}
+use Rattle.std.proofs.Common.{◌≡◌, ℕ, List, ◌++◌, map, string_bytes, take, take_all, ap, ◌∙◌}
 use Rattle.std.specs.Borrow.{Bor}
-use Rattle.std.specs.HashMap.{get_by_text}
 use Rattle.std.specs.List.{flat_map}
 use Rattle.std.specs.Prelude.{String}
+use Rattle.std.specs.Str.{chars}
 use Rattle.std.specs.declared.alloc.Global.{Global}
+use Rattle.urlpat_commands.proofs.GroupNames.{lines-of_texts, texts}
 use Rattle.urlpat_commands.specs.Answers.{capture_of}
 use Rattle.urlpat_commands.specs.Report.{group_line}
+use Rattle.urlpattern.specs.Captures.{captures_view}
 use Rattle.urlpat_commands.proofs.matching.push_groups.Goals as goal
 
 pub returns : goal.returns
 returns c =
+    let found = captures_view c.args.found.now c.args.name in
     let bytes : List (Bor (String Global)) → List (List ℕ) = map (λ name. string_bytes name.now) in
-    let line : List ℕ → List ℕ = λ name. group_line c.args.component.now name (capture_of (get_by_text c.args.found.now.groups name)) in
-    let all : take c.loop-name.name-index c.deref-name-items.result.now ≡ c.in_ok-names.names.items =
-    take_all c.loop-name.name-index c.deref-name-items.result.now c.loop-name-test.false ∙ c.deref-name-items.ensures.value in (
-      flat_map line (bytes c.in_ok-names.names.items),
-      c.loop-name.invariant ∙ ap (λ names. string_bytes c.args.text.now ++ flat_map line (bytes names)) all,
-      record { names = bytes c.in_ok-names.names.items; differ = c.in_ok-names.ensures.differ; are_names = c.in_ok-names.ensures.all; in_order = c.in_ok-names.ensures.in_order; is_text = refl },
+    let line : List ℕ → List ℕ = λ name. group_line c.args.component.now name (capture_of (found.group (chars name))) in
+    let items = c.in_ok-groups.groups.items in
+    let all : take c.loop-group.group-index c.deref-group-items.result.now ≡ items =
+    take_all c.loop-group.group-index c.deref-group-items.result.now c.loop-group-test.false ∙ c.deref-group-items.ensures.value in (
+      flat_map line (bytes items),
+      c.loop-group.invariant ∙ ap (λ names. string_bytes c.args.text.now ++ flat_map line (bytes names)) all,
+      (texts items, c.in_ok-groups.ensures, lines-of_texts c.args.component.now found items),
     )

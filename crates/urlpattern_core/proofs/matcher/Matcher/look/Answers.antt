@@ -1,4 +1,5 @@
-use Rattle.std.proofs.Common.{ap, ◌∙◌, refl}
+use Rattle.std.proofs.Common.{◌≡◌, ap, ◌∙◌, refl}
+use Rattle.std.specs.Prelude.{Ok}
 use Rattle.std.specs.Str.{chars}
 use Rattle.urlpattern_laws.specs.Matching.{RegExp}
 use Rattle.urlpattern_syntax.specs.Text.{text_of}
@@ -6,27 +7,32 @@ use Rattle.urlpattern_core.specs.Matchers.{engine_view, inner_view, matcher_view
 use Rattle.urlpattern_core.proofs.MatcherAnswers.{accepts-literal, accepts-single, answers-engine, not_matched-by, not_matched-without}
 use Rattle.urlpattern_core.proofs.matcher.Matcher.look.Goals as goal
 
-pub returns-in_err-middle : goal.returns-in_err-middle
-returns-in_err-middle g c =
+pub returns-in_err-middle-clause-answer : goal.returns-in_err-middle-clause-answer
+returns-in_err-middle-clause-answer g c =
     rw c.from_residual.ensures (not_matched-without g.R.RegExp.answer (matcher_view c.args.self.now) (chars c.args.input.now) c.in_err-middle.ensures.none)
 
-pub returns-else-is_same : goal.returns-else-is_same
-returns-else-is_same g c =
+pub returns-else-is_same-clause-answer : goal.returns-else-is_same-clause-answer
+returns-else-is_same-clause-answer g c =
     let matcher = matcher_view c.args.self.now in
     let middle = chars c.in_ok-middle.middle.now in
     not_matched-by g.R.RegExp.answer matcher (chars c.args.input.now) middle _ c.is_same.result c.in_ok-middle.ensures.some (ap inner_view c.in-Literal.is) c.if-is_same.false
     (accepts-literal g.R.RegExp.answer matcher.ignore_case (text_of c.in-Literal.literal) middle c.is_same.result (rw c.deref.ensures at c.is_same.ensures))
 
-pub returns-else-is_captured : goal.returns-else-is_captured
-returns-else-is_captured g c =
+pub returns-else-is_captured-clause-answer : goal.returns-else-is_captured-clause-answer
+returns-else-is_captured-clause-answer g c =
     let matcher = matcher_view c.args.self.now in
     let middle = chars c.in_ok-middle.middle.now in
     not_matched-by g.R.RegExp.answer matcher (chars c.args.input.now) middle _ c.is_captured.result c.in_ok-middle.ensures.some (ap inner_view c.in-SingleCapture.is) c.if-is_captured.false
     (accepts-single g.R.RegExp.answer matcher.ignore_case c.in-SingleCapture.filter c.in-SingleCapture.allow_empty middle c.is_captured.result c.is_captured.ensures)
 
-pub returns-in-Ok : goal.returns-in-Ok
-returns-in-Ok g c =
+pub returns-in-Ok-clause-answer : goal.returns-in-Ok-clause-answer
+returns-in-Ok-clause-answer g c =
     let matcher = matcher_view c.args.self.now in
     let middle = chars c.in_ok-middle.middle.now in
     answers-engine g.R.RegExp.answer matcher (chars c.args.input.now) middle c.in-Ok.engine _ c.in_ok-middle.ensures.some
     (ap inner_view c.in-RegExp.is ∙ ap (λ x. RegExp (engine_view x)) c.in-Ok.is) refl
+
+pub returns-in-Ok-clause-asked : goal.returns-in-Ok-clause-asked
+returns-in-Ok-clause-asked g c asking =
+    let is_inner : (matcher_view c.args.self.now).inner ≡ RegExp (Ok c.in-Ok.engine) = ap inner_view c.in-RegExp.is ∙ ap (λ x. RegExp (engine_view x)) c.in-Ok.is in
+    (chars c.in_ok-middle.middle.now, c.in_ok-middle.ensures.some, rw is_inner tt)

@@ -6,11 +6,11 @@ use Rattle.urlpattern_pattern.specs.FirstMatch.{patterns_view}
 use Rattle.urlpattern_pattern.specs.Match.{result_view}
 use Rattle.urlpattern_pattern.proofs.list.UrlPatternList.first_of_url.Goals as goal
 
-pub returns-in_ok-result-in-Some-clause-first : goal.returns-in_ok-result-in-Some-clause-first
-returns-in_ok-result-in-Some-clause-first g c =
+pub returns-in_ok-copied-in-Some-clause-first : goal.returns-in_ok-copied-in-Some-clause-first
+returns-in_ok-copied-in-Some-clause-first g c =
     let answer = g.R.RegExp.answer in
     let input = Url c.args.url.now in
     let match = captures_view c.in-Some.captures in
-    let result = result_view c.in_ok-result-in-Some.field-0 in
+    let result = result_view c.copy_to-copied.new.copy in
     first-same_input answer (patterns_view c.args.self.now) input c.in-Some.index match result
-    (λ pattern is_match. input-same answer pattern input match result c.in_ok-result-in-Some.ensures.same is_match) (rw c.in-Some.is at c.in_ok-index.ensures.first)
+    (λ pattern is_match. input-same answer pattern input match result c.in_ok-copied-in-Some.ensures.same is_match) (rw c.in-Some.is at c.in_ok-index.ensures.first)

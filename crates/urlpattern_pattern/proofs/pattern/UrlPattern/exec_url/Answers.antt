@@ -5,7 +5,7 @@ use Rattle.urlpattern_pattern.specs.Match.{result_view}
 use Rattle.urlpattern_pattern.specs.Patterns.{pattern_view}
 use Rattle.urlpattern_pattern.proofs.pattern.UrlPattern.exec_url.Goals as goal
 
-pub returns-in_ok-result-in-Some-clause-matched : goal.returns-in_ok-result-in-Some-clause-matched
-returns-in_ok-result-in-Some-clause-matched g c =
-    input-same g.R.RegExp.answer (pattern_view c.args.self.now) (Url c.args.url.now) (captures_view c.in-Some.captures) (result_view c.in_ok-result-in-Some.field-0)
-    c.in_ok-result-in-Some.ensures.same (rw c.in-Some.is at c.in_ok-captures.ensures.matched)
+pub returns-in_ok-copied-in-Some-clause-matched : goal.returns-in_ok-copied-in-Some-clause-matched
+returns-in_ok-copied-in-Some-clause-matched g c =
+    input-same g.R.RegExp.answer (pattern_view c.args.self.now) (Url c.args.url.now) (captures_view c.in-Some.captures) (result_view c.copy_to-copied.new.copy)
+    c.in_ok-copied-in-Some.ensures.same (rw c.in-Some.is at c.in_ok-captures.ensures.matched)

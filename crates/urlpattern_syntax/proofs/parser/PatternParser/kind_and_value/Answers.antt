@@ -1,32 +1,27 @@
-use Rattle.std.proofs.Common.{◌≡◌, codes, sym, ap, ◌∙◌, rules}
-use Rattle.std.specs.Str.{chars}
-use Rattle.urlpattern_syntax.proofs.ReadingLemmas.{kind_full, kind_custom}
-use Rattle.urlpattern_syntax.proofs.StringTexts.{text-nil}
-use Rattle.urlpattern_syntax.proofs.TextLemmas.{bytes_from_chars, bytes_same, chars_full_wildcard, full_wildcard_bytes}
+use Rattle.std.proofs.Common.{◌≡◌, sym, refl, subst}
+use Rattle.std.specs.Prelude.{IfOk}
 use Rattle.urlpattern_syntax.specs.Options.{options_view}
-use Rattle.urlpattern_syntax.specs.Parsing.{matched_view}
-use Rattle.urlpattern_syntax.specs.Reading.{compared}
+use Rattle.urlpattern_syntax.specs.Reading.{kind_of, value_of}
+use Rattle.urlpattern_syntax.specs.RegexpText.{segment_wildcard}
+use Rattle.urlpattern_syntax.specs.Text.{text_of}
+use Rattle.urlpattern_syntax.proofs.ReadingLemmas.{kind_segment}
+use Rattle.urlpattern_syntax.proofs.StringTexts.{text-nil}
+use Rattle.urlpattern_syntax.proofs.TextLemmas.{chars_full_wildcard}
 use Rattle.urlpattern_syntax.proofs.parser.PatternParser.kind_and_value.Goals as goal
 
-pub returns-then-eq-clause-value : goal.returns-then-eq-clause-value
-returns-then-eq-clause-value g c = text-nil c.new.result c.new.ensures.bytes
-
-pub returns-then-eq-2-clause-value : goal.returns-then-eq-2-clause-value
-returns-then-eq-2-clause-value g c = text-nil c.new-then-eq-2.result c.new-then-eq-2.ensures.bytes
-
-pub returns-then-eq-2-clause-kind : goal.returns-then-eq-2-clause-kind
-returns-then-eq-2-clause-kind g c =
+pub returns-in-Segment-clause-kind : goal.returns-in-Segment-clause-kind
+returns-in-Segment-clause-kind g c =
     let options = options_view c.args.self.now.options.now in
-    let regexp = compared options (matched_view c.args.matched) in
-    let other : c.compared-body.result.now ≡ c.as_str-wildcard.result.now → ⊥ = search rules in
-    let same : c.compared-body.result.now ≡ codes ".*" = search rules in
-    sym (kind_full options regexp (λ e. other (bytes_same _ _ c.compared-body.utf8 c.as_str-wildcard.utf8 (c.compared-body.ensures ∙ e ∙ sym c.requires ∙ ap chars (sym c.as_str-wildcard.ensures.value)))) (sym c.compared-body.ensures ∙ ap chars same ∙ chars_full_wildcard))
+    rw c.in-Segment.is (sym (kind_segment options (segment_wildcard options) refl))
 
-pub returns-clause-kind : goal.returns-clause-kind
-returns-clause-kind g c =
+pub returns-in-Segment-clause-value : goal.returns-in-Segment-clause-value
+returns-in-Segment-clause-value g c = text-nil c.new.result c.new.ensures.bytes
+
+pub returns-in-Anything-clause-kind : goal.returns-in-Anything-clause-kind
+returns-in-Anything-clause-kind g c =
     let options = options_view c.args.self.now.options.now in
-    let regexp = compared options (matched_view c.args.matched) in
-    let other : c.compared-body.result.now ≡ c.as_str-wildcard.result.now → ⊥ = search rules in
-    let wild : c.compared-body.result.now ≡ codes ".*" → ⊥ = search rules in
-    sym (kind_custom options regexp (λ e. other (bytes_same _ _ c.compared-body.utf8 c.as_str-wildcard.utf8 (c.compared-body.ensures ∙ e ∙ sym c.requires ∙ ap chars (sym c.as_str-wildcard.ensures.value))))
-    (λ e. wild (bytes_from_chars _ _ c.compared-body.utf8 (c.compared-body.ensures ∙ e) full_wildcard_bytes)))
+    rw c.in-Anything.is (subst (λ text. IfOk c.kind_by_regexp.result (λ found. found.0 ≡ kind_of options text)) chars_full_wildcard c.kind_by_regexp.ensures.kind)
+
+pub returns-in-Anything-clause-value : goal.returns-in-Anything-clause-value
+returns-in-Anything-clause-value g c =
+    rw c.in-Anything.is (subst (λ text. IfOk c.kind_by_regexp.result (λ found. text_of found.1 ≡ value_of found.0 text)) chars_full_wildcard c.kind_by_regexp.ensures.value)

@@ -1,4 +1,4 @@
-use Rattle.std.proofs.Common.{◌≡◌, ◌<◌, ◌++◌, ◌∷◌, [], map, refl, sym, ap, ◌∙◌, subst, arith}
+use Rattle.std.proofs.Common.{◌≡◌, ◌<◌, ◌++◌, ◌∷◌, [], map, refl, sym, ap, ◌∙◌, subst, arith, append_assoc, Vec, Global}
 use Rattle.std.specs.Fn.{FnReturnsAt}
 use Rattle.std.specs.Str.{chars}
 use Rattle.std.proofs.lemmas.Result.{IfErr-weaker, IfOk-weaker}
@@ -7,12 +7,16 @@ use Rattle.urlpattern_syntax.specs.declared.tokenizer.Token.{Token}
 use Rattle.urlpattern_syntax.specs.declared.tokenizer.TokenType.TheVariants.{Close, End}
 use Rattle.urlpattern_syntax.specs.Errors.{ErrorView as error_views}
 use Rattle.urlpattern_syntax.specs.Options.{options_view}
-use Rattle.urlpattern_syntax.specs.Parsing.{AddsParts, FaultOr, IsNext, IsShorter, MemoryOr, PartListView, Takes, part_list_view, pending_items, piece_view, reader_left, reader_text}
+use Rattle.urlpattern_syntax.specs.Parsing.{AddsParts, BeginsWithRow, FaultOr, IsNext, IsShorter, MemoryOr, PartListView, Takes, part_list_view, pending_items, piece_view, reader_left, reader_text}
+use Rattle.urlpattern_syntax.specs.declared.parser.Part.{Part}
+use Rattle.urlpattern_syntax.specs.RegexpText.{group_names}
+use Rattle.urlpattern_syntax.specs.Text.{text_of}
+use Rattle.urlpattern_syntax.proofs.GivenNameLemmas.{knows_same}
 use Rattle.urlpattern_syntax.specs.Parts.{part_view}
 use Rattle.urlpattern_syntax.specs.Reading.{Expect, FirstFails, Reads, Refuses, encode_fixed, encoding_of}
 use Rattle.urlpattern_syntax.specs.Tokens.{token_view}
 use Rattle.urlpattern_syntax.proofs.PartListLemmas.{number_most}
-use Rattle.urlpattern_syntax.proofs.TextReadingLemmas.{HasReadUpTo, end_fails, end_read, gives_end, group_fails, nothing_read_yet, piece_fails, piece_read}
+use Rattle.urlpattern_syntax.proofs.TextReadingLemmas.{HasReadUpTo, end_fails, end_read, gives_end, group_fails, nothing_read_yet, piece_fails, piece_read, row_read}
 use Rattle.urlpattern_syntax.proofs.parser.PatternParser.part_list.Goals as goal
 
 pub loop-list-init : goal.loop-list-init
@@ -23,12 +27,13 @@ loop-list-init g c =
     record {
       whole = refl;
       stands = c.requires.starts.stands;
-      few = let e = ap (λ (list : PartListView). list.number) c.new-list.ensures in omega (arith, e);
-      read = subst (HasReadUpTo options encoding text c.args.reader.now) (sym c.new-list.ensures) (nothing_read_yet options encoding text c.args.reader.now c.requires.starts);
+      knows = c.new-list.ensures.knows;
+      few = let e = ap (λ (list : PartListView). list.number) c.new-list.ensures.empty in omega (arith, e);
+      read = subst (HasReadUpTo options encoding text c.args.reader.now) (sym c.new-list.ensures.empty) (nothing_read_yet options encoding text c.args.reader.now c.requires.starts);
     }
 
-pub loop-list-preserved : goal.loop-list-preserved
-loop-list-preserved g c =
+pub loop-list-preserved-in-Ok : goal.loop-list-preserved-in-Ok
+loop-list-preserved-in-Ok g c =
     let options = options_view c.args.self.now.options.now in
     let encoding = encoding_of (FnReturnsAt g.F.Fn c.args.self.now.encoding_callback) in
     let text = reader_text c.args.reader.now in
@@ -48,8 +53,40 @@ loop-list-preserved g c =
     record {
       whole = same;
       stands = takes.stands;
+      knows = c.in-Ok.ensures.knows;
       few = omega (arith, less, number, most, few);
       read = piece_read options encoding text old new list read piece (part_list_view c.add.new.self) takes number c.in-Ok.ensures.ok;
+    }
+
+pub loop-list-preserved : goal.loop-list-preserved
+loop-list-preserved g c =
+    let options = options_view c.args.self.now.options.now in
+    let encoding = encoding_of (FnReturnsAt g.F.Fn c.args.self.now.encoding_callback) in
+    let text = reader_text c.args.reader.now in
+    let old = c.loop-list.reader in
+    let new = c.next_piece.new.self in
+    let list = c.loop-list.list in
+    let next = c.add_plain-in-Characters.new.self in
+    let characters = nexts.Characters c.in-Characters.first c.in-Characters.more in
+    let row = chars c.in-Characters.first.now ++ chars c.in-Characters.more.now in
+    let takes : Takes old new (λ tokens rest. BeginsWithRow tokens row rest) =
+    subst (λ next. Takes old new (λ tokens rest. IsNext (chars c.deref.result.now) tokens next rest)) c.in-Characters.is c.in_ok-piece.ensures.next in
+    let same : reader_text new ≡ text = ap chars takes.whole ∙ c.loop-list.invariant.whole in
+    let less : reader_left new < reader_left old = subst (IsShorter (reader_left new) (reader_left old)) c.in-Characters.is c.in_ok-piece.ensures.less in
+    let one = c.in_ok-add_plain-in-Characters.ensures in
+    let two = c.in_ok-add_plain-in-Characters-2.ensures in
+    let parts = two.parts ∙ one.parts in
+    let number = two.number ∙ one.number in
+    let few = c.loop-list.invariant.few in
+    let parts_view = ap (λ (parts : Vec Part Global). map part_view parts.items) parts in
+    record {
+      whole = same;
+      stands = takes.stands;
+      knows = knows_same (group_names (part_list_view list).parts) (group_names (part_list_view next).parts) list.given_names next.given_names list.next_numeric_name next.next_numeric_name
+          (ap group_names parts_view) (two.names ∙ one.names) number c.loop-list.invariant.knows;
+      few = omega (arith, less, number, few);
+      read = row_read options encoding text old new (part_list_view list) c.loop-list.invariant.read row (part_list_view next) takes parts_view number
+          (two.pending ∙ ap (λ text. text ++ chars c.in-Characters.more.now) one.pending ∙ append_assoc (text_of list.pending_fixed_value) (chars c.in-Characters.first.now) (chars c.in-Characters.more.now));
     }
 
 pub returns-in-Err-clause-refuses : goal.returns-in-Err-clause-refuses

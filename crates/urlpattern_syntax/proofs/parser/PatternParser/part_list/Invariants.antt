@@ -1,7 +1,7 @@
 use Rattle.std.proofs.Common.{◌≡◌, ◌+◌, ◌≤◌}
 use Rattle.std.specs.Fn.{FnReturnsAt}
 use Rattle.urlpattern_syntax.specs.Options.{options_view}
-use Rattle.urlpattern_syntax.specs.Parsing.{Stands, part_list_view, reader_left, reader_text}
+use Rattle.urlpattern_syntax.specs.Parsing.{KnowsItsNames, Stands, part_list_view, reader_left, reader_text}
 use Rattle.urlpattern_syntax.specs.Reading.{encoding_of}
 use Rattle.urlpattern_syntax.proofs.TextReadingLemmas.{HasReadUpTo}
 use Rattle.urlpattern_syntax.proofs.parser.PatternParser.part_list.Given as goal
@@ -11,6 +11,7 @@ abbrev pub invariant-loop-list : goal.invariant-loop-list
 invariant-loop-list g l = record {
   whole : reader_text l.reader ≡ reader_text l.fn.reader;
   stands : Stands l.reader;
+  knows : KnowsItsNames l.list;
   few : l.list.next_numeric_name + reader_left l.reader ≤ reader_left l.fn.reader;
   read : HasReadUpTo (options_view l.self.options.now) (encoding_of (FnReturnsAt g.F.Fn l.self.encoding_callback)) (reader_text l.fn.reader) l.reader (part_list_view l.list);
 }

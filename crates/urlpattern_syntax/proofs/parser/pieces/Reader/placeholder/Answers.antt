@@ -57,6 +57,7 @@ returns-in_default c =
     record {
       placeholder = takes_weaker c.args.self.now c.take.new.self (λ tokens rest. tokens ≡ token_view token ∷ rest) (λ tokens rest. BeginsWithPlaceholder tokens placeholder rest) c.in_ok-first.ensures.takes
           (λ x y gx gy p. wildcard x y (token_view token) p is_asterisk);
+      named = tt;
       less = c.in_ok-first.ensures.less;
       fault = tt;
     }

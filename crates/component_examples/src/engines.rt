@@ -1,0 +1,163 @@
+//! The engine for patterns beside `regex::Regex`, on expressions that components are made of.
+
+use regex::Regex;
+use std::alloc::Global;
+use std::test::Fail;
+use urlpattern_core::RegexSyntax;
+use urlpattern_core::error::RegExpError;
+use urlpattern_core::regexp::RegExp;
+use urlpattern_engine::PatternRegexp;
+
+/// An expression, a text, and what the groups capture of it.
+type Case = (
+    &'static str,
+    &'static str,
+    Option<&'static [Option<&'static str>]>,
+);
+
+/// Expressions that are matched without a choice.
+const PLAIN: [Case; 30] = [
+    ("^$", "", Some(&[])),
+    ("^$", "a", None),
+    ("^/about/team$", "/about/team", Some(&[])),
+    ("^/about/team$", "/about/teams", None),
+    ("^/about/team$", "/about/tea", None),
+    ("^a\\.b$", "a.b", Some(&[])),
+    ("^a\\.b$", "axb", None),
+    ("^/users(?:/([^/]+?))$", "/users/42", Some(&[Some("42")])),
+    ("^/users(?:/([^/]+?))$", "/users/", None),
+    ("^/users(?:/([^/]+?))$", "/users/4/2", None),
+    (
+        "^/users(?:/([^/]+?))$",
+        "/users/a\nb",
+        Some(&[Some("a\nb")]),
+    ),
+    (
+        "^(?:/([^/]+?))(?:/([^/]+?))$",
+        "/é/b",
+        Some(&[Some("é"), Some("b")]),
+    ),
+    ("^(?:/([^/]+?))(?:/([^/]+?))$", "/a", None),
+    (
+        "^([^\\.]+?)\\.example\\.com$",
+        "a.example.com",
+        Some(&[Some("a")]),
+    ),
+    ("^([^\\.]+?)\\.example\\.com$", "a.b.example.com", None),
+    ("^(.*)$", "", Some(&[Some("")])),
+    ("^(.*)$", "a/b", Some(&[Some("a/b")])),
+    ("^(.*)$", "a\nb", None),
+    ("^(.+?)$", "", None),
+    ("^(.+?)$", "a?b", Some(&[Some("a?b")])),
+    ("^(.+?)$", "a\n", None),
+    ("^/files(?:/(.*))$", "/files/", Some(&[Some("")])),
+    ("^/files(?:/(.*))$", "/files/a/b", Some(&[Some("a/b")])),
+    (
+        "^(?:/([^/]+?))(?:/(.*))$",
+        "/a/b/c",
+        Some(&[Some("a"), Some("b/c")]),
+    ),
+    ("^(?:v([^-]+?)-)x$", "v1-x", Some(&[Some("1")])),
+    ("^(?:v([^-]+?)-)x$", "v1-", None),
+    ("^([^é]+?)é$", "aé", Some(&[Some("a")])),
+    ("^([^é]+?)é$", "aéé", None),
+    ("^([^/]+?)$", "a\u{2028}b", Some(&[Some("a\u{2028}b")])),
+    ("^(?:)$", "", Some(&[])),
+];
+
+/// Expressions with a choice, custom ones among them.
+const CHOSEN: [Case; 20] = [
+    ("^http(?:s)?$", "https", Some(&[])),
+    ("^http(?:s)?$", "http", Some(&[])),
+    ("^(?:/([^/]+?))?$", "", Some(&[None])),
+    ("^(?:/([^/]+?))?$", "/a", Some(&[Some("a")])),
+    ("^([^/]+?)b$", "abb", Some(&[Some("ab")])),
+    ("^([^/]+?)([^/]+?)$", "abc", Some(&[Some("a"), Some("bc")])),
+    ("^(.*)/(.*)$", "a/b/c", Some(&[Some("a/b"), Some("c")])),
+    ("^(.+?)/(.*)$", "a/b/c", Some(&[Some("a"), Some("b/c")])),
+    ("^(.*)(.*)$", "ab", Some(&[Some("ab"), Some("")])),
+    ("^(.*)\\.html$", "a.html", Some(&[Some("a")])),
+    ("^(?:a)*$", "aaa", Some(&[])),
+    ("^(?:a)+$", "", None),
+    ("^((?:.*)*)$", "ab", Some(&[Some("ab")])),
+    ("^([^/]+?)?$", "", Some(&[None])),
+    (
+        "^(?:/((?:[^/]+?)(?:/(?:[^/]+?))*))$",
+        "/a/b",
+        Some(&[Some("a/b")]),
+    ),
+    ("^(?:/((?:[^/]+?)(?:/(?:[^/]+?))*))?$", "", Some(&[None])),
+    ("^([0-9]+)$", "42", Some(&[Some("42")])),
+    ("^([0-9]+)$", "a", None),
+    ("^(a|ab)(c|bcd)$", "abcd", Some(&[Some("a"), Some("bcd")])),
+    ("^a|b$", "ab", Some(&[])),
+];
+
+/// Whether the value of an expression answers a text as expected.
+fn is_answered<R: RegExp>(
+    alloc: Global,
+    (regexp, text, expected): Case,
+) -> Result<bool, RegExpError> {
+    let value = R::parse(alloc, regexp, "u", true)?;
+    let is_answered = match (value.matches(alloc, text), expected) {
+        (Ok(Some(captures)), Some(expected)) => captures.as_slice() == expected,
+        (Ok(None), None) => true,
+        (Err(_), _) => return Err(RegExpError::OutOfMemory),
+        _ => false,
+    };
+    Ok(is_answered && value.pattern_string() == regexp)
+}
+
+/// Whether both engines answer as expected.
+fn is_answered_by_both(alloc: Global, case: Case) -> Result<bool, RegExpError> {
+    Ok(is_answered::<PatternRegexp>(alloc, case)? && is_answered::<Regex>(alloc, case)?)
+}
+
+#[test]
+fn expressions_without_a_choice(rt: HostRuntime) -> Result<(), Fail> {
+    for case in PLAIN {
+        assert!(rt; is_answered_by_both(rt.alloc(), case)?, "{case:?}");
+    }
+    Ok(())
+}
+
+#[test]
+fn expressions_with_a_choice(rt: HostRuntime) -> Result<(), Fail> {
+    for case in CHOSEN {
+        assert!(rt; is_answered_by_both(rt.alloc(), case)?, "{case:?}");
+    }
+    Ok(())
+}
+
+/// Whether the engine refuses a text because it is no regular expression.
+fn is_refused(alloc: Global, regexp: &str) -> Result<bool, RegExpError> {
+    match PatternRegexp::parse(alloc, regexp, "u", false) {
+        Ok(_) => Ok(false),
+        Err(RegExpError::Pattern) => Ok(true),
+        Err(error) => Err(error),
+    }
+}
+
+#[test]
+fn what_is_no_expression_is_refused(rt: HostRuntime) -> Result<(), Fail> {
+    for regexp in ["^(a[)$", "^($", "^a)$"] {
+        assert!(rt; is_refused(rt.alloc(), regexp)?, "{regexp}");
+    }
+    assert_eq!(rt; PatternRegexp::syntax(), RegexSyntax::Rust);
+    Ok(())
+}
+
+/// Holds whichever allocation is refused: `rt try --test --fail-alloc N` refuses the one of that number.
+#[test]
+fn without_memory_no_other_answer_is_given(rt: HostRuntime) {
+    let case: Case = (
+        "^(?:/([^/]+?))(?:/(.*))$",
+        "/a/b/c",
+        Some(&[Some("a"), Some("b/c")]),
+    );
+    let answer = is_answered::<PatternRegexp>(rt.alloc(), case);
+    assert!(rt;
+        matches!(&answer, Ok(true) | Err(RegExpError::OutOfMemory)),
+        "{answer:?}"
+    );
+}

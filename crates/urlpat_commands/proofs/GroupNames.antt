@@ -1,0 +1,136 @@
+-- Lemmas on the names of a component's groups, each once and in order.
+use Rattle.std.proofs.Common.{Less, Ordering, ◌≡◌, ◌↔◌, ℕ, ◌<◌, ⊎_elim, Bor, Bool, true, List, [], ◌∷◌, ◌++◌, append-nil, append_assoc, ap, ap₂, arith, bytes_eq, inl, inr, length, map, refl, reverse, subst, suc, sym, zero, zip, ◌∙◌}
+use Rattle.std.proofs.lemmas.List.{get_or-map, length-map}
+use Rattle.std.proofs.lemmas.List.Elements.{All-from_recursion, recursion_from_All}
+use Rattle.std.proofs.lemmas.List.Kept.{Any-dedup, Contains-from_dedup, IsStrictlySortedBy-dedup}
+use Rattle.std.proofs.lemmas.List.Sorted.{Contains-permutation, IsPermutation-map, IsPermutation-reverse, IsPermutation-sym}
+use Rattle.std.proofs.lemmas.Map.Views.{Contains-keys_from_lookup, IsSome-lookup_from_Contains}
+use Rattle.std.specs.Cmp.Lexicographic.{bytes_decides, nat_list_eq_equiv, on_texts, on_texts_equal, slice_cmp, texts_ties}
+use Rattle.std.specs.List.{AllByRecursion, Contains, dedup, flat_map}
+use Rattle.std.specs.List.Sorted.{IsPermutation, IsSorted, IsStrictlySortedBy}
+use Rattle.std.specs.Map.{keys_of, lookup}
+use Rattle.std.specs.Ordering.{nat_cmp, on}
+use Rattle.std.specs.Prelude.{◌⊎◌, IsSome, Option, String, encode_utf8_all, string_bytes}
+use Rattle.std.specs.Str.{chars}
+use Rattle.std.specs.declared.alloc.Global.{Global}
+use Rattle.urlpat_commands.proofs.AnswerLemmas.{bytes_of_text}
+use Rattle.urlpat_commands.specs.Answers.{AreNames, capture_of, line_of}
+use Rattle.urlpat_commands.specs.Report.{group_line}
+use Rattle.urlpattern.specs.Captured.{capture_view}
+use Rattle.urlpattern.specs.Captures.{captures_view, groups_view}
+use Rattle.urlpattern.specs.Match.{ResultView}
+use Rattle.urlpattern.specs.Text.{text_of}
+use Rattle.urlpattern_init.specs.declared.init.processing.Component.{Component}
+use Rattle.urlpattern_pattern.specs.declared.pattern.captures.UrlPatternCaptures.{UrlPatternCaptures}
+
+-- ---- names that are gathered
+
+abbrev pub texts : List (Bor (String Global)) → List (List ℕ)
+texts names = map (λ name. text_of name.now) names
+
+-- the names of the groups that are still to come
+abbrev pub names_left : List (String Global) → List (Option (Bor (List ℕ))) → List (List ℕ)
+names_left names captures = keys_of (zip (map (λ name. text_of name) names) (map capture_view captures))
+
+texts-push : (names : List (Bor (String Global))) (name : Bor (String Global)) → texts (names ++ name ∷ []) ≡ texts names ++ text_of name.now ∷ []
+texts-push [] name = refl
+texts-push (first ∷ names) name = ap (λ rest. text_of first.now ∷ rest) (texts-push names name)
+
+pub names-more : (before names : List (String Global)) (before_captures captures : List (Option (Bor (List ℕ)))) (name : Bor (String Global)) (capture : Option (Bor (List ℕ)))
+    (old new : List (Bor (String Global))) (all : List (List ℕ)) → before ≡ name.now ∷ names → before_captures ≡ capture ∷ captures → new ≡ old ++ name ∷ [] →
+    texts old ++ names_left before before_captures ≡ all → texts new ++ names_left names captures ≡ all
+names-more before names before_captures captures name capture old new all is_first is_capture is_new was =
+    ap (λ gathered. texts gathered ++ names_left names captures) is_new
+    ∙ ap (λ gathered. gathered ++ names_left names captures) (texts-push old name)
+    ∙ append_assoc (texts old) (text_of name.now ∷ []) (names_left names captures)
+    ∙ ap (λ left. texts old ++ left) (ap₂ names_left (sym is_first) (sym is_capture))
+    ∙ was
+
+left-end : (names : List (String Global)) (captures : List (Option (Bor (List ℕ)))) → (names ≡ []) ⊎ (captures ≡ []) → names_left names captures ≡ []
+left-end names captures (inl e) = ap (λ rest. names_left rest captures) e
+left-end [] captures (inr e) = refl
+left-end (first ∷ names) captures (inr e) = ap (λ rest. names_left (first ∷ names) rest) e
+
+pub names-end : (names : List (String Global)) (captures : List (Option (Bor (List ℕ)))) (gathered : List (Bor (String Global))) (all : List (List ℕ)) → (names ≡ []) ⊎ (captures ≡ []) →
+    texts gathered ++ names_left names captures ≡ all → texts gathered ≡ all
+names-end names captures gathered all ends was =
+    sym (append-nil (texts gathered)) ∙ ap (λ left. texts gathered ++ left) (sym (left-end names captures ends)) ∙ was
+
+-- ---- names and groups
+
+-- a name is among those of the groups where there is a group of it
+pub named-group : (found : UrlPatternCaptures) (component : Component) (name : List ℕ) →
+    Contains (keys_of (groups_view found component)) name ↔ IsSome ((captures_view found component).group name)
+named-group found component name =
+    let groups = groups_view found component in
+    let turned = IsPermutation-map (λ (group : List ℕ × Option (List ℕ)). group.0) groups (reverse groups) (IsPermutation-reverse groups) in (
+      λ among. IsSome-lookup_from_Contains nat_list_eq_equiv name (reverse groups) (Contains-permutation (keys_of groups) (keys_of (reverse groups)) name turned among),
+      λ is. Contains-permutation (keys_of (reverse groups)) (keys_of groups) name (IsPermutation-sym (keys_of groups) (keys_of (reverse groups)) turned)
+          (Contains-keys_from_lookup (λ x y same. (bytes_decides x y).0 same) name (reverse groups) is),
+    )
+
+-- ---- names in order, each once
+
+contains-map : {X Y : Type 0} (f : X → Y) (xs : List X) (x : X) → Contains xs x → Contains (map f xs) (f x)
+contains-map f xs x (k, within, is) = (k, subst (λ n. k < n) (sym (length-map xs f)) within, get_or-map f xs k x (f x) within ∙ ap f is)
+
+contains-from_map : {X Y : Type 0} (f : X → Y) (xs : List X) (y : Y) → Contains (map f xs) y → (x : X) × Contains xs x × (f x ≡ y)
+contains-from_map f [] y (k, within, is) = absurd (omega (arith, within))
+contains-from_map f (x ∷ xs) y (zero, within, is) = (x, (0, omega arith, refl), is)
+contains-from_map f (x ∷ xs) y (suc k, within, is) =
+    let (z, there, same) = contains-from_map f xs y (k, omega (arith, within), is) in
+    (z, (suc there.0, omega (arith, there.1), there.2), same)
+
+-- values that stand strictly in order stay so where each is seen by the function that they are compared by
+strictly-map : {X Y : Type 0} (f : X → Y) (R : X → X → Ordering) (S : Y → Y → Ordering) → ((x y : X) → R x y ≡ S (f x) (f y)) → (xs : List X) → IsStrictlySortedBy R xs → IsStrictlySortedBy S (map f xs)
+unfolding IsStrictlySortedBy
+strictly-map f R S same [] sorted = tt
+strictly-map f R S same (x ∷ xs) (above, sorted) = (above-map xs above, strictly-map f R S same xs sorted)
+  where
+    above-map : (ys : List _) → AllByRecursion (λ y. R x y ≡ Less) ys → AllByRecursion (λ y. S (f x) y ≡ Less) (map f ys)
+    above-map [] all = tt
+    above-map (y ∷ ys) (first, all) = (sym (same x y) ∙ first, above-map ys all)
+
+abbrev bytes_at : Bor (String Global) → List ℕ
+bytes_at name = string_bytes name.now
+
+abbrev text_at : Bor (String Global) → List ℕ
+text_at name = text_of name.now
+
+abbrev pub is_same_name : Bor (String Global) → Bor (String Global) → Bool
+is_same_name name other = bytes_eq (string_bytes name.now) (string_bytes other.now)
+
+abbrev pub name_cmp : Bor (String Global) → Bor (String Global) → Ordering
+name_cmp name other = slice_cmp nat_cmp (string_bytes name.now) (string_bytes other.now)
+
+pub names-in_order : (found : UrlPatternCaptures) (component : Component) (gathered sorted : List (Bor (String Global))) → texts gathered ≡ keys_of (groups_view found component) →
+    IsPermutation gathered sorted → IsSorted name_cmp sorted → AreNames (captures_view found component) (texts (dedup is_same_name sorted))
+names-in_order found component gathered sorted are_all permuted in_order =
+    let once = dedup is_same_name sorted in
+    record {
+      are_all = λ name. (
+        λ among.
+            let (x, there, is) = contains-from_map text_at once name among in
+            let before = Contains-permutation sorted gathered x (IsPermutation-sym gathered sorted permuted) (Contains-from_dedup is_same_name sorted x there) in
+            (named-group found component name).0 (subst (λ all. Contains all name) are_all (subst (Contains (texts gathered)) is (contains-map text_at gathered x before))),
+        λ is.
+            let (x, there, same) = contains-from_map text_at gathered name (subst (λ all. Contains all name) (sym are_all) ((named-group found component name).1 is)) in
+            let (k, y, within, at_k, alike) = Any-dedup (on_texts_equal bytes_at) sorted x (Contains-permutation gathered sorted x permuted there) in
+            let bytes = (bytes_decides (bytes_at x) (bytes_at y)).0 alike in
+            subst (Contains (texts once)) (ap chars (sym bytes) ∙ same) (contains-map text_at once y (k, within, at_k)),
+      );
+      in_order = strictly-map text_at name_cmp (on encode_utf8_all (slice_cmp nat_cmp))
+          (λ x y. ap₂ (slice_cmp nat_cmp) (bytes_of_text x.now (text_at x) refl) (bytes_of_text y.now (text_at y) refl)) once
+          (IsStrictlySortedBy-dedup (on_texts bytes_at) (λ x y. texts_ties (bytes_at x) (bytes_at y)) sorted in_order);
+    }
+
+-- ---- lines
+
+-- the lines by the bytes of names are those by their characters
+pub lines-of_texts : (component : List ℕ) (found : ResultView) (names : List (Bor (String Global))) →
+    flat_map (λ name. group_line component name (capture_of (found.group (chars name)))) (map bytes_at names) ≡ flat_map (line_of component found) (texts names)
+lines-of_texts component found [] = refl
+lines-of_texts component found (name ∷ names) =
+    ap₂ (λ first rest. first ++ rest)
+    (ap (λ bytes. group_line component bytes (capture_of (found.group (text_at name)))) (bytes_of_text name.now (text_at name) refl))
+    (lines-of_texts component found names)

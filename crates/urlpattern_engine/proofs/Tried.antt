@@ -1,0 +1,156 @@
+-- Ways that are tried one after the other: what the first that leads on gives.
+use Rattle.std.proofs.Common.{◌≡◌, ℕ, zero, suc, ◌≤◌, List, [], ◌∷◌, ◌++◌, map, length, Option, Some, None, option_map, Bool, true, false, cond, ◌==◌, not, refl, sym, ap, ap₂, ◌∙◌, append_assoc, arith, lt-ltb}
+use Rattle.std.specs.Option.{option_or}
+use Rattle.regex_hir.proofs.OptionLemmas.{option_or-None}
+use Rattle.urlpattern_laws.specs.PartMeaning.{Captures}
+use Rattle.urlpattern_laws.specs.Ways.{Way, Choice, idle, joined_way, continued, one_that, ordered, is_shorter, more_rounds, looped, ways}
+use Rattle.urlpattern_engine.specs.Steps.{up_to_first, from_first}
+
+abbrev pub Next : Type 0
+Next = List ℕ → Option Captures
+
+-- what the first way gives that gives something
+abbrev pub tried : (Way → Option Captures) → List Way → Option Captures
+tried f [] = None
+tried f (way ∷ ways) = option_or (f way) (tried f ways)
+
+-- the captures of a way, and then those of the rest
+abbrev pub before_next : Next → Way → Option Captures
+before_next next way = option_map (λ others. way.captures ++ others) (next way.rest)
+
+option_or-assoc : {A : Type 0} (o p q : Option A) → option_or (option_or o p) q ≡ option_or o (option_or p q)
+option_or-assoc None p q = refl
+option_or-assoc (Some x) p q = refl
+
+option_map-or : {A B : Type 0} (f : A → B) (o p : Option A) → option_map f (option_or o p) ≡ option_or (option_map f o) (option_map f p)
+option_map-or f None p = refl
+option_map-or f (Some x) p = refl
+
+option_map-both : {A B C : Type 0} (f : B → C) (g : A → B) (h : A → C) → ((x : A) → f (g x) ≡ h x) → (o : Option A) → option_map f (option_map g o) ≡ option_map h o
+option_map-both f g h same None = refl
+option_map-both f g h same (Some x) = ap Some (same x)
+
+option_map-still : {A : Type 0} (o : Option A) → option_map (λ x. x) o ≡ o
+option_map-still None = refl
+option_map-still (Some x) = refl
+
+pub tried-append : (f : Way → Option Captures) (xs ys : List Way) → tried f (xs ++ ys) ≡ option_or (tried f xs) (tried f ys)
+tried-append f [] ys = refl
+tried-append f (x ∷ xs) ys = ap (option_or (f x)) (tried-append f xs ys) ∙ sym (option_or-assoc (f x) (tried f xs) (tried f ys))
+
+pub tried-map : (f : Way → Option Captures) (g : Way → Way) (xs : List Way) → tried f (map g xs) ≡ tried (λ way. f (g way)) xs
+tried-map f g [] = refl
+tried-map f g (x ∷ xs) = ap (option_or (f (g x))) (tried-map f g xs)
+
+pub tried-same : (f g : Way → Option Captures) → ((way : Way) → f way ≡ g way) → (xs : List Way) → tried f xs ≡ tried g xs
+tried-same f g same [] = refl
+tried-same f g same (x ∷ xs) = ap₂ option_or (same x) (tried-same f g same xs)
+
+pub tried-continued : (f : Way → Option Captures) (next : Choice) (xs : List Way)
+    → tried f (continued next xs) ≡ tried (λ way. tried (λ more. f (joined_way way more)) (next way.rest)) xs
+tried-continued f next [] = refl
+tried-continued f next (x ∷ xs) =
+    tried-append f (map (joined_way x) (next x.rest)) (continued next xs)
+    ∙ ap₂ option_or (tried-map f (joined_way x) (next x.rest)) (tried-continued f next xs)
+
+-- a way, and then what the ways of the rest give
+tried-joined : (next : Next) (way : Way) (xs : List Way)
+    → tried (λ more. before_next next (joined_way way more)) xs ≡ option_map (λ others. way.captures ++ others) (tried (before_next next) xs)
+tried-joined next way [] = refl
+tried-joined next way (x ∷ xs) =
+    ap₂ option_or
+    (sym (option_map-both (λ others. way.captures ++ others) (λ others. x.captures ++ others) (λ others. (way.captures ++ x.captures) ++ others)
+    (λ others. sym (append_assoc way.captures x.captures others)) (next x.rest)))
+    (tried-joined next way xs)
+    ∙ sym (option_map-or (λ others. way.captures ++ others) (before_next next x) (tried (before_next next) xs))
+
+-- the ways of what follows are tried behind each way
+pub tried-behind : (next : Next) (choice : Choice) (xs : List Way)
+    → tried (before_next next) (continued choice xs) ≡ tried (before_next (λ rest. tried (before_next next) (choice rest))) xs
+tried-behind next choice xs =
+    tried-continued (before_next next) choice xs
+    ∙ tried-same _ _ (λ way. tried-joined next way (choice way.rest)) xs
+
+pub before_next-same : (next other : Next) → ((text : List ℕ) → next text ≡ other text) → (way : Way) → before_next next way ≡ before_next other way
+before_next-same next other same way = ap (option_map (λ others. way.captures ++ others)) (same way.rest)
+
+pub tried-idle : (next : Next) (text : List ℕ) → tried (before_next next) (idle 0 text ∷ []) ≡ next text
+tried-idle next text = option_or-None (before_next next (idle 0 text)) ∙ option_map-still (next text)
+
+-- ---- loops of single characters
+
+-- what is given, by the front, its captures and the rest
+abbrev pub Given : Type 0
+Given = List ℕ → Captures → List ℕ → Option Captures
+
+abbrev pub given : Given → Way → Option Captures
+given h way = h way.taken way.captures way.rest
+
+-- nothing is given where the rest begins with another character
+abbrev pub StopsAt : ℕ → Given → Type 0
+StopsAt end h = (taken : List ℕ) (captures : Captures) (c : ℕ) (rest : List ℕ) → (c == end) ≡ false → h taken captures (c ∷ rest) ≡ None
+
+-- the same behind one character more
+abbrev behind : ℕ → Given → Given
+behind c h taken captures rest = h (c ∷ taken) captures rest
+
+module _ (greedy : Bool) (end : ℕ) where
+  abbrev pub one : Choice
+  one = one_that (λ c. not (c == end))
+
+  -- going on is all that gives something, where stopping gives nothing
+  ordered-on : (f : Way → Option Captures) (greedy : Bool) (going stopping : List Way) → tried f stopping ≡ None → tried f (ordered greedy going stopping) ≡ tried f going
+  ordered-on f true going stopping e = tried-append f going stopping ∙ ap (option_or (tried f going)) e ∙ option_or-None _
+  ordered-on f false going stopping e = tried-append f stopping going ∙ ap (λ o. option_or o (tried f going)) e
+
+  ordered-off : (f : Way → Option Captures) (greedy : Bool) (stopping : List Way) → tried f (ordered greedy [] stopping) ≡ tried f stopping
+  ordered-off f true stopping = refl
+  ordered-off f false stopping = tried-append f stopping [] ∙ option_or-None _
+
+  idle-given : (h : Given) (text : List ℕ) → tried (given h) (idle 0 text ∷ []) ≡ h [] [] text
+  idle-given h text = option_or-None _
+
+  -- behind one character the rounds that are left
+  one_round : (h : Given) (c : ℕ) (text : List ℕ) (next : Choice)
+      → tried (given h) (continued next (record { taken = c ∷ []; captures = []; rest = text } ∷ [])) ≡ tried (given (behind c h)) (next text)
+  one_round h c text next = tried-continued (given h) next (record { taken = c ∷ []; captures = []; rest = text } ∷ []) ∙ option_or-None (tried (given (behind c h)) (next text))
+
+  pub rounds-given : (n : ℕ) (h : Given) → StopsAt end h → (text : List ℕ) → length text ≤ n
+      → tried (given h) (more_rounds greedy one n text) ≡ h (up_to_first end text) [] (from_first end text)
+  rounds-given zero h stops [] le = idle-given h []
+  rounds-given zero h stops (c ∷ text) le = absurd (omega arith)
+  rounds-given (suc n) h stops [] le = ordered-off (given h) greedy (idle 0 [] ∷ []) ∙ idle-given h []
+  rounds-given (suc n) h stops (c ∷ text) le =
+      by (c == end) refl (rounds-given n (behind c h) (λ taken captures d rest f. stops (c ∷ taken) captures d rest f) text (omega arith))
+    where
+      next : Choice
+      next rest = cond (is_shorter rest (c ∷ text)) (more_rounds greedy one n rest) []
+
+      by : (b : Bool) → (c == end) ≡ b
+          → tried (given (behind c h)) (more_rounds greedy one n text) ≡ behind c h (up_to_first end text) [] (from_first end text)
+          → tried (given h) (ordered greedy (continued next (cond (not b) (record { taken = c ∷ []; captures = []; rest = text } ∷ []) [])) (idle 0 (c ∷ text) ∷ []))
+          ≡ h (cond b [] (c ∷ up_to_first end text)) [] (cond b (c ∷ text) (from_first end text))
+      by true e later = ordered-off (given h) greedy (idle 0 (c ∷ text) ∷ []) ∙ idle-given h (c ∷ text)
+      by false e later =
+          let shorter : is_shorter text (c ∷ text) ≡ true = lt-ltb _ _ (omega arith) in
+          ordered-on (given h) greedy _ _ (idle-given h (c ∷ text) ∙ stops [] [] c text e)
+          ∙ one_round h c text next
+          ∙ ap (λ b. tried (given (behind c h)) (cond b (more_rounds greedy one n text) [])) shorter
+          ∙ later
+
+  -- a loop: nothing before the end, and else the rest up to it
+  pub looped-given : (h : Given) → StopsAt end h → (c : ℕ) (text : List ℕ)
+      → tried (given h) (looped greedy one (c ∷ text)) ≡ cond (c == end) None (h (c ∷ up_to_first end text) [] (from_first end text))
+  looped-given h stops c text = by (c == end)
+    where
+      next : Choice
+      next rest = cond (is_shorter rest (c ∷ text)) (more_rounds greedy one (length rest) rest) (idle 0 rest ∷ [])
+
+      by : (b : Bool) → tried (given h) (continued next (cond (not b) (record { taken = c ∷ []; captures = []; rest = text } ∷ []) []))
+          ≡ cond b None (h (c ∷ up_to_first end text) [] (from_first end text))
+      by true = refl
+      by false =
+          let shorter : is_shorter text (c ∷ text) ≡ true = lt-ltb _ _ (omega arith) in
+          one_round h c text next
+          ∙ ap (λ b. tried (given (behind c h)) (cond b (more_rounds greedy one (length text) text) (idle 0 text ∷ []))) shorter
+          ∙ rounds-given (length text) (behind c h) (λ taken captures d rest f. stops (c ∷ taken) captures d rest f) text (omega arith)

@@ -1,0 +1,22 @@
+use Rattle.std.proofs.Common.{◌≡◌, sym, subst}
+use Rattle.std.specs.Prelude.{IfOk}
+use Rattle.std.specs.Str.{chars}
+use Rattle.urlpattern_core.specs.Captured.{captures_view}
+use Rattle.urlpattern_core.specs.Engines.{regex_answer}
+use Rattle.urlpattern_engine.specs.Engine.{expression_answer, pattern_answer}
+use Rattle.urlpattern_engine.specs.Steps.{walk}
+use Rattle.urlpattern_engine.proofs.pattern_regexp.PatternRegexpRegExp.matches.Goals as goal
+
+pub returns-in-Own : goal.returns-in-Own
+unfolding pattern_answer
+returns-in-Own c =
+    let text = chars c.args.text.now in
+    subst (λ e. IfOk c.walk.result (λ found. captures_view found ≡ expression_answer e text)) (sym c.in-Own.is)
+    (subst (λ s. IfOk c.walk.result (λ found. captures_view found ≡ walk s text)) c.deref.ensures.value c.walk.ensures)
+
+pub returns-in-Other : goal.returns-in-Other
+unfolding pattern_answer
+returns-in-Other c =
+    let text = chars c.args.text.now in
+    subst (λ e. IfOk c.matches.result (λ found. captures_view found ≡ expression_answer e text)) (sym c.in-Other.is)
+    (subst (λ r. IfOk c.matches.result (λ found. captures_view found ≡ regex_answer r text)) c.deref-in-Other.ensures c.matches.ensures)

@@ -1,0 +1,53 @@
+-- What a value of the engine is made of, and what it answers.
+use Rattle.std.specs.Prelude.{◌≡◌, ◌≢◌, ⊤, false, All, ℕ, List, Option}
+use Rattle.urlpattern_core.specs.Engines.{IsRegexOf, regex_answer, regex_text}
+use Rattle.urlpattern_engine.specs.declared.pattern_regexp.Expression.{Expression}
+use Rattle.urlpattern_engine.specs.declared.pattern_regexp.Expression.TheVariants.{Own, Other}
+use Rattle.urlpattern_engine.specs.declared.pattern_regexp.PatternRegexp.{PatternRegexp}
+use Rattle.urlpattern_engine.specs.Reading.{AreStepsOf}
+use Rattle.urlpattern_engine.specs.Steps.{walk}
+use Rattle.urlpattern_laws.specs.FirstAnswers.{TookText}
+use Rattle.urlpattern_laws.specs.Matching.{IsMadeOf, MatcherView}
+use Rattle.urlpattern_laws.specs.PartMeaning.{Captures}
+use Rattle.urlpattern_syntax.specs.declared.parser.PartType.TheVariants.{Regexp}
+use Rattle.urlpattern_syntax.specs.Options.{OptionsView}
+use Rattle.urlpattern_syntax.specs.Parts.{PartView}
+use Rattle.urlpattern_syntax.specs.Text.{text_of}
+
+-- the text that it was made of
+abbrev pub expression_text : Expression → List ℕ
+expression_text (Own own) = text_of own.text
+expression_text (Other regex) = regex_text regex.value
+
+-- what it answers
+abbrev pub expression_answer : Expression → List ℕ → Option Captures
+expression_answer (Own own) text = walk own.steps.items text
+expression_answer (Other regex) text = regex_answer regex.value text
+
+-- it was made of the text: of steps that answer the first way, or by `regex`
+abbrev pub IsExpressionOf : (regexp : List ℕ) → Expression → Type 0
+IsExpressionOf regexp (Own own) = (text_of own.text ≡ regexp) × AreStepsOf regexp own.steps.items
+IsExpressionOf regexp (Other regex) = IsRegexOf regexp regex.value
+
+abbrev pub pattern_text : PatternRegexp → List ℕ
+pattern_text value = expression_text value.expression
+
+unfoldable pub pattern_answer : PatternRegexp → List ℕ → Option Captures
+pattern_answer value text = expression_answer value.expression text
+
+-- it was made of the text
+pub record IsPatternRegexpOf (regexp : List ℕ) (value : PatternRegexp) : Type 0 where
+  pub of_text : IsExpressionOf regexp value.expression
+
+-- the matcher is made of the parts by this engine, which takes no notice of flags and may refuse any text
+abbrev pub IsMadeByPatternRegexp : OptionsView → (flags : List ℕ) → List PartView → MatcherView PatternRegexp → Type 0
+IsMadeByPatternRegexp options flags parts matcher =
+    IsMadeOf (λ value regexp flags. IsPatternRegexpOf regexp value) (λ regexp flags. ⊤) options flags parts matcher
+
+-- it is such a matcher, of parts of which none is custom, case is kept, and the engine took the text where it was needed
+pub record IsTakenByPatternRegexp (options : OptionsView) (flags : List ℕ) (parts : List PartView)
+    (matcher : MatcherView PatternRegexp) : Type 0 where
+  pub is_made : IsMadeByPatternRegexp options flags parts matcher
+  pub generated : All (λ part. part.kind ≢ Regexp) parts
+  pub case_kept : options.ignore_case ≡ false
+  pub took : TookText (λ value. ⊤) matcher.inner

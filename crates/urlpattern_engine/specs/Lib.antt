@@ -1,0 +1,4 @@
+pub mod Steps
+pub mod Taken
+pub mod Reading
+pub mod Engine

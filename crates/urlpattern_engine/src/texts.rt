@@ -1,0 +1,56 @@
+//! Texts by their characters.
+
+ghost use Rattle.std.specs.Prelude.{◌≡◌, ◌∷◌, ◌++◌, [], ℕ, ◌<◌, List, length, IfNone, IfSome};
+ghost use Rattle.std.specs.Str.{chars};
+ghost use Rattle.urlpattern_engine.specs.Steps.{from_first, up_to_first};
+
+/// The first character of a text and what follows it.
+pub(crate) fn split_first(text: &str) -> Option<(char, &str)>
+    ensures empty { IfNone result (chars text.now ≡ []) }
+    ensures cut { IfSome result (λ found. chars text.now ≡ found.0 ∷ chars found.1.now) }
+    ensures len { IfSome result (λ found. length found.1.now < length text.now) }
+{
+    let mut characters = text.chars();
+    let first = characters.next()?;
+    Some((first, characters.as_str()))
+}
+
+/// What follows this character in a text that begins with it.
+pub(crate) fn after(text: &str, c: char) -> Option<&str>
+    ensures cut { IfSome result (λ rest. chars text.now ≡ c ∷ chars rest.now) }
+    ensures len { IfSome result (λ rest. length rest.now < length text.now) }
+{
+    let (first, rest) = split_first(text)?;
+    if first == c { Some(rest) } else { None }
+}
+
+/// A text up to the first such character, and from there on.
+pub(crate) fn split_at_first(text: &str, c: char) -> (&str, &str)
+    ensures front { chars result.0.now ≡ up_to_first c (chars text.now) }
+    ensures rest { chars result.1.now ≡ from_first c (chars text.now) }
+{
+    let rest = skip_to_first(text, c);
+    (before(text, rest), rest)
+}
+
+/// A text from the first such character on.
+fn skip_to_first(text: &str, c: char) -> &str
+    ensures { chars result.now ≡ from_first c (chars text.now) }
+{
+    let mut rest = text;
+    while let Some((first, after)) = split_first(rest) {
+        if first == c {
+            break;
+        }
+        rest = after;
+    }
+    rest
+}
+
+/// What precedes this end of a text.
+fn before<'a>(text: &'a str, end: &str) -> &'a str
+    requires { (front : List ℕ) × (chars text.now ≡ front ++ chars end.now) }
+    ensures { chars text.now ≡ chars result.now ++ chars end.now }
+{
+    &text[..text.len() - end.len()]
+}

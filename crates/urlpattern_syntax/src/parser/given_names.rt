@@ -1,0 +1,56 @@
+//! The names that a pattern gives to its placeholders.
+ghost use Rattle.std.specs.Prelude.{◌≡◌, ◌||◌, ℕ, List, false, IfErr, OnOk};
+ghost use Rattle.std.specs.Str.{};
+ghost use Rattle.urlpattern_syntax.specs.declared.error.Error.TheVariants as errors;
+ghost use Rattle.urlpattern_syntax.specs.GivenNames.{has_name, is_text};
+
+use crate::error::Error;
+use arrayvec::ArrayVec;
+use std::alloc::Global;
+use std::collections::BTreeSet;
+
+/// How many names are kept without memory.
+const FEW: usize = 8;
+
+/// Names, slices of the pattern's text: the first few side by side, all others in a set.
+#[derive(Drop)]
+pub(super) struct GivenNames<'a> {
+    few: ArrayVec<&'a str, FEW>,
+    others: BTreeSet<&'a str>,
+}
+
+impl<'a> GivenNames<'a> {
+    /// No name. It does not allocate.
+    pub(super) fn new(alloc: Global) -> Self
+        ensures { (name : List ℕ) → has_name result name ≡ false }
+    {
+        GivenNames {
+            few: ArrayVec::new(),
+            others: BTreeSet::new(alloc),
+        }
+    }
+
+    /// Whether the name is there.
+    pub(super) fn contain(&self, name: &str) -> bool
+        ensures { result ≡ has_name self.now name.now }
+    {
+        self.few.contains(&name) || self.others.contains(name)
+    }
+
+    /// Adds a name.
+    ///
+    /// The error is that memory ran out.
+    pub(super) fn add(&mut self, name: &'a str) -> Result<(), Error>
+        ensures added { OnOk result ((other : List ℕ) → has_name self.new other ≡ (is_text other name.entry || has_name self.old other)) }
+        ensures memory { IfErr result (λ error. error ≡ errors.OutOfMemory) }
+    {
+        if !self.few.is_full() {
+            self.few.push(name);
+            return Ok(());
+        }
+        match self.others.insert(name) {
+            Ok(_) => Ok(()),
+            Err(_) => Err(Error::OutOfMemory),
+        }
+    }
+}
