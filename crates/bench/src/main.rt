@@ -1,8 +1,10 @@
 //! Replays recorded questions and answers over the library, and prints how many there are and how many differ. Behind the
-//! word `time` it times the library's calls.
+//! word `questions` it makes questions by a seed, on which calls have to agree. Behind the word `time` it times the library's
+//! calls.
 #![tactic(auto)]
 
 mod engines;
+mod questions;
 mod recorded;
 mod replay;
 mod report;
@@ -13,6 +15,9 @@ use std::{env, io};
 
 /// The word that asks for times.
 const TIME: &str = "time";
+
+/// The word that asks for questions.
+const QUESTIONS: &str = "questions";
 
 /// The status of a run in which each answer is the recorded one.
 const SAME: u8 = 0;
@@ -31,8 +36,9 @@ fn main(rt: HostRuntime) -> ExitCode {
     })
 }
 
-/// Replays the files that the words name, and says whether each answer is the recorded one. Behind the word `time` the
-/// files hold pairs that are timed.
+/// Replays the files that the words name, and says whether each answer is the recorded one. Behind them the word `questions`, a
+/// seed and a count ask so many questions more, on which calls have to agree. Behind the word `time` the files hold pairs that
+/// are timed.
 fn run(rt: &HostRuntime) -> io::Result<bool> {
     let mut words = env::args(rt)?;
     // The first word is the program's own name.
@@ -43,6 +49,20 @@ fn run(rt: &HostRuntime) -> io::Result<bool> {
             timing::run(rt, paths, &mut rt.stdout())?;
             Ok(true)
         }
+        [paths @ .., command, seed, count] if command.as_str() == QUESTIONS => {
+            let (seed, count) = (number(seed)?, number(count)?);
+            let is_same = paths.is_empty() || report::run(rt, paths, &mut rt.stdout())?;
+            let agree = questions::run(rt.alloc(), seed, count, &mut rt.stdout())?;
+            Ok(is_same && agree)
+        }
         paths => report::run(rt, paths, &mut rt.stdout()),
+    }
+}
+
+/// The number that a word is.
+fn number(word: &str) -> io::Result<u64> {
+    match word.parse::<u64>() {
+        Ok(number) => Ok(number),
+        Err(_) => Err(io::Error::from(io::ErrorKind::InvalidInput)),
     }
 }

@@ -1,13 +1,13 @@
 //! Asks the library what was asked when a case was recorded, and compares the answers.
 
 mod compiled;
-mod components;
+pub mod components;
 mod constructors;
 mod engines;
 mod first_match;
 mod given;
 mod matchers;
-mod patterns;
+pub mod patterns;
 mod plain;
 mod tokens;
 mod values;

@@ -66,7 +66,7 @@ const PLAIN: [Case; 30] = [
 ];
 
 /// Expressions with a choice, custom ones among them.
-const CHOSEN: [Case; 20] = [
+const CHOSEN: [Case; 34] = [
     ("^http(?:s)?$", "https", Some(&[])),
     ("^http(?:s)?$", "http", Some(&[])),
     ("^(?:/([^/]+?))?$", "", Some(&[None])),
@@ -91,6 +91,32 @@ const CHOSEN: [Case; 20] = [
     ("^([0-9]+)$", "a", None),
     ("^(a|ab)(c|bcd)$", "abcd", Some(&[Some("a"), Some("bcd")])),
     ("^a|b$", "ab", Some(&[])),
+    ("^(.*)/edit$", "/x/edit/edit", Some(&[Some("/x/edit")])),
+    ("^(.*)b$", "a\nb", None),
+    ("^(.+?)é$", "aéé", Some(&[Some("aé")])),
+    ("^(.+?)é$", "é", None),
+    ("^(.*)$", "é", Some(&[Some("é")])),
+    ("^(.*)é(.*)$", "éaéb", Some(&[Some("éa"), Some("b")])),
+    (
+        "^(?:/([^/]+?))\\.([^/]+?)$",
+        "/a.b.c",
+        Some(&[Some("a"), Some("b.c")]),
+    ),
+    (
+        "^(?:(.*)\\.)?example\\.com$",
+        "a.b.example.com",
+        Some(&[Some("a.b")]),
+    ),
+    ("^(?:(.*)\\.)?example\\.com$", "example.com", Some(&[None])),
+    (
+        "^(?:/([^/]+?))?(?:/([^/]+?))?$",
+        "/a",
+        Some(&[Some("a"), None]),
+    ),
+    ("^(?:/([^/]+?))?/b$", "/b", Some(&[None])),
+    ("^(?:a)?(?:a)?a$", "aa", Some(&[])),
+    ("^(?:a)?(?:b)?(?:c)?(?:d)?(?:e)?$", "ace", Some(&[])),
+    ("^(.*)?$", "", Some(&[Some("")])),
 ];
 
 /// Whether the value of an expression answers a text as expected.

@@ -1,7 +1,7 @@
 //! Long and deeply nested patterns, which end well within the time that a test has.
 
 use crate::parts::parts_of;
-use std::alloc::AllocError;
+use std::alloc::{AllocError, Global};
 use std::test::Fail;
 use urlpattern_core::Error;
 use urlpattern_core::error::ParserError;
@@ -16,18 +16,23 @@ pub(crate) fn push_copies(text: &mut String, piece: &str, count: usize) -> Resul
     Ok(())
 }
 
+/// Whether a pattern has an open brace where one has to close.
+fn opens_again(alloc: Global, pattern: &str) -> Result<bool, Error> {
+    match parts_of(alloc, pattern, &Options::default(alloc)) {
+        Err(Error::OutOfMemory) => Err(Error::OutOfMemory),
+        Err(Error::Parser(ParserError::ExpectedToken(expected, found, _))) => {
+            Ok(expected == TokenType::Close && found == TokenType::Open)
+        }
+        _ => Ok(false),
+    }
+}
+
 #[test]
 fn ten_thousand_open_braces(rt: HostRuntime) -> Result<(), Fail> {
     let alloc = rt.alloc();
     let mut pattern = String::new(alloc);
     push_copies(&mut pattern, "{", 10_000)?;
-    let answer = parts_of(alloc, &pattern, &Options::default(alloc));
-    assert!(rt;
-        matches!(
-            &answer,
-            Err(Error::Parser(ParserError::ExpectedToken(TokenType::Close, TokenType::Open, _)))
-        )
-    );
+    assert!(rt; opens_again(alloc, &pattern)?);
     Ok(())
 }
 

@@ -3,8 +3,10 @@
 use crate::inits::{init_of, url_of};
 use std::alloc::Global;
 use std::test::Fail;
+use urlpattern::quirks::parse_match_input;
 use urlpattern::{
-    ComponentName, Error, UrlPattern, UrlPatternList, UrlPatternOptions, UrlPatternResult,
+    ComponentName, Error, UrlPattern, UrlPatternCaptures, UrlPatternList, UrlPatternMatchInput,
+    UrlPatternOptions, UrlPatternResult,
 };
 
 /// A path with a name and one that may be missing.
@@ -64,6 +66,41 @@ fn copies_of_a_match_are_its_result(rt: HostRuntime) -> Result<(), Fail> {
         assert_eq!(rt; owned.is_some(), is_found, "of {url:?}");
         assert!(rt; copied == owned, "of {url:?}");
     }
+    Ok(())
+}
+
+/// Whether a match names the path's `id` as 123.
+fn is_user(found: Result<Option<UrlPatternCaptures<'_>>, Error>) -> Result<bool, Error> {
+    let is_user = match &found {
+        Ok(Some(found)) => Ok(found.get(ComponentName::Pathname, "id") == Some(Some("123"))),
+        Ok(None) => Ok(false),
+        Err(_) => Err(Error::OutOfMemory),
+    };
+    drop(found);
+    is_user
+}
+
+/// Whether a pattern finds the user of a URL in the URL and in its eight texts.
+fn finds_user(alloc: Global, pattern: &UrlPattern) -> Result<bool, Error> {
+    let url = url_of(alloc, "https://example.com/users/123")?;
+    if !pattern.test_url(alloc, &url)? {
+        return Ok(false);
+    }
+    match parse_match_input(alloc, UrlPatternMatchInput::Url(url))? {
+        Some(texts) => is_user(pattern.captures_of_input(alloc, &texts)),
+        None => Ok(false),
+    }
+}
+
+#[test]
+fn a_constructor_string_matches_a_url_and_its_texts(rt: HostRuntime) -> Result<(), Fail> {
+    let alloc = rt.alloc();
+    let base = Some("https://example.com/");
+    let options = UrlPatternOptions::default();
+    let pattern = <UrlPattern>::from_constructor_string(alloc, "/users/:id(\\d+)", base, options)?;
+    let finds_user = finds_user(alloc, &pattern);
+    drop(pattern);
+    assert!(rt; finds_user?);
     Ok(())
 }
 

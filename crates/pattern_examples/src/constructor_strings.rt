@@ -64,6 +64,16 @@ fn the_base_is_kept(rt: HostRuntime) -> Result<(), Fail> {
     Ok(())
 }
 
+#[test]
+fn the_turns_stand_beside_the_same_split(rt: HostRuntime) -> Result<(), Fail> {
+    let pattern = "http{s}?://*.a:1/b?c#d";
+    let (init, turns) = parse(rt.alloc(), pattern, None)?;
+    let plain = UrlPatternInit::parse_constructor_string::<Regex>(rt.alloc(), pattern, None)?;
+    assert!(rt; plain == init);
+    assert!(rt; turns > 0);
+    Ok(())
+}
+
 /// A text and so many copies of another.
 fn with_copies(
     alloc: Global,

@@ -285,11 +285,12 @@ fn a_copy_of_an_input_equals_it(rt: HostRuntime) -> Result<(), Fail> {
     Ok(())
 }
 
-/// Whether a text was refused, and then whether for its syntax.
-fn is_refused<T: Drop>(read: Result<T, serde_json::Error>) -> Option<bool> {
-    match &read {
-        Ok(_) => None,
-        Err(error) => Some(error.is_syntax()),
+/// Whether a text was refused, and not because memory ran out.
+fn is_refused<T: Drop>(read: Result<T, serde_json::Error>) -> Result<bool, serde_json::Error> {
+    match read {
+        Ok(_) => Ok(false),
+        Err(error) if error.is_memory() => Err(error),
+        Err(_) => Ok(true),
     }
 }
 
@@ -303,9 +304,36 @@ fn json_that_nests_too_deep_is_an_error(rt: HostRuntime) -> Result<(), Fail> {
     for _ in 0..128 {
         text.push_str("]")?;
     }
-    assert_eq!(rt; is_refused(Value::from_str(alloc, &text)), Some(true));
-    let pattern = serde_json::from_str::<UrlPattern>(alloc, &text);
-    assert!(rt; is_refused(pattern).is_some());
+    assert!(rt; is_refused(Value::from_str(alloc, &text))?);
+    assert!(rt; is_refused(serde_json::from_str::<UrlPattern>(alloc, &text))?);
+    Ok(())
+}
+
+#[test]
+fn a_surrogate_without_its_other_half_is_no_json(rt: HostRuntime) -> Result<(), Fail> {
+    let alloc = rt.alloc();
+    for text in [
+        r#""\ud800""#,
+        r#""\udc00""#,
+        r#""\ud800\u0041""#,
+        r#"{"pathname":"/\ud800"}"#,
+    ] {
+        assert!(rt; is_refused(Value::from_str(alloc, text))?, "{text}");
+    }
+    Ok(())
+}
+
+#[test]
+fn a_zero_and_what_stands_for_no_character_are_kept(rt: HostRuntime) -> Result<(), Fail> {
+    let alloc = rt.alloc();
+    for text in [
+        r#""\u0000""#,
+        r#""\ufffd""#,
+        r#""\ud83d\ude00""#,
+        r#"{"pathname":"/\u0000\ufffd"}"#,
+    ] {
+        expect_written::<StringOrInit<'_>>(&rt, alloc, text, text)?;
+    }
     Ok(())
 }
 

@@ -1,6 +1,6 @@
 //! Examples of whole patterns and what they are built of, beside the recorded cases that `bench` replays: JSON, plain
-//! data, inputs that are handed back, components put together by hand, lists of patterns, ignored case, long strings, what
-//! `urlpat` prints, and calls for which memory may run out. It holds tests alone.
+//! data, inputs that are handed back, components put together by hand, engines that answer what none should, lists of
+//! patterns, ignored case, long strings, what `urlpat` prints, and calls for which memory may run out. It holds tests alone.
 #![tactic(auto)]
 
 #[cfg(test)]
@@ -18,6 +18,8 @@ mod engines;
 #[cfg(test)]
 mod facts;
 #[cfg(test)]
+mod indexed_lists;
+#[cfg(test)]
 mod inits;
 #[cfg(test)]
 mod inputs;
@@ -29,6 +31,8 @@ mod lists;
 mod match_inputs;
 #[cfg(test)]
 mod matches;
+#[cfg(test)]
+mod odd_engines;
 #[cfg(test)]
 mod patterns;
 #[cfg(test)]

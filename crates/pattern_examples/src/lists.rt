@@ -1,13 +1,12 @@
 //! Lists of patterns: what they hold, which pattern is asked, and want of memory.
 
 use crate::inits::{init_of, url_input};
+use crate::odd_engines::Wanting;
 use std::alloc::Global;
 use std::test::Fail;
-use urlpattern::error::{OutOfMemory, RegExpError};
+use urlpattern::quirks::parse_match_input;
 use urlpattern::regexp::RegExp;
-use urlpattern::{
-    Error, RegexSyntax, UrlPattern, UrlPatternList, UrlPatternMatchInput, UrlPatternOptions,
-};
+use urlpattern::{Error, UrlPattern, UrlPatternList, UrlPatternMatchInput, UrlPatternOptions};
 
 /// A URL with a path of two segments.
 const TWO_SEGMENTS: &str = "https://example.com/a/b";
@@ -17,56 +16,6 @@ const NAME: &str = "/a/:x";
 
 /// A path that an engine is asked about.
 const ASKS: &str = "/(.+)";
-
-/// A regular expression that finds no memory when it is asked.
-#[derive(Debug, Drop)]
-struct Wanting {
-    text: String,
-}
-
-impl RegExp for Wanting {
-    ghost use Rattle.std.specs.Prelude.{◌≡◌, None};
-    ghost use Rattle.urlpattern.specs.RegexSyntax.TheVariants.{Rust};
-    ghost use Rattle.urlpattern.specs.Text.{text_of};
-
-    ghost syntax_of = { Rust };
-
-    ghost IsMade = { λ wanting regexp flags. text_of wanting.text ≡ regexp };
-
-    ghost MayRefuse = { λ regexp flags force_eval. ⊥ };
-
-    ghost answer = { λ wanting text. None };
-
-    ghost text_made_of = { λ wanting. text_of wanting.text };
-
-    fn syntax() -> RegexSyntax {
-        RegexSyntax::Rust
-    }
-
-    fn parse(
-        alloc: Global,
-        pattern: &str,
-        _flags: &str,
-        _force_eval: bool,
-    ) -> Result<Wanting, RegExpError> {
-        match String::from_str(alloc, pattern) {
-            Ok(text) => Ok(Wanting { text }),
-            Err(_) => Err(RegExpError::OutOfMemory),
-        }
-    }
-
-    fn matches<'a>(
-        &self,
-        _alloc: Global,
-        _text: &'a str,
-    ) -> Result<Option<Vec<Option<&'a str>>>, OutOfMemory> {
-        Err(OutOfMemory)
-    }
-
-    fn pattern_string(&self) -> &str {
-        self.text.as_str()
-    }
-}
 
 /// A pattern with this path, whose other components take any text.
 fn pattern_of<R: RegExp>(alloc: Global, pathname: &str) -> Result<UrlPattern<R>, Error> {
@@ -153,6 +102,30 @@ fn an_init_that_is_refused_matches_nothing(rt: HostRuntime) -> Result<(), Fail> 
     assert!(rt; list.first_match(alloc, input)?.is_none());
     let input = UrlPatternMatchInput::Init(init_of(alloc, &[("port", "65535")])?);
     assert!(rt; list.first_match(alloc, input)?.is_some());
+    Ok(())
+}
+
+/// The index of the first pattern of a list that matches the texts of a URL of two segments.
+fn first_index_of_texts(alloc: Global, list: &UrlPatternList) -> Result<Option<usize>, Error> {
+    let Some(texts) = parse_match_input(alloc, url_input(alloc, TWO_SEGMENTS)?)? else {
+        return Ok(None);
+    };
+    let found = list.first_captures_of_input(alloc, &texts);
+    let index = match &found {
+        Ok(Some((index, _))) => Ok(Some(*index)),
+        Ok(None) => Ok(None),
+        Err(_) => Err(Error::OutOfMemory),
+    };
+    drop(found);
+    index
+}
+
+#[test]
+fn texts_have_the_first_match_of_their_url(rt: HostRuntime) -> Result<(), Fail> {
+    let list = list_of::<regex::Regex>(rt.alloc(), &["/b", ASKS, "/a/*"])?;
+    let index = first_index_of_texts(rt.alloc(), &list);
+    drop(list);
+    assert_eq!(rt; index?, Some(1));
     Ok(())
 }
 

@@ -62,3 +62,10 @@ pub first_found_by : (patterns : List (List ℕ)) (input : List ℕ) (base : Opt
     → MatchOption found (IsUnmatchedByEach patterns input base) (λ text. IsFirstText patterns input base (string_bytes text))
 first_found_by patterns input base compiled None are answer = (compiled, are, answer)
 first_found_by patterns input base compiled (Some text) are answer = (compiled, are, answer)
+
+-- what is told of the patterns that were compiled, of the words that they were compiled from
+pub of_words : {A : Type 0} (bytes : A → List ℕ) (found : Option A) (words : List (List ℕ)) (input : List ℕ) (base : Option (List ℕ)) (compiled : List (PatternView Regex))
+    → ArePatternsOf words base compiled → MatchOption found (IsUnmatchedByAll compiled input base) (λ text. IsFirstTextBy compiled input base (bytes text))
+    → MatchOption found (IsUnmatchedByEach words input base) (λ text. IsFirstText words input base (bytes text))
+of_words bytes None words input base compiled are told = (compiled, are, told)
+of_words bytes (Some text) words input base compiled are told = (compiled, are, told)

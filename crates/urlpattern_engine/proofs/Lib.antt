@@ -1,5 +1,7 @@
 pub mod Tried
 pub mod Walks
+pub mod RunLemmas
+pub mod FollowLemmas
 pub mod ReadingLemmas
 pub mod StepLemmas
 pub mod TwoRegexes

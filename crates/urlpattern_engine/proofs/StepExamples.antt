@@ -1,7 +1,7 @@
--- What steps capture, and which steps leave no choice, by examples.
-use Rattle.std.proofs.Common.{◌≡◌, [], ◌∷◌, Some, None, true, false, codes, refl}
-use Rattle.urlpattern_engine.specs.declared.step.Step.TheVariants.{Literal, Segment, Anything}
-use Rattle.urlpattern_engine.specs.Steps.{have_one_end, walk}
+-- What steps capture, by examples.
+use Rattle.std.proofs.Common.{◌≡◌, [], ◌∷◌, Some, None, codes, refl}
+use Rattle.urlpattern_engine.specs.declared.step.Step.TheVariants.{Literal, Segment, Anything, Maybe}
+use Rattle.urlpattern_engine.specs.Steps.{walk}
 
 -- ---- of `^/([^/]+?)$`
 
@@ -25,14 +25,20 @@ empty_wildcard = refl
 pub no_line_feed : walk (Segment 47 ∷ Literal 47 ∷ Anything ∷ []) (codes "a/b\nc") ≡ None
 no_line_feed = refl
 
--- ---- how many ends a captured front has
+-- ---- of `^([^/]+?)b$`
 
-pub ends_at_its_own_character : have_one_end (Segment 47 ∷ Literal 47 ∷ Anything ∷ []) ≡ true
-ends_at_its_own_character = refl
+pub shortest_that_leads_on : walk (Segment 47 ∷ Literal 98 ∷ []) (codes "abb") ≡ Some (Some (codes "ab") ∷ [])
+shortest_that_leads_on = refl
 
--- `^([^/]+?)b$`: in `abb` the first `b` may be passed
-pub may_pass_another_character : have_one_end (Segment 47 ∷ Literal 98 ∷ []) ≡ false
-may_pass_another_character = refl
+-- ---- of `^(.*)/(.*)$`
 
-pub may_share_with_another : have_one_end (Anything ∷ Anything ∷ []) ≡ false
-may_share_with_another = refl
+pub longest_comes_first : walk (Anything ∷ Literal 47 ∷ Anything ∷ []) (codes "a/b/c") ≡ Some (Some (codes "a/b") ∷ Some (codes "c") ∷ [])
+longest_comes_first = refl
+
+-- ---- of `^(?:/([^/]+?))?$`
+
+pub missing_group : walk (Maybe (record { steps = 2; captures = 1 }) ∷ Literal 47 ∷ Segment 47 ∷ []) [] ≡ Some (None ∷ [])
+missing_group = refl
+
+pub group_that_is_there : walk (Maybe (record { steps = 2; captures = 1 }) ∷ Literal 47 ∷ Segment 47 ∷ []) (codes "/a") ≡ Some (Some (codes "a") ∷ [])
+group_that_is_there = refl

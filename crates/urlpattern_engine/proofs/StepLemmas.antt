@@ -1,33 +1,31 @@
--- What one step takes, and what steps capture at the end of a text.
-use Rattle.std.proofs.Common.{◌≡◌, ℕ, List, [], ◌∷◌, ◌++◌, Option, Some, None, option_map, Bool, true, false, cond, ◌==◌, refl, ap, append-nil}
-use Rattle.urlpattern_laws.specs.PartMeaning.{Captures}
+-- A group that may be missing, and steps that take no text that begins with another character.
+use Rattle.std.proofs.Common.{◌≡◌, ℕ, zero, suc, List, [], ◌∷◌, ◌++◌, drop, replicate, Some, None, option_map, refl, ap, ◌∙◌}
+use Rattle.std.specs.Option.{option_or}
+use Rattle.urlpattern_engine.specs.declared.step.Group.{Group}
 use Rattle.urlpattern_engine.specs.declared.step.Step.{Step}
-use Rattle.urlpattern_engine.specs.declared.step.Step.TheVariants.{Segment}
-use Rattle.urlpattern_engine.specs.Steps.{up_to_first, from_first, taken_by, walk}
+use Rattle.urlpattern_engine.specs.declared.step.Step.TheVariants.{Maybe}
+use Rattle.urlpattern_engine.specs.Steps.{captured, walk, walk_after, StopAt}
+use Rattle.urlpattern_engine.proofs.RunLemmas.{GivesAt}
 
-pub segment_none : (end : ℕ) (text : List ℕ) → up_to_first end text ≡ [] → taken_by (Segment end) text ≡ None
-segment_none end [] e = refl
-segment_none end (c ∷ text) e = by (c == end) e
-  where
-    by : (b : Bool) → cond b [] (c ∷ up_to_first end text) ≡ [] → cond {A = Option (Captures × List ℕ)} b None (Some (Some (c ∷ up_to_first end text) ∷ [], from_first end text)) ≡ None
-    by true e = refl
-    by false e = cc
+-- ---- groups that may be missing
 
-pub segment_some : (end : ℕ) (text : List ℕ) → ¬ (up_to_first end text ≡ []) → taken_by (Segment end) text ≡ Some (Some (up_to_first end text) ∷ [], from_first end text)
-segment_some end [] some = absurd (some refl)
-segment_some end (c ∷ text) some = by (c == end) some
-  where
-    by : (b : Bool) → ¬ (cond b [] (c ∷ up_to_first end text) ≡ [])
-        → cond {A = Option (Captures × List ℕ)} b None (Some (Some (c ∷ up_to_first end text) ∷ [], from_first end text)) ≡ Some (Some (cond b [] (c ∷ up_to_first end text)) ∷ [], cond b (c ∷ text) (from_first end text))
-    by true some = absurd (some refl)
-    by false some = refl
+walk_after-drop : (n : ℕ) (steps : List Step) (text : List ℕ) → walk_after n steps text ≡ walk (drop n steps) text
+walk_after-drop zero steps text = refl
+walk_after-drop (suc n) [] [] = refl
+walk_after-drop (suc n) [] (c ∷ text) = refl
+walk_after-drop (suc n) (step ∷ steps) text = walk_after-drop n steps text
 
-pub captured_whole : (captures : Captures) (steps : List Step) (rest : List ℕ) → steps ≡ [] → rest ≡ [] → option_map (λ others. captures ++ others) (walk steps rest) ≡ Some captures
-captured_whole captures steps rest e f = rw (e, f) (ap Some (append-nil captures))
+pub maybe_missing : (group : Group) (steps : List Step) (text : List ℕ) → walk steps text ≡ None
+    → walk (Maybe group ∷ steps) text ≡ option_map (λ others. replicate group.captures None ++ others) (walk (drop group.steps steps) text)
+maybe_missing group steps text e =
+    ap (λ o. option_or o (option_map (λ others. replicate group.captures None ++ others) (walk_after group.steps steps text))) e
+    ∙ ap (option_map (λ others. replicate group.captures None ++ others)) (walk_after-drop group.steps steps text)
 
-none_left : (captures : Captures) (rest : List ℕ) → ¬ (rest ≡ []) → option_map (λ others. captures ++ others) (walk [] rest) ≡ None
-none_left captures [] some = absurd (some refl)
-none_left captures (c ∷ rest) some = refl
+-- ---- steps that stop
 
-pub captured_none : (captures : Captures) (steps : List Step) (rest : List ℕ) → steps ≡ [] → ¬ (rest ≡ []) → option_map (λ others. captures ++ others) (walk steps rest) ≡ None
-captured_none captures steps rest e some = rw e (none_left captures rest some)
+pub stop-gives : (end : ℕ) (steps : List Step) → StopAt end steps → GivesAt end (captured (walk steps))
+stop-gives end steps stops front c rest e = ap (option_map (λ others. Some front ∷ others)) (stops c rest e)
+
+pub stop-maybe : (end : ℕ) (group : Group) (steps : List Step) → StopAt end steps → StopAt end (drop group.steps steps) → StopAt end (Maybe group ∷ steps)
+stop-maybe end group steps first other c rest e =
+    maybe_missing group steps (c ∷ rest) (first c rest e) ∙ ap (option_map (λ others. replicate group.captures None ++ others)) (other c rest e)

@@ -3,8 +3,8 @@ use Rattle.std.proofs.Common.{◌≡◌, ℕ, zero, suc, ◌≤◌, List, [], �
 use Rattle.std.specs.Option.{option_or}
 use Rattle.regex_hir.proofs.OptionLemmas.{option_or-None}
 use Rattle.urlpattern_laws.specs.PartMeaning.{Captures}
-use Rattle.urlpattern_laws.specs.Ways.{Way, Choice, idle, joined_way, continued, one_that, ordered, is_shorter, more_rounds, looped, ways}
-use Rattle.urlpattern_engine.specs.Steps.{up_to_first, from_first}
+use Rattle.urlpattern_laws.specs.Ways.{Way, Choice, idle, joined_way, continued, one_that, is_shorter, more_rounds, looped}
+use Rattle.urlpattern_engine.specs.Steps.{shortest, longest, Gives}
 
 abbrev pub Next : Type 0
 Next = List ℕ → Option Captures
@@ -18,19 +18,19 @@ tried f (way ∷ ways) = option_or (f way) (tried f ways)
 abbrev pub before_next : Next → Way → Option Captures
 before_next next way = option_map (λ others. way.captures ++ others) (next way.rest)
 
-option_or-assoc : {A : Type 0} (o p q : Option A) → option_or (option_or o p) q ≡ option_or o (option_or p q)
+pub option_or-assoc : {A : Type 0} (o p q : Option A) → option_or (option_or o p) q ≡ option_or o (option_or p q)
 option_or-assoc None p q = refl
 option_or-assoc (Some x) p q = refl
 
-option_map-or : {A B : Type 0} (f : A → B) (o p : Option A) → option_map f (option_or o p) ≡ option_or (option_map f o) (option_map f p)
+pub option_map-or : {A B : Type 0} (f : A → B) (o p : Option A) → option_map f (option_or o p) ≡ option_or (option_map f o) (option_map f p)
 option_map-or f None p = refl
 option_map-or f (Some x) p = refl
 
-option_map-both : {A B C : Type 0} (f : B → C) (g : A → B) (h : A → C) → ((x : A) → f (g x) ≡ h x) → (o : Option A) → option_map f (option_map g o) ≡ option_map h o
+pub option_map-both : {A B C : Type 0} (f : B → C) (g : A → B) (h : A → C) → ((x : A) → f (g x) ≡ h x) → (o : Option A) → option_map f (option_map g o) ≡ option_map h o
 option_map-both f g h same None = refl
 option_map-both f g h same (Some x) = ap Some (same x)
 
-option_map-still : {A : Type 0} (o : Option A) → option_map (λ x. x) o ≡ o
+pub option_map-still : {A : Type 0} (o : Option A) → option_map (λ x. x) o ≡ o
 option_map-still None = refl
 option_map-still (Some x) = refl
 
@@ -86,71 +86,114 @@ Given = List ℕ → Captures → List ℕ → Option Captures
 abbrev pub given : Given → Way → Option Captures
 given h way = h way.taken way.captures way.rest
 
--- nothing is given where the rest begins with another character
-abbrev pub StopsAt : ℕ → Given → Type 0
-StopsAt end h = (taken : List ℕ) (captures : Captures) (c : ℕ) (rest : List ℕ) → (c == end) ≡ false → h taken captures (c ∷ rest) ≡ None
+-- what is given where there are no captures
+abbrev pub bare : Given → Gives
+bare h front rest = h front [] rest
 
--- the same behind one character more
-abbrev behind : ℕ → Given → Given
-behind c h taken captures rest = h (c ∷ taken) captures rest
+-- the same after one character more
+abbrev with_first : ℕ → Given → Given
+with_first c h taken captures rest = h (c ∷ taken) captures rest
 
-module _ (greedy : Bool) (end : ℕ) where
+module _ (end : ℕ) where
   abbrev pub one : Choice
   one = one_that (λ c. not (c == end))
-
-  -- going on is all that gives something, where stopping gives nothing
-  ordered-on : (f : Way → Option Captures) (greedy : Bool) (going stopping : List Way) → tried f stopping ≡ None → tried f (ordered greedy going stopping) ≡ tried f going
-  ordered-on f true going stopping e = tried-append f going stopping ∙ ap (option_or (tried f going)) e ∙ option_or-None _
-  ordered-on f false going stopping e = tried-append f stopping going ∙ ap (λ o. option_or o (tried f going)) e
-
-  ordered-off : (f : Way → Option Captures) (greedy : Bool) (stopping : List Way) → tried f (ordered greedy [] stopping) ≡ tried f stopping
-  ordered-off f true stopping = refl
-  ordered-off f false stopping = tried-append f stopping [] ∙ option_or-None _
 
   idle-given : (h : Given) (text : List ℕ) → tried (given h) (idle 0 text ∷ []) ≡ h [] [] text
   idle-given h text = option_or-None _
 
-  -- behind one character the rounds that are left
+  -- after one character the rounds that are left
   one_round : (h : Given) (c : ℕ) (text : List ℕ) (next : Choice)
-      → tried (given h) (continued next (record { taken = c ∷ []; captures = []; rest = text } ∷ [])) ≡ tried (given (behind c h)) (next text)
-  one_round h c text next = tried-continued (given h) next (record { taken = c ∷ []; captures = []; rest = text } ∷ []) ∙ option_or-None (tried (given (behind c h)) (next text))
+      → tried (given h) (continued next (record { taken = c ∷ []; captures = []; rest = text } ∷ [])) ≡ tried (given (with_first c h)) (next text)
+  one_round h c text next = tried-continued (given h) next (record { taken = c ∷ []; captures = []; rest = text } ∷ []) ∙ option_or-None (tried (given (with_first c h)) (next text))
 
-  pub rounds-given : (n : ℕ) (h : Given) → StopsAt end h → (text : List ℕ) → length text ≤ n
-      → tried (given h) (more_rounds greedy one n text) ≡ h (up_to_first end text) [] (from_first end text)
-  rounds-given zero h stops [] le = idle-given h []
-  rounds-given zero h stops (c ∷ text) le = absurd (omega arith)
-  rounds-given (suc n) h stops [] le = ordered-off (given h) greedy (idle 0 [] ∷ []) ∙ idle-given h []
-  rounds-given (suc n) h stops (c ∷ text) le =
-      by (c == end) refl (rounds-given n (behind c h) (λ taken captures d rest f. stops (c ∷ taken) captures d rest f) text (omega arith))
+  shortest-first : (c : ℕ) (h : Given) (front text : List ℕ) → shortest end (bare (with_first c h)) front text ≡ shortest end (bare h) (c ∷ front) text
+  shortest-first c h front [] = refl
+  shortest-first c h front (d ∷ text) = ap (λ o. cond (d == end) None (option_or (h (c ∷ (front ++ d ∷ [])) [] text) o)) (shortest-first c h (front ++ d ∷ []) text)
+
+  longest-first : (c : ℕ) (h : Given) (front text : List ℕ) → longest end (bare (with_first c h)) front text ≡ longest end (bare h) (c ∷ front) text
+  longest-first c h front [] = refl
+  longest-first c h front (d ∷ text) =
+      ap (λ o. cond (d == end) (h (c ∷ front) [] (d ∷ text)) (option_or o (h (c ∷ front) [] (d ∷ text)))) (longest-first c h (front ++ d ∷ []) text)
+
+  lazy_rounds : (n : ℕ) (h : Given) (text : List ℕ) → length text ≤ n
+      → tried (given h) (more_rounds false one n text) ≡ option_or (h [] [] text) (shortest end (bare h) [] text)
+  lazy_rounds zero h [] le = refl
+  lazy_rounds zero h (c ∷ text) le = absurd (omega arith)
+  lazy_rounds (suc n) h [] le = refl
+  lazy_rounds (suc n) h (c ∷ text) le = by (c == end) (lazy_rounds n (with_first c h) text (omega arith))
     where
       next : Choice
-      next rest = cond (is_shorter rest (c ∷ text)) (more_rounds greedy one n rest) []
+      next rest = cond (is_shorter rest (c ∷ text)) (more_rounds false one n rest) []
 
-      by : (b : Bool) → (c == end) ≡ b
-          → tried (given (behind c h)) (more_rounds greedy one n text) ≡ behind c h (up_to_first end text) [] (from_first end text)
-          → tried (given h) (ordered greedy (continued next (cond (not b) (record { taken = c ∷ []; captures = []; rest = text } ∷ []) [])) (idle 0 (c ∷ text) ∷ []))
-          ≡ h (cond b [] (c ∷ up_to_first end text)) [] (cond b (c ∷ text) (from_first end text))
-      by true e later = ordered-off (given h) greedy (idle 0 (c ∷ text) ∷ []) ∙ idle-given h (c ∷ text)
-      by false e later =
+      by : (b : Bool) → tried (given (with_first c h)) (more_rounds false one n text) ≡ option_or (h (c ∷ []) [] text) (shortest end (bare (with_first c h)) [] text)
+          → option_or (h [] [] (c ∷ text)) (tried (given h) (continued next (cond (not b) (record { taken = c ∷ []; captures = []; rest = text } ∷ []) [])))
+          ≡ option_or (h [] [] (c ∷ text)) (cond b None (option_or (h (c ∷ []) [] text) (shortest end (bare h) (c ∷ []) text)))
+      by true later = refl
+      by false later =
           let shorter : is_shorter text (c ∷ text) ≡ true = lt-ltb _ _ (omega arith) in
-          ordered-on (given h) greedy _ _ (idle-given h (c ∷ text) ∙ stops [] [] c text e)
-          ∙ one_round h c text next
-          ∙ ap (λ b. tried (given (behind c h)) (cond b (more_rounds greedy one n text) [])) shorter
+          ap (option_or (h [] [] (c ∷ text)))
+          (one_round h c text next
+          ∙ ap (λ b. tried (given (with_first c h)) (cond b (more_rounds false one n text) [])) shorter
           ∙ later
+          ∙ ap (option_or (h (c ∷ []) [] text)) (shortest-first c h [] text))
 
-  -- a loop: nothing before the end, and else the rest up to it
-  pub looped-given : (h : Given) → StopsAt end h → (c : ℕ) (text : List ℕ)
-      → tried (given h) (looped greedy one (c ∷ text)) ≡ cond (c == end) None (h (c ∷ up_to_first end text) [] (from_first end text))
-  looped-given h stops c text = by (c == end)
+  -- a lazy loop
+  pub lazy_loop : (h : Given) (text : List ℕ) → tried (given h) (looped false one text) ≡ shortest end (bare h) [] text
+  lazy_loop h [] = refl
+  lazy_loop h (c ∷ text) = by (c == end)
     where
       next : Choice
-      next rest = cond (is_shorter rest (c ∷ text)) (more_rounds greedy one (length rest) rest) (idle 0 rest ∷ [])
+      next rest = cond (is_shorter rest (c ∷ text)) (more_rounds false one (length rest) rest) (idle 0 rest ∷ [])
 
       by : (b : Bool) → tried (given h) (continued next (cond (not b) (record { taken = c ∷ []; captures = []; rest = text } ∷ []) []))
-          ≡ cond b None (h (c ∷ up_to_first end text) [] (from_first end text))
+          ≡ cond b None (option_or (h (c ∷ []) [] text) (shortest end (bare h) (c ∷ []) text))
       by true = refl
       by false =
           let shorter : is_shorter text (c ∷ text) ≡ true = lt-ltb _ _ (omega arith) in
           one_round h c text next
-          ∙ ap (λ b. tried (given (behind c h)) (cond b (more_rounds greedy one (length text) text) (idle 0 text ∷ []))) shorter
-          ∙ rounds-given (length text) (behind c h) (λ taken captures d rest f. stops (c ∷ taken) captures d rest f) text (omega arith)
+          ∙ ap (λ b. tried (given (with_first c h)) (cond b (more_rounds false one (length text) text) (idle 0 text ∷ []))) shorter
+          ∙ lazy_rounds (length text) (with_first c h) text (omega arith)
+          ∙ ap (option_or (h (c ∷ []) [] text)) (shortest-first c h [] text)
+
+  greedy_rounds : (n : ℕ) (h : Given) (text : List ℕ) → length text ≤ n → tried (given h) (more_rounds true one n text) ≡ longest end (bare h) [] text
+  greedy_rounds zero h [] le = idle-given h []
+  greedy_rounds zero h (c ∷ text) le = absurd (omega arith)
+  greedy_rounds (suc n) h [] le = idle-given h []
+  greedy_rounds (suc n) h (c ∷ text) le = by (c == end) (greedy_rounds n (with_first c h) text (omega arith))
+    where
+      next : Choice
+      next rest = cond (is_shorter rest (c ∷ text)) (more_rounds true one n rest) []
+
+      by : (b : Bool) → tried (given (with_first c h)) (more_rounds true one n text) ≡ longest end (bare (with_first c h)) [] text
+          → tried (given h) (continued next (cond (not b) (record { taken = c ∷ []; captures = []; rest = text } ∷ []) []) ++ idle 0 (c ∷ text) ∷ [])
+          ≡ cond b (h [] [] (c ∷ text)) (option_or (longest end (bare h) (c ∷ []) text) (h [] [] (c ∷ text)))
+      by true later = idle-given h (c ∷ text)
+      by false later =
+          let shorter : is_shorter text (c ∷ text) ≡ true = lt-ltb _ _ (omega arith) in
+          tried-append (given h) _ (idle 0 (c ∷ text) ∷ [])
+          ∙ ap₂ option_or
+          (one_round h c text next
+          ∙ ap (λ b. tried (given (with_first c h)) (cond b (more_rounds true one n text) [])) shorter
+          ∙ later
+          ∙ longest-first c h [] text)
+          (idle-given h (c ∷ text))
+
+  -- a greedy loop that may be missing
+  pub greedy_loop : (h : Given) (text : List ℕ) → tried (given h) (looped true one text ++ idle 0 text ∷ []) ≡ longest end (bare h) [] text
+  greedy_loop h [] = idle-given h []
+  greedy_loop h (c ∷ text) =
+      tried-append (given h) (looped true one (c ∷ text)) (idle 0 (c ∷ text) ∷ []) ∙ ap (option_or (tried (given h) (looped true one (c ∷ text)))) (idle-given h (c ∷ text)) ∙ by (c == end)
+    where
+      next : Choice
+      next rest = cond (is_shorter rest (c ∷ text)) (more_rounds true one (length rest) rest) (idle 0 rest ∷ [])
+
+      by : (b : Bool) → option_or (tried (given h) (continued next (cond (not b) (record { taken = c ∷ []; captures = []; rest = text } ∷ []) []))) (h [] [] (c ∷ text))
+          ≡ cond b (h [] [] (c ∷ text)) (option_or (longest end (bare h) (c ∷ []) text) (h [] [] (c ∷ text)))
+      by true = refl
+      by false =
+          let shorter : is_shorter text (c ∷ text) ≡ true = lt-ltb _ _ (omega arith) in
+          ap (λ o. option_or o (h [] [] (c ∷ text)))
+          (one_round h c text next
+          ∙ ap (λ b. tried (given (with_first c h)) (cond b (more_rounds true one (length text) text) (idle 0 text ∷ []))) shorter
+          ∙ greedy_rounds (length text) (with_first c h) text (omega arith)
+          ∙ longest-first c h [] text)

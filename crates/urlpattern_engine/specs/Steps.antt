@@ -1,11 +1,12 @@
--- What the steps of an expression without a choice capture of a text.
-use Rattle.std.specs.Prelude.{ℕ, Bool, true, false, ◌==◌, ◌&&◌, List, [], ◌∷◌, ◌++◌, Option, Some, None, option_map, if◌then◌else◌}
+-- What the steps of an expression capture of a text.
+use Rattle.std.specs.Prelude.{◌≡◌, ℕ, zero, suc, false, ◌==◌, List, [], ◌∷◌, ◌++◌, replicate, Option, Some, None, option_map, if◌then◌else◌}
+use Rattle.std.specs.Option.{option_or}
 use Rattle.urlpattern_engine.specs.declared.step.Step.{Step}
-use Rattle.urlpattern_engine.specs.declared.step.Step.TheVariants.{Literal, Segment, Anything}
+use Rattle.urlpattern_engine.specs.declared.step.Step.TheVariants.{Literal, Segment, Anything, Maybe}
 use Rattle.urlpattern_laws.specs.PartMeaning.{Captures}
 use Rattle.urlpattern_syntax.specs.Text.{line_feed}
 
--- ---- one step
+-- ---- fronts without a character
 
 -- the text up to the first such character
 abbrev pub up_to_first : ℕ → List ℕ → List ℕ
@@ -17,38 +18,49 @@ abbrev pub from_first : ℕ → List ℕ → List ℕ
 from_first c [] = []
 from_first c (other ∷ text) = if other == c then other ∷ text else from_first c text
 
--- what a step captures of a front of the text, and the text after that; None where it takes no front
-abbrev pub taken_by : Step → List ℕ → Option (Captures × List ℕ)
-taken_by (Literal c) [] = None
-taken_by (Literal c) (other ∷ text) = if other == c then Some ([], text) else None
-taken_by (Segment end) [] = None
-taken_by (Segment end) (c ∷ text) = if c == end then None else Some (Some (c ∷ up_to_first end text) ∷ [], from_first end text)
-taken_by Anything text = Some (Some (up_to_first line_feed text) ∷ [], from_first line_feed text)
+-- what a front of a text and the rest give; None where they give nothing
+abbrev pub Gives : Type 0
+Gives = (front rest : List ℕ) → Option Captures
+
+-- what the shortest front gives that gives something: it has one character or more of the text, none of them `end`
+abbrev pub shortest : (end : ℕ) → Gives → (front text : List ℕ) → Option Captures
+shortest end gives front [] = None
+shortest end gives front (c ∷ text) = if c == end then None else option_or (gives (front ++ c ∷ []) text) (shortest end gives (front ++ c ∷ []) text)
+
+-- what the longest front gives that gives something: it has any number of characters of the text, none of them `end`
+abbrev pub longest : (end : ℕ) → Gives → (front text : List ℕ) → Option Captures
+longest end gives front [] = gives front []
+longest end gives front (c ∷ text) = if c == end then gives front (c ∷ text) else option_or (longest end gives (front ++ c ∷ []) text) (gives front (c ∷ text))
 
 -- ---- steps
 
--- what is captured, and then what is captured of the rest
-abbrev pub followed : (next : List ℕ → Option Captures) → Option (Captures × List ℕ) → Option Captures
-followed next None = None
-followed next (Some (captures, rest)) = option_map (λ others. captures ++ others) (next rest)
+-- the front is captured, and then what is captured of the rest
+abbrev pub captured : (next : List ℕ → Option Captures) → Gives
+captured next front rest = option_map (λ others. Some front ∷ others) (next rest)
 
--- what the steps capture, one after the other, of a text that they take whole; None where they do not
+-- what the steps after the first so many capture, one after the other, of a text that they take whole; None where they do not
+abbrev pub walk_after : ℕ → List Step → List ℕ → Option Captures
+walk_after passed [] [] = Some []
+walk_after passed [] (c ∷ text) = None
+walk_after (suc passed) (step ∷ steps) text = walk_after passed steps text
+walk_after zero (Literal c ∷ steps) [] = None
+walk_after zero (Literal c ∷ steps) (other ∷ text) = if other == c then walk_after zero steps text else None
+walk_after zero (Segment end ∷ steps) text = shortest end (captured (walk_after zero steps)) [] text
+walk_after zero (Anything ∷ steps) text = longest line_feed (captured (walk_after zero steps)) [] text
+walk_after zero (Maybe group ∷ steps) text =
+    option_or (walk_after zero steps text) (option_map (λ others. replicate group.captures None ++ others) (walk_after group.steps steps text))
+
 abbrev pub walk : List Step → List ℕ → Option Captures
-walk [] [] = Some []
-walk [] (c ∷ text) = None
-walk (step ∷ steps) text = followed (walk steps) (taken_by step text)
+walk steps text = walk_after zero steps text
 
--- ---- steps without a choice
+-- how many of the steps capture
+abbrev pub capture_count : List Step → ℕ
+capture_count [] = 0
+capture_count (Literal c ∷ steps) = capture_count steps
+capture_count (Segment end ∷ steps) = suc (capture_count steps)
+capture_count (Anything ∷ steps) = suc (capture_count steps)
+capture_count (Maybe group ∷ steps) = capture_count steps
 
--- these steps take nothing, or a text that begins with the character
-abbrev pub begin_with : ℕ → List Step → Bool
-begin_with c [] = true
-begin_with c (Literal other ∷ steps) = other == c
-begin_with c (step ∷ steps) = false
-
--- each captured front can end at one place alone: the steps behind it take nothing, or begin with the character that it lacks
-abbrev pub have_one_end : List Step → Bool
-have_one_end [] = true
-have_one_end (Literal c ∷ steps) = have_one_end steps
-have_one_end (Segment end ∷ steps) = begin_with end steps && have_one_end steps
-have_one_end (Anything ∷ steps) = begin_with line_feed steps && have_one_end steps
+-- the steps take no text that begins with another character than this
+abbrev pub StopAt : (end : ℕ) → List Step → Type 0
+StopAt end steps = (c : ℕ) (rest : List ℕ) → (c == end) ≡ false → walk steps (c ∷ rest) ≡ None

@@ -1,14 +1,17 @@
--- What a clause sees of what a step takes.
-use Rattle.std.specs.Prelude.{List, [], ◌∷◌, ℕ, Option, Some, None}
+-- What a clause sees of captures that are added to others.
+use Rattle.std.specs.Prelude.{◌≡◌, Bool, List, ◌++◌, ℕ, map, Option, Some, None, option_map, if◌then◌else◌}
 use Rattle.std.specs.Borrow.{Bor}
-use Rattle.std.specs.Str.{chars}
-use Rattle.urlpattern_engine.specs.declared.step.Taken.{Taken}
+use Rattle.urlpattern_core.specs.Captured.{capture_view}
 use Rattle.urlpattern_laws.specs.PartMeaning.{Captures}
 
--- the capture, if there is one
-abbrev pub own_captures : Option (Bor (List ℕ)) → Captures
-own_captures None = []
-own_captures (Some text) = Some (chars text.now) ∷ []
+-- captures as they are kept
+abbrev pub Kept : Type 0
+Kept = List (Option (Bor (List ℕ)))
 
-abbrev pub taken_view : Taken → Captures × List ℕ
-taken_view taken = (own_captures taken.capture, chars taken.rest.now)
+-- nothing was removed
+abbrev pub Extends : (old new : Kept) → Type 0
+Extends old new = (added : Kept) × (new ≡ old ++ added)
+
+-- the captures were added exactly where there are some
+abbrev pub Adds : (old new : Kept) → (is_taken : Bool) → Option Captures → Type 0
+Adds old new is_taken captures = (if is_taken then Some (map capture_view new) else None) ≡ option_map (λ others. map capture_view old ++ others) captures

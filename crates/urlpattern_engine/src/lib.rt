@@ -1,7 +1,7 @@
 //! An engine for the regular expressions that components are made of.
 //!
-//! [`PatternRegexp`] reads by itself an expression that can be matched from front to back without a choice, and leaves every other
-//! to `regex::Regex`. It answers what `regex::Regex` answers.
+//! [`PatternRegexp`] matches by itself an expression of texts, of groups that capture a run of characters, and of groups that may
+//! be missing, where these leave few choices; and leaves every other to `regex::Regex`. It answers what `regex::Regex` answers.
 #![tactic(auto)]
 
 pub mod laws;
@@ -9,5 +9,6 @@ mod pattern_regexp;
 mod reading;
 mod step;
 mod texts;
+mod walk;
 
 pub use pattern_regexp::PatternRegexp;

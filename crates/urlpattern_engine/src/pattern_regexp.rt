@@ -5,7 +5,8 @@ ghost use Rattle.urlpattern_engine.specs.Engine.{pattern_answer, pattern_text, I
 ghost use Rattle.urlpattern_syntax.specs.declared.parser.RegexSyntax.TheVariants.{Rust};
 
 use crate::reading::read_steps;
-use crate::step::{Step, walk};
+use crate::step::Step;
+use crate::walk::walk;
 use regex::Regex;
 use std::alloc::{AllocError, Global};
 use urlpattern_core::RegexSyntax;
@@ -14,7 +15,7 @@ use urlpattern_core::regexp::RegExp;
 
 /// An engine that answers what `regex::Regex` answers.
 ///
-/// It matches an expression itself if no character of a text can be taken in two ways, and else by a `regex::Regex`.
+/// It matches an expression itself where few choices are left to it, and else by a `regex::Regex`.
 #[derive(Drop)]
 pub struct PatternRegexp {
     expression: Expression,

@@ -1,15 +1,16 @@
-//! Reads the text of an expression as steps, where it has no choice.
+//! Reads the text of an expression as steps.
 
 ghost use Rattle.std.specs.Prelude.{◌≡◌, ◌∷◌, ◌++◌, ℕ, ◌<◌, List, length, codes, IfOk, IfSome, IsTrue};
 ghost use Rattle.std.specs.Str.{chars};
 ghost use Rattle.urlpattern_engine.specs.Reading.{AreStepsOf, BeginsWithCaptured, BeginsWithCharacter, BeginsWithToken};
-ghost use Rattle.urlpattern_engine.specs.Steps.{begin_with, have_one_end};
+ghost use Rattle.urlpattern_engine.specs.Steps.{capture_count};
 ghost use Rattle.urlpattern_laws.specs.Dialect.{IsCharacter, IsClassCharacter};
 ghost use Rattle.urlpattern_syntax.specs.RegexpText.{regexp_marks};
 ghost use Rattle.urlpattern_syntax.specs.Text.{is_among};
 
-use crate::step::Step;
+use crate::step::{Group, Step};
 use crate::texts::{after, split_first};
+use crate::walk::stop_at;
 use std::alloc::{AllocError, Global};
 
 /// What stands in an expression one after the other.
@@ -17,13 +18,15 @@ use std::alloc::{AllocError, Global};
 enum Token {
     /// `(?:`
     Open,
-    /// `)`
-    Close,
+    /// `)`, and whether a question mark follows.
+    Close(bool),
     /// A character, or a group that captures.
     Step(Step),
+    /// A group that captures, and a question mark.
+    MaybeStep(Step),
 }
 
-/// The steps of an expression. `None`: it has a choice, or is none that a component has.
+/// The steps of an expression. `None`: it is none that is matched by steps.
 pub(crate) fn read_steps(alloc: Global, regexp: &str) -> Result<Option<Vec<Step>>, AllocError>
     ensures { IfOk result (λ read. IfSome read (λ steps. AreStepsOf (chars regexp.now) steps.items)) }
 {
@@ -31,20 +34,96 @@ pub(crate) fn read_steps(alloc: Global, regexp: &str) -> Result<Option<Vec<Step>
         return Ok(None);
     };
     let mut steps = Vec::with_capacity(alloc, regexp.len())?;
-    let mut is_open = false;
-    while let Some((token, behind)) = read_token(rest) {
+    let mut opened = None;
+    while let Some((token, remaining)) = read_token(rest) {
         match token {
             Token::Step(step) => steps.push(step)?,
-            Token::Open if !is_open => is_open = true,
-            Token::Close if is_open => is_open = false,
-            _ => return Ok(None),
+            Token::MaybeStep(step) => {
+                steps.push(Step::Maybe(ONE_CAPTURE))?;
+                steps.push(step)?;
+            }
+            Token::Open => match opened {
+                Some(_) => return Ok(None),
+                None => opened = Some(steps.len()),
+            },
+            Token::Close(is_optional) => {
+                let Some(first) = opened else {
+                    return Ok(None);
+                };
+                if is_optional {
+                    let group = group_of(&steps[first..]);
+                    steps.insert(first, Step::Maybe(group))?;
+                }
+                opened = None;
+            }
         }
-        rest = behind;
+        rest = remaining;
     }
-    if !is_open && is_end(rest) && have_one_end(&steps) {
+    if opened.is_none() && is_end(rest) && is_quick(&steps) {
         Ok(Some(steps))
     } else {
         Ok(None)
+    }
+}
+
+/// A group of one step, which captures.
+const ONE_CAPTURE: Group = Group {
+    steps: 1,
+    captures: 1,
+};
+
+/// How many steps there are, and how many of them capture.
+fn group_of(steps: &[Step]) -> Group
+    ensures { result ≡ record { steps = length steps.now; captures = capture_count steps.now } }
+{
+    let mut captures = 0;
+    let mut rest = steps;
+    while let [step, others @ ..] = rest {
+        match step {
+            Step::Segment(_) | Step::Anything => captures += 1,
+            Step::Literal(_) | Step::Maybe(_) => {}
+        }
+        rest = others;
+    }
+    Group {
+        steps: steps.len(),
+        captures,
+    }
+}
+
+/// How many groups may be missing in an expression that is matched by steps.
+const MAYBE_COUNT: usize = 4;
+
+/// Whether there are so few choices that they are tried in little time, one after the other: of one captured run, and of groups
+/// that may be missing.
+fn is_quick(steps: &[Step]) -> bool {
+    let mut maybe_count: usize = 0;
+    let mut is_chosen = false;
+    let mut rest = steps;
+    while let Some((step, others)) = rest.split_first() {
+        if has_choice(step, others) {
+            if is_chosen {
+                return false;
+            }
+            is_chosen = true;
+        }
+        if matches!(step, Step::Maybe(_)) {
+            if maybe_count == MAYBE_COUNT {
+                return false;
+            }
+            maybe_count = maybe_count.saturating_add(1);
+        }
+        rest = others;
+    }
+    true
+}
+
+/// Whether what the step captures may end at several places before the other steps.
+fn has_choice(step: &Step, others: &[Step]) -> bool {
+    match step {
+        Step::Segment(end) => !stop_at(others, *end),
+        Step::Anything => !stop_at(others, '\n'),
+        Step::Literal(_) | Step::Maybe(_) => false,
     }
 }
 
@@ -58,43 +137,16 @@ fn is_end(text: &str) -> bool
     }
 }
 
-/// Whether each captured front can end at one place alone.
-fn have_one_end(steps: &[Step]) -> bool
-    ensures { result ≡ have_one_end steps.now }
-{
-    let mut rest = steps;
-    while let [step, behind @ ..] = rest {
-        let is_clear = match step {
-            Step::Literal(_) => true,
-            Step::Segment(end) => begin_with(*end, behind),
-            Step::Anything => begin_with('\n', behind),
-        };
-        if !is_clear {
-            return false;
-        }
-        rest = behind;
-    }
-    true
-}
-
-/// Whether the steps take nothing, or a text that begins with this character.
-fn begin_with(c: char, steps: &[Step]) -> bool
-    ensures { result ≡ begin_with c steps.now }
-{
-    match steps {
-        [] => true,
-        [Step::Literal(other), ..] => *other == c,
-        _ => false,
-    }
-}
-
 /// The token at the front of the text, and what follows it.
 fn read_token(text: &str) -> Option<(Token, &str)>
     ensures token { IfSome result (λ read. BeginsWithToken (chars text.now) read.0 (chars read.1.now)) }
     ensures len { IfSome result (λ read. length read.1.now < length text.now) }
 {
     if let Some(rest) = after(text, ')') {
-        return Some((Token::Close, rest));
+        if let Some(remaining) = after(rest, '?') {
+            return Some((Token::Close(true), remaining));
+        }
+        return Some((Token::Close(false), rest));
     }
     if let Some(inner) = after(text, '(') {
         return read_bracket(inner);
@@ -112,7 +164,11 @@ fn read_bracket(text: &str) -> Option<(Token, &str)>
         return Some((Token::Open, after(rest, ':')?));
     }
     let (step, rest) = read_captured(text)?;
-    Some((Token::Step(step), after(rest, ')')?))
+    let rest = after(rest, ')')?;
+    if let Some(remaining) = after(rest, '?') {
+        return Some((Token::MaybeStep(step), remaining));
+    }
+    Some((Token::Step(step), rest))
 }
 
 /// The step for what brackets capture, and what follows it.

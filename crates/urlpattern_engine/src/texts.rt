@@ -1,8 +1,11 @@
 //! Texts by their characters.
 
-ghost use Rattle.std.specs.Prelude.{◌≡◌, ◌∷◌, ◌++◌, [], ℕ, ◌<◌, List, length, IfNone, IfSome};
-ghost use Rattle.std.specs.Str.{chars};
+ghost use Rattle.std.specs.Prelude.{◌≡◌, ◌≢◌, ◌∷◌, ◌++◌, [], ℕ, ◌<◌, List, length, IfNone, IfSome};
+ghost use Rattle.std.specs.Char.{IsScalar, encode_utf8};
+ghost use Rattle.std.specs.Str.{chars, IsUtf8};
 ghost use Rattle.urlpattern_engine.specs.Steps.{from_first, up_to_first};
+
+use urlpattern_syntax::tokenizer::before;
 
 /// The first character of a text and what follows it.
 pub(crate) fn split_first(text: &str) -> Option<(char, &str)>
@@ -18,10 +21,32 @@ pub(crate) fn split_first(text: &str) -> Option<(char, &str)>
 /// What follows this character in a text that begins with it.
 pub(crate) fn after(text: &str, c: char) -> Option<&str>
     ensures cut { IfSome result (λ rest. chars text.now ≡ c ∷ chars rest.now) }
+    ensures other { IfNone result ((rest : List ℕ) → chars text.now ≢ c ∷ rest) }
     ensures len { IfSome result (λ rest. length rest.now < length text.now) }
 {
     let (first, rest) = split_first(text)?;
     if first == c { Some(rest) } else { None }
+}
+
+/// What follows a front of a text.
+pub(crate) fn after_front<'a>(text: &'a str, front: &str) -> &'a str
+    requires { (rest : List ℕ) × IsUtf8 rest × (text.now ≡ front.now ++ rest) }
+    ensures { text.now ≡ front.now ++ result.now }
+{
+    &text[front.len()..]
+}
+
+/// A text without its last character. `None`: it is empty.
+pub(crate) fn without_last(text: &str) -> Option<&str>
+    ensures empty { IfNone result (text.now ≡ []) }
+    ensures cut { IfSome result (λ front. (c : ℕ) × IsScalar c × (text.now ≡ front.now ++ encode_utf8 c)) }
+    ensures len { IfSome result (λ front. length front.now < length text.now) }
+{
+    let mut characters = text.chars();
+    let Some(_) = characters.next_back() else {
+        return None;
+    };
+    Some(characters.as_str())
 }
 
 /// A text up to the first such character, and from there on.
@@ -38,19 +63,11 @@ fn skip_to_first(text: &str, c: char) -> &str
     ensures { chars result.now ≡ from_first c (chars text.now) }
 {
     let mut rest = text;
-    while let Some((first, after)) = split_first(rest) {
+    while let Some((first, remaining)) = split_first(rest) {
         if first == c {
             break;
         }
-        rest = after;
+        rest = remaining;
     }
     rest
-}
-
-/// What precedes this end of a text.
-fn before<'a>(text: &'a str, end: &str) -> &'a str
-    requires { (front : List ℕ) × (chars text.now ≡ front ++ chars end.now) }
-    ensures { chars text.now ≡ chars result.now ++ chars end.now }
-{
-    &text[..text.len() - end.len()]
 }

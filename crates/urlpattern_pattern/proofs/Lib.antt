@@ -9,3 +9,4 @@ pub mod CompiledLemmas
 pub mod MeaningLemmas
 pub mod RegexGroups
 pub mod NameOrder
+pub mod PlaceLemmas

@@ -7,3 +7,4 @@ pub mod Match
 pub mod MatchInput
 pub mod Meaning
 pub mod Patterns
+pub mod Places

@@ -1,6 +1,7 @@
 //! Lists of patterns, of which the first that matches an input is asked for.
 //!
-//! The texts of the input are made once. Each pattern looks at them, in the order of the list, and nothing is made of those
+//! The texts of the input are made once. An index knows the patterns that can match them, by the literal protocol and hostname
+//! and by the text that the pathname begins with. Those look at them, in the order of the list, and nothing is made of those
 //! that do not match.
 ghost use Rattle.std.specs.Iterator.Adapters.{IterYieldsInOrder};
 ghost use Rattle.std.specs.Prelude.{◌≡◌, ◌==◌, ◌++◌, [], ◌∷◌, length, map, option_copied, option_map, slice_get, IfErr, IfOk, OnErr, OnOk};
@@ -21,6 +22,7 @@ use std::slice;
 use url::Url;
 use urlpattern_core::Error;
 use urlpattern_core::regexp::RegExp;
+use urlpattern_index::{Address, Index};
 use urlpattern_init::UrlPatternMatchInput;
 use urlpattern_inputs::MatchInput;
 
@@ -28,15 +30,20 @@ use urlpattern_inputs::MatchInput;
 #[derive(Debug, Drop)]
 pub struct UrlPatternList<R: RegExp = regex::Regex> {
     patterns: Vec<UrlPattern<R>>,
+    /// Where the URLs lie that each pattern can match.
+    index: Index,
 }
 
 impl<R: RegExp> Model for UrlPatternList<R> {
     ghost use Rattle.std.specs.Prelude.{List};
+    ghost use Rattle.urlpattern_pattern.specs.Places.{AreKeys};
     ghost use Rattle.urlpattern_pattern.specs.declared.pattern.UrlPattern.{UrlPattern};
 
     ghost Value = { List (UrlPattern R) };
 
     ghost view = { λ list. list.patterns.items };
+
+    ghost invariant = { λ list. AreKeys list.patterns.items list.index };
 }
 
 impl<R: RegExp> UrlPatternList<R> {
@@ -46,6 +53,7 @@ impl<R: RegExp> UrlPatternList<R> {
     {
         Self {
             patterns: Vec::new(alloc),
+            index: Index::new(alloc),
         }
     }
 
@@ -57,9 +65,15 @@ impl<R: RegExp> UrlPatternList<R> {
         ensures unchanged { OnErr result (self.new ≡ self.old) }
         ensures handed_back { IfErr result (λ refused. refused ≡ pattern) }
     {
+        let Ok(()) = self.patterns.reserve(1) else {
+            return Err(pattern);
+        };
+        let Ok(()) = self.index.push(pattern.place()) else {
+            return Err(pattern);
+        };
         match self.patterns.push(pattern) {
             Ok(()) => Ok(()),
-            Err(refused) => Err(refused.value),
+            Err(_) => unreachable!(),
         }
     }
 
@@ -95,7 +109,7 @@ impl<R: RegExp> UrlPatternList<R> {
     /// The least index whose pattern matches an input, and that match. `None`: no pattern matches it.
     ///
     /// The answer is that of `UrlPattern::exec` on one pattern after the other until one matches. Patterns after that one are
-    /// not asked.
+    /// not asked, nor are those that the index leaves out.
     ///
     /// The error is that memory ran out.
     pub fn first_match(
@@ -220,10 +234,18 @@ impl<R: RegExp> UrlPatternList<R> {
         ensures memory { IfErr result (λ error. error ≡ errors.OutOfMemory) }
         ensures asked { IfErr result (λ _. OneAsksAnEngine (patterns_view self.now) (borrowed_texts texts.entry)) }
     {
-        for (index, pattern) in self.patterns.iter().enumerate() {
+        let candidates = self.index.candidates(Address {
+            protocol: texts.protocol,
+            hostname: texts.hostname,
+            pathname: texts.pathname,
+        });
+        let mut from = 0;
+        while let Some(index) = candidates.least_from(from) {
+            let pattern = &self.patterns[index];
             if let Some(captures) = pattern.captured(alloc, &texts)? {
                 return Ok(Some((index, pattern.with_captures(texts, captures))));
             }
+            from = index + 1;
         }
         Ok(None)
     }

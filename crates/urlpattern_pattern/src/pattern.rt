@@ -13,6 +13,7 @@ mod groups;
 mod matching;
 mod once;
 mod parse;
+mod place;
 mod result;
 
 pub use captures::{UrlPatternCaptures, UrlPatternGroups};

@@ -1,5 +1,5 @@
 -- Lemmas on reading: items and their demands, parts, and what is read so far.
-use Rattle.std.proofs.Common.{◌≡◌, ◌≢◌, ℕ, Bool, true, false, not, List, [], ◌∷◌, ◌++◌, map, refl, sym, ap, ◌∙◌, subst, inl, inr, append_assoc}
+use Rattle.std.proofs.Common.{◌≡◌, ◌≢◌, ℕ, Bool, true, false, not, Option, Some, None, List, [], ◌∷◌, ◌++◌, map, refl, sym, ap, ◌∙◌, subst, inl, inr, append_assoc, arith}
 use Rattle.std.specs.Prelude.{Result, Ok, Err, bytes_eq, filter, if◌then◌else◌}
 use Rattle.std.proofs.Common.{◌+◌, ◌<◌, length, take, drop, get_or}
 use Rattle.std.specs.Prelude.{Contains, IfErr, IfOk, String}
@@ -26,7 +26,8 @@ use Rattle.urlpattern_syntax.specs.Parts.{PartView, fixed_text, part_view}
 use Rattle.urlpattern_syntax.specs.Pieces.{Ending, Matched}
 use Rattle.urlpattern_syntax.specs.Pieces.{Ending as endings}
 use Rattle.urlpattern_syntax.specs.Reading.{AreMet, AreParts, Capture, Demand, Encode, Encoding, Expect, FirstFails, Fixed, Item, NewName, capture_part, compared, demands_after, encode_fixed, encoding_of, item, joined_items, kind_of, value_of, with_text}
-use Rattle.urlpattern_syntax.specs.RegexpText.{is_empty, full_wildcard, group_names, is_fixed_text, segment_wildcard}
+use Rattle.urlpattern_syntax.specs.declared.parser.RegexSyntax.{RegexSyntax}
+use Rattle.urlpattern_syntax.specs.RegexpText.{is_empty, full_wildcard, group_names, is_fixed_text, segment_wildcard, segment_wildcard_of}
 use Rattle.urlpattern_syntax.specs.Tokens.{TokenView}
 
 -- ---- demands
@@ -230,6 +231,18 @@ pub kind_full : (options : OptionsView) (regexp : List ℕ) → regexp ≢ segme
 kind_full options regexp h e =
     ap (λ b. if b then SegmentWildcard else (if bytes_eq regexp full_wildcard then FullWildcard else Regexp)) (other_bytes regexp (segment_wildcard options) h)
     ∙ ap (λ b. if b then FullWildcard else Regexp) ((bytes_eq-Decides regexp full_wildcard).1 e)
+
+abbrev first_or_zero : List ℕ → ℕ
+first_or_zero [] = 0
+first_or_zero (c ∷ text) = c
+
+-- the regular expression of a segment is not that of any text
+no_segment : (syntax : RegexSyntax) (delimiter : Option ℕ) → full_wildcard ≢ segment_wildcard_of syntax delimiter
+no_segment syntax None e = cc e
+no_segment syntax (Some c) e = let h : 46 ≡ 91 = ap first_or_zero e in omega (arith, h)
+
+pub kind_wildcard : (options : OptionsView) → kind_of options full_wildcard ≡ FullWildcard
+kind_wildcard options = kind_full options full_wildcard (no_segment options.syntax options.delimiter) refl
 
 pub kind_custom : (options : OptionsView) (regexp : List ℕ) → regexp ≢ segment_wildcard options → regexp ≢ full_wildcard → kind_of options regexp ≡ Regexp
 kind_custom options regexp h g =

@@ -102,6 +102,18 @@ impl PartModifier {
             Self::OneOrMore => "+",
         }
     }
+
+    /// The same modifier.
+    fn copied(&self) -> Self
+        ensures { result ≡ self.now }
+    {
+        match self {
+            Self::None => Self::None,
+            Self::Optional => Self::Optional,
+            Self::ZeroOrMore => Self::ZeroOrMore,
+            Self::OneOrMore => Self::OneOrMore,
+        }
+    }
 }
 
 /// Writes the modifier as a pattern spells it.
@@ -193,8 +205,10 @@ impl<F: Fn(&str) -> Result<String, Error>> PatternParser<'_, F> {
             (encoding_of (FnReturnsAt F.Fn self.now.encoding_callback)))) }
     {
         let mut list = PartList::new(self.alloc);
+        let mut next = Next::Stops;
         loop {
-            match reader.next_piece(&self.options.prefix_code_point)? {
+            reader.next_piece(&self.options.prefix_code_point, &mut next)?;
+            match &next {
                 Next::Piece(piece) => match list.add(self, piece) {
                     Ok(()) => {}
                     Err(error) => return Err(first_fault(reader, error)),
@@ -207,20 +221,23 @@ impl<F: Fn(&str) -> Result<String, Error>> PatternParser<'_, F> {
                     reader.read_to_end()?;
                     return Err(expected_token(self.alloc, TokenType::Close, reader.token()));
                 }
-                Next::Stops => return self.finish(list, reader),
+                Next::Stops => {
+                    self.finish(&mut list, reader)?;
+                    return Ok(list.parts);
+                }
             }
         }
     }
 
-    /// The parts up to the token with which no piece begins, which has to be the end.
-    fn finish(&self, mut list: PartList<'_>, reader: &Reader<'_>) -> Result<Vec<Part>, Error>
+    /// Adds what is pending before the token with which no piece begins, which has to be the end.
+    fn finish(&self, list: &mut PartList<'_>, reader: &Reader<'_>) -> Result<(), Error>
         requires callable { F.IsAlwaysCallable self.now.encoding_callback }
         requires stands { Stands reader.now }
-        ensures ok { IfOk result (λ parts. (reader.now.token.kind ≡ TokenType.End)
-            × AddsParts (options_view self.now.options.now) (encoding_of (FnReturnsAt F.Fn self.now.encoding_callback)) (part_list_view list.entry)
-            (pending_items (part_list_view list.entry).pending) (record { parts = map part_view parts.items; pending = []; number = 0 })) }
+        ensures end { OnOk result (reader.now.token.kind ≡ TokenType.End) }
+        ensures ok { OnOk result (AddsParts (options_view self.now.options.now) (encoding_of (FnReturnsAt F.Fn self.now.encoding_callback)) (part_list_view list.old)
+            (pending_items (part_list_view list.old).pending) (part_list_view list.new)) }
         ensures err { IfErr result (FaultOr reader.now (FirstFails (encoding_of (FnReturnsAt F.Fn self.now.encoding_callback))
-            (encode_fixed (part_list_view list.entry).pending ++ Expect TokenType.End (token_view reader.now.token) ∷ []))) }
+            (encode_fixed (part_list_view list.old).pending ++ Expect TokenType.End (token_view reader.now.token) ∷ []))) }
     {
         if let Err(error) = list.add_pending(self) {
             return Err(first_fault(reader, error));
@@ -229,7 +246,7 @@ impl<F: Fn(&str) -> Result<String, Error>> PatternParser<'_, F> {
             reader.read_to_end()?;
             return Err(expected_token(self.alloc, TokenType::End, reader.token()));
         }
-        Ok(list.into_parts())
+        Ok(())
     }
 
     /// What the callback answers for a text.
@@ -242,6 +259,7 @@ impl<F: Fn(&str) -> Result<String, Error>> PatternParser<'_, F> {
     }
 
     /// The kind of a placeholder's part, and its value: the body of a custom regular expression that is no wildcard.
+    #[inline(always)]
     fn kind_and_value(&self, matched: Matched<'_>) -> Result<(PartType, String), Error>
         ensures kind { IfOk result (λ found. found.0 ≡ kind_of (options_view self.now.options.now) (compared (options_view self.now.options.now) (matched_view matched.entry))) }
         ensures value { IfOk result (λ found. text_of found.1 ≡ value_of found.0 (compared (options_view self.now.options.now) (matched_view matched.entry))) }
@@ -249,7 +267,7 @@ impl<F: Fn(&str) -> Result<String, Error>> PatternParser<'_, F> {
     {
         match matched {
             Matched::Segment => Ok((PartType::SegmentWildcard, String::new(self.alloc))),
-            Matched::Anything => self.kind_by_regexp(FULL_WILDCARD_REGEXP_VALUE),
+            Matched::Anything => Ok((PartType::FullWildcard, String::new(self.alloc))),
             Matched::Custom(body) => self.kind_by_regexp(body),
         }
     }
@@ -290,28 +308,28 @@ impl<'a> PartList<'a> {
     fn add<F: Fn(&str) -> Result<String, Error>>(
         &mut self,
         parser: &PatternParser<'_, F>,
-        piece: Piece<'a>,
+        piece: &Piece<'a>,
     ) -> Result<(), Error>
         requires callable { F.IsAlwaysCallable parser.now.encoding_callback }
         requires room { self.old.next_numeric_name < usize.MAX }
-        requires named { IsPieceNamed (piece_view piece) }
+        requires named { IsPieceNamed (piece_view piece.now) }
         requires knows { KnowsItsNames self.old }
         ensures knows { OnOk result (KnowsItsNames self.new) }
         ensures ok { OnOk result (AddsItem (options_view parser.now.options.now) (encoding_of (FnReturnsAt F.Fn parser.now.encoding_callback))
-            (part_list_view self.old) (item self.old.next_numeric_name (piece_view piece.entry)) (part_list_view self.new)) }
-        ensures number { OnOk result (self.new.next_numeric_name ≡ number_after self.old.next_numeric_name (piece_view piece.entry)) }
+            (part_list_view self.old) (item self.old.next_numeric_name (piece_view piece.now)) (part_list_view self.new)) }
+        ensures number { OnOk result (self.new.next_numeric_name ≡ number_after self.old.next_numeric_name (piece_view piece.now)) }
         ensures err { IfErr result (FailsItem (encoding_of (FnReturnsAt F.Fn parser.now.encoding_callback))
-            (part_list_view self.old) (item self.old.next_numeric_name (piece_view piece.entry))) }
+            (part_list_view self.old) (item self.old.next_numeric_name (piece_view piece.now))) }
     {
         match piece {
             Piece::Text(text) => self.add_plain(text),
-            Piece::TextGroup(text, PartModifier::None) => self.add_plain(&text),
-            Piece::TextGroup(text, modifier) => self.add_fixed(parser, &text, modifier),
+            Piece::TextGroup(text, PartModifier::None) => self.add_plain(text),
+            Piece::TextGroup(text, modifier) => self.add_fixed(parser, text, modifier.copied()),
             Piece::Bare(prefix, placeholder, modifier) => {
-                self.add_group(parser, prefix, placeholder, "", modifier)
+                self.add_group(parser, prefix, placeholder, "", modifier.copied())
             }
             Piece::Group(before, placeholder, after, modifier) => {
-                self.add_group(parser, &before, placeholder, &after, modifier)
+                self.add_group(parser, before, placeholder, after, modifier.copied())
             }
         }
     }
@@ -356,21 +374,21 @@ impl<'a> PartList<'a> {
         &mut self,
         parser: &PatternParser<'_, F>,
         before: &str,
-        placeholder: Placeholder<'a>,
+        placeholder: &Placeholder<'a>,
         after: &str,
         modifier: PartModifier,
     ) -> Result<(), Error>
         requires callable { F.IsAlwaysCallable parser.now.encoding_callback }
         requires room { self.old.next_numeric_name < usize.MAX }
-        requires named { IsNamed (name_view placeholder.name) }
+        requires named { IsNamed (name_view placeholder.now.name) }
         requires knows { KnowsItsNames self.old }
         ensures knows { OnOk result (KnowsItsNames self.new) }
         ensures ok { OnOk result (AddsParts (options_view parser.now.options.now) (encoding_of (FnReturnsAt F.Fn parser.now.encoding_callback)) (part_list_view self.old)
-            (pending_items (part_list_view self.old).pending ++ group_item (chars before.now) placeholder.entry (chars after.now) modifier self.old.next_numeric_name ∷ [])
+            (pending_items (part_list_view self.old).pending ++ group_item (chars before.now) placeholder.now (chars after.now) modifier self.old.next_numeric_name ∷ [])
             (part_list_view self.new)) }
-        ensures number { OnOk result (self.new.next_numeric_name ≡ next_number (name_view placeholder.entry.name) self.old.next_numeric_name) }
+        ensures number { OnOk result (self.new.next_numeric_name ≡ next_number (name_view placeholder.now.name) self.old.next_numeric_name) }
         ensures err { IfErr result (FailsItems (encoding_of (FnReturnsAt F.Fn parser.now.encoding_callback)) (part_list_view self.old).parts
-            (pending_items (part_list_view self.old).pending ++ group_item (chars before.now) placeholder.entry (chars after.now) modifier self.old.next_numeric_name ∷ [])) }
+            (pending_items (part_list_view self.old).pending ++ group_item (chars before.now) placeholder.now (chars after.now) modifier self.old.next_numeric_name ∷ [])) }
     {
         self.add_pending(parser)?;
         let name = self.new_name(parser.alloc, placeholder.name)?;
@@ -426,6 +444,7 @@ impl<'a> PartList<'a> {
     /// Adds the pending text as a fixed text, if there is one.
     ///
     /// <https://urlpattern.spec.whatwg.org/#maybe-add-a-part-from-the-pending-fixed-value>
+    #[inline(always)]
     fn add_pending<F: Fn(&str) -> Result<String, Error>>(
         &mut self,
         parser: &PatternParser<'_, F>,
@@ -446,13 +465,6 @@ impl<'a> PartList<'a> {
         self.parts
             .push(Part::fixed(parser.alloc, value, PartModifier::None))?;
         Ok(())
-    }
-
-    /// The parts.
-    fn into_parts(self) -> Vec<Part>
-        ensures { result ≡ self.entry.parts }
-    {
-        self.parts
     }
 }
 

@@ -427,7 +427,7 @@ fn skip_name(text: &str) -> &str
 }
 
 /// What stands in a text before this end of it.
-pub(crate) fn before<'a>(text: &'a str, end: &str) -> &'a str
+pub fn before<'a>(text: &'a str, end: &str) -> &'a str
     requires { (front : List ℕ) × (chars text.now ≡ front ++ chars end.now) }
     ensures { chars text.now ≡ chars result.now ++ chars end.now }
 {

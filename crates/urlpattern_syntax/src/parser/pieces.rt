@@ -102,25 +102,36 @@ impl<'a> Reader<'a> {
         self.cursor.read_to_end()
     }
 
-    /// Takes the next piece, if the tokens begin with one.
+    /// Takes the next piece, if the tokens begin with one. What they begin with is written to `next`.
     ///
     /// The error is the first fault of the text, or that memory ran out.
-    pub(super) fn next_piece(&mut self, prefix_code_point: &str) -> Result<Next<'a>, Error>
+    pub(super) fn next_piece(
+        &mut self,
+        prefix_code_point: &str,
+        next: &mut Next<'a>,
+    ) -> Result<(), Error>
         requires { Stands self.old }
-        ensures next { IfOk result (λ next. Takes self.old self.new (λ tokens rest. IsNext (chars prefix_code_point.now) tokens next rest)) }
-        ensures named { IfOk result IsNextNamed }
-        ensures less { IfOk result (IsShorter (reader_left self.new) (reader_left self.old)) }
+        ensures next { OnOk result (Takes self.old self.new (λ tokens rest. IsNext (chars prefix_code_point.now) tokens next.new rest)) }
+        ensures named { OnOk result (IsNextNamed next.new) }
+        ensures less { OnOk result (IsShorter (reader_left self.new) (reader_left self.old) next.new) }
         ensures fault { IfErr result (TellsFault (reader_text self.old)) }
     {
         match self.token.kind {
-            TokenType::Open => self.group(),
-            TokenType::Name | TokenType::Regexp | TokenType::Asterisk => self.bare(""),
-            TokenType::Char => self.character(prefix_code_point),
+            TokenType::Open => {
+                *next = self.group()?;
+                Ok(())
+            }
+            TokenType::Name | TokenType::Regexp | TokenType::Asterisk => self.bare("", next),
+            TokenType::Char => self.character(prefix_code_point, next),
             TokenType::EscapedChar => {
                 let token = self.take()?;
-                Ok(Next::Piece(Piece::Text(token.value)))
+                *next = Next::Piece(Piece::Text(token.value));
+                Ok(())
             }
-            _ => Ok(Next::Stops),
+            _ => {
+                *next = Next::Stops;
+                Ok(())
+            }
         }
     }
 
@@ -140,22 +151,24 @@ impl<'a> Reader<'a> {
     }
 
     /// Takes a character, and the placeholder after it if the character is its prefix, or else the characters after it.
-    fn character(&mut self, prefix_code_point: &str) -> Result<Next<'a>, Error>
+    fn character(&mut self, prefix_code_point: &str, next: &mut Next<'a>) -> Result<(), Error>
         requires stands { Stands self.old }
         requires character { self.old.token.kind ≡ kinds.Char }
-        ensures next { IfOk result (λ next. Takes self.old self.new (λ tokens rest. IsNext (chars prefix_code_point.now) tokens next rest)) }
-        ensures named { IfOk result IsNextNamed }
+        ensures next { OnOk result (Takes self.old self.new (λ tokens rest. IsNext (chars prefix_code_point.now) tokens next.new rest)) }
+        ensures named { OnOk result (IsNextNamed next.new) }
         ensures less { OnOk result (reader_left self.new < reader_left self.old) }
         ensures fault { IfErr result (TellsFault (reader_text self.old)) }
     {
         let (first, more) = self.characters()?;
         if !more.is_empty() {
-            return Ok(Next::Characters(first, more));
+            *next = Next::Characters(first, more);
+            return Ok(());
         }
         if first == prefix_code_point && is_placeholder(self.token.kind) {
-            return self.bare(first);
+            return self.bare(first, next);
         }
-        Ok(Next::Piece(Piece::Text(first)))
+        *next = Next::Piece(Piece::Text(first));
+        Ok(())
     }
 
     /// Takes a character, and the characters after it up to the last of them. Their values.
@@ -175,18 +188,19 @@ impl<'a> Reader<'a> {
     }
 
     /// Takes a placeholder without braces and its modifier, after this prefix.
-    fn bare(&mut self, prefix: &'a str) -> Result<Next<'a>, Error>
+    fn bare(&mut self, prefix: &'a str, next: &mut Next<'a>) -> Result<(), Error>
         requires stands { Stands self.old }
         requires placeholder { IsTrue (is_placeholder self.old.token.kind) }
-        ensures next { IfOk result (λ next. Takes self.old self.new (λ tokens rest. (point : List ℕ) (before : List TokenView)
-            → IsPrefixOf point before (chars prefix.now) → IsNext point (before ++ tokens) next rest)) }
-        ensures named { IfOk result IsNextNamed }
+        ensures next { OnOk result (Takes self.old self.new (λ tokens rest. (point : List ℕ) (before : List TokenView)
+            → IsPrefixOf point before (chars prefix.now) → IsNext point (before ++ tokens) next.new rest)) }
+        ensures named { OnOk result (IsNextNamed next.new) }
         ensures less { OnOk result (reader_left self.new < reader_left self.old) }
         ensures fault { IfErr result (TellsFault (reader_text self.old)) }
     {
         let placeholder = self.placeholder()?;
         let modifier = self.modifier()?;
-        Ok(Next::Piece(Piece::Bare(prefix, placeholder, modifier)))
+        *next = Next::Piece(Piece::Bare(prefix, placeholder, modifier));
+        Ok(())
     }
 
     /// Takes a group from its opening brace on, up to where its end has to be.
@@ -283,6 +297,7 @@ impl<'a> Reader<'a> {
     /// Takes the modifier that the tokens begin with, if there is one.
     ///
     /// <https://urlpattern.spec.whatwg.org/#try-to-consume-a-modifier-token>
+    #[inline(always)]
     fn modifier(&mut self) -> Result<PartModifier, Error>
         requires { Stands self.old }
         ensures modifier { IfOk result (λ modifier. Takes self.old self.new (λ tokens rest. BeginsWithModifier tokens modifier rest)) }

@@ -1,48 +1,86 @@
-use Rattle.std.proofs.Common.{sym, ap, ◌∙◌, subst, rules}
-use Rattle.std.specs.Prelude.{IsTrue}
+use Rattle.std.proofs.Common.{◌≡◌, ◌++◌, [], ◌∷◌, take, drop, sym, ap, ◌∙◌, subst, append_assoc, rules, refl, Some, None}
+use Rattle.std.proofs.lemmas.List.{take-append-drop}
 use Rattle.std.specs.Str.{chars}
-use Rattle.urlpattern_engine.specs.declared.reading.Token.TheVariants.{Open, Close, Step as One}
+use Rattle.urlpattern_engine.specs.declared.reading.Token.TheVariants.{Open, Close, Step as One, MaybeStep}
+use Rattle.urlpattern_engine.specs.declared.step.Group.{Group}
+use Rattle.urlpattern_engine.specs.declared.step.Step.TheVariants.{Maybe}
 use Rattle.urlpattern_engine.specs.Reading.{BeginsWithToken}
-use Rattle.urlpattern_engine.specs.Steps.{have_one_end}
-use Rattle.urlpattern_engine.proofs.ReadingLemmas.{IsBegun, begun-close, begun-ends, begun-open, begun-step}
+use Rattle.urlpattern_engine.proofs.ReadingLemmas.{IsBegun, inserted, none_of, group_steps, begun-close, begun-ends, begun-more, begun-open, spells-once, spells-maybe}
 use Rattle.urlpattern_engine.proofs.reading.read_steps.Goals as goal
 
 pub loop-token-preserved-in_ok-push-in-Step : goal.loop-token-preserved-in_ok-push-in-Step
 loop-token-preserved-in_ok-push-in-Step c =
     let rest = chars c.loop-token.rest.now in
-    let behind = chars c.in-Some-read_token.behind.now in
-    let begins : BeginsWithToken rest (One c.in-Step.step) behind = subst (λ t. BeginsWithToken rest t behind) c.in-Step.is c.in-Some-read_token.ensures.token in
+    let remaining = chars c.in-Some-read_token.remaining.now in
+    let begins : BeginsWithToken rest (One c.in-Step.step) remaining = subst (λ t. BeginsWithToken rest t remaining) c.in-Step.is c.in-Some-read_token.ensures.token in
     record {
       is_text = search rules;
-      so_far = subst (IsBegun (chars c.args.regexp.now) c.loop-token.is_open behind) (sym c.in_ok-push-in-Step.ensures.items)
-          (begun-step (chars c.args.regexp.now) c.loop-token.is_open rest begins.0 behind c.loop-token.steps.items c.in-Step.step c.loop-token.invariant.so_far begins.1 begins.2);
+      so_far = subst (IsBegun (chars c.args.regexp.now) c.loop-token.opened remaining) (sym c.in_ok-push-in-Step.ensures.items)
+          (begun-more (chars c.args.regexp.now) c.loop-token.opened rest begins.0 remaining c.loop-token.steps.items (c.in-Step.step ∷ []) c.loop-token.invariant.so_far
+          (spells-once c.in-Step.step begins.0 begins.1) begins.2);
     }
 
-pub loop-token-preserved-in-Open : goal.loop-token-preserved-in-Open
-loop-token-preserved-in-Open c =
+pub loop-token-preserved-in_ok-push-in-MaybeStep-2 : goal.loop-token-preserved-in_ok-push-in-MaybeStep-2
+loop-token-preserved-in_ok-push-in-MaybeStep-2 c =
     let rest = chars c.loop-token.rest.now in
-    let behind = chars c.in-Some-read_token.behind.now in
-    let begins : BeginsWithToken rest Open behind = subst (λ t. BeginsWithToken rest t behind) c.in-Open.is c.in-Some-read_token.ensures.token in
+    let remaining = chars c.in-Some-read_token.remaining.now in
+    let step = c.in-MaybeStep.step in
+    let group : Group = record { steps = 1; captures = 1 } in
+    let begins : BeginsWithToken rest (MaybeStep step) remaining = subst (λ t. BeginsWithToken rest t remaining) c.in-MaybeStep.is c.in-Some-read_token.ensures.token in
     record {
       is_text = search rules;
-      so_far = begun-open (chars c.args.regexp.now) rest begins.0 behind c.loop-token.steps.items
-          (subst (λ b. IsBegun (chars c.args.regexp.now) b rest c.loop-token.steps.items) c.if-not-is_open.true c.loop-token.invariant.so_far) begins.1 begins.2;
+      so_far = subst (IsBegun (chars c.args.regexp.now) c.loop-token.opened remaining)
+          (sym (c.in_ok-push-in-MaybeStep-2.ensures.items ∙ ap (λ l. l ++ step ∷ []) c.in_ok-push-in-MaybeStep.ensures.items ∙ append_assoc c.loop-token.steps.items (Maybe group ∷ []) (step ∷ [])))
+          (begun-more (chars c.args.regexp.now) c.loop-token.opened rest begins.0 remaining c.loop-token.steps.items (Maybe group ∷ step ∷ []) c.loop-token.invariant.so_far
+          (spells-maybe step group begins.0 refl (sym begins.1.1) begins.1) begins.2);
+    }
+
+pub loop-token-preserved-in-None : goal.loop-token-preserved-in-None
+loop-token-preserved-in-None c =
+    let rest = chars c.loop-token.rest.now in
+    let remaining = chars c.in-Some-read_token.remaining.now in
+    let begins : BeginsWithToken rest Open remaining = subst (λ t. BeginsWithToken rest t remaining) c.in-Open.is c.in-Some-read_token.ensures.token in
+    record {
+      is_text = search rules;
+      so_far = subst (λ n. IsBegun (chars c.args.regexp.now) (Some n) remaining c.loop-token.steps.items) (sym (c.len.ensures ∙ c.loop-token.steps.ok.0))
+          (begun-open (chars c.args.regexp.now) rest begins.0 remaining c.loop-token.steps.items
+          (subst (λ o. IsBegun (chars c.args.regexp.now) o rest c.loop-token.steps.items) c.in-None.is c.loop-token.invariant.so_far) begins.1 begins.2);
+    }
+
+pub loop-token-preserved-in_ok-insert-in-Close : goal.loop-token-preserved-in_ok-insert-in-Close
+loop-token-preserved-in_ok-insert-in-Close c =
+    let rest = chars c.loop-token.rest.now in
+    let remaining = chars c.in-Some-read_token.remaining.now in
+    let first = c.in-Some-opened-2.first in
+    let done = c.loop-token.steps.items in
+    let begins : BeginsWithToken rest (Close c.in-Close.is_optional) remaining = subst (λ t. BeginsWithToken rest t remaining) c.in-Close.is c.in-Some-read_token.ensures.token in
+    let so_far : IsBegun (chars c.args.regexp.now) (Some first) rest done = subst (λ o. IsBegun (chars c.args.regexp.now) o rest done) c.in-Some-opened-2.is c.loop-token.invariant.so_far in
+    record {
+      is_text = search rules;
+      so_far = subst (IsBegun (chars c.args.regexp.now) None remaining)
+          (ap (λ b. take first done ++ group_steps b (drop first done)) c.if-is_optional.true
+          ∙ inserted done c.deref.result.now first c.group_of-group.result c.deref.ensures.value c.group_of-group.ensures ∙ sym c.in_ok-insert-in-Close.ensures.items)
+          (begun-close (chars c.args.regexp.now) rest begins.0 remaining first c.in-Close.is_optional done so_far begins.1 begins.2);
     }
 
 pub loop-token-preserved : goal.loop-token-preserved
 loop-token-preserved c =
     let rest = chars c.loop-token.rest.now in
-    let behind = chars c.in-Some-read_token.behind.now in
-    let begins : BeginsWithToken rest Close behind = subst (λ t. BeginsWithToken rest t behind) c.in-Close.is c.in-Some-read_token.ensures.token in
+    let remaining = chars c.in-Some-read_token.remaining.now in
+    let first = c.in-Some-opened-2.first in
+    let done = c.loop-token.steps.items in
+    let begins : BeginsWithToken rest (Close c.in-Close.is_optional) remaining = subst (λ t. BeginsWithToken rest t remaining) c.in-Close.is c.in-Some-read_token.ensures.token in
+    let so_far : IsBegun (chars c.args.regexp.now) (Some first) rest done = subst (λ o. IsBegun (chars c.args.regexp.now) o rest done) c.in-Some-opened-2.is c.loop-token.invariant.so_far in
     record {
       is_text = search rules;
-      so_far = begun-close (chars c.args.regexp.now) rest begins.0 behind c.loop-token.steps.items
-          (subst (λ b. IsBegun (chars c.args.regexp.now) b rest c.loop-token.steps.items) c.if-is_open.true c.loop-token.invariant.so_far) begins.1 begins.2;
+      so_far = subst (IsBegun (chars c.args.regexp.now) None remaining)
+          (ap (λ b. take first done ++ group_steps b (drop first done)) c.if-is_optional.false ∙ take-append-drop first done)
+          (begun-close (chars c.args.regexp.now) rest begins.0 remaining first c.in-Close.is_optional done so_far begins.1 begins.2);
     }
 
-pub returns-then-have_one_end : goal.returns-then-have_one_end
-returns-then-have_one_end c =
+pub returns-then-is_quick : goal.returns-then-is_quick
+returns-then-is_quick c =
     let rest = chars c.loop-token.rest.now in
-    let clear : IsTrue (have_one_end c.loop-token.steps.items) = ap have_one_end (sym c.deref.ensures.value) ∙ sym c.have_one_end.ensures ∙ c.if-have_one_end.true in
+    let outside : c.loop-token.opened ≡ None = none_of c.loop-token.opened (sym c.if-is_none.ensures) in
     begun-ends (chars c.args.regexp.now) rest c.loop-token.steps.items
-    (subst (λ b. IsBegun (chars c.args.regexp.now) b rest c.loop-token.steps.items) c.if-not-is_open-2.true c.loop-token.invariant.so_far) (c.is_end.ensures c.if-is_end.true) clear
+    (subst (λ o. IsBegun (chars c.args.regexp.now) o rest c.loop-token.steps.items) outside c.loop-token.invariant.so_far) (c.is_end.ensures c.if-is_end.true)

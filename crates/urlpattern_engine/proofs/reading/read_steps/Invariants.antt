@@ -8,7 +8,7 @@ use Rattle.urlpattern_engine.proofs.reading.read_steps.Given as goal
 abbrev pub invariant-loop-token : goal.invariant-loop-token
 invariant-loop-token l = record {
   is_text : shadow (Utf8 l.rest);
-  so_far : IsBegun (chars l.regexp) l.is_open (chars l.rest) l.steps.items;
+  so_far : IsBegun (chars l.regexp) l.opened (chars l.rest) l.steps.items;
 }
 
 abbrev pub decreases-loop-token : goal.decreases-loop-token

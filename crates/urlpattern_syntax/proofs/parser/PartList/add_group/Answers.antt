@@ -25,13 +25,13 @@ returns-in_err-prefix-clause-err g c =
     let prefix = chars c.args.before.now in
     let suffix = chars c.args.after.now in
     let number = c.args.self.now.next_numeric_name in
-    let match = matched_view c.args.placeholder.matched in
+    let match = matched_view c.args.placeholder.now.matched in
     let modifier = c.args.modifier in
-    let name = name_or (name_view c.args.placeholder.name) number in
+    let name = name_or (name_view c.args.placeholder.now.name) number in
     let a : AddsParts options encoding old (pending_items old.pending) mid = c.in_ok-add_pending.ensures.ok in
-    let is_name : text_of c.in_ok-name.name ≡ name = c.in_ok-name.ensures.name ∙ ap (name_or (name_view c.args.placeholder.name)) c.in_ok-add_pending.ensures.number in
+    let is_name : text_of c.in_ok-name.name ≡ name = c.in_ok-name.ensures.name ∙ ap (name_or (name_view c.args.placeholder.now.name)) c.in_ok-add_pending.ensures.number in
     let new_name : ¬ Contains (group_names mid.parts) name =
-    subst (λ n. ¬ Contains (group_names mid.parts) (name_or (name_view c.args.placeholder.name) n)) c.in_ok-add_pending.ensures.number c.in_ok-name.ensures.new in
+    subst (λ n. ¬ Contains (group_names mid.parts) (name_or (name_view c.args.placeholder.now.name) n)) c.in_ok-add_pending.ensures.number c.in_ok-name.ensures.new in
     let error = c.in_err-prefix.field-0.0 in
     let p = err_from_is_err_and c.from_residual-in_err-prefix.result c.from_residual-in_err-prefix.ensures.1 in
     rw (p.1, p.2) (inr (fails_item options encoding old mid (pending_items old.pending) a (Capture prefix name match suffix modifier) (error_view error)
@@ -46,13 +46,13 @@ returns-in_err-suffix-clause-err g c =
     let prefix = chars c.args.before.now in
     let suffix = chars c.args.after.now in
     let number = c.args.self.now.next_numeric_name in
-    let match = matched_view c.args.placeholder.matched in
+    let match = matched_view c.args.placeholder.now.matched in
     let modifier = c.args.modifier in
-    let name = name_or (name_view c.args.placeholder.name) number in
+    let name = name_or (name_view c.args.placeholder.now.name) number in
     let a : AddsParts options encoding old (pending_items old.pending) mid = c.in_ok-add_pending.ensures.ok in
-    let is_name : text_of c.in_ok-name.name ≡ name = c.in_ok-name.ensures.name ∙ ap (name_or (name_view c.args.placeholder.name)) c.in_ok-add_pending.ensures.number in
+    let is_name : text_of c.in_ok-name.name ≡ name = c.in_ok-name.ensures.name ∙ ap (name_or (name_view c.args.placeholder.now.name)) c.in_ok-add_pending.ensures.number in
     let new_name : ¬ Contains (group_names mid.parts) name =
-    subst (λ n. ¬ Contains (group_names mid.parts) (name_or (name_view c.args.placeholder.name) n)) c.in_ok-add_pending.ensures.number c.in_ok-name.ensures.new in
+    subst (λ n. ¬ Contains (group_names mid.parts) (name_or (name_view c.args.placeholder.now.name) n)) c.in_ok-add_pending.ensures.number c.in_ok-name.ensures.new in
     let error = c.in_err-suffix.field-0.0 in
     let p = err_from_is_err_and c.from_residual-in_err-suffix.result c.from_residual-in_err-suffix.ensures.1 in
     rw (p.1, p.2) (inr (fails_item options encoding old mid (pending_items old.pending) a (Capture prefix name match suffix modifier) (error_view error)
@@ -67,13 +67,13 @@ returns-clause-ok g c =
     let prefix = chars c.args.before.now in
     let suffix = chars c.args.after.now in
     let number = c.args.self.now.next_numeric_name in
-    let match = matched_view c.args.placeholder.matched in
+    let match = matched_view c.args.placeholder.now.matched in
     let modifier = c.args.modifier in
-    let name = name_or (name_view c.args.placeholder.name) number in
+    let name = name_or (name_view c.args.placeholder.now.name) number in
     let a : AddsParts options encoding old (pending_items old.pending) mid = c.in_ok-add_pending.ensures.ok in
-    let is_name : text_of c.in_ok-name.name ≡ name = c.in_ok-name.ensures.name ∙ ap (name_or (name_view c.args.placeholder.name)) c.in_ok-add_pending.ensures.number in
+    let is_name : text_of c.in_ok-name.name ≡ name = c.in_ok-name.ensures.name ∙ ap (name_or (name_view c.args.placeholder.now.name)) c.in_ok-add_pending.ensures.number in
     let new_name : ¬ Contains (group_names mid.parts) name =
-    subst (λ n. ¬ Contains (group_names mid.parts) (name_or (name_view c.args.placeholder.name) n)) c.in_ok-add_pending.ensures.number c.in_ok-name.ensures.new in
+    subst (λ n. ¬ Contains (group_names mid.parts) (name_or (name_view c.args.placeholder.now.name) n)) c.in_ok-add_pending.ensures.number c.in_ok-name.ensures.new in
     let before = text_of c.in_ok-prefix.prefix in
     let after = text_of c.in_ok-suffix.suffix in
     let before_ok : encoding prefix (Ok before) = c.in_ok-prefix.ensures.ok in
@@ -111,8 +111,8 @@ returns-clause-knows g c =
     let given = c.new_name.new.self.given_names in
     let next = c.new_name.new.self.next_numeric_name in
     let new : PartListView = record { parts = map part_view c.push.new.self.items; pending = text_of c.new_name.new.self.pending_fixed_value; number = next } in
-    let name = name_or (name_view c.args.placeholder.name) in
-    let group = group_item (chars c.args.before.now) c.args.placeholder (chars c.args.after.now) c.args.modifier old.number in
+    let name = name_or (name_view c.args.placeholder.now.name) in
+    let group = group_item (chars c.args.before.now) c.args.placeholder.now (chars c.args.after.now) c.args.modifier old.number in
     let added : group_names new.parts ≡ group_names old.parts ++ name old.number ∷ [] = names_with options encoding old new (group ∷ []) (returns-clause-ok g c) in
     let before : group_names mid.parts ≡ group_names old.parts = names_pending options encoding old mid c.in_ok-add_pending.ensures.ok in
     let names : group_names new.parts ≡ group_names mid.parts ++ name mid.number ∷ [] =
@@ -125,8 +125,8 @@ returns-in_err-name-clause-err g c =
     let encoding = encoding_of (FnReturnsAt g.F.Fn c.args.parser.now.encoding_callback) in
     let old = part_list_view c.args.self.now in
     let mid = part_list_view c.add_pending.new.self in
-    let name = name_or (name_view c.args.placeholder.name) in
-    let group = group_item (chars c.args.before.now) c.args.placeholder (chars c.args.after.now) c.args.modifier old.number in
+    let name = name_or (name_view c.args.placeholder.now.name) in
+    let group = group_item (chars c.args.before.now) c.args.placeholder.now (chars c.args.after.now) c.args.modifier old.number in
     let error = c.in_err-name.field-0.0 in
     let p = err_from_is_err_and c.from_residual-in_err-name.result c.from_residual-in_err-name.ensures.1 in
     let IsSecond : ℕ → ErrorView → Type 0 = λ number view. Contains (group_names mid.parts) (name number) × (view ≡ ErrorView.DuplicateName (name number)) in

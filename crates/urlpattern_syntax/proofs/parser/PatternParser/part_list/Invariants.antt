@@ -7,8 +7,8 @@ use Rattle.urlpattern_syntax.proofs.TextReadingLemmas.{HasReadUpTo}
 use Rattle.urlpattern_syntax.proofs.parser.PatternParser.part_list.Given as goal
 
 -- the tokens before those that are left are read
-abbrev pub invariant-loop-list : goal.invariant-loop-list
-invariant-loop-list g l = record {
+abbrev pub invariant-loop-next : goal.invariant-loop-next
+invariant-loop-next g l = record {
   whole : reader_text l.reader ≡ reader_text l.fn.reader;
   stands : Stands l.reader;
   knows : KnowsItsNames l.list;
@@ -16,5 +16,5 @@ invariant-loop-list g l = record {
   read : HasReadUpTo (options_view l.self.options.now) (encoding_of (FnReturnsAt g.F.Fn l.self.encoding_callback)) (reader_text l.fn.reader) l.reader (part_list_view l.list);
 }
 
-abbrev pub decreases-loop-list : goal.decreases-loop-list
-decreases-loop-list g l = reader_left l.reader
+abbrev pub decreases-loop-next : goal.decreases-loop-next
+decreases-loop-next g l = reader_left l.reader

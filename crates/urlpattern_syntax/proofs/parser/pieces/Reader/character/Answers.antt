@@ -2,8 +2,8 @@ use Rattle.std.proofs.Common.{ℕ, List, ◌≡◌, ◌∷◌, ◌++◌, [], ref
 use Rattle.std.specs.Prelude.{IsTrue}
 use Rattle.std.specs.Borrow.{Bor}
 use Rattle.std.specs.Str.{chars}
-use Rattle.std.proofs.lemmas.Result.{IfOk-weaker}
-use Rattle.urlpattern_syntax.specs.Parsing.{BeginsWithPiece, Gives, IsNext, Takes}
+use Rattle.std.proofs.lemmas.Result.{on_ok_weaker}
+use Rattle.urlpattern_syntax.specs.Parsing.{BeginsWithPiece, Gives, IsNext}
 use Rattle.urlpattern_syntax.specs.Pieces.{IsPrefixOf, TakesPrefix, is_placeholder, is_text}
 use Rattle.urlpattern_syntax.specs.Pieces.{Piece as pieces}
 use Rattle.urlpattern_syntax.specs.Tokens.{TokenView, token_view}
@@ -36,10 +36,9 @@ returns-then-is_placeholder-clause-next c =
     let bytes : first.now ≡ c.args.prefix_code_point.now = search rules in
     let is_prefix : IsPrefixOf point (token ∷ []) prefix =
     inr (ap (λ kind. kind ∷ []) c.requires.character, ap (λ value. value ∷ []) same, ap chars bytes) in
-    IfOk-weaker c.bare.result
-    (λ next. Takes c.characters.new.self c.bare.new.self (λ tokens rest. (point : List ℕ) (before : List TokenView) → IsPrefixOf point before prefix → IsNext point (before ++ tokens) next rest))
-    (λ next. Takes old c.bare.new.self (λ tokens rest. IsNext point tokens next rest))
-    (λ next h. takes_then old c.characters.new.self c.bare.new.self (λ tokens rest. tokens ≡ token ∷ rest) (λ tokens rest. (point : List ℕ) (before : List TokenView) → IsPrefixOf point before prefix → IsNext point (before ++ tokens) next rest) (λ tokens rest. IsNext point tokens next rest)
+    let next = c.bare.new.next in
+    on_ok_weaker c.bare.result
+    (λ h. takes_then old c.characters.new.self c.bare.new.self (λ tokens rest. tokens ≡ token ∷ rest) (λ tokens rest. (point : List ℕ) (before : List TokenView) → IsPrefixOf point before prefix → IsNext point (before ++ tokens) next rest) (λ tokens rest. IsNext point tokens next rest)
     takes h
     (λ x y z gx gy gz p q. subst (λ w. IsNext point w next z) (sym p) (q point (token ∷ []) is_prefix)))
     c.bare.ensures.next

@@ -1,11 +1,11 @@
 use Rattle.std.proofs.Common.{◌≡◌, ◌∷◌, ◌++◌, [], List, ℕ, refl, inl, ap, ◌∙◌, sym, subst}
 use Rattle.std.specs.Str.{chars}
-use Rattle.std.proofs.lemmas.Result.{IfOk-weaker}
+use Rattle.std.proofs.lemmas.Result.{on_ok_weaker}
 use Rattle.std.proofs.lemmas.Str.{chars-nil}
 use Rattle.std.specs.Prelude.{IsTrue}
 use Rattle.urlpattern_syntax.specs.declared.tokenizer.Token.{Token}
 use Rattle.urlpattern_syntax.specs.declared.tokenizer.TokenType.TheVariants.{EscapedChar}
-use Rattle.urlpattern_syntax.specs.Parsing.{BeginsWithPiece, IsNext, Takes}
+use Rattle.urlpattern_syntax.specs.Parsing.{BeginsWithPiece, IsNext}
 use Rattle.urlpattern_syntax.specs.Pieces.{IsPrefixOf, is_text}
 use Rattle.urlpattern_syntax.specs.Pieces.{Piece as pieces}
 use Rattle.urlpattern_syntax.specs.Tokens.{TokenView, token_view}
@@ -13,19 +13,19 @@ use Rattle.urlpattern_syntax.proofs.PieceLemmas.{text_piece}
 use Rattle.urlpattern_syntax.proofs.ReaderLemmas.{takes_weaker}
 use Rattle.urlpattern_syntax.proofs.parser.pieces.Reader.next_piece.Goals as goal
 
-pub returns-in-Open-clause-next : goal.returns-in-Open-clause-next
-returns-in-Open-clause-next c =
+pub returns-in_ok-next-in-Open-clause-next : goal.returns-in_ok-next-in-Open-clause-next
+returns-in_ok-next-in-Open-clause-next c =
     let point = chars c.args.prefix_code_point.now in
-    IfOk-weaker c.group.result (λ next. Takes c.args.self.now c.group.new.self (λ tokens rest. (point : List ℕ) → IsNext point tokens next rest)) (λ next. Takes c.args.self.now c.group.new.self (λ tokens rest. IsNext point tokens next rest))
-    (λ next h. takes_weaker c.args.self.now c.group.new.self (λ tokens rest. (point : List ℕ) → IsNext point tokens next rest) (λ tokens rest. IsNext point tokens next rest) h (λ x y gx gy p. p point))
-    c.group.ensures.next
+    let next = c.in_ok-next-in-Open.field-0 in
+    takes_weaker c.args.self.now c.group.new.self (λ tokens rest. (point : List ℕ) → IsNext point tokens next rest) (λ tokens rest. IsNext point tokens next rest)
+    c.in_ok-next-in-Open.ensures.next (λ x y gx gy p. p point)
 
 pub returns-in-Name-clause-next : goal.returns-in-Name-clause-next
 returns-in-Name-clause-next c =
     let point = chars c.args.prefix_code_point.now in
-    IfOk-weaker c.bare.result (λ next. Takes c.args.self.now c.bare.new.self (λ tokens rest. (point : List ℕ) (before : List TokenView) → IsPrefixOf point before (chars []) → IsNext point (before ++ tokens) next rest))
-    (λ next. Takes c.args.self.now c.bare.new.self (λ tokens rest. IsNext point tokens next rest))
-    (λ next h. takes_weaker c.args.self.now c.bare.new.self (λ tokens rest. (point : List ℕ) (before : List TokenView) → IsPrefixOf point before (chars []) → IsNext point (before ++ tokens) next rest) (λ tokens rest. IsNext point tokens next rest) h
+    let next = c.bare.new.next in
+    on_ok_weaker c.bare.result
+    (λ h. takes_weaker c.args.self.now c.bare.new.self (λ tokens rest. (point : List ℕ) (before : List TokenView) → IsPrefixOf point before (chars []) → IsNext point (before ++ tokens) next rest) (λ tokens rest. IsNext point tokens next rest) h
     (λ x y gx gy p. p point [] (inl (refl, chars-nil))))
     c.bare.ensures.next
 

@@ -1,0 +1,88 @@
+//! Whether the engine for patterns answers what `regex::Regex` answers.
+
+use super::Outcome;
+use super::given::{self, Given};
+use super::making::Maker;
+use crate::replay::components::{Callback, parts_of};
+use regex::Regex;
+use std::alloc::Global;
+use urlpattern::component::generate_regular_expression_and_name_list;
+use urlpattern::error::RegExpError;
+use urlpattern::regexp::{PatternRegexp, RegExp};
+use urlpattern::{Error, RegexSyntax};
+
+/// What regular expressions are made of.
+const PIECES: [&str; 19] = [
+    "^", "$", "(", ")", "(?:", "a", "b", "/", ".", ".*", "[^/]+?", "([^/]+?)", "(.*)", "|", "?",
+    "*", "+", "\\.", "é",
+];
+
+/// How many texts an engine is asked about.
+const TEXTS: usize = 4;
+
+/// Asks both engines about texts.
+pub fn ask(maker: &mut Maker) -> Result<Outcome, Error> {
+    let given = Given::new(maker, RegexSyntax::Rust)?;
+    let Some(regexp) = regular_expression(maker, &given)? else {
+        return Ok(Outcome::Refused);
+    };
+    let by_regex = Regex::parse(maker.alloc, &regexp, "u", true);
+    let by_pattern = PatternRegexp::parse(maker.alloc, &regexp, "u", true);
+    let outcome = match (&by_regex, &by_pattern) {
+        (Ok(by_regex), Ok(by_pattern)) => {
+            are_answered_alike(maker, by_regex, by_pattern, given.near)
+        }
+        (Err(RegExpError::Pattern), Err(RegExpError::Pattern)) => Ok(Outcome::Refused),
+        _ => Ok(Outcome::Differs),
+    };
+    drop(by_pattern);
+    drop(by_regex);
+    outcome
+}
+
+/// A regular expression: one that a pattern is made of, a changed form of it, or one of pieces. None where what was made is no
+/// pattern.
+fn regular_expression(maker: &mut Maker, given: &Given) -> Result<Option<String>, Error> {
+    if maker.is_one_in(4) {
+        return Ok(Some(maker.text(&PIECES, 9)?));
+    }
+    match parts_of(maker.alloc, &given.pattern, &given.options, Callback::Keep) {
+        Ok(parts) => {
+            let (regexp, _) = generate_regular_expression_and_name_list(
+                maker.alloc,
+                &parts,
+                &given.options,
+            )?;
+            Ok(Some(maker.mutant(&regexp, &PIECES, 2)?))
+        }
+        Err(Error::OutOfMemory) => Err(Error::OutOfMemory),
+        Err(_) => Ok(None),
+    }
+}
+
+/// What comes of the answers of two engines.
+fn are_answered_alike(
+    maker: &mut Maker,
+    by_regex: &Regex,
+    by_pattern: &PatternRegexp,
+    near: &str,
+) -> Result<Outcome, Error> {
+    for _ in 0..TEXTS {
+        let text = given::text(maker, near)?;
+        if !is_answered_alike(maker.alloc, by_regex, by_pattern, &text)? {
+            return Ok(Outcome::Differs);
+        }
+    }
+    Ok(Outcome::Same)
+}
+
+/// Whether two engines answer a text alike.
+fn is_answered_alike(
+    alloc: Global,
+    by_regex: &Regex,
+    by_pattern: &PatternRegexp,
+    text: &str,
+) -> Result<bool, Error> {
+    let captures = RegExp::matches(by_regex, alloc, text)?;
+    Ok(by_pattern.matches(alloc, text)? == captures)
+}

@@ -1,0 +1,189 @@
+//! Whether the first match of a list is that of a loop over its patterns.
+
+use super::making::Maker;
+use super::patterns::is_result;
+use super::{Outcome, given};
+use crate::replay::patterns::built;
+use regex::Regex;
+use std::alloc::Global;
+use std::borrow::CowStr;
+use url::Url;
+use urlpattern::quirks::{StringOrInit, parse_match_input};
+use urlpattern::{
+    Error, UrlPatternCaptures, UrlPatternList, UrlPatternMatchInput, UrlPatternOptions,
+    UrlPatternResult,
+};
+
+/// The first match in a list: its index and what it comes to.
+type First = Option<(usize, UrlPatternResult)>;
+
+/// How the patterns of a list begin.
+const FRONTS: [&str; 6] = [
+    "https://example.com/a",
+    "https://example.com/a/b",
+    "https://example.com/:x",
+    "https://example.com/users",
+    "https://*.example.com/a",
+    "http{s}?://example.com/a",
+];
+
+/// What the paths of its patterns are made of behind that.
+const ENDS: [&str; 10] = [
+    "/a", "/b", "/:y", "/c", "/*", "/1", "/2", "/:z?", "/(1|2)", "-b",
+];
+
+/// How the URLs begin that it is asked about.
+const HOSTS: [&str; 3] = [
+    "https://example.com",
+    "http://example.com",
+    "https://cdn.example.com",
+];
+
+/// What their paths are made of.
+const STEPS: [&str; 9] = ["/a", "/b", "/c", "/1", "/2", "/users", "-b", "/a/b", "/x"];
+
+/// How many patterns most lists have at most.
+const FEW: usize = 8;
+
+/// How many patterns a list has at most.
+const MANY: usize = 200;
+
+/// How many URLs a list is asked about.
+const URLS: usize = 20;
+
+/// Asks a list for the first match of URLs.
+pub fn ask(maker: &mut Maker) -> Result<Outcome, Error> {
+    let most = if maker.is_one_in(8) { MANY } else { FEW };
+    let size = maker.below(most + 1);
+    let mut list = UrlPatternList::new(maker.alloc);
+    let filled = fill(maker, &mut list, size);
+    let outcome = match filled {
+        Ok(()) => asked(maker, &list),
+        Err(error) => Err(error),
+    };
+    drop(list);
+    outcome
+}
+
+/// Adds so many patterns to a list, but for those that are refused.
+fn fill(maker: &mut Maker, list: &mut UrlPatternList, size: usize) -> Result<(), Error> {
+    for _ in 0..size {
+        let front = maker.one_of(&FRONTS, "");
+        let end = maker.text(&ENDS, 4)?;
+        let text = format!(in maker.alloc; "{front}{end}")?;
+        let given = StringOrInit::String(CowStr::Owned(text));
+        match built::<Regex>(maker.alloc, given, None, UrlPatternOptions::default()) {
+            Ok(pattern) => {
+                if list.push(pattern).is_err() {
+                    return Err(Error::OutOfMemory);
+                }
+            }
+            Err(Error::OutOfMemory) => return Err(Error::OutOfMemory),
+            Err(_refused) => {}
+        }
+    }
+    Ok(())
+}
+
+/// What comes of a list's answers.
+fn asked(maker: &mut Maker, list: &UrlPatternList) -> Result<Outcome, Error> {
+    for _ in 0..URLS {
+        let host = maker.one_of(&HOSTS, "");
+        let path = maker.text(&STEPS, 5)?;
+        let text = format!(in maker.alloc; "{host}{path}")?;
+        let url = Url::parse(maker.alloc, &text).map_err(Error::Url)?;
+        if !is_answered_alike(maker.alloc, list, url)? {
+            return Ok(Outcome::Differs);
+        }
+    }
+    Ok(Outcome::Same)
+}
+
+/// The index of the first pattern that matches a URL, by a loop.
+fn first_index(alloc: Global, list: &UrlPatternList, url: &Url) -> Result<Option<usize>, Error> {
+    for (index, pattern) in list.iter().enumerate() {
+        if pattern.test_url(alloc, url)? {
+            return Ok(Some(index));
+        }
+    }
+    Ok(None)
+}
+
+/// Whether all calls of a list answer a URL as a loop does.
+fn is_answered_alike(alloc: Global, list: &UrlPatternList, url: Url) -> Result<bool, Error> {
+    let expected = first_index(alloc, list, &url)?;
+    let found = list.first_match(alloc, UrlPatternMatchInput::Url(url.clone()?));
+    let is_same = match &found {
+        Ok(found) => is_found_alike(alloc, list, url, expected, found),
+        Err(_) => Err(Error::OutOfMemory),
+    };
+    drop(found);
+    is_same
+}
+
+/// Whether the first match of a URL is at this index, and the calls of a list that borrow answer it too.
+fn is_found_alike(
+    alloc: Global,
+    list: &UrlPatternList,
+    url: Url,
+    expected: Option<usize>,
+    found: &First,
+) -> Result<bool, Error> {
+    let is_first = match (found, expected) {
+        (Some((index, result)), Some(expected)) => {
+            *index == expected && is_match_at(alloc, list, expected, &url, result)?
+        }
+        (None, None) => true,
+        _ => false,
+    };
+    if !is_first || !is_borrowed(alloc, list.first_captures(alloc, &url), found)? {
+        return Ok(false);
+    }
+    match parse_match_input(alloc, UrlPatternMatchInput::Url(url))? {
+        Some(texts) => is_borrowed(alloc, list.first_captures_of_input(alloc, &texts), found),
+        None => Ok(false),
+    }
+}
+
+/// Whether the pattern at an index has this match of a URL.
+fn is_match_at(
+    alloc: Global,
+    list: &UrlPatternList,
+    index: usize,
+    url: &Url,
+    expected: &UrlPatternResult,
+) -> Result<bool, Error> {
+    let Some(pattern) = list.get(index) else {
+        return Ok(false);
+    };
+    let answer = pattern.exec_url(alloc, url);
+    let is_same = match &answer {
+        Ok(Some(found)) => Ok(found == expected),
+        Ok(None) => Ok(false),
+        Err(_) => Err(Error::OutOfMemory),
+    };
+    drop(answer);
+    is_same
+}
+
+/// Whether a copy of what is borrowed is the first match.
+fn is_borrowed(
+    alloc: Global,
+    answer: Result<Option<(usize, UrlPatternCaptures<'_>)>, Error>,
+    found: &First,
+) -> Result<bool, Error> {
+    let is_same = match (&answer, found) {
+        (Ok(Some((index, captures))), Some((expected, result))) => {
+            if index == expected {
+                is_result(captures.to_result(alloc), result)
+            } else {
+                Ok(false)
+            }
+        }
+        (Ok(None), None) => Ok(true),
+        (Ok(_), _) => Ok(false),
+        (Err(_), _) => Err(Error::OutOfMemory),
+    };
+    drop(answer);
+    is_same
+}

@@ -1,0 +1,75 @@
+//! Whether a matcher accepts what it matches, and answers the same over each engine.
+
+use super::given::{self, Given};
+use super::making::Maker;
+use super::{Outcome, same};
+use crate::replay::components::{Callback, parts_of};
+use regex::Regex;
+use std::alloc::Global;
+use urlpattern::component::generate_matcher;
+use urlpattern::matcher::Matcher;
+use urlpattern::parser::Part;
+use urlpattern::regexp::{PatternRegexp, RegExp};
+use urlpattern::{Error, RegexSyntax};
+
+/// How many texts a matcher is asked about.
+const TEXTS: usize = 4;
+
+/// Asks the matchers of a pattern about texts.
+pub fn ask(maker: &mut Maker) -> Result<Outcome, Error> {
+    let given = Given::new(maker, RegexSyntax::Rust)?;
+    match parts_of(maker.alloc, &given.pattern, &given.options, Callback::Keep) {
+        Ok(parts) => Ok(same(asked(maker, &given, &parts)?)),
+        Err(error) => Outcome::of_error(&error),
+    }
+}
+
+/// Whether the matchers of parts answer texts alike.
+fn asked(maker: &mut Maker, given: &Given, parts: &[Part]) -> Result<bool, Error> {
+    let flags = if given.options.ignore_case { "ui" } else { "u" };
+    let by_regex: Matcher<Regex> = generate_matcher(maker.alloc, parts, &given.options, flags)?;
+    let by_pattern: Result<Matcher<PatternRegexp>, Error> = generate_matcher(
+        maker.alloc,
+        parts,
+        &given.options,
+        flags,
+    );
+    let is_same = match &by_pattern {
+        Ok(by_pattern) => are_answered_alike(maker, &by_regex, by_pattern, given.near),
+        Err(_) => Err(Error::OutOfMemory),
+    };
+    drop(by_pattern);
+    drop(by_regex);
+    is_same
+}
+
+/// Whether two matchers answer texts alike.
+fn are_answered_alike<R: RegExp, S: RegExp>(
+    maker: &mut Maker,
+    one: &Matcher<R>,
+    other: &Matcher<S>,
+    near: &str,
+) -> Result<bool, Error> {
+    for _ in 0..TEXTS {
+        let text = given::text(maker, near)?;
+        if !is_answered_alike(maker.alloc, one, other, &text)? {
+            return Ok(false);
+        }
+    }
+    Ok(true)
+}
+
+/// Whether two matchers answer a text alike.
+fn is_answered_alike<R: RegExp, S: RegExp>(
+    alloc: Global,
+    one: &Matcher<R>,
+    other: &Matcher<S>,
+    text: &str,
+) -> Result<bool, Error> {
+    let captures = one.matches(alloc, text)?;
+    Ok(
+        one.accepts(alloc, text)? == captures.is_some()
+            && other.accepts(alloc, text)? == captures.is_some()
+            && other.matches(alloc, text)? == captures,
+    )
+}

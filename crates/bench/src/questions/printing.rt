@@ -1,0 +1,66 @@
+//! Whether a printed pattern reads as its parts again, and prints as it is.
+
+use super::given::{Given, syntax};
+use super::making::Maker;
+use super::{Outcome, same};
+use crate::replay::components::{Callback, parts_of};
+use std::alloc::{AllocError, Global};
+use urlpattern::Error;
+use urlpattern::component::generate_pattern_string;
+use urlpattern::parser::{Part, PartModifier, PartType};
+
+/// Prints the parts of a pattern, and reads and prints them again.
+pub fn ask(maker: &mut Maker) -> Result<Outcome, Error> {
+    let syntax = syntax(maker);
+    let given = Given::new(maker, syntax)?;
+    match parts_of(maker.alloc, &given.pattern, &given.options, Callback::Keep) {
+        Ok(parts) => Ok(same(reads_back(maker.alloc, &given, &parts)?)),
+        Err(error) => Outcome::of_error(&error),
+    }
+}
+
+/// Whether printed parts read as these parts, with neighbouring plain texts joined, and print as they were.
+fn reads_back(alloc: Global, given: &Given, parts: &[Part]) -> Result<bool, Error> {
+    let printed = generate_pattern_string(alloc, parts, &given.options)?;
+    let joined = match parts_of(alloc, &printed, &given.options, Callback::Keep) {
+        Ok(joined) => joined,
+        Err(Error::OutOfMemory) => return Err(Error::OutOfMemory),
+        Err(_) => return Ok(false),
+    };
+    let again = generate_pattern_string(alloc, &joined, &given.options)?;
+    Ok(again == printed && told(alloc, &joined, false)? == told(alloc, parts, true)?)
+}
+
+/// The parts as one text, in which neighbouring plain texts are joined if that is asked for.
+fn told(alloc: Global, parts: &[Part], joins: bool) -> Result<String, AllocError> {
+    let mut told = String::new(alloc);
+    let mut is_behind_plain = false;
+    for part in parts {
+        let is_plain = is_plain(part);
+        if !(joins && is_plain && is_behind_plain) {
+            let Part {
+                kind,
+                modifier,
+                name,
+                prefix,
+                suffix,
+                ..
+            } = part;
+            write!(
+                told,
+                "\n{kind:?} {modifier} {name:?} {prefix:?} {suffix:?} "
+            )?;
+        }
+        told.push_str(&part.value)?;
+        is_behind_plain = is_plain;
+    }
+    Ok(told)
+}
+
+/// Whether a part is a fixed text that stands once.
+fn is_plain(part: &Part) -> bool {
+    matches!(
+        (&part.kind, &part.modifier),
+        (PartType::FixedText, PartModifier::None)
+    )
+}

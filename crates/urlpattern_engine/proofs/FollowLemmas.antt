@@ -1,0 +1,107 @@
+-- What is added to captures, step by step.
+use Rattle.std.proofs.Common.{◌≡◌, ℕ, zero, suc, List, [], ◌∷◌, ◌++◌, map, drop, replicate, Option, Some, None, option_map, Result, Ok, Err, Bool, true, false, cond, ◌==◌, refl, sym, ap, ap₂, ◌∙◌, append-nil, append_assoc}
+use Rattle.std.proofs.lemmas.List.{map-append, append_cancel_right}
+use Rattle.std.proofs.lemmas.Str.{chars-append, chars_past_char, encodes-append, encodes-chars, IsUtf8-append}
+use Rattle.std.specs.Borrow.{Bor}
+use Rattle.std.specs.Char.{IsScalar, encode_utf8}
+use Rattle.std.specs.Option.{option_or}
+use Rattle.std.specs.Prelude.{IfOk, encode_utf8_all}
+use Rattle.std.specs.Str.{chars, IsUtf8}
+use Rattle.urlpattern_core.specs.Captured.{capture_view}
+use Rattle.urlpattern_laws.specs.PartMeaning.{Captures}
+use Rattle.urlpattern_syntax.proofs.StringTexts.{chars-encode}
+use Rattle.urlpattern_engine.specs.declared.step.Group.{Group}
+use Rattle.urlpattern_engine.specs.declared.step.Step.{Step}
+use Rattle.urlpattern_engine.specs.declared.step.Step.TheVariants.{Maybe}
+use Rattle.urlpattern_engine.specs.Steps.{Gives, shortest, walk}
+use Rattle.urlpattern_engine.specs.Taken.{Adds, Extends, Kept}
+use Rattle.urlpattern_engine.proofs.RunLemmas.{falling, falling-last}
+use Rattle.urlpattern_engine.proofs.StepLemmas.{maybe_missing}
+
+-- what was captured before, and what is captured now
+abbrev pub plus : Kept → Option Captures → Option Captures
+plus old found = option_map (λ others. map capture_view old ++ others) found
+
+-- ---- what was added
+
+pub adds_none : (old new : Kept) (found : Option Captures) → Adds old new false found → found ≡ None
+adds_none old new None e = refl
+adds_none old new (Some x) e = cc
+
+pub adds_some : (old new : Kept) (found : Option Captures) → Adds old new true found → (x : Captures) × (found ≡ Some x)
+adds_some old new None e = cc
+adds_some old new (Some x) e = (x, refl)
+
+-- what a call adds is what is added in all
+pub later_adds : {E : Type 0} (old now new : Kept) (whole part : Option Captures) (result : Result Bool E) → plus old whole ≡ plus now part
+    → IfOk result (λ is_taken. Adds now new is_taken part) → IfOk result (λ is_taken. Adds old new is_taken whole)
+later_adds old now new whole part (Ok is_taken) e adds = adds ∙ sym e
+later_adds old now new whole part (Err error) e adds = tt
+
+pub later_extends : {E : Type 0} (old now new : Kept) (result : Result Bool E) → Extends old now
+    → IfOk result (λ is_taken. is_taken ≡ false → new ≡ now) → IfOk result (λ is_taken. is_taken ≡ false → Extends old new)
+later_extends old now new (Ok is_taken) extends same = λ e. (extends.0, same e ∙ extends.1)
+later_extends old now new (Err error) extends same = tt
+
+pub extends_more : (old now more : Kept) → Extends old now → Extends old (now ++ more)
+extends_more old now more extends = (extends.0 ++ more, ap (λ l. l ++ more) extends.1 ∙ append_assoc old extends.0 more)
+
+pub plus_captured : (now : Kept) (front : Bor (List ℕ)) (found : Option Captures)
+    → plus now (option_map (λ others. Some (chars front.now) ∷ others) found) ≡ plus (now ++ Some front ∷ []) found
+plus_captured now front None = refl
+plus_captured now front (Some others) =
+    ap Some (sym (append_assoc (map capture_view now) (Some (chars front.now) ∷ []) others) ∙ ap (λ l. l ++ others) (sym (map-append capture_view now (Some front ∷ []))))
+
+map_missing : (n : ℕ) → map capture_view (replicate n None) ≡ replicate n None
+map_missing zero = refl
+map_missing (suc n) = ap (λ l. None ∷ l) (map_missing n)
+
+plus_missing : (now : Kept) (n : ℕ) (found : Option Captures) → plus now (option_map (λ others. replicate n None ++ others) found) ≡ plus (now ++ replicate n None) found
+plus_missing now n None = refl
+plus_missing now n (Some others) =
+    ap Some (sym (append_assoc (map capture_view now) (replicate n None) others)
+    ∙ ap (λ l. l ++ others) (ap (λ l. map capture_view now ++ l) (sym (map_missing n)) ∙ sym (map-append capture_view now (replicate n None))))
+
+-- a group that is missing, after it was tried
+pub plus_maybe : (now new more : Kept) (group : Group) (others : List Step) (rest : List ℕ) → walk others rest ≡ None → new ≡ now → more ≡ new ++ replicate group.captures None
+    → plus now (walk (Maybe group ∷ others) rest) ≡ plus more (walk (drop group.steps others) rest)
+plus_maybe now new more group others rest none same missing =
+    ap (plus now) (maybe_missing group others rest none)
+    ∙ plus_missing now group.captures (walk (drop group.steps others) rest)
+    ∙ ap (λ l. plus l (walk (drop group.steps others) rest)) (ap (λ l. l ++ replicate group.captures None) (sym same) ∙ sym missing)
+
+-- the end of the steps
+pub end_adds : (now : Kept) (rest : List ℕ) (is_empty : Bool) → (is_empty ≡ true → rest ≡ []) → (is_empty ≡ false → ¬ (rest ≡ [])) → Adds now now is_empty (walk [] rest)
+end_adds now [] true full some = ap Some (sym (append-nil (map capture_view now)))
+end_adds now (c ∷ rest) true full some = let e : (c ∷ rest) ≡ [] = full refl in cc
+end_adds now [] false full some = absurd (some refl refl)
+end_adds now (c ∷ rest) false full some = refl
+
+-- ---- the shortest front
+
+-- a character is passed, and then there is a front that ends here
+pub shortest_passed : (end : ℕ) (gives : Gives) (front : List ℕ) (c : ℕ) (rest : List ℕ) → (c == end) ≡ false
+    → shortest end gives front (c ∷ rest) ≡ option_or (gives (front ++ c ∷ []) rest) (shortest end gives (front ++ c ∷ []) rest)
+shortest_passed end gives front c rest e = ap (λ b. cond b None (option_or (gives (front ++ c ∷ []) rest) (shortest end gives (front ++ c ∷ []) rest))) e
+
+-- what precedes the rest, with a character more
+pub front_grows : (text front before rest remaining : List ℕ) (c : ℕ) → text ≡ front ++ rest → rest ≡ c ∷ remaining → text ≡ before ++ remaining → before ≡ front ++ c ∷ []
+front_grows text front before rest remaining c e f g =
+    append_cancel_right before (front ++ c ∷ []) remaining (sym g ∙ e ∙ ap (λ r. front ++ r) f ∙ sym (append_assoc front (c ∷ []) remaining))
+
+-- ---- the longest front
+
+pub bytes_join : (text front rest : List ℕ) → IsUtf8 text → IsUtf8 front → IsUtf8 rest → chars text ≡ chars front ++ chars rest → text ≡ front ++ rest
+bytes_join text front rest u v w e =
+    sym (encodes-chars text u) ∙ ap encode_utf8_all e ∙ encodes-append (chars front) (chars rest) ∙ ap₂ (λ a b. a ++ b) (encodes-chars front v) (encodes-chars rest w)
+
+-- the last character of a front goes to the rest
+pub front_shrinks : (gives : Gives) (front shorter rest : List ℕ) (c : ℕ) → IsUtf8 shorter → IsUtf8 rest → IsScalar c → IsUtf8 (encode_utf8 c) → front ≡ shorter ++ encode_utf8 c
+    → gives (chars front) (chars rest) ≡ None → falling gives [] (chars front) (chars rest) ≡ falling gives [] (chars shorter) (chars (encode_utf8 c ++ rest))
+front_shrinks gives front shorter rest c u v scalar w e none =
+    let spelled : chars front ≡ chars shorter ++ c ∷ [] = ap chars e ∙ chars-append shorter (encode_utf8 c) u ∙ ap (λ l. chars shorter ++ l) (chars-encode c scalar) in
+    let more : chars (encode_utf8 c ++ rest) ≡ c ∷ chars rest = chars_past_char (encode_utf8 c ++ rest) rest c (IsUtf8-append (encode_utf8 c) rest w v) refl in
+    ap (λ f. falling gives [] f (chars rest)) spelled
+    ∙ falling-last gives [] (chars shorter) c (chars rest)
+    ∙ ap (λ o. option_or o (falling gives [] (chars shorter) (c ∷ chars rest))) (ap (λ f. gives f (chars rest)) (sym spelled) ∙ none)
+    ∙ ap (falling gives [] (chars shorter)) (sym more)

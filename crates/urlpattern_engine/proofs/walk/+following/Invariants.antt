@@ -1,0 +1,59 @@
+use Rattle.std.proofs.Common.{◌≡◌, ℕ, List, [], ◌++◌, ◌+◌, ◌*◌, ◌≤◌, length, map, option_map}
+use denote.Text.{Utf8}
+use denote.Shadow.{shadow}
+use Rattle.std.specs.Str.{chars, IsUtf8}
+use Rattle.urlpattern_core.specs.Captured.{capture_view}
+use Rattle.urlpattern_syntax.specs.Text.{line_feed}
+use Rattle.urlpattern_engine.specs.Steps.{captured, longest, shortest, walk}
+use Rattle.urlpattern_engine.specs.Taken.{Extends}
+use Rattle.urlpattern_engine.proofs.RunLemmas.{falling}
+use Rattle.urlpattern_engine.proofs.walk.+following.Given as goal
+
+abbrev pub decreases-follow_on : goal.decreases-follow_on
+decreases-follow_on l = 4 * length l.steps.now
+
+abbrev pub decreases-follow : goal.decreases-follow
+decreases-follow l = 4 * length l.steps.now + 1
+
+abbrev pub decreases-follow_captured : goal.decreases-follow_captured
+decreases-follow_captured l = 4 * length l.steps.now + 2
+
+abbrev pub decreases-follow_shortest : goal.decreases-follow_shortest
+decreases-follow_shortest l = 4 * length l.steps.now + 3
+
+abbrev pub decreases-follow_longest : goal.decreases-follow_longest
+decreases-follow_longest l = 4 * length l.steps.now + 3
+
+abbrev pub invariant-follow_on-loop-step : goal.invariant-follow_on-loop-step
+invariant-follow_on-loop-step l = record {
+  is_text : shadow (Utf8 l.rest);
+  shorter : length l.left ≤ length l.fn.steps;
+  so_far : option_map (λ others. map capture_view l.fn.captures.items ++ others) (walk l.fn.steps (chars l.fn.text))
+      ≡ option_map (λ others. map capture_view l.captures.items ++ others) (walk l.left (chars l.rest));
+  more : Extends l.fn.captures.items l.captures.items;
+}
+
+abbrev pub decreases-follow_on-loop-step : goal.decreases-follow_on-loop-step
+decreases-follow_on-loop-step l = length l.left
+
+abbrev pub invariant-follow_shortest-loop-c : goal.invariant-follow_shortest-loop-c
+invariant-follow_shortest-loop-c l = record {
+  is_text : shadow (Utf8 l.rest);
+  so_far : (front : List ℕ) × (chars l.text ≡ front ++ chars l.rest)
+      × (shortest l.end (captured (walk l.steps)) [] (chars l.text) ≡ shortest l.end (captured (walk l.steps)) front (chars l.rest));
+  same : l.captures.items ≡ l.fn.captures.items;
+}
+
+abbrev pub decreases-follow_shortest-loop-c : goal.decreases-follow_shortest-loop-c
+decreases-follow_shortest-loop-c l = length l.rest
+
+abbrev pub invariant-follow_longest-loop-shorter : goal.invariant-follow_longest-loop-shorter
+invariant-follow_longest-loop-shorter l = record {
+  is_text : shadow (Utf8 l.front);
+  so_far : (rest : List ℕ) × IsUtf8 rest × (l.text ≡ l.front ++ rest)
+      × (longest line_feed (captured (walk l.steps)) [] (chars l.text) ≡ falling (captured (walk l.steps)) [] (chars l.front) (chars rest));
+  same : l.captures.items ≡ l.fn.captures.items;
+}
+
+abbrev pub decreases-follow_longest-loop-shorter : goal.decreases-follow_longest-loop-shorter
+decreases-follow_longest-loop-shorter l = length l.front

@@ -1,0 +1,230 @@
+//! Matches a text by steps.
+
+ghost use Rattle.std.specs.Prelude.{◌≡◌, ◌++◌, [], List, false, replicate, Bool, None, IfOk, IsTrue, OnOk, drop};
+ghost use Rattle.std.specs.Str.{chars};
+ghost use Rattle.urlpattern_core.specs.Captured.{captures_view};
+ghost use Rattle.urlpattern_engine.specs.Steps.{captured, longest, shortest, walk, StopAt};
+ghost use Rattle.urlpattern_engine.specs.Taken.{Adds, Extends};
+ghost use Rattle.urlpattern_syntax.specs.Text.{line_feed};
+
+use crate::step::Step;
+use crate::texts::{after, after_front, split_at_first, split_first, without_last};
+use std::alloc::Global;
+use urlpattern_core::error::OutOfMemory;
+use urlpattern_syntax::tokenizer::before;
+
+/// What the steps capture of a text that they take whole. `None`: they do not take it whole.
+///
+/// The error is that memory ran out.
+pub(crate) fn walk<'t>(
+    alloc: Global,
+    steps: &[Step],
+    text: &'t str,
+) -> Result<Option<Vec<Option<&'t str>>>, OutOfMemory>
+    ensures { IfOk result (λ found. captures_view found ≡ walk steps.now (chars text.now)) }
+{
+    let mut captures = Vec::new(alloc);
+    if follow(&mut captures, steps, text)? {
+        Ok(Some(captures))
+    } else {
+        Ok(None)
+    }
+}
+
+/// Whether the steps take the text whole. Where they do, what they capture is added.
+///
+/// The error is that memory ran out.
+#[cycle(following)]
+fn follow<'t>(
+    captures: &mut Vec<Option<&'t str>>,
+    steps: &[Step],
+    text: &'t str,
+) -> Result<bool, OutOfMemory>
+    ensures adds { IfOk result (λ is_taken. Adds captures.old.items captures.new.items is_taken (walk steps.now (chars text.now))) }
+    ensures same { IfOk result (λ is_taken. is_taken ≡ false → captures.new.items ≡ captures.old.items) }
+{
+    let count = captures.len();
+    if follow_on(captures, steps, text)? {
+        return Ok(true);
+    }
+    captures.truncate(count);
+    Ok(false)
+}
+
+/// Whether the steps take the text whole. What they capture is added, and where they do not, some of it.
+///
+/// The error is that memory ran out.
+#[cycle(following)]
+fn follow_on<'t>(
+    captures: &mut Vec<Option<&'t str>>,
+    steps: &[Step],
+    text: &'t str,
+) -> Result<bool, OutOfMemory>
+    ensures adds { IfOk result (λ is_taken. Adds captures.old.items captures.new.items is_taken (walk steps.now (chars text.now))) }
+    ensures more { IfOk result (λ is_taken. is_taken ≡ false → Extends captures.old.items captures.new.items) }
+{
+    let mut left = steps;
+    let mut rest = text;
+    while let Some((step, others)) = left.split_first() {
+        match step {
+            Step::Literal(c) => {
+                let Some(remaining) = after(rest, *c) else {
+                    return Ok(false);
+                };
+                rest = remaining;
+                left = others;
+            }
+            Step::Segment(end) => {
+                if !stop_at(others, *end) {
+                    return follow_shortest(captures, *end, others, rest);
+                }
+                let (front, remaining) = split_at_first(rest, *end);
+                if front.is_empty() {
+                    return Ok(false);
+                }
+                captures.push(Some(front))?;
+                rest = remaining;
+                left = others;
+            }
+            Step::Anything => {
+                if !stop_at(others, '\n') {
+                    return follow_longest(captures, others, rest);
+                }
+                let (front, remaining) = split_at_first(rest, '\n');
+                captures.push(Some(front))?;
+                rest = remaining;
+                left = others;
+            }
+            Step::Maybe(group) => {
+                if follow(captures, others, rest)? {
+                    return Ok(true);
+                }
+                add_missing(captures, group.captures)?;
+                left = pass(others, group.steps);
+            }
+        }
+    }
+    Ok(rest.is_empty())
+}
+
+/// Whether the steps take what follows a front of the text without this character, not empty, the shortest first. Where they do,
+/// the front and what they capture are added.
+///
+/// The error is that memory ran out.
+#[cycle(following)]
+fn follow_shortest<'t>(
+    captures: &mut Vec<Option<&'t str>>,
+    end: char,
+    steps: &[Step],
+    text: &'t str,
+) -> Result<bool, OutOfMemory>
+    ensures adds { IfOk result (λ is_taken. Adds captures.old.items captures.new.items is_taken (shortest end (captured (walk steps.now)) [] (chars text.now))) }
+    ensures same { IfOk result (λ is_taken. is_taken ≡ false → captures.new.items ≡ captures.old.items) }
+{
+    let mut rest = text;
+    while let Some((c, remaining)) = split_first(rest) {
+        if c == end {
+            return Ok(false);
+        }
+        rest = remaining;
+        if follow_captured(captures, before(text, rest), steps, rest)? {
+            return Ok(true);
+        }
+    }
+    Ok(false)
+}
+
+/// Whether the steps take what follows a front of the text without a line feed, the longest first. Where they do, the front and
+/// what they capture are added.
+///
+/// The error is that memory ran out.
+#[cycle(following)]
+fn follow_longest<'t>(
+    captures: &mut Vec<Option<&'t str>>,
+    steps: &[Step],
+    text: &'t str,
+) -> Result<bool, OutOfMemory>
+    ensures adds { IfOk result (λ is_taken. Adds captures.old.items captures.new.items is_taken (longest line_feed (captured (walk steps.now)) [] (chars text.now))) }
+    ensures same { IfOk result (λ is_taken. is_taken ≡ false → captures.new.items ≡ captures.old.items) }
+{
+    let (mut front, _) = split_at_first(text, '\n');
+    loop {
+        if follow_captured(captures, front, steps, after_front(text, front))? {
+            return Ok(true);
+        }
+        let Some(shorter) = without_last(front) else {
+            return Ok(false);
+        };
+        front = shorter;
+    }
+}
+
+/// Whether the steps take the rest of a text whole. Where they do, the front and what they capture are added.
+///
+/// The error is that memory ran out.
+#[cycle(following)]
+fn follow_captured<'t>(
+    captures: &mut Vec<Option<&'t str>>,
+    front: &'t str,
+    steps: &[Step],
+    rest: &'t str,
+) -> Result<bool, OutOfMemory>
+    ensures adds { IfOk result (λ is_taken. Adds captures.old.items captures.new.items is_taken (captured (walk steps.now) (chars front.now) (chars rest.now))) }
+    ensures same { IfOk result (λ is_taken. is_taken ≡ false → captures.new.items ≡ captures.old.items) }
+{
+    captures.push(Some(front))?;
+    if follow(captures, steps, rest)? {
+        return Ok(true);
+    }
+    captures.pop();
+    Ok(false)
+}
+
+/// Adds so many captures that are missing.
+///
+/// The error is that memory ran out.
+fn add_missing(captures: &mut Vec<Option<&str>>, count: usize) -> Result<(), OutOfMemory>
+    ensures { OnOk result (captures.new.items ≡ captures.old.items ++ replicate count None) }
+{
+    for _ in 0..count {
+        captures.push(None)?;
+    }
+    Ok(())
+}
+
+/// The steps after the first so many, if there are more.
+fn pass(steps: &[Step], count: usize) -> &[Step]
+    ensures { result.now ≡ drop count steps.now }
+{
+    steps.get(count..).unwrap_or(&[])
+}
+
+/// Whether the steps are seen to take no text that begins with another character than this.
+pub(crate) fn stop_at(steps: &[Step], end: char) -> bool
+    ensures { IsTrue result → StopAt end steps.now }
+{
+    let mut rest = steps;
+    while let Some((step, others)) = rest.split_first() {
+        match step {
+            Step::Literal(c) => return *c == end,
+            Step::Maybe(group) => {
+                if !begin_with(others, end) {
+                    return false;
+                }
+                rest = pass(others, group.steps);
+            }
+            Step::Segment(_) | Step::Anything => return false,
+        }
+    }
+    true
+}
+
+/// Whether the first step takes this character and no other.
+fn begin_with(steps: &[Step], c: char) -> bool
+    ensures { IsTrue result → StopAt c steps.now }
+{
+    match steps.split_first() {
+        Some((Step::Literal(other), _)) => *other == c,
+        _ => false,
+    }
+}

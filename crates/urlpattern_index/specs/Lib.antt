@@ -1,0 +1,4 @@
+pub mod Keys
+pub mod Listed
+pub mod Places
+pub mod Views
