@@ -6,7 +6,7 @@ mod constructors;
 mod engines;
 mod first_match;
 mod given;
-pub mod matchers;
+mod matchers;
 pub mod patterns;
 mod plain;
 mod tokens;

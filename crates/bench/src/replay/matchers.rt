@@ -60,7 +60,7 @@ fn is_matcher_of<R: RegExp>(
 }
 
 /// The matcher of a pattern.
-pub fn matcher_of<R: RegExp>(
+fn matcher_of<R: RegExp>(
     alloc: Global,
     pattern: &str,
     options: &Options,

@@ -1,15 +1,16 @@
-//! Times matchers of patterns that leave an engine many choices, on long texts that they match but for the end, over both engines,
-//! in nanoseconds for each call.
+//! Times engines on the regular expressions of patterns that leave them many choices, and long texts that are matched but for the
+//! end, in nanoseconds for each call.
 
 use super::rounds::{Timed, least};
-use crate::replay::matchers::matcher_of;
+use crate::replay::components::{Callback, parts_of};
 use regex::Regex;
 use std::alloc::Global;
 use std::io;
 use std::io::Write;
 use std::time::Clock;
 use urlpattern::Error;
-use urlpattern::matcher::Matcher;
+use urlpattern::component::generate_regular_expression_and_name_list;
+use urlpattern::error::RegExpError;
 use urlpattern::parser::Options;
 use urlpattern::regexp::{PatternRegexp, RegExp};
 
@@ -41,17 +42,17 @@ const PATTERNS: [(&str, &str); 10] = [
     ),
 ];
 
-/// A matcher, and a text that it is asked about.
+/// An engine's value, and a text that it is asked about.
 #[derive(Drop)]
 struct Asked<'t, E: RegExp> {
-    matcher: Matcher<E>,
+    engine: E,
     text: &'t str,
 }
 
 impl<'t, E: RegExp> Timed for Asked<'t, E> {
     #[inline(never)]
     fn call(&self, alloc: Global) -> Result<bool, Error> {
-        Ok(self.matcher.matches(alloc, self.text)?.is_some())
+        Ok(self.engine.matches(alloc, self.text)?.is_some())
     }
 }
 
@@ -89,7 +90,7 @@ pub fn run<R: AllocGlobal + Clock, O: Write>(rt: &R, out: &mut O) -> io::Result<
     Ok(())
 }
 
-/// Prints what a pattern takes over an engine, on a text.
+/// Prints what an engine takes for a pattern and a text.
 fn time_over<E: RegExp, R: AllocGlobal + Clock, O: Write>(
     rt: &R,
     pattern: &str,
@@ -107,13 +108,18 @@ fn time_over<E: RegExp, R: AllocGlobal + Clock, O: Write>(
     }
 }
 
-/// The matcher of a pathname pattern, with a text.
+/// What an engine makes of a pathname pattern, with a text.
 fn question<'t, E: RegExp>(
     alloc: Global,
     pattern: &str,
     text: &'t str,
 ) -> Result<Asked<'t, E>, Error> {
     let options = Options::pathname(alloc)?;
-    let matcher = matcher_of::<E>(alloc, pattern, &options)?;
-    Ok(Asked { matcher, text })
+    let parts = parts_of(alloc, pattern, &options, Callback::Keep)?;
+    let (regexp, _) = generate_regular_expression_and_name_list(alloc, &parts, &options)?;
+    match E::parse(alloc, &regexp, "u", true) {
+        Ok(engine) => Ok(Asked { engine, text }),
+        Err(RegExpError::OutOfMemory) => Err(Error::OutOfMemory),
+        Err(RegExpError::Pattern) => Err(Error::RegExp(())),
+    }
 }
