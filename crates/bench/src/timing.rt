@@ -1,10 +1,12 @@
-//! Times the library's calls on pairs of a pattern and URLs, in nanoseconds for each call, and the first match of lists of
-//! routes.
+//! Times the library's calls on pairs of a pattern and URLs, over both engines, in nanoseconds for each call, and the first match
+//! of lists of routes, and matchers that leave an engine many choices.
 
+mod hostile;
 mod lists;
 mod rounds;
 
 use crate::recorded::{is_set, optional_text};
+use regex::Regex;
 use rounds::{Timed, least};
 use serde_json::Value;
 use std::alloc::Global;
@@ -17,6 +19,7 @@ use url::Url;
 use urlpattern::quirks::{
     StringOrInit, UrlPatternInit, process_construct_pattern_input, process_match_input,
 };
+use urlpattern::regexp::{PatternRegexp, RegExp};
 use urlpattern::{Error, UrlPattern, UrlPatternMatchInput, UrlPatternOptions};
 
 /// What is timed.
@@ -54,17 +57,17 @@ const CALLS: [Call; 8] = [
 
 /// A pattern, what it was given as, and what it is asked about.
 #[derive(Drop)]
-struct Subject<'a> {
+struct Subject<'a, E: RegExp> {
     given: StringOrInit<'a>,
     base: Option<&'a str>,
     ignore_case: bool,
-    pattern: UrlPattern,
+    pattern: UrlPattern<E>,
     hit: &'a str,
     miss: &'a str,
     url: Url,
 }
 
-impl<'a> Subject<'a> {
+impl<'a, E: RegExp> Subject<'a, E> {
     /// The pattern of a pair, and its URLs.
     fn new(alloc: Global, given: &'a Value, pair: &'a Value) -> Result<Self, Error> {
         let given = given_as(alloc, given)?;
@@ -106,7 +109,7 @@ impl<'a> Subject<'a> {
     /// Makes the pattern.
     #[inline(never)]
     fn parse(&self, alloc: Global) -> Result<bool, Error> {
-        let pattern = make_pattern(alloc, &self.given, self.base, self.ignore_case)?;
+        let pattern = make_pattern::<E>(alloc, &self.given, self.base, self.ignore_case)?;
         let is_made = !pattern.pathname().is_empty();
         drop(pattern);
         Ok(is_made)
@@ -157,12 +160,12 @@ impl<'a> Subject<'a> {
 
 /// A call on a subject.
 #[derive(Drop)]
-struct SubjectCall<'s, 'a> {
-    subject: &'s Subject<'a>,
+struct SubjectCall<'s, 'a, E: RegExp> {
+    subject: &'s Subject<'a, E>,
     call: Call,
 }
 
-impl<'s, 'a> Timed for SubjectCall<'s, 'a> {
+impl<'s, 'a, E: RegExp> Timed for SubjectCall<'s, 'a, E> {
     fn call(&self, alloc: Global) -> Result<bool, Error> {
         self.subject.call(alloc, self.call)
     }
@@ -180,12 +183,12 @@ fn given_as<'a>(alloc: Global, value: &'a Value) -> Result<StringOrInit<'a>, Err
 }
 
 /// The pattern that is given in this way.
-fn make_pattern(
+fn make_pattern<E: RegExp>(
     alloc: Global,
     given: &StringOrInit<'_>,
     base: Option<&str>,
     ignore_case: bool,
-) -> Result<UrlPattern, Error> {
+) -> Result<UrlPattern<E>, Error> {
     let init = process_construct_pattern_input(alloc, given.clone()?, base)?;
     let options = UrlPatternOptions {
         ignore_case,
@@ -194,7 +197,8 @@ fn make_pattern(
     UrlPattern::parse(alloc, init, options)
 }
 
-/// Prints what each pair takes: its name, and a column for each call. Each line of a file holds a pair. Lists of routes follow.
+/// Prints what each pair takes: its name, an engine, and a column for each call. Each line of a file holds a pair. Lists of routes
+/// follow, and then patterns that leave an engine many choices.
 pub fn run<R: Files + AllocGlobal + Clock, O: Write>(
     rt: &R,
     paths: &[String],
@@ -202,7 +206,7 @@ pub fn run<R: Files + AllocGlobal + Clock, O: Write>(
 ) -> io::Result<()> {
     writeln!(
         out,
-        "name\tparse\texec\tmiss\texec of Url\ttest of Url\tUrl::parse\tcaptures of &Url\ttest of &Url"
+        "name\tengine\tparse\texec\tmiss\texec of Url\ttest of Url\tUrl::parse\tcaptures of &Url\ttest of &Url"
     )?;
     for path in paths {
         let text = fs::read_to_string(rt, path)?;
@@ -210,7 +214,8 @@ pub fn run<R: Files + AllocGlobal + Clock, O: Write>(
             time_line(rt, line, out)?;
         }
     }
-    lists::run(rt, out)
+    lists::run(rt, out)?;
+    hostile::run(rt, out)
 }
 
 /// Prints what the pair of a line takes.
@@ -221,7 +226,7 @@ fn time_line<R: AllocGlobal + Clock, O: Write>(rt: &R, line: &str, out: &mut O) 
     }
 }
 
-/// Prints what a pair takes.
+/// Prints what a pair takes, in a line for each engine.
 fn time_pair<R: AllocGlobal + Clock, O: Write>(
     rt: &R,
     pair: &Value,
@@ -231,24 +236,35 @@ fn time_pair<R: AllocGlobal + Clock, O: Write>(
     let Some(given) = pair.get("pattern") else {
         return writeln!(out, "{name}\tno pattern");
     };
-    match Subject::new(rt.alloc(), given, pair) {
+    write!(out, "{name}\tregex::Regex")?;
+    time_over::<Regex, R, O>(rt, given, pair, out)?;
+    write!(out, "{name}\tPatternRegexp")?;
+    time_over::<PatternRegexp, R, O>(rt, given, pair, out)
+}
+
+/// Prints what a pair takes over an engine.
+fn time_over<E: RegExp, R: AllocGlobal + Clock, O: Write>(
+    rt: &R,
+    given: &Value,
+    pair: &Value,
+    out: &mut O,
+) -> io::Result<()> {
+    match Subject::<E>::new(rt.alloc(), given, pair) {
         Ok(subject) => {
-            let timed = time_subject(rt, name, &subject, out);
+            let timed = time_subject(rt, &subject, out);
             drop(subject);
             timed
         }
-        Err(error) => writeln!(out, "{name}\t{error}"),
+        Err(error) => writeln!(out, "\t{error}"),
     }
 }
 
 /// Prints what the calls on a subject take.
-fn time_subject<R: AllocGlobal + Clock, O: Write>(
+fn time_subject<E: RegExp, R: AllocGlobal + Clock, O: Write>(
     rt: &R,
-    name: &str,
-    subject: &Subject<'_>,
+    subject: &Subject<'_, E>,
     out: &mut O,
 ) -> io::Result<()> {
-    write!(out, "{name}")?;
     for call in CALLS {
         let time = least(rt, rt.alloc(), &SubjectCall { subject, call })?;
         write!(out, "\t{time}")?;

@@ -5,6 +5,7 @@ use std::alloc::Global;
 use std::io;
 use std::io::Write;
 use url::Url;
+use urlpattern::regexp::PatternRegexp;
 use urlpattern::{ComponentName, Error, UrlPattern, UrlPatternOptions};
 
 /// The pattern of a user's page.
@@ -13,7 +14,8 @@ const USER: &str = "https://example.com/users/:id";
 /// The user that a URL names. `None`: it names none.
 fn user(alloc: Global, url: &str) -> Result<Option<String>, Error> {
     let options = UrlPatternOptions::default();
-    let pattern = <UrlPattern>::from_constructor_string(alloc, USER, None, options)?;
+    // This engine answers what `regex::Regex`, the engine of a plain `UrlPattern`, answers, and is made and matched in less time.
+    let pattern = UrlPattern::<PatternRegexp>::from_constructor_string(alloc, USER, None, options)?;
     let url = Url::parse(alloc, url)?;
     let Some(found) = pattern.captures(alloc, &url)? else {
         return Ok(None);

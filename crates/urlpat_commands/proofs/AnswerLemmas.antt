@@ -1,7 +1,6 @@
 -- Lemmas on what the program answers.
 use Rattle.std.proofs.Common.{◌≡◌, ℕ, ◌<◌, ◌≤◌, codes, get_or, inl, inr, Bool, false, List, [], ◌∷◌, ◌++◌, map, length, drop, refl, ap, ap₂, ◌∙◌, sym, subst, arith, append_assoc}
 use Rattle.std.proofs.lemmas.Str.{encodes-chars, IsUtf8-string_bytes}
-use Rattle.regex.specs.declared.string.regex.Regex.{Regex}
 use Rattle.std.specs.Prelude.{MatchOption, Option, None, Some, String, string_bytes, encode_utf8_all}
 use Rattle.std.specs.declared.alloc.Global.{Global}
 use Rattle.urlpat_commands.specs.Answers.{IsFirstAnswer, IsFirstText, IsMatchAnswer, IsMatchFailure, IsMatchText, IsMatchTextBy, RefusesPatternOf, TellsMatch, base_of, IsPatternOf, IsUnmatched, IsUnmatchedBy, IsUnmatchedByEach, default_pattern_options, words_view}
@@ -10,6 +9,7 @@ use Rattle.urlpat_commands.specs.declared.command.Printed.{Printed}
 use Rattle.urlpattern.specs.Errors.{MemoryOr}
 use Rattle.urlpattern.specs.Patterns.{PatternView}
 use Rattle.urlpattern.specs.Text.{text_of}
+use Rattle.urlpattern_engine.specs.declared.pattern_regexp.PatternRegexp.{PatternRegexp}
 use Rattle.urlpattern_inputs.specs.declared.options.UrlPatternOptions.{UrlPatternOptions}
 use Rattle.urlpattern_syntax.specs.declared.error.Error.{Error}
 use Rattle.urlpattern_syntax.specs.declared.parser.RegexSyntax.{RegexSyntax}
@@ -44,7 +44,7 @@ is_default options syntax ignores = ap₂ options_with syntax ignores
 -- ---- matches
 
 -- what a pattern answers is an answer of the text that it is compiled from
-pub found_by : (pattern input : List ℕ) (base : Option (List ℕ)) (compiled : PatternView Regex) (found : Option (String Global)) → IsPatternOf pattern base compiled
+pub found_by : (pattern input : List ℕ) (base : Option (List ℕ)) (compiled : PatternView PatternRegexp) (found : Option (String Global)) → IsPatternOf pattern base compiled
     → MatchOption found (IsUnmatchedBy compiled input base) (λ text. IsMatchTextBy compiled input base (string_bytes text))
     → MatchOption found (IsUnmatched pattern input base) (λ text. IsMatchText pattern input base (string_bytes text))
 found_by pattern input base compiled None is answer = (compiled, is, answer)

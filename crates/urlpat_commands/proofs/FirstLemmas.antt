@@ -6,12 +6,12 @@ use Rattle.std.proofs.lemmas.Option.{slice_get-map, slice_get_read}
 use Rattle.std.specs.List.{AllZip}
 use Rattle.std.specs.Prelude.{MatchOption, Option, None, Some, String, option_map, string_bytes}
 use Rattle.std.specs.declared.alloc.Global.{Global}
-use Rattle.regex.specs.declared.string.regex.Regex.{Regex}
 use Rattle.urlpat_commands.specs.Answers.{ArePatternsOf, IsFirstText, IsFirstTextBy, IsPatternOf, IsUnmatchedByAll, IsUnmatchedByEach, RefusesOneOf, RefusesPatternOf}
 use Rattle.urlpattern.specs.Errors.{MemoryOr}
 use Rattle.urlpattern.specs.Patterns.{PatternView, pattern_view}
 use Rattle.urlpattern.specs.FirstMatch.{patterns_view}
 use Rattle.urlpattern_pattern.specs.declared.pattern.UrlPattern.{UrlPattern}
+use Rattle.urlpattern_engine.specs.declared.pattern_regexp.PatternRegexp.{PatternRegexp}
 use Rattle.urlpattern_syntax.specs.declared.error.Error.{Error}
 
 -- ---- patterns one after the other
@@ -31,18 +31,18 @@ take-more xs i x within is = (take_at_read xs i x within).1 ∙ ap (λ y. take i
 
 module _ (base : Option (List ℕ)) (words : List (String Global)) (index : ℕ) (word : String Global) (within : index < length words) (is_word : word ≡ get_or words index word) where
   -- the next word is compiled
-  pub patterns-more : (list next : List (UrlPattern Regex)) (pattern : UrlPattern Regex) → next ≡ list ++ pattern ∷ []
+  pub patterns-more : (list next : List (UrlPattern PatternRegexp)) (pattern : UrlPattern PatternRegexp) → next ≡ list ++ pattern ∷ []
       → ArePatternsOf (map (λ w. string_bytes w) (take index words)) base (patterns_view list) → IsPatternOf (string_bytes word) base (pattern_view pattern)
       → ArePatternsOf (map (λ w. string_bytes w) (take (index + 1) words)) base (patterns_view next)
   patterns-more list next pattern is_next are is =
       let texts = ap (map (λ w. string_bytes w)) (take-more words index word within is_word) ∙ map-push (λ w. string_bytes w) (take index words) word in
       let views = ap (λ patterns. patterns_view patterns) is_next ∙ map-push (λ p. pattern_view p) list pattern in
       subst (λ (ts : List (List ℕ)). ArePatternsOf ts base (patterns_view next)) (sym texts)
-      (subst (λ (vs : List (PatternView Regex)). ArePatternsOf (map (λ w. string_bytes w) (take index words) ++ string_bytes word ∷ []) base vs) (sym views)
+      (subst (λ (vs : List (PatternView PatternRegexp)). ArePatternsOf (map (λ w. string_bytes w) (take index words) ++ string_bytes word ∷ []) base vs) (sym views)
       (all_zip-push (λ text view. IsPatternOf text base view) (map (λ w. string_bytes w) (take index words)) (patterns_view list) (string_bytes word) (pattern_view pattern) are is))
 
   -- the next word is refused
-  pub refuses-one : (list : List (UrlPattern Regex)) (error : Error) → ArePatternsOf (map (λ w. string_bytes w) (take index words)) base (patterns_view list)
+  pub refuses-one : (list : List (UrlPattern PatternRegexp)) (error : Error) → ArePatternsOf (map (λ w. string_bytes w) (take index words)) base (patterns_view list)
       → MemoryOr (RefusesPatternOf (string_bytes word) base) error → MemoryOr (RefusesOneOf (map (λ w. string_bytes w) words) base) error
   refuses-one list error are (inl memory) = inl memory
   refuses-one list error are (inr refused) = inr (record {
@@ -57,15 +57,8 @@ module _ (base : Option (List ℕ)) (words : List (String Global)) (index : ℕ)
 -- ---- the first match
 
 -- what a list answers is an answer of the texts that it is compiled from
-pub first_found_by : (patterns : List (List ℕ)) (input : List ℕ) (base : Option (List ℕ)) (compiled : List (PatternView Regex)) (found : Option (String Global)) → ArePatternsOf patterns base compiled
+pub first_found_by : (patterns : List (List ℕ)) (input : List ℕ) (base : Option (List ℕ)) (compiled : List (PatternView PatternRegexp)) (found : Option (String Global)) → ArePatternsOf patterns base compiled
     → MatchOption found (IsUnmatchedByAll compiled input base) (λ text. IsFirstTextBy compiled input base (string_bytes text))
     → MatchOption found (IsUnmatchedByEach patterns input base) (λ text. IsFirstText patterns input base (string_bytes text))
 first_found_by patterns input base compiled None are answer = (compiled, are, answer)
 first_found_by patterns input base compiled (Some text) are answer = (compiled, are, answer)
-
--- what is told of the patterns that were compiled, of the words that they were compiled from
-pub of_words : {A : Type 0} (bytes : A → List ℕ) (found : Option A) (words : List (List ℕ)) (input : List ℕ) (base : Option (List ℕ)) (compiled : List (PatternView Regex))
-    → ArePatternsOf words base compiled → MatchOption found (IsUnmatchedByAll compiled input base) (λ text. IsFirstTextBy compiled input base (bytes text))
-    → MatchOption found (IsUnmatchedByEach words input base) (λ text. IsFirstText words input base (bytes text))
-of_words bytes None words input base compiled are told = (compiled, are, told)
-of_words bytes (Some text) words input base compiled are told = (compiled, are, told)

@@ -1,5 +1,5 @@
 -- What the program answers to its words, and what it refuses. Words and texts are bytes.
-use Rattle.std.specs.Prelude.{◌≡◌, ◌≢◌, ◌↔◌, ◌⊎◌, All, ◌++◌, ℕ, false, if◌then◌else◌, List, [], ◌∷◌, length, map, max, codes, bytes_eq, Option, None, Some, Result, Ok, Err, String, string_bytes, encode_utf8_all, slice_get, take, IsSome}
+use Rattle.std.specs.Prelude.{◌≡◌, ◌≢◌, ◌↔◌, ◌⊎◌, ⊤, All, ◌++◌, ℕ, Bool, false, if◌then◌else◌, List, [], ◌∷◌, length, map, max, codes, bytes_eq, Option, None, Some, Result, Ok, Err, String, string_bytes, encode_utf8_all, slice_get, take, IsSome}
 use Rattle.std.specs.Ordering.{on}
 use Rattle.std.specs.Cmp.Lexicographic.{slice_cmp}
 use Rattle.std.specs.List.{AllZip, Contains, flat_map}
@@ -7,22 +7,21 @@ use Rattle.std.specs.List.Sorted.{IsStrictlySortedBy}
 use Rattle.std.specs.Ordering.{nat_cmp}
 use Rattle.std.specs.Str.{chars}
 use Rattle.std.specs.declared.alloc.Global.{Global}
-use Rattle.regex.specs.declared.string.regex.Regex.{Regex}
 use Rattle.url.specs.Parts.{Parts}
 use Rattle.urlpat_commands.specs.declared.command.Failure.{Failure}
 use Rattle.urlpat_commands.specs.declared.command.Failure.TheVariants as failures
 use Rattle.urlpat_commands.specs.Kinds.{IsKind, IsNamed}
 use Rattle.urlpat_commands.specs.Report.{component_lines, first_line, group_line}
-use Rattle.urlpattern.specs.Compiled.{IsCompiled, RefusesPattern}
+use Rattle.urlpattern.specs.Compiled.{Compiles}
+use Rattle.urlpattern.specs.Compiling.{IsCompiledFrom}
 use Rattle.urlpattern.specs.Dialect.{HasMeaningOf}
-use Rattle.urlpattern.specs.Engines.{regex_answer}
 use Rattle.urlpattern.specs.Errors.{ErrorView}
 use Rattle.urlpattern.specs.Canonical.{IsRefusedByUrl}
 use Rattle.urlpattern.specs.FirstMatch.{IsFirstMatch}
-use Rattle.urlpattern.specs.Inputs.{IsInitOfString, RefusesText, parsed_text, text_bytes}
+use Rattle.urlpattern.specs.FromString.{IsPatternOfText, RefusesPatternOfText}
+use Rattle.urlpattern.specs.Inputs.{parsed_text, text_bytes}
 use Rattle.urlpattern.specs.Laws.{Answered, listed}
 use Rattle.urlpattern.specs.Match.{HasNoMatch, IsMatch, ResultView}
-use Rattle.urlpattern.specs.Meaning.{compiles_by_regex}
 use Rattle.urlpattern.specs.Options.{OptionsView}
 use Rattle.urlpattern.specs.Errors.{MemoryOr}
 use Rattle.urlpattern.specs.Parts.{PartView}
@@ -31,7 +30,9 @@ use Rattle.urlpattern.specs.Printing.{Keeps, printed}
 use Rattle.urlpattern.specs.Reading.{Encoding, Reads, Refuses, encoding_of}
 use Rattle.urlpattern.specs.RegexpText.{group_names, regexp_text}
 use Rattle.urlpattern.specs.RoundTrip.{IsPrintable, ReadsBack}
-use Rattle.urlpattern_init.specs.declared.init.UrlPatternInit.{UrlPatternInit}
+use Rattle.urlpattern.specs.SpecialProtocol.{IsSpecialBy}
+use Rattle.urlpattern_engine.specs.Engine.{IsPatternRegexpOf, pattern_answer}
+use Rattle.urlpattern_engine.specs.declared.pattern_regexp.PatternRegexp.{PatternRegexp}
 use Rattle.urlpattern_init.specs.declared.init.processing.Component.{Component}
 use Rattle.urlpattern_init.specs.declared.init.processing.Component.TheVariants.{Protocol, Username, Password, Hostname, Port, Pathname, Search, Hash}
 use Rattle.urlpattern_init.specs.declared.init.UrlPatternMatchInput.TheVariants as match_inputs
@@ -84,21 +85,25 @@ FailsComponent kind pattern (failures.Refused error) = MemoryOr (RefusesComponen
 abbrev pub base_of : List ℕ → Option (List ℕ)
 base_of word = if bytes_eq word (codes "-") then None else Some word
 
--- whole patterns are compiled under the default options, by engines of the crate `regex`
+-- whole patterns are compiled under the default options
 abbrev pub default_pattern_options : UrlPatternOptions
 default_pattern_options = record { regex_syntax = Rust; ignore_case = false }
 
--- The constructor string with this base URL is compiled to the pattern.
-pub record IsPatternOf (text : List ℕ) (base : Option (List ℕ)) (pattern : PatternView Regex) : Type 0 where
-  pub init : UrlPatternInit
-  pub is_constructed : IsInitOfString (chars text) base init
-  pub is_compiled : IsCompiled compiles_by_regex regex_answer init default_pattern_options pattern
+-- they are compiled by the engine `PatternRegexp`
+abbrev pub compiles_by_pattern_regexp : Compiles PatternRegexp
+compiles_by_pattern_regexp = IsCompiledFrom (λ value regexp flags. IsPatternRegexpOf regexp value) (λ regexp flags force_eval. ⊤) Rust
+
+-- whether the pattern of a protocol is that of a special scheme, as this engine answers
+abbrev pub IsSpecial : (protocol : List ℕ) → Bool → Type 0
+IsSpecial = IsSpecialBy (λ value regexp flags. IsPatternRegexpOf regexp value) (λ regexp flags. ⊤) pattern_answer
+
+-- the constructor string with this base URL is compiled to the pattern
+abbrev pub IsPatternOf : (text : List ℕ) → (base : Option (List ℕ)) → PatternView PatternRegexp → Type 0
+IsPatternOf text base pattern = IsPatternOfText compiles_by_pattern_regexp IsSpecial pattern_answer (chars text) base default_pattern_options pattern
 
 -- it is refused with this error, as a constructor string or when it is compiled
 abbrev pub RefusesPatternOf : (text : List ℕ) → (base : Option (List ℕ)) → ErrorView → Type 0
-RefusesPatternOf text base error =
-    RefusesText (chars text) base error
-    ⊎ ((init : UrlPatternInit) × IsInitOfString (chars text) base init × RefusesPattern compiles_by_regex regex_answer init default_pattern_options error)
+RefusesPatternOf text base error = RefusesPatternOfText compiles_by_pattern_regexp IsSpecial pattern_answer (chars text) base default_pattern_options error
 
 -- the bytes that a group captured, if it took part
 abbrev pub capture_of : Option (Option (List ℕ)) → Option (List ℕ)
@@ -145,65 +150,65 @@ abbrev pub IsRefusedText : (input : List ℕ) → (base : Option (List ℕ)) →
 IsRefusedText input base = IsRefusedByUrl (parsed_text base input) (max (length input) (text_bytes base))
 
 -- The pattern matches the input, a URL under this base URL, and the text tells what the groups capture.
-pub record IsMatchTextBy (compiled : PatternView Regex) (input : List ℕ) (base : Option (List ℕ)) (text : List ℕ) : Type 0 where
+pub record IsMatchTextBy (compiled : PatternView PatternRegexp) (input : List ℕ) (base : Option (List ℕ)) (text : List ℕ) : Type 0 where
   pub url : Parts
   pub result : Component → ResultView
   pub is_url : IsUrlOf input base url
-  pub is_match : IsMatch regex_answer compiled (match_inputs.Url url) result
+  pub is_match : IsMatch pattern_answer compiled (match_inputs.Url url) result
   pub are_lines : AreLines (components_of result) text
 
 abbrev pub IsMatchText : (pattern input : List ℕ) → (base : Option (List ℕ)) → (text : List ℕ) → Type 0
 IsMatchText pattern input base text =
-    (compiled : PatternView Regex) × IsPatternOf pattern base compiled × IsMatchTextBy compiled input base text
+    (compiled : PatternView PatternRegexp) × IsPatternOf pattern base compiled × IsMatchTextBy compiled input base text
 
 -- the pattern does not match the input: `url` refuses it, or the pattern has no match on it
-abbrev pub IsUnmatchedBy : (compiled : PatternView Regex) → (input : List ℕ) → (base : Option (List ℕ)) → Type 0
+abbrev pub IsUnmatchedBy : (compiled : PatternView PatternRegexp) → (input : List ℕ) → (base : Option (List ℕ)) → Type 0
 IsUnmatchedBy compiled input base =
-    IsRefusedText input base ⊎ ((url : Parts) × IsUrlOf input base url × HasNoMatch regex_answer compiled (match_inputs.Url url))
+    IsRefusedText input base ⊎ ((url : Parts) × IsUrlOf input base url × HasNoMatch pattern_answer compiled (match_inputs.Url url))
 
 abbrev pub IsUnmatched : (pattern input : List ℕ) → (base : Option (List ℕ)) → Type 0
 IsUnmatched pattern input base =
-    (compiled : PatternView Regex) × IsPatternOf pattern base compiled × IsUnmatchedBy compiled input base
+    (compiled : PatternView PatternRegexp) × IsPatternOf pattern base compiled × IsUnmatchedBy compiled input base
 
 -- ---- what the first match captures
 
 -- the constructor strings with this base URL are compiled to the patterns, one to each
-abbrev pub ArePatternsOf : (texts : List (List ℕ)) → (base : Option (List ℕ)) → List (PatternView Regex) → Type 0
+abbrev pub ArePatternsOf : (texts : List (List ℕ)) → (base : Option (List ℕ)) → List (PatternView PatternRegexp) → Type 0
 ArePatternsOf texts base patterns = AllZip (λ text pattern. IsPatternOf text base pattern) texts patterns
 
 -- One of the constructor strings is refused with this error, and those before it are compiled.
 pub record RefusesOneOf (texts : List (List ℕ)) (base : Option (List ℕ)) (error : ErrorView) : Type 0 where
   pub index : ℕ
   pub text : List ℕ
-  pub earlier : List (PatternView Regex)
+  pub earlier : List (PatternView PatternRegexp)
   pub is_there : slice_get texts index ≡ Some text
   pub are_compiled : ArePatternsOf (take index texts) base earlier
   pub refuses : RefusesPatternOf text base error
 
 -- A pattern of the list is the first that matches the input, a URL under this base URL, and the text tells its index and
 -- what its groups capture.
-pub record IsFirstTextBy (compiled : List (PatternView Regex)) (input : List ℕ) (base : Option (List ℕ)) (text : List ℕ) : Type 0 where
+pub record IsFirstTextBy (compiled : List (PatternView PatternRegexp)) (input : List ℕ) (base : Option (List ℕ)) (text : List ℕ) : Type 0 where
   pub url : Parts
   pub index : ℕ
   pub result : Component → ResultView
   pub lines : List ℕ
   pub is_url : IsUrlOf input base url
-  pub is_first : IsFirstMatch regex_answer compiled (match_inputs.Url url) (Some (index, result))
+  pub is_first : IsFirstMatch pattern_answer compiled (match_inputs.Url url) (Some (index, result))
   pub are_lines : AreLines (components_of result) lines
   pub is_text : text ≡ first_line index ++ lines
 
 abbrev pub IsFirstText : (patterns : List (List ℕ)) → (input : List ℕ) → (base : Option (List ℕ)) → (text : List ℕ) → Type 0
 IsFirstText patterns input base text =
-    (compiled : List (PatternView Regex)) × ArePatternsOf patterns base compiled × IsFirstTextBy compiled input base text
+    (compiled : List (PatternView PatternRegexp)) × ArePatternsOf patterns base compiled × IsFirstTextBy compiled input base text
 
 -- no pattern of the list matches the input: `url` refuses it, or none has a match on it
-abbrev pub IsUnmatchedByAll : (compiled : List (PatternView Regex)) → (input : List ℕ) → (base : Option (List ℕ)) → Type 0
+abbrev pub IsUnmatchedByAll : (compiled : List (PatternView PatternRegexp)) → (input : List ℕ) → (base : Option (List ℕ)) → Type 0
 IsUnmatchedByAll compiled input base =
-    IsRefusedText input base ⊎ ((url : Parts) × IsUrlOf input base url × IsFirstMatch regex_answer compiled (match_inputs.Url url) None)
+    IsRefusedText input base ⊎ ((url : Parts) × IsUrlOf input base url × IsFirstMatch pattern_answer compiled (match_inputs.Url url) None)
 
 abbrev pub IsUnmatchedByEach : (patterns : List (List ℕ)) → (input : List ℕ) → (base : Option (List ℕ)) → Type 0
 IsUnmatchedByEach patterns input base =
-    (compiled : List (PatternView Regex)) × ArePatternsOf patterns base compiled × IsUnmatchedByAll compiled input base
+    (compiled : List (PatternView PatternRegexp)) × ArePatternsOf patterns base compiled × IsUnmatchedByAll compiled input base
 
 -- ---- the words after `component`
 

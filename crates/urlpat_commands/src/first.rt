@@ -8,6 +8,7 @@ ghost use Rattle.urlpattern_syntax.specs.declared.error.Error.TheVariants as err
 
 use crate::matching::{base_of, compiled, push_match, url_of};
 use std::alloc::Global;
+use urlpattern::regexp::PatternRegexp;
 use urlpattern::{Error, UrlPatternList};
 
 /// A line with the index of the first pattern that matches an input, and a line for each group of the match. `None`: no
@@ -38,7 +39,7 @@ fn compiled_list(
     alloc: Global,
     patterns: &[String],
     base: Option<&str>,
-) -> Result<UrlPatternList, Error>
+) -> Result<UrlPatternList<PatternRegexp>, Error>
     ensures compiled { IfOk result (λ list. ArePatternsOf (words_view patterns.now) (option_copied base.entry) (patterns_view list)) }
     ensures refused { IfErr result (MemoryOr (RefusesOneOf (words_view patterns.now) (option_copied base.entry))) }
 {
@@ -59,7 +60,7 @@ fn compiled_list(
 /// The error is that memory ran out.
 fn groups_of_first(
     alloc: Global,
-    list: &UrlPatternList,
+    list: &UrlPatternList<PatternRegexp>,
     base: Option<&str>,
     input: &str,
 ) -> Result<Option<String>, Error>

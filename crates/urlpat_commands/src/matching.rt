@@ -14,7 +14,8 @@ ghost use Rattle.urlpattern_syntax.specs.declared.error.Error.TheVariants as err
 use std::alloc::{AllocError, Global};
 use std::borrow::CowStr;
 use url::Url;
-use urlpattern::quirks::{StringOrInit, process_construct_pattern_input, process_match_input};
+use urlpattern::quirks::{StringOrInit, process_match_input};
+use urlpattern::regexp::PatternRegexp;
 use urlpattern::{
     ComponentName, Error, UrlPattern, UrlPatternCaptures, UrlPatternMatchInput, UrlPatternOptions,
 };
@@ -49,16 +50,18 @@ pub fn base_of(word: &str) -> Option<&str>
     if word == NO_BASE { None } else { Some(word) }
 }
 
-/// The pattern of a constructor string.
+/// The pattern of a constructor string, over an engine that is made for patterns.
 ///
 /// The error is why the pattern or its base is refused, or that memory ran out.
-pub fn compiled(alloc: Global, pattern: &str, base: Option<&str>) -> Result<UrlPattern, Error>
+pub fn compiled(
+    alloc: Global,
+    pattern: &str,
+    base: Option<&str>,
+) -> Result<UrlPattern<PatternRegexp>, Error>
     ensures compiled { IfOk result (λ compiled. IsPatternOf pattern.now (option_copied base.entry) (pattern_view compiled)) }
     ensures refused { IfErr result (MemoryOr (RefusesPatternOf pattern.now (option_copied base.entry))) }
 {
-    let input = StringOrInit::String(CowStr::Borrowed(pattern));
-    let init = process_construct_pattern_input(alloc, input, base)?;
-    <UrlPattern>::parse(alloc, init, UrlPatternOptions::default())
+    UrlPattern::from_constructor_string(alloc, pattern, base, UrlPatternOptions::default())
 }
 
 /// A line for each group of the match of an input, or None where the input is not matched.
@@ -66,7 +69,7 @@ pub fn compiled(alloc: Global, pattern: &str, base: Option<&str>) -> Result<UrlP
 /// The error is that memory ran out.
 fn groups_of_match(
     alloc: Global,
-    pattern: &UrlPattern,
+    pattern: &UrlPattern<PatternRegexp>,
     base: Option<&str>,
     input: &str,
 ) -> Result<Option<String>, Error>

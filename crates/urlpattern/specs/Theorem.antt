@@ -3,6 +3,8 @@ use Rattle.std.specs.Prelude.{◌≡◌, ◌≢◌, ◌↔◌, ◌⊎◌, ℕ, f
 use Rattle.std.specs.Str.{all_scalars}
 use Rattle.regex.specs.declared.string.regex.Regex.{Regex}
 use Rattle.urlpattern_core.specs.Engines.{IsTakenByRegex, regex_answer}
+use Rattle.urlpattern_engine.specs.Engine.{IsTakenByPatternRegexp, pattern_answer}
+use Rattle.urlpattern_engine.specs.declared.pattern_regexp.PatternRegexp.{PatternRegexp}
 use Rattle.urlpattern_init.specs.declared.init.UrlPatternMatchInput.{UrlPatternMatchInput}
 use Rattle.urlpattern_init.specs.declared.init.processing.Component.{Component}
 use Rattle.urlpattern_laws.specs.Dialect.{IsOnlyTreeOf, IsTreeOf, Items, Means}
@@ -70,6 +72,13 @@ DefaultEngineAnswersTheFirstWay =
     (options : OptionsView) (flags : List ℕ) (parts : List PartView) (matcher : MatcherView Regex) (text : List ℕ) (result : Option Captures) →
     IsTakenByRegex options flags parts matcher → IsTrue (lacks line_feed text) → IsTrue (all_scalars text) →
     Answers regex_answer matcher text result → IsFirstOf options parts text result × Agrees options parts text result
+
+-- One that `PatternRegexp` made does so too, if that took the text where it was needed.
+abbrev pub PatternEngineAnswersTheFirstWay : Type 0
+PatternEngineAnswersTheFirstWay =
+    (options : OptionsView) (flags : List ℕ) (parts : List PartView) (matcher : MatcherView PatternRegexp) (text : List ℕ) (result : Option Captures) →
+    IsTakenByPatternRegexp options flags parts matcher → IsTrue (lacks line_feed text) → IsTrue (all_scalars text) →
+    Answers pattern_answer matcher text result → IsFirstOf options parts text result × Agrees options parts text result
 
 -- There is one such answer.
 abbrev pub FirstWayIsOne : Type 0

@@ -1,6 +1,6 @@
 //! The main theorem of the whole: what a pattern text is read as, what its parts mean, what is matched and what is printed.
 
-ghost use Rattle.urlpattern.specs.Theorem.{CapturesHaveNames, DefaultEngineAnswersTheFirstWay, ExecutesByMatchers, FirstWayIsOne, MatchersAnswerByMeaning, MatchersAnswerTheFirstWay, OneReading, OneTree, PrintedReadsAsNothingElse, PrintedReadsBack, TreesMeanTheParts};
+ghost use Rattle.urlpattern.specs.Theorem.{CapturesHaveNames, DefaultEngineAnswersTheFirstWay, ExecutesByMatchers, FirstWayIsOne, MatchersAnswerByMeaning, MatchersAnswerTheFirstWay, OneReading, OneTree, PatternEngineAnswersTheFirstWay, PrintedReadsAsNothingElse, PrintedReadsBack, TreesMeanTheParts};
 ghost use Rattle.urlpattern_core.specs.Compiling.{MayRefuseAtFirst};
 
 use crate::regexp::RegExp;
@@ -22,6 +22,7 @@ use crate::regexp::RegExp;
 /// - `one_answer`: the first way is one answer, so that no other result is a match.
 /// - `default_engine`: a matcher that `regex::Regex` made answers the first way, and this is what the parts mean or None where
 ///   they mean nothing, without a premise on the engine but that it took the regular expression where it was needed.
+/// - `pattern_engine`: the same of a matcher that `PatternRegexp` made.
 /// - `reads_back`: the printed pattern of parts that were read under the standard's options reads as these parts,
 ///   neighbouring plain fixed texts joined, under each encoding that keeps their texts; no fixed text is empty, and none of
 ///   their texts has a tab or a line end.
@@ -38,6 +39,7 @@ pub fn main_theorem<R: RegExp>()
     ensures answers { MatchersAnswerTheFirstWay R.IsMade (MayRefuseAtFirst R.MayRefuse) R.answer }
     ensures one_answer { FirstWayIsOne }
     ensures default_engine { DefaultEngineAnswersTheFirstWay }
+    ensures pattern_engine { PatternEngineAnswersTheFirstWay }
     ensures reads_back { PrintedReadsBack }
     ensures nothing_else { PrintedReadsAsNothingElse }
     ensures executes { ExecutesByMatchers R.answer }

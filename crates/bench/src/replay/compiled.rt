@@ -12,12 +12,15 @@ use urlpattern::component::Component;
 use urlpattern::matcher::InnerMatcher;
 use urlpattern::parser::Options;
 use urlpattern::quirks::EcmaRegexp;
-use urlpattern::regexp::RegExp;
+use urlpattern::regexp::{PatternRegexp, RegExp};
 
 /// Whether the compiled component of a pattern is the recorded one.
 pub fn is_same(alloc: Global, question: &Value, answer: Answer<'_>) -> Result<bool, Fault> {
     match optional_text(question, "engine") {
-        Some("regex") | None => is_same_over::<Regex>(alloc, question, answer),
+        Some("regex") | None => Ok(
+            is_same_over::<Regex>(alloc, question, answer)?
+                && is_same_over::<PatternRegexp>(alloc, question, answer)?,
+        ),
         Some("ecma") => is_same_over::<EcmaRegexp>(alloc, question, answer),
         Some(_) => Err(Fault::NoCase),
     }

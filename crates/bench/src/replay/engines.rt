@@ -6,12 +6,15 @@ use serde_json::Value;
 use std::alloc::Global;
 use urlpattern::error::RegExpError;
 use urlpattern::quirks::EcmaRegexp;
-use urlpattern::regexp::RegExp;
+use urlpattern::regexp::{PatternRegexp, RegExp};
 
 /// Whether an engine's answers are the recorded ones.
 pub fn is_same(alloc: Global, question: &Value, answer: Answer<'_>) -> Result<bool, Fault> {
     match text(question, "engine")? {
-        "regex" => is_same_over::<Regex>(alloc, question, answer),
+        "regex" => Ok(
+            is_same_over::<Regex>(alloc, question, answer)?
+                && is_same_over::<PatternRegexp>(alloc, question, answer)?,
+        ),
         "ecma" => is_same_over::<EcmaRegexp>(alloc, question, answer),
         _ => Err(Fault::NoCase),
     }

@@ -7,14 +7,27 @@ use regex::Regex;
 use serde_json::Value;
 use std::alloc::{AllocError, Global};
 use urlpattern::quirks::process_match_input;
+use urlpattern::regexp::{PatternRegexp, RegExp};
 use urlpattern::{Error, UrlPatternList, UrlPatternResult};
 
 /// What comes of an input: an index and its match, None where there is none.
 type First = Option<(usize, UrlPatternResult)>;
 
-/// Whether the first matches of the inputs in a list are what was recorded.
+/// Whether the first matches of the inputs in a list are what was recorded, over both engines.
 pub fn is_same(alloc: Global, question: &Value, answer: Answer<'_>) -> Result<bool, Fault> {
-    let found = built_list(alloc, question)?;
+    Ok(
+        is_same_over::<Regex>(alloc, question, answer)?
+            && is_same_over::<PatternRegexp>(alloc, question, answer)?,
+    )
+}
+
+/// Whether they are, over one engine.
+fn is_same_over<R: RegExp>(
+    alloc: Global,
+    question: &Value,
+    answer: Answer<'_>,
+) -> Result<bool, Fault> {
+    let found = built_list::<R>(alloc, question)?;
     let is_same = match (&found, answer) {
         (Ok(patterns), Answer::Ok(recorded)) => has_same_results(
             alloc, patterns, question, recorded,
@@ -27,12 +40,15 @@ pub fn is_same(alloc: Global, question: &Value, answer: Answer<'_>) -> Result<bo
 }
 
 /// The list of the patterns that a question gives, or why the first that is refused is so.
-fn built_list(alloc: Global, question: &Value) -> Result<Result<UrlPatternList, Error>, Fault> {
+fn built_list<R: RegExp>(
+    alloc: Global,
+    question: &Value,
+) -> Result<Result<UrlPatternList<R>, Error>, Fault> {
     let mut patterns = UrlPatternList::new(alloc);
     for pattern in list(question, "patterns")? {
         let options = given::options(alloc, pattern)?;
         let input = given::input(alloc, pattern)?;
-        match built::<Regex>(alloc, input, optional_text(pattern, "base"), options) {
+        match built::<R>(alloc, input, optional_text(pattern, "base"), options) {
             Ok(pattern) => {
                 if patterns.push(pattern).is_err() {
                     return Err(Fault::OutOfMemory);
@@ -45,9 +61,9 @@ fn built_list(alloc: Global, question: &Value) -> Result<Result<UrlPatternList, 
 }
 
 /// Whether what comes of each input of a question is the recorded result.
-fn has_same_results(
+fn has_same_results<R: RegExp>(
     alloc: Global,
-    patterns: &UrlPatternList,
+    patterns: &UrlPatternList<R>,
     question: &Value,
     recorded: &Value,
 ) -> Result<bool, Fault> {
@@ -67,9 +83,9 @@ fn has_same_results(
 }
 
 /// The first match of an input that a question gives.
-fn first_match(
+fn first_match<R: RegExp>(
     alloc: Global,
-    patterns: &UrlPatternList,
+    patterns: &UrlPatternList<R>,
     input: &Value,
 ) -> Result<Result<First, Error>, Fault> {
     let base = optional_text(input, "base");

@@ -14,13 +14,14 @@ use urlpattern::component::generate_matcher;
 use urlpattern::matcher::{InnerMatcher, Matcher};
 use urlpattern::parser::Options;
 use urlpattern::quirks::EcmaRegexp;
-use urlpattern::regexp::RegExp;
+use urlpattern::regexp::{PatternRegexp, RegExp};
 use urlpattern::{Error, RegexSyntax};
 
-/// Whether the matcher of a pattern answers what was recorded, over both engines.
+/// Whether the matcher of a pattern answers what was recorded, over each engine.
 pub fn is_same(alloc: Global, question: &Value, answer: Answer<'_>) -> Result<bool, Fault> {
     Ok(
         is_same_over::<Regex>(alloc, question, answer)?
+            && is_same_over::<PatternRegexp>(alloc, question, answer)?
             && is_same_over::<EcmaRegexp>(alloc, question, answer)?,
     )
 }
@@ -54,7 +55,7 @@ fn is_matcher_of<R: RegExp>(
     let Ok(matches) = list(recorded, "matches") else {
         return Ok(false);
     };
-    let is_refused = is_set(recorded, "refused") && is_regex::<R>();
+    let is_refused = is_set(recorded, "refused") && refuses_unasked::<R>();
     Ok(are_answers(alloc, matcher, inputs, matches) && keeps_error(matcher) == is_refused)
 }
 
@@ -74,8 +75,8 @@ fn keeps_error<R>(matcher: &Matcher<R>) -> bool {
     matches!(matcher.inner, InnerMatcher::RegExp { regexp: Err(_) })
 }
 
-/// Whether an engine is that of the recorded answers, which refuses texts unasked.
-fn is_regex<R: RegExp>() -> bool {
+/// Whether an engine refuses what that of the recorded answers refuses, unasked.
+fn refuses_unasked<R: RegExp>() -> bool {
     matches!(R::syntax(), RegexSyntax::Rust)
 }
 

@@ -8,7 +8,7 @@ use std::alloc::{AllocError, Global};
 use urlpattern::quirks::{
     EcmaRegexp, StringOrInit, process_construct_pattern_input, process_match_input,
 };
-use urlpattern::regexp::RegExp;
+use urlpattern::regexp::{PatternRegexp, RegExp};
 use urlpattern::{
     Error, UrlPattern, UrlPatternComponentResult, UrlPatternOptions, UrlPatternResult,
 };
@@ -16,7 +16,10 @@ use urlpattern::{
 /// Whether a pattern and what it answers to the inputs are what was recorded.
 pub fn is_same(alloc: Global, question: &Value, answer: Answer<'_>) -> Result<bool, Fault> {
     match optional_text(question, "engine") {
-        Some("regex") | None => is_same_over::<Regex>(alloc, question, answer),
+        Some("regex") | None => Ok(
+            is_same_over::<Regex>(alloc, question, answer)?
+                && is_same_over::<PatternRegexp>(alloc, question, answer)?,
+        ),
         Some("ecma") => is_same_over::<EcmaRegexp>(alloc, question, answer),
         Some(_) => Err(Fault::NoCase),
     }

@@ -11,6 +11,9 @@ const ROUNDS: u32 = 12;
 /// How many nanoseconds a round takes at least.
 const ROUND: u128 = 10_000_000;
 
+/// How many nanoseconds a call takes that is timed once.
+const LONG: u128 = 500_000_000;
+
 /// A call that is timed.
 pub trait Timed {
     /// Calls once. Says whether something was made, or is matched.
@@ -32,7 +35,11 @@ fn time<C: Clock, T: Timed>(clock: &C, alloc: Global, timed: &T, calls: u64) -> 
 pub fn least<C: Clock, T: Timed>(clock: &C, alloc: Global, timed: &T) -> io::Result<u128> {
     let mut calls = 1u64;
     for _ in 0..30 {
-        if time(clock, alloc, timed, calls)? >= ROUND {
+        let taken = time(clock, alloc, timed, calls)?;
+        if taken >= LONG {
+            return Ok(taken / u128::from(calls.max(1)));
+        }
+        if taken >= ROUND {
             break;
         }
         calls = calls.saturating_mul(2);

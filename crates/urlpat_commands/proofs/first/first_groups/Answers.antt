@@ -2,7 +2,7 @@ use Rattle.std.proofs.Common.{subst}
 use Rattle.std.specs.Prelude.{MatchOption, string_bytes, option_copied}
 use Rattle.urlpattern.specs.FirstMatch.{patterns_view}
 use Rattle.urlpat_commands.specs.Answers.{IsFirstText, IsUnmatchedByEach, words_view}
-use Rattle.urlpat_commands.proofs.FirstLemmas.{of_words}
+use Rattle.urlpat_commands.proofs.FirstLemmas.{first_found_by}
 use Rattle.urlpat_commands.proofs.first.first_groups.Goals as goal
 
 pub returns-clause-found : goal.returns-clause-found
@@ -11,4 +11,4 @@ returns-clause-found c =
     let found = c.in_ok-answer.field-0 in
     let base = option_copied c.base_of-base.result in
     subst (λ b. MatchOption found (IsUnmatchedByEach words c.args.input.now b) (λ text. IsFirstText words c.args.input.now b (string_bytes text))) c.base_of-base.ensures
-    (of_words string_bytes found words c.args.input.now base (patterns_view c.in_ok-list.list) c.in_ok-list.ensures.compiled c.in_ok-answer.ensures.found)
+    (first_found_by words c.args.input.now base (patterns_view c.in_ok-list.list) found c.in_ok-list.ensures.compiled c.in_ok-answer.ensures.found)

@@ -3,6 +3,7 @@ use Rattle.urlpattern_core.specs.Compiling.{MayRefuseAtFirst}
 use Rattle.urlpattern_laws.proofs.CallbackLaws.{outcome_one}
 use Rattle.urlpattern_laws.proofs.CaptureCount.{captures_counted}
 use Rattle.urlpattern_core.proofs.RegexMatchers.{taken_means}
+use Rattle.urlpattern_engine.proofs.EngineLaws.{taken_means as taken_by_pattern_regexp_means}
 use Rattle.urlpattern_laws.proofs.FirstAnswers.{first_one, matcher_first}
 use Rattle.urlpattern_laws.proofs.MatcherMeaning.{matcher_means}
 use Rattle.urlpattern_laws.proofs.OutcomesExist.{outcome_listed}
@@ -38,6 +39,9 @@ returns-clause-one_answer g c = first_one
 
 pub returns-clause-default_engine : goal.returns-clause-default_engine
 returns-clause-default_engine g c = taken_means
+
+pub returns-clause-pattern_engine : goal.returns-clause-pattern_engine
+returns-clause-pattern_engine g c = taken_by_pattern_regexp_means
 
 pub returns-clause-reads_back : goal.returns-clause-reads_back
 returns-clause-reads_back g c = λ text options first answers parts read keeps.
