@@ -1,37 +1,94 @@
-//! Makes a pattern and asks it about a URL.
+//! Four small programs that use the library, each with a contract in the library's words: a router, a permission check, rules
+//! for a cache, and a pattern that is printed and read again.
 #![tactic(auto)]
+
+mod cache;
+mod permission;
+mod printed;
+mod router;
 
 use std::alloc::Global;
 use std::io;
 use std::io::Write;
 use url::Url;
-use urlpattern::{ComponentName, Error, UrlPattern, UrlPatternOptions};
+use urlpattern::component::generate_pattern_string;
+use urlpattern::parser::{Options, parse_pattern_string};
+use urlpattern::regexp::PatternRegexp;
+use urlpattern::{Error, UrlPattern, UrlPatternList, UrlPatternOptions};
 
-/// The pattern of a user's page.
-const USER: &str = "https://example.com/users/:id";
+/// A pattern by the library's own engine, which answers what `regex::Regex` answers, and is many times faster to make and to
+/// match. A type that is written `UrlPattern` alone has `regex::Regex`, as in the Rust crate.
+type Pattern = UrlPattern<PatternRegexp>;
 
-/// The user that a URL names. `None`: it names none.
-fn user(alloc: Global, url: &str) -> Result<Option<String>, Error> {
-    let options = UrlPatternOptions::default();
-    let pattern = <UrlPattern>::from_constructor_string(alloc, USER, None, options)?;
-    let url = Url::parse(alloc, url)?;
-    let Some(found) = pattern.captures(alloc, &url)? else {
-        return Ok(None);
-    };
-    match found.get(ComponentName::Pathname, "id") {
-        Some(Some(id)) => Ok(Some(String::from_str(alloc, id)?)),
-        _ => Ok(None),
+/// The pattern of a constructor string.
+fn pattern(alloc: Global, text: &str) -> Result<Pattern, Error> {
+    Pattern::from_constructor_string(alloc, text, None, UrlPatternOptions::default())
+}
+
+/// The user that a URL names.
+fn user_line(alloc: Global, url: &Url) -> Result<String, Error> {
+    let users = pattern(alloc, "https://example.com/users/:id")?;
+    match router::user(alloc, &users, url)? {
+        Some(id) => Ok(format!(in alloc; "user {id}")?),
+        None => Ok(String::from_str(alloc, "no user")?),
     }
+}
+
+/// Whether a URL is public.
+fn permission_line(alloc: Global, url: &Url) -> Result<String, Error> {
+    let public = pattern(alloc, "https://example.com/:page(about|help)")?;
+    let line = if permission::is_permitted(alloc, &public, url)? {
+        "public"
+    } else {
+        "not public"
+    };
+    Ok(String::from_str(alloc, line)?)
+}
+
+/// For how long a URL is kept.
+fn cache_line(alloc: Global, url: &Url) -> Result<String, Error> {
+    let mut patterns = UrlPatternList::new(alloc);
+    for text in ["https://example.com/users/*", "https://example.com/*"] {
+        if patterns.push(pattern(alloc, text)?).is_err() {
+            return Err(Error::OutOfMemory);
+        }
+    }
+    match cache::seconds(alloc, &patterns, &[60, 86_400], url)? {
+        Some(seconds) => Ok(format!(in alloc; "kept for {seconds} seconds")?),
+        None => Ok(String::from_str(alloc, "not kept")?),
+    }
+}
+
+/// The pattern text of a path that was printed and read twice.
+fn printed_line(alloc: Global) -> Result<String, Error> {
+    let options = Options::pathname(alloc)?;
+    let copied = |text: &str| -> Result<String, Error> { Ok(String::from_str(alloc, text)?) };
+    let parts = parse_pattern_string(alloc, "/users/:id([^/]+?)/edit", &options, copied)?;
+    let again = printed::printed_and_read(alloc, &parts, &options)?;
+    generate_pattern_string(alloc, &again, &options)
+}
+
+/// Writes a line, or why there is none.
+fn write_line<W: Write>(out: &mut W, line: Result<String, Error>) -> io::Result<()> {
+    match line {
+        Ok(line) => writeln!(out, "{line}"),
+        Err(error) => writeln!(out, "{error}"),
+    }
+}
+
+/// What the modules answer about a URL.
+fn lines(alloc: Global, url: &str) -> Result<String, Error> {
+    let url = Url::parse(alloc, url)?;
+    let user = user_line(alloc, &url)?;
+    let permission = permission_line(alloc, &url)?;
+    let cached = cache_line(alloc, &url)?;
+    Ok(format!(in alloc; "{url}: {user}, {permission}, {cached}")?)
 }
 
 fn main(rt: HostRuntime) -> io::Result<()> {
     let mut out = rt.stdout();
     for url in ["https://example.com/users/123", "https://example.com/about"] {
-        match user(rt.alloc(), url) {
-            Ok(Some(id)) => writeln!(out, "user {id}")?,
-            Ok(None) => writeln!(out, "no user")?,
-            Err(error) => writeln!(out, "{error}")?,
-        }
+        write_line(&mut out, lines(rt.alloc(), url))?;
     }
-    Ok(())
+    write_line(&mut out, printed_line(rt.alloc()))
 }
