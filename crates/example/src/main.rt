@@ -2,6 +2,8 @@
 //! for a cache, and a pattern that is printed and read again.
 #![tactic(auto)]
 
+ghost use Rattle.std.specs.Prelude.{◌≡◌, ◌+◌, length, OnOk};
+
 mod cache;
 mod permission;
 mod printed;
@@ -25,37 +27,39 @@ fn pattern(alloc: Global, text: &str) -> Result<Pattern, Error> {
     Pattern::from_constructor_string(alloc, text, None, UrlPatternOptions::default())
 }
 
-/// The user that a URL names.
+/// The user that a URL names, in words.
 fn user_line(alloc: Global, url: &Url) -> Result<String, Error> {
     let users = pattern(alloc, "https://example.com/users/:id")?;
-    match router::user(alloc, &users, url)? {
-        Some(id) => Ok(format!(in alloc; "user {id}")?),
-        None => Ok(String::from_str(alloc, "no user")?),
-    }
+    let line = match router::user(alloc, &users, url) {
+        Ok(Some(id)) => named(alloc, id),
+        Ok(None) => text(alloc, "no user"),
+        Err(error) => Err(error),
+    };
+    drop(users);
+    line
 }
 
-/// Whether a URL is public.
+/// Whether a URL is public, in words.
 fn permission_line(alloc: Global, url: &Url) -> Result<String, Error> {
     let public = pattern(alloc, "https://example.com/:page(about|help)")?;
-    let line = if permission::is_permitted(alloc, &public, url)? {
-        "public"
-    } else {
-        "not public"
-    };
-    Ok(String::from_str(alloc, line)?)
+    let permitted = permission::is_permitted(alloc, &public, url);
+    drop(public);
+    text(alloc, if permitted? { "public" } else { "not public" })
 }
 
-/// For how long a URL is kept.
+/// For how long a URL is kept, in words.
 fn cache_line(alloc: Global, url: &Url) -> Result<String, Error> {
     let mut patterns = UrlPatternList::new(alloc);
-    for text in ["https://example.com/users/*", "https://example.com/*"] {
-        if patterns.push(pattern(alloc, text)?).is_err() {
-            return Err(Error::OutOfMemory);
-        }
-    }
-    match cache::seconds(alloc, &patterns, &[60, 86_400], url)? {
+    add(
+        &mut patterns,
+        pattern(alloc, "https://example.com/users/*")?,
+    )?;
+    add(&mut patterns, pattern(alloc, "https://example.com/*")?)?;
+    let seconds = cache::seconds(alloc, &patterns, &[60, 86_400], url);
+    drop(patterns);
+    match seconds? {
         Some(seconds) => Ok(format!(in alloc; "kept for {seconds} seconds")?),
-        None => Ok(String::from_str(alloc, "not kept")?),
+        None => text(alloc, "not kept"),
     }
 }
 
@@ -66,6 +70,29 @@ fn printed_line(alloc: Global) -> Result<String, Error> {
     let parts = parse_pattern_string(alloc, "/users/:id([^/]+?)/edit", &options, copied)?;
     let again = printed::printed_and_read(alloc, &parts, &options)?;
     generate_pattern_string(alloc, &again, &options)
+}
+
+/// A user in words.
+fn named(alloc: Global, id: &str) -> Result<String, Error> {
+    Ok(format!(in alloc; "user {id}")?)
+}
+
+/// A text of one's own.
+fn text(alloc: Global, words: &str) -> Result<String, Error> {
+    Ok(String::from_str(alloc, words)?)
+}
+
+/// Appends a pattern.
+fn add(patterns: &mut UrlPatternList<PatternRegexp>, pattern: Pattern) -> Result<(), Error>
+    ensures { OnOk result (length patterns.new ≡ length patterns.old + 1) }
+{
+    match patterns.push(pattern) {
+        Ok(()) => Ok(()),
+        Err(pattern) => {
+            drop(pattern);
+            Err(Error::OutOfMemory)
+        }
+    }
 }
 
 /// Writes a line, or why there is none.

@@ -20,7 +20,11 @@ use urlpattern::parser::{Options, Part};
 /// fixed text, a tab or a line end.
 ///
 /// The error is then that memory ran out.
-pub fn printed_and_read(alloc: Global, parts: &[Part], options: &Options) -> Result<Vec<Part>, Error>
+pub fn printed_and_read(
+    alloc: Global,
+    parts: &[Part],
+    options: &Options,
+) -> Result<Vec<Part>, Error>
     ensures same { IsPrintable (options_view options.now) (map part_view parts.now) →
         IfOk result (λ again. map part_view again.items ≡ joined (map part_view parts.now)) }
     ensures meaning { IsPrintable (options_view options.now) (map part_view parts.now) →
