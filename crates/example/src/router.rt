@@ -32,8 +32,5 @@ pub fn user<'a, R: RegExp>(
     let Some(found) = users.captures(alloc, url)? else {
         return Ok(None);
     };
-    match found.get(ComponentName::Pathname, ID) {
-        Some(Some(id)) => Ok(Some(id)),
-        _ => Ok(None),
-    }
+    Ok(found.get(ComponentName::Pathname, ID).flatten())
 }
