@@ -13,19 +13,19 @@ use urlpattern::{Error, UrlPatternList, UrlPatternMatchInput};
 /// of the least index. `None`: no pattern matches it.
 ///
 /// The error is that memory ran out.
-pub fn seconds<R: RegExp>(
+pub fn max_age<R: RegExp>(
     alloc: Global,
     patterns: &UrlPatternList<R>,
-    seconds: &[u32],
+    ages: &[u32],
     url: &Url,
 ) -> Result<Option<u32>, Error>
-    requires { length seconds.now ≡ length patterns.now }
-    ensures first { IfOk result (IsOfFirst R.answer (patterns_view patterns.now) seconds.now (UrlPatternMatchInput.Url url.now)) }
+    requires { length ages.now ≡ length patterns.now }
+    ensures first { IfOk result (IsOfFirst R.answer (patterns_view patterns.now) ages.now (UrlPatternMatchInput.Url url.now)) }
     ensures memory { IfErr result (λ error. error ≡ Error.OutOfMemory) }
 {
     let Some((index, found)) = patterns.first_captures(alloc, url)? else {
         return Ok(None);
     };
     drop(found);
-    Ok(Some(seconds[index]))
+    Ok(Some(ages[index]))
 }

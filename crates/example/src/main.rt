@@ -55,7 +55,7 @@ fn cache_line(alloc: Global, url: &Url) -> Result<String, Error> {
         pattern(alloc, "https://example.com/users/*")?,
     )?;
     add(&mut patterns, pattern(alloc, "https://example.com/*")?)?;
-    let seconds = cache::seconds(alloc, &patterns, &[60, 86_400], url);
+    let seconds = cache::max_age(alloc, &patterns, &[60, 86_400], url);
     drop(patterns);
     match seconds? {
         Some(seconds) => Ok(format!(in alloc; "kept for {seconds} seconds")?),

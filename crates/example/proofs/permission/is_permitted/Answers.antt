@@ -6,8 +6,8 @@ use Rattle.urlpattern_init.specs.declared.init.UrlPatternMatchInput.TheVariants 
 use Rattle.example.proofs.permission.is_permitted.Goals as goal
 
 true_of : (answer : Bool) (P Q : Type 0) → MatchBool answer P Q → IsTrue answer → P
-true_of true P Q told yes = told
-true_of false P Q told no = absurd (cc)
+true_of true P Q told is = told
+true_of false P Q told never = absurd (cc)
 
 of_true : (answer : Bool) (P Q : Type 0) → (P → ¬ Q) → MatchBool answer P Q → P → IsTrue answer
 of_true true P Q apart told is = refl
@@ -21,5 +21,5 @@ returns-clause-each g c =
     let pattern = pattern_view c.args.permitted.now in
     let input = inputs.Url c.args.url.now in
     IfOk-weaker c.test_url.result _ _
-    (λ answer told. of_true answer _ _ (λ is no. let long = c.tests_tell_matches.ensures.not_both g.R.RegExp.answer pattern input is no in omega (arith, long)) told)
+    (λ answer told. of_true answer _ _ (λ is missed. let long = c.tests_tell_matches.ensures.not_both g.R.RegExp.answer pattern input is missed in omega (arith, long)) told)
     c.test_url.ensures.matched
