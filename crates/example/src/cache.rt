@@ -27,5 +27,5 @@ pub fn max_age<R: RegExp>(
         return Ok(None);
     };
     drop(found);
-    Ok(Some(ages[index]))
+    Ok(ages.get(index).copied())
 }
