@@ -7,7 +7,8 @@ use Rattle.urlpattern.specs.Patterns.{PatternView}
 use Rattle.urlpattern_init.specs.declared.init.UrlPatternMatchInput.{UrlPatternMatchInput}
 use Rattle.urlpattern_init.specs.declared.init.processing.Component.{Component}
 
--- the pattern matches the input, and this is what the component's group of this name captures, None where it takes no part
+-- the pattern matches the input, and this is what the component's group of this name captures, None where there is no
+-- such group or it takes no part
 abbrev pub IsCaptured : {E : Type 0} → Answer E → PatternView E → UrlPatternMatchInput → Component → (name : List ℕ) → Option (List ℕ) → Type 0
 IsCaptured answer pattern input component name capture =
     (result : Component → ResultView) × IsMatch answer pattern input result × (option_flatten ((result component).group name) ≡ capture)

@@ -29,7 +29,7 @@ fn pattern(alloc: Global, text: &str) -> Result<Pattern, Error> {
 
 /// The user that a URL names, in words.
 fn user_line(alloc: Global, url: &Url) -> Result<String, Error> {
-    let users = pattern(alloc, "https://example.com/users/:id")?;
+    let users = pattern(alloc, router::USERS)?;
     let line = match router::user(alloc, &users, url) {
         Ok(Some(id)) => named(alloc, id),
         Ok(None) => text(alloc, "no user"),
@@ -63,7 +63,7 @@ fn cache_line(alloc: Global, url: &Url) -> Result<String, Error> {
     }
 }
 
-/// The pattern text of a path that was printed and read twice.
+/// The pattern text of parts that were printed and read again.
 fn printed_line(alloc: Global) -> Result<String, Error> {
     let options = Options::pathname(alloc)?;
     let copied = |text: &str| -> Result<String, Error> { Ok(String::from_str(alloc, text)?) };

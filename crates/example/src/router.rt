@@ -11,6 +11,9 @@ use url::Url;
 use urlpattern::regexp::RegExp;
 use urlpattern::{ComponentName, Error, UrlPattern, UrlPatternMatchInput};
 
+/// The pattern of users: what stands between `/users/` and the end of the path is the group `id`.
+pub const USERS: &str = "https://example.com/users/:id";
+
 /// The name of the group that has the user.
 const ID: &str = "id";
 
