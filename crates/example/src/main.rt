@@ -18,8 +18,8 @@ use urlpattern::parser::{Options, parse_pattern_string};
 use urlpattern::regexp::PatternRegexp;
 use urlpattern::{Error, UrlPattern, UrlPatternList, UrlPatternOptions};
 
-/// A pattern by the library's own engine, which answers what `regex::Regex` answers, and is many times faster to make and to
-/// match. A type that is written `UrlPattern` alone has `regex::Regex`, as in the Rust crate.
+/// A pattern over the library's own engine. It answers what `regex::Regex` answers, is made many times faster, and matches most
+/// patterns many times faster where an engine is asked. `UrlPattern` alone is over `regex::Regex`, as in the Rust crate.
 type Pattern = UrlPattern<PatternRegexp>;
 
 /// The pattern of a constructor string.
