@@ -1,39 +1,121 @@
-//! Makes a pattern and asks it about a URL.
+//! Four small programs that use the library, each with a contract in the library's words: a router, a permission check, rules
+//! for a cache, and a pattern that is printed and read again.
 #![tactic(auto)]
+
+ghost use Rattle.std.specs.Prelude.{◌≡◌, ◌+◌, length, OnOk};
+
+mod cache;
+mod permission;
+mod printed;
+mod router;
 
 use std::alloc::Global;
 use std::io;
 use std::io::Write;
 use url::Url;
+use urlpattern::component::generate_pattern_string;
+use urlpattern::parser::{Options, parse_pattern_string};
 use urlpattern::regexp::PatternRegexp;
-use urlpattern::{ComponentName, Error, UrlPattern, UrlPatternOptions};
+use urlpattern::{Error, UrlPattern, UrlPatternList, UrlPatternOptions};
 
-/// The pattern of a user's page.
-const USER: &str = "https://example.com/users/:id";
+/// A pattern over the library's own engine. It answers what `regex::Regex` answers, is made many times faster, and matches most
+/// patterns many times faster where an engine is asked. `UrlPattern` alone is over `regex::Regex`, as in the Rust crate.
+type Pattern = UrlPattern<PatternRegexp>;
 
-/// The user that a URL names. `None`: it names none.
-fn user(alloc: Global, url: &str) -> Result<Option<String>, Error> {
-    let options = UrlPatternOptions::default();
-    // This engine answers what `regex::Regex`, the engine of a plain `UrlPattern`, answers, and is made and matched in less time.
-    let pattern = UrlPattern::<PatternRegexp>::from_constructor_string(alloc, USER, None, options)?;
-    let url = Url::parse(alloc, url)?;
-    let Some(found) = pattern.captures(alloc, &url)? else {
-        return Ok(None);
+/// The pattern of a constructor string.
+fn pattern(alloc: Global, text: &str) -> Result<Pattern, Error> {
+    Pattern::from_constructor_string(alloc, text, None, UrlPatternOptions::default())
+}
+
+/// The user that a URL names, in words.
+fn user_line(alloc: Global, url: &Url) -> Result<String, Error> {
+    let users = pattern(alloc, router::USERS)?;
+    let line = match router::user(alloc, &users, url) {
+        Ok(Some(id)) => named(alloc, id),
+        Ok(None) => text(alloc, "no user"),
+        Err(error) => Err(error),
     };
-    match found.get(ComponentName::Pathname, "id") {
-        Some(Some(id)) => Ok(Some(String::from_str(alloc, id)?)),
-        _ => Ok(None),
+    drop(users);
+    line
+}
+
+/// Whether a URL is public, in words.
+fn permission_line(alloc: Global, url: &Url) -> Result<String, Error> {
+    let public = pattern(alloc, "https://example.com/:page(about|help)")?;
+    let permitted = permission::is_permitted(alloc, &public, url);
+    drop(public);
+    text(alloc, if permitted? { "public" } else { "not public" })
+}
+
+/// For how long a URL is kept, in words.
+fn cache_line(alloc: Global, url: &Url) -> Result<String, Error> {
+    let mut patterns = UrlPatternList::new(alloc);
+    add(
+        &mut patterns,
+        pattern(alloc, "https://example.com/users/*")?,
+    )?;
+    add(&mut patterns, pattern(alloc, "https://example.com/*")?)?;
+    let seconds = cache::max_age(alloc, &patterns, &[60, 86_400], url);
+    drop(patterns);
+    match seconds? {
+        Some(seconds) => Ok(format!(in alloc; "kept for {seconds} seconds")?),
+        None => text(alloc, "not kept"),
     }
+}
+
+/// The pattern text of parts that were printed and read again.
+fn printed_line(alloc: Global) -> Result<String, Error> {
+    let options = Options::pathname(alloc)?;
+    let copied = |text: &str| -> Result<String, Error> { Ok(String::from_str(alloc, text)?) };
+    let parts = parse_pattern_string(alloc, "/users/:id([^/]+?)/edit", &options, copied)?;
+    let again = printed::printed_and_read(alloc, &parts, &options)?;
+    generate_pattern_string(alloc, &again, &options)
+}
+
+/// A user in words.
+fn named(alloc: Global, id: &str) -> Result<String, Error> {
+    Ok(format!(in alloc; "user {id}")?)
+}
+
+/// A text of one's own.
+fn text(alloc: Global, words: &str) -> Result<String, Error> {
+    Ok(String::from_str(alloc, words)?)
+}
+
+/// Appends a pattern.
+fn add(patterns: &mut UrlPatternList<PatternRegexp>, pattern: Pattern) -> Result<(), Error>
+    ensures { OnOk result (length patterns.new ≡ length patterns.old + 1) }
+{
+    match patterns.push(pattern) {
+        Ok(()) => Ok(()),
+        Err(pattern) => {
+            drop(pattern);
+            Err(Error::OutOfMemory)
+        }
+    }
+}
+
+/// Writes a line, or why there is none.
+fn write_line<W: Write>(out: &mut W, line: Result<String, Error>) -> io::Result<()> {
+    match line {
+        Ok(line) => writeln!(out, "{line}"),
+        Err(error) => writeln!(out, "{error}"),
+    }
+}
+
+/// What the modules answer about a URL.
+fn lines(alloc: Global, url: &str) -> Result<String, Error> {
+    let url = Url::parse(alloc, url)?;
+    let user = user_line(alloc, &url)?;
+    let permission = permission_line(alloc, &url)?;
+    let cached = cache_line(alloc, &url)?;
+    Ok(format!(in alloc; "{url}: {user}, {permission}, {cached}")?)
 }
 
 fn main(rt: HostRuntime) -> io::Result<()> {
     let mut out = rt.stdout();
     for url in ["https://example.com/users/123", "https://example.com/about"] {
-        match user(rt.alloc(), url) {
-            Ok(Some(id)) => writeln!(out, "user {id}")?,
-            Ok(None) => writeln!(out, "no user")?,
-            Err(error) => writeln!(out, "{error}")?,
-        }
+        write_line(&mut out, lines(rt.alloc(), url))?;
     }
-    Ok(())
+    write_line(&mut out, printed_line(rt.alloc()))
 }

@@ -1,0 +1,31 @@
+use Rattle.std.proofs.Common.{◌≡◌, List, ℕ, refl, ap, sym, ◌∙◌, inl, inr}
+use Rattle.std.specs.Borrow.{Bor}
+use Rattle.std.specs.Option.{option_flatten}
+use Rattle.std.specs.Prelude.{◌⊎◌, IfNone, IfSome, None, Option, Some, option_map}
+use Rattle.std.specs.Str.{chars}
+use Rattle.urlpattern.specs.Captured.{capture_view}
+use Rattle.urlpattern.specs.Captures.{captures_view}
+use Rattle.example.proofs.router.user.Goals as goal
+
+-- what a group captured, with the two ways of capturing nothing as one
+flat_view : (got : Option (Option (Bor (List ℕ)))) → option_flatten (option_map capture_view got) ≡ capture_view (option_flatten got)
+flat_view None = refl
+flat_view (Some capture) = refl
+
+some_captured : (capture : Option (Bor (List ℕ))) (Is : Option (List ℕ) → Type 0) → Is (capture_view capture) → IfSome capture (λ text. Is (Some (chars text.now)))
+some_captured None Is is = tt
+some_captured (Some text) Is is = is
+
+none_captured : (capture : Option (Bor (List ℕ))) (Is : Option (List ℕ) → Type 0) (Or : Type 0) → Is (capture_view capture) → IfNone capture (Or ⊎ Is None)
+none_captured None Is Or is = inr is
+none_captured (Some text) Is Or is = tt
+
+pub returns-clause-some : goal.returns-clause-some
+returns-clause-some g c =
+    some_captured c.flatten.result _
+    (captures_view c.in-Some.found, rw c.in-Some.is at c.in_ok-found.ensures.matched, ap option_flatten (sym c.get.ensures) ∙ flat_view c.get.result ∙ ap capture_view (sym c.flatten.ensures))
+
+pub returns-clause-none : goal.returns-clause-none
+returns-clause-none g c =
+    none_captured c.flatten.result _ _
+    (captures_view c.in-Some.found, rw c.in-Some.is at c.in_ok-found.ensures.matched, ap option_flatten (sym c.get.ensures) ∙ flat_view c.get.result ∙ ap capture_view (sym c.flatten.ensures))

@@ -1,0 +1,31 @@
+//! Rules for a cache: for how long a page is kept.
+
+ghost use Rattle.example.specs.FirstRule.{IsOfFirst};
+ghost use Rattle.std.specs.Prelude.{◌≡◌, length, IfErr, IfOk};
+ghost use Rattle.urlpattern.specs.FirstMatch.{patterns_view};
+
+use std::alloc::Global;
+use url::Url;
+use urlpattern::regexp::RegExp;
+use urlpattern::{Error, UrlPatternList, UrlPatternMatchInput};
+
+/// For how many seconds the page of a URL is kept: what stands beside the first pattern of the list that matches the URL, that
+/// of the least index. `None`: no pattern matches it.
+///
+/// The error is that memory ran out.
+pub fn max_age<R: RegExp>(
+    alloc: Global,
+    patterns: &UrlPatternList<R>,
+    ages: &[u32],
+    url: &Url,
+) -> Result<Option<u32>, Error>
+    requires { length ages.now ≡ length patterns.now }
+    ensures first { IfOk result (IsOfFirst R.answer (patterns_view patterns.now) ages.now (UrlPatternMatchInput.Url url.now)) }
+    ensures memory { IfErr result (λ error. error ≡ Error.OutOfMemory) }
+{
+    let Some((index, found)) = patterns.first_captures(alloc, url)? else {
+        return Ok(None);
+    };
+    drop(found);
+    Ok(ages.get(index).copied())
+}

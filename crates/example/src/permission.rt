@@ -1,0 +1,28 @@
+//! A permission check: which URLs may be seen.
+
+ghost use Rattle.std.specs.Prelude.{◌≡◌, IfErr, IfOk, IsTrue};
+ghost use Rattle.urlpattern.specs.Match.{HasMatch};
+ghost use Rattle.urlpattern.specs.Patterns.{pattern_view};
+
+use std::alloc::Global;
+use url::Url;
+use urlpattern::laws::tests_tell_matches;
+use urlpattern::regexp::RegExp;
+use urlpattern::{Error, UrlPattern, UrlPatternMatchInput};
+
+/// Whether a URL may be seen: true only of URLs that the pattern matches, and of each that it matches.
+///
+/// The error is that memory ran out, which tells nothing of the URL. It is not to be taken for a permission.
+pub fn is_permitted<R: RegExp>(
+    alloc: Global,
+    permitted: &UrlPattern<R>,
+    url: &Url,
+) -> Result<bool, Error>
+    ensures only { IfOk result (λ answer. IsTrue answer → HasMatch R.answer (pattern_view permitted.now) (UrlPatternMatchInput.Url url.now)) }
+    ensures each { IfOk result (λ answer. HasMatch R.answer (pattern_view permitted.now) (UrlPatternMatchInput.Url url.now) → IsTrue answer) }
+    ensures memory { IfErr result (λ error. error ≡ Error.OutOfMemory) }
+{
+    // A law of the library, which costs nothing to call: a test is not false where there is a match.
+    tests_tell_matches::<R>();
+    permitted.test_url(alloc, url)
+}

@@ -1,0 +1,40 @@
+//! A pattern that is printed and read again, as one that is kept in a file.
+
+ghost use Rattle.std.specs.Prelude.{◌≡◌, ◌↔◌, ℕ, List, map, string_bytes, IfErr, IfOk, MatchResult};
+ghost use Rattle.urlpattern.specs.Options.{options_view};
+ghost use Rattle.urlpattern.specs.PartMeaning.{Captures, PartsMean};
+ghost use Rattle.urlpattern.specs.Parts.{part_view};
+ghost use Rattle.urlpattern.specs.Printing.{joined};
+ghost use Rattle.urlpattern.specs.RoundTrip.{IsPrintable};
+
+use std::alloc::Global;
+use urlpattern::Error;
+use urlpattern::component::normalize_part_list;
+use urlpattern::laws::joining_keeps_meaning;
+use urlpattern::parser::{Options, Part};
+
+/// The parts that the printed text of parts is read as.
+///
+/// Nothing has changed: they are the parts that were printed, neighbouring plain fixed texts joined, and they mean the same
+/// texts with the same captures. The parts have to be printable, as those are that were read of a pattern without an empty
+/// fixed text, a tab or a line end.
+///
+/// The error is then that memory ran out.
+pub fn printed_and_read(
+    alloc: Global,
+    parts: &[Part],
+    options: &Options,
+) -> Result<Vec<Part>, Error>
+    ensures same { IsPrintable (options_view options.now) (map part_view parts.now) →
+        IfOk result (λ again. map part_view again.items ≡ joined (map part_view parts.now)) }
+    ensures meaning { IsPrintable (options_view options.now) (map part_view parts.now) →
+        IfOk result (λ again. (text : List ℕ) (captures : Captures) →
+        PartsMean (options_view options.now) (map part_view again.items) text captures ↔ PartsMean (options_view options.now) (map part_view parts.now) text captures) }
+    ensures memory { IsPrintable (options_view options.now) (map part_view parts.now) → IfErr result (λ error. error ≡ Error.OutOfMemory) }
+{
+    joining_keeps_meaning();
+    let unchanged = |text: &str| -> Result<String, Error>
+        ensures { MatchResult result (λ copy. string_bytes copy ≡ text.now) (λ error. error ≡ Error.OutOfMemory) }
+    { Ok(String::from_str(alloc, text)?) };
+    normalize_part_list(alloc, parts, options, unchanged)
+}

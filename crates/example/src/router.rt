@@ -1,0 +1,39 @@
+//! A router: what a URL under `/users/:id` names.
+
+ghost use Rattle.example.specs.Captured.{IsCaptured};
+ghost use Rattle.std.specs.Prelude.{◌≡◌, ◌⊎◌, IfErr, IfNone, IfOk, IfSome};
+ghost use Rattle.std.specs.Str.{chars};
+ghost use Rattle.urlpattern.specs.Match.{HasNoMatch};
+ghost use Rattle.urlpattern.specs.Patterns.{pattern_view};
+
+use std::alloc::Global;
+use url::Url;
+use urlpattern::regexp::RegExp;
+use urlpattern::{ComponentName, Error, UrlPattern, UrlPatternMatchInput};
+
+/// The pattern of users: what stands between `/users/` and the end of the path is the group `id`.
+pub const USERS: &str = "https://example.com/users/:id";
+
+/// The name of the group that has the user.
+const ID: &str = "id";
+
+/// The user that a URL names, borrowed from the URL: what the group `id` of the path captures. `None`: the pattern of users
+/// does not match the URL, or the group takes no part in the match.
+///
+/// The error is that memory ran out.
+pub fn user<'a, R: RegExp>(
+    alloc: Global,
+    users: &'a UrlPattern<R>,
+    url: &'a Url,
+) -> Result<Option<&'a str>, Error>
+    ensures some { IfOk result (λ found. IfSome found (λ id.
+        IsCaptured R.answer (pattern_view users.now) (UrlPatternMatchInput.Url url.now) ComponentName.Pathname (chars ID.now) (Some (chars id.now)))) }
+    ensures none { IfOk result (λ found. IfNone found (HasNoMatch R.answer (pattern_view users.now) (UrlPatternMatchInput.Url url.now)
+        ⊎ IsCaptured R.answer (pattern_view users.now) (UrlPatternMatchInput.Url url.now) ComponentName.Pathname (chars ID.now) None)) }
+    ensures memory { IfErr result (λ error. error ≡ Error.OutOfMemory) }
+{
+    let Some(found) = users.captures(alloc, url)? else {
+        return Ok(None);
+    };
+    Ok(found.get(ComponentName::Pathname, ID).flatten())
+}
