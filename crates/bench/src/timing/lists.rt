@@ -1,7 +1,8 @@
-//! Times the first match of lists of routes, in nanoseconds for each call.
+//! Times the first match of lists of routes, and the same paths in a `matchit::Router`, in nanoseconds for each call.
 
 use super::make_pattern;
 use super::rounds::{Timed, least};
+use matchit::Router;
 use std::alloc::Global;
 use std::borrow::CowStr;
 use std::io;
@@ -9,10 +10,11 @@ use std::io::Write;
 use std::time::Clock;
 use url::Url;
 use urlpattern::quirks::StringOrInit;
+use urlpattern::regexp::PatternRegexp;
 use urlpattern::{Error, UrlPatternList, UrlPatternMatchInput};
 
 /// How many routes the lists have.
-const SIZES: [usize; 3] = [10, 100, 1000];
+const SIZES: [usize; 4] = [10, 100, 1000, 10_000];
 
 /// The hosts of the routes, one after the other, each with a host that it matches.
 const HOSTS: [(&str, &str); 3] = [
@@ -21,13 +23,17 @@ const HOSTS: [(&str, &str); 3] = [
     ("*.example.org", "www.example.org"),
 ];
 
-/// How the paths of the routes end. Each end is taken for all hosts, one after the other, and each matches `list`.
-const ENDS: [&str; 3] = ["list", ":name", "*"];
+/// How the paths of the routes end, here and in a router. Each end is taken for all hosts, one after the other, and each matches
+/// `list`.
+const ENDS: [(&str, &str); 3] = [("list", "list"), (":name", "{name}"), ("*", "{*rest}")];
+
+/// A list of routes.
+type List = UrlPatternList<PatternRegexp>;
 
 /// Routes, and a URL that is looked for among them.
 #[derive(Drop)]
 struct Routes<'a> {
-    list: &'a UrlPatternList,
+    list: &'a List,
     url: Url,
 }
 
@@ -39,12 +45,48 @@ impl<'a> Timed for Routes<'a> {
     }
 }
 
+/// Routes, and a URL that is lent, looked for among them.
+#[derive(Drop)]
+struct Lent<'a> {
+    list: &'a List,
+    url: Url,
+}
+
+impl<'a> Timed for Lent<'a> {
+    #[inline(never)]
+    fn call(&self, alloc: Global) -> Result<bool, Error> {
+        let found = self.list.first_captures(alloc, &self.url)?;
+        let is_found = found.is_some();
+        drop(found);
+        Ok(is_found)
+    }
+}
+
+/// The paths of routes, and a path that is looked for among them.
+#[derive(Drop)]
+struct Paths<'a> {
+    router: &'a Router<usize>,
+    path: String,
+}
+
+impl<'a> Timed for Paths<'a> {
+    #[inline(never)]
+    fn call(&self, _alloc: Global) -> Result<bool, Error> {
+        Ok(self.router.at(&self.path).is_ok())
+    }
+}
+
+/// How the path of the route at an index ends, here and in a router.
+fn end_of(index: usize) -> (&'static str, &'static str) {
+    ENDS[index / HOSTS.len() % ENDS.len()]
+}
+
 /// The routes with the indices below a size.
-fn list_of_routes(alloc: Global, size: usize) -> Result<UrlPatternList, Error> {
-    let mut list = UrlPatternList::new(alloc);
+fn list_of_routes(alloc: Global, size: usize) -> Result<List, Error> {
+    let mut list = List::new(alloc);
     for index in 0..size {
         let (host, _) = HOSTS[index % HOSTS.len()];
-        let end = ENDS[index / HOSTS.len() % ENDS.len()];
+        let (end, _) = end_of(index);
         let text = format!(in alloc; "https://{host}/route{index}/{end}")?;
         let given = StringOrInit::String(CowStr::Borrowed(&text));
         if list
@@ -57,6 +99,19 @@ fn list_of_routes(alloc: Global, size: usize) -> Result<UrlPatternList, Error> {
     Ok(list)
 }
 
+/// The paths of the routes with the indices below a size.
+fn router_of_paths(alloc: Global, size: usize) -> Result<Router<usize>, Error> {
+    let mut router = Router::new(alloc);
+    for index in 0..size {
+        let (_, end) = end_of(index);
+        let text = format!(in alloc; "/route{index}/{end}")?;
+        if router.insert(&text, index).is_err() {
+            return Err(Error::OutOfMemory);
+        }
+    }
+    Ok(router)
+}
+
 /// A URL that the route at an index matches, and no other route.
 fn url_of(alloc: Global, index: usize) -> Result<Url, Error> {
     let (_, host) = HOSTS[index % HOSTS.len()];
@@ -64,10 +119,10 @@ fn url_of(alloc: Global, index: usize) -> Result<Url, Error> {
     Url::parse(alloc, &text).map_err(Error::Url)
 }
 
-/// Prints what lists of routes take: their size, and a column each for a URL that the first, the middle and the last of them
-/// matches, and one that none does.
+/// Prints what lists of routes take: their size, what is called, and a column each for a URL that the first, the middle and the
+/// last of them matches, and one that none does.
 pub fn run<R: AllocGlobal + Clock, O: Write>(rt: &R, out: &mut O) -> io::Result<()> {
-    writeln!(out, "routes\tfirst\tmiddle\tlast\tnone")?;
+    writeln!(out, "routes\tcall\tfirst\tmiddle\tlast\tnone")?;
     for size in SIZES {
         match list_of_routes(rt.alloc(), size) {
             Ok(list) => {
@@ -77,19 +132,28 @@ pub fn run<R: AllocGlobal + Clock, O: Write>(rt: &R, out: &mut O) -> io::Result<
             }
             Err(error) => writeln!(out, "{size}\t{error}")?,
         }
+        match router_of_paths(rt.alloc(), size) {
+            Ok(router) => time_router(rt, &router, size, out)?,
+            Err(error) => writeln!(out, "{size}\t{error}")?,
+        }
     }
     Ok(())
+}
+
+/// The indices of the routes that are looked for in a list of a size. The last of them is none of the list.
+fn looked_for(size: usize) -> [usize; 4] {
+    [0, size / 2, size.saturating_sub(1), size]
 }
 
 /// Prints what a list takes.
 fn time_list<R: AllocGlobal + Clock, O: Write>(
     rt: &R,
-    list: &UrlPatternList,
+    list: &List,
     size: usize,
     out: &mut O,
 ) -> io::Result<()> {
-    write!(out, "{size}")?;
-    for index in [0, size / 2, size.saturating_sub(1), size] {
+    write!(out, "{size}\tfirst_match")?;
+    for index in looked_for(size) {
         match url_of(rt.alloc(), index) {
             Ok(url) => {
                 let time = least(rt, rt.alloc(), &Routes { list, url })?;
@@ -97,6 +161,32 @@ fn time_list<R: AllocGlobal + Clock, O: Write>(
             }
             Err(error) => write!(out, "\t{error}")?,
         }
+    }
+    write!(out, "\n{size}\tfirst_captures")?;
+    for index in looked_for(size) {
+        match url_of(rt.alloc(), index) {
+            Ok(url) => {
+                let time = least(rt, rt.alloc(), &Lent { list, url })?;
+                write!(out, "\t{time}")?;
+            }
+            Err(error) => write!(out, "\t{error}")?,
+        }
+    }
+    writeln!(out)
+}
+
+/// Prints what a router of the same paths takes.
+fn time_router<R: AllocGlobal + Clock, O: Write>(
+    rt: &R,
+    router: &Router<usize>,
+    size: usize,
+    out: &mut O,
+) -> io::Result<()> {
+    write!(out, "{size}\tmatchit")?;
+    for index in looked_for(size) {
+        let path = format!(in rt.alloc(); "/route{index}/list")?;
+        let time = least(rt, rt.alloc(), &Paths { router, path })?;
+        write!(out, "\t{time}")?;
     }
     writeln!(out)
 }
