@@ -1,9 +1,12 @@
 pub mod Tried
+pub mod Rounds
 pub mod Walks
+pub mod RepeatLemmas
 pub mod RunLemmas
 pub mod FollowLemmas
 pub mod ReadingLemmas
 pub mod StepLemmas
+pub mod CopyLemmas
 pub mod TwoRegexes
 pub mod EngineLaws
 pub mod StepExamples

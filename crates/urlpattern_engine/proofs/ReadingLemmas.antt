@@ -1,20 +1,24 @@
 -- From the text of an expression to a tree and its steps.
-use Rattle.std.proofs.Common.{◌≡◌, ℕ, ◌≤◌, List, [], ◌∷◌, ◌++◌, ◌-◌, length, take, drop, Option, Some, None, Bool, true, false, refl, sym, ap, ap₂, ◌∙◌, subst, append-nil, append_assoc, length-append, codes, ◌==◌, ne_eqb, arith}
+use Rattle.std.proofs.Common.{◌≡◌, ℕ, zero, suc, ◌<◌, ◌≤◌, List, [], ◌∷◌, ◌++◌, ◌-◌, length, take, drop, Option, Some, None, Bool, true, false, refl, sym, ap, ◌∙◌, subst, append-nil, append_assoc, length-append, codes, ◌==◌, ne_eqb, arith}
 use Rattle.std.proofs.lemmas.Bool.{false≢true}
-use Rattle.std.proofs.lemmas.List.{take-append-le, drop-append-le, length-drop}
+use Rattle.std.proofs.lemmas.List.{take-append-le, drop-append-le, length-drop, set_split}
 use Rattle.std.proofs.Math.Nat.{le_refl}
 use Rattle.std.proofs.Math.Seq.{take-length, drop-length}
-use Rattle.std.specs.Prelude.{◌≢◌, IfSome, is_some, insert}
+use Rattle.std.specs.Prelude.{◌≢◌, IfSome, is_some, insert, set}
 use Rattle.urlpattern_laws.specs.Dialect.{AnyBut, AreItems, AllowsGroups, Atom, Captured, Character, Plain, Escaped, Dot, Grouped, IsAtom, IsCharacter, IsClassCharacter, IsTreeOf, Item, Items, LazyOneOrMore, Nothing, Once, Optional, Quantifier, ZeroOrMore, atom_group_count, atom_text, character_of, character_text, items_text, quantifier_text}
 use Rattle.urlpattern_laws.specs.Dialect as dialect
 use Rattle.urlpattern_syntax.specs.RegexpText.{captured}
+use Rattle.urlpattern_engine.specs.declared.reading.Times.{Times}
+use Rattle.urlpattern_engine.specs.declared.reading.Times.TheVariants as times
 use Rattle.urlpattern_engine.specs.declared.reading.Token.TheVariants.{Close, MaybeStep}
 use Rattle.urlpattern_engine.specs.declared.step.Group.{Group}
+use Rattle.urlpattern_engine.specs.declared.step.Stretch.{Stretch}
 use Rattle.urlpattern_engine.specs.declared.step.Step.{Step}
-use Rattle.urlpattern_engine.specs.declared.step.Step.TheVariants.{Literal, Segment, Anything, Maybe}
-use Rattle.urlpattern_engine.specs.Reading.{AreStepsOf, BeginsWithCaptured, BeginsWithCharacter, BeginsWithToken, IsStepOf, IsToken, Spells, optional_text}
+use Rattle.urlpattern_engine.specs.declared.step.Step.TheVariants.{Literal, Segment, Anything, Maybe, Copies}
+use Rattle.urlpattern_engine.specs.Reading.{AreCopies, AreLiterals, AreStepsOf, BeginsWithCaptured, BeginsWithCharacter, BeginsWithToken, IsGroup, IsStepOf, IsToken, Spells, times_text}
 use Rattle.urlpattern_engine.specs.Steps.{capture_count}
-use Rattle.urlpattern_engine.proofs.Walks.{Walks, walks-nothing, walks-inside, walks-once, walks-maybe, walks-step, walk_is_first}
+use Rattle.urlpattern_engine.proofs.RepeatLemmas.{copied, walks-copies}
+use Rattle.urlpattern_engine.proofs.Walks.{Walks, literals_uncaptured, walks-nothing, walks-inside, walks-once, walks-maybe, walks-step, walk_is_first}
 
 -- what holds of what is there by two facts
 pub if_some : {A : Type 0} (P Q : A → Type 0) (o : Option A) → ((x : A) → P x → Q x) → IfSome o P → IfSome o Q
@@ -78,6 +82,7 @@ captures_one (Literal c) items is = absurd (captured_literal is.0 items is.2)
 captures_one (Segment c) items is = refl
 captures_one Anything items is = refl
 captures_one (Maybe group) items is = absurd is
+captures_one (Copies copies) items is = absurd is
 
 pub captured-maybe : (text bracket behind rest : List ℕ) (step : Step) → BeginsWithCaptured text step bracket → bracket ≡ codes ")" ++ behind → behind ≡ codes "?" ++ rest
     → BeginsWithToken (codes "(" ++ text) (MaybeStep step) rest
@@ -85,8 +90,8 @@ captured-maybe text bracket behind rest step begins e f =
     let once = captured-spells text bracket behind step begins e in
     (once.0 ++ codes "?", (once.0, captures_one step begins.0 begins.2, once.1, refl), once.2 ∙ ap (λ t. once.0 ++ t) f ∙ sym (append_assoc once.0 (codes "?") rest))
 
-pub close-optional : (text behind rest : List ℕ) → text ≡ codes ")" ++ behind → behind ≡ codes "?" ++ rest → BeginsWithToken text (Close true) rest
-close-optional text behind rest e f = (codes ")?", refl, e ∙ ap (λ t. codes ")" ++ t) f)
+pub close-spells : (text behind rest : List ℕ) (times : Times) → text ≡ codes ")" ++ behind → behind ≡ times_text times ++ rest → BeginsWithToken text (Close times) rest
+close-spells text behind rest times e f = (codes ")" ++ times_text times, refl, e ∙ ap (λ t. codes ")" ++ t) f ∙ sym (append_assoc (codes ")") (times_text times) rest))
 
 pub literal-spells : (text rest : List ℕ) (c : ℕ) → BeginsWithCharacter IsCharacter text c rest → (front : List ℕ) × Spells (Literal c) front × (text ≡ front ++ rest)
 literal-spells text rest c (character, is, same, e) = (character_text character, (dialect.Literal character, is, (character, same, refl), refl), e)
@@ -101,18 +106,13 @@ StandBefore remaining text steps = (tree : Items) × (text ≡ items_text tree +
 abbrev pub IsEnd : (text : List ℕ) → List Step → Type 0
 IsEnd text steps = StandBefore (codes "$") text steps
 
--- the same inside of brackets, after which a question mark may stand
-abbrev pub IsInnerEnd : (text : List ℕ) → (own : List Step) → (is_optional : Bool) → (others : List Step) → Type 0
-IsInnerEnd text own is_optional others = (outer : List ℕ) × StandBefore (codes ")" ++ (optional_text is_optional ++ outer)) text own × IsEnd outer others
+-- the same inside of brackets, which are closed then
+abbrev pub IsInnerEnd : (text : List ℕ) → (own : List Step) → Times → (others : List Step) → Type 0
+IsInnerEnd text own times others = (outer : List ℕ) × StandBefore (codes ")" ++ (times_text times ++ outer)) text own × IsEnd outer others
 
 -- a whole expression with its steps
 abbrev pub IsWhole : (regexp : List ℕ) → List Step → Type 0
 IsWhole regexp steps = (tree : Items) × IsTreeOf regexp tree × Walks tree steps
-
--- the steps of a group
-abbrev pub group_steps : (is_optional : Bool) → List Step → List Step
-group_steps true own = Maybe (record { steps = length own; captures = capture_count own }) ∷ own
-group_steps false own = own
 
 -- whatever is read of the text that is left, the whole is read with what was read before; inside of brackets the steps of these
 -- begin at a place
@@ -120,8 +120,8 @@ abbrev pub IsBegun : (regexp : List ℕ) → (opened : Option ℕ) → (rest : L
 IsBegun regexp None rest done = (steps : List Step) → IsEnd rest steps → IsWhole regexp (done ++ steps)
 IsBegun regexp (Some first) rest done =
     (first ≤ length done)
-    × ((own : List Step) (is_optional : Bool) (others : List Step) → IsInnerEnd rest own is_optional others
-    → IsWhole regexp (take first done ++ (group_steps is_optional (drop first done ++ own) ++ others)))
+    × ((own : List Step) (times : Times) (group others : List Step) → IsGroup times (drop first done ++ own) group → IsInnerEnd rest own times others
+    → IsWhole regexp (take first done ++ (group ++ others)))
 
 -- the text is that of an atom with a quantifier, with its steps
 pub record SpellsAll (own : List Step) (front : List ℕ) : Type 0 where
@@ -163,24 +163,52 @@ spells-maybe step group front e f (inner, one, (atom, is, of, g), h) = record {
   walks = λ items others next. walks-maybe atom items group (step ∷ []) others (walks-step step atom of) next e f;
 }
 
-grouped-spells : (inner : Items) (own : List Step) (is_optional : Bool) → AreItems inner → Walks inner own
-    → SpellsAll (group_steps is_optional own) (codes "(?:" ++ (items_text inner ++ (codes ")" ++ optional_text is_optional)))
-grouped-spells inner own false are walks = record {
+-- the text of a group with its quantifier
+grouped_text : (inner others : List ℕ) → codes "(?:" ++ (inner ++ (codes ")" ++ others)) ≡ (codes "(?:" ++ (inner ++ codes ")")) ++ others
+grouped_text inner others = ap (λ t. codes "(?:" ++ t) (sym (append_assoc inner (codes ")") others))
+
+copies-spell : (may_be_missing : Bool) (inner : Items) (own group : List Step) → AreItems inner → Walks inner own → AreCopies may_be_missing own group
+    → SpellsAll group (codes "(?:" ++ (items_text inner ++ (codes ")" ++ quantifier_text (copied may_be_missing))))
+copies-spell may_be_missing inner own group are walks (c, others, first, plain, is) =
+    let inside = walks-inside inner (Literal c ∷ others) (subst (Walks inner) first walks) in
+    let none : atom_group_count (Grouped inner) ≡ 0 = inside.count ∙ literals_uncaptured others plain in
+    subst (λ (steps : List Step). SpellsAll steps (codes "(?:" ++ (items_text inner ++ (codes ")" ++ quantifier_text (copied may_be_missing))))) (sym is)
+    (record {
+      atom = Grouped inner;
+      quantifier = copied may_be_missing;
+      is_atom = are;
+      allows = copied_allows may_be_missing (atom_group_count (Grouped inner)) none;
+      spelled = grouped_text (items_text inner) (quantifier_text (copied may_be_missing));
+      walks = λ items further next. walks-copies may_be_missing (Grouped inner) items c others further inside plain next;
+    })
+  where
+    copied_allows : (may_be_missing : Bool) (groups : ℕ) → groups ≡ 0 → AllowsGroups (copied may_be_missing) groups
+    copied_allows true groups e = e
+    copied_allows false groups e = e
+
+grouped-spells : (times : Times) (inner : Items) (own group : List Step) → AreItems inner → Walks inner own → IsGroup times own group
+    → SpellsAll group (codes "(?:" ++ (items_text inner ++ (codes ")" ++ times_text times)))
+grouped-spells times.Once inner own group are walks is = record {
   atom = Grouped inner;
   quantifier = Once;
   is_atom = are;
   allows = tt;
-  spelled = ap (λ t. codes "(?:" ++ t) (ap (λ t. items_text inner ++ t) (append-nil (codes ")"))) ∙ sym (append-nil (codes "(?:" ++ (items_text inner ++ codes ")")));
-  walks = λ items others next. walks-once (Grouped inner) items own others (walks-inside inner own walks) next;
+  spelled = grouped_text (items_text inner) [];
+  walks = λ items others next. subst (λ (steps : List Step). Walks (Item (Grouped inner) Once items) (steps ++ others)) (sym is) (walks-once (Grouped inner) items own others (walks-inside inner own walks) next);
 }
-grouped-spells inner own true are walks = record {
-  atom = Grouped inner;
-  quantifier = Optional;
-  is_atom = are;
-  allows = tt;
-  spelled = ap (λ t. codes "(?:" ++ t) (sym (append_assoc (items_text inner) (codes ")") (codes "?")));
-  walks = λ items others next. walks-maybe (Grouped inner) items (record { steps = length own; captures = capture_count own }) own others (walks-inside inner own walks) next refl refl;
-}
+grouped-spells times.Optional inner own group are walks is =
+    let missing : Group = record { steps = length own; captures = capture_count own } in
+    record {
+      atom = Grouped inner;
+      quantifier = Optional;
+      is_atom = are;
+      allows = tt;
+      spelled = grouped_text (items_text inner) (codes "?");
+      walks = λ items others next. subst (λ (steps : List Step). Walks (Item (Grouped inner) Optional items) (steps ++ others)) (sym is)
+          (walks-maybe (Grouped inner) items missing own others (walks-inside inner own walks) next refl refl);
+    }
+grouped-spells times.ZeroOrMore inner own group are walks is = copies-spell true inner own group are walks is
+grouped-spells times.OneOrMore inner own group are walks is = copies-spell false inner own group are walks is
 
 pub begun : (regexp rest : List ℕ) → regexp ≡ codes "^" ++ rest → IsBegun regexp None rest []
 begun regexp rest e steps (tree, f, are, walks) = (tree, (e ∙ ap (λ t. codes "^" ++ t) f, are), walks)
@@ -191,39 +219,37 @@ begun-more regexp None text front rest done own so_far spells e =
     λ steps end. subst (IsWhole regexp) (sym (append_assoc done own steps)) (so_far (own ++ steps) (before-more own (codes "$") text front rest steps spells e end))
 begun-more regexp (Some first) text front rest done own (le, so_far) spells e = (
   omega (arith, le, length-append done own),
-  λ others is_optional further (outer, inner, end).
-      subst (IsWhole regexp)
-      (ap₂ (λ a b. a ++ (group_steps is_optional b ++ further))
-      (sym (take-append-le first done own le))
-      (sym (append_assoc (drop first done) own others) ∙ ap (λ l. l ++ others) (sym (drop-append-le first done own le))))
-      (so_far (own ++ others) is_optional further
-      (outer, before-more own (codes ")" ++ (optional_text is_optional ++ outer)) text front rest others spells e inner, end)),
+  λ others times group further is (outer, inner, end).
+      let front_same : take first (done ++ own) ≡ take first done = take-append-le first done own le in
+      let back_same : drop first (done ++ own) ++ others ≡ drop first done ++ (own ++ others) =
+      ap (λ l. l ++ others) (drop-append-le first done own le) ∙ append_assoc (drop first done) own others in
+      subst (λ (l : List Step). IsWhole regexp (l ++ (group ++ further))) (sym front_same)
+      (so_far (own ++ others) times group further (subst (λ (l : List Step). IsGroup times l group) back_same is)
+      (outer, before-more own (codes ")" ++ (times_text times ++ outer)) text front rest others spells e inner, end)),
 )
 
 pub begun-open : (regexp text front rest : List ℕ) (done : List Step) → IsBegun regexp None text done → front ≡ codes "(?:" → text ≡ front ++ rest
     → IsBegun regexp (Some (length done)) rest done
 begun-open regexp text front rest done so_far f e = (
   le_refl (length done),
-  λ own is_optional others (outer, (inner, g, are, walks), end).
-      let spells = grouped-spells inner own is_optional are walks in
-      let whole : text ≡ (codes "(?:" ++ (items_text inner ++ (codes ")" ++ optional_text is_optional))) ++ outer =
+  λ own times group others is (outer, (inner, g, are, walks), end).
+      let spells = grouped-spells times inner own group are walks (subst (λ (l : List Step). IsGroup times (l ++ own) group) (drop-length done) is) in
+      let whole : text ≡ (codes "(?:" ++ (items_text inner ++ (codes ")" ++ times_text times))) ++ outer =
       e ∙ ap (λ t. t ++ rest) f
       ∙ ap (λ t. codes "(?:" ++ t)
-      (g ∙ ap (λ t. items_text inner ++ t) (sym (append_assoc (codes ")") (optional_text is_optional) outer))
-      ∙ sym (append_assoc (items_text inner) (codes ")" ++ optional_text is_optional) outer)) in
-      subst (IsWhole regexp)
-      (ap₂ (λ a b. a ++ (group_steps is_optional (b ++ own) ++ others)) (sym (take-length done)) (sym (drop-length done)))
-      (so_far (group_steps is_optional own ++ others) (before-more (group_steps is_optional own) (codes "$") text _ outer others spells whole end)),
+      (g ∙ ap (λ t. items_text inner ++ t) (sym (append_assoc (codes ")") (times_text times) outer))
+      ∙ sym (append_assoc (items_text inner) (codes ")" ++ times_text times) outer)) in
+      subst (λ (l : List Step). IsWhole regexp (l ++ (group ++ others))) (sym (take-length done))
+      (so_far (group ++ others) (before-more group (codes "$") text _ outer others spells whole end)),
 )
 
-pub begun-close : (regexp text front rest : List ℕ) (first : ℕ) (is_optional : Bool) (done : List Step) → IsBegun regexp (Some first) text done
-    → front ≡ codes ")" ++ optional_text is_optional → text ≡ front ++ rest
-    → IsBegun regexp None rest (take first done ++ group_steps is_optional (drop first done))
-begun-close regexp text front rest first is_optional done (le, so_far) f e steps end =
-    let whole : text ≡ codes ")" ++ (optional_text is_optional ++ rest) = e ∙ ap (λ t. t ++ rest) f ∙ append_assoc (codes ")") (optional_text is_optional) rest in
-    subst (IsWhole regexp)
-    (ap (λ l. take first done ++ (group_steps is_optional l ++ steps)) (append-nil (drop first done)) ∙ sym (append_assoc (take first done) (group_steps is_optional (drop first done)) steps))
-    (so_far [] is_optional steps (rest, (Nothing, whole, tt, walks-nothing), end))
+pub begun-close : (regexp text front rest : List ℕ) (first : ℕ) (times : Times) (done group : List Step) → IsBegun regexp (Some first) text done
+    → IsGroup times (drop first done) group → front ≡ codes ")" ++ times_text times → text ≡ front ++ rest
+    → IsBegun regexp None rest (take first done ++ group)
+begun-close regexp text front rest first times done group (le, so_far) is f e steps end =
+    let whole : text ≡ codes ")" ++ (times_text times ++ rest) = e ∙ ap (λ t. t ++ rest) f ∙ append_assoc (codes ")") (times_text times) rest in
+    subst (IsWhole regexp) (sym (append_assoc (take first done) group steps))
+    (so_far [] times group steps (subst (λ (l : List Step). IsGroup times l group) (sym (append-nil (drop first done))) is) (rest, (Nothing, whole, tt, walks-nothing), end))
 
 take_rest : (steps : List Step) (first : ℕ) → take (length steps - first) (drop first steps) ≡ drop first steps
 take_rest steps first = ap (λ n. take n (drop first steps)) (sym (length-drop first steps)) ∙ take-length (drop first steps)
@@ -231,12 +257,32 @@ take_rest steps first = ap (λ n. take n (drop first steps)) (sym (length-drop f
 -- the step before a group that may be missing is put where the group begins
 pub inserted : (done now : List Step) (first : ℕ) (group : Group) → now ≡ done
     → group ≡ record { steps = length (take (length now - first) (drop first now)); captures = capture_count (take (length now - first) (drop first now)) }
-    → take first done ++ group_steps true (drop first done) ≡ insert done first (Maybe group)
+    → insert done first (Maybe group) ≡ take first done ++ (Maybe (record { steps = length (drop first done); captures = capture_count (drop first done) }) ∷ drop first done)
 inserted done now first group same is =
     let whole : take (length now - first) (drop first now) ≡ drop first done = take_rest now first ∙ ap (drop first) same in
     let spelled : group ≡ record { steps = length (drop first done); captures = capture_count (drop first done) } =
     is ∙ ap (λ (own : List Step). record { steps = length own; captures = capture_count own }) whole in
-    ap (λ (g : Group). take first done ++ (Maybe g ∷ drop first done)) (sym spelled)
+    ap (λ (g : Group). take first done ++ (Maybe g ∷ drop first done)) spelled
+
+-- what follows the first of the steps that are left
+pub drop-one : (n : ℕ) (steps : List Step) (step : Step) (rest : List Step) → drop n steps ≡ step ∷ rest → drop (suc n) steps ≡ rest
+drop-one zero steps step rest e = ap (drop 1) e
+drop-one (suc n) [] step rest e = cc
+drop-one (suc n) (other ∷ steps) step rest e = drop-one n steps step rest e
+
+-- the first of the steps of copies is put where the copies begin
+pub copies_set : (done now : List Step) (first : ℕ) (may_be_missing : Bool) (text : Stretch) → first ≤ length done → now ≡ done
+    → ((others : List Step) × (take (length now - first) (drop first now) ≡ Literal text.first ∷ others) × AreLiterals others × (text.others ≡ length others))
+    → (group : List Step) × AreCopies may_be_missing (drop first done) group × (set done first (Copies (record { text = text; may_be_missing = may_be_missing })) ≡ take first done ++ group)
+copies_set done now first may_be_missing text le same (others, own, plain, count) =
+    let whole : drop first done ≡ Literal text.first ∷ others = ap (drop first) (sym same) ∙ sym (take_rest now first) ∙ own in
+    let copies : Step = Copies (record { text = text; may_be_missing = may_be_missing }) in
+    let lt : first < length done = omega (arith, ap length whole, length-drop first done) in
+    let behind : drop (suc first) done ≡ others = drop-one first done (Literal text.first) others whole in (
+      copies ∷ others,
+      (text.first, others, whole, plain, ap (λ n. Copies (record { text = record { first = text.first; others = n }; may_be_missing = may_be_missing }) ∷ others) count),
+      set_split done first copies lt ∙ ap (λ l. take first done ++ (copies ∷ l)) behind,
+    )
 
 pub begun-ends : (regexp rest : List ℕ) (done : List Step) → IsBegun regexp None rest done → rest ≡ codes "$" → AreStepsOf regexp done
 begun-ends regexp rest done so_far e =

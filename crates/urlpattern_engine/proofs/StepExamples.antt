@@ -1,6 +1,6 @@
 -- What steps capture, by examples.
-use Rattle.std.proofs.Common.{◌≡◌, [], ◌∷◌, Some, None, codes, refl}
-use Rattle.urlpattern_engine.specs.declared.step.Step.TheVariants.{Literal, Segment, Anything, Maybe}
+use Rattle.std.proofs.Common.{◌≡◌, [], ◌∷◌, Some, None, true, false, codes, refl}
+use Rattle.urlpattern_engine.specs.declared.step.Step.TheVariants.{Literal, Segment, Anything, Maybe, Copies}
 use Rattle.urlpattern_engine.specs.Steps.{walk}
 
 -- ---- of `^/([^/]+?)$`
@@ -42,3 +42,24 @@ missing_group = refl
 
 pub group_that_is_there : walk (Maybe (record { steps = 2; captures = 1 }) ∷ Literal 47 ∷ Segment 47 ∷ []) (codes "/a") ≡ Some (Some (codes "a") ∷ [])
 group_that_is_there = refl
+
+-- ---- of `^(?:ab)*a$`
+
+pub no_copies : walk (Copies (record { text = record { first = 97; others = 1 }; may_be_missing = true }) ∷ Literal 98 ∷ Literal 97 ∷ []) (codes "a") ≡ Some []
+no_copies = refl
+
+pub two_copies : walk (Copies (record { text = record { first = 97; others = 1 }; may_be_missing = true }) ∷ Literal 98 ∷ Literal 97 ∷ []) (codes "ababa") ≡ Some []
+two_copies = refl
+
+-- ---- of `^(?:a)+(.*)$`
+
+pub most_copies_first : walk (Copies (record { text = record { first = 97; others = 0 }; may_be_missing = false }) ∷ Anything ∷ []) (codes "aab") ≡ Some (Some (codes "b") ∷ [])
+most_copies_first = refl
+
+pub one_copy_at_least : walk (Copies (record { text = record { first = 97; others = 0 }; may_be_missing = false }) ∷ Anything ∷ []) (codes "b") ≡ None
+one_copy_at_least = refl
+
+-- ---- of `^(?:a)+ab$`
+
+pub fewer_copies : walk (Copies (record { text = record { first = 97; others = 0 }; may_be_missing = false }) ∷ Literal 97 ∷ Literal 98 ∷ []) (codes "aab") ≡ Some []
+fewer_copies = refl

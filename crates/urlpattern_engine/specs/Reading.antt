@@ -1,11 +1,13 @@
 -- Which steps the text of an expression is read as.
-use Rattle.std.specs.Prelude.{◌≡◌, ℕ, Bool, List, [], ◌∷◌, ◌++◌, codes, if◌then◌else◌}
+use Rattle.std.specs.Prelude.{◌≡◌, ℕ, Bool, true, false, length, List, [], ◌∷◌, ◌++◌, codes}
+use Rattle.urlpattern_engine.specs.declared.reading.Times.{Times}
+use Rattle.urlpattern_engine.specs.declared.reading.Times.TheVariants as times
 use Rattle.urlpattern_engine.specs.declared.reading.Token.{Token}
 use Rattle.urlpattern_engine.specs.declared.reading.Token.TheVariants.{Open, Close, Step as One, MaybeStep}
 use Rattle.urlpattern_engine.specs.declared.step.Step.{Step}
-use Rattle.urlpattern_engine.specs.declared.step.Step.TheVariants.{Literal, Segment, Anything, Maybe}
+use Rattle.urlpattern_engine.specs.declared.step.Step.TheVariants.{Literal, Segment, Anything, Maybe, Copies}
 use Rattle.urlpattern_engine.specs.Steps.{capture_count, walk}
-use Rattle.urlpattern_laws.specs.Dialect.{AnyBut, AreItems, Atom, Captured, Character, Dot, IsAtom, IsCharacter, IsClassCharacter, IsTreeOf, Item, Items, LazyOneOrMore, Nothing, ZeroOrMore, atom_text, character_of, character_text, items_text}
+use Rattle.urlpattern_laws.specs.Dialect.{AnyBut, AreItems, Atom, Captured, Character, Dot, IsAtom, IsCharacter, IsClassCharacter, IsTreeOf, Item, Items, LazyOneOrMore, Nothing, Quantifier, ZeroOrMore, atom_text, character_of, character_text, items_text, quantifier_text}
 use Rattle.urlpattern_laws.specs.Dialect as dialect
 use Rattle.urlpattern_laws.specs.Ways.{first_way}
 use Rattle.urlpattern_syntax.specs.Text.{line_feed}
@@ -31,6 +33,7 @@ IsStepOf (Literal c) atom = (character : Character) × (character_of character �
 IsStepOf (Segment c) atom = (one : Atom) × IsAllBut c one × (atom ≡ Captured (Item one LazyOneOrMore Nothing))
 IsStepOf Anything atom = atom ≡ Captured (Item Dot ZeroOrMore Nothing)
 IsStepOf (Maybe group) atom = ⊥
+IsStepOf (Copies copies) atom = ⊥
 
 -- the text is that of an atom that the step stands for
 abbrev pub Spells : Step → List ℕ → Type 0
@@ -41,20 +44,46 @@ abbrev pub BeginsWithCaptured : (text : List ℕ) → Step → (rest : List ℕ)
 BeginsWithCaptured text step rest =
     (items : Items) × AreItems items × IsStepOf step (Captured items) × (text ≡ items_text items ++ rest)
 
--- how it is written that a group may be missing
-abbrev pub optional_text : Bool → List ℕ
-optional_text is_optional = if is_optional then codes "?" else []
+-- how often a group is taken, and how that is written
+abbrev pub quantifier_of : Times → Quantifier
+quantifier_of times.Once = dialect.Once
+quantifier_of times.Optional = dialect.Optional
+quantifier_of times.ZeroOrMore = dialect.ZeroOrMore
+quantifier_of times.OneOrMore = dialect.OneOrMore
+
+abbrev pub times_text : Times → List ℕ
+times_text times = quantifier_text (quantifier_of times)
 
 -- the text is that of the token
 abbrev pub IsToken : Token → List ℕ → Type 0
 IsToken Open text = text ≡ codes "(?:"
-IsToken (Close is_optional) text = text ≡ codes ")" ++ optional_text is_optional
+IsToken (Close times) text = text ≡ codes ")" ++ times_text times
 IsToken (One step) text = Spells step text
 IsToken (MaybeStep step) text = (front : List ℕ) × (capture_count (step ∷ []) ≡ 1) × Spells step front × (text ≡ front ++ codes "?")
 
 -- the token stands at the front of the text, and the rest follows
 abbrev pub BeginsWithToken : (text : List ℕ) → Token → (rest : List ℕ) → Type 0
 BeginsWithToken text token rest = (front : List ℕ) × IsToken token front × (text ≡ front ++ rest)
+
+-- ---- groups
+
+abbrev pub AreLiterals : List Step → Type 0
+AreLiterals [] = Unit {0}
+AreLiterals (Literal c ∷ steps) = AreLiterals steps
+AreLiterals (step ∷ steps) = ⊥
+
+-- copies of the text that is made up of the steps
+abbrev pub AreCopies : (may_be_missing : Bool) → (own group : List Step) → Type 0
+AreCopies may_be_missing own group =
+    (c : ℕ) × (others : List Step) × (own ≡ Literal c ∷ others) × AreLiterals others
+    × (group ≡ Copies (record { text = record { first = c; others = length others }; may_be_missing = may_be_missing }) ∷ others)
+
+-- the steps of a group that is taken so often, by the steps within it
+abbrev pub IsGroup : Times → (own group : List Step) → Type 0
+IsGroup times.Once own group = group ≡ own
+IsGroup times.Optional own group = group ≡ Maybe (record { steps = length own; captures = capture_count own }) ∷ own
+IsGroup times.ZeroOrMore own group = AreCopies true own group
+IsGroup times.OneOrMore own group = AreCopies false own group
 
 -- ---- expressions
 

@@ -7,6 +7,7 @@
 pub mod laws;
 mod pattern_regexp;
 mod reading;
+mod repeats;
 mod step;
 mod texts;
 mod walk;

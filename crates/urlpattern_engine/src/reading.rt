@@ -1,14 +1,14 @@
 //! Reads the text of an expression as steps.
 
-ghost use Rattle.std.specs.Prelude.{◌≡◌, ◌∷◌, ◌++◌, ℕ, ◌<◌, List, length, codes, IfOk, IfSome, IsTrue};
+ghost use Rattle.std.specs.Prelude.{◌≡◌, ◌∷◌, ◌++◌, ℕ, ◌<◌, ◌≤◌, List, length, take, drop, codes, IfOk, IfSome, IsTrue};
 ghost use Rattle.std.specs.Str.{chars};
-ghost use Rattle.urlpattern_engine.specs.Reading.{AreStepsOf, BeginsWithCaptured, BeginsWithCharacter, BeginsWithToken};
+ghost use Rattle.urlpattern_engine.specs.Reading.{AreCopies, AreLiterals, AreStepsOf, BeginsWithCaptured, BeginsWithCharacter, BeginsWithToken, IsGroup, times_text};
 ghost use Rattle.urlpattern_engine.specs.Steps.{capture_count};
 ghost use Rattle.urlpattern_laws.specs.Dialect.{IsCharacter, IsClassCharacter};
 ghost use Rattle.urlpattern_syntax.specs.RegexpText.{regexp_marks};
 ghost use Rattle.urlpattern_syntax.specs.Text.{is_among};
 
-use crate::step::{Group, Step};
+use crate::step::{Copies, Group, Step, Stretch};
 use crate::texts::{after, split_first};
 use crate::walk::stop_at;
 use std::alloc::{AllocError, Global};
@@ -18,12 +18,25 @@ use std::alloc::{AllocError, Global};
 enum Token {
     /// `(?:`
     Open,
-    /// `)`, and whether a question mark follows.
-    Close(bool),
+    /// `)` and how often the group is taken.
+    Close(Times),
     /// A character, or a group that captures.
     Step(Step),
     /// A group that captures, and a question mark.
     MaybeStep(Step),
+}
+
+/// How often a group is taken, by what follows its closing bracket.
+#[derive(Clone, Copy)]
+enum Times {
+    /// Nothing.
+    Once,
+    /// `?`
+    Optional,
+    /// `*`
+    ZeroOrMore,
+    /// `+`
+    OneOrMore,
 }
 
 /// The steps of an expression. `None`: it is none that is matched by steps.
@@ -46,13 +59,12 @@ pub(crate) fn read_steps(alloc: Global, regexp: &str) -> Result<Option<Vec<Step>
                 Some(_) => return Ok(None),
                 None => opened = Some(steps.len()),
             },
-            Token::Close(is_optional) => {
+            Token::Close(times) => {
                 let Some(first) = opened else {
                     return Ok(None);
                 };
-                if is_optional {
-                    let group = group_of(&steps[first..]);
-                    steps.insert(first, Step::Maybe(group))?;
+                if !close_group(&mut steps, first, times)? {
+                    return Ok(None);
                 }
                 opened = None;
             }
@@ -64,6 +76,66 @@ pub(crate) fn read_steps(alloc: Global, regexp: &str) -> Result<Option<Vec<Step>
     } else {
         Ok(None)
     }
+}
+
+/// Makes the steps from the first on the group of them that is taken so often. Whether there is such a group.
+fn close_group(steps: &mut Vec<Step>, first: usize, times: Times) -> Result<bool, AllocError>
+    requires { first ≤ length steps.old.items }
+    ensures { IfOk result (λ is_group. IsTrue is_group →
+        (group : List Step) × IsGroup times (drop first steps.old.items) group × (steps.new.items ≡ take first steps.old.items ++ group)) }
+{
+    match times {
+        Times::Once => Ok(true),
+        Times::Optional => {
+            let group = group_of(&steps[first..]);
+            steps.insert(first, Step::Maybe(group))?;
+            Ok(true)
+        }
+        Times::ZeroOrMore => Ok(close_copies(steps, first, true)),
+        Times::OneOrMore => Ok(close_copies(steps, first, false)),
+    }
+}
+
+/// Makes the steps from the first on copies of the text that is made up of them. Whether there is such a text.
+fn close_copies(steps: &mut Vec<Step>, first: usize, may_be_missing: bool) -> bool
+    requires { first ≤ length steps.old.items }
+    ensures { IsTrue result → (group : List Step) × AreCopies may_be_missing (drop first steps.old.items) group × (steps.new.items ≡ take first steps.old.items ++ group) }
+{
+    let Some(text) = stretch_of(&steps[first..]) else {
+        return false;
+    };
+    steps[first] = Step::Copies(Copies {
+        text,
+        may_be_missing,
+    });
+    true
+}
+
+/// The text that is made up of the steps, where each of them is literal and there is one at least.
+fn stretch_of(steps: &[Step]) -> Option<Stretch>
+    ensures { IfSome result (λ text. (others : List Step) × (steps.now ≡ Step.Literal text.first ∷ others) × AreLiterals others × (text.others ≡ length others)) }
+{
+    match steps {
+        [Step::Literal(first), others @ ..] if are_literals(others) => Some(Stretch {
+            first: *first,
+            others: others.len(),
+        }),
+        _ => None,
+    }
+}
+
+/// Whether each of the steps is literal.
+fn are_literals(steps: &[Step]) -> bool
+    ensures { IsTrue result → AreLiterals steps.now }
+{
+    let mut rest = steps;
+    while let [step, others @ ..] = rest {
+        match step {
+            Step::Literal(_) => rest = others,
+            _ => return false,
+        }
+    }
+    true
 }
 
 /// A group of one step, which captures.
@@ -81,7 +153,7 @@ fn group_of(steps: &[Step]) -> Group
     while let [step, others @ ..] = rest {
         match step {
             Step::Segment(_) | Step::Anything => captures += 1,
-            Step::Literal(_) | Step::Maybe(_) => {}
+            Step::Literal(_) | Step::Maybe(_) | Step::Copies(_) => {}
         }
         rest = others;
     }
@@ -94,8 +166,8 @@ fn group_of(steps: &[Step]) -> Group
 /// How many groups may be missing in an expression that is matched by steps.
 const MAYBE_COUNT: usize = 4;
 
-/// Whether there are so few choices that they are tried in little time, one after the other: of one captured run, and of groups
-/// that may be missing.
+/// Whether there are so few choices that they are tried in little time, one after the other: of one run or the copies of one text,
+/// and of groups that may be missing.
 fn is_quick(steps: &[Step]) -> bool {
     let mut maybe_count: usize = 0;
     let mut is_chosen = false;
@@ -118,11 +190,12 @@ fn is_quick(steps: &[Step]) -> bool {
     true
 }
 
-/// Whether what the step captures may end at several places before the other steps.
+/// Whether what the step takes may end at several places before the other steps.
 fn has_choice(step: &Step, others: &[Step]) -> bool {
     match step {
         Step::Segment(end) => !stop_at(others, *end),
         Step::Anything => !stop_at(others, '\n'),
+        Step::Copies(_) => true,
         Step::Literal(_) | Step::Maybe(_) => false,
     }
 }
@@ -143,16 +216,27 @@ fn read_token(text: &str) -> Option<(Token, &str)>
     ensures len { IfSome result (λ read. length read.1.now < length text.now) }
 {
     if let Some(rest) = after(text, ')') {
-        if let Some(remaining) = after(rest, '?') {
-            return Some((Token::Close(true), remaining));
-        }
-        return Some((Token::Close(false), rest));
+        let (times, remaining) = read_times(rest);
+        return Some((Token::Close(times), remaining));
     }
     if let Some(inner) = after(text, '(') {
         return read_bracket(inner);
     }
     let (c, rest) = read_literal(text)?;
     Some((Token::Step(Step::Literal(c)), rest))
+}
+
+/// How often a group is taken, and what follows that. The text is what follows the closing bracket.
+fn read_times(text: &str) -> (Times, &str)
+    ensures times { chars text.now ≡ times_text result.0 ++ chars result.1.now }
+    ensures len { length result.1.now ≤ length text.now }
+{
+    match split_first(text) {
+        Some(('?', rest)) => (Times::Optional, rest),
+        Some(('*', rest)) => (Times::ZeroOrMore, rest),
+        Some(('+', rest)) => (Times::OneOrMore, rest),
+        _ => (Times::Once, text),
+    }
 }
 
 /// The token that begins with an opening bracket, and what follows it. The text is what follows the bracket.

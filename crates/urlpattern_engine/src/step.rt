@@ -11,6 +11,8 @@ pub(crate) enum Step {
     Anything,
     /// The steps of a group that may be missing, which follow.
     Maybe(Group),
+    /// Copies of a text, one after the other: as many as the steps after it allow.
+    Copies(Copies),
 }
 
 /// How many of the next steps stand and fall together.
@@ -20,4 +22,22 @@ pub(crate) struct Group {
     pub(crate) steps: usize,
     /// How many of them capture.
     pub(crate) captures: usize,
+}
+
+/// A text: a character, and those of the next literal steps.
+#[derive(Clone, Copy)]
+pub(crate) struct Stretch {
+    /// The first character.
+    pub(crate) first: char,
+    /// How many steps the other characters have.
+    pub(crate) others: usize,
+}
+
+/// Copies of a text.
+#[derive(Clone, Copy)]
+pub(crate) struct Copies {
+    /// The text.
+    pub(crate) text: Stretch,
+    /// Whether there may be none.
+    pub(crate) may_be_missing: bool,
 }

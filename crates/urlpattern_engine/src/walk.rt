@@ -1,13 +1,14 @@
 //! Matches a text by steps.
 
-ghost use Rattle.std.specs.Prelude.{◌≡◌, ◌++◌, [], List, false, replicate, Bool, None, IfOk, IsTrue, OnOk, drop};
+ghost use Rattle.std.specs.Prelude.{◌≡◌, ◌∷◌, ◌++◌, [], List, false, replicate, Bool, None, IfOk, IsTrue, OnOk, drop};
 ghost use Rattle.std.specs.Str.{chars};
 ghost use Rattle.urlpattern_core.specs.Captured.{captures_view};
-ghost use Rattle.urlpattern_engine.specs.Steps.{captured, longest, shortest, walk, StopAt};
+ghost use Rattle.urlpattern_engine.specs.Steps.{after_text, any_rounds, captured, literals, longest, shortest, walk, StopAt};
 ghost use Rattle.urlpattern_engine.specs.Taken.{Adds, Extends};
 ghost use Rattle.urlpattern_syntax.specs.Text.{line_feed};
 
-use crate::step::Step;
+use crate::repeats::{after_literals, first_steps, skip_copies, without_copy};
+use crate::step::{Copies, Step};
 use crate::texts::{after, after_front, split_at_first, split_first, without_last};
 use std::alloc::Global;
 use urlpattern_core::error::OutOfMemory;
@@ -102,6 +103,7 @@ fn follow_on<'t>(
                 add_missing(captures, group.captures)?;
                 left = pass(others, group.steps);
             }
+            Step::Copies(copies) => return follow_copies(captures, *copies, others, rest),
         }
     }
     Ok(rest.is_empty())
@@ -180,6 +182,60 @@ fn follow_captured<'t>(
     Ok(false)
 }
 
+/// Whether the steps that follow take what follows copies of a text, the most first. Where they do, what they capture is added.
+///
+/// The error is that memory ran out.
+#[cycle(following)]
+fn follow_copies<'t>(
+    captures: &mut Vec<Option<&'t str>>,
+    copies: Copies,
+    steps: &[Step],
+    text: &'t str,
+) -> Result<bool, OutOfMemory>
+    ensures adds { IfOk result (λ is_taken. Adds captures.old.items captures.new.items is_taken (walk (Step.Copies copies ∷ steps.now) (chars text.now))) }
+    ensures same { IfOk result (λ is_taken. is_taken ≡ false → captures.new.items ≡ captures.old.items) }
+{
+    let first = copies.text.first;
+    let literal = first_steps(steps, copies.text.others);
+    let others = pass(steps, copies.text.others);
+    if copies.may_be_missing {
+        return follow_any_copies(captures, first, literal, others, text);
+    }
+    match after_literals(text, first, literal) {
+        Some(rest) => follow_any_copies(captures, first, literal, others, rest),
+        None => Ok(false),
+    }
+}
+
+/// Whether the other steps take what follows any number of copies of a text, the most first. Where they do, what they capture is
+/// added. The text is the first character and those of the literal steps.
+///
+/// The error is that memory ran out.
+#[cycle(following)]
+fn follow_any_copies<'t>(
+    captures: &mut Vec<Option<&'t str>>,
+    first: char,
+    literal: &[Step],
+    others: &[Step],
+    text: &'t str,
+) -> Result<bool, OutOfMemory>
+    ensures adds { IfOk result (λ is_taken. Adds captures.old.items captures.new.items is_taken
+        (any_rounds (after_text (first ∷ literals literal.now)) (λ front rest. walk others.now rest) [] (chars text.now))) }
+    ensures same { IfOk result (λ is_taken. is_taken ≡ false → captures.new.items ≡ captures.old.items) }
+{
+    let rest = skip_copies(text, first, literal);
+    let mut front = before(text, rest);
+    loop {
+        if follow(captures, others, after_front(text, front))? {
+            return Ok(true);
+        }
+        let Some(shorter) = without_copy(front, literal) else {
+            return Ok(false);
+        };
+        front = shorter;
+    }
+}
+
 /// Adds so many captures that are missing.
 ///
 /// The error is that memory ran out.
@@ -212,6 +268,15 @@ pub(crate) fn stop_at(steps: &[Step], end: char) -> bool
                     return false;
                 }
                 rest = pass(others, group.steps);
+            }
+            Step::Copies(copies) => {
+                if copies.text.first != end {
+                    return false;
+                }
+                if !copies.may_be_missing {
+                    return true;
+                }
+                rest = pass(others, copies.text.others);
             }
             Step::Segment(_) | Step::Anything => return false,
         }

@@ -1,5 +1,5 @@
 use Rattle.std.proofs.Common.{◌≡◌, ◌∷◌, ◌++◌, [], Some, None, true, length, replicate, refl, sym, ap, ◌∙◌, subst, append_assoc, arith, rules, ne_eqb}
-use Rattle.std.proofs.lemmas.List.{length-drop, nil_from_length, append_cancel_left}
+use Rattle.std.proofs.lemmas.List.{length-drop, nil_from_length, append_cancel_left, append_cancel_right}
 use Rattle.std.proofs.lemmas.Str.{IsUtf8-append, IsUtf8-encode}
 use Rattle.std.specs.Char.{encode_utf8}
 use Rattle.std.specs.Option.{option_or}
@@ -7,8 +7,10 @@ use Rattle.std.specs.Str.{chars, IsUtf8}
 use Rattle.urlpattern_syntax.proofs.TextLemmas.{chars-empty, chars-some}
 use Rattle.urlpattern_syntax.specs.Text.{line_feed}
 use Rattle.urlpattern_engine.specs.declared.step.Step.{Step}
-use Rattle.urlpattern_engine.specs.declared.step.Step.TheVariants.{Segment, Anything, Maybe}
-use Rattle.urlpattern_engine.specs.Steps.{Gives, captured, shortest, up_to_first, walk, StopAt}
+use Rattle.urlpattern_engine.specs.declared.step.Step.TheVariants.{Segment, Anything, Maybe, Copies}
+use Rattle.urlpattern_engine.specs.Steps.{Gives, after_text, any_rounds, captured, copies_of, literals, repeated, shortest, some_rounds, up_to_first, walk, StopAt}
+use Rattle.urlpattern_engine.proofs.CopyLemmas.{after-other, copies_fewer, copies_after, copies_step, copy_shrinks, fewer-found, no_copy_left}
+use Rattle.urlpattern_engine.proofs.Tried.{Next}
 use Rattle.urlpattern_engine.specs.Taken.{Adds, Extends}
 use Rattle.urlpattern_engine.proofs.FollowLemmas.{plus, adds_none, adds_some, bytes_join, end_adds, extends_more, front_grows, front_shrinks, later_adds, later_extends, plus_captured, plus_maybe, shortest_passed}
 use Rattle.urlpattern_engine.proofs.RunLemmas.{both_ends, falling, falling-found, longest_ends, longest_falling, shortest_ends, shortest_none}
@@ -204,6 +206,153 @@ follow_on-returns-clause-adds n c =
     end_adds now (chars rest) c.is_empty-2.result
     (λ e. chars-empty rest (search rules)) (λ e. chars-some rest utf8 (search rules))
     ∙ sym (c.loop-step.invariant.so_far ∙ ap (λ l. plus now (walk l (chars rest))) none)
+
+pub follow_on-returns-in-Copies-clause-adds : goal.follow_on-returns-in-Copies-clause-adds
+follow_on-returns-in-Copies-clause-adds n c =
+    let old = c.args.captures.now.items in
+    let now = c.loop-step.captures.items in
+    let rest = chars c.loop-step.rest.now in
+    let others = c.in-Some.others.now in
+    let left : c.loop-step.left.now ≡ Copies c.in-Copies.copies ∷ others = c.in-Some.ensures.cases.0 ∙ ap (λ (s : Step). s ∷ others) c.in-Copies.is in
+    later_adds old now c.follow_copies.new.captures.items (walk c.args.steps.now (chars c.args.text.now)) (walk (Copies c.in-Copies.copies ∷ others) rest) c.follow_copies.result
+    (c.loop-step.invariant.so_far ∙ ap (λ l. plus now (walk l rest)) left) c.follow_copies.ensures.adds
+
+pub follow_on-returns-in-Copies-clause-more : goal.follow_on-returns-in-Copies-clause-more
+follow_on-returns-in-Copies-clause-more n c =
+    later_extends c.args.captures.now.items c.loop-step.captures.items c.follow_copies.new.captures.items c.follow_copies.result c.loop-step.invariant.more c.follow_copies.ensures.same
+
+pub follow_copies-returns-then-copies-clause-adds : goal.follow_copies-returns-then-copies-clause-adds
+follow_copies-returns-then-copies-clause-adds n c =
+    let old = c.args.captures.now.items in
+    let copies = c.args.copies in
+    let literal = c.first_steps-literal.result.now in
+    let others = c.pass-others.result.now in
+    let text = chars c.args.text.now in
+    let gives : Gives = λ front rest. walk others rest in
+    later_adds old old c.follow_any_copies.new.captures.items (walk (Copies copies ∷ c.args.steps.now) text) (any_rounds (after_text (copies.text.first ∷ literals literal)) gives [] text) c.follow_any_copies.result
+    (ap (plus old)
+    (copies_step copies c.args.steps.now literal others text c.first_steps-literal.ensures c.pass-others.ensures
+    ∙ ap (λ b. repeated b (after_text (copies.text.first ∷ literals literal)) gives [] text) c.if-copies.true))
+    c.follow_any_copies.ensures.adds
+
+pub follow_copies-returns-in-Some-clause-adds : goal.follow_copies-returns-in-Some-clause-adds
+follow_copies-returns-in-Some-clause-adds n c =
+    let old = c.args.captures.now.items in
+    let copies = c.args.copies in
+    let literal = c.first_steps-literal.result.now in
+    let others = c.pass-others.result.now in
+    let text = chars c.args.text.now in
+    let rest = chars c.in-Some.rest.now in
+    let round = after_text (copies.text.first ∷ literals literal) in
+    let gives : Gives = λ front rest. walk others rest in
+    later_adds old old c.follow_any_copies-in-Some.new.captures.items (walk (Copies copies ∷ c.args.steps.now) text) (any_rounds round gives [] rest) c.follow_any_copies-in-Some.result
+    (ap (plus old)
+    (copies_step copies c.args.steps.now literal others text c.first_steps-literal.ensures c.pass-others.ensures
+    ∙ ap (λ b. repeated b round gives [] text) c.if-copies.false
+    ∙ ap (some_rounds round gives []) c.in-Some.ensures.cut
+    ∙ copies_after copies.text.first (literals literal) (walk others) rest))
+    c.follow_any_copies-in-Some.ensures.adds
+
+pub follow_copies-returns-in-None-clause-adds : goal.follow_copies-returns-in-None-clause-adds
+follow_copies-returns-in-None-clause-adds n c =
+    let old = c.args.captures.now.items in
+    let copies = c.args.copies in
+    let literal = c.first_steps-literal.result.now in
+    let others = c.pass-others.result.now in
+    let text = chars c.args.text.now in
+    let copy = copies.text.first ∷ literals literal in
+    let gives : Gives = λ front rest. walk others rest in
+    sym (ap (plus old)
+    (copies_step copies c.args.steps.now literal others text c.first_steps-literal.ensures c.pass-others.ensures
+    ∙ ap (λ b. repeated b (after_text copy) gives [] text) c.if-copies.false
+    ∙ after-other copy text (any_rounds (after_text copy) gives) [] c.in-None.ensures.other))
+
+pub follow_any_copies-loop-shorter-init : goal.follow_any_copies-loop-shorter-init
+follow_any_copies-loop-shorter-init n c =
+    let copy = c.args.first ∷ literals c.args.literal.now in
+    let text = c.args.text.now in
+    let front = c.before-front.result.now in
+    let rest = c.skip_copies-rest.result.now in
+    let copies = c.skip_copies-rest.ensures.front in
+    let utf8 : IsUtf8 front = search rules in
+    let further : IsUtf8 rest = search rules in
+    let whole : IsUtf8 text = search rules in
+    record {
+      is_text = search rules;
+      so_far = (
+        rest,
+        further,
+        bytes_join text front rest whole utf8 further c.before-front.ensures,
+        copies.0,
+        append_cancel_right (chars front) (copies_of copies.0 copy) (chars rest) (sym c.before-front.ensures ∙ copies.1),
+        ap (any_rounds (after_text copy) (λ front rest. walk c.args.others.now rest) []) copies.1
+            ∙ copies_fewer c.args.first (literals c.args.literal.now) (walk c.args.others.now) copies.0 [] (chars rest) c.skip_copies-rest.ensures.all,
+      );
+      same = refl;
+    }
+
+pub follow_any_copies-after_front-requires : goal.follow_any_copies-after_front-requires
+follow_any_copies-after_front-requires n c = let so_far = c.loop-shorter.invariant.so_far in (so_far.0, so_far.1, so_far.2)
+
+pub follow_any_copies-returns-then-branch-clause-adds : goal.follow_any_copies-returns-then-branch-clause-adds
+follow_any_copies-returns-then-branch-clause-adds n c =
+    let copy = c.args.first ∷ literals c.args.literal.now in
+    let old = c.args.captures.now.items in
+    let new = c.follow.new.captures.items in
+    let next : Next = walk c.args.others.now in
+    let so_far = c.loop-shorter.invariant.so_far in
+    let left = c.after_front.result.now in
+    let rest : left ≡ so_far.0 = append_cancel_left c.loop-shorter.front.now left so_far.0 (sym c.after_front.ensures ∙ so_far.2) in
+    let adds : Adds old new true (next (chars left)) =
+    subst (λ l. Adds l new true (next (chars left))) c.loop-shorter.invariant.same
+    (subst (λ b. Adds c.loop-shorter.captures.items new b (next (chars left))) c.if-branch.true c.in_ok-follow.ensures.adds) in
+    let found = adds_some old new (next (chars left)) adds in
+    adds ∙ ap (plus old) (found.1 ∙ sym (so_far.5 ∙ fewer-found copy next so_far.3 (chars so_far.0) found.0 (ap (λ r. next (chars r)) (sym rest) ∙ found.1)))
+
+pub follow_any_copies-returns-in_default-clause-adds : goal.follow_any_copies-returns-in_default-clause-adds
+follow_any_copies-returns-in_default-clause-adds n c =
+    let old = c.args.captures.now.items in
+    let new = c.follow.new.captures.items in
+    let next : Next = walk c.args.others.now in
+    let front = c.loop-shorter.front.now in
+    let so_far = c.loop-shorter.invariant.so_far in
+    let left = c.after_front.result.now in
+    let rest : left ≡ so_far.0 = append_cancel_left front left so_far.0 (sym c.after_front.ensures ∙ so_far.2) in
+    let none : next (chars left) ≡ None =
+    adds_none c.loop-shorter.captures.items new _
+    (subst (λ b. Adds c.loop-shorter.captures.items new b (next (chars left))) c.if-branch.false c.in_ok-follow.ensures.adds) in
+    sym (ap (plus old)
+    (so_far.5
+    ∙ no_copy_left c.args.first (literals c.args.literal.now) next so_far.3 (chars front) (chars so_far.0) so_far.4 c.in_default.ensures.few
+    ∙ ap (λ r. next (chars r)) (sym rest) ∙ none))
+
+pub follow_any_copies-loop-shorter-preserved : goal.follow_any_copies-loop-shorter-preserved
+follow_any_copies-loop-shorter-preserved n c =
+    let new = c.follow.new.captures.items in
+    let next : Next = walk c.args.others.now in
+    let front = c.loop-shorter.front.now in
+    let shorter = c.in-Some.shorter.now in
+    let so_far = c.loop-shorter.invariant.so_far in
+    let left = c.after_front.result.now in
+    let rest : left ≡ so_far.0 = append_cancel_left front left so_far.0 (sym c.after_front.ensures ∙ so_far.2) in
+    let none : next (chars left) ≡ None =
+    adds_none c.loop-shorter.captures.items new _
+    (subst (λ b. Adds c.loop-shorter.captures.items new b (next (chars left))) c.if-branch.false c.in_ok-follow.ensures.adds) in
+    let last = c.in-Some.ensures.cut in
+    let utf8 : IsUtf8 shorter = search rules in
+    let fewer_now = copy_shrinks c.args.first (literals c.args.literal.now) next so_far.3 front shorter last.0 so_far.0 utf8 last.1 last.2 so_far.4 last.3 (ap (λ r. next (chars r)) (sym rest) ∙ none) in
+    record {
+      is_text = search rules;
+      so_far = (
+        last.0 ++ so_far.0,
+        IsUtf8-append last.0 so_far.0 last.1 so_far.1,
+        so_far.2 ∙ ap (λ f. f ++ so_far.0) last.2 ∙ append_assoc shorter last.0 so_far.0,
+        fewer_now.0,
+        fewer_now.1,
+        so_far.5 ∙ fewer_now.2,
+      );
+      same = c.in_ok-follow.ensures.same c.if-branch.false ∙ c.loop-shorter.invariant.same;
+    }
 
 pub follow_shortest-before-requires : goal.follow_shortest-before-requires
 follow_shortest-before-requires n c =

@@ -1,10 +1,11 @@
-use Rattle.std.proofs.Common.{◌≡◌, ℕ, List, [], ◌++◌, ◌+◌, ◌*◌, ◌≤◌, length, map, option_map}
+use Rattle.std.proofs.Common.{◌≡◌, ℕ, List, [], ◌∷◌, ◌++◌, ◌+◌, ◌*◌, ◌≤◌, length, map, option_map}
 use denote.Text.{Utf8}
 use denote.Shadow.{shadow}
 use Rattle.std.specs.Str.{chars, IsUtf8}
 use Rattle.urlpattern_core.specs.Captured.{capture_view}
 use Rattle.urlpattern_syntax.specs.Text.{line_feed}
-use Rattle.urlpattern_engine.specs.Steps.{captured, longest, shortest, walk}
+use Rattle.urlpattern_engine.specs.Steps.{after_text, any_rounds, captured, copies_of, literals, longest, shortest, walk}
+use Rattle.urlpattern_engine.proofs.CopyLemmas.{fewer}
 use Rattle.urlpattern_engine.specs.Taken.{Extends}
 use Rattle.urlpattern_engine.proofs.RunLemmas.{falling}
 use Rattle.urlpattern_engine.proofs.walk.+following.Given as goal
@@ -23,6 +24,24 @@ decreases-follow_shortest l = 4 * length l.steps.now + 3
 
 abbrev pub decreases-follow_longest : goal.decreases-follow_longest
 decreases-follow_longest l = 4 * length l.steps.now + 3
+
+abbrev pub decreases-follow_any_copies : goal.decreases-follow_any_copies
+decreases-follow_any_copies l = 4 * length l.others.now + 2
+
+abbrev pub decreases-follow_copies : goal.decreases-follow_copies
+decreases-follow_copies l = 4 * length l.steps.now + 3
+
+abbrev pub invariant-follow_any_copies-loop-shorter : goal.invariant-follow_any_copies-loop-shorter
+invariant-follow_any_copies-loop-shorter l = record {
+  is_text : shadow (Utf8 l.front);
+  so_far : (rest : List ℕ) × IsUtf8 rest × (l.text ≡ l.front ++ rest)
+      × (n : ℕ) × (chars l.front ≡ copies_of n (l.fn.first ∷ literals l.literal))
+      × (any_rounds (after_text (l.fn.first ∷ literals l.literal)) (λ front rest. walk l.others rest) [] (chars l.text) ≡ fewer (l.fn.first ∷ literals l.literal) (walk l.others) n (chars rest));
+  same : l.captures.items ≡ l.fn.captures.items;
+}
+
+abbrev pub decreases-follow_any_copies-loop-shorter : goal.decreases-follow_any_copies-loop-shorter
+decreases-follow_any_copies-loop-shorter l = length l.front
 
 abbrev pub invariant-follow_on-loop-step : goal.invariant-follow_on-loop-step
 invariant-follow_on-loop-step l = record {
