@@ -119,6 +119,79 @@ const CHOSEN: [Case; 34] = [
     ("^(.*)?$", "", Some(&[Some("")])),
 ];
 
+/// Expressions with groups that are repeated.
+const REPEATED: [Case; 33] = [
+    ("^(?:ab)*$", "", Some(&[])),
+    ("^(?:ab)*$", "ababab", Some(&[])),
+    ("^(?:ab)*$", "aba", None),
+    ("^(?:ab)+$", "", None),
+    ("^(?:ab)+abc$", "ababc", Some(&[])),
+    ("^(?:a\\.)*a$", "a.a.a", Some(&[])),
+    ("^(?:é/)+(.*)$", "é/é/x", Some(&[Some("x")])),
+    ("^(?:a)*a(.*)$", "aaab", Some(&[Some("b")])),
+    ("^(?:a)*(?:a)*(?:a)+b$", "aab", Some(&[])),
+    ("^/x(?:/y)*/y$", "/x/y/y", Some(&[])),
+    ("^((?:[^/]+?)*)$", "", Some(&[Some("")])),
+    ("^((?:[^/]+?)*)$", "ab", Some(&[Some("ab")])),
+    ("^((?:[^/]+?)*)$", "a/b", None),
+    ("^((?:[^/]+?)+)$", "", None),
+    ("^((?:[^/]+?)+)b$", "abab", Some(&[Some("aba")])),
+    ("^((?:[^/]+?)+)b$", "b", None),
+    (
+        "^((?:[^/]+?)*)b(.*)$",
+        "abab/",
+        Some(&[Some("aba"), Some("/")]),
+    ),
+    (
+        "^((?:.+?)+)/(.*)$",
+        "a/b/c",
+        Some(&[Some("a/b"), Some("c")]),
+    ),
+    ("^((?:.+?)*)$", "a\nb", None),
+    ("^((?:.*)+)$", "", Some(&[Some("")])),
+    ("^((?:.*)*)b$", "abb", Some(&[Some("ab")])),
+    ("^((?:[^é]+?)+)é$", "aé", Some(&[Some("a")])),
+    (
+        "^(?:/((?:[^/]+?)(?:/(?:[^/]+?))*))$",
+        "/a/b/c",
+        Some(&[Some("a/b/c")]),
+    ),
+    ("^(?:/((?:[^/]+?)(?:/(?:[^/]+?))*))$", "/a//b", None),
+    ("^(?:/((?:[^/]+?)(?:/(?:[^/]+?))*))$", "/", None),
+    (
+        "^(?:/((?:[^/]+?)(?:/(?:[^/]+?))*))?/x$",
+        "/a/x/x",
+        Some(&[Some("a/x")]),
+    ),
+    (
+        "^(?:/((?:[^/]+?)(?:/(?:[^/]+?))*))?/x$",
+        "/x",
+        Some(&[None]),
+    ),
+    (
+        "^(?:a((?:[^/]+?)(?:ba(?:[^/]+?))*)b)(.*)$",
+        "axbaybz",
+        Some(&[Some("xbay"), Some("z")]),
+    ),
+    (
+        "^(?:a((?:[^/]+?)(?:ba(?:[^/]+?))*)b)$",
+        "abababab",
+        Some(&[Some("bababa")]),
+    ),
+    ("^(?:-((?:.*)(?:-(?:.*))*))$", "-a-b", Some(&[Some("a-b")])),
+    (
+        "^(?:-((?:.*)(?:-(?:.*))*))-c$",
+        "-a-b-c",
+        Some(&[Some("a-b")]),
+    ),
+    (
+        "^(?:\\.((?:[^\\.]+?)(?:\\.(?:[^\\.]+?))*))?\\.b$",
+        ".a.é.b",
+        Some(&[Some("a.é")]),
+    ),
+    ("^(?:-((?:.+?)(?:-(?:.+?))*))$", "-a\n-b", None),
+];
+
 /// Whether the value of an expression answers a text as expected.
 fn is_answered<R: RegExp>(
     alloc: Global,
@@ -150,6 +223,14 @@ fn expressions_without_a_choice(rt: HostRuntime) -> Result<(), Fail> {
 #[test]
 fn expressions_with_a_choice(rt: HostRuntime) -> Result<(), Fail> {
     for case in CHOSEN {
+        assert!(rt; is_answered_by_both(rt.alloc(), case)?, "{case:?}");
+    }
+    Ok(())
+}
+
+#[test]
+fn expressions_with_repeated_groups(rt: HostRuntime) -> Result<(), Fail> {
+    for case in REPEATED {
         assert!(rt; is_answered_by_both(rt.alloc(), case)?, "{case:?}");
     }
     Ok(())

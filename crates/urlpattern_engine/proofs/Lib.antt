@@ -1,8 +1,9 @@
 pub mod Tried
 pub mod Rounds
+pub mod RunLemmas
+pub mod LongestLemmas
 pub mod Walks
 pub mod RepeatLemmas
-pub mod RunLemmas
 pub mod FollowLemmas
 pub mod ReadingLemmas
 pub mod StepLemmas

@@ -5,7 +5,7 @@ use Rattle.std.proofs.lemmas.List.{take-append-le, drop-append-le, length-drop, 
 use Rattle.std.proofs.Math.Nat.{le_refl}
 use Rattle.std.proofs.Math.Seq.{take-length, drop-length}
 use Rattle.std.specs.Prelude.{◌≢◌, IfSome, is_some, insert, set}
-use Rattle.urlpattern_laws.specs.Dialect.{AnyBut, AreItems, AllowsGroups, Atom, Captured, Character, Plain, Escaped, Dot, Grouped, IsAtom, IsCharacter, IsClassCharacter, IsTreeOf, Item, Items, LazyOneOrMore, Nothing, Once, Optional, Quantifier, ZeroOrMore, atom_group_count, atom_text, character_of, character_text, items_text, quantifier_text}
+use Rattle.urlpattern_laws.specs.Dialect.{AnyBut, AreItems, AllowsGroups, Atom, Captured, Character, Plain, Escaped, Dot, Grouped, IsAtom, IsCharacter, IsClassCharacter, IsTreeOf, Item, Items, LazyOneOrMore, Nothing, Once, OneOrMore, Optional, Quantifier, ZeroOrMore, atom_group_count, group_count, atom_text, character_of, character_text, items_text, quantifier_text}
 use Rattle.urlpattern_laws.specs.Dialect as dialect
 use Rattle.urlpattern_syntax.specs.RegexpText.{captured}
 use Rattle.urlpattern_engine.specs.declared.reading.Times.{Times}
@@ -14,9 +14,11 @@ use Rattle.urlpattern_engine.specs.declared.reading.Token.TheVariants.{Close, Ma
 use Rattle.urlpattern_engine.specs.declared.step.Group.{Group}
 use Rattle.urlpattern_engine.specs.declared.step.Stretch.{Stretch}
 use Rattle.urlpattern_engine.specs.declared.step.Step.{Step}
-use Rattle.urlpattern_engine.specs.declared.step.Step.TheVariants.{Literal, Segment, Anything, Maybe, Copies}
-use Rattle.urlpattern_engine.specs.Reading.{AreCopies, AreLiterals, AreStepsOf, BeginsWithCaptured, BeginsWithCharacter, BeginsWithToken, IsGroup, IsStepOf, IsToken, Spells, times_text}
+use Rattle.urlpattern_engine.specs.declared.step.Step.TheVariants.{Literal, Segment, Anything, Maybe, Longest, Copies}
+use Rattle.urlpattern_engine.specs.Reading.{AreCopies, AreLiterals, AreStepsOf, BeginsWithCaptured, BeginsWithCharacter, BeginsWithToken, IsGroup, IsRunOf, IsStepOf, IsToken, MayBeEmpty, Spells, quantifier_of, times_text}
 use Rattle.urlpattern_engine.specs.Steps.{capture_count}
+use Rattle.urlpattern_syntax.specs.Text.{line_feed}
+use Rattle.urlpattern_engine.proofs.LongestLemmas.{run_uncaptured}
 use Rattle.urlpattern_engine.proofs.RepeatLemmas.{copied, walks-copies}
 use Rattle.urlpattern_engine.proofs.Walks.{Walks, literals_uncaptured, walks-nothing, walks-inside, walks-once, walks-maybe, walks-step, walk_is_first}
 
@@ -66,6 +68,37 @@ lazy_class text behind class rest c (character, is, same, e) f g =
     ∙ append_assoc (character_text character ++ codes "]") (codes "+?") rest ∙ append_assoc (character_text character) (codes "]") (codes "+?" ++ rest)) in
     (one, (is, refl, tt), (AnyBut character, same, refl), ap (λ t. codes "[^" ++ t) whole ∙ sym spelled)
 
+pub segment_run : (c : ℕ) (items : Items) → IsStepOf (Segment c) (Captured items) → IsRunOf c false items
+segment_run c items (one, but, e) = (one, but, cc)
+
+pub anything_run : (items : Items) → IsStepOf Anything (Captured items) → IsRunOf line_feed true items
+anything_run items e = (refl, cc)
+
+-- runs of which each may be empty or not may be taken more than once
+pub runs_allowed : (end : ℕ) (is_greedy : Bool) (items : Items) (quantifier : Quantifier) (may_be_empty : Bool) → IsRunOf end is_greedy items → MayBeEmpty is_greedy quantifier may_be_empty
+    → AllowsGroups quantifier (group_count items)
+runs_allowed end is_greedy items ZeroOrMore may_be_empty run is = run_uncaptured end is_greedy items run
+runs_allowed end is_greedy items OneOrMore may_be_empty run is = run_uncaptured end is_greedy items run
+runs_allowed end is_greedy items Once may_be_empty run is = tt
+runs_allowed end is_greedy items Optional may_be_empty run is = tt
+runs_allowed end is_greedy items LazyOneOrMore may_be_empty run is = absurd is
+
+pub repeated_run : (text inner run_text bracket behind rest : List ℕ) (run step : Step) (times : Times) → text ≡ codes "?" ++ inner → inner ≡ codes ":" ++ run_text
+    → BeginsWithCaptured run_text run bracket → bracket ≡ codes ")" ++ behind → behind ≡ times_text times ++ rest
+    → ((items : Items) → IsStepOf run (Captured items)
+    → AllowsGroups (quantifier_of times) (group_count items) × IsStepOf step (Captured (Item (Grouped items) (quantifier_of times) Nothing)))
+    → BeginsWithCaptured (codes "(" ++ text) step rest
+repeated_run text inner run_text bracket behind rest run step times e f (items, are, is, g) h i steps =
+    let repeated = steps items is in
+    let q = times_text times in
+    let whole : codes "(" ++ text ≡ codes "(?:" ++ (items_text items ++ (codes ")" ++ (q ++ rest))) =
+    ap (λ t. codes "(" ++ t) (e ∙ ap (λ t. codes "?" ++ t) (f ∙ ap (λ t. codes ":" ++ t) (g ∙ ap (λ t. items_text items ++ t) (h ∙ ap (λ t. codes ")" ++ t) i)))) in
+    let spelled : items_text (Item (Grouped items) (quantifier_of times) Nothing) ++ rest ≡ codes "(?:" ++ (items_text items ++ (codes ")" ++ (q ++ rest))) =
+    ap (λ t. t ++ rest) (append-nil ((codes "(?:" ++ (items_text items ++ codes ")")) ++ q))
+    ∙ append_assoc (codes "(?:" ++ (items_text items ++ codes ")")) q rest
+    ∙ ap (λ t. codes "(?:" ++ t) (append_assoc (items_text items) (codes ")") (q ++ rest)) in
+    (Item (Grouped items) (quantifier_of times) Nothing, (are, repeated.0, tt), repeated.1, whole ∙ sym spelled)
+
 pub captured-spells : (text behind rest : List ℕ) (step : Step) → BeginsWithCaptured text step behind → behind ≡ codes ")" ++ rest
     → (front : List ℕ) × Spells step front × (codes "(" ++ text ≡ front ++ rest)
 captured-spells text behind rest step (items, are, is, e) f = (
@@ -82,6 +115,7 @@ captures_one (Literal c) items is = absurd (captured_literal is.0 items is.2)
 captures_one (Segment c) items is = refl
 captures_one Anything items is = refl
 captures_one (Maybe group) items is = absurd is
+captures_one (Longest run) items is = refl
 captures_one (Copies copies) items is = absurd is
 
 pub captured-maybe : (text bracket behind rest : List ℕ) (step : Step) → BeginsWithCaptured text step bracket → bracket ≡ codes ")" ++ behind → behind ≡ codes "?" ++ rest

@@ -66,10 +66,10 @@ advances-then first second one two = record {
 }
 
 -- what is given after a way is tried for each way of the rest
-abbrev then : Choice → Given → Given
+abbrev pub then : Choice → Given → Given
 then next h taken captures rest = tried (λ more. h (taken ++ more.taken) (captures ++ more.captures) more.rest) (next rest)
 
-tried-then : (h : Given) (front : List ℕ) (next : Choice) (xs : List Way) → tried (given (beyond front h)) (continued next xs) ≡ tried (given (beyond front (then next h))) xs
+pub tried-then : (h : Given) (front : List ℕ) (next : Choice) (xs : List Way) → tried (given (beyond front h)) (continued next xs) ≡ tried (given (beyond front (then next h))) xs
 tried-then h front next xs =
     tried-continued (given (beyond front h)) next xs
     ∙ tried-same _ _
@@ -85,7 +85,7 @@ takes-then choice next first second one keeps two = record {
       ∙ keeps.same (bare (then next h)) (second (bare h)) front text (λ before rest le. two.takes h before rest);
 }
 
-tried_idle : (h : Given) (front text : List ℕ) → tried (given (beyond front h)) (idle 0 text ∷ []) ≡ h front [] text
+pub tried_idle : (h : Given) (front text : List ℕ) → tried (given (beyond front h)) (idle 0 text ∷ []) ≡ h front [] text
 tried_idle h front text = option_or-None _ ∙ ap (λ f. h f [] text) (append-nil front)
 
 pub takes-nothing : Takes (ways Nothing) (after_text [])

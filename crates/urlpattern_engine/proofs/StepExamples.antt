@@ -1,6 +1,6 @@
 -- What steps capture, by examples.
 use Rattle.std.proofs.Common.{◌≡◌, [], ◌∷◌, Some, None, true, false, codes, refl}
-use Rattle.urlpattern_engine.specs.declared.step.Step.TheVariants.{Literal, Segment, Anything, Maybe, Copies}
+use Rattle.urlpattern_engine.specs.declared.step.Step.TheVariants.{Literal, Segment, Anything, Maybe, Longest, Copies}
 use Rattle.urlpattern_engine.specs.Steps.{walk}
 
 -- ---- of `^/([^/]+?)$`
@@ -63,3 +63,19 @@ one_copy_at_least = refl
 
 pub fewer_copies : walk (Copies (record { text = record { first = 97; others = 0 }; may_be_missing = false }) ∷ Literal 97 ∷ Literal 98 ∷ []) (codes "aab") ≡ Some []
 fewer_copies = refl
+
+-- ---- of `^((?:[^/]+?)*)/(.*)$`
+
+pub longest_run_first : walk (Longest (record { end = 47; may_be_empty = true }) ∷ Literal 47 ∷ Anything ∷ []) (codes "ab/c/d") ≡ Some (Some (codes "ab") ∷ Some (codes "c/d") ∷ [])
+longest_run_first = refl
+
+pub empty_run : walk (Longest (record { end = 47; may_be_empty = true }) ∷ Literal 47 ∷ Anything ∷ []) (codes "/c") ≡ Some (Some [] ∷ Some (codes "c") ∷ [])
+empty_run = refl
+
+-- ---- of `^((?:.+?)+)b$`
+
+pub no_empty_run : walk (Longest (record { end = 10; may_be_empty = false }) ∷ Literal 98 ∷ []) (codes "b") ≡ None
+no_empty_run = refl
+
+pub shorter_run : walk (Longest (record { end = 10; may_be_empty = false }) ∷ Literal 98 ∷ []) (codes "abb") ≡ Some (Some (codes "ab") ∷ [])
+shorter_run = refl

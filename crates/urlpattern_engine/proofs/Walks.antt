@@ -8,10 +8,12 @@ use Rattle.urlpattern_laws.specs.Dialect as dialect
 use Rattle.urlpattern_laws.specs.Ways.{Way, idle, continued, one_that, looped, capturing, ways, atom_ways, first_way}
 use Rattle.urlpattern_syntax.specs.Text.{line_feed}
 use Rattle.urlpattern_engine.specs.declared.step.Group.{Group}
+use Rattle.urlpattern_engine.specs.declared.step.Run.{Run}
 use Rattle.urlpattern_engine.specs.declared.step.Step.{Step}
-use Rattle.urlpattern_engine.specs.declared.step.Step.TheVariants.{Literal, Segment, Anything, Maybe, Copies}
+use Rattle.urlpattern_engine.specs.declared.step.Step.TheVariants.{Literal, Segment, Anything, Maybe, Longest, Copies}
 use Rattle.urlpattern_engine.specs.Reading.{AreLiterals, IsAllBut, IsStepOf}
-use Rattle.urlpattern_engine.specs.Steps.{Gives, captured, shortest, longest, literals, after_text, walk, walk_after, capture_count}
+use Rattle.urlpattern_engine.specs.Steps.{Gives, captured, shortest, longest, longest_run, literals, after_text, walk, walk_after, capture_count}
+use Rattle.urlpattern_engine.proofs.LongestLemmas.{captured_takes, run_uncaptured, takes-runs}
 use Rattle.urlpattern_engine.proofs.Rounds.{Takes, keeps-after, after-append, takes-nothing, takes-one, takes-then}
 use Rattle.urlpattern_engine.proofs.Tried.{Next, Given, given, tried, before_next, bare, one, tried-append, tried-map, tried-same, tried-continued, tried-behind, before_next-same, tried-idle, lazy_loop, greedy_loop}
 
@@ -35,6 +37,7 @@ capture_count-append (Literal c ∷ own) others = capture_count-append own other
 capture_count-append (Segment c ∷ own) others = omega (arith, capture_count-append own others)
 capture_count-append (Anything ∷ own) others = omega (arith, capture_count-append own others)
 capture_count-append (Maybe group ∷ own) others = capture_count-append own others
+capture_count-append (Longest run ∷ own) others = omega (arith, capture_count-append own others)
 capture_count-append (Copies copies ∷ own) others = capture_count-append own others
 
 pub walk_after-own : (own after : List Step) (text : List ℕ) → walk_after (length own) (own ++ after) text ≡ walk after text
@@ -49,6 +52,7 @@ literals_first (Literal c ∷ own) others plain = literals_first own others plai
 literals_first (Segment end ∷ own) others plain = absurd plain
 literals_first (Anything ∷ own) others plain = absurd plain
 literals_first (Maybe group ∷ own) others plain = absurd plain
+literals_first (Longest run ∷ own) others plain = absurd plain
 literals_first (Copies copies ∷ own) others plain = absurd plain
 
 literals_second : (own others : List Step) → AreLiterals (own ++ others) → AreLiterals others
@@ -57,6 +61,7 @@ literals_second (Literal c ∷ own) others plain = literals_second own others pl
 literals_second (Segment end ∷ own) others plain = absurd plain
 literals_second (Anything ∷ own) others plain = absurd plain
 literals_second (Maybe group ∷ own) others plain = absurd plain
+literals_second (Longest run ∷ own) others plain = absurd plain
 literals_second (Copies copies ∷ own) others plain = absurd plain
 
 literals-append : (own others : List Step) → literals (own ++ others) ≡ literals own ++ literals others
@@ -65,6 +70,7 @@ literals-append (Literal c ∷ own) others = ap (λ l. c ∷ l) (literals-append
 literals-append (Segment end ∷ own) others = literals-append own others
 literals-append (Anything ∷ own) others = literals-append own others
 literals-append (Maybe group ∷ own) others = literals-append own others
+literals-append (Longest run ∷ own) others = literals-append own others
 literals-append (Copies copies ∷ own) others = literals-append own others
 
 pub literals_uncaptured : (steps : List Step) → AreLiterals steps → capture_count steps ≡ 0
@@ -73,6 +79,7 @@ literals_uncaptured (Literal c ∷ steps) plain = literals_uncaptured steps plai
 literals_uncaptured (Segment end ∷ steps) plain = absurd plain
 literals_uncaptured (Anything ∷ steps) plain = absurd plain
 literals_uncaptured (Maybe group ∷ steps) plain = absurd plain
+literals_uncaptured (Longest run ∷ steps) plain = absurd plain
 literals_uncaptured (Copies copies ∷ steps) plain = absurd plain
 
 -- the texts of both, one after the other
@@ -197,6 +204,17 @@ walks-segment end (dialect.Literal character) is = absurd is
 walks-segment end (Captured inner) is = absurd is
 walks-segment end (Grouped inner) is = absurd is
 
+walks-longest : (run : Run) (atom : Atom) → IsStepOf (Longest run) atom → AtomWalks atom (Longest run ∷ [])
+walks-longest run atom (items, is_greedy, quantifier, is_run, may_be, is) =
+    let inner : Items = Item (Grouped items) quantifier Nothing in
+    let takes = takes-runs run.end is_greedy items quantifier run.may_be_empty is_run may_be in
+    subst (λ (a : Atom). AtomWalks a (Longest run ∷ [])) (sym is)
+    (record {
+      count = let none = run_uncaptured run.end is_greedy items is_run in omega (arith, none);
+      text = λ plain. absurd plain;
+      walks = λ after text. captured_takes (ways inner) (longest_run run.may_be_empty run.end) takes (walk after) text;
+    })
+
 pub walks-step : (step : Step) (atom : Atom) → IsStepOf step atom → AtomWalks atom (step ∷ [])
 walks-step (Literal c) atom is =
     subst (λ (a : Atom). AtomWalks a (Literal c ∷ [])) (sym is.2)
@@ -204,6 +222,7 @@ walks-step (Literal c) atom is =
 walks-step (Segment c) atom is = subst (λ (a : Atom). AtomWalks a (Segment c ∷ [])) (sym is.2) (walks-segment c is.0 is.1)
 walks-step Anything atom is = subst (λ (a : Atom). AtomWalks a (Anything ∷ [])) (sym is) (record { count = refl; text = λ plain. absurd plain; walks = anything })
 walks-step (Maybe group) atom is = absurd is
+walks-step (Longest run) atom is = walks-longest run atom is
 walks-step (Copies copies) atom is = absurd is
 
 -- ---- a whole tree

@@ -5,9 +5,9 @@ use Rattle.urlpattern_engine.specs.declared.reading.Times.TheVariants as times
 use Rattle.urlpattern_engine.specs.declared.reading.Token.{Token}
 use Rattle.urlpattern_engine.specs.declared.reading.Token.TheVariants.{Open, Close, Step as One, MaybeStep}
 use Rattle.urlpattern_engine.specs.declared.step.Step.{Step}
-use Rattle.urlpattern_engine.specs.declared.step.Step.TheVariants.{Literal, Segment, Anything, Maybe, Copies}
+use Rattle.urlpattern_engine.specs.declared.step.Step.TheVariants.{Literal, Segment, Anything, Maybe, Longest, Copies}
 use Rattle.urlpattern_engine.specs.Steps.{capture_count, walk}
-use Rattle.urlpattern_laws.specs.Dialect.{AnyBut, AreItems, Atom, Captured, Character, Dot, IsAtom, IsCharacter, IsClassCharacter, IsTreeOf, Item, Items, LazyOneOrMore, Nothing, Quantifier, ZeroOrMore, atom_text, character_of, character_text, items_text, quantifier_text}
+use Rattle.urlpattern_laws.specs.Dialect.{AnyBut, AreItems, Atom, Captured, Character, Dot, Grouped, IsAtom, IsCharacter, IsClassCharacter, IsTreeOf, Item, Items, LazyOneOrMore, Nothing, OneOrMore, Quantifier, ZeroOrMore, atom_text, character_of, character_text, items_text, quantifier_text}
 use Rattle.urlpattern_laws.specs.Dialect as dialect
 use Rattle.urlpattern_laws.specs.Ways.{first_way}
 use Rattle.urlpattern_syntax.specs.Text.{line_feed}
@@ -27,12 +27,26 @@ IsAllBut c Dot = c ≡ line_feed
 IsAllBut c (AnyBut character) = character_of character ≡ c
 IsAllBut c atom = ⊥
 
+-- the items are one run of characters, none of them this: of any number, or of one or more that ends as early as it may
+abbrev pub IsRunOf : (end : ℕ) → (is_greedy : Bool) → Items → Type 0
+IsRunOf end true items = (end ≡ line_feed) × (items ≡ Item Dot ZeroOrMore Nothing)
+IsRunOf end false items = (one : Atom) × IsAllBut end one × (items ≡ Item one LazyOneOrMore Nothing)
+
+-- whether such runs that are taken so often may take nothing
+abbrev pub MayBeEmpty : (is_greedy : Bool) → Quantifier → (may_be_empty : Bool) → Type 0
+MayBeEmpty is_greedy ZeroOrMore may_be_empty = may_be_empty ≡ true
+MayBeEmpty is_greedy OneOrMore may_be_empty = may_be_empty ≡ is_greedy
+MayBeEmpty is_greedy quantifier may_be_empty = ⊥
+
 -- the step takes what the atom takes
 abbrev pub IsStepOf : Step → Atom → Type 0
 IsStepOf (Literal c) atom = (character : Character) × (character_of character ≡ c) × (atom ≡ dialect.Literal character)
 IsStepOf (Segment c) atom = (one : Atom) × IsAllBut c one × (atom ≡ Captured (Item one LazyOneOrMore Nothing))
 IsStepOf Anything atom = atom ≡ Captured (Item Dot ZeroOrMore Nothing)
 IsStepOf (Maybe group) atom = ⊥
+IsStepOf (Longest run) atom =
+    (items : Items) × (is_greedy : Bool) × (quantifier : Quantifier) × IsRunOf run.end is_greedy items × MayBeEmpty is_greedy quantifier run.may_be_empty
+    × (atom ≡ Captured (Item (Grouped items) quantifier Nothing))
 IsStepOf (Copies copies) atom = ⊥
 
 -- the text is that of an atom that the step stands for

@@ -2,7 +2,7 @@
 use Rattle.std.specs.Prelude.{◌≡◌, ℕ, zero, suc, Bool, false, ◌==◌, length, List, [], ◌∷◌, ◌++◌, replicate, take, Option, Some, None, option_map, if◌then◌else◌}
 use Rattle.std.specs.Option.{option_or}
 use Rattle.urlpattern_engine.specs.declared.step.Step.{Step}
-use Rattle.urlpattern_engine.specs.declared.step.Step.TheVariants.{Literal, Segment, Anything, Maybe, Copies}
+use Rattle.urlpattern_engine.specs.declared.step.Step.TheVariants.{Literal, Segment, Anything, Maybe, Longest, Copies}
 use Rattle.urlpattern_engine.specs.declared.step.Stretch.{Stretch}
 use Rattle.urlpattern_laws.specs.PartMeaning.{Captures}
 use Rattle.urlpattern_syntax.specs.Text.{line_feed}
@@ -32,6 +32,14 @@ shortest end gives front (c ∷ text) = if c == end then None else option_or (gi
 abbrev pub longest : (end : ℕ) → Gives → (front text : List ℕ) → Option Captures
 longest end gives front [] = gives front []
 longest end gives front (c ∷ text) = if c == end then gives front (c ∷ text) else option_or (longest end gives (front ++ c ∷ []) text) (gives front (c ∷ text))
+
+-- the same where it has one character or more
+abbrev pub longest_some : (end : ℕ) → Gives → (front text : List ℕ) → Option Captures
+longest_some end gives front [] = None
+longest_some end gives front (c ∷ text) = if c == end then None else longest end gives (front ++ c ∷ []) text
+
+abbrev pub longest_run : (may_be_empty : Bool) → (end : ℕ) → Gives → Gives
+longest_run may_be_empty end = if may_be_empty then longest end else longest_some end
 
 -- ---- rounds
 
@@ -91,6 +99,7 @@ walk_after zero (Segment end ∷ steps) text = shortest end (captured (walk_afte
 walk_after zero (Anything ∷ steps) text = longest line_feed (captured (walk_after zero steps)) [] text
 walk_after zero (Maybe group ∷ steps) text =
     option_or (walk_after zero steps text) (option_map (λ others. replicate group.captures None ++ others) (walk_after group.steps steps text))
+walk_after zero (Longest run ∷ steps) text = longest_run run.may_be_empty run.end (captured (walk_after zero steps)) [] text
 walk_after zero (Copies copies ∷ steps) text =
     repeated copies.may_be_missing (after_text (stretch_text copies.text steps)) (λ front rest. walk_after copies.text.others steps rest) [] text
 
@@ -104,6 +113,7 @@ capture_count (Literal c ∷ steps) = capture_count steps
 capture_count (Segment end ∷ steps) = suc (capture_count steps)
 capture_count (Anything ∷ steps) = suc (capture_count steps)
 capture_count (Maybe group ∷ steps) = capture_count steps
+capture_count (Longest run ∷ steps) = suc (capture_count steps)
 capture_count (Copies copies ∷ steps) = capture_count steps
 
 -- the steps take no text that begins with another character than this

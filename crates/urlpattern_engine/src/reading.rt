@@ -2,13 +2,13 @@
 
 ghost use Rattle.std.specs.Prelude.{◌≡◌, ◌∷◌, ◌++◌, ℕ, ◌<◌, ◌≤◌, List, length, take, drop, codes, IfOk, IfSome, IsTrue};
 ghost use Rattle.std.specs.Str.{chars};
-ghost use Rattle.urlpattern_engine.specs.Reading.{AreCopies, AreLiterals, AreStepsOf, BeginsWithCaptured, BeginsWithCharacter, BeginsWithToken, IsGroup, times_text};
+ghost use Rattle.urlpattern_engine.specs.Reading.{AreCopies, AreLiterals, AreStepsOf, BeginsWithCaptured, BeginsWithCharacter, BeginsWithToken, IsGroup, IsRunOf, IsStepOf, MayBeEmpty, quantifier_of, times_text};
 ghost use Rattle.urlpattern_engine.specs.Steps.{capture_count};
-ghost use Rattle.urlpattern_laws.specs.Dialect.{IsCharacter, IsClassCharacter};
+ghost use Rattle.urlpattern_laws.specs.Dialect.{AllowsGroups, Captured, group_count, Grouped, IsCharacter, IsClassCharacter, Item, Items, Nothing};
 ghost use Rattle.urlpattern_syntax.specs.RegexpText.{regexp_marks};
 ghost use Rattle.urlpattern_syntax.specs.Text.{is_among};
 
-use crate::step::{Copies, Group, Step, Stretch};
+use crate::step::{Copies, Group, Run, Step, Stretch};
 use crate::texts::{after, split_first};
 use crate::walk::stop_at;
 use std::alloc::{AllocError, Global};
@@ -152,7 +152,7 @@ fn group_of(steps: &[Step]) -> Group
     let mut rest = steps;
     while let [step, others @ ..] = rest {
         match step {
-            Step::Segment(_) | Step::Anything => captures += 1,
+            Step::Segment(_) | Step::Anything | Step::Longest(_) => captures += 1,
             Step::Literal(_) | Step::Maybe(_) | Step::Copies(_) => {}
         }
         rest = others;
@@ -195,6 +195,7 @@ fn has_choice(step: &Step, others: &[Step]) -> bool {
     match step {
         Step::Segment(end) => !stop_at(others, *end),
         Step::Anything => !stop_at(others, '\n'),
+        Step::Longest(run) => !stop_at(others, run.end),
         Step::Copies(_) => true,
         Step::Literal(_) | Step::Maybe(_) => false,
     }
@@ -257,6 +258,60 @@ fn read_bracket(text: &str) -> Option<(Token, &str)>
 
 /// The step for what brackets capture, and what follows it.
 fn read_captured(text: &str) -> Option<(Step, &str)>
+    ensures step { IfSome result (λ read. BeginsWithCaptured (chars text.now) read.0 (chars read.1.now)) }
+    ensures len { IfSome result (λ read. length read.1.now < length text.now) }
+{
+    match after(text, '(') {
+        Some(rest) => read_repeated_run(rest),
+        None => read_run(text),
+    }
+}
+
+/// The step for a group of a run of characters, taken so often, and what follows that. The text is what follows the opening
+/// bracket.
+fn read_repeated_run(text: &str) -> Option<(Step, &str)>
+    ensures step { IfSome result (λ read. BeginsWithCaptured (codes "(" ++ chars text.now) read.0 (chars read.1.now)) }
+    ensures len { IfSome result (λ read. length read.1.now < length text.now) }
+{
+    let (single, rest) = read_run(after(after(text, '?')?, ':')?)?;
+    let (times, remaining) = read_times(after(rest, ')')?);
+    Some((repeated_run(single, times)?, remaining))
+}
+
+/// The step for runs one after the other, so often, which are one run.
+fn repeated_run(run: Step, times: Times) -> Option<Step>
+    ensures { IfSome result (λ step. (items : Items) → IsStepOf run (Captured items)
+        → AllowsGroups (quantifier_of times) (group_count items) × IsStepOf step (Captured (Item (Grouped items) (quantifier_of times) Nothing))) }
+{
+    let (end, is_greedy) = run_of(run)?;
+    let may_be_empty = may_be_empty(is_greedy, times)?;
+    Some(Step::Longest(Run { end, may_be_empty }))
+}
+
+/// The character that ends a run, and whether it is of any number of characters, as many as what follows allows.
+fn run_of(step: Step) -> Option<(char, bool)>
+    ensures { IfSome result (λ run. (items : Items) → IsStepOf step (Captured items) → IsRunOf run.0 run.1 items) }
+{
+    match step {
+        Step::Segment(end) => Some((end, false)),
+        Step::Anything => Some(('\n', true)),
+        _ => None,
+    }
+}
+
+/// Whether runs that are taken so often may take nothing.
+fn may_be_empty(is_greedy: bool, times: Times) -> Option<bool>
+    ensures { IfSome result (λ may_be_empty. MayBeEmpty is_greedy (quantifier_of times) may_be_empty) }
+{
+    match times {
+        Times::ZeroOrMore => Some(true),
+        Times::OneOrMore => Some(is_greedy),
+        Times::Once | Times::Optional => None,
+    }
+}
+
+/// The step for a run of characters, and what follows it.
+fn read_run(text: &str) -> Option<(Step, &str)>
     ensures step { IfSome result (λ read. BeginsWithCaptured (chars text.now) read.0 (chars read.1.now)) }
     ensures len { IfSome result (λ read. length read.1.now < length text.now) }
 {

@@ -11,6 +11,8 @@ pub(crate) enum Step {
     Anything,
     /// The steps of a group that may be missing, which follow.
     Maybe(Group),
+    /// A run of characters, captured: as long as the steps after it allow.
+    Longest(Run),
     /// Copies of a text, one after the other: as many as the steps after it allow.
     Copies(Copies),
 }
@@ -40,4 +42,13 @@ pub(crate) struct Copies {
     pub(crate) text: Stretch,
     /// Whether there may be none.
     pub(crate) may_be_missing: bool,
+}
+
+/// A run of characters.
+#[derive(Clone, Copy)]
+pub(crate) struct Run {
+    /// The character that is not among them.
+    pub(crate) end: char,
+    /// Whether there may be none.
+    pub(crate) may_be_empty: bool,
 }

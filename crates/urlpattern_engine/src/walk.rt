@@ -8,7 +8,7 @@ ghost use Rattle.urlpattern_engine.specs.Taken.{Adds, Extends};
 ghost use Rattle.urlpattern_syntax.specs.Text.{line_feed};
 
 use crate::repeats::{after_literals, first_steps, skip_copies, without_copy};
-use crate::step::{Copies, Step};
+use crate::step::{Copies, Run, Step};
 use crate::texts::{after, after_front, split_at_first, split_first, without_last};
 use std::alloc::Global;
 use urlpattern_core::error::OutOfMemory;
@@ -103,6 +103,7 @@ fn follow_on<'t>(
                 add_missing(captures, group.captures)?;
                 left = pass(others, group.steps);
             }
+            Step::Longest(longest) => return follow_longest_run(captures, *longest, others, rest),
             Step::Copies(copies) => return follow_copies(captures, *copies, others, rest),
         }
     }
@@ -180,6 +181,34 @@ fn follow_captured<'t>(
     }
     captures.pop();
     Ok(false)
+}
+
+/// Whether the steps take what follows a run of characters, the longest first. Where they do, the run and what they capture are
+/// added.
+///
+/// The error is that memory ran out.
+#[cycle(following)]
+fn follow_longest_run<'t>(
+    captures: &mut Vec<Option<&'t str>>,
+    run: Run,
+    steps: &[Step],
+    text: &'t str,
+) -> Result<bool, OutOfMemory>
+    ensures adds { IfOk result (λ is_taken. Adds captures.old.items captures.new.items is_taken (walk (Step.Longest run ∷ steps.now) (chars text.now))) }
+    ensures same { IfOk result (λ is_taken. is_taken ≡ false → captures.new.items ≡ captures.old.items) }
+{
+    let (mut front, _) = split_at_first(text, run.end);
+    while let Some(shorter) = without_last(front) {
+        if follow_captured(captures, front, steps, after_front(text, front))? {
+            return Ok(true);
+        }
+        front = shorter;
+    }
+    if run.may_be_empty {
+        follow_captured(captures, front, steps, text)
+    } else {
+        Ok(false)
+    }
 }
 
 /// Whether the steps that follow take what follows copies of a text, the most first. Where they do, what they capture is added.
@@ -278,7 +307,7 @@ pub(crate) fn stop_at(steps: &[Step], end: char) -> bool
                 }
                 rest = pass(others, copies.text.others);
             }
-            Step::Segment(_) | Step::Anything => return false,
+            Step::Segment(_) | Step::Anything | Step::Longest(_) => return false,
         }
     }
     true

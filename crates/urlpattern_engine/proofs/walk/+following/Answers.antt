@@ -7,9 +7,10 @@ use Rattle.std.specs.Str.{chars, IsUtf8}
 use Rattle.urlpattern_syntax.proofs.TextLemmas.{chars-empty, chars-some}
 use Rattle.urlpattern_syntax.specs.Text.{line_feed}
 use Rattle.urlpattern_engine.specs.declared.step.Step.{Step}
-use Rattle.urlpattern_engine.specs.declared.step.Step.TheVariants.{Segment, Anything, Maybe, Copies}
+use Rattle.urlpattern_engine.specs.declared.step.Step.TheVariants.{Segment, Anything, Maybe, Longest, Copies}
 use Rattle.urlpattern_engine.specs.Steps.{Gives, after_text, any_rounds, captured, copies_of, literals, repeated, shortest, some_rounds, up_to_first, walk, StopAt}
 use Rattle.urlpattern_engine.proofs.CopyLemmas.{after-other, copies_fewer, copies_after, copies_step, copy_shrinks, fewer-found, no_copy_left}
+use Rattle.urlpattern_engine.proofs.LongestLemmas.{at_least, at_least_some, falling_empty, falling_none, front_some, longest_run_falling}
 use Rattle.urlpattern_engine.proofs.Tried.{Next}
 use Rattle.urlpattern_engine.specs.Taken.{Adds, Extends}
 use Rattle.urlpattern_engine.proofs.FollowLemmas.{plus, adds_none, adds_some, bytes_join, end_adds, extends_more, front_grows, front_shrinks, later_adds, later_extends, plus_captured, plus_maybe, shortest_passed}
@@ -206,6 +207,125 @@ follow_on-returns-clause-adds n c =
     end_adds now (chars rest) c.is_empty-2.result
     (λ e. chars-empty rest (search rules)) (λ e. chars-some rest utf8 (search rules))
     ∙ sym (c.loop-step.invariant.so_far ∙ ap (λ l. plus now (walk l (chars rest))) none)
+
+pub follow_on-returns-in-Longest-clause-adds : goal.follow_on-returns-in-Longest-clause-adds
+follow_on-returns-in-Longest-clause-adds n c =
+    let old = c.args.captures.now.items in
+    let now = c.loop-step.captures.items in
+    let rest = chars c.loop-step.rest.now in
+    let others = c.in-Some.others.now in
+    let left : c.loop-step.left.now ≡ Longest c.in-Longest.longest ∷ others = c.in-Some.ensures.cases.0 ∙ ap (λ (s : Step). s ∷ others) c.in-Longest.is in
+    later_adds old now c.follow_longest_run.new.captures.items (walk c.args.steps.now (chars c.args.text.now)) (walk (Longest c.in-Longest.longest ∷ others) rest) c.follow_longest_run.result
+    (c.loop-step.invariant.so_far ∙ ap (λ l. plus now (walk l rest)) left) c.follow_longest_run.ensures.adds
+
+pub follow_on-returns-in-Longest-clause-more : goal.follow_on-returns-in-Longest-clause-more
+follow_on-returns-in-Longest-clause-more n c =
+    later_extends c.args.captures.now.items c.loop-step.captures.items c.follow_longest_run.new.captures.items c.follow_longest_run.result c.loop-step.invariant.more c.follow_longest_run.ensures.same
+
+pub follow_longest_run-loop-shorter-init : goal.follow_longest_run-loop-shorter-init
+follow_longest_run-loop-shorter-init n c =
+    let run = c.args.run in
+    let text = chars c.args.text.now in
+    let front = c.split_at_first.result.0.now in
+    let rest = c.split_at_first.result.1.now in
+    let gives : Gives = captured (walk c.args.steps.now) in
+    let utf8 : IsUtf8 front = search rules in
+    let further : IsUtf8 rest = search rules in
+    let whole : IsUtf8 c.args.text.now = search rules in
+    let cut : text ≡ chars front ++ chars rest = rw (c.split_at_first.ensures.front, c.split_at_first.ensures.rest) (sym (both_ends run.end text)) in
+    record {
+      is_text = search rules;
+      so_far = (
+        rest,
+        further,
+        bytes_join c.args.text.now front rest whole utf8 further cut,
+        rw (c.split_at_first.ensures.front, c.split_at_first.ensures.rest) (longest_run_falling run.may_be_empty run.end gives text),
+      );
+      same = refl;
+    }
+
+pub follow_longest_run-after_front-requires : goal.follow_longest_run-after_front-requires
+follow_longest_run-after_front-requires n c = let so_far = c.loop-shorter.invariant.so_far in (so_far.0, so_far.1, so_far.2)
+
+pub follow_longest_run-returns-then-branch-clause-adds : goal.follow_longest_run-returns-then-branch-clause-adds
+follow_longest_run-returns-then-branch-clause-adds n c =
+    let old = c.args.captures.now.items in
+    let new = c.follow_captured.new.captures.items in
+    let may_be_empty = c.args.run.may_be_empty in
+    let front = c.loop-shorter.front.now in
+    let left = c.after_front.result.now in
+    let gives : Gives = captured (walk c.args.steps.now) in
+    let so_far = c.loop-shorter.invariant.so_far in
+    let rest : left ≡ so_far.0 = append_cancel_left front left so_far.0 (sym c.after_front.ensures ∙ so_far.2) in
+    let last = c.in-Some.ensures.cut in
+    let utf8 : IsUtf8 c.in-Some.shorter.now = search rules in
+    let some = front_some front c.in-Some.shorter.now last.0 utf8 last.1 last.2 in
+    let adds : Adds old new true (gives (chars front) (chars left)) =
+    subst (λ l. Adds l new true (gives (chars front) (chars left))) c.loop-shorter.invariant.same
+    (subst (λ b. Adds c.loop-shorter.captures.items new b (gives (chars front) (chars left))) c.if-branch.true c.in_ok-follow_captured.ensures.adds) in
+    let found = adds_some old new (gives (chars front) (chars left)) adds in
+    adds ∙ ap (plus old)
+    (found.1
+    ∙ sym (so_far.3 ∙ falling-found (at_least may_be_empty gives) [] (chars front) (chars so_far.0) found.0
+    (at_least_some may_be_empty gives (chars front) (chars so_far.0) some ∙ ap (λ r. gives (chars front) (chars r)) (sym rest) ∙ found.1)))
+
+pub follow_longest_run-loop-shorter-preserved : goal.follow_longest_run-loop-shorter-preserved
+follow_longest_run-loop-shorter-preserved n c =
+    let new = c.follow_captured.new.captures.items in
+    let may_be_empty = c.args.run.may_be_empty in
+    let front = c.loop-shorter.front.now in
+    let shorter = c.in-Some.shorter.now in
+    let left = c.after_front.result.now in
+    let gives : Gives = captured (walk c.args.steps.now) in
+    let so_far = c.loop-shorter.invariant.so_far in
+    let rest : left ≡ so_far.0 = append_cancel_left front left so_far.0 (sym c.after_front.ensures ∙ so_far.2) in
+    let last = c.in-Some.ensures.cut in
+    let utf8 : IsUtf8 shorter = search rules in
+    let further : IsUtf8 (encode_utf8 last.0) = IsUtf8-encode last.0 last.1 in
+    let some = front_some front shorter last.0 utf8 last.1 last.2 in
+    let none : gives (chars front) (chars left) ≡ None =
+    adds_none c.loop-shorter.captures.items new _
+    (subst (λ b. Adds c.loop-shorter.captures.items new b (gives (chars front) (chars left))) c.if-branch.false c.in_ok-follow_captured.ensures.adds) in
+    record {
+      is_text = search rules;
+      so_far = (
+        encode_utf8 last.0 ++ so_far.0,
+        IsUtf8-append (encode_utf8 last.0) so_far.0 further so_far.1,
+        so_far.2 ∙ ap (λ f. f ++ so_far.0) last.2 ∙ append_assoc shorter (encode_utf8 last.0) so_far.0,
+        so_far.3 ∙ front_shrinks (at_least may_be_empty gives) front shorter so_far.0 last.0 utf8 so_far.1 last.1 further last.2
+            (at_least_some may_be_empty gives (chars front) (chars so_far.0) some ∙ ap (λ r. gives (chars front) (chars r)) (sym rest) ∙ none),
+      );
+      same = c.in_ok-follow_captured.ensures.same c.if-branch.false ∙ c.loop-shorter.invariant.same;
+    }
+
+pub follow_longest_run-returns-then-run-clause-adds : goal.follow_longest_run-returns-then-run-clause-adds
+follow_longest_run-returns-then-run-clause-adds n c =
+    let old = c.args.captures.now.items in
+    let now = c.loop-shorter.captures.items in
+    let front = c.loop-shorter.front.now in
+    let text = c.args.text.now in
+    let gives : Gives = captured (walk c.args.steps.now) in
+    let so_far = c.loop-shorter.invariant.so_far in
+    let rest : so_far.0 ≡ text = sym (so_far.2 ∙ ap (λ f. f ++ so_far.0) c.in_default.ensures.empty) in
+    let empty : chars front ≡ [] = chars-empty front (ap length c.in_default.ensures.empty) in
+    later_adds old now c.follow_captured-then-run.new.captures.items (walk (Longest c.args.run ∷ c.args.steps.now) (chars text)) (gives (chars front) (chars text)) c.follow_captured-then-run.result
+    (ap (plus old)
+    (so_far.3
+    ∙ ap (λ b. falling (at_least b gives) [] (chars front) (chars so_far.0)) c.if-run.true
+    ∙ falling_empty gives (chars front) (chars so_far.0) empty
+    ∙ ap (λ r. gives (chars front) (chars r)) rest)
+    ∙ ap (λ l. plus l (gives (chars front) (chars text))) (sym c.loop-shorter.invariant.same))
+    c.follow_captured-then-run.ensures.adds
+
+pub follow_longest_run-returns-else-run-clause-adds : goal.follow_longest_run-returns-else-run-clause-adds
+follow_longest_run-returns-else-run-clause-adds n c =
+    let front = c.loop-shorter.front.now in
+    let gives : Gives = captured (walk c.args.steps.now) in
+    let so_far = c.loop-shorter.invariant.so_far in
+    sym (ap (plus c.args.captures.now.items)
+    (so_far.3
+    ∙ ap (λ b. falling (at_least b gives) [] (chars front) (chars so_far.0)) c.if-run.false
+    ∙ falling_none gives (chars front) (chars so_far.0) (chars-empty front (ap length c.in_default.ensures.empty))))
 
 pub follow_on-returns-in-Copies-clause-adds : goal.follow_on-returns-in-Copies-clause-adds
 follow_on-returns-in-Copies-clause-adds n c =

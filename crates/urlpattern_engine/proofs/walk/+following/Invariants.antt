@@ -4,7 +4,8 @@ use denote.Shadow.{shadow}
 use Rattle.std.specs.Str.{chars, IsUtf8}
 use Rattle.urlpattern_core.specs.Captured.{capture_view}
 use Rattle.urlpattern_syntax.specs.Text.{line_feed}
-use Rattle.urlpattern_engine.specs.Steps.{after_text, any_rounds, captured, copies_of, literals, longest, shortest, walk}
+use Rattle.urlpattern_engine.specs.Steps.{after_text, any_rounds, captured, copies_of, literals, longest, longest_run, shortest, walk}
+use Rattle.urlpattern_engine.proofs.LongestLemmas.{at_least}
 use Rattle.urlpattern_engine.proofs.CopyLemmas.{fewer}
 use Rattle.urlpattern_engine.specs.Taken.{Extends}
 use Rattle.urlpattern_engine.proofs.RunLemmas.{falling}
@@ -42,6 +43,20 @@ invariant-follow_any_copies-loop-shorter l = record {
 
 abbrev pub decreases-follow_any_copies-loop-shorter : goal.decreases-follow_any_copies-loop-shorter
 decreases-follow_any_copies-loop-shorter l = length l.front
+
+abbrev pub decreases-follow_longest_run : goal.decreases-follow_longest_run
+decreases-follow_longest_run l = 4 * length l.steps.now + 3
+
+abbrev pub invariant-follow_longest_run-loop-shorter : goal.invariant-follow_longest_run-loop-shorter
+invariant-follow_longest_run-loop-shorter l = record {
+  is_text : shadow (Utf8 l.front);
+  so_far : (rest : List ℕ) × IsUtf8 rest × (l.text ≡ l.front ++ rest)
+      × (longest_run l.run.may_be_empty l.run.end (captured (walk l.steps)) [] (chars l.text) ≡ falling (at_least l.run.may_be_empty (captured (walk l.steps))) [] (chars l.front) (chars rest));
+  same : l.captures.items ≡ l.fn.captures.items;
+}
+
+abbrev pub decreases-follow_longest_run-loop-shorter : goal.decreases-follow_longest_run-loop-shorter
+decreases-follow_longest_run-loop-shorter l = length l.front
 
 abbrev pub invariant-follow_on-loop-step : goal.invariant-follow_on-loop-step
 invariant-follow_on-loop-step l = record {
