@@ -3,6 +3,7 @@ pub mod Walks
 pub mod RunLemmas
 pub mod FollowLemmas
 pub mod ReadingLemmas
+pub mod FailedLemmas
 pub mod StepLemmas
 pub mod TwoRegexes
 pub mod EngineLaws

@@ -4,6 +4,7 @@
 //! be missing, where these leave few choices; and leaves every other to `regex::Regex`. It answers what `regex::Regex` answers.
 #![tactic(auto)]
 
+mod failed;
 pub mod laws;
 mod pattern_regexp;
 mod reading;
