@@ -1,9 +1,9 @@
 -- Places in a match, and their bits.
-use Rattle.std.proofs.Common.{◌≡◌, ◌≢◌, ℕ, ◌+◌, ◌*◌, ◌/◌, ◌%◌, ◌^◌, ◌<◌, ◌≤◌, ◌⊎◌, List, [], ◌∷◌, ◌++◌, length, get_or, set, None, refl, sym, ap, ◌∙◌, inl, inr, arith, append_assoc, length-append, drop, take, bit_and, bit_or, w64, replicate, zero, suc}
+use Rattle.std.proofs.Common.{◌≡◌, ◌≢◌, ℕ, ◌+◌, ◌*◌, ◌/◌, ◌%◌, ◌^◌, ◌<◌, ◌⊎◌, List, [], ◌∷◌, ◌++◌, length, get_or, set, None, refl, sym, ap, ◌∙◌, subst, inl, inr, arith, append_assoc, length-append, drop, take, bit_and, bit_or, w64, replicate, zero, suc}
 use Rattle.std.specs.Int.{bit_at}
 use Rattle.std.proofs.lemmas.Nat.Bits.{bit_at-zero, shr_and_one, bit_at_set_other}
 use Rattle.std.proofs.lemmas.Bool.{cases_eq}
-use Rattle.std.proofs.lemmas.List.{get_or-set_same, get_or-set_other, take-append-le}
+use Rattle.std.proofs.lemmas.List.{get_or-set_same, get_or-set_other, take-append-le, take-append-drop}
 use Rattle.std.proofs.Math.Seq.{drop-append_seam, take-length}
 use Rattle.std.proofs.lemmas.Nat.{div-mul-add}
 use Rattle.urlpattern_engine.specs.declared.step.Step.{Step}
@@ -16,6 +16,19 @@ use Rattle.urlpattern_syntax.specs.Text.{byte_len}
 
 pub ends_longer : {A : Type 0} (whole more end : List A) → EndsWith whole more → EndsWith more end → EndsWith whole end
 ends_longer whole more end first second = (first.0 ++ second.0, first.1 ∙ ap (λ l. first.0 ++ l) second.1 ∙ sym (append_assoc first.0 second.0 end))
+
+pub ends_same : {A : Type 0} (whole : List A) → EndsWith whole whole
+ends_same whole = ([], refl)
+
+pub ends_drop : {A : Type 0} (n : ℕ) (whole : List A) → EndsWith whole (drop n whole)
+ends_drop n whole = (take n whole, sym (take-append-drop n whole))
+
+-- less of both is left
+pub place_within : (whole now : Whole) (steps others : List Step) (text rest : List ℕ) → now ≡ whole → IsPlace whole steps text → EndsWith steps others → EndsWith text rest → IsPlace now others rest
+place_within whole now steps others text rest same place first second = subst (λ w. IsPlace w others rest) (sym same) (record {
+  of_steps = ends_longer whole.steps steps others place.of_steps first;
+  of_text = ends_longer whole.text text rest place.of_text second;
+})
 
 -- ends of one length are one
 same_end : {A : Type 0} (front other end also : List A) → front ++ end ≡ other ++ also → length end ≡ length also → end ≡ also
@@ -49,9 +62,10 @@ same_place whole steps others text other place also e =
     let rows : length steps ≡ length others =
     sym (div-mul-add (length steps) width (byte_len text) (short_text whole.text text place.of_text))
     ∙ ap (λ n. n / width) e ∙ div-mul-add (length others) width (byte_len other) (short_text whole.text other also.of_text) in
-    let row : length steps * width ≡ length others * width = ap (λ n. n * width) rows in
-    (same_end place.of_steps.0 also.of_steps.0 steps others (sym place.of_steps.1 ∙ also.of_steps.1) rows,
-    same_text place.of_text.0 also.of_text.0 text other (sym place.of_text.1 ∙ also.of_text.1) (omega arith))
+    let row : length steps * width ≡ length others * width = ap (λ n. n * width) rows in (
+      same_end place.of_steps.0 also.of_steps.0 steps others (sym place.of_steps.1 ∙ also.of_steps.1) rows,
+      same_text place.of_text.0 also.of_text.0 text other (sym place.of_text.1 ∙ also.of_text.1) (omega arith),
+    )
 
 -- a place more
 pub dead_more : (whole : Whole) (old new : List ℕ) (bit : ℕ) (steps : List Step) (text : List ℕ) → IsPlace whole steps text → walk steps text ≡ None → bit ≡ bit_of whole.text steps text
@@ -76,15 +90,15 @@ bit_set old bit word within is other has =
     elim (cases_eq other bit) [
       | inl same ↦ inr same
       | inr differs ↦ inl (elim (cases_eq (other / 64) (bit / 64)) [
-          | inl at ↦
-              let bits : other % 64 ≢ bit % 64 = λ e. differs (omega arith) in
-              let now = get_or-set_same old (bit / 64) (bit_or word (1 * 2 ^ (bit % 64) % 2 ^ 64)) 0 within in
-              sym (bit_at_set_other w64 word (bit % 64) (omega arith) (other % 64) bits
-              ∙ ap (λ n. bit_at n (other % 64)) (sym is ∙ ap (λ n. get_or old n 0) (sym at)))
-              ∙ ap (λ n. bit_at n (other % 64)) (sym now ∙ ap (λ n. get_or (set old (bit / 64) (bit_or word (1 * 2 ^ (bit % 64) % 2 ^ 64))) n 0) (sym at)) ∙ has
-          | inr away ↦
-              ap (λ n. bit_at n (other % 64)) (sym (get_or-set_other old (bit / 64) (other / 64) (bit_or word (1 * 2 ^ (bit % 64) % 2 ^ 64)) 0 away)) ∙ has
-        ])
+        | inl at ↦
+            let bits : other % 64 ≢ bit % 64 = λ e. differs (omega arith) in
+            let now = get_or-set_same old (bit / 64) (bit_or word (1 * 2 ^ (bit % 64) % 2 ^ 64)) 0 within in
+            sym (bit_at_set_other w64 word (bit % 64) (omega arith) (other % 64) bits
+            ∙ ap (λ n. bit_at n (other % 64)) (sym is ∙ ap (λ n. get_or old n 0) (sym at)))
+            ∙ ap (λ n. bit_at n (other % 64)) (sym now ∙ ap (λ n. get_or (set old (bit / 64) (bit_or word (1 * 2 ^ (bit % 64) % 2 ^ 64))) n 0) (sym at)) ∙ has
+        | inr away ↦
+            ap (λ n. bit_at n (other % 64)) (sym (get_or-set_other old (bit / 64) (other / 64) (bit_or word (1 * 2 ^ (bit % 64) % 2 ^ 64)) 0 away)) ∙ has
+      ])
     ]
 
 pub zeros : (n k : ℕ) → get_or (replicate {A = ℕ} n 0) k 0 ≡ 0

@@ -41,11 +41,7 @@ impl<'s, 't> Failed<'s, 't> {
     ) -> Result<Self, AllocError>
         ensures { IfOk result (λ failed. failed ≡ record { steps = steps.now; text = chars text.now }) }
     {
-        let count = if has_room {
-            words(steps, text)
-        } else {
-            0
-        };
+        let count = if has_room { words(steps, text) } else { 0 };
         Ok(Failed {
             steps,
             text,
