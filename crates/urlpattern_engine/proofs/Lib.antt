@@ -1,11 +1,13 @@
 pub mod Tried
 pub mod Rounds
 pub mod RunLemmas
+pub mod FallingLemmas
 pub mod LongestLemmas
 pub mod Walks
 pub mod RepeatLemmas
 pub mod FollowLemmas
 pub mod ReadingLemmas
+pub mod FailedLemmas
 pub mod StepLemmas
 pub mod CopyLemmas
 pub mod TwoRegexes

@@ -14,7 +14,7 @@ use Rattle.urlpattern_syntax.specs.Text.{line_feed}
 use Rattle.urlpattern_engine.specs.Reading.{IsAllBut, IsRunOf, MayBeEmpty}
 use Rattle.urlpattern_engine.specs.Steps.{Gives, after_text, any_rounds, captured, from_first, longest, longest_run, longest_some, rounds, shortest, some_rounds, up_to_first}
 use Rattle.urlpattern_engine.proofs.Rounds.{Advances, Keeps, Takes, beyond, takes-looped, takes-looped_or_not, takes-nothing, takes-then, then, tried-then, tried_idle}
-use Rattle.urlpattern_engine.proofs.RunLemmas.{falling, longest_falling}
+use Rattle.urlpattern_engine.proofs.FallingLemmas.{falling, longest_falling}
 use Rattle.urlpattern_engine.proofs.Tried.{Given, Next, given, bare, before_next, one, tried, tried-append, tried-map, lazy_loop, greedy_loop}
 
 -- ---- runs

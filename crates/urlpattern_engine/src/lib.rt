@@ -4,10 +4,13 @@
 //! be missing, where these leave few choices; and leaves every other to `regex::Regex`. It answers what `regex::Regex` answers.
 #![tactic(auto)]
 
+mod choices;
+mod failed;
 pub mod laws;
 mod pattern_regexp;
 mod reading;
 mod repeats;
+mod runs;
 mod step;
 mod texts;
 mod walk;

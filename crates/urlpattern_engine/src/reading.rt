@@ -8,9 +8,9 @@ ghost use Rattle.urlpattern_laws.specs.Dialect.{AllowsGroups, Captured, group_co
 ghost use Rattle.urlpattern_syntax.specs.RegexpText.{regexp_marks};
 ghost use Rattle.urlpattern_syntax.specs.Text.{is_among};
 
+use crate::choices::is_shallow;
 use crate::step::{Copies, Group, Run, Step, Stretch};
 use crate::texts::{after, split_first};
-use crate::walk::stop_at;
 use std::alloc::{AllocError, Global};
 
 /// What stands in an expression one after the other.
@@ -71,7 +71,7 @@ pub(crate) fn read_steps(alloc: Global, regexp: &str) -> Result<Option<Vec<Step>
         }
         rest = remaining;
     }
-    if opened.is_none() && is_end(rest) && is_quick(&steps) {
+    if opened.is_none() && is_end(rest) && is_shallow(&steps) {
         Ok(Some(steps))
     } else {
         Ok(None)
@@ -160,44 +160,6 @@ fn group_of(steps: &[Step]) -> Group
     Group {
         steps: steps.len(),
         captures,
-    }
-}
-
-/// How many groups may be missing in an expression that is matched by steps.
-const MAYBE_COUNT: usize = 4;
-
-/// Whether there are so few choices that they are tried in little time, one after the other: of one run or the copies of one text,
-/// and of groups that may be missing.
-fn is_quick(steps: &[Step]) -> bool {
-    let mut maybe_count: usize = 0;
-    let mut is_chosen = false;
-    let mut rest = steps;
-    while let Some((step, others)) = rest.split_first() {
-        if has_choice(step, others) {
-            if is_chosen {
-                return false;
-            }
-            is_chosen = true;
-        }
-        if matches!(step, Step::Maybe(_)) {
-            if maybe_count == MAYBE_COUNT {
-                return false;
-            }
-            maybe_count = maybe_count.saturating_add(1);
-        }
-        rest = others;
-    }
-    true
-}
-
-/// Whether what the step takes may end at several places before the other steps.
-fn has_choice(step: &Step, others: &[Step]) -> bool {
-    match step {
-        Step::Segment(end) => !stop_at(others, *end),
-        Step::Anything => !stop_at(others, '\n'),
-        Step::Longest(run) => !stop_at(others, run.end),
-        Step::Copies(_) => true,
-        Step::Literal(_) | Step::Maybe(_) => false,
     }
 }
 

@@ -66,8 +66,8 @@ loop-token-preserved c =
           (begun-close (chars c.args.regexp.now) rest begins.0 remaining first c.in-Close.times done group.0 so_far group.1 begins.1 begins.2);
     }
 
-pub returns-then-is_quick : goal.returns-then-is_quick
-returns-then-is_quick c =
+pub returns-then-is_shallow : goal.returns-then-is_shallow
+returns-then-is_shallow c =
     let rest = chars c.loop-token.rest.now in
     let outside : c.loop-token.opened ≡ None = none_of c.loop-token.opened (sym c.if-is_none.ensures) in
     begun-ends (chars c.args.regexp.now) rest c.loop-token.steps.items

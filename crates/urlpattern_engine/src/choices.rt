@@ -1,0 +1,126 @@
+//! How many choices the steps of an expression leave.
+
+ghost use Rattle.std.specs.Prelude.{IsTrue, drop};
+ghost use Rattle.urlpattern_engine.specs.Steps.{StopAt};
+
+use crate::step::Step;
+use crate::walk::pass;
+
+/// When the places of a match that failed are remembered.
+#[derive(Clone, Copy)]
+pub(crate) enum Remembered {
+    Never,
+    InLongTexts,
+    Always,
+}
+
+/// How many bytes a text has at most that is not long.
+const SHORT_LENGTH: usize = 256;
+
+impl Remembered {
+    /// Whether they are remembered in a match of this text.
+    pub(crate) fn is_for(self, text: &str) -> bool {
+        match self {
+            Remembered::Never => false,
+            Remembered::InLongTexts => text.len() > SHORT_LENGTH,
+            Remembered::Always => true,
+        }
+    }
+}
+
+/// How many groups may be missing in an expression that leaves few choices.
+const MAYBE_COUNT: usize = 4;
+
+/// When the places that failed are to be remembered in a match by these steps.
+///
+/// They need not be where at most one captured run may end at several places, and few groups may be missing: then a place is
+/// tried again a few times at most. If another run follows, that one is read again after each end of the first, which takes long
+/// only in a long text.
+pub(crate) fn when_remembered(steps: &[Step]) -> Remembered {
+    let mut remembered = Remembered::Never;
+    let mut is_chosen = false;
+    let mut maybe_count: usize = 0;
+    let mut rest = steps;
+    while let Some((step, others)) = rest.split_first() {
+        match step {
+            Step::Literal(_) => {}
+            Step::Maybe(_) => maybe_count = maybe_count.saturating_add(1),
+            Step::Segment(_) | Step::Anything | Step::Longest(_) | Step::Copies(_) => {
+                let has_choice = has_choice(step, others);
+                if is_chosen && has_choice {
+                    return Remembered::Always;
+                }
+                if is_chosen {
+                    remembered = Remembered::InLongTexts;
+                }
+                is_chosen |= has_choice;
+            }
+        }
+        rest = others;
+    }
+    if maybe_count > MAYBE_COUNT {
+        Remembered::Always
+    } else {
+        remembered
+    }
+}
+
+/// Whether what the step takes may end at several places before the other steps.
+fn has_choice(step: &Step, others: &[Step]) -> bool {
+    match step {
+        Step::Segment(end) => !stop_at(others, *end),
+        Step::Anything => !stop_at(others, '\n'),
+        Step::Longest(_) | Step::Copies(_) => true,
+        Step::Literal(_) | Step::Maybe(_) => false,
+    }
+}
+
+/// How many steps with a choice there are at most in an expression that is matched by steps. Each may be a call within a call.
+const CHOICE_COUNT: usize = 1000;
+
+/// Whether so few of the steps may have a choice that a match by them needs little of the stack.
+pub(crate) fn is_shallow(steps: &[Step]) -> bool {
+    let choices = steps
+        .iter()
+        .filter(|step| !matches!(step, Step::Literal(_)));
+    choices.count() <= CHOICE_COUNT
+}
+
+/// Whether the steps are seen to take no text that begins with another character than this.
+pub(crate) fn stop_at(steps: &[Step], end: char) -> bool
+    ensures { IsTrue result → StopAt end steps.now }
+{
+    let mut rest = steps;
+    while let Some((step, others)) = rest.split_first() {
+        match step {
+            Step::Literal(c) => return *c == end,
+            Step::Maybe(group) => {
+                if !begin_with(others, end) {
+                    return false;
+                }
+                rest = pass(others, group.steps);
+            }
+            Step::Copies(copies) => {
+                if copies.text.first != end {
+                    return false;
+                }
+                if !copies.may_be_missing {
+                    return true;
+                }
+                rest = pass(others, copies.text.others);
+            }
+            Step::Segment(_) | Step::Anything | Step::Longest(_) => return false,
+        }
+    }
+    true
+}
+
+/// Whether the first step takes this character and no other.
+fn begin_with(steps: &[Step], c: char) -> bool
+    ensures { IsTrue result → StopAt c steps.now }
+{
+    match steps.split_first() {
+        Some((Step::Literal(other), _)) => *other == c,
+        _ => false,
+    }
+}
