@@ -59,6 +59,9 @@ impl<'s, 't> Failed<'s, 't> {
         requires { IsPlace self.now steps.now (chars text.now) }
         ensures { IsTrue result → walk steps.now (chars text.now) ≡ None }
     {
+        if !self.has_room() {
+            return false;
+        }
         match bit_of(self.text, steps, text) {
             Some(bit) => has_bit(&self.bits, bit),
             None => false,

@@ -204,6 +204,9 @@ fn follow_longest<'t>(
     ensures same { IfOk result (λ is_taken. is_taken ≡ false → captures.new.items ≡ captures.old.items) }
     ensures whole { failed.new ≡ failed.old }
 {
+    if failed.contains(steps, text) {
+        return Ok(false);
+    }
     let mut front = longest_front(failed, steps, text);
     loop {
         let rest = after_front(text, front);
