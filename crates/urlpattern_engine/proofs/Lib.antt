@@ -8,6 +8,8 @@ pub mod FollowLemmas
 pub mod ReadingLemmas
 pub mod StepLemmas
 pub mod CopyLemmas
+pub mod SegmentLemmas
+pub mod EndLemmas
 pub mod TwoRegexes
 pub mod EngineLaws
 pub mod StepExamples

@@ -3,13 +3,15 @@
 ghost use Rattle.std.specs.Prelude.{◌≡◌, ◌∷◌, ◌++◌, [], List, false, replicate, Bool, None, IfOk, IsTrue, OnOk, drop};
 ghost use Rattle.std.specs.Str.{chars};
 ghost use Rattle.urlpattern_core.specs.Captured.{captures_view};
-ghost use Rattle.urlpattern_engine.specs.Steps.{after_text, any_rounds, captured, literals, longest, shortest, walk, StopAt};
-ghost use Rattle.urlpattern_engine.specs.Taken.{Adds, Extends};
+ghost use Rattle.urlpattern_engine.specs.Steps.{after_text, any_rounds, captured, literals, longest, segmented, shortest, single_run, walk, StopAt};
+ghost use Rattle.urlpattern_engine.specs.Taken.{Adds, Extends, IsCutFor, IsEndHere};
 ghost use Rattle.urlpattern_syntax.specs.Text.{line_feed};
 
-use crate::repeats::{after_literals, first_steps, skip_copies, without_copy};
-use crate::step::{Copies, Run, Step};
-use crate::texts::{after, after_front, split_at_first, split_first, without_last};
+use crate::repeats::{
+    after_literals, begun_after, ends, first_steps, goes_on, skip_copies, without_copy,
+};
+use crate::step::{Copies, Run, Segments, Step};
+use crate::texts::{after, after_front, split_at_first, split_at_seam, split_first, without_last};
 use std::alloc::Global;
 use urlpattern_core::error::OutOfMemory;
 use urlpattern_syntax::tokenizer::before;
@@ -105,6 +107,9 @@ fn follow_on<'t>(
             }
             Step::Longest(longest) => return follow_longest_run(captures, *longest, others, rest),
             Step::Copies(copies) => return follow_copies(captures, *copies, others, rest),
+            Step::Segments(segments) => {
+                return follow_segments(captures, *segments, others, rest);
+            }
         }
     }
     Ok(rest.is_empty())
@@ -265,6 +270,88 @@ fn follow_any_copies<'t>(
     }
 }
 
+/// Whether the steps that follow take what follows segments, by the order in which these are tried. Where they do, the segments and
+/// what they capture are added.
+///
+/// The error is that memory ran out.
+#[cycle(following)]
+fn follow_segments<'t>(
+    captures: &mut Vec<Option<&'t str>>,
+    segments: Segments,
+    steps: &[Step],
+    text: &'t str,
+) -> Result<bool, OutOfMemory>
+    ensures adds { IfOk result (λ is_taken. Adds captures.old.items captures.new.items is_taken (walk (Step.Segments segments ∷ steps.now) (chars text.now))) }
+    ensures same { IfOk result (λ is_taken. is_taken ≡ false → captures.new.items ≡ captures.old.items) }
+{
+    let literal = first_steps(steps, segments.separator.others);
+    let others = pass(steps, segments.separator.others);
+    match end_of_segments(*captures.allocator(), segments, literal, others, text)? {
+        Some(count) => {
+            let (front, rest) = split_at_seam(text, count);
+            follow_captured(captures, front, others, rest)
+        }
+        None => Ok(false),
+    }
+}
+
+/// Where the segments at the front of a text end that are the first that the other steps lead on from, by the bytes before. `None`:
+/// there are none. The text between two segments is made up of the first character and the literal steps.
+///
+/// The error is that memory ran out.
+#[cycle(following)]
+fn end_of_segments(
+    alloc: Global,
+    segments: Segments,
+    literal: &[Step],
+    others: &[Step],
+    text: &str,
+) -> Result<Option<usize>, OutOfMemory>
+    ensures { IfOk result (λ end. IsCutFor (captured (walk others.now)) text.now end
+        (segmented (segments.separator.first ∷ literals literal.now) (single_run segments.is_greedy segments.end) (captured (walk others.now)) [] (chars text.now))) }
+{
+    let mut begun = Vec::new(alloc);
+    let mut later = None;
+    let mut front = text;
+    loop {
+        let rest = after_front(text, front);
+        let next = begun_after(&begun, segments.separator.first, literal, rest);
+        let stopping = end_here(alloc, others, next, front.len(), rest)?;
+        let onward = goes_on(rest, segments.end, later);
+        let (beginning, either) = ends(segments.is_greedy, onward, stopping);
+        let Some(shorter) = without_last(front) else {
+            return Ok(beginning);
+        };
+        begun.push(beginning)?;
+        later = either;
+        front = shorter;
+    }
+}
+
+/// Where segments end of which a run may end here: where those after it end, or else here, where the steps take the rest.
+///
+/// The error is that memory ran out.
+#[cycle(following)]
+fn end_here(
+    alloc: Global,
+    steps: &[Step],
+    next: Option<usize>,
+    here: usize,
+    rest: &str,
+) -> Result<Option<usize>, OutOfMemory>
+    ensures { IfOk result (λ end. IsEndHere next here (walk steps.now (chars rest.now)) end) }
+{
+    if next.is_some() {
+        return Ok(next);
+    }
+    let mut captures = Vec::new(alloc);
+    if follow(&mut captures, steps, rest)? {
+        Ok(Some(here))
+    } else {
+        Ok(None)
+    }
+}
+
 /// Adds so many captures that are missing.
 ///
 /// The error is that memory ran out.
@@ -307,7 +394,9 @@ pub(crate) fn stop_at(steps: &[Step], end: char) -> bool
                 }
                 rest = pass(others, copies.text.others);
             }
-            Step::Segment(_) | Step::Anything | Step::Longest(_) => return false,
+            Step::Segment(_) | Step::Anything | Step::Longest(_) | Step::Segments(_) => {
+                return false;
+            }
         }
     }
     true

@@ -5,6 +5,7 @@ use Rattle.std.specs.Str.{chars, IsUtf8}
 use Rattle.urlpattern_core.specs.Captured.{capture_view}
 use Rattle.urlpattern_syntax.specs.Text.{line_feed}
 use Rattle.urlpattern_engine.specs.Steps.{after_text, any_rounds, captured, copies_of, literals, longest, longest_run, shortest, walk}
+use Rattle.urlpattern_engine.proofs.EndLemmas.{IsTable}
 use Rattle.urlpattern_engine.proofs.LongestLemmas.{at_least}
 use Rattle.urlpattern_engine.proofs.CopyLemmas.{fewer}
 use Rattle.urlpattern_engine.specs.Taken.{Extends}
@@ -12,25 +13,25 @@ use Rattle.urlpattern_engine.proofs.RunLemmas.{falling}
 use Rattle.urlpattern_engine.proofs.walk.+following.Given as goal
 
 abbrev pub decreases-follow_on : goal.decreases-follow_on
-decreases-follow_on l = 4 * length l.steps.now
+decreases-follow_on l = 8 * length l.steps.now
 
 abbrev pub decreases-follow : goal.decreases-follow
-decreases-follow l = 4 * length l.steps.now + 1
+decreases-follow l = 8 * length l.steps.now + 1
 
 abbrev pub decreases-follow_captured : goal.decreases-follow_captured
-decreases-follow_captured l = 4 * length l.steps.now + 2
+decreases-follow_captured l = 8 * length l.steps.now + 2
 
 abbrev pub decreases-follow_shortest : goal.decreases-follow_shortest
-decreases-follow_shortest l = 4 * length l.steps.now + 3
+decreases-follow_shortest l = 8 * length l.steps.now + 3
 
 abbrev pub decreases-follow_longest : goal.decreases-follow_longest
-decreases-follow_longest l = 4 * length l.steps.now + 3
+decreases-follow_longest l = 8 * length l.steps.now + 3
 
 abbrev pub decreases-follow_any_copies : goal.decreases-follow_any_copies
-decreases-follow_any_copies l = 4 * length l.others.now + 2
+decreases-follow_any_copies l = 8 * length l.others.now + 2
 
 abbrev pub decreases-follow_copies : goal.decreases-follow_copies
-decreases-follow_copies l = 4 * length l.steps.now + 3
+decreases-follow_copies l = 8 * length l.steps.now + 3
 
 abbrev pub invariant-follow_any_copies-loop-shorter : goal.invariant-follow_any_copies-loop-shorter
 invariant-follow_any_copies-loop-shorter l = record {
@@ -45,7 +46,7 @@ abbrev pub decreases-follow_any_copies-loop-shorter : goal.decreases-follow_any_
 decreases-follow_any_copies-loop-shorter l = length l.front
 
 abbrev pub decreases-follow_longest_run : goal.decreases-follow_longest_run
-decreases-follow_longest_run l = 4 * length l.steps.now + 3
+decreases-follow_longest_run l = 8 * length l.steps.now + 3
 
 abbrev pub invariant-follow_longest_run-loop-shorter : goal.invariant-follow_longest_run-loop-shorter
 invariant-follow_longest_run-loop-shorter l = record {
@@ -57,6 +58,25 @@ invariant-follow_longest_run-loop-shorter l = record {
 
 abbrev pub decreases-follow_longest_run-loop-shorter : goal.decreases-follow_longest_run-loop-shorter
 decreases-follow_longest_run-loop-shorter l = length l.front
+
+abbrev pub decreases-end_here : goal.decreases-end_here
+decreases-end_here l = 8 * length l.steps.now + 2
+
+abbrev pub decreases-end_of_segments : goal.decreases-end_of_segments
+decreases-end_of_segments l = 8 * length l.others.now + 3
+
+abbrev pub decreases-follow_segments : goal.decreases-follow_segments
+decreases-follow_segments l = 8 * length l.steps.now + 4
+
+abbrev pub invariant-end_of_segments-loop-begun : goal.invariant-end_of_segments-loop-begun
+invariant-end_of_segments-loop-begun l = record {
+  is_text : shadow (Utf8 l.front);
+  so_far : (rest : List ℕ) × IsUtf8 rest × (l.text ≡ l.front ++ rest)
+      × IsTable l.segments.separator.first (literals l.literal) l.segments.is_greedy l.segments.end (captured (walk l.others)) l.text (chars l.front) (chars rest) l.begun.items l.later;
+}
+
+abbrev pub decreases-end_of_segments-loop-begun : goal.decreases-end_of_segments-loop-begun
+decreases-end_of_segments-loop-begun l = length l.front
 
 abbrev pub invariant-follow_on-loop-step : goal.invariant-follow_on-loop-step
 invariant-follow_on-loop-step l = record {
