@@ -10,6 +10,8 @@ pub mod ReadingLemmas
 pub mod FailedLemmas
 pub mod StepLemmas
 pub mod CopyLemmas
+pub mod SegmentLemmas
+pub mod EndLemmas
 pub mod TwoRegexes
 pub mod EngineLaws
 pub mod StepExamples

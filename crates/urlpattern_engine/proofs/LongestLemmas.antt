@@ -12,7 +12,7 @@ use Rattle.urlpattern_laws.specs.PartMeaning.{Captures}
 use Rattle.urlpattern_laws.specs.Ways.{Choice, idle, capturing, continued, is_shorter, more_rounds, looped, quantified_ways, ways}
 use Rattle.urlpattern_syntax.specs.Text.{line_feed}
 use Rattle.urlpattern_engine.specs.Reading.{IsAllBut, IsRunOf, MayBeEmpty}
-use Rattle.urlpattern_engine.specs.Steps.{Gives, after_text, any_rounds, captured, from_first, longest, longest_run, longest_some, rounds, shortest, some_rounds, up_to_first}
+use Rattle.urlpattern_engine.specs.Steps.{Gives, after_text, any_rounds, captured, from_first, longest, longest_run, longest_some, rounds, shortest, single_run, some_rounds, up_to_first}
 use Rattle.urlpattern_engine.proofs.Rounds.{Advances, Keeps, Takes, beyond, takes-looped, takes-looped_or_not, takes-nothing, takes-then, then, tried-then, tried_idle}
 use Rattle.urlpattern_engine.proofs.FallingLemmas.{falling, longest_falling}
 use Rattle.urlpattern_engine.proofs.Tried.{Given, Next, given, bare, before_next, one, tried, tried-append, tried-map, lazy_loop, greedy_loop}
@@ -65,15 +65,11 @@ takes_greedy end = record {
       greedy_loop end (beyond front h) text ∙ longest-beyond end (bare h) front [] text ∙ ap (λ f. longest end (bare h) f text) (append-nil front);
 }
 
--- how a run of this kind gives
-abbrev pub run_of : (is_greedy : Bool) → (end : ℕ) → Gives → Gives
-run_of is_greedy end = cond is_greedy (longest end) (shortest end)
-
-pub keeps-run : (is_greedy : Bool) (end : ℕ) → Keeps (run_of is_greedy end)
+pub keeps-run : (is_greedy : Bool) (end : ℕ) → Keeps (single_run is_greedy end)
 keeps-run true end = keeps-longest end
 keeps-run false end = keeps-shortest end
 
-pub takes-run : (end : ℕ) (is_greedy : Bool) (items : Items) → IsRunOf end is_greedy items → Takes (ways items) (run_of is_greedy end)
+pub takes-run : (end : ℕ) (is_greedy : Bool) (items : Items) → IsRunOf end is_greedy items → Takes (ways items) (single_run is_greedy end)
 takes-run end true items (same, is) =
     subst (λ (i : Items). Takes (ways i) (longest end)) (sym is)
     (subst (λ c. Takes (ways (Item Dot ZeroOrMore Nothing)) (longest c)) (sym same)

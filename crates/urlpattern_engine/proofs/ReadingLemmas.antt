@@ -1,25 +1,26 @@
 -- From the text of an expression to a tree and its steps.
-use Rattle.std.proofs.Common.{◌≡◌, ℕ, zero, suc, ◌<◌, ◌≤◌, List, [], ◌∷◌, ◌++◌, ◌-◌, length, take, drop, Option, Some, None, Bool, true, false, refl, sym, ap, ◌∙◌, subst, append-nil, append_assoc, length-append, codes, ◌==◌, ne_eqb, arith}
+use Rattle.std.proofs.Common.{◌≡◌, ℕ, zero, suc, ◌<◌, ◌≤◌, List, [], ◌∷◌, ◌++◌, ◌-◌, length, take, drop, Option, Some, None, Bool, true, false, refl, sym, ap, ap₂, ◌∙◌, subst, append-nil, append_assoc, length-append, codes, ◌==◌, ne_eqb, arith}
 use Rattle.std.proofs.lemmas.Bool.{false≢true}
 use Rattle.std.proofs.lemmas.List.{take-append-le, drop-append-le, length-drop, set_split}
 use Rattle.std.proofs.Math.Nat.{le_refl}
-use Rattle.std.proofs.Math.Seq.{take-length, drop-length}
+use Rattle.std.proofs.Math.Seq.{take-append_seam, drop-append_seam, take-length, drop-length}
 use Rattle.std.specs.Prelude.{◌≢◌, IfSome, is_some, insert, set}
 use Rattle.urlpattern_laws.specs.Dialect.{AnyBut, AreItems, AllowsGroups, Atom, Captured, Character, Plain, Escaped, Dot, Grouped, IsAtom, IsCharacter, IsClassCharacter, IsTreeOf, Item, Items, LazyOneOrMore, Nothing, Once, OneOrMore, Optional, Quantifier, ZeroOrMore, atom_group_count, group_count, atom_text, character_of, character_text, items_text, quantifier_text}
 use Rattle.urlpattern_laws.specs.Dialect as dialect
 use Rattle.urlpattern_syntax.specs.RegexpText.{captured}
 use Rattle.urlpattern_engine.specs.declared.reading.Times.{Times}
 use Rattle.urlpattern_engine.specs.declared.reading.Times.TheVariants as times
-use Rattle.urlpattern_engine.specs.declared.reading.Token.TheVariants.{Close, MaybeStep}
+use Rattle.urlpattern_engine.specs.declared.reading.Token.TheVariants.{Close, FirstSegment, MaybeStep}
 use Rattle.urlpattern_engine.specs.declared.step.Group.{Group}
 use Rattle.urlpattern_engine.specs.declared.step.Stretch.{Stretch}
 use Rattle.urlpattern_engine.specs.declared.step.Step.{Step}
-use Rattle.urlpattern_engine.specs.declared.step.Step.TheVariants.{Literal, Segment, Anything, Maybe, Longest, Copies}
-use Rattle.urlpattern_engine.specs.Reading.{AreCopies, AreLiterals, AreStepsOf, BeginsWithCaptured, BeginsWithCharacter, BeginsWithToken, IsGroup, IsRunOf, IsStepOf, IsToken, MayBeEmpty, Spells, quantifier_of, times_text}
+use Rattle.urlpattern_engine.specs.declared.step.Step.TheVariants.{Literal, Segment, Anything, Maybe, Longest, Copies, Segments}
+use Rattle.urlpattern_engine.specs.Reading.{AreCharacters, AreCopies, AreLiterals, AreStepsOf, BeginsSegments, BeginsWithCaptured, EndsSegments, characters_text, literal_steps, BeginsWithCharacter, BeginsWithToken, IsGroup, IsRunOf, IsStepOf, IsToken, MayBeEmpty, Spells, quantifier_of, times_text}
 use Rattle.urlpattern_engine.specs.Steps.{capture_count}
 use Rattle.urlpattern_syntax.specs.Text.{line_feed}
 use Rattle.urlpattern_engine.proofs.LongestLemmas.{run_uncaptured}
 use Rattle.urlpattern_engine.proofs.RepeatLemmas.{copied, walks-copies}
+use Rattle.urlpattern_engine.proofs.SegmentLemmas.{in_order, in_order_count, segment_items, walks-segments}
 use Rattle.urlpattern_engine.proofs.Walks.{Walks, literals_uncaptured, walks-nothing, walks-inside, walks-once, walks-maybe, walks-step, walk_is_first}
 
 -- what holds of what is there by two facts
@@ -117,6 +118,7 @@ captures_one Anything items is = refl
 captures_one (Maybe group) items is = absurd is
 captures_one (Longest run) items is = refl
 captures_one (Copies copies) items is = absurd is
+captures_one (Segments segments) items is = absurd is
 
 pub captured-maybe : (text bracket behind rest : List ℕ) (step : Step) → BeginsWithCaptured text step bracket → bracket ≡ codes ")" ++ behind → behind ≡ codes "?" ++ rest
     → BeginsWithToken (codes "(" ++ text) (MaybeStep step) rest
@@ -303,6 +305,116 @@ pub drop-one : (n : ℕ) (steps : List Step) (step : Step) (rest : List Step) �
 drop-one zero steps step rest e = ap (drop 1) e
 drop-one (suc n) [] step rest e = cc
 drop-one (suc n) (other ∷ steps) step rest e = drop-one n steps step rest e
+
+-- ---- segments
+
+characters_text-last : (characters : List Character) (character : Character) (rest : List ℕ)
+    → characters_text characters ++ (character_text character ++ rest) ≡ characters_text (characters ++ character ∷ []) ++ rest
+characters_text-last [] character rest = ap (λ t. t ++ rest) (sym (append-nil (character_text character)))
+characters_text-last (first ∷ characters) character rest =
+    append_assoc (character_text first) (characters_text characters) (character_text character ++ rest)
+    ∙ ap (λ t. character_text first ++ t) (characters_text-last characters character rest)
+    ∙ sym (append_assoc (character_text first) (characters_text (characters ++ character ∷ [])) rest)
+
+literal_steps-last : (characters : List Character) (character : Character) → literal_steps (characters ++ character ∷ []) ≡ literal_steps characters ++ Literal (character_of character) ∷ []
+literal_steps-last [] character = refl
+literal_steps-last (first ∷ characters) character = ap (λ l. Literal (character_of first) ∷ l) (literal_steps-last characters character)
+
+all-last : (characters : List Character) (character : Character) → AreCharacters characters → IsCharacter character → AreCharacters (characters ++ character ∷ [])
+all-last [] character all is = (is, tt)
+all-last (first ∷ characters) character all is = (all.0, all-last characters character all.1 is)
+
+pub first_segment-begins : (text run_text bracket behind rest : List ℕ) (single : Step) (end : ℕ) (is_greedy : Bool) → text ≡ codes "(?:" ++ run_text → BeginsWithCaptured run_text single bracket
+    → bracket ≡ codes ")" ++ behind → behind ≡ codes "(?:" ++ rest → ((items : Items) → IsStepOf single (Captured items) → IsRunOf end is_greedy items)
+    → BeginsWithToken (codes "(" ++ text) (FirstSegment end is_greedy) rest
+first_segment-begins text run_text bracket behind rest single end is_greedy e (items, are, is, f) g h run = (
+  codes "((?:" ++ (items_text items ++ codes ")(?:"),
+  (items, are, run items is, refl),
+  ap (λ t. codes "(" ++ t) (e ∙ ap (λ t. codes "(?:" ++ t) (f ∙ ap (λ t. items_text items ++ t) (g ∙ ap (λ t. codes ")" ++ t) h)))
+      ∙ ap (λ t. codes "((?:" ++ t) (sym (append_assoc (items_text items) (codes ")(?:") rest)),
+)
+
+-- the characters that were read so far, with their steps
+abbrev pub AreRead : (old items : List Step) → (text rest : List ℕ) → Type 0
+AreRead old items text rest =
+    (characters : List Character) × AreCharacters characters × (text ≡ characters_text characters ++ rest) × (items ≡ old ++ literal_steps characters)
+
+pub read-more : (old items more : List Step) (text rest remaining : List ℕ) (c : ℕ) → AreRead old items text rest → BeginsWithCharacter IsCharacter rest c remaining
+    → more ≡ items ++ Literal c ∷ [] → AreRead old more text remaining
+read-more old items more text rest remaining c (characters, all, e, f) (character, is, same, g) h = (
+  characters ++ character ∷ [],
+  all-last characters character all is,
+  e ∙ ap (λ t. characters_text characters ++ t) g ∙ characters_text-last characters character remaining,
+  h ∙ ap (λ l. l ++ Literal c ∷ []) f ∙ append_assoc old (literal_steps characters) (Literal c ∷ [])
+      ∙ ap (λ d. old ++ (literal_steps characters ++ Literal d ∷ [])) (sym same) ∙ ap (λ l. old ++ l) (sym (literal_steps-last characters character)),
+)
+
+-- the first of the steps between two runs is put where they begin
+pub read-ends : (old items now : List Step) (first end : ℕ) (is_greedy : Bool) (separator : Stretch) (text rest remaining : List ℕ) → AreRead old items text rest → first ≡ length old → now ≡ items
+    → ((others : List Step) × (take (length now - first) (drop first now) ≡ Literal separator.first ∷ others) × AreLiterals others × (separator.others ≡ length others))
+    → ((second : Items) × AreItems second × IsRunOf end is_greedy second × (rest ≡ codes "(?:" ++ (items_text second ++ (codes "))*)" ++ remaining))))
+    → (own : List Step) × EndsSegments end is_greedy own text remaining
+    × (set items first (Segments (record { separator = separator; end = end; is_greedy = is_greedy })) ≡ old ++ own)
+read-ends old items now first end is_greedy separator text rest remaining (characters, all, e, f) place same (others, own, plain, count) (second, are, is, g) =
+    let behind : drop first items ≡ literal_steps characters = ap₂ drop place f ∙ drop-append_seam old (literal_steps characters) in
+    let front : take first items ≡ old = ap₂ take place f ∙ take-append_seam old (literal_steps characters) in
+    let whole : drop first items ≡ Literal separator.first ∷ others = ap (drop first) (sym same) ∙ sym (take_rest now first) ∙ own in
+    let step : Step = Segments (record { separator = separator; end = end; is_greedy = is_greedy }) in
+    let lt : first < length items = omega (arith, ap length whole, length-drop first items) in (
+      step ∷ others,
+      (
+        characters,
+        second,
+        all,
+        are,
+        is,
+        (
+          separator.first,
+          others,
+          sym behind ∙ whole,
+          ap (λ n. Segments (record { separator = record { first = separator.first; others = n }; end = end; is_greedy = is_greedy }) ∷ others) count,
+        ),
+        e ∙ ap (λ t. characters_text characters ++ t) g,
+      ),
+      set_split items first step lt ∙ ap₂ (λ a b. a ++ (step ∷ b)) front (drop-one first items (Literal separator.first) others whole),
+    )
+
+in_order_text : (characters : List Character) (items : Items) → items_text (in_order characters items) ≡ characters_text characters ++ items_text items
+in_order_text [] items = refl
+in_order_text (character ∷ characters) items =
+    ap₂ (λ a b. a ++ b) (append-nil (character_text character)) (in_order_text characters items) ∙ sym (append_assoc (character_text character) (characters_text characters) (items_text items))
+
+in_order_allowed : (characters : List Character) (items : Items) → AreCharacters characters → AreItems items → AreItems (in_order characters items)
+in_order_allowed [] items all are = are
+in_order_allowed (character ∷ characters) items all are = (all.0, tt, in_order_allowed characters items all.1 are)
+
+-- how segments are written
+spelled_segments : (first between second rest : List ℕ)
+    → (codes "((?:" ++ (first ++ codes ")(?:")) ++ (between ++ (codes "(?:" ++ (second ++ (codes "))*)" ++ rest))))
+    ≡ ((codes "(" ++ ((((codes "(?:" ++ (first ++ codes ")")) ++ []) ++ (((codes "(?:" ++ ((between ++ (((codes "(?:" ++ (second ++ codes ")")) ++ []) ++ [])) ++ codes ")")) ++ codes "*") ++ [])) ++ codes ")")) ++ []) ++ rest
+spelled_segments first between second rest = simp (append_assoc, append-nil)
+
+pub segments-spell : (end : ℕ) (is_greedy : Bool) (front : List ℕ) → BeginsSegments end is_greedy front → (own : List Step) (text rest : List ℕ) → EndsSegments end is_greedy own text rest
+    → (whole : List ℕ) × SpellsAll own whole × (front ++ text ≡ whole ++ rest)
+segments-spell end is_greedy front (first, first_are, one, e) own text rest (characters, second, all, second_are, two, steps, f) =
+    let last : Items = Item (Grouped second) Once Nothing in
+    let inner : Items = in_order characters last in
+    let atom : Atom = Captured (segment_items first characters second) in
+    let atom_walks = walks-segments end is_greedy first characters second own one two steps in
+    let none : group_count inner ≡ 0 = in_order_count characters last ∙ (let second_none = run_uncaptured end is_greedy second two in omega (arith, second_none)) in (
+      atom_text atom ++ [],
+      record {
+        atom = atom;
+        quantifier = Once;
+        is_atom = (first_are, tt, (in_order_allowed characters last all (second_are, tt, tt), none, tt));
+        allows = tt;
+        spelled = refl;
+        walks = λ items others next. walks-once atom items own others atom_walks next;
+      },
+      ap₂ (λ a b. a ++ b) e f
+          ∙ spelled_segments (items_text first) (characters_text characters) (items_text second) rest
+          ∙ ap (λ t. ((codes "(" ++ ((((codes "(?:" ++ (items_text first ++ codes ")")) ++ []) ++ (((codes "(?:" ++ (t ++ codes ")")) ++ codes "*") ++ [])) ++ codes ")")) ++ []) ++ rest) (sym (in_order_text characters last)),
+    )
 
 -- the first of the steps of copies is put where the copies begin
 pub copies_set : (done now : List Step) (first : ℕ) (may_be_missing : Bool) (text : Stretch) → first ≤ length done → now ≡ done

@@ -1,6 +1,6 @@
 -- What steps capture, by examples.
 use Rattle.std.proofs.Common.{◌≡◌, [], ◌∷◌, Some, None, true, false, codes, refl}
-use Rattle.urlpattern_engine.specs.declared.step.Step.TheVariants.{Literal, Segment, Anything, Maybe, Longest, Copies}
+use Rattle.urlpattern_engine.specs.declared.step.Step.TheVariants.{Literal, Segment, Anything, Maybe, Longest, Copies, Segments}
 use Rattle.urlpattern_engine.specs.Steps.{walk}
 
 -- ---- of `^/([^/]+?)$`
@@ -79,3 +79,22 @@ no_empty_run = refl
 
 pub shorter_run : walk (Longest (record { end = 10; may_be_empty = false }) ∷ Literal 98 ∷ []) (codes "abb") ≡ Some (Some (codes "ab") ∷ [])
 shorter_run = refl
+
+-- ---- of `^/((?:[^/]+?)(?:/(?:[^/]+?))*)$`
+
+pub segments_to_the_end : walk (Literal 47 ∷ Segments (record { separator = record { first = 47; others = 0 }; end = 47; is_greedy = false }) ∷ []) (codes "/a/b/c") ≡ Some (Some (codes "a/b/c") ∷ [])
+segments_to_the_end = refl
+
+pub no_empty_segment_between : walk (Literal 47 ∷ Segments (record { separator = record { first = 47; others = 0 }; end = 47; is_greedy = false }) ∷ []) (codes "/a//c") ≡ None
+no_empty_segment_between = refl
+
+-- ---- of `^a((?:[^/]+?)(?:ba(?:[^/]+?))*)b(.*)$`
+
+pub most_segments_first : walk (Literal 97 ∷ Segments (record { separator = record { first = 98; others = 1 }; end = 47; is_greedy = false }) ∷ Literal 97 ∷ Literal 98 ∷ Anything ∷ []) (codes "axbaybz")
+    ≡ Some (Some (codes "xbay") ∷ Some (codes "z") ∷ [])
+most_segments_first = refl
+
+-- ---- of `^-((?:.*)(?:-(?:.*))*)-c$`
+
+pub fewer_segments : walk (Literal 45 ∷ Segments (record { separator = record { first = 45; others = 0 }; end = 10; is_greedy = true }) ∷ Literal 45 ∷ Literal 99 ∷ []) (codes "-a-b-c") ≡ Some (Some (codes "a-b") ∷ [])
+fewer_segments = refl

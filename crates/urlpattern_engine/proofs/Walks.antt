@@ -10,7 +10,7 @@ use Rattle.urlpattern_syntax.specs.Text.{line_feed}
 use Rattle.urlpattern_engine.specs.declared.step.Group.{Group}
 use Rattle.urlpattern_engine.specs.declared.step.Run.{Run}
 use Rattle.urlpattern_engine.specs.declared.step.Step.{Step}
-use Rattle.urlpattern_engine.specs.declared.step.Step.TheVariants.{Literal, Segment, Anything, Maybe, Longest, Copies}
+use Rattle.urlpattern_engine.specs.declared.step.Step.TheVariants.{Literal, Segment, Anything, Maybe, Longest, Copies, Segments}
 use Rattle.urlpattern_engine.specs.Reading.{AreLiterals, IsAllBut, IsStepOf}
 use Rattle.urlpattern_engine.specs.Steps.{Gives, captured, shortest, longest, longest_run, literals, after_text, walk, walk_after, capture_count}
 use Rattle.urlpattern_engine.proofs.LongestLemmas.{captured_takes, run_uncaptured, takes-runs}
@@ -39,6 +39,7 @@ capture_count-append (Anything ∷ own) others = omega (arith, capture_count-app
 capture_count-append (Maybe group ∷ own) others = capture_count-append own others
 capture_count-append (Longest run ∷ own) others = omega (arith, capture_count-append own others)
 capture_count-append (Copies copies ∷ own) others = capture_count-append own others
+capture_count-append (Segments segments ∷ own) others = omega (arith, capture_count-append own others)
 
 pub walk_after-own : (own after : List Step) (text : List ℕ) → walk_after (length own) (own ++ after) text ≡ walk after text
 walk_after-own [] after text = refl
@@ -54,6 +55,7 @@ literals_first (Anything ∷ own) others plain = absurd plain
 literals_first (Maybe group ∷ own) others plain = absurd plain
 literals_first (Longest run ∷ own) others plain = absurd plain
 literals_first (Copies copies ∷ own) others plain = absurd plain
+literals_first (Segments segments ∷ own) others plain = absurd plain
 
 literals_second : (own others : List Step) → AreLiterals (own ++ others) → AreLiterals others
 literals_second [] others plain = plain
@@ -63,6 +65,7 @@ literals_second (Anything ∷ own) others plain = absurd plain
 literals_second (Maybe group ∷ own) others plain = absurd plain
 literals_second (Longest run ∷ own) others plain = absurd plain
 literals_second (Copies copies ∷ own) others plain = absurd plain
+literals_second (Segments segments ∷ own) others plain = absurd plain
 
 literals-append : (own others : List Step) → literals (own ++ others) ≡ literals own ++ literals others
 literals-append [] others = refl
@@ -72,6 +75,7 @@ literals-append (Anything ∷ own) others = literals-append own others
 literals-append (Maybe group ∷ own) others = literals-append own others
 literals-append (Longest run ∷ own) others = literals-append own others
 literals-append (Copies copies ∷ own) others = literals-append own others
+literals-append (Segments segments ∷ own) others = literals-append own others
 
 pub literals_uncaptured : (steps : List Step) → AreLiterals steps → capture_count steps ≡ 0
 literals_uncaptured [] plain = refl
@@ -81,6 +85,7 @@ literals_uncaptured (Anything ∷ steps) plain = absurd plain
 literals_uncaptured (Maybe group ∷ steps) plain = absurd plain
 literals_uncaptured (Longest run ∷ steps) plain = absurd plain
 literals_uncaptured (Copies copies ∷ steps) plain = absurd plain
+literals_uncaptured (Segments segments ∷ steps) plain = absurd plain
 
 -- the texts of both, one after the other
 text_then : (atom : Atom) (items : Items) (own others : List Step) → AtomWalks atom own → Walks items others → AreLiterals (own ++ others)
@@ -224,6 +229,7 @@ walks-step Anything atom is = subst (λ (a : Atom). AtomWalks a (Anything ∷ []
 walks-step (Maybe group) atom is = absurd is
 walks-step (Longest run) atom is = walks-longest run atom is
 walks-step (Copies copies) atom is = absurd is
+walks-step (Segments segments) atom is = absurd is
 
 -- ---- a whole tree
 

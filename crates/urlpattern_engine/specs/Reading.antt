@@ -3,9 +3,9 @@ use Rattle.std.specs.Prelude.{◌≡◌, ℕ, Bool, true, false, length, List, [
 use Rattle.urlpattern_engine.specs.declared.reading.Times.{Times}
 use Rattle.urlpattern_engine.specs.declared.reading.Times.TheVariants as times
 use Rattle.urlpattern_engine.specs.declared.reading.Token.{Token}
-use Rattle.urlpattern_engine.specs.declared.reading.Token.TheVariants.{Open, Close, Step as One, MaybeStep}
+use Rattle.urlpattern_engine.specs.declared.reading.Token.TheVariants.{Open, Close, Step as One, MaybeStep, FirstSegment}
 use Rattle.urlpattern_engine.specs.declared.step.Step.{Step}
-use Rattle.urlpattern_engine.specs.declared.step.Step.TheVariants.{Literal, Segment, Anything, Maybe, Longest, Copies}
+use Rattle.urlpattern_engine.specs.declared.step.Step.TheVariants.{Literal, Segment, Anything, Maybe, Longest, Copies, Segments}
 use Rattle.urlpattern_engine.specs.Steps.{capture_count, walk}
 use Rattle.urlpattern_laws.specs.Dialect.{AnyBut, AreItems, Atom, Captured, Character, Dot, Grouped, IsAtom, IsCharacter, IsClassCharacter, IsTreeOf, Item, Items, LazyOneOrMore, Nothing, OneOrMore, Quantifier, ZeroOrMore, atom_text, character_of, character_text, items_text, quantifier_text}
 use Rattle.urlpattern_laws.specs.Dialect as dialect
@@ -48,6 +48,7 @@ IsStepOf (Longest run) atom =
     (items : Items) × (is_greedy : Bool) × (quantifier : Quantifier) × IsRunOf run.end is_greedy items × MayBeEmpty is_greedy quantifier run.may_be_empty
     × (atom ≡ Captured (Item (Grouped items) quantifier Nothing))
 IsStepOf (Copies copies) atom = ⊥
+IsStepOf (Segments segments) atom = ⊥
 
 -- the text is that of an atom that the step stands for
 abbrev pub Spells : Step → List ℕ → Type 0
@@ -68,11 +69,16 @@ quantifier_of times.OneOrMore = dialect.OneOrMore
 abbrev pub times_text : Times → List ℕ
 times_text times = quantifier_text (quantifier_of times)
 
+-- the text begins a group of runs with a text between each two, and the first run has ended
+abbrev pub BeginsSegments : (end : ℕ) → (is_greedy : Bool) → (text : List ℕ) → Type 0
+BeginsSegments end is_greedy text = (items : Items) × AreItems items × IsRunOf end is_greedy items × (text ≡ codes "((?:" ++ (items_text items ++ codes ")(?:"))
+
 -- the text is that of the token
 abbrev pub IsToken : Token → List ℕ → Type 0
 IsToken Open text = text ≡ codes "(?:"
 IsToken (Close times) text = text ≡ codes ")" ++ times_text times
 IsToken (One step) text = Spells step text
+IsToken (FirstSegment end is_greedy) text = BeginsSegments end is_greedy text
 IsToken (MaybeStep step) text = (front : List ℕ) × (capture_count (step ∷ []) ≡ 1) × Spells step front × (text ≡ front ++ codes "?")
 
 -- the token stands at the front of the text, and the rest follows
@@ -98,6 +104,33 @@ IsGroup times.Once own group = group ≡ own
 IsGroup times.Optional own group = group ≡ Maybe (record { steps = length own; captures = capture_count own }) ∷ own
 IsGroup times.ZeroOrMore own group = AreCopies true own group
 IsGroup times.OneOrMore own group = AreCopies false own group
+
+-- ---- segments
+
+-- the characters as they are written, one after the other
+abbrev pub characters_text : List Character → List ℕ
+characters_text [] = []
+characters_text (character ∷ characters) = character_text character ++ characters_text characters
+
+abbrev pub AreCharacters : List Character → Type 0
+AreCharacters [] = Unit {0}
+AreCharacters (character ∷ characters) = IsCharacter character × AreCharacters characters
+
+abbrev pub literal_steps : List Character → List Step
+literal_steps [] = []
+literal_steps (character ∷ characters) = Literal (character_of character) ∷ literal_steps characters
+
+-- the steps of runs with these characters between each two
+abbrev pub AreSegments : (end : ℕ) → (is_greedy : Bool) → List Character → (own : List Step) → Type 0
+AreSegments end is_greedy characters own =
+    (c : ℕ) × (others : List Step) × (literal_steps characters ≡ Literal c ∷ others)
+    × (own ≡ Segments (record { separator = record { first = c; others = length others }; end = end; is_greedy = is_greedy }) ∷ others)
+
+-- the text ends such a group with these steps: the characters between two runs, a run and the closing brackets; and the rest follows
+abbrev pub EndsSegments : (end : ℕ) → (is_greedy : Bool) → (own : List Step) → (text rest : List ℕ) → Type 0
+EndsSegments end is_greedy own text rest =
+    (characters : List Character) × (items : Items) × AreCharacters characters × AreItems items × IsRunOf end is_greedy items × AreSegments end is_greedy characters own
+    × (text ≡ characters_text characters ++ (codes "(?:" ++ (items_text items ++ (codes "))*)" ++ rest))))
 
 -- ---- expressions
 

@@ -2,7 +2,7 @@
 use Rattle.std.specs.Prelude.{◌≡◌, ℕ, zero, suc, Bool, false, ◌==◌, length, List, [], ◌∷◌, ◌++◌, replicate, take, Option, Some, None, option_map, if◌then◌else◌}
 use Rattle.std.specs.Option.{option_or}
 use Rattle.urlpattern_engine.specs.declared.step.Step.{Step}
-use Rattle.urlpattern_engine.specs.declared.step.Step.TheVariants.{Literal, Segment, Anything, Maybe, Longest, Copies}
+use Rattle.urlpattern_engine.specs.declared.step.Step.TheVariants.{Literal, Segment, Anything, Maybe, Longest, Copies, Segments}
 use Rattle.urlpattern_engine.specs.declared.step.Stretch.{Stretch}
 use Rattle.urlpattern_laws.specs.PartMeaning.{Captures}
 use Rattle.urlpattern_syntax.specs.Text.{line_feed}
@@ -65,6 +65,18 @@ some_rounds round gives front text = round (any_rounds round gives) front text
 abbrev pub repeated : (may_be_missing : Bool) → (round : Gives → Gives) → Gives → Gives
 repeated may_be_missing round = if may_be_missing then any_rounds round else some_rounds round
 
+-- what is given after a run: of any number of characters, as long as it may be, or of one or more, as short as it may be
+abbrev pub single_run : (is_greedy : Bool) → (end : ℕ) → Gives → Gives
+single_run is_greedy end = if is_greedy then longest end else shortest end
+
+-- the same after a text and a run
+abbrev pub after_separator : (separator : List ℕ) → (single : Gives → Gives) → Gives → Gives
+after_separator separator single gives front text = after_text separator (single gives) front text
+
+-- the same after a run and as many more as lead on, each after the text
+abbrev pub segmented : (separator : List ℕ) → (single : Gives → Gives) → Gives → Gives
+segmented separator single gives front text = single (any_rounds (after_separator separator single) gives) front text
+
 -- ---- texts
 
 -- the characters of the literal steps
@@ -102,6 +114,8 @@ walk_after zero (Maybe group ∷ steps) text =
 walk_after zero (Longest run ∷ steps) text = longest_run run.may_be_empty run.end (captured (walk_after zero steps)) [] text
 walk_after zero (Copies copies ∷ steps) text =
     repeated copies.may_be_missing (after_text (stretch_text copies.text steps)) (λ front rest. walk_after copies.text.others steps rest) [] text
+walk_after zero (Segments segments ∷ steps) text =
+    segmented (stretch_text segments.separator steps) (single_run segments.is_greedy segments.end) (captured (walk_after segments.separator.others steps)) [] text
 
 abbrev pub walk : List Step → List ℕ → Option Captures
 walk steps text = walk_after zero steps text
@@ -115,6 +129,7 @@ capture_count (Anything ∷ steps) = suc (capture_count steps)
 capture_count (Maybe group ∷ steps) = capture_count steps
 capture_count (Longest run ∷ steps) = suc (capture_count steps)
 capture_count (Copies copies ∷ steps) = capture_count steps
+capture_count (Segments segments ∷ steps) = suc (capture_count steps)
 
 -- the steps take no text that begins with another character than this
 abbrev pub StopAt : (end : ℕ) → List Step → Type 0

@@ -45,7 +45,11 @@ pub(crate) fn when_remembered(steps: &[Step]) -> Remembered {
         match step {
             Step::Literal(_) => {}
             Step::Maybe(_) => maybe_count = maybe_count.saturating_add(1),
-            Step::Segment(_) | Step::Anything | Step::Longest(_) | Step::Copies(_) => {
+            Step::Segment(_)
+            | Step::Anything
+            | Step::Longest(_)
+            | Step::Copies(_)
+            | Step::Segments(_) => {
                 let has_choice = has_choice(step, others);
                 if is_chosen && has_choice {
                     return Remembered::Always;
@@ -70,9 +74,25 @@ fn has_choice(step: &Step, others: &[Step]) -> bool {
     match step {
         Step::Segment(end) => !stop_at(others, *end),
         Step::Anything => !stop_at(others, '\n'),
-        Step::Longest(_) | Step::Copies(_) => true,
+        Step::Longest(_) | Step::Copies(_) | Step::Segments(_) => true,
         Step::Literal(_) | Step::Maybe(_) => false,
     }
+}
+
+/// Whether the repeated groups among the steps come before each other choice, so that none of them is begun at many places of a
+/// text.
+pub(crate) fn begin_with_repeats(steps: &[Step]) -> bool {
+    let mut is_chosen = false;
+    let mut rest = steps;
+    while let Some((step, others)) = rest.split_first() {
+        let is_repeat = matches!(step, Step::Longest(_) | Step::Copies(_) | Step::Segments(_));
+        if is_repeat && is_chosen {
+            return false;
+        }
+        is_chosen |= has_choice(step, others);
+        rest = others;
+    }
+    true
 }
 
 /// How many steps with a choice there are at most in an expression that is matched by steps. Each may be a call within a call.
@@ -83,7 +103,19 @@ pub(crate) fn is_shallow(steps: &[Step]) -> bool {
     let choices = steps
         .iter()
         .filter(|step| !matches!(step, Step::Literal(_)));
-    choices.count() <= CHOICE_COUNT
+    choices.count() <= CHOICE_COUNT || !leave_choices(steps)
+}
+
+/// Whether some step has a choice, or may be missing.
+fn leave_choices(steps: &[Step]) -> bool {
+    let mut rest = steps;
+    while let Some((step, others)) = rest.split_first() {
+        if matches!(step, Step::Maybe(_)) || has_choice(step, others) {
+            return true;
+        }
+        rest = others;
+    }
+    false
 }
 
 /// Whether the steps are seen to take no text that begins with another character than this.
@@ -109,7 +141,9 @@ pub(crate) fn stop_at(steps: &[Step], end: char) -> bool
                 }
                 rest = pass(others, copies.text.others);
             }
-            Step::Segment(_) | Step::Anything | Step::Longest(_) => return false,
+            Step::Segment(_) | Step::Anything | Step::Longest(_) | Step::Segments(_) => {
+                return false;
+            }
         }
     }
     true

@@ -2,14 +2,14 @@
 
 ghost use Rattle.std.specs.Prelude.{◌≡◌, ◌∷◌, ◌++◌, ℕ, ◌<◌, ◌≤◌, List, length, take, drop, codes, IfOk, IfSome, IsTrue};
 ghost use Rattle.std.specs.Str.{chars};
-ghost use Rattle.urlpattern_engine.specs.Reading.{AreCopies, AreLiterals, AreStepsOf, BeginsWithCaptured, BeginsWithCharacter, BeginsWithToken, IsGroup, IsRunOf, IsStepOf, MayBeEmpty, quantifier_of, times_text};
+ghost use Rattle.urlpattern_engine.specs.Reading.{AreCopies, AreLiterals, AreStepsOf, BeginsWithCaptured, EndsSegments, BeginsWithCharacter, BeginsWithToken, IsGroup, IsRunOf, IsStepOf, MayBeEmpty, quantifier_of, times_text};
 ghost use Rattle.urlpattern_engine.specs.Steps.{capture_count};
-ghost use Rattle.urlpattern_laws.specs.Dialect.{AllowsGroups, Captured, group_count, Grouped, IsCharacter, IsClassCharacter, Item, Items, Nothing};
+ghost use Rattle.urlpattern_laws.specs.Dialect.{AllowsGroups, AreItems, Captured, items_text, group_count, Grouped, IsCharacter, IsClassCharacter, Item, Items, Nothing};
 ghost use Rattle.urlpattern_syntax.specs.RegexpText.{regexp_marks};
 ghost use Rattle.urlpattern_syntax.specs.Text.{is_among};
 
-use crate::choices::is_shallow;
-use crate::step::{Copies, Group, Run, Step, Stretch};
+use crate::choices::{begin_with_repeats, is_shallow};
+use crate::step::{Copies, Group, Run, Segments, Step, Stretch};
 use crate::texts::{after, split_first};
 use std::alloc::{AllocError, Global};
 
@@ -24,6 +24,8 @@ enum Token {
     Step(Step),
     /// A group that captures, and a question mark.
     MaybeStep(Step),
+    /// `((?:`, a run of characters and `)(?:`: the character that is not in the run, and whether it is as long as may be.
+    FirstSegment(char, bool),
 }
 
 /// How often a group is taken, by what follows its closing bracket.
@@ -55,6 +57,13 @@ pub(crate) fn read_steps(alloc: Global, regexp: &str) -> Result<Option<Vec<Step>
                 steps.push(Step::Maybe(ONE_CAPTURE))?;
                 steps.push(step)?;
             }
+            Token::FirstSegment(end, is_greedy) => {
+                let Some(after) = read_segments(&mut steps, end, is_greedy, remaining)? else {
+                    return Ok(None);
+                };
+                rest = after;
+                continue;
+            }
             Token::Open => match opened {
                 Some(_) => return Ok(None),
                 None => opened = Some(steps.len()),
@@ -71,7 +80,7 @@ pub(crate) fn read_steps(alloc: Global, regexp: &str) -> Result<Option<Vec<Step>
         }
         rest = remaining;
     }
-    if opened.is_none() && is_end(rest) && is_shallow(&steps) {
+    if opened.is_none() && is_end(rest) && is_shallow(&steps) && begin_with_repeats(&steps) {
         Ok(Some(steps))
     } else {
         Ok(None)
@@ -152,7 +161,8 @@ fn group_of(steps: &[Step]) -> Group
     let mut rest = steps;
     while let [step, others @ ..] = rest {
         match step {
-            Step::Segment(_) | Step::Anything | Step::Longest(_) => captures += 1,
+            Step::Segment(_) | Step::Anything | Step::Longest(_) | Step::Segments(_) => captures +=
+                1,
             Step::Literal(_) | Step::Maybe(_) | Step::Copies(_) => {}
         }
         rest = others;
@@ -210,12 +220,86 @@ fn read_bracket(text: &str) -> Option<(Token, &str)>
     if let Some(rest) = after(text, '?') {
         return Some((Token::Open, after(rest, ':')?));
     }
+    if let Some((token, remaining)) = read_first_segment(text) {
+        return Some((token, remaining));
+    }
     let (step, rest) = read_captured(text)?;
     let rest = after(rest, ')')?;
     if let Some(remaining) = after(rest, '?') {
         return Some((Token::MaybeStep(step), remaining));
     }
     Some((Token::Step(step), rest))
+}
+
+/// The token for the first of segments, and what follows it. The text is what follows the opening bracket.
+fn read_first_segment(text: &str) -> Option<(Token, &str)>
+    ensures token { IfSome result (λ read. BeginsWithToken (codes "(" ++ chars text.now) read.0 (chars read.1.now)) }
+    ensures len { IfSome result (λ read. length read.1.now < length text.now) }
+{
+    let (single, rest) = read_run(after_open(text)?)?;
+    let rest = after_open(after(rest, ')')?)?;
+    let (end, is_greedy) = run_of(single)?;
+    Some((Token::FirstSegment(end, is_greedy), rest))
+}
+
+/// What follows `(?:`.
+fn after_open(text: &str) -> Option<&str>
+    ensures cut { IfSome result (λ rest. chars text.now ≡ codes "(?:" ++ chars rest.now) }
+    ensures len { IfSome result (λ rest. length rest.now < length text.now) }
+{
+    after(after(after(text, '(')?, '?')?, ':')
+}
+
+/// What follows `))*)`.
+fn after_segments(text: &str) -> Option<&str>
+    ensures cut { IfSome result (λ rest. chars text.now ≡ codes "))*)" ++ chars rest.now) }
+    ensures len { IfSome result (λ rest. length rest.now < length text.now) }
+{
+    after(after(after(after(text, ')')?, ')')?, '*')?, ')')
+}
+
+/// Adds the steps for segments, and answers what follows them. The text is what follows the first of them. `None`: there are none.
+fn read_segments<'a>(
+    steps: &mut Vec<Step>,
+    end: char,
+    is_greedy: bool,
+    text: &'a str,
+) -> Result<Option<&'a str>, AllocError>
+    ensures read { IfOk result (λ read. IfSome read (λ rest. (own : List Step) × EndsSegments end is_greedy own (chars text.now) (chars rest.now) × (steps.new.items ≡ steps.old.items ++ own))) }
+    ensures len { IfOk result (λ read. IfSome read (λ rest. length rest.now < length text.now)) }
+{
+    let first = steps.len();
+    let mut rest = text;
+    while let Some((c, remaining)) = read_literal(rest) {
+        steps.push(Step::Literal(c))?;
+        rest = remaining;
+    }
+    let Some(remaining) = read_last_segment(rest, end, is_greedy) else {
+        return Ok(None);
+    };
+    let Some(separator) = stretch_of(&steps[first..]) else {
+        return Ok(None);
+    };
+    steps[first] = Step::Segments(Segments {
+        separator,
+        end,
+        is_greedy,
+    });
+    Ok(Some(remaining))
+}
+
+/// What follows a run of this kind in brackets, where these close the segments.
+fn read_last_segment(text: &str, end: char, is_greedy: bool) -> Option<&str>
+    ensures cut { IfSome result (λ rest. (items : Items) × AreItems items × IsRunOf end is_greedy items
+        × (chars text.now ≡ codes "(?:" ++ (items_text items ++ (codes "))*)" ++ chars rest.now)))) }
+    ensures len { IfSome result (λ rest. length rest.now < length text.now) }
+{
+    let (single, rest) = read_run(after_open(text)?)?;
+    let (other, is_other_greedy) = run_of(single)?;
+    if other != end || is_other_greedy != is_greedy {
+        return None;
+    }
+    after_segments(rest)
 }
 
 /// The step for what brackets capture, and what follows it.

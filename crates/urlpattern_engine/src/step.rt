@@ -15,6 +15,8 @@ pub(crate) enum Step {
     Longest(Run),
     /// Copies of a text, one after the other: as many as the steps after it allow.
     Copies(Copies),
+    /// Runs of characters with a text between each two, captured as a whole: as many as the steps after it allow.
+    Segments(Segments),
 }
 
 /// How many of the next steps stand and fall together.
@@ -51,4 +53,16 @@ pub(crate) struct Run {
     pub(crate) end: char,
     /// Whether there may be none.
     pub(crate) may_be_empty: bool,
+}
+
+/// Runs of characters with a text between each two.
+#[derive(Clone, Copy)]
+pub(crate) struct Segments {
+    /// The text between two runs.
+    pub(crate) separator: Stretch,
+    /// The character that is not in a run.
+    pub(crate) end: char,
+    /// Whether a run has any number of characters, as many as what follows allows; else it has one or more, as few as that
+    /// allows.
+    pub(crate) is_greedy: bool,
 }

@@ -1,10 +1,12 @@
-use Rattle.std.proofs.Common.{◌≡◌, ◌++◌, [], ◌∷◌, sym, ap, ◌∙◌, subst, append_assoc, rules, refl, Some, None}
+use Rattle.std.proofs.Common.{◌≡◌, ℕ, Bor, List, ◌++◌, [], ◌∷◌, sym, ap, ◌∙◌, subst, append_assoc, rules, refl, Some, None}
+use Rattle.std.specs.Prelude.{IfSome}
 use Rattle.std.specs.Str.{chars}
-use Rattle.urlpattern_engine.specs.declared.reading.Token.TheVariants.{Open, Close, Step as One, MaybeStep}
+use Rattle.urlpattern_engine.specs.declared.step.Step.{Step}
+use Rattle.urlpattern_engine.specs.declared.reading.Token.TheVariants.{Open, Close, FirstSegment, Step as One, MaybeStep}
 use Rattle.urlpattern_engine.specs.declared.step.Group.{Group}
 use Rattle.urlpattern_engine.specs.declared.step.Step.TheVariants.{Maybe}
-use Rattle.urlpattern_engine.specs.Reading.{BeginsWithToken}
-use Rattle.urlpattern_engine.proofs.ReadingLemmas.{IsBegun, none_of, begun-close, begun-ends, begun-more, begun-open, spells-once, spells-maybe}
+use Rattle.urlpattern_engine.specs.Reading.{BeginsWithToken, EndsSegments}
+use Rattle.urlpattern_engine.proofs.ReadingLemmas.{IsBegun, none_of, begun-close, begun-ends, begun-more, begun-open, segments-spell, spells-once, spells-maybe}
 use Rattle.urlpattern_engine.proofs.reading.read_steps.Goals as goal
 
 pub loop-token-preserved-in_ok-push-in-Step : goal.loop-token-preserved-in_ok-push-in-Step
@@ -32,6 +34,24 @@ loop-token-preserved-in_ok-push-in-MaybeStep-2 c =
           (sym (c.in_ok-push-in-MaybeStep-2.ensures.items ∙ ap (λ l. l ++ step ∷ []) c.in_ok-push-in-MaybeStep.ensures.items ∙ append_assoc c.loop-token.steps.items (Maybe group ∷ []) (step ∷ [])))
           (begun-more (chars c.args.regexp.now) c.loop-token.opened rest begins.0 remaining c.loop-token.steps.items (Maybe group ∷ step ∷ []) c.loop-token.invariant.so_far
           (spells-maybe step group begins.0 refl (sym begins.1.1) begins.1) begins.2);
+    }
+
+pub loop-token-preserved-in-FirstSegment : goal.loop-token-preserved-in-FirstSegment
+loop-token-preserved-in-FirstSegment c =
+    let rest = chars c.loop-token.rest.now in
+    let remaining = chars c.in-Some-read_token.remaining.now in
+    let after = chars c.in-Some-2.after.now in
+    let done = c.loop-token.steps.items in
+    let end = c.in-FirstSegment.end in
+    let is_greedy = c.in-FirstSegment.is_greedy in
+    let begins : BeginsWithToken rest (FirstSegment end is_greedy) remaining = subst (λ t. BeginsWithToken rest t remaining) c.in-FirstSegment.is c.in-Some-read_token.ensures.token in
+    let read = subst (λ o. IfSome o (λ (after : Bor (List ℕ)). (own : List Step) × EndsSegments end is_greedy own remaining (chars after.now) × (c.read_segments.new.steps.items ≡ done ++ own)))
+    c.in-Some-2.is c.in_ok-after-in-FirstSegment.ensures.read in
+    let spells = segments-spell end is_greedy begins.0 begins.1 read.0 remaining after read.1 in
+    record {
+      is_text = search rules;
+      so_far = subst (IsBegun (chars c.args.regexp.now) c.loop-token.opened after) (sym read.2)
+          (begun-more (chars c.args.regexp.now) c.loop-token.opened rest spells.0 after done read.0 c.loop-token.invariant.so_far spells.1 (begins.2 ∙ spells.2));
     }
 
 pub loop-token-preserved-in-None : goal.loop-token-preserved-in-None

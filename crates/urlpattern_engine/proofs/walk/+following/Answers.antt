@@ -1,4 +1,4 @@
-use Rattle.std.proofs.Common.{◌≡◌, ◌∷◌, ◌++◌, [], Some, None, true, length, drop, refl, sym, ap, ◌∙◌, subst, append_assoc, arith, rules, ne_eqb}
+use Rattle.std.proofs.Common.{◌≡◌, ◌∷◌, ◌++◌, [], Some, None, true, length, drop, refl, sym, ap, ◌∙◌, subst, append-nil, append_assoc, arith, rules, ne_eqb}
 use Rattle.std.proofs.lemmas.List.{length-drop, nil_from_length, append_cancel_left, append_cancel_right}
 use Rattle.std.proofs.lemmas.Str.{chars-append, IsUtf8-append, IsUtf8-encode}
 use Rattle.std.specs.Char.{encode_utf8}
@@ -7,11 +7,12 @@ use Rattle.std.specs.Str.{chars, IsUtf8}
 use Rattle.urlpattern_syntax.proofs.TextLemmas.{chars-empty, chars-some}
 use Rattle.urlpattern_syntax.specs.Text.{line_feed}
 use Rattle.urlpattern_engine.specs.declared.step.Step.{Step}
-use Rattle.urlpattern_engine.specs.declared.step.Step.TheVariants.{Literal, Segment, Anything, Maybe, Longest, Copies}
+use Rattle.urlpattern_engine.specs.declared.step.Step.TheVariants.{Literal, Segment, Anything, Maybe, Longest, Copies, Segments}
 use Rattle.urlpattern_engine.specs.Failed.{EndsWith, HasEnded}
-use Rattle.urlpattern_engine.specs.Steps.{Gives, after_text, any_rounds, captured, copies_of, literals, longest, repeated, shortest, some_rounds, up_to_first, walk, StopAt}
-use Rattle.urlpattern_engine.specs.Taken.{Adds, Extends}
+use Rattle.urlpattern_engine.specs.Steps.{Gives, after_text, any_rounds, captured, copies_of, literals, longest, repeated, segmented, shortest, single_run, some_rounds, up_to_first, walk, StopAt}
+use Rattle.urlpattern_engine.specs.Taken.{Adds, Extends, IsCutFor}
 use Rattle.urlpattern_engine.proofs.CopyLemmas.{after-other, copies_fewer, copies_after, copies_step, copy_shrinks, fewer-found, no_copy_left}
+use Rattle.urlpattern_engine.proofs.EndLemmas.{IsTable, begins, place_cuts, same_fronts, segments_step, table_begun, table_next}
 use Rattle.urlpattern_engine.proofs.FailedLemmas.{ends_drop, ends_longer, ends_same, place_within}
 use Rattle.urlpattern_engine.proofs.FallingLemmas.{falling, falling-found, front_shrinks}
 use Rattle.urlpattern_engine.proofs.FollowLemmas.{plus, adds_none, adds_some, bytes_join, chars_end, end_adds, extends_more, front_grows, last_passed, later_adds, later_extends, literal_passed, longest_dead, longest_taken, maybe_dead, plus_captured, plus_maybe, shortest_passed}
@@ -777,4 +778,199 @@ follow_any_copies-loop-shorter-preserved n c =
       );
       same = c.in_ok-follow.ensures.same c.if-branch.false ∙ c.loop-shorter.invariant.same;
       whole = c.follow.ensures.whole ∙ c.loop-shorter.invariant.whole;
+    }
+
+-- ---- segments
+
+pub follow_segmented-follow_segments-requires : goal.follow_segmented-follow_segments-requires
+follow_segmented-follow_segments-requires n c =
+    let text = chars c.args.text.now in (
+      search rules,
+      place_within c.args.failed.now c.args.failed.now c.args.steps.now c.args.others.now text text refl c.requires.1.1.0
+          (Segments c.args.segments ∷ [], c.requires.1.1.1) (ends_same text),
+    )
+
+pub follow_segmented-returns-then-branch-clause-adds : goal.follow_segmented-returns-then-branch-clause-adds
+follow_segmented-returns-then-branch-clause-adds n c =
+    let old = c.args.captures.now.items in
+    let new = c.follow_segments.new.captures.items in
+    let text = chars c.args.text.now in
+    let adds : Adds old new true (walk (Segments c.args.segments ∷ c.args.others.now) text) =
+    subst (λ b. Adds old new b (walk (Segments c.args.segments ∷ c.args.others.now) text)) c.if-branch.true c.in_ok-follow_segments.ensures.adds in
+    adds ∙ ap (λ l. plus old (walk l text)) (sym c.requires.1.1.1)
+
+pub follow_segmented-insert-requires-clause-dead : goal.follow_segmented-insert-requires-clause-dead
+follow_segmented-insert-requires-clause-dead n c =
+    let old = c.args.captures.now.items in
+    let new = c.follow_segments.new.captures.items in
+    let text = chars c.args.text.now in
+    ap (λ l. walk l text) c.requires.1.1.1
+    ∙ adds_none old new (walk (Segments c.args.segments ∷ c.args.others.now) text)
+    (subst (λ b. Adds old new b (walk (Segments c.args.segments ∷ c.args.others.now) text)) c.if-branch.false c.in_ok-follow_segments.ensures.adds)
+
+pub follow_segmented-returns-clause-adds : goal.follow_segmented-returns-clause-adds
+follow_segmented-returns-clause-adds n c =
+    let old = c.args.captures.now.items in
+    let new = c.follow_segments.new.captures.items in
+    let text = chars c.args.text.now in
+    sym (ap (plus old)
+    (ap (λ l. walk l text) c.requires.1.1.1
+    ∙ adds_none old new (walk (Segments c.args.segments ∷ c.args.others.now) text)
+    (subst (λ b. Adds old new b (walk (Segments c.args.segments ∷ c.args.others.now) text)) c.if-branch.false c.in_ok-follow_segments.ensures.adds)))
+
+pub follow_segments-end_of_segments-requires : goal.follow_segments-end_of_segments-requires
+follow_segments-end_of_segments-requires n c =
+    let steps = c.args.steps.now in
+    let text = chars c.args.text.now in (
+      search rules,
+      place_within c.args.failed.now c.args.failed.now steps c.pass-others.result.now text text refl c.requires.1.1
+          (subst (EndsWith steps) (sym c.pass-others.ensures) (ends_drop c.args.segments.separator.others steps)) (ends_same text),
+    )
+
+pub follow_segments-follow_captured-requires : goal.follow_segments-follow_captured-requires
+follow_segments-follow_captured-requires n c =
+    let steps = c.args.steps.now in
+    let text = c.args.text.now in
+    let front = c.split_at_seam.result.0.now in
+    let rest = c.split_at_seam.result.1.now in
+    let utf8 : IsUtf8 front = search rules in (
+      search rules,
+      place_within c.args.failed.now c.end_of_segments.new.failed steps c.pass-others.result.now (chars text) (chars rest) c.end_of_segments.ensures.whole c.requires.1.1
+          (subst (EndsWith steps) (sym c.pass-others.ensures) (ends_drop c.args.segments.separator.others steps)) (chars_end text front rest utf8 c.split_at_seam.ensures.cut),
+    )
+
+pub end_of_segments-end_here-requires : goal.end_of_segments-end_here-requires
+end_of_segments-end_here-requires n c =
+    let text = c.args.text.now in
+    let front = c.loop-begun.front.now in
+    let rest = c.after_front-rest.result.now in
+    let utf8 : IsUtf8 front = search rules in (
+      search rules,
+      place_within c.args.failed.now c.loop-begun.failed c.args.others.now c.args.others.now (chars text) (chars rest) c.loop-begun.invariant.whole c.requires.1.1
+          (ends_same c.args.others.now) (chars_end text front rest utf8 c.after_front-rest.ensures),
+    )
+
+pub follow_on-returns-in-Segments-clause-adds : goal.follow_on-returns-in-Segments-clause-adds
+follow_on-returns-in-Segments-clause-adds n c =
+    let old = c.args.captures.now.items in
+    let now = c.loop-step.captures.items in
+    let rest = chars c.loop-step.rest.now in
+    let others = c.in-Some.others.now in
+    let left : c.loop-step.left.now ≡ Segments c.in-Segments.segments ∷ others = c.in-Some.ensures.cases.0 ∙ ap (λ (s : Step). s ∷ others) c.in-Segments.is in
+    later_adds old now c.follow_segmented.new.captures.items (walk c.args.steps.now (chars c.args.text.now)) (walk c.loop-step.left.now rest) c.follow_segmented.result
+    c.loop-step.invariant.so_far c.follow_segmented.ensures.adds
+
+pub follow_on-returns-in-Segments-clause-more : goal.follow_on-returns-in-Segments-clause-more
+follow_on-returns-in-Segments-clause-more n c =
+    later_extends c.args.captures.now.items c.loop-step.captures.items c.follow_segmented.new.captures.items c.follow_segmented.result c.loop-step.invariant.more c.follow_segmented.ensures.same
+
+pub follow_segments-returns-in-Some-clause-adds : goal.follow_segments-returns-in-Some-clause-adds
+follow_segments-returns-in-Some-clause-adds n c =
+    let old = c.args.captures.now.items in
+    let segments = c.args.segments in
+    let literal = c.first_steps-literal.result.now in
+    let others = c.pass-others.result.now in
+    let text = c.args.text.now in
+    let front = c.split_at_seam.result.0.now in
+    let rest = c.split_at_seam.result.1.now in
+    let gives : Gives = captured (walk others) in
+    let found = segmented (segments.separator.first ∷ literals literal) (single_run segments.is_greedy segments.end) gives [] (chars text) in
+    let cut : IsCutFor gives text (Some c.in-Some.count) found = subst (λ o. IsCutFor gives text o found) c.in-Some.is c.in_ok-count.ensures.cut in
+    let parts = same_fronts front rest cut.0 cut.1 (sym c.split_at_seam.ensures.cut ∙ cut.4) (c.split_at_seam.ensures.count ∙ sym cut.5) in
+    later_adds old old c.follow_captured.new.captures.items (walk (Segments segments ∷ c.args.steps.now) (chars text)) (gives (chars front) (chars rest)) c.follow_captured.result
+    (ap (plus old)
+    (segments_step segments c.args.steps.now literal others (chars text) c.first_steps-literal.ensures c.pass-others.ensures
+    ∙ cut.6 ∙ ap (λ f. gives (chars f) (chars cut.1)) (sym parts.0) ∙ ap (λ r. gives (chars front) (chars r)) (sym parts.1)))
+    c.follow_captured.ensures.adds
+
+pub follow_segments-returns-in-None-clause-adds : goal.follow_segments-returns-in-None-clause-adds
+follow_segments-returns-in-None-clause-adds n c =
+    let segments = c.args.segments in
+    let literal = c.first_steps-literal.result.now in
+    let others = c.pass-others.result.now in
+    let text = c.args.text.now in
+    let gives : Gives = captured (walk others) in
+    let found = segmented (segments.separator.first ∷ literals literal) (single_run segments.is_greedy segments.end) gives [] (chars text) in
+    let none : found ≡ None = subst (λ o. IsCutFor gives text o found) c.in-None.is c.in_ok-count.ensures.cut in
+    sym (ap (plus c.args.captures.now.items) (segments_step segments c.args.steps.now literal others (chars text) c.first_steps-literal.ensures c.pass-others.ensures ∙ none))
+
+pub end_of_segments-loop-begun-init : goal.end_of_segments-loop-begun-init
+end_of_segments-loop-begun-init n c =
+    let first = c.args.segments.separator.first in
+    let literal = literals c.args.literal.now in
+    let is_greedy = c.args.segments.is_greedy in
+    let end = c.args.segments.end in
+    let gives : Gives = captured (walk c.args.others.now) in
+    let text = c.args.text.now in
+    let nothing : IsUtf8 [] = ([], (refl, refl)) in
+    record {
+      is_text = search rules;
+      so_far = (
+        [],
+        nothing,
+        sym (append-nil text),
+        subst (λ t. IsTable first literal is_greedy end gives text (chars text) (chars []) t None) (sym c.new-begun.ensures.items)
+            (subst (λ r. IsTable first literal is_greedy end gives text (chars text) r [] None) (sym (chars-empty [] refl)) (table_begun first literal is_greedy end gives text (chars text))),
+      );
+      whole = refl;
+    }
+
+pub end_of_segments-returns-in_default : goal.end_of_segments-returns-in_default
+end_of_segments-returns-in_default n c =
+    let first = c.args.segments.separator.first in
+    let literal = literals c.args.literal.now in
+    let is_greedy = c.args.segments.is_greedy in
+    let end = c.args.segments.end in
+    let next : Next = walk c.args.others.now in
+    let text = c.args.text.now in
+    let front = c.loop-begun.front.now in
+    let rest = c.after_front-rest.result.now in
+    let so_far = c.loop-begun.invariant.so_far in
+    let same : rest ≡ so_far.0 = append_cancel_left front rest so_far.0 (sym c.after_front-rest.ensures ∙ so_far.2) in
+    let utf8 : IsUtf8 front = search rules in
+    let further : IsUtf8 rest = subst IsUtf8 (sym same) so_far.1 in
+    let is : IsTable first literal is_greedy end (captured next) text (chars front) (chars rest) c.deref.result.now c.loop-begun.later =
+    subst (λ t. IsTable first literal is_greedy end (captured next) text (chars front) (chars rest) t c.loop-begun.later) (sym c.deref.ensures.value)
+    (subst (λ r. IsTable first literal is_greedy end (captured next) text (chars front) (chars r) c.loop-begun.begun.items c.loop-begun.later) (sym same) so_far.3) in
+    let cuts = place_cuts first literal is_greedy end next text front rest c.deref.result.now c.loop-begun.later c.begun_after-next.result c.in_ok-stopping.stopping c.goes_on-onward.result
+    c.ends-beginning.result.0 c.ends-beginning.result.1 (length front) utf8 further c.after_front-rest.ensures refl is c.begun_after-next.ensures.there c.begun_after-next.ensures.other c.in_ok-stopping.ensures.end
+    c.goes_on-onward.ensures c.ends-beginning.ensures.beginning c.ends-beginning.ensures.either in
+    let whole : rest ≡ text = sym (c.after_front-rest.ensures ∙ ap (λ f. f ++ rest) c.in_default.ensures.empty) in
+    subst (λ f. IsCutFor (captured next) text c.ends-beginning.result.0 (begins first literal is_greedy end (captured next) f (chars text))) (chars-empty front (ap length c.in_default.ensures.empty))
+    (subst (λ r. IsCutFor (captured next) text c.ends-beginning.result.0 (begins first literal is_greedy end (captured next) (chars front) (chars r))) whole cuts.0)
+
+pub end_of_segments-loop-begun-preserved : goal.end_of_segments-loop-begun-preserved
+end_of_segments-loop-begun-preserved n c =
+    let first = c.args.segments.separator.first in
+    let literal = literals c.args.literal.now in
+    let is_greedy = c.args.segments.is_greedy in
+    let end = c.args.segments.end in
+    let next : Next = walk c.args.others.now in
+    let text = c.args.text.now in
+    let front = c.loop-begun.front.now in
+    let rest = c.after_front-rest.result.now in
+    let so_far = c.loop-begun.invariant.so_far in
+    let same : rest ≡ so_far.0 = append_cancel_left front rest so_far.0 (sym c.after_front-rest.ensures ∙ so_far.2) in
+    let utf8 : IsUtf8 front = search rules in
+    let further : IsUtf8 rest = subst IsUtf8 (sym same) so_far.1 in
+    let is : IsTable first literal is_greedy end (captured next) text (chars front) (chars rest) c.deref.result.now c.loop-begun.later =
+    subst (λ t. IsTable first literal is_greedy end (captured next) text (chars front) (chars rest) t c.loop-begun.later) (sym c.deref.ensures.value)
+    (subst (λ r. IsTable first literal is_greedy end (captured next) text (chars front) (chars r) c.loop-begun.begun.items c.loop-begun.later) (sym same) so_far.3) in
+    let cuts = place_cuts first literal is_greedy end next text front rest c.deref.result.now c.loop-begun.later c.begun_after-next.result c.in_ok-stopping.stopping c.goes_on-onward.result
+    c.ends-beginning.result.0 c.ends-beginning.result.1 (length front) utf8 further c.after_front-rest.ensures refl is c.begun_after-next.ensures.there c.begun_after-next.ensures.other c.in_ok-stopping.ensures.end
+    c.goes_on-onward.ensures c.ends-beginning.ensures.beginning c.ends-beginning.ensures.either in
+    let shorter = c.in-Some.shorter.now in
+    let last = c.in-Some.ensures.cut in
+    let front_utf8 : IsUtf8 shorter = search rules in
+    let one : IsUtf8 (encode_utf8 last.0) = IsUtf8-encode last.0 last.1 in
+    record {
+      is_text = search rules;
+      so_far = (
+        encode_utf8 last.0 ++ rest,
+        IsUtf8-append (encode_utf8 last.0) rest one further,
+        c.after_front-rest.ensures ∙ ap (λ f. f ++ rest) last.2 ∙ append_assoc shorter (encode_utf8 last.0) rest,
+        table_next first literal is_greedy end (captured next) text front shorter rest last.0 c.deref.result.now c.push.new.self.items c.loop-begun.later c.ends-beginning.result.0 c.ends-beginning.result.1
+            front_utf8 further last.1 one last.2 (c.in_ok-push.ensures.items ∙ ap (λ t. t ++ c.ends-beginning.result.0 ∷ []) (sym c.deref.ensures.value)) is cuts.0 cuts.1,
+      );
+      whole = c.in_ok-stopping.ensures.whole ∙ c.loop-begun.invariant.whole;
     }

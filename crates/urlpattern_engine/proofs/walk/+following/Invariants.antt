@@ -8,27 +8,28 @@ use Rattle.urlpattern_engine.specs.Failed.{IsPlace}
 use Rattle.urlpattern_engine.specs.Steps.{after_text, any_rounds, captured, copies_of, literals, longest, longest_run, shortest, up_to_first, walk}
 use Rattle.urlpattern_engine.specs.Taken.{Extends}
 use Rattle.urlpattern_engine.proofs.CopyLemmas.{fewer}
+use Rattle.urlpattern_engine.proofs.EndLemmas.{IsTable}
 use Rattle.urlpattern_engine.proofs.FallingLemmas.{falling}
 use Rattle.urlpattern_engine.proofs.LongestLemmas.{at_least}
 use Rattle.urlpattern_engine.proofs.walk.+following.Given as goal
 
 abbrev pub decreases-follow_on : goal.decreases-follow_on
-decreases-follow_on l = 5 * length l.steps.now
+decreases-follow_on l = 10 * length l.steps.now
 
 abbrev pub decreases-follow : goal.decreases-follow
-decreases-follow l = 5 * length l.steps.now + 1
+decreases-follow l = 10 * length l.steps.now + 1
 
 abbrev pub decreases-follow_captured : goal.decreases-follow_captured
-decreases-follow_captured l = 5 * length l.steps.now + 2
+decreases-follow_captured l = 10 * length l.steps.now + 2
 
 abbrev pub decreases-follow_maybe : goal.decreases-follow_maybe
-decreases-follow_maybe l = 5 * length l.others.now + 3
+decreases-follow_maybe l = 10 * length l.others.now + 3
 
 abbrev pub decreases-follow_shortest : goal.decreases-follow_shortest
-decreases-follow_shortest l = 5 * length l.others.now + 3
+decreases-follow_shortest l = 10 * length l.others.now + 3
 
 abbrev pub decreases-follow_longest : goal.decreases-follow_longest
-decreases-follow_longest l = 5 * length l.others.now + 3
+decreases-follow_longest l = 10 * length l.others.now + 3
 
 abbrev pub invariant-follow_on-loop-step : goal.invariant-follow_on-loop-step
 invariant-follow_on-loop-step l = record {
@@ -69,10 +70,10 @@ abbrev pub decreases-follow_longest-loop-failed : goal.decreases-follow_longest-
 decreases-follow_longest-loop-failed l = length l.front
 
 abbrev pub decreases-follow_any_copies : goal.decreases-follow_any_copies
-decreases-follow_any_copies l = 5 * length l.others.now + 2
+decreases-follow_any_copies l = 10 * length l.others.now + 2
 
 abbrev pub decreases-follow_copies : goal.decreases-follow_copies
-decreases-follow_copies l = 5 * length l.steps.now + 3
+decreases-follow_copies l = 10 * length l.steps.now + 3
 
 abbrev pub invariant-follow_any_copies-loop-shorter : goal.invariant-follow_any_copies-loop-shorter
 invariant-follow_any_copies-loop-shorter l = record {
@@ -88,7 +89,7 @@ abbrev pub decreases-follow_any_copies-loop-shorter : goal.decreases-follow_any_
 decreases-follow_any_copies-loop-shorter l = length l.front
 
 abbrev pub decreases-follow_longest_run : goal.decreases-follow_longest_run
-decreases-follow_longest_run l = 5 * length l.steps.now + 3
+decreases-follow_longest_run l = 10 * length l.steps.now + 3
 
 abbrev pub invariant-follow_longest_run-loop-shorter : goal.invariant-follow_longest_run-loop-shorter
 invariant-follow_longest_run-loop-shorter l = record {
@@ -103,7 +104,30 @@ abbrev pub decreases-follow_longest_run-loop-shorter : goal.decreases-follow_lon
 decreases-follow_longest_run-loop-shorter l = length l.front
 
 abbrev pub decreases-follow_run : goal.decreases-follow_run
-decreases-follow_run l = 5 * length l.others.now + 4
+decreases-follow_run l = 10 * length l.others.now + 4
 
 abbrev pub decreases-follow_repeated_text : goal.decreases-follow_repeated_text
-decreases-follow_repeated_text l = 5 * length l.others.now + 4
+decreases-follow_repeated_text l = 10 * length l.others.now + 4
+
+abbrev pub decreases-end_here : goal.decreases-end_here
+decreases-end_here l = 10 * length l.steps.now + 2
+
+abbrev pub decreases-end_of_segments : goal.decreases-end_of_segments
+decreases-end_of_segments l = 10 * length l.others.now + 3
+
+abbrev pub decreases-follow_segments : goal.decreases-follow_segments
+decreases-follow_segments l = 10 * length l.steps.now + 4
+
+abbrev pub invariant-end_of_segments-loop-begun : goal.invariant-end_of_segments-loop-begun
+invariant-end_of_segments-loop-begun l = record {
+  is_text : shadow (Utf8 l.front);
+  so_far : (rest : List ℕ) × IsUtf8 rest × (l.text ≡ l.front ++ rest)
+      × IsTable l.segments.separator.first (literals l.literal) l.segments.is_greedy l.segments.end (captured (walk l.others)) l.text (chars l.front) (chars rest) l.begun.items l.later;
+  whole : l.failed ≡ l.fn.failed;
+}
+
+abbrev pub decreases-end_of_segments-loop-begun : goal.decreases-end_of_segments-loop-begun
+decreases-end_of_segments-loop-begun l = length l.front
+
+abbrev pub decreases-follow_segmented : goal.decreases-follow_segmented
+decreases-follow_segmented l = 10 * length l.others.now + 5
