@@ -5,6 +5,7 @@ pub mod LongestLemmas
 pub mod Walks
 pub mod RepeatLemmas
 pub mod FollowLemmas
+pub mod TokenLemmas
 pub mod ReadingLemmas
 pub mod StepLemmas
 pub mod CopyLemmas

@@ -10,7 +10,9 @@ mod pattern_regexp;
 mod reading;
 mod repeats;
 mod step;
+mod stops;
 mod texts;
+mod tokens;
 mod walk;
 
 pub use pattern_regexp::PatternRegexp;

@@ -1,16 +1,17 @@
 //! Matches a text by steps.
 
-ghost use Rattle.std.specs.Prelude.{◌≡◌, ◌∷◌, ◌++◌, [], List, false, replicate, Bool, None, IfOk, IsTrue, OnOk, drop};
+ghost use Rattle.std.specs.Prelude.{◌≡◌, ◌∷◌, ◌++◌, [], List, false, replicate, Bool, None, IfOk, OnOk};
 ghost use Rattle.std.specs.Str.{chars};
 ghost use Rattle.urlpattern_core.specs.Captured.{captures_view};
-ghost use Rattle.urlpattern_engine.specs.Steps.{after_text, any_rounds, captured, literals, longest, segmented, shortest, single_run, walk, StopAt};
+ghost use Rattle.urlpattern_engine.specs.Steps.{after_text, any_rounds, captured, literals, longest, segmented, shortest, single_run, walk};
 ghost use Rattle.urlpattern_engine.specs.Taken.{Adds, Extends, IsCutFor, IsEndHere};
 ghost use Rattle.urlpattern_syntax.specs.Text.{line_feed};
 
 use crate::repeats::{
-    after_literals, begun_after, ends, first_steps, goes_on, skip_copies, without_copy,
+    after_literals, begun_after, ends, first_steps, goes_on, pass, skip_copies, without_copy,
 };
 use crate::step::{Copies, Run, Segments, Step};
+use crate::stops::stop_at;
 use crate::texts::{after, after_front, split_at_first, split_at_seam, split_first, without_last};
 use std::alloc::Global;
 use urlpattern_core::error::OutOfMemory;
@@ -310,7 +311,7 @@ fn end_of_segments(
     ensures { IfOk result (λ end. IsCutFor (captured (walk others.now)) text.now end
         (segmented (segments.separator.first ∷ literals literal.now) (single_run segments.is_greedy segments.end) (captured (walk others.now)) [] (chars text.now))) }
 {
-    let mut begun = Vec::new(alloc);
+    let mut begun = Vec::with_capacity(alloc, text.len())?;
     let mut later = None;
     let mut front = text;
     loop {
@@ -362,52 +363,4 @@ fn add_missing(captures: &mut Vec<Option<&str>>, count: usize) -> Result<(), Out
         captures.push(None)?;
     }
     Ok(())
-}
-
-/// The steps after the first so many, if there are more.
-fn pass(steps: &[Step], count: usize) -> &[Step]
-    ensures { result.now ≡ drop count steps.now }
-{
-    steps.get(count..).unwrap_or(&[])
-}
-
-/// Whether the steps are seen to take no text that begins with another character than this.
-pub(crate) fn stop_at(steps: &[Step], end: char) -> bool
-    ensures { IsTrue result → StopAt end steps.now }
-{
-    let mut rest = steps;
-    while let Some((step, others)) = rest.split_first() {
-        match step {
-            Step::Literal(c) => return *c == end,
-            Step::Maybe(group) => {
-                if !begin_with(others, end) {
-                    return false;
-                }
-                rest = pass(others, group.steps);
-            }
-            Step::Copies(copies) => {
-                if copies.text.first != end {
-                    return false;
-                }
-                if !copies.may_be_missing {
-                    return true;
-                }
-                rest = pass(others, copies.text.others);
-            }
-            Step::Segment(_) | Step::Anything | Step::Longest(_) | Step::Segments(_) => {
-                return false;
-            }
-        }
-    }
-    true
-}
-
-/// Whether the first step takes this character and no other.
-fn begin_with(steps: &[Step], c: char) -> bool
-    ensures { IsTrue result → StopAt c steps.now }
-{
-    match steps.split_first() {
-        Some((Step::Literal(other), _)) => *other == c,
-        _ => false,
-    }
 }

@@ -2,11 +2,12 @@ use Rattle.std.proofs.Common.{◌≡◌, ℕ, Bor, List, ◌++◌, [], ◌∷◌
 use Rattle.std.specs.Prelude.{IfSome}
 use Rattle.std.specs.Str.{chars}
 use Rattle.urlpattern_engine.specs.declared.step.Step.{Step}
-use Rattle.urlpattern_engine.specs.declared.reading.Token.TheVariants.{Open, Close, FirstSegment, Step as One, MaybeStep}
+use Rattle.urlpattern_engine.specs.declared.tokens.Token.TheVariants.{Open, Close, FirstSegment, Step as One, MaybeStep}
 use Rattle.urlpattern_engine.specs.declared.step.Group.{Group}
 use Rattle.urlpattern_engine.specs.declared.step.Step.TheVariants.{Maybe}
 use Rattle.urlpattern_engine.specs.Reading.{BeginsWithToken, EndsSegments}
-use Rattle.urlpattern_engine.proofs.ReadingLemmas.{IsBegun, none_of, begun-close, begun-ends, begun-more, begun-open, segments-spell, spells-once, spells-maybe}
+use Rattle.urlpattern_engine.proofs.ReadingLemmas.{IsBegun, begun-close, begun-ends, begun-more, begun-open, segments-spell, spells-once, spells-maybe}
+use Rattle.urlpattern_engine.proofs.TokenLemmas.{none_of}
 use Rattle.urlpattern_engine.proofs.reading.read_steps.Goals as goal
 
 pub loop-token-preserved-in_ok-push-in-Step : goal.loop-token-preserved-in_ok-push-in-Step
