@@ -6,6 +6,7 @@ pub mod LongestLemmas
 pub mod Walks
 pub mod RepeatLemmas
 pub mod FollowLemmas
+pub mod TokenLemmas
 pub mod ReadingLemmas
 pub mod FailedLemmas
 pub mod StepLemmas

@@ -1,9 +1,9 @@
 -- Which steps the text of an expression is read as.
 use Rattle.std.specs.Prelude.{◌≡◌, ℕ, Bool, true, false, length, List, [], ◌∷◌, ◌++◌, codes}
-use Rattle.urlpattern_engine.specs.declared.reading.Times.{Times}
-use Rattle.urlpattern_engine.specs.declared.reading.Times.TheVariants as times
-use Rattle.urlpattern_engine.specs.declared.reading.Token.{Token}
-use Rattle.urlpattern_engine.specs.declared.reading.Token.TheVariants.{Open, Close, Step as One, MaybeStep, FirstSegment}
+use Rattle.urlpattern_engine.specs.declared.tokens.Times.{Times}
+use Rattle.urlpattern_engine.specs.declared.tokens.Times.TheVariants as times
+use Rattle.urlpattern_engine.specs.declared.tokens.Token.{Token}
+use Rattle.urlpattern_engine.specs.declared.tokens.Token.TheVariants.{Open, Close, Step as One, MaybeStep, FirstSegment}
 use Rattle.urlpattern_engine.specs.declared.step.Step.{Step}
 use Rattle.urlpattern_engine.specs.declared.step.Step.TheVariants.{Literal, Segment, Anything, Maybe, Longest, Copies, Segments}
 use Rattle.urlpattern_engine.specs.Steps.{capture_count, walk}

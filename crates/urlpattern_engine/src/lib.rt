@@ -13,7 +13,9 @@ mod reading;
 mod repeats;
 mod runs;
 mod step;
+mod stops;
 mod texts;
+mod tokens;
 mod walk;
 
 pub use pattern_regexp::PatternRegexp;

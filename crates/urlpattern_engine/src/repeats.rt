@@ -1,6 +1,6 @@
 //! Texts that are repeated, by the steps that they are made up of.
 
-ghost use Rattle.std.specs.Prelude.{◌≡◌, ◌≢◌, ◌∷◌, ◌++◌, ℕ, suc, ◌<◌, List, length, None, IfNone, IfSome, get_or, take, if◌then◌else◌};
+ghost use Rattle.std.specs.Prelude.{◌≡◌, ◌≢◌, ◌∷◌, ◌++◌, ℕ, suc, ◌<◌, List, length, None, IfNone, IfSome, drop, get_or, take, if◌then◌else◌};
 ghost use Rattle.std.specs.Option.{option_or};
 ghost use Rattle.std.specs.Str.{chars, IsUtf8};
 ghost use Rattle.urlpattern_engine.specs.Steps.{copies_of, literals};
@@ -8,6 +8,13 @@ ghost use Rattle.urlpattern_engine.specs.Taken.{going_on};
 
 use crate::step::Step;
 use crate::texts::{after, split_first, without_last};
+
+/// The steps after the first so many, if there are more.
+pub(crate) fn pass(steps: &[Step], count: usize) -> &[Step]
+    ensures { result.now ≡ drop count steps.now }
+{
+    steps.get(count..).unwrap_or(&[])
+}
 
 /// The first so many steps, or all where there are fewer.
 pub(crate) fn first_steps(steps: &[Step], count: usize) -> &[Step]

@@ -6,9 +6,9 @@ ghost use Rattle.urlpattern_engine.specs.Failed.{HasEnded, IsPlace};
 ghost use Rattle.urlpattern_engine.specs.Steps.{up_to_first, walk, StopAt};
 ghost use Rattle.urlpattern_syntax.specs.Text.{line_feed};
 
-use crate::choices::stop_at;
 use crate::failed::Failed;
 use crate::step::Step;
+use crate::stops::stop_at;
 use crate::texts::split_first;
 use urlpattern_syntax::tokenizer::before;
 

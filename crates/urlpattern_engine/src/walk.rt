@@ -1,6 +1,6 @@
 //! Matches a text by steps.
 
-ghost use Rattle.std.specs.Prelude.{◌≡◌, ◌∷◌, ◌++◌, [], List, false, replicate, Bool, None, IfOk, OnOk, drop};
+ghost use Rattle.std.specs.Prelude.{◌≡◌, ◌∷◌, ◌++◌, [], List, false, replicate, Bool, None, IfOk, OnOk};
 ghost use Rattle.std.specs.Str.{chars};
 ghost use Rattle.urlpattern_core.specs.Captured.{captures_view};
 ghost use Rattle.urlpattern_engine.specs.Failed.{IsPlace};
@@ -10,7 +10,7 @@ ghost use Rattle.urlpattern_engine.specs.Taken.{Adds, Extends, IsCutFor, IsEndHe
 use crate::choices::Remembered;
 use crate::failed::Failed;
 use crate::repeats::{
-    after_literals, begun_after, ends, first_steps, goes_on, skip_copies, without_copy,
+    after_literals, begun_after, ends, first_steps, goes_on, pass, skip_copies, without_copy,
 };
 use crate::runs::{has_one_end, longest_front, next_of_run, remember_run};
 use crate::step::{Copies, Group, Run, Segments, Step};
@@ -475,7 +475,7 @@ fn end_of_segments(
         (segmented (segments.separator.first ∷ literals literal.now) (single_run segments.is_greedy segments.end) (captured (walk others.now)) [] (chars text.now))) }
     ensures whole { failed.new ≡ failed.old }
 {
-    let mut begun = Vec::new(alloc);
+    let mut begun = Vec::with_capacity(alloc, text.len())?;
     let mut later = None;
     let mut front = text;
     loop {
@@ -530,11 +530,4 @@ fn add_missing(captures: &mut Vec<Option<&str>>, count: usize) -> Result<(), Out
         captures.push(None)?;
     }
     Ok(())
-}
-
-/// The steps after the first so many, if there are more.
-pub(crate) fn pass(steps: &[Step], count: usize) -> &[Step]
-    ensures { result.now ≡ drop count steps.now }
-{
-    steps.get(count..).unwrap_or(&[])
 }

@@ -2,11 +2,12 @@ use Rattle.std.proofs.Common.{◌≡◌, ℕ, Bor, List, ◌++◌, [], ◌∷◌
 use Rattle.std.specs.Prelude.{IfSome}
 use Rattle.std.specs.Str.{chars}
 use Rattle.urlpattern_engine.specs.declared.step.Step.{Step}
-use Rattle.urlpattern_engine.specs.declared.reading.Token.TheVariants.{Open, Close, FirstSegment, Step as One, MaybeStep}
+use Rattle.urlpattern_engine.specs.declared.tokens.Token.TheVariants.{Open, Close, FirstSegment, Step as One, MaybeStep}
 use Rattle.urlpattern_engine.specs.declared.step.Group.{Group}
 use Rattle.urlpattern_engine.specs.declared.step.Step.TheVariants.{Maybe}
 use Rattle.urlpattern_engine.specs.Reading.{BeginsWithToken, EndsSegments}
-use Rattle.urlpattern_engine.proofs.ReadingLemmas.{IsBegun, none_of, begun-close, begun-ends, begun-more, begun-open, segments-spell, spells-once, spells-maybe}
+use Rattle.urlpattern_engine.proofs.ReadingLemmas.{IsBegun, begun-close, begun-ends, begun-more, begun-open, segments-spell, spells-once, spells-maybe}
+use Rattle.urlpattern_engine.proofs.TokenLemmas.{none_of}
 use Rattle.urlpattern_engine.proofs.reading.read_steps.Goals as goal
 
 pub loop-token-preserved-in_ok-push-in-Step : goal.loop-token-preserved-in_ok-push-in-Step
@@ -86,8 +87,8 @@ loop-token-preserved c =
           (begun-close (chars c.args.regexp.now) rest begins.0 remaining first c.in-Close.times done group.0 so_far group.1 begins.1 begins.2);
     }
 
-pub returns-then-is_shallow : goal.returns-then-is_shallow
-returns-then-is_shallow c =
+pub returns-then-begin_with_repeats : goal.returns-then-begin_with_repeats
+returns-then-begin_with_repeats c =
     let rest = chars c.loop-token.rest.now in
     let outside : c.loop-token.opened ≡ None = none_of c.loop-token.opened (sym c.if-is_none.ensures) in
     begun-ends (chars c.args.regexp.now) rest c.loop-token.steps.items

@@ -909,7 +909,7 @@ end_of_segments-loop-begun-init n c =
         [],
         nothing,
         sym (append-nil text),
-        subst (λ t. IsTable first literal is_greedy end gives text (chars text) (chars []) t None) (sym c.new-begun.ensures.items)
+        subst (λ t. IsTable first literal is_greedy end gives text (chars text) (chars []) t None) (sym c.in_ok-begun.ensures.items)
             (subst (λ r. IsTable first literal is_greedy end gives text (chars text) r [] None) (sym (chars-empty [] refl)) (table_begun first literal is_greedy end gives text (chars text))),
       );
       whole = refl;

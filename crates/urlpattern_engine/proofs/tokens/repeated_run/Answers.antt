@@ -1,7 +1,7 @@
 use Rattle.std.proofs.Common.{refl}
 use Rattle.urlpattern_engine.specs.Reading.{quantifier_of}
-use Rattle.urlpattern_engine.proofs.ReadingLemmas.{runs_allowed}
-use Rattle.urlpattern_engine.proofs.reading.repeated_run.Goals as goal
+use Rattle.urlpattern_engine.proofs.TokenLemmas.{runs_allowed}
+use Rattle.urlpattern_engine.proofs.tokens.repeated_run.Goals as goal
 
 pub returns : goal.returns
 returns c = λ items is.

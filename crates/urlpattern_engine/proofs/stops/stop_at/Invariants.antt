@@ -1,6 +1,6 @@
 use Rattle.std.proofs.Common.{length}
 use Rattle.urlpattern_engine.specs.Steps.{StopAt}
-use Rattle.urlpattern_engine.proofs.choices.stop_at.Given as goal
+use Rattle.urlpattern_engine.proofs.stops.stop_at.Given as goal
 
 abbrev pub invariant-loop-step : goal.invariant-loop-step
 invariant-loop-step l = StopAt l.end l.rest → StopAt l.end l.steps

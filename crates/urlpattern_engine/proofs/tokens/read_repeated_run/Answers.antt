@@ -1,7 +1,7 @@
 use Rattle.std.specs.Str.{chars}
 use Rattle.urlpattern_engine.specs.Reading.{BeginsWithCaptured}
-use Rattle.urlpattern_engine.proofs.ReadingLemmas.{repeated_run}
-use Rattle.urlpattern_engine.proofs.reading.read_repeated_run.Goals as goal
+use Rattle.urlpattern_engine.proofs.TokenLemmas.{repeated_run}
+use Rattle.urlpattern_engine.proofs.tokens.read_repeated_run.Goals as goal
 
 pub returns-clause-step : goal.returns-clause-step
 returns-clause-step c =

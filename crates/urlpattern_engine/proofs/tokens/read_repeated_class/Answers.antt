@@ -1,8 +1,8 @@
 use Rattle.std.specs.Str.{chars}
 use Rattle.urlpattern_laws.specs.Dialect.{IsClassCharacter}
 use Rattle.urlpattern_engine.specs.Reading.{BeginsWithCharacter}
-use Rattle.urlpattern_engine.proofs.ReadingLemmas.{lazy_class}
-use Rattle.urlpattern_engine.proofs.reading.read_repeated_class.Goals as goal
+use Rattle.urlpattern_engine.proofs.TokenLemmas.{lazy_class}
+use Rattle.urlpattern_engine.proofs.tokens.read_repeated_class.Goals as goal
 
 pub returns-clause-step : goal.returns-clause-step
 returns-clause-step c =

@@ -1,8 +1,8 @@
 use Rattle.std.specs.Str.{chars}
 use Rattle.urlpattern_laws.specs.Dialect.{IsCharacter}
 use Rattle.urlpattern_engine.specs.Reading.{BeginsWithCharacter}
-use Rattle.urlpattern_engine.proofs.ReadingLemmas.{literal-spells}
-use Rattle.urlpattern_engine.proofs.reading.read_token.Goals as goal
+use Rattle.urlpattern_engine.proofs.TokenLemmas.{literal-spells}
+use Rattle.urlpattern_engine.proofs.tokens.read_token.Goals as goal
 
 pub returns-clause-token : goal.returns-clause-token
 returns-clause-token c =

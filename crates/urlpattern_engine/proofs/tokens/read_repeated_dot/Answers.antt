@@ -1,6 +1,6 @@
 use Rattle.std.specs.Str.{chars}
-use Rattle.urlpattern_engine.proofs.ReadingLemmas.{greedy_dot, lazy_dot}
-use Rattle.urlpattern_engine.proofs.reading.read_repeated_dot.Goals as goal
+use Rattle.urlpattern_engine.proofs.TokenLemmas.{greedy_dot, lazy_dot}
+use Rattle.urlpattern_engine.proofs.tokens.read_repeated_dot.Goals as goal
 
 pub returns-in-Some-clause-step : goal.returns-in-Some-clause-step
 returns-in-Some-clause-step c = greedy_dot (chars c.args.text.now) (chars c.in-Some.rest.now) c.in-Some.ensures.cut

@@ -1,8 +1,8 @@
 use Rattle.std.proofs.Common.{codes, ◌++◌, refl, ap, ◌∙◌}
 use Rattle.std.specs.Str.{chars}
 use Rattle.urlpattern_engine.specs.Reading.{BeginsWithCaptured}
-use Rattle.urlpattern_engine.proofs.ReadingLemmas.{captured-spells, captured-maybe}
-use Rattle.urlpattern_engine.proofs.reading.read_bracket.Goals as goal
+use Rattle.urlpattern_engine.proofs.TokenLemmas.{captured-spells, captured-maybe}
+use Rattle.urlpattern_engine.proofs.tokens.read_bracket.Goals as goal
 
 pub returns-clause-token : goal.returns-clause-token
 returns-clause-token c =

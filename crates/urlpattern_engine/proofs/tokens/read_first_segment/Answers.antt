@@ -1,7 +1,7 @@
 use Rattle.std.specs.Str.{chars}
 use Rattle.urlpattern_engine.specs.Reading.{BeginsWithCaptured}
-use Rattle.urlpattern_engine.proofs.ReadingLemmas.{first_segment-begins}
-use Rattle.urlpattern_engine.proofs.reading.read_first_segment.Goals as goal
+use Rattle.urlpattern_engine.proofs.TokenLemmas.{first_segment-begins}
+use Rattle.urlpattern_engine.proofs.tokens.read_first_segment.Goals as goal
 
 pub returns-clause-token : goal.returns-clause-token
 returns-clause-token c =

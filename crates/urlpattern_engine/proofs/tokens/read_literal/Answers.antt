@@ -6,8 +6,8 @@ use Rattle.urlpattern_laws.specs.Dialect.{IsCharacter}
 use Rattle.urlpattern_syntax.specs.RegexpText.{regexp_marks}
 use Rattle.urlpattern_syntax.specs.Text.{is_among}
 use Rattle.urlpattern_engine.specs.Reading.{BeginsWithCharacter}
-use Rattle.urlpattern_engine.proofs.ReadingLemmas.{escaped-begins, if_both, plain-begins}
-use Rattle.urlpattern_engine.proofs.reading.read_literal.Goals as goal
+use Rattle.urlpattern_engine.proofs.TokenLemmas.{escaped-begins, if_both, plain-begins}
+use Rattle.urlpattern_engine.proofs.tokens.read_literal.Goals as goal
 
 pub returns-then-c-eq92-clause-character : goal.returns-then-c-eq92-clause-character
 returns-then-c-eq92-clause-character c =

@@ -5,8 +5,8 @@ use Rattle.urlpattern_laws.specs.Dialect.{IsClassCharacter}
 use Rattle.urlpattern_syntax.specs.RegexpText.{regexp_marks}
 use Rattle.urlpattern_syntax.specs.Text.{is_among}
 use Rattle.urlpattern_engine.specs.Reading.{BeginsWithCharacter}
-use Rattle.urlpattern_engine.proofs.ReadingLemmas.{escaped-begins, if_both, plain-begins, not_class}
-use Rattle.urlpattern_engine.proofs.reading.read_class_character.Goals as goal
+use Rattle.urlpattern_engine.proofs.TokenLemmas.{escaped-begins, if_both, plain-begins, not_class}
+use Rattle.urlpattern_engine.proofs.tokens.read_class_character.Goals as goal
 
 pub returns-in-92-clause-character : goal.returns-in-92-clause-character
 returns-in-92-clause-character c =

@@ -3,7 +3,7 @@ use Rattle.urlpattern_engine.specs.declared.step.Step.{Step}
 use Rattle.urlpattern_engine.specs.declared.step.Step.TheVariants.{Maybe, Copies}
 use Rattle.urlpattern_engine.specs.Steps.{StopAt}
 use Rattle.urlpattern_engine.proofs.StepLemmas.{stop-any_copies, stop-copies, stop-maybe}
-use Rattle.urlpattern_engine.proofs.choices.stop_at.Goals as goal
+use Rattle.urlpattern_engine.proofs.stops.stop_at.Goals as goal
 
 pub loop-step-preserved-in-Maybe-1 : goal.loop-step-preserved-in-Maybe-1
 loop-step-preserved-in-Maybe-1 c stops =
