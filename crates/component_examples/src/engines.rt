@@ -1,10 +1,11 @@
 //! The engine for patterns beside `regex::Regex`, on expressions that components are made of.
 
+use crate::long_texts::push_copies;
 use regex::Regex;
-use std::alloc::Global;
+use std::alloc::{AllocError, Global};
 use std::test::Fail;
 use urlpattern_core::RegexSyntax;
-use urlpattern_core::error::RegExpError;
+use urlpattern_core::error::{OutOfMemory, RegExpError};
 use urlpattern_core::regexp::RegExp;
 use urlpattern_engine::PatternRegexp;
 
@@ -119,6 +120,79 @@ const CHOSEN: [Case; 34] = [
     ("^(.*)?$", "", Some(&[Some("")])),
 ];
 
+/// Expressions with groups that are repeated.
+const REPEATED: [Case; 33] = [
+    ("^(?:ab)*$", "", Some(&[])),
+    ("^(?:ab)*$", "ababab", Some(&[])),
+    ("^(?:ab)*$", "aba", None),
+    ("^(?:ab)+$", "", None),
+    ("^(?:ab)+abc$", "ababc", Some(&[])),
+    ("^(?:a\\.)*a$", "a.a.a", Some(&[])),
+    ("^(?:é/)+(.*)$", "é/é/x", Some(&[Some("x")])),
+    ("^(?:a)*a(.*)$", "aaab", Some(&[Some("b")])),
+    ("^(?:a)*(?:a)*(?:a)+b$", "aab", Some(&[])),
+    ("^/x(?:/y)*/y$", "/x/y/y", Some(&[])),
+    ("^((?:[^/]+?)*)$", "", Some(&[Some("")])),
+    ("^((?:[^/]+?)*)$", "ab", Some(&[Some("ab")])),
+    ("^((?:[^/]+?)*)$", "a/b", None),
+    ("^((?:[^/]+?)+)$", "", None),
+    ("^((?:[^/]+?)+)b$", "abab", Some(&[Some("aba")])),
+    ("^((?:[^/]+?)+)b$", "b", None),
+    (
+        "^((?:[^/]+?)*)b(.*)$",
+        "abab/",
+        Some(&[Some("aba"), Some("/")]),
+    ),
+    (
+        "^((?:.+?)+)/(.*)$",
+        "a/b/c",
+        Some(&[Some("a/b"), Some("c")]),
+    ),
+    ("^((?:.+?)*)$", "a\nb", None),
+    ("^((?:.*)+)$", "", Some(&[Some("")])),
+    ("^((?:.*)*)b$", "abb", Some(&[Some("ab")])),
+    ("^((?:[^é]+?)+)é$", "aé", Some(&[Some("a")])),
+    (
+        "^(?:/((?:[^/]+?)(?:/(?:[^/]+?))*))$",
+        "/a/b/c",
+        Some(&[Some("a/b/c")]),
+    ),
+    ("^(?:/((?:[^/]+?)(?:/(?:[^/]+?))*))$", "/a//b", None),
+    ("^(?:/((?:[^/]+?)(?:/(?:[^/]+?))*))$", "/", None),
+    (
+        "^(?:/((?:[^/]+?)(?:/(?:[^/]+?))*))?/x$",
+        "/a/x/x",
+        Some(&[Some("a/x")]),
+    ),
+    (
+        "^(?:/((?:[^/]+?)(?:/(?:[^/]+?))*))?/x$",
+        "/x",
+        Some(&[None]),
+    ),
+    (
+        "^(?:a((?:[^/]+?)(?:ba(?:[^/]+?))*)b)(.*)$",
+        "axbaybz",
+        Some(&[Some("xbay"), Some("z")]),
+    ),
+    (
+        "^(?:a((?:[^/]+?)(?:ba(?:[^/]+?))*)b)$",
+        "abababab",
+        Some(&[Some("bababa")]),
+    ),
+    ("^(?:-((?:.*)(?:-(?:.*))*))$", "-a-b", Some(&[Some("a-b")])),
+    (
+        "^(?:-((?:.*)(?:-(?:.*))*))-c$",
+        "-a-b-c",
+        Some(&[Some("a-b")]),
+    ),
+    (
+        "^(?:\\.((?:[^\\.]+?)(?:\\.(?:[^\\.]+?))*))?\\.b$",
+        ".a.é.b",
+        Some(&[Some("a.é")]),
+    ),
+    ("^(?:-((?:.+?)(?:-(?:.+?))*))$", "-a\n-b", None),
+];
+
 /// Whether the value of an expression answers a text as expected.
 fn is_answered<R: RegExp>(
     alloc: Global,
@@ -151,6 +225,109 @@ fn expressions_without_a_choice(rt: HostRuntime) -> Result<(), Fail> {
 fn expressions_with_a_choice(rt: HostRuntime) -> Result<(), Fail> {
     for case in CHOSEN {
         assert!(rt; is_answered_by_both(rt.alloc(), case)?, "{case:?}");
+    }
+    Ok(())
+}
+
+#[test]
+fn expressions_with_repeated_groups(rt: HostRuntime) -> Result<(), Fail> {
+    for case in REPEATED {
+        assert!(rt; is_answered_by_both(rt.alloc(), case)?, "{case:?}");
+    }
+    Ok(())
+}
+
+/// Expressions that leave many choices.
+const MANY_CHOICES: [&str; 14] = [
+    "^(.*)(.*)(.*)(.*)(.*)b$",
+    "^(.*)a(.*)a(.*)b$",
+    "^(.*)(.*)/(.*)a$",
+    "^([^/]+?)([^/]+?)([^/]+?)b$",
+    "^(.+?)a(.+?)a(.+?)b$",
+    "^([^/]+?)a([^/]+?)a([^/]+?)/$",
+    "^(.*)([^/]+?)/([^b]+?)$",
+    "^(.*)([^/]+?)/a$",
+    "^([^/]+?)-([^/]+?)$",
+    "^(?:a)?(?:a)?(?:a)?(?:a)?(?:a)?(?:a)?aaa$",
+    "^(?:(.*)a)?(?:(.+?)b)?(?:(.*)/)?a$",
+    "^(?:/([^/]+?))?(?:/([^/]+?))?(?:/([^/]+?))?(.*)b$",
+    "^(.*)?(.*)?([^a]+?)?(.*)?/$",
+    "^(?:a)?(.*)(?:a)?(.*)(?:a)?(.+?)(?:b)?a$",
+];
+
+/// The letters of the texts that are tried, a line feed among them.
+const LETTERS: [char; 4] = ['a', 'b', '/', '\n'];
+
+/// How many letters the texts have at most.
+const LENGTH: u32 = 3;
+
+/// The text with this number among the texts of so many letters.
+fn numbered_text(alloc: Global, number: usize, length: u32) -> Result<String, AllocError> {
+    let mut text = String::new(alloc);
+    let mut left = number;
+    for _ in 0..length {
+        text.push(LETTERS[left % 4])?;
+        left /= 4;
+    }
+    Ok(text)
+}
+
+/// Whether both engines give the same answer to a text.
+fn is_answered_alike(
+    alloc: Global,
+    own: &PatternRegexp,
+    regex: &Regex,
+    text: &str,
+) -> Result<bool, OutOfMemory> {
+    Ok(own.matches(alloc, text)? == RegExp::matches(regex, alloc, text)?)
+}
+
+#[test]
+fn many_choices_are_answered_as_by_regex(rt: HostRuntime) -> Result<(), Fail> {
+    let alloc = rt.alloc();
+    for regexp in MANY_CHOICES {
+        let own = PatternRegexp::parse(alloc, regexp, "u", true)?;
+        let regex = <Regex as RegExp>::parse(alloc, regexp, "u", true)?;
+        for length in 0..=LENGTH {
+            for number in 0..4usize.pow(length) {
+                let text = numbered_text(alloc, number, length)?;
+                assert!(rt; is_answered_alike(alloc, &own, &regex, &text)?, "{regexp} {text:?}");
+            }
+        }
+    }
+    Ok(())
+}
+
+/// A text of copies of a piece, and then a line feed, which no dot takes.
+fn long_text(alloc: Global, piece: &str, count: usize) -> Result<String, AllocError> {
+    let mut text = String::new(alloc);
+    push_copies(&mut text, piece, count)?;
+    text.push('\n')?;
+    Ok(text)
+}
+
+/// Where what failed is not remembered, most of these take as many tries as there are ways to cut the text.
+#[test]
+fn many_choices_in_long_texts(rt: HostRuntime) -> Result<(), Fail> {
+    let alloc = rt.alloc();
+    for regexp in MANY_CHOICES {
+        let own = PatternRegexp::parse(alloc, regexp, "u", true)?;
+        let regex = <Regex as RegExp>::parse(alloc, regexp, "u", true)?;
+        for piece in ["a", "ab", "a-/"] {
+            let text = long_text(alloc, piece, 500)?;
+            assert!(rt; is_answered_alike(alloc, &own, &regex, &text)?, "{regexp} {piece}");
+        }
+    }
+    Ok(())
+}
+
+#[test]
+fn many_choices_in_a_very_long_text(rt: HostRuntime) -> Result<(), Fail> {
+    let alloc = rt.alloc();
+    let text = long_text(alloc, "a", 16_000)?;
+    for regexp in MANY_CHOICES {
+        let own = PatternRegexp::parse(alloc, regexp, "u", true)?;
+        assert_eq!(rt; own.matches(alloc, &text)?, None, "{regexp}");
     }
     Ok(())
 }

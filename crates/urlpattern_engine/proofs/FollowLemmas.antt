@@ -1,5 +1,5 @@
 -- What is added to captures, step by step.
-use Rattle.std.proofs.Common.{◌≡◌, ℕ, zero, suc, List, [], ◌∷◌, ◌++◌, map, drop, replicate, Option, Some, None, option_map, Result, Ok, Err, Bool, true, false, cond, ◌==◌, refl, sym, ap, ap₂, ◌∙◌, append-nil, append_assoc}
+use Rattle.std.proofs.Common.{◌≡◌, ℕ, zero, suc, List, [], ◌∷◌, ◌++◌, map, drop, eq-eqb, replicate, Option, Some, None, option_map, Result, Ok, Err, Bool, true, false, cond, ◌==◌, refl, sym, ap, ap₂, ◌∙◌, append-nil, append_assoc}
 use Rattle.std.proofs.lemmas.List.{map-append, append_cancel_right}
 use Rattle.std.proofs.lemmas.Str.{chars-append, chars_past_char, encodes-append, encodes-chars, IsUtf8-append}
 use Rattle.std.specs.Borrow.{Bor}
@@ -12,11 +12,13 @@ use Rattle.urlpattern_laws.specs.PartMeaning.{Captures}
 use Rattle.urlpattern_syntax.proofs.StringTexts.{chars-encode}
 use Rattle.urlpattern_engine.specs.declared.step.Group.{Group}
 use Rattle.urlpattern_engine.specs.declared.step.Step.{Step}
-use Rattle.urlpattern_engine.specs.declared.step.Step.TheVariants.{Maybe}
-use Rattle.urlpattern_engine.specs.Steps.{Gives, shortest, walk}
+use Rattle.urlpattern_engine.specs.declared.step.Step.TheVariants.{Anything, Literal, Maybe}
+use Rattle.urlpattern_engine.specs.Failed.{EndsWith}
+use Rattle.urlpattern_engine.specs.Steps.{Gives, captured, longest, shortest, up_to_first, walk}
 use Rattle.urlpattern_engine.specs.Taken.{Adds, Extends, Kept}
-use Rattle.urlpattern_engine.proofs.RunLemmas.{falling, falling-last}
+use Rattle.urlpattern_engine.proofs.RunLemmas.{longest_found, longest_no_more}
 use Rattle.urlpattern_engine.proofs.StepLemmas.{maybe_missing}
+use Rattle.urlpattern_syntax.specs.Text.{line_feed}
 
 -- what was captured before, and what is captured now
 abbrev pub plus : Kept → Option Captures → Option Captures
@@ -70,6 +72,10 @@ plus_maybe now new more group others rest none same missing =
     ∙ plus_missing now group.captures (walk (drop group.steps others) rest)
     ∙ ap (λ l. plus l (walk (drop group.steps others) rest)) (ap (λ l. l ++ replicate group.captures None) (sym same) ∙ sym missing)
 
+-- a character that stands there
+pub literal_passed : (c : ℕ) (others : List Step) (rest remaining : List ℕ) → rest ≡ c ∷ remaining → walk (Literal c ∷ others) rest ≡ walk others remaining
+literal_passed c others rest remaining e = ap (walk (Literal c ∷ others)) e ∙ ap (λ b. cond b (walk others remaining) None) (eq-eqb c c refl)
+
 -- the end of the steps
 pub end_adds : (now : Kept) (rest : List ℕ) (is_empty : Bool) → (is_empty ≡ true → rest ≡ []) → (is_empty ≡ false → ¬ (rest ≡ [])) → Adds now now is_empty (walk [] rest)
 end_adds now [] true full some = ap Some (sym (append-nil (map capture_view now)))
@@ -96,12 +102,33 @@ bytes_join text front rest u v w e =
     sym (encodes-chars text u) ∙ ap encode_utf8_all e ∙ encodes-append (chars front) (chars rest) ∙ ap₂ (λ a b. a ++ b) (encodes-chars front v) (encodes-chars rest w)
 
 -- the last character of a front goes to the rest
-pub front_shrinks : (gives : Gives) (front shorter rest : List ℕ) (c : ℕ) → IsUtf8 shorter → IsUtf8 rest → IsScalar c → IsUtf8 (encode_utf8 c) → front ≡ shorter ++ encode_utf8 c
-    → gives (chars front) (chars rest) ≡ None → falling gives [] (chars front) (chars rest) ≡ falling gives [] (chars shorter) (chars (encode_utf8 c ++ rest))
-front_shrinks gives front shorter rest c u v scalar w e none =
-    let spelled : chars front ≡ chars shorter ++ c ∷ [] = ap chars e ∙ chars-append shorter (encode_utf8 c) u ∙ ap (λ l. chars shorter ++ l) (chars-encode c scalar) in
-    let more : chars (encode_utf8 c ++ rest) ≡ c ∷ chars rest = chars_past_char (encode_utf8 c ++ rest) rest c (IsUtf8-append (encode_utf8 c) rest w v) refl in
-    ap (λ f. falling gives [] f (chars rest)) spelled
-    ∙ falling-last gives [] (chars shorter) c (chars rest)
-    ∙ ap (λ o. option_or o (falling gives [] (chars shorter) (c ∷ chars rest))) (ap (λ f. gives f (chars rest)) (sym spelled) ∙ none)
-    ∙ ap (falling gives [] (chars shorter)) (sym more)
+pub last_passed : (front shorter rest : List ℕ) (c : ℕ) → IsUtf8 shorter → IsUtf8 rest → IsScalar c → IsUtf8 (encode_utf8 c) → front ≡ shorter ++ encode_utf8 c
+    → (chars front ≡ chars shorter ++ c ∷ []) × (chars (encode_utf8 c ++ rest) ≡ c ∷ chars rest)
+last_passed front shorter rest c u v scalar w e = (
+  ap chars e ∙ chars-append shorter (encode_utf8 c) u ∙ ap (λ l. chars shorter ++ l) (chars-encode c scalar),
+  chars_past_char (encode_utf8 c ++ rest) rest c (IsUtf8-append (encode_utf8 c) rest w v) refl,
+)
+
+-- the characters of an end
+pub chars_end : (text front rest : List ℕ) → IsUtf8 front → text ≡ front ++ rest → EndsWith (chars text) (chars rest)
+chars_end text front rest u e = (chars front, ap chars e ∙ chars-append front rest u)
+
+module _ (steps others : List Step) (first : steps ≡ Anything ∷ others) where
+  -- no front that is longer, nor this one, leads on
+  pub longest_dead : (front rest : List ℕ) → longest line_feed (captured (walk others)) front rest ≡ captured (walk others) front rest → captured (walk others) front rest ≡ None
+      → walk steps rest ≡ None
+  longest_dead front rest longest none = ap (λ s. walk s rest) first ∙ longest_no_more line_feed (walk others) front [] rest (longest ∙ none)
+
+  -- this front is the longest that leads on
+  pub longest_taken : (text front rest : List ℕ) (found : Captures) → text ≡ front ++ rest → up_to_first line_feed front ≡ front
+      → longest line_feed (captured (walk others)) front rest ≡ captured (walk others) front rest → captured (walk others) front rest ≡ Some found → walk steps text ≡ Some found
+  longest_taken text front rest found cut lacks longest some =
+      ap (λ s. walk s text) first ∙ ap (walk (Anything ∷ others)) cut ∙ longest_found line_feed (captured (walk others)) [] front rest found lacks (longest ∙ some)
+
+-- ---- groups that may be missing
+
+pub maybe_dead : (group : Group) (steps others left : List Step) (text : List ℕ) → steps ≡ Maybe group ∷ others → left ≡ drop group.steps others → walk others text ≡ None → walk left text ≡ None
+    → walk steps text ≡ None
+maybe_dead group steps others left text first passed none also =
+    ap (λ s. walk s text) first ∙ maybe_missing group others text none
+    ∙ ap (option_map (λ others. replicate group.captures None ++ others)) (ap (λ s. walk s text) (sym passed) ∙ also)

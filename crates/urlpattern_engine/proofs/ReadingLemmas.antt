@@ -1,95 +1,23 @@
 -- From the text of an expression to a tree and its steps.
-use Rattle.std.proofs.Common.{◌≡◌, ℕ, ◌≤◌, List, [], ◌∷◌, ◌++◌, ◌-◌, length, take, drop, Option, Some, None, Bool, true, false, refl, sym, ap, ap₂, ◌∙◌, subst, append-nil, append_assoc, length-append, codes, ◌==◌, ne_eqb, arith}
-use Rattle.std.proofs.lemmas.Bool.{false≢true}
-use Rattle.std.proofs.lemmas.List.{take-append-le, drop-append-le, length-drop}
+use Rattle.std.proofs.Common.{◌≡◌, ℕ, zero, suc, ◌<◌, ◌≤◌, List, [], ◌∷◌, ◌++◌, ◌-◌, length, take, drop, Option, Some, None, Bool, true, false, refl, sym, ap, ap₂, ◌∙◌, subst, append-nil, append_assoc, length-append, codes, arith}
+use Rattle.std.proofs.lemmas.List.{take-append-le, drop-append-le, length-drop, set_split}
 use Rattle.std.proofs.Math.Nat.{le_refl}
-use Rattle.std.proofs.Math.Seq.{take-length, drop-length}
-use Rattle.std.specs.Prelude.{◌≢◌, IfSome, is_some, insert}
-use Rattle.urlpattern_laws.specs.Dialect.{AnyBut, AreItems, AllowsGroups, Atom, Captured, Character, Plain, Escaped, Dot, Grouped, IsAtom, IsCharacter, IsClassCharacter, IsTreeOf, Item, Items, LazyOneOrMore, Nothing, Once, Optional, Quantifier, ZeroOrMore, atom_group_count, atom_text, character_of, character_text, items_text, quantifier_text}
-use Rattle.urlpattern_laws.specs.Dialect as dialect
-use Rattle.urlpattern_syntax.specs.RegexpText.{captured}
-use Rattle.urlpattern_engine.specs.declared.reading.Token.TheVariants.{Close, MaybeStep}
+use Rattle.std.proofs.Math.Seq.{take-append_seam, drop-append_seam, take-length, drop-length}
+use Rattle.std.specs.Prelude.{insert, set}
+use Rattle.urlpattern_laws.specs.Dialect.{AreItems, AllowsGroups, Atom, Captured, Character, Grouped, IsAtom, IsCharacter, IsTreeOf, Item, Items, Nothing, Once, Optional, Quantifier, atom_group_count, group_count, atom_text, character_of, character_text, items_text, quantifier_text}
+use Rattle.urlpattern_engine.specs.declared.tokens.Times.{Times}
+use Rattle.urlpattern_engine.specs.declared.tokens.Times.TheVariants as times
+use Rattle.urlpattern_engine.specs.declared.tokens.Token.TheVariants.{MaybeStep}
 use Rattle.urlpattern_engine.specs.declared.step.Group.{Group}
+use Rattle.urlpattern_engine.specs.declared.step.Stretch.{Stretch}
 use Rattle.urlpattern_engine.specs.declared.step.Step.{Step}
-use Rattle.urlpattern_engine.specs.declared.step.Step.TheVariants.{Literal, Segment, Anything, Maybe}
-use Rattle.urlpattern_engine.specs.Reading.{AreStepsOf, BeginsWithCaptured, BeginsWithCharacter, BeginsWithToken, IsStepOf, IsToken, Spells, optional_text}
+use Rattle.urlpattern_engine.specs.declared.step.Step.TheVariants.{Literal, Maybe, Copies, Segments}
+use Rattle.urlpattern_engine.specs.Reading.{AreCharacters, AreCopies, AreLiterals, AreStepsOf, BeginsSegments, EndsSegments, characters_text, literal_steps, BeginsWithCharacter, IsGroup, IsRunOf, IsToken, Spells, times_text}
 use Rattle.urlpattern_engine.specs.Steps.{capture_count}
-use Rattle.urlpattern_engine.proofs.Walks.{Walks, walks-nothing, walks-inside, walks-once, walks-maybe, walks-step, walk_is_first}
-
--- what holds of what is there by two facts
-pub if_some : {A : Type 0} (P Q : A → Type 0) (o : Option A) → ((x : A) → P x → Q x) → IfSome o P → IfSome o Q
-if_some P Q None f p = p
-if_some P Q (Some x) f p = f x p
-
-pub if_both : {A : Type 0} (P Q R : A → Type 0) (o : Option A) → ((x : A) → P x → Q x → R x) → IfSome o P → IfSome o Q → IfSome o R
-if_both P Q R None f p q = p
-if_both P Q R (Some x) f p q = f x p q
-
-pub none_of : {A : Type 0} (o : Option A) → false ≡ is_some o → o ≡ None
-none_of None e = refl
-none_of (Some x) e = absurd (false≢true e)
-
--- ---- characters
-
-pub escaped-begins : (Is : Character → Type 0) (text behind : List ℕ) (c : ℕ) (rest : List ℕ) → Is (Escaped c) → text ≡ codes "\\" ++ behind → behind ≡ c ∷ rest → BeginsWithCharacter Is text c rest
-escaped-begins Is text behind c rest is e f = (Escaped c, is, refl, e ∙ ap (λ t. codes "\\" ++ t) f)
-
-pub plain-begins : (Is : Character → Type 0) (text : List ℕ) (c : ℕ) (rest : List ℕ) → Is (Plain c) → text ≡ c ∷ rest → BeginsWithCharacter Is text c rest
-plain-begins Is text c rest is e = (Plain c, is, refl, e)
-
-pub not_class : (c : ℕ) → c ≢ 91 → c ≢ 92 → IsClassCharacter (Plain c)
-not_class c p q t =
-    let first : (91 == c) ≡ false = ne_eqb 91 c (λ e. p (sym e)) in
-    let other : (92 == c) ≡ false = ne_eqb 92 c (λ e. q (sym e)) in
-    false≢true (rw (first, other) at t)
-
--- ---- groups that capture
-
-pub greedy_dot : (text rest : List ℕ) → text ≡ codes "*" ++ rest → BeginsWithCaptured (codes "." ++ text) Anything rest
-greedy_dot text rest e = (Item Dot ZeroOrMore Nothing, (tt, refl, tt), refl, ap (λ t. codes "." ++ t) e)
-
-pub lazy_dot : (text rest : List ℕ) → text ≡ codes "+?" ++ rest → BeginsWithCaptured (codes "." ++ text) (Segment 10) rest
-lazy_dot text rest e = (Item Dot LazyOneOrMore Nothing, (tt, refl, tt), (Dot, refl, refl), ap (λ t. codes "." ++ t) e)
-
-pub lazy_class : (text behind class rest : List ℕ) (c : ℕ) → BeginsWithCharacter IsClassCharacter text c behind → behind ≡ codes "]" ++ class → class ≡ codes "+?" ++ rest
-    → BeginsWithCaptured (codes "[^" ++ text) (Segment c) rest
-lazy_class text behind class rest c (character, is, same, e) f g =
-    let one : Items = Item (AnyBut character) LazyOneOrMore Nothing in
-    let whole : text ≡ character_text character ++ (codes "]" ++ (codes "+?" ++ rest)) = e ∙ ap (λ t. character_text character ++ t) (f ∙ ap (λ t. codes "]" ++ t) g) in
-    let spelled : items_text one ++ rest ≡ codes "[^" ++ (character_text character ++ (codes "]" ++ (codes "+?" ++ rest))) =
-    ap (λ t. codes "[^" ++ t)
-    (ap (λ t. t ++ rest) (append-nil ((character_text character ++ codes "]") ++ codes "+?"))
-    ∙ append_assoc (character_text character ++ codes "]") (codes "+?") rest ∙ append_assoc (character_text character) (codes "]") (codes "+?" ++ rest)) in
-    (one, (is, refl, tt), (AnyBut character, same, refl), ap (λ t. codes "[^" ++ t) whole ∙ sym spelled)
-
-pub captured-spells : (text behind rest : List ℕ) (step : Step) → BeginsWithCaptured text step behind → behind ≡ codes ")" ++ rest
-    → (front : List ℕ) × Spells step front × (codes "(" ++ text ≡ front ++ rest)
-captured-spells text behind rest step (items, are, is, e) f = (
-  captured (items_text items),
-  (Captured items, are, is, refl),
-  ap (λ t. codes "(" ++ t) (e ∙ ap (λ t. items_text items ++ t) f ∙ sym (append_assoc (items_text items) (codes ")") rest)),
-)
-
-captured_literal : (character : Character) (items : Items) → ¬ (Captured items ≡ dialect.Literal character)
-captured_literal character items e = cc
-
-captures_one : (step : Step) (items : Items) → IsStepOf step (Captured items) → capture_count (step ∷ []) ≡ 1
-captures_one (Literal c) items is = absurd (captured_literal is.0 items is.2)
-captures_one (Segment c) items is = refl
-captures_one Anything items is = refl
-captures_one (Maybe group) items is = absurd is
-
-pub captured-maybe : (text bracket behind rest : List ℕ) (step : Step) → BeginsWithCaptured text step bracket → bracket ≡ codes ")" ++ behind → behind ≡ codes "?" ++ rest
-    → BeginsWithToken (codes "(" ++ text) (MaybeStep step) rest
-captured-maybe text bracket behind rest step begins e f =
-    let once = captured-spells text bracket behind step begins e in
-    (once.0 ++ codes "?", (once.0, captures_one step begins.0 begins.2, once.1, refl), once.2 ∙ ap (λ t. once.0 ++ t) f ∙ sym (append_assoc once.0 (codes "?") rest))
-
-pub close-optional : (text behind rest : List ℕ) → text ≡ codes ")" ++ behind → behind ≡ codes "?" ++ rest → BeginsWithToken text (Close true) rest
-close-optional text behind rest e f = (codes ")?", refl, e ∙ ap (λ t. codes ")" ++ t) f)
-
-pub literal-spells : (text rest : List ℕ) (c : ℕ) → BeginsWithCharacter IsCharacter text c rest → (front : List ℕ) × Spells (Literal c) front × (text ≡ front ++ rest)
-literal-spells text rest c (character, is, same, e) = (character_text character, (dialect.Literal character, is, (character, same, refl), refl), e)
+use Rattle.urlpattern_engine.proofs.LongestLemmas.{run_uncaptured}
+use Rattle.urlpattern_engine.proofs.RepeatLemmas.{copied, walks-copies}
+use Rattle.urlpattern_engine.proofs.SegmentLemmas.{in_order, in_order_count, segment_items, walks-segments}
+use Rattle.urlpattern_engine.proofs.Walks.{Walks, literals_uncaptured, walks-nothing, walks-inside, walks-once, walks-maybe, walks-step, walk_is_first}
 
 -- ---- a tree and its steps
 
@@ -101,18 +29,13 @@ StandBefore remaining text steps = (tree : Items) × (text ≡ items_text tree +
 abbrev pub IsEnd : (text : List ℕ) → List Step → Type 0
 IsEnd text steps = StandBefore (codes "$") text steps
 
--- the same inside of brackets, after which a question mark may stand
-abbrev pub IsInnerEnd : (text : List ℕ) → (own : List Step) → (is_optional : Bool) → (others : List Step) → Type 0
-IsInnerEnd text own is_optional others = (outer : List ℕ) × StandBefore (codes ")" ++ (optional_text is_optional ++ outer)) text own × IsEnd outer others
+-- the same inside of brackets, which are closed then
+abbrev pub IsInnerEnd : (text : List ℕ) → (own : List Step) → Times → (others : List Step) → Type 0
+IsInnerEnd text own times others = (outer : List ℕ) × StandBefore (codes ")" ++ (times_text times ++ outer)) text own × IsEnd outer others
 
 -- a whole expression with its steps
 abbrev pub IsWhole : (regexp : List ℕ) → List Step → Type 0
 IsWhole regexp steps = (tree : Items) × IsTreeOf regexp tree × Walks tree steps
-
--- the steps of a group
-abbrev pub group_steps : (is_optional : Bool) → List Step → List Step
-group_steps true own = Maybe (record { steps = length own; captures = capture_count own }) ∷ own
-group_steps false own = own
 
 -- whatever is read of the text that is left, the whole is read with what was read before; inside of brackets the steps of these
 -- begin at a place
@@ -120,8 +43,8 @@ abbrev pub IsBegun : (regexp : List ℕ) → (opened : Option ℕ) → (rest : L
 IsBegun regexp None rest done = (steps : List Step) → IsEnd rest steps → IsWhole regexp (done ++ steps)
 IsBegun regexp (Some first) rest done =
     (first ≤ length done)
-    × ((own : List Step) (is_optional : Bool) (others : List Step) → IsInnerEnd rest own is_optional others
-    → IsWhole regexp (take first done ++ (group_steps is_optional (drop first done ++ own) ++ others)))
+    × ((own : List Step) (times : Times) (group others : List Step) → IsGroup times (drop first done ++ own) group → IsInnerEnd rest own times others
+    → IsWhole regexp (take first done ++ (group ++ others)))
 
 -- the text is that of an atom with a quantifier, with its steps
 pub record SpellsAll (own : List Step) (front : List ℕ) : Type 0 where
@@ -163,24 +86,52 @@ spells-maybe step group front e f (inner, one, (atom, is, of, g), h) = record {
   walks = λ items others next. walks-maybe atom items group (step ∷ []) others (walks-step step atom of) next e f;
 }
 
-grouped-spells : (inner : Items) (own : List Step) (is_optional : Bool) → AreItems inner → Walks inner own
-    → SpellsAll (group_steps is_optional own) (codes "(?:" ++ (items_text inner ++ (codes ")" ++ optional_text is_optional)))
-grouped-spells inner own false are walks = record {
+-- the text of a group with its quantifier
+grouped_text : (inner others : List ℕ) → codes "(?:" ++ (inner ++ (codes ")" ++ others)) ≡ (codes "(?:" ++ (inner ++ codes ")")) ++ others
+grouped_text inner others = ap (λ t. codes "(?:" ++ t) (sym (append_assoc inner (codes ")") others))
+
+copies-spell : (may_be_missing : Bool) (inner : Items) (own group : List Step) → AreItems inner → Walks inner own → AreCopies may_be_missing own group
+    → SpellsAll group (codes "(?:" ++ (items_text inner ++ (codes ")" ++ quantifier_text (copied may_be_missing))))
+copies-spell may_be_missing inner own group are walks (c, others, first, plain, is) =
+    let inside = walks-inside inner (Literal c ∷ others) (subst (Walks inner) first walks) in
+    let none : atom_group_count (Grouped inner) ≡ 0 = inside.count ∙ literals_uncaptured others plain in
+    subst (λ (steps : List Step). SpellsAll steps (codes "(?:" ++ (items_text inner ++ (codes ")" ++ quantifier_text (copied may_be_missing))))) (sym is)
+    (record {
+      atom = Grouped inner;
+      quantifier = copied may_be_missing;
+      is_atom = are;
+      allows = copied_allows may_be_missing (atom_group_count (Grouped inner)) none;
+      spelled = grouped_text (items_text inner) (quantifier_text (copied may_be_missing));
+      walks = λ items further next. walks-copies may_be_missing (Grouped inner) items c others further inside plain next;
+    })
+  where
+    copied_allows : (may_be_missing : Bool) (groups : ℕ) → groups ≡ 0 → AllowsGroups (copied may_be_missing) groups
+    copied_allows true groups e = e
+    copied_allows false groups e = e
+
+grouped-spells : (times : Times) (inner : Items) (own group : List Step) → AreItems inner → Walks inner own → IsGroup times own group
+    → SpellsAll group (codes "(?:" ++ (items_text inner ++ (codes ")" ++ times_text times)))
+grouped-spells times.Once inner own group are walks is = record {
   atom = Grouped inner;
   quantifier = Once;
   is_atom = are;
   allows = tt;
-  spelled = ap (λ t. codes "(?:" ++ t) (ap (λ t. items_text inner ++ t) (append-nil (codes ")"))) ∙ sym (append-nil (codes "(?:" ++ (items_text inner ++ codes ")")));
-  walks = λ items others next. walks-once (Grouped inner) items own others (walks-inside inner own walks) next;
+  spelled = grouped_text (items_text inner) [];
+  walks = λ items others next. subst (λ (steps : List Step). Walks (Item (Grouped inner) Once items) (steps ++ others)) (sym is) (walks-once (Grouped inner) items own others (walks-inside inner own walks) next);
 }
-grouped-spells inner own true are walks = record {
-  atom = Grouped inner;
-  quantifier = Optional;
-  is_atom = are;
-  allows = tt;
-  spelled = ap (λ t. codes "(?:" ++ t) (sym (append_assoc (items_text inner) (codes ")") (codes "?")));
-  walks = λ items others next. walks-maybe (Grouped inner) items (record { steps = length own; captures = capture_count own }) own others (walks-inside inner own walks) next refl refl;
-}
+grouped-spells times.Optional inner own group are walks is =
+    let missing : Group = record { steps = length own; captures = capture_count own } in
+    record {
+      atom = Grouped inner;
+      quantifier = Optional;
+      is_atom = are;
+      allows = tt;
+      spelled = grouped_text (items_text inner) (codes "?");
+      walks = λ items others next. subst (λ (steps : List Step). Walks (Item (Grouped inner) Optional items) (steps ++ others)) (sym is)
+          (walks-maybe (Grouped inner) items missing own others (walks-inside inner own walks) next refl refl);
+    }
+grouped-spells times.ZeroOrMore inner own group are walks is = copies-spell true inner own group are walks is
+grouped-spells times.OneOrMore inner own group are walks is = copies-spell false inner own group are walks is
 
 pub begun : (regexp rest : List ℕ) → regexp ≡ codes "^" ++ rest → IsBegun regexp None rest []
 begun regexp rest e steps (tree, f, are, walks) = (tree, (e ∙ ap (λ t. codes "^" ++ t) f, are), walks)
@@ -191,39 +142,37 @@ begun-more regexp None text front rest done own so_far spells e =
     λ steps end. subst (IsWhole regexp) (sym (append_assoc done own steps)) (so_far (own ++ steps) (before-more own (codes "$") text front rest steps spells e end))
 begun-more regexp (Some first) text front rest done own (le, so_far) spells e = (
   omega (arith, le, length-append done own),
-  λ others is_optional further (outer, inner, end).
-      subst (IsWhole regexp)
-      (ap₂ (λ a b. a ++ (group_steps is_optional b ++ further))
-      (sym (take-append-le first done own le))
-      (sym (append_assoc (drop first done) own others) ∙ ap (λ l. l ++ others) (sym (drop-append-le first done own le))))
-      (so_far (own ++ others) is_optional further
-      (outer, before-more own (codes ")" ++ (optional_text is_optional ++ outer)) text front rest others spells e inner, end)),
+  λ others times group further is (outer, inner, end).
+      let front_same : take first (done ++ own) ≡ take first done = take-append-le first done own le in
+      let back_same : drop first (done ++ own) ++ others ≡ drop first done ++ (own ++ others) =
+      ap (λ l. l ++ others) (drop-append-le first done own le) ∙ append_assoc (drop first done) own others in
+      subst (λ (l : List Step). IsWhole regexp (l ++ (group ++ further))) (sym front_same)
+      (so_far (own ++ others) times group further (subst (λ (l : List Step). IsGroup times l group) back_same is)
+      (outer, before-more own (codes ")" ++ (times_text times ++ outer)) text front rest others spells e inner, end)),
 )
 
 pub begun-open : (regexp text front rest : List ℕ) (done : List Step) → IsBegun regexp None text done → front ≡ codes "(?:" → text ≡ front ++ rest
     → IsBegun regexp (Some (length done)) rest done
 begun-open regexp text front rest done so_far f e = (
   le_refl (length done),
-  λ own is_optional others (outer, (inner, g, are, walks), end).
-      let spells = grouped-spells inner own is_optional are walks in
-      let whole : text ≡ (codes "(?:" ++ (items_text inner ++ (codes ")" ++ optional_text is_optional))) ++ outer =
+  λ own times group others is (outer, (inner, g, are, walks), end).
+      let spells = grouped-spells times inner own group are walks (subst (λ (l : List Step). IsGroup times (l ++ own) group) (drop-length done) is) in
+      let whole : text ≡ (codes "(?:" ++ (items_text inner ++ (codes ")" ++ times_text times))) ++ outer =
       e ∙ ap (λ t. t ++ rest) f
       ∙ ap (λ t. codes "(?:" ++ t)
-      (g ∙ ap (λ t. items_text inner ++ t) (sym (append_assoc (codes ")") (optional_text is_optional) outer))
-      ∙ sym (append_assoc (items_text inner) (codes ")" ++ optional_text is_optional) outer)) in
-      subst (IsWhole regexp)
-      (ap₂ (λ a b. a ++ (group_steps is_optional (b ++ own) ++ others)) (sym (take-length done)) (sym (drop-length done)))
-      (so_far (group_steps is_optional own ++ others) (before-more (group_steps is_optional own) (codes "$") text _ outer others spells whole end)),
+      (g ∙ ap (λ t. items_text inner ++ t) (sym (append_assoc (codes ")") (times_text times) outer))
+      ∙ sym (append_assoc (items_text inner) (codes ")" ++ times_text times) outer)) in
+      subst (λ (l : List Step). IsWhole regexp (l ++ (group ++ others))) (sym (take-length done))
+      (so_far (group ++ others) (before-more group (codes "$") text _ outer others spells whole end)),
 )
 
-pub begun-close : (regexp text front rest : List ℕ) (first : ℕ) (is_optional : Bool) (done : List Step) → IsBegun regexp (Some first) text done
-    → front ≡ codes ")" ++ optional_text is_optional → text ≡ front ++ rest
-    → IsBegun regexp None rest (take first done ++ group_steps is_optional (drop first done))
-begun-close regexp text front rest first is_optional done (le, so_far) f e steps end =
-    let whole : text ≡ codes ")" ++ (optional_text is_optional ++ rest) = e ∙ ap (λ t. t ++ rest) f ∙ append_assoc (codes ")") (optional_text is_optional) rest in
-    subst (IsWhole regexp)
-    (ap (λ l. take first done ++ (group_steps is_optional l ++ steps)) (append-nil (drop first done)) ∙ sym (append_assoc (take first done) (group_steps is_optional (drop first done)) steps))
-    (so_far [] is_optional steps (rest, (Nothing, whole, tt, walks-nothing), end))
+pub begun-close : (regexp text front rest : List ℕ) (first : ℕ) (times : Times) (done group : List Step) → IsBegun regexp (Some first) text done
+    → IsGroup times (drop first done) group → front ≡ codes ")" ++ times_text times → text ≡ front ++ rest
+    → IsBegun regexp None rest (take first done ++ group)
+begun-close regexp text front rest first times done group (le, so_far) is f e steps end =
+    let whole : text ≡ codes ")" ++ (times_text times ++ rest) = e ∙ ap (λ t. t ++ rest) f ∙ append_assoc (codes ")") (times_text times) rest in
+    subst (IsWhole regexp) (sym (append_assoc (take first done) group steps))
+    (so_far [] times group steps (subst (λ (l : List Step). IsGroup times l group) (sym (append-nil (drop first done))) is) (rest, (Nothing, whole, tt, walks-nothing), end))
 
 take_rest : (steps : List Step) (first : ℕ) → take (length steps - first) (drop first steps) ≡ drop first steps
 take_rest steps first = ap (λ n. take n (drop first steps)) (sym (length-drop first steps)) ∙ take-length (drop first steps)
@@ -231,12 +180,132 @@ take_rest steps first = ap (λ n. take n (drop first steps)) (sym (length-drop f
 -- the step before a group that may be missing is put where the group begins
 pub inserted : (done now : List Step) (first : ℕ) (group : Group) → now ≡ done
     → group ≡ record { steps = length (take (length now - first) (drop first now)); captures = capture_count (take (length now - first) (drop first now)) }
-    → take first done ++ group_steps true (drop first done) ≡ insert done first (Maybe group)
+    → insert done first (Maybe group) ≡ take first done ++ (Maybe (record { steps = length (drop first done); captures = capture_count (drop first done) }) ∷ drop first done)
 inserted done now first group same is =
     let whole : take (length now - first) (drop first now) ≡ drop first done = take_rest now first ∙ ap (drop first) same in
     let spelled : group ≡ record { steps = length (drop first done); captures = capture_count (drop first done) } =
     is ∙ ap (λ (own : List Step). record { steps = length own; captures = capture_count own }) whole in
-    ap (λ (g : Group). take first done ++ (Maybe g ∷ drop first done)) (sym spelled)
+    ap (λ (g : Group). take first done ++ (Maybe g ∷ drop first done)) spelled
+
+-- what follows the first of the steps that are left
+pub drop-one : (n : ℕ) (steps : List Step) (step : Step) (rest : List Step) → drop n steps ≡ step ∷ rest → drop (suc n) steps ≡ rest
+drop-one zero steps step rest e = ap (drop 1) e
+drop-one (suc n) [] step rest e = cc
+drop-one (suc n) (other ∷ steps) step rest e = drop-one n steps step rest e
+
+-- ---- segments
+
+characters_text-last : (characters : List Character) (character : Character) (rest : List ℕ)
+    → characters_text characters ++ (character_text character ++ rest) ≡ characters_text (characters ++ character ∷ []) ++ rest
+characters_text-last [] character rest = ap (λ t. t ++ rest) (sym (append-nil (character_text character)))
+characters_text-last (first ∷ characters) character rest =
+    append_assoc (character_text first) (characters_text characters) (character_text character ++ rest)
+    ∙ ap (λ t. character_text first ++ t) (characters_text-last characters character rest)
+    ∙ sym (append_assoc (character_text first) (characters_text (characters ++ character ∷ [])) rest)
+
+literal_steps-last : (characters : List Character) (character : Character) → literal_steps (characters ++ character ∷ []) ≡ literal_steps characters ++ Literal (character_of character) ∷ []
+literal_steps-last [] character = refl
+literal_steps-last (first ∷ characters) character = ap (λ l. Literal (character_of first) ∷ l) (literal_steps-last characters character)
+
+all-last : (characters : List Character) (character : Character) → AreCharacters characters → IsCharacter character → AreCharacters (characters ++ character ∷ [])
+all-last [] character all is = (is, tt)
+all-last (first ∷ characters) character all is = (all.0, all-last characters character all.1 is)
+
+-- the characters that were read so far, with their steps
+abbrev pub AreRead : (old items : List Step) → (text rest : List ℕ) → Type 0
+AreRead old items text rest =
+    (characters : List Character) × AreCharacters characters × (text ≡ characters_text characters ++ rest) × (items ≡ old ++ literal_steps characters)
+
+pub read-more : (old items more : List Step) (text rest remaining : List ℕ) (c : ℕ) → AreRead old items text rest → BeginsWithCharacter IsCharacter rest c remaining
+    → more ≡ items ++ Literal c ∷ [] → AreRead old more text remaining
+read-more old items more text rest remaining c (characters, all, e, f) (character, is, same, g) h = (
+  characters ++ character ∷ [],
+  all-last characters character all is,
+  e ∙ ap (λ t. characters_text characters ++ t) g ∙ characters_text-last characters character remaining,
+  h ∙ ap (λ l. l ++ Literal c ∷ []) f ∙ append_assoc old (literal_steps characters) (Literal c ∷ [])
+      ∙ ap (λ d. old ++ (literal_steps characters ++ Literal d ∷ [])) (sym same) ∙ ap (λ l. old ++ l) (sym (literal_steps-last characters character)),
+)
+
+-- the first of the steps between two runs is put where they begin
+pub read-ends : (old items now : List Step) (first end : ℕ) (is_greedy : Bool) (separator : Stretch) (text rest remaining : List ℕ) → AreRead old items text rest → first ≡ length old → now ≡ items
+    → ((others : List Step) × (take (length now - first) (drop first now) ≡ Literal separator.first ∷ others) × AreLiterals others × (separator.others ≡ length others))
+    → ((second : Items) × AreItems second × IsRunOf end is_greedy second × (rest ≡ codes "(?:" ++ (items_text second ++ (codes "))*)" ++ remaining))))
+    → (own : List Step) × EndsSegments end is_greedy own text remaining
+    × (set items first (Segments (record { separator = separator; end = end; is_greedy = is_greedy })) ≡ old ++ own)
+read-ends old items now first end is_greedy separator text rest remaining (characters, all, e, f) place same (others, own, plain, count) (second, are, is, g) =
+    let behind : drop first items ≡ literal_steps characters = ap₂ drop place f ∙ drop-append_seam old (literal_steps characters) in
+    let front : take first items ≡ old = ap₂ take place f ∙ take-append_seam old (literal_steps characters) in
+    let whole : drop first items ≡ Literal separator.first ∷ others = ap (drop first) (sym same) ∙ sym (take_rest now first) ∙ own in
+    let step : Step = Segments (record { separator = separator; end = end; is_greedy = is_greedy }) in
+    let lt : first < length items = omega (arith, ap length whole, length-drop first items) in (
+      step ∷ others,
+      (
+        characters,
+        second,
+        all,
+        are,
+        is,
+        (
+          separator.first,
+          others,
+          sym behind ∙ whole,
+          ap (λ n. Segments (record { separator = record { first = separator.first; others = n }; end = end; is_greedy = is_greedy }) ∷ others) count,
+        ),
+        e ∙ ap (λ t. characters_text characters ++ t) g,
+      ),
+      set_split items first step lt ∙ ap₂ (λ a b. a ++ (step ∷ b)) front (drop-one first items (Literal separator.first) others whole),
+    )
+
+in_order_text : (characters : List Character) (items : Items) → items_text (in_order characters items) ≡ characters_text characters ++ items_text items
+in_order_text [] items = refl
+in_order_text (character ∷ characters) items =
+    ap₂ (λ a b. a ++ b) (append-nil (character_text character)) (in_order_text characters items) ∙ sym (append_assoc (character_text character) (characters_text characters) (items_text items))
+
+in_order_allowed : (characters : List Character) (items : Items) → AreCharacters characters → AreItems items → AreItems (in_order characters items)
+in_order_allowed [] items all are = are
+in_order_allowed (character ∷ characters) items all are = (all.0, tt, in_order_allowed characters items all.1 are)
+
+-- how segments are written
+spelled_segments : (first between second rest : List ℕ)
+    → (codes "((?:" ++ (first ++ codes ")(?:")) ++ (between ++ (codes "(?:" ++ (second ++ (codes "))*)" ++ rest))))
+    ≡ ((codes "(" ++ ((((codes "(?:" ++ (first ++ codes ")")) ++ []) ++ (((codes "(?:" ++ ((between ++ (((codes "(?:" ++ (second ++ codes ")")) ++ []) ++ [])) ++ codes ")")) ++ codes "*") ++ [])) ++ codes ")")) ++ []) ++ rest
+spelled_segments first between second rest = simp (append_assoc, append-nil)
+
+pub segments-spell : (end : ℕ) (is_greedy : Bool) (front : List ℕ) → BeginsSegments end is_greedy front → (own : List Step) (text rest : List ℕ) → EndsSegments end is_greedy own text rest
+    → (whole : List ℕ) × SpellsAll own whole × (front ++ text ≡ whole ++ rest)
+segments-spell end is_greedy front (first, first_are, one, e) own text rest (characters, second, all, second_are, two, steps, f) =
+    let last : Items = Item (Grouped second) Once Nothing in
+    let inner : Items = in_order characters last in
+    let atom : Atom = Captured (segment_items first characters second) in
+    let atom_walks = walks-segments end is_greedy first characters second own one two steps in
+    let none : group_count inner ≡ 0 = in_order_count characters last ∙ (let second_none = run_uncaptured end is_greedy second two in omega (arith, second_none)) in (
+      atom_text atom ++ [],
+      record {
+        atom = atom;
+        quantifier = Once;
+        is_atom = (first_are, tt, (in_order_allowed characters last all (second_are, tt, tt), none, tt));
+        allows = tt;
+        spelled = refl;
+        walks = λ items others next. walks-once atom items own others atom_walks next;
+      },
+      ap₂ (λ a b. a ++ b) e f
+          ∙ spelled_segments (items_text first) (characters_text characters) (items_text second) rest
+          ∙ ap (λ t. ((codes "(" ++ ((((codes "(?:" ++ (items_text first ++ codes ")")) ++ []) ++ (((codes "(?:" ++ (t ++ codes ")")) ++ codes "*") ++ [])) ++ codes ")")) ++ []) ++ rest) (sym (in_order_text characters last)),
+    )
+
+-- the first of the steps of copies is put where the copies begin
+pub copies_set : (done now : List Step) (first : ℕ) (may_be_missing : Bool) (text : Stretch) → first ≤ length done → now ≡ done
+    → ((others : List Step) × (take (length now - first) (drop first now) ≡ Literal text.first ∷ others) × AreLiterals others × (text.others ≡ length others))
+    → (group : List Step) × AreCopies may_be_missing (drop first done) group × (set done first (Copies (record { text = text; may_be_missing = may_be_missing })) ≡ take first done ++ group)
+copies_set done now first may_be_missing text le same (others, own, plain, count) =
+    let whole : drop first done ≡ Literal text.first ∷ others = ap (drop first) (sym same) ∙ sym (take_rest now first) ∙ own in
+    let copies : Step = Copies (record { text = text; may_be_missing = may_be_missing }) in
+    let lt : first < length done = omega (arith, ap length whole, length-drop first done) in
+    let behind : drop (suc first) done ≡ others = drop-one first done (Literal text.first) others whole in (
+      copies ∷ others,
+      (text.first, others, whole, plain, ap (λ n. Copies (record { text = record { first = text.first; others = n }; may_be_missing = may_be_missing }) ∷ others) count),
+      set_split done first copies lt ∙ ap (λ l. take first done ++ (copies ∷ l)) behind,
+    )
 
 pub begun-ends : (regexp rest : List ℕ) (done : List Step) → IsBegun regexp None rest done → rest ≡ codes "$" → AreStepsOf regexp done
 begun-ends regexp rest done so_far e =

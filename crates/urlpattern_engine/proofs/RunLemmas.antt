@@ -1,10 +1,9 @@
--- Runs of characters: where only one front gives something, and the longest front, found from the end.
-use Rattle.std.proofs.Common.{◌≡◌, ℕ, List, [], ◌∷◌, ◌++◌, Option, Some, None, Bool, true, false, cond, ◌==◌, refl, sym, ap, ap₂, ◌∙◌, append-nil, append_assoc}
+-- Runs of characters: where only one front gives something, the longest front, found from the end, and fronts that give nothing.
+use Rattle.std.proofs.Common.{◌≡◌, ℕ, List, [], ◌∷◌, ◌++◌, Option, Some, None, Bool, true, false, cond, ◌==◌, ◌⊎◌, inl, inr, option_map, refl, sym, ap, ap₂, ◌∙◌, append-nil, append_assoc}
 use Rattle.std.specs.Option.{option_or}
 use Rattle.regex_hir.proofs.OptionLemmas.{option_or-None}
 use Rattle.urlpattern_laws.specs.PartMeaning.{Captures}
-use Rattle.urlpattern_engine.specs.Steps.{Gives, up_to_first, from_first, shortest, longest}
-use Rattle.urlpattern_engine.proofs.Tried.{option_or-assoc}
+use Rattle.urlpattern_engine.specs.Steps.{Gives, captured, up_to_first, from_first, shortest, longest}
 
 pub both_ends : (c : ℕ) (text : List ℕ) → (up_to_first c text ++ from_first c text) ≡ text
 both_ends c [] = refl
@@ -68,36 +67,138 @@ module _ (end : ℕ) (gives : Gives) (at : GivesAt end gives) where
   pub longest_ends : (text : List ℕ) → longest end gives [] text ≡ gives (up_to_first end text) (from_first end text)
   longest_ends text = longest_one [] text
 
+-- ---- fronts without a character
+
+-- a front with another character more
+pub lacks_more : (end : ℕ) (front : List ℕ) (c : ℕ) → up_to_first end front ≡ front → (c == end) ≡ false → up_to_first end (front ++ c ∷ []) ≡ front ++ c ∷ []
+lacks_more end [] c e f = ap (λ b. cond b [] (c ∷ [])) f
+lacks_more end (d ∷ front) c e f = by (d == end) e (λ g. lacks_more end front c g f)
+  where
+    by : (b : Bool) → cond b [] (d ∷ up_to_first end front) ≡ d ∷ front
+        → (up_to_first end front ≡ front → up_to_first end (front ++ c ∷ []) ≡ front ++ c ∷ [])
+        → cond b [] (d ∷ up_to_first end (front ++ c ∷ [])) ≡ d ∷ (front ++ c ∷ [])
+    by true e later = cc
+    by false e later = let g : up_to_first end front ≡ front = cc in ap (λ t. d ∷ t) (later g)
+
+-- a front without its last character
+pub lacks_less : (end : ℕ) (front : List ℕ) (c : ℕ) → up_to_first end (front ++ c ∷ []) ≡ front ++ c ∷ [] → (up_to_first end front ≡ front) × ((c == end) ≡ false)
+lacks_less end [] c e = (refl, by (c == end) e)
+  where
+    by : (b : Bool) → cond b [] (c ∷ []) ≡ c ∷ [] → b ≡ false
+    by true e = cc
+    by false e = refl
+lacks_less end (d ∷ front) c e = by (d == end) e (lacks_less end front c)
+  where
+    by : (b : Bool) → cond b [] (d ∷ up_to_first end (front ++ c ∷ [])) ≡ d ∷ (front ++ c ∷ [])
+        → (up_to_first end (front ++ c ∷ []) ≡ front ++ c ∷ [] → (up_to_first end front ≡ front) × ((c == end) ≡ false))
+        → (cond b [] (d ∷ up_to_first end front) ≡ d ∷ front) × ((c == end) ≡ false)
+    by true e later = let g : ⊥ = cc in absurd g
+    by false e later =
+        let g : up_to_first end (front ++ c ∷ []) ≡ front ++ c ∷ [] = cc in
+        let less = later g in
+        (ap (λ t. d ∷ t) less.0, less.1)
+
 -- ---- the longest front from the end
 
--- what the longest front of these characters gives that gives something
-abbrev pub falling : Gives → (taken front rest : List ℕ) → Option Captures
-falling gives taken [] rest = gives taken rest
-falling gives taken (c ∷ front) rest = option_or (falling gives (taken ++ c ∷ []) front rest) (gives taken (c ∷ (front ++ rest)))
+module _ (end : ℕ) (gives : Gives) where
+  -- what is found after a front, is found after its characters
+  pub longest_found : (taken front rest : List ℕ) (found : Captures) → up_to_first end front ≡ front → longest end gives (taken ++ front) rest ≡ Some found
+      → longest end gives taken (front ++ rest) ≡ Some found
+  longest_found taken [] rest found lacks e = ap (λ t. longest end gives t rest) (sym (append-nil taken)) ∙ e
+  longest_found taken (c ∷ front) rest found lacks e =
+      by (c == end) lacks (λ g. longest_found (taken ++ c ∷ []) front rest found g (ap (λ t. longest end gives t rest) (append_assoc taken (c ∷ []) front) ∙ e))
+    where
+      by : (b : Bool) → cond b [] (c ∷ up_to_first end front) ≡ c ∷ front
+          → (up_to_first end front ≡ front → longest end gives (taken ++ c ∷ []) (front ++ rest) ≡ Some found)
+          → cond b (gives taken (c ∷ (front ++ rest))) (option_or (longest end gives (taken ++ c ∷ []) (front ++ rest)) (gives taken (c ∷ (front ++ rest)))) ≡ Some found
+      by true lacks later = cc
+      by false lacks later = let g : up_to_first end front ≡ front = cc in ap (λ o. option_or o (gives taken (c ∷ (front ++ rest)))) (later g)
 
-pub longest_falling : (end : ℕ) (gives : Gives) (taken text : List ℕ) → longest end gives taken text ≡ falling gives taken (up_to_first end text) (from_first end text)
-longest_falling end gives taken [] = refl
-longest_falling end gives taken (c ∷ text) = by (c == end) (longest_falling end gives (taken ++ c ∷ []) text)
-  where
-    by : (b : Bool) → longest end gives (taken ++ c ∷ []) text ≡ falling gives (taken ++ c ∷ []) (up_to_first end text) (from_first end text)
-        → cond b (gives taken (c ∷ text)) (option_or (longest end gives (taken ++ c ∷ []) text) (gives taken (c ∷ text)))
-        ≡ falling gives taken (cond b [] (c ∷ up_to_first end text)) (cond b (c ∷ text) (from_first end text))
-    by true later = refl
-    by false later = ap₂ option_or later (ap (λ t. gives taken (c ∷ t)) (sym (both_ends end text)))
+  -- where no longer front gives anything, this one is the longest
+  pub longest_shorter : (front : List ℕ) (c : ℕ) (rest : List ℕ) → (c == end) ≡ false → longest end gives (front ++ c ∷ []) rest ≡ None
+      → longest end gives front (c ∷ rest) ≡ gives front (c ∷ rest)
+  longest_shorter front c rest e none =
+      ap (λ b. cond b (gives front (c ∷ rest)) (option_or (longest end gives (front ++ c ∷ []) rest) (gives front (c ∷ rest)))) e
+      ∙ ap (λ o. option_or o (gives front (c ∷ rest))) none
 
--- the longest of all comes first, and then those without its last character
-pub falling-last : (gives : Gives) (taken front : List ℕ) (c : ℕ) (rest : List ℕ)
-    → falling gives taken (front ++ c ∷ []) rest ≡ option_or (gives (taken ++ (front ++ c ∷ [])) rest) (falling gives taken front (c ∷ rest))
-falling-last gives taken [] c rest = refl
-falling-last gives taken (d ∷ front) c rest =
-    ap₂ option_or
-    (falling-last gives (taken ++ d ∷ []) front c rest)
-    (ap (λ t. gives taken (d ∷ t)) (append_assoc front (c ∷ []) rest))
-    ∙ option_or-assoc (gives ((taken ++ d ∷ []) ++ (front ++ c ∷ [])) rest) (falling gives (taken ++ d ∷ []) front (c ∷ rest)) (gives taken (d ∷ (front ++ c ∷ rest)))
-    ∙ ap (λ f. option_or (gives f rest) (falling gives taken (d ∷ front) (c ∷ rest))) (append_assoc taken (d ∷ []) (front ++ c ∷ []))
+-- ---- what gives nothing, whatever was taken before
 
--- what the longest of all gives comes first
-pub falling-found : (gives : Gives) (taken front rest : List ℕ) (found : Captures) → gives (taken ++ front) rest ≡ Some found → falling gives taken front rest ≡ Some found
-falling-found gives taken [] rest found e = ap (λ f. gives f rest) (sym (append-nil taken)) ∙ e
-falling-found gives taken (c ∷ front) rest found e =
-    ap (λ o. option_or o (gives taken (c ∷ (front ++ rest)))) (falling-found gives (taken ++ c ∷ []) front rest found (ap (λ f. gives f rest) (append_assoc taken (c ∷ []) front) ∙ e))
+either_none : (o p : Option Captures) → option_or o p ≡ None → (o ≡ None) × (p ≡ None)
+either_none None p e = (refl, e)
+either_none (Some x) p e = let g : ⊥ = cc in absurd g
+
+module _ (end : ℕ) (next : List ℕ → Option Captures) where
+  captured_none : (front other rest : List ℕ) → captured next front rest ≡ None → captured next other rest ≡ None
+  captured_none front other rest e = by (next rest) e
+    where
+      by : (o : Option Captures) → option_map (λ others. Some front ∷ others) o ≡ None → option_map (λ others. Some other ∷ others) o ≡ None
+      by None e = refl
+      by (Some x) e = cc
+
+  pub shortest_no_more : (front other text : List ℕ) → shortest end (captured next) front text ≡ None → shortest end (captured next) other text ≡ None
+  shortest_no_more front other [] e = refl
+  shortest_no_more front other (c ∷ text) e = by (c == end) e (shortest_no_more (front ++ c ∷ []) (other ++ c ∷ []) text)
+    where
+      by : (b : Bool) → cond b None (option_or (captured next (front ++ c ∷ []) text) (shortest end (captured next) (front ++ c ∷ []) text)) ≡ None
+          → (shortest end (captured next) (front ++ c ∷ []) text ≡ None → shortest end (captured next) (other ++ c ∷ []) text ≡ None)
+          → cond b None (option_or (captured next (other ++ c ∷ []) text) (shortest end (captured next) (other ++ c ∷ []) text)) ≡ None
+      by true e later = refl
+      by false e later =
+          let none = either_none (captured next (front ++ c ∷ []) text) (shortest end (captured next) (front ++ c ∷ []) text) e in
+          ap₂ option_or (captured_none (front ++ c ∷ []) (other ++ c ∷ []) text none.0) (later none.1)
+
+  pub longest_no_more : (front other text : List ℕ) → longest end (captured next) front text ≡ None → longest end (captured next) other text ≡ None
+  longest_no_more front other [] e = captured_none front other [] e
+  longest_no_more front other (c ∷ text) e = by (c == end) e (longest_no_more (front ++ c ∷ []) (other ++ c ∷ []) text)
+    where
+      by : (b : Bool) → cond b (captured next front (c ∷ text)) (option_or (longest end (captured next) (front ++ c ∷ []) text) (captured next front (c ∷ text))) ≡ None
+          → (longest end (captured next) (front ++ c ∷ []) text ≡ None → longest end (captured next) (other ++ c ∷ []) text ≡ None)
+          → cond b (captured next other (c ∷ text)) (option_or (longest end (captured next) (other ++ c ∷ []) text) (captured next other (c ∷ text))) ≡ None
+      by true e later = captured_none front other (c ∷ text) e
+      by false e later =
+          let none = either_none (longest end (captured next) (front ++ c ∷ []) text) (captured next front (c ∷ text)) e in
+          ap₂ option_or (later none.0) (captured_none front other (c ∷ text) none.1)
+
+  -- nor does the front itself
+  longest_nor : (front text : List ℕ) → longest end (captured next) front text ≡ None → captured next front text ≡ None
+  longest_nor front [] e = e
+  longest_nor front (c ∷ text) e = by (c == end) e
+    where
+      by : (b : Bool) → cond b (captured next front (c ∷ text)) (option_or (longest end (captured next) (front ++ c ∷ []) text) (captured next front (c ∷ text))) ≡ None
+          → captured next front (c ∷ text) ≡ None
+      by true e = e
+      by false e = (either_none (longest end (captured next) (front ++ c ∷ []) text) (captured next front (c ∷ text)) e).1
+
+  longest_at_end : (front text : List ℕ) → up_to_first end text ≡ [] → longest end (captured next) front text ≡ captured next front text
+  longest_at_end front [] e = refl
+  longest_at_end front (c ∷ text) e = by (c == end) e
+    where
+      by : (b : Bool) → cond b [] (c ∷ up_to_first end text) ≡ []
+          → cond b (captured next front (c ∷ text)) (option_or (longest end (captured next) (front ++ c ∷ []) text) (captured next front (c ∷ text))) ≡ captured next front (c ∷ text)
+      by true e = refl
+      by false e = cc
+
+  -- no longer front gives anything where the run has ended
+  pub longest_ended : (front text : List ℕ) → (up_to_first end text ≡ []) ⊎ (longest end (captured next) [] text ≡ None) → longest end (captured next) front text ≡ captured next front text
+  longest_ended front text (inl e) = longest_at_end front text e
+  longest_ended front text (inr e) = let none = longest_no_more [] front text e in none ∙ sym (longest_nor front text none)
+
+  shortest_at_end : (front text : List ℕ) → up_to_first end text ≡ [] → shortest end (captured next) front text ≡ None
+  shortest_at_end front [] e = refl
+  shortest_at_end front (c ∷ text) e = by (c == end) e
+    where
+      by : (b : Bool) → cond b [] (c ∷ up_to_first end text) ≡ []
+          → cond b None (option_or (captured next (front ++ c ∷ []) text) (shortest end (captured next) (front ++ c ∷ []) text)) ≡ None
+      by true e = refl
+      by false e = cc
+
+  pub shortest_ended : (front text : List ℕ) → (up_to_first end text ≡ []) ⊎ (shortest end (captured next) [] text ≡ None) → shortest end (captured next) front text ≡ None
+  shortest_ended front text (inl e) = shortest_at_end front text e
+  shortest_ended front text (inr e) = shortest_no_more [] front text e
+
+  -- a run that failed fails from its next character on
+  pub shortest_later : (c : ℕ) (text : List ℕ) → (c == end) ≡ false → shortest end (captured next) [] (c ∷ text) ≡ None → shortest end (captured next) [] text ≡ None
+  shortest_later c text e none =
+      shortest_no_more (c ∷ []) [] text
+      (either_none (captured next (c ∷ []) text) (shortest end (captured next) (c ∷ []) text)
+      (sym (ap (λ b. cond b None (option_or (captured next (c ∷ []) text) (shortest end (captured next) (c ∷ []) text))) e) ∙ none)).1

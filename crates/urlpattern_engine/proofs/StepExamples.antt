@@ -1,6 +1,6 @@
 -- What steps capture, by examples.
-use Rattle.std.proofs.Common.{◌≡◌, [], ◌∷◌, Some, None, codes, refl}
-use Rattle.urlpattern_engine.specs.declared.step.Step.TheVariants.{Literal, Segment, Anything, Maybe}
+use Rattle.std.proofs.Common.{◌≡◌, [], ◌∷◌, Some, None, true, false, codes, refl}
+use Rattle.urlpattern_engine.specs.declared.step.Step.TheVariants.{Literal, Segment, Anything, Maybe, Longest, Copies, Segments}
 use Rattle.urlpattern_engine.specs.Steps.{walk}
 
 -- ---- of `^/([^/]+?)$`
@@ -42,3 +42,59 @@ missing_group = refl
 
 pub group_that_is_there : walk (Maybe (record { steps = 2; captures = 1 }) ∷ Literal 47 ∷ Segment 47 ∷ []) (codes "/a") ≡ Some (Some (codes "a") ∷ [])
 group_that_is_there = refl
+
+-- ---- of `^(?:ab)*a$`
+
+pub no_copies : walk (Copies (record { text = record { first = 97; others = 1 }; may_be_missing = true }) ∷ Literal 98 ∷ Literal 97 ∷ []) (codes "a") ≡ Some []
+no_copies = refl
+
+pub two_copies : walk (Copies (record { text = record { first = 97; others = 1 }; may_be_missing = true }) ∷ Literal 98 ∷ Literal 97 ∷ []) (codes "ababa") ≡ Some []
+two_copies = refl
+
+-- ---- of `^(?:a)+(.*)$`
+
+pub most_copies_first : walk (Copies (record { text = record { first = 97; others = 0 }; may_be_missing = false }) ∷ Anything ∷ []) (codes "aab") ≡ Some (Some (codes "b") ∷ [])
+most_copies_first = refl
+
+pub one_copy_at_least : walk (Copies (record { text = record { first = 97; others = 0 }; may_be_missing = false }) ∷ Anything ∷ []) (codes "b") ≡ None
+one_copy_at_least = refl
+
+-- ---- of `^(?:a)+ab$`
+
+pub fewer_copies : walk (Copies (record { text = record { first = 97; others = 0 }; may_be_missing = false }) ∷ Literal 97 ∷ Literal 98 ∷ []) (codes "aab") ≡ Some []
+fewer_copies = refl
+
+-- ---- of `^((?:[^/]+?)*)/(.*)$`
+
+pub longest_run_first : walk (Longest (record { end = 47; may_be_empty = true }) ∷ Literal 47 ∷ Anything ∷ []) (codes "ab/c/d") ≡ Some (Some (codes "ab") ∷ Some (codes "c/d") ∷ [])
+longest_run_first = refl
+
+pub empty_run : walk (Longest (record { end = 47; may_be_empty = true }) ∷ Literal 47 ∷ Anything ∷ []) (codes "/c") ≡ Some (Some [] ∷ Some (codes "c") ∷ [])
+empty_run = refl
+
+-- ---- of `^((?:.+?)+)b$`
+
+pub no_empty_run : walk (Longest (record { end = 10; may_be_empty = false }) ∷ Literal 98 ∷ []) (codes "b") ≡ None
+no_empty_run = refl
+
+pub shorter_run : walk (Longest (record { end = 10; may_be_empty = false }) ∷ Literal 98 ∷ []) (codes "abb") ≡ Some (Some (codes "ab") ∷ [])
+shorter_run = refl
+
+-- ---- of `^/((?:[^/]+?)(?:/(?:[^/]+?))*)$`
+
+pub segments_to_the_end : walk (Literal 47 ∷ Segments (record { separator = record { first = 47; others = 0 }; end = 47; is_greedy = false }) ∷ []) (codes "/a/b/c") ≡ Some (Some (codes "a/b/c") ∷ [])
+segments_to_the_end = refl
+
+pub no_empty_segment_between : walk (Literal 47 ∷ Segments (record { separator = record { first = 47; others = 0 }; end = 47; is_greedy = false }) ∷ []) (codes "/a//c") ≡ None
+no_empty_segment_between = refl
+
+-- ---- of `^a((?:[^/]+?)(?:ba(?:[^/]+?))*)b(.*)$`
+
+pub most_segments_first : walk (Literal 97 ∷ Segments (record { separator = record { first = 98; others = 1 }; end = 47; is_greedy = false }) ∷ Literal 97 ∷ Literal 98 ∷ Anything ∷ []) (codes "axbaybz")
+    ≡ Some (Some (codes "xbay") ∷ Some (codes "z") ∷ [])
+most_segments_first = refl
+
+-- ---- of `^-((?:.*)(?:-(?:.*))*)-c$`
+
+pub fewer_segments : walk (Literal 45 ∷ Segments (record { separator = record { first = 45; others = 0 }; end = 10; is_greedy = true }) ∷ Literal 45 ∷ Literal 99 ∷ []) (codes "-a-b-c") ≡ Some (Some (codes "a-b") ∷ [])
+fewer_segments = refl

@@ -1,15 +1,17 @@
 -- A group that may be missing, and steps that take no text that begins with another character.
-use Rattle.std.proofs.Common.{◌≡◌, ℕ, zero, suc, List, [], ◌∷◌, ◌++◌, drop, replicate, Some, None, option_map, refl, ap, ◌∙◌}
+use Rattle.std.proofs.Common.{◌≡◌, ℕ, zero, suc, List, [], ◌∷◌, ◌++◌, drop, replicate, Some, None, option_map, true, false, cond, ◌==◌, refl, ap, ◌∙◌}
 use Rattle.std.specs.Option.{option_or}
 use Rattle.urlpattern_engine.specs.declared.step.Group.{Group}
 use Rattle.urlpattern_engine.specs.declared.step.Step.{Step}
-use Rattle.urlpattern_engine.specs.declared.step.Step.TheVariants.{Maybe}
-use Rattle.urlpattern_engine.specs.Steps.{captured, walk, walk_after, StopAt}
+use Rattle.urlpattern_engine.specs.declared.step.Step.TheVariants.{Maybe, Copies}
+use Rattle.urlpattern_engine.specs.declared.step.Copies.{Copies as Copied}
+use Rattle.urlpattern_engine.specs.Steps.{Gives, after_text, any_rounds, captured, repeated, some_rounds, stretch_text, walk, walk_after, StopAt}
+use Rattle.urlpattern_engine.proofs.Rounds.{advances-after, any-unrolled}
 use Rattle.urlpattern_engine.proofs.RunLemmas.{GivesAt}
 
 -- ---- groups that may be missing
 
-walk_after-drop : (n : ℕ) (steps : List Step) (text : List ℕ) → walk_after n steps text ≡ walk (drop n steps) text
+pub walk_after-drop : (n : ℕ) (steps : List Step) (text : List ℕ) → walk_after n steps text ≡ walk (drop n steps) text
 walk_after-drop zero steps text = refl
 walk_after-drop (suc n) [] [] = refl
 walk_after-drop (suc n) [] (c ∷ text) = refl
@@ -29,3 +31,24 @@ stop-gives end steps stops front c rest e = ap (option_map (λ others. Some fron
 pub stop-maybe : (end : ℕ) (group : Group) (steps : List Step) → StopAt end steps → StopAt end (drop group.steps steps) → StopAt end (Maybe group ∷ steps)
 stop-maybe end group steps first other c rest e =
     maybe_missing group steps (c ∷ rest) (first c rest e) ∙ ap (option_map (λ others. replicate group.captures None ++ others)) (other c rest e)
+
+-- copies do not begin with another character
+some_stop : (end first : ℕ) (literal : List ℕ) (gives : Gives) (front : List ℕ) (c : ℕ) (rest : List ℕ) → first ≡ end → (c == end) ≡ false
+    → some_rounds (after_text (first ∷ literal)) gives front (c ∷ rest) ≡ None
+some_stop end first literal gives front c rest same other =
+    ap (λ b. cond b (after_text literal (any_rounds (after_text (first ∷ literal)) gives) (front ++ c ∷ []) rest) None) (ap (λ d. c == d) same ∙ other)
+
+pub stop-copies : (end : ℕ) (copies : Copied) (steps : List Step) → copies.text.first ≡ end → copies.may_be_missing ≡ false → StopAt end (Copies copies ∷ steps)
+stop-copies end copies steps first some c rest e =
+    ap (λ b. repeated b (after_text (stretch_text copies.text steps)) (λ front rest. walk_after copies.text.others steps rest) [] (c ∷ rest)) some
+    ∙ some_stop end copies.text.first _ (λ front rest. walk_after copies.text.others steps rest) [] c rest first e
+
+pub stop-any_copies : (end : ℕ) (copies : Copied) (steps : List Step) → copies.text.first ≡ end → copies.may_be_missing ≡ true → StopAt end (drop copies.text.others steps)
+    → StopAt end (Copies copies ∷ steps)
+stop-any_copies end copies steps first any stops c rest e =
+    let gives : Gives = λ front rest. walk_after copies.text.others steps rest in
+    ap (λ b. repeated b (after_text (stretch_text copies.text steps)) gives [] (c ∷ rest)) any
+    ∙ any-unrolled (after_text (stretch_text copies.text steps)) (advances-after copies.text.first _) gives [] (c ∷ rest)
+    ∙ ap (λ o. option_or o (gives [] (c ∷ rest))) (some_stop end copies.text.first _ gives [] c rest first e)
+    ∙ walk_after-drop copies.text.others steps (c ∷ rest)
+    ∙ stops c rest e

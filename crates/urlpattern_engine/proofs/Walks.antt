@@ -8,43 +8,109 @@ use Rattle.urlpattern_laws.specs.Dialect as dialect
 use Rattle.urlpattern_laws.specs.Ways.{Way, idle, continued, one_that, looped, capturing, ways, atom_ways, first_way}
 use Rattle.urlpattern_syntax.specs.Text.{line_feed}
 use Rattle.urlpattern_engine.specs.declared.step.Group.{Group}
+use Rattle.urlpattern_engine.specs.declared.step.Run.{Run}
 use Rattle.urlpattern_engine.specs.declared.step.Step.{Step}
-use Rattle.urlpattern_engine.specs.declared.step.Step.TheVariants.{Literal, Segment, Anything, Maybe}
-use Rattle.urlpattern_engine.specs.Reading.{IsAllBut, IsStepOf}
-use Rattle.urlpattern_engine.specs.Steps.{Gives, captured, shortest, longest, walk, walk_after, capture_count}
+use Rattle.urlpattern_engine.specs.declared.step.Step.TheVariants.{Literal, Segment, Anything, Maybe, Longest, Copies, Segments}
+use Rattle.urlpattern_engine.specs.Reading.{AreLiterals, IsAllBut, IsStepOf}
+use Rattle.urlpattern_engine.specs.Steps.{Gives, captured, shortest, longest, longest_run, literals, after_text, walk, walk_after, capture_count}
+use Rattle.urlpattern_engine.proofs.LongestLemmas.{captured_takes, run_uncaptured, takes-runs}
+use Rattle.urlpattern_engine.proofs.Rounds.{Takes, keeps-after, after-append, takes-nothing, takes-one, takes-then}
 use Rattle.urlpattern_engine.proofs.Tried.{Next, Given, given, tried, before_next, bare, one, tried-append, tried-map, tried-same, tried-continued, tried-behind, before_next-same, tried-idle, lazy_loop, greedy_loop}
 
 -- ---- trees and atoms, and their steps
 
--- The ways of the tree lead on as its steps do, whatever steps follow.
+-- The ways of the tree lead on as its steps do, whatever steps follow. Where these are literal, the ways take their text.
 pub record Walks (tree : Items) (steps : List Step) : Type 0 where
   pub count : group_count tree ≡ capture_count steps
+  pub text : AreLiterals steps → Takes (ways tree) (after_text (literals steps))
   pub walks : (after : List Step) (text : List ℕ) → tried (before_next (walk after)) (ways tree text) ≡ walk (steps ++ after) text
 
 -- The same of an atom.
 pub record AtomWalks (atom : Atom) (steps : List Step) : Type 0 where
   pub count : atom_group_count atom ≡ capture_count steps
+  pub text : AreLiterals steps → Takes (atom_ways atom) (after_text (literals steps))
   pub walks : (after : List Step) (text : List ℕ) → tried (before_next (walk after)) (atom_ways atom text) ≡ walk (steps ++ after) text
 
-capture_count-append : (own others : List Step) → capture_count (own ++ others) ≡ capture_count own + capture_count others
+pub capture_count-append : (own others : List Step) → capture_count (own ++ others) ≡ capture_count own + capture_count others
 capture_count-append [] others = omega arith
 capture_count-append (Literal c ∷ own) others = capture_count-append own others
 capture_count-append (Segment c ∷ own) others = omega (arith, capture_count-append own others)
 capture_count-append (Anything ∷ own) others = omega (arith, capture_count-append own others)
 capture_count-append (Maybe group ∷ own) others = capture_count-append own others
+capture_count-append (Longest run ∷ own) others = omega (arith, capture_count-append own others)
+capture_count-append (Copies copies ∷ own) others = capture_count-append own others
+capture_count-append (Segments segments ∷ own) others = omega (arith, capture_count-append own others)
 
-walk_after-own : (own after : List Step) (text : List ℕ) → walk_after (length own) (own ++ after) text ≡ walk after text
+pub walk_after-own : (own after : List Step) (text : List ℕ) → walk_after (length own) (own ++ after) text ≡ walk after text
 walk_after-own [] after text = refl
 walk_after-own (step ∷ own) after text = walk_after-own own after text
 
+-- ---- steps that are literal
+
+literals_first : (own others : List Step) → AreLiterals (own ++ others) → AreLiterals own
+literals_first [] others plain = tt
+literals_first (Literal c ∷ own) others plain = literals_first own others plain
+literals_first (Segment end ∷ own) others plain = absurd plain
+literals_first (Anything ∷ own) others plain = absurd plain
+literals_first (Maybe group ∷ own) others plain = absurd plain
+literals_first (Longest run ∷ own) others plain = absurd plain
+literals_first (Copies copies ∷ own) others plain = absurd plain
+literals_first (Segments segments ∷ own) others plain = absurd plain
+
+literals_second : (own others : List Step) → AreLiterals (own ++ others) → AreLiterals others
+literals_second [] others plain = plain
+literals_second (Literal c ∷ own) others plain = literals_second own others plain
+literals_second (Segment end ∷ own) others plain = absurd plain
+literals_second (Anything ∷ own) others plain = absurd plain
+literals_second (Maybe group ∷ own) others plain = absurd plain
+literals_second (Longest run ∷ own) others plain = absurd plain
+literals_second (Copies copies ∷ own) others plain = absurd plain
+literals_second (Segments segments ∷ own) others plain = absurd plain
+
+literals-append : (own others : List Step) → literals (own ++ others) ≡ literals own ++ literals others
+literals-append [] others = refl
+literals-append (Literal c ∷ own) others = ap (λ l. c ∷ l) (literals-append own others)
+literals-append (Segment end ∷ own) others = literals-append own others
+literals-append (Anything ∷ own) others = literals-append own others
+literals-append (Maybe group ∷ own) others = literals-append own others
+literals-append (Longest run ∷ own) others = literals-append own others
+literals-append (Copies copies ∷ own) others = literals-append own others
+literals-append (Segments segments ∷ own) others = literals-append own others
+
+pub literals_uncaptured : (steps : List Step) → AreLiterals steps → capture_count steps ≡ 0
+literals_uncaptured [] plain = refl
+literals_uncaptured (Literal c ∷ steps) plain = literals_uncaptured steps plain
+literals_uncaptured (Segment end ∷ steps) plain = absurd plain
+literals_uncaptured (Anything ∷ steps) plain = absurd plain
+literals_uncaptured (Maybe group ∷ steps) plain = absurd plain
+literals_uncaptured (Longest run ∷ steps) plain = absurd plain
+literals_uncaptured (Copies copies ∷ steps) plain = absurd plain
+literals_uncaptured (Segments segments ∷ steps) plain = absurd plain
+
+-- the texts of both, one after the other
+text_then : (atom : Atom) (items : Items) (own others : List Step) → AtomWalks atom own → Walks items others → AreLiterals (own ++ others)
+    → Takes (ways (Item atom Once items)) (after_text (literals (own ++ others)))
+text_then atom items own others first next plain =
+    let one : Takes (atom_ways atom) (after_text (literals own)) = first.text (literals_first own others plain) in
+    let two : Takes (ways items) (after_text (literals others)) = next.text (literals_second own others plain) in
+    let both = takes-then (atom_ways atom) (ways items) (after_text (literals own)) (after_text (literals others)) one (keeps-after (literals own)) two in
+    record {
+      takes = λ h front text.
+          both.takes h front text
+          ∙ after-append (literals own) (literals others) (bare h) front text
+          ∙ ap (λ l. after_text l (bare h) front text) (sym (literals-append own others));
+    }
+
+-- ---- items
+
 pub walks-nothing : Walks Nothing []
-walks-nothing = record { count = refl; walks = λ after text. tried-idle (walk after) text }
+walks-nothing = record { count = refl; text = λ plain. takes-nothing; walks = λ after text. tried-idle (walk after) text }
 
 pub walks-inside : (inner : Items) (steps : List Step) → Walks inner steps → AtomWalks (Grouped inner) steps
-walks-inside inner steps walks = record { count = walks.count; walks = walks.walks }
+walks-inside inner steps walks = record { count = walks.count; text = walks.text; walks = walks.walks }
 
 -- after the ways of an atom those of the items
-after_atom : (items : Items) (steps : List Step) → Walks items steps → (after : List Step) (front : List Way)
+pub after_atom : (items : Items) (steps : List Step) → Walks items steps → (after : List Step) (front : List Way)
     → tried (before_next (walk after)) (continued (ways items) front) ≡ tried (before_next (walk (steps ++ after))) front
 after_atom items steps walks after front =
     tried-behind (walk after) (ways items) front
@@ -53,6 +119,7 @@ after_atom items steps walks after front =
 pub walks-once : (atom : Atom) (items : Items) (own others : List Step) → AtomWalks atom own → Walks items others → Walks (Item atom Once items) (own ++ others)
 walks-once atom items own others first next = record {
   count = ap₂ (λ m n. m + n) first.count next.count ∙ sym (capture_count-append own others);
+  text = text_then atom items own others first next;
   walks = λ after text.
       after_atom items others next after (atom_ways atom text)
       ∙ first.walks (others ++ after) text
@@ -63,6 +130,7 @@ pub walks-maybe : (atom : Atom) (items : Items) (group : Group) (own others : Li
     → group.steps ≡ length own → group.captures ≡ capture_count own → Walks (Item atom Optional items) (Maybe group ∷ (own ++ others))
 walks-maybe atom items group own others first next steps captures = record {
   count = ap₂ (λ m n. m + n) first.count next.count ∙ sym (capture_count-append own others);
+  text = λ plain. absurd plain;
   walks = λ after text.
       after_atom items others next after (atom_ways atom text ++ idle (atom_group_count atom) text ∷ [])
       ∙ tried-append (before_next (walk (others ++ after))) (atom_ways atom text) (idle (atom_group_count atom) text ∷ [])
@@ -79,7 +147,7 @@ walks-maybe atom items group own others first next steps captures = record {
 -- ---- a literal
 
 walks-literal : (character : Character) → AtomWalks (dialect.Literal character) (Literal (character_of character) ∷ [])
-walks-literal character = record { count = refl; walks = by }
+walks-literal character = record { count = refl; text = λ plain. takes-one (character_of character); walks = by }
   where
     by : (after : List Step) (text : List ℕ) → tried (before_next (walk after)) (one_that (λ c. c == character_of character) text)
         ≡ walk (Literal (character_of character) ∷ after) text
@@ -134,20 +202,34 @@ anything after text =
     ∙ longest-same line_feed _ _ (plain_capture (walk after)) [] text
 
 walks-segment : (end : ℕ) (atom : Atom) → IsAllBut end atom → AtomWalks (Captured (Item atom LazyOneOrMore Nothing)) (Segment end ∷ [])
-walks-segment end Dot is = subst (λ c. AtomWalks (Captured (Item Dot LazyOneOrMore Nothing)) (Segment c ∷ [])) (sym is) (record { count = refl; walks = segment line_feed })
+walks-segment end Dot is = subst (λ c. AtomWalks (Captured (Item Dot LazyOneOrMore Nothing)) (Segment c ∷ [])) (sym is) (record { count = refl; text = λ plain. absurd plain; walks = segment line_feed })
 walks-segment end (AnyBut character) is =
-    subst (λ c. AtomWalks (Captured (Item (AnyBut character) LazyOneOrMore Nothing)) (Segment c ∷ [])) is (record { count = refl; walks = segment (character_of character) })
+    subst (λ c. AtomWalks (Captured (Item (AnyBut character) LazyOneOrMore Nothing)) (Segment c ∷ [])) is (record { count = refl; text = λ plain. absurd plain; walks = segment (character_of character) })
 walks-segment end (dialect.Literal character) is = absurd is
 walks-segment end (Captured inner) is = absurd is
 walks-segment end (Grouped inner) is = absurd is
+
+walks-longest : (run : Run) (atom : Atom) → IsStepOf (Longest run) atom → AtomWalks atom (Longest run ∷ [])
+walks-longest run atom (items, is_greedy, quantifier, is_run, may_be, is) =
+    let inner : Items = Item (Grouped items) quantifier Nothing in
+    let takes = takes-runs run.end is_greedy items quantifier run.may_be_empty is_run may_be in
+    subst (λ (a : Atom). AtomWalks a (Longest run ∷ [])) (sym is)
+    (record {
+      count = let none = run_uncaptured run.end is_greedy items is_run in omega (arith, none);
+      text = λ plain. absurd plain;
+      walks = λ after text. captured_takes (ways inner) (longest_run run.may_be_empty run.end) takes (walk after) text;
+    })
 
 pub walks-step : (step : Step) (atom : Atom) → IsStepOf step atom → AtomWalks atom (step ∷ [])
 walks-step (Literal c) atom is =
     subst (λ (a : Atom). AtomWalks a (Literal c ∷ [])) (sym is.2)
     (subst (λ d. AtomWalks (dialect.Literal is.0) (Literal d ∷ [])) is.1 (walks-literal is.0))
 walks-step (Segment c) atom is = subst (λ (a : Atom). AtomWalks a (Segment c ∷ [])) (sym is.2) (walks-segment c is.0 is.1)
-walks-step Anything atom is = subst (λ (a : Atom). AtomWalks a (Anything ∷ [])) (sym is) (record { count = refl; walks = anything })
+walks-step Anything atom is = subst (λ (a : Atom). AtomWalks a (Anything ∷ [])) (sym is) (record { count = refl; text = λ plain. absurd plain; walks = anything })
 walks-step (Maybe group) atom is = absurd is
+walks-step (Longest run) atom is = walks-longest run atom is
+walks-step (Copies copies) atom is = absurd is
+walks-step (Segments segments) atom is = absurd is
 
 -- ---- a whole tree
 

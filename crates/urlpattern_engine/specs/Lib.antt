@@ -1,4 +1,5 @@
 pub mod Steps
+pub mod Failed
 pub mod Taken
 pub mod Reading
 pub mod Engine

@@ -1,11 +1,13 @@
 -- Which steps the text of an expression is read as.
-use Rattle.std.specs.Prelude.{◌≡◌, ℕ, Bool, List, [], ◌∷◌, ◌++◌, codes, if◌then◌else◌}
-use Rattle.urlpattern_engine.specs.declared.reading.Token.{Token}
-use Rattle.urlpattern_engine.specs.declared.reading.Token.TheVariants.{Open, Close, Step as One, MaybeStep}
+use Rattle.std.specs.Prelude.{◌≡◌, ℕ, Bool, true, false, length, List, [], ◌∷◌, ◌++◌, codes}
+use Rattle.urlpattern_engine.specs.declared.tokens.Times.{Times}
+use Rattle.urlpattern_engine.specs.declared.tokens.Times.TheVariants as times
+use Rattle.urlpattern_engine.specs.declared.tokens.Token.{Token}
+use Rattle.urlpattern_engine.specs.declared.tokens.Token.TheVariants.{Open, Close, Step as One, MaybeStep, FirstSegment}
 use Rattle.urlpattern_engine.specs.declared.step.Step.{Step}
-use Rattle.urlpattern_engine.specs.declared.step.Step.TheVariants.{Literal, Segment, Anything, Maybe}
+use Rattle.urlpattern_engine.specs.declared.step.Step.TheVariants.{Literal, Segment, Anything, Maybe, Longest, Copies, Segments}
 use Rattle.urlpattern_engine.specs.Steps.{capture_count, walk}
-use Rattle.urlpattern_laws.specs.Dialect.{AnyBut, AreItems, Atom, Captured, Character, Dot, IsAtom, IsCharacter, IsClassCharacter, IsTreeOf, Item, Items, LazyOneOrMore, Nothing, ZeroOrMore, atom_text, character_of, character_text, items_text}
+use Rattle.urlpattern_laws.specs.Dialect.{AnyBut, AreItems, Atom, Captured, Character, Dot, Grouped, IsAtom, IsCharacter, IsClassCharacter, IsTreeOf, Item, Items, LazyOneOrMore, Nothing, OneOrMore, Quantifier, ZeroOrMore, atom_text, character_of, character_text, items_text, quantifier_text}
 use Rattle.urlpattern_laws.specs.Dialect as dialect
 use Rattle.urlpattern_laws.specs.Ways.{first_way}
 use Rattle.urlpattern_syntax.specs.Text.{line_feed}
@@ -25,12 +27,28 @@ IsAllBut c Dot = c ≡ line_feed
 IsAllBut c (AnyBut character) = character_of character ≡ c
 IsAllBut c atom = ⊥
 
+-- the items are one run of characters, none of them this: of any number, or of one or more that ends as early as it may
+abbrev pub IsRunOf : (end : ℕ) → (is_greedy : Bool) → Items → Type 0
+IsRunOf end true items = (end ≡ line_feed) × (items ≡ Item Dot ZeroOrMore Nothing)
+IsRunOf end false items = (one : Atom) × IsAllBut end one × (items ≡ Item one LazyOneOrMore Nothing)
+
+-- whether such runs that are taken so often may take nothing
+abbrev pub MayBeEmpty : (is_greedy : Bool) → Quantifier → (may_be_empty : Bool) → Type 0
+MayBeEmpty is_greedy ZeroOrMore may_be_empty = may_be_empty ≡ true
+MayBeEmpty is_greedy OneOrMore may_be_empty = may_be_empty ≡ is_greedy
+MayBeEmpty is_greedy quantifier may_be_empty = ⊥
+
 -- the step takes what the atom takes
 abbrev pub IsStepOf : Step → Atom → Type 0
 IsStepOf (Literal c) atom = (character : Character) × (character_of character ≡ c) × (atom ≡ dialect.Literal character)
 IsStepOf (Segment c) atom = (one : Atom) × IsAllBut c one × (atom ≡ Captured (Item one LazyOneOrMore Nothing))
 IsStepOf Anything atom = atom ≡ Captured (Item Dot ZeroOrMore Nothing)
 IsStepOf (Maybe group) atom = ⊥
+IsStepOf (Longest run) atom =
+    (items : Items) × (is_greedy : Bool) × (quantifier : Quantifier) × IsRunOf run.end is_greedy items × MayBeEmpty is_greedy quantifier run.may_be_empty
+    × (atom ≡ Captured (Item (Grouped items) quantifier Nothing))
+IsStepOf (Copies copies) atom = ⊥
+IsStepOf (Segments segments) atom = ⊥
 
 -- the text is that of an atom that the step stands for
 abbrev pub Spells : Step → List ℕ → Type 0
@@ -41,20 +59,78 @@ abbrev pub BeginsWithCaptured : (text : List ℕ) → Step → (rest : List ℕ)
 BeginsWithCaptured text step rest =
     (items : Items) × AreItems items × IsStepOf step (Captured items) × (text ≡ items_text items ++ rest)
 
--- how it is written that a group may be missing
-abbrev pub optional_text : Bool → List ℕ
-optional_text is_optional = if is_optional then codes "?" else []
+-- how often a group is taken, and how that is written
+abbrev pub quantifier_of : Times → Quantifier
+quantifier_of times.Once = dialect.Once
+quantifier_of times.Optional = dialect.Optional
+quantifier_of times.ZeroOrMore = dialect.ZeroOrMore
+quantifier_of times.OneOrMore = dialect.OneOrMore
+
+abbrev pub times_text : Times → List ℕ
+times_text times = quantifier_text (quantifier_of times)
+
+-- the text begins a group of runs with a text between each two, and the first run has ended
+abbrev pub BeginsSegments : (end : ℕ) → (is_greedy : Bool) → (text : List ℕ) → Type 0
+BeginsSegments end is_greedy text = (items : Items) × AreItems items × IsRunOf end is_greedy items × (text ≡ codes "((?:" ++ (items_text items ++ codes ")(?:"))
 
 -- the text is that of the token
 abbrev pub IsToken : Token → List ℕ → Type 0
 IsToken Open text = text ≡ codes "(?:"
-IsToken (Close is_optional) text = text ≡ codes ")" ++ optional_text is_optional
+IsToken (Close times) text = text ≡ codes ")" ++ times_text times
 IsToken (One step) text = Spells step text
+IsToken (FirstSegment end is_greedy) text = BeginsSegments end is_greedy text
 IsToken (MaybeStep step) text = (front : List ℕ) × (capture_count (step ∷ []) ≡ 1) × Spells step front × (text ≡ front ++ codes "?")
 
 -- the token stands at the front of the text, and the rest follows
 abbrev pub BeginsWithToken : (text : List ℕ) → Token → (rest : List ℕ) → Type 0
 BeginsWithToken text token rest = (front : List ℕ) × IsToken token front × (text ≡ front ++ rest)
+
+-- ---- groups
+
+abbrev pub AreLiterals : List Step → Type 0
+AreLiterals [] = Unit {0}
+AreLiterals (Literal c ∷ steps) = AreLiterals steps
+AreLiterals (step ∷ steps) = ⊥
+
+-- copies of the text that is made up of the steps
+abbrev pub AreCopies : (may_be_missing : Bool) → (own group : List Step) → Type 0
+AreCopies may_be_missing own group =
+    (c : ℕ) × (others : List Step) × (own ≡ Literal c ∷ others) × AreLiterals others
+    × (group ≡ Copies (record { text = record { first = c; others = length others }; may_be_missing = may_be_missing }) ∷ others)
+
+-- the steps of a group that is taken so often, by the steps within it
+abbrev pub IsGroup : Times → (own group : List Step) → Type 0
+IsGroup times.Once own group = group ≡ own
+IsGroup times.Optional own group = group ≡ Maybe (record { steps = length own; captures = capture_count own }) ∷ own
+IsGroup times.ZeroOrMore own group = AreCopies true own group
+IsGroup times.OneOrMore own group = AreCopies false own group
+
+-- ---- segments
+
+-- the characters as they are written, one after the other
+abbrev pub characters_text : List Character → List ℕ
+characters_text [] = []
+characters_text (character ∷ characters) = character_text character ++ characters_text characters
+
+abbrev pub AreCharacters : List Character → Type 0
+AreCharacters [] = Unit {0}
+AreCharacters (character ∷ characters) = IsCharacter character × AreCharacters characters
+
+abbrev pub literal_steps : List Character → List Step
+literal_steps [] = []
+literal_steps (character ∷ characters) = Literal (character_of character) ∷ literal_steps characters
+
+-- the steps of runs with these characters between each two
+abbrev pub AreSegments : (end : ℕ) → (is_greedy : Bool) → List Character → (own : List Step) → Type 0
+AreSegments end is_greedy characters own =
+    (c : ℕ) × (others : List Step) × (literal_steps characters ≡ Literal c ∷ others)
+    × (own ≡ Segments (record { separator = record { first = c; others = length others }; end = end; is_greedy = is_greedy }) ∷ others)
+
+-- the text ends such a group with these steps: the characters between two runs, a run and the closing brackets; and the rest follows
+abbrev pub EndsSegments : (end : ℕ) → (is_greedy : Bool) → (own : List Step) → (text rest : List ℕ) → Type 0
+EndsSegments end is_greedy own text rest =
+    (characters : List Character) × (items : Items) × AreCharacters characters × AreItems items × IsRunOf end is_greedy items × AreSegments end is_greedy characters own
+    × (text ≡ characters_text characters ++ (codes "(?:" ++ (items_text items ++ (codes "))*)" ++ rest))))
 
 -- ---- expressions
 

@@ -1,8 +1,27 @@
 -- What a clause sees of captures that are added to others.
-use Rattle.std.specs.Prelude.{◌≡◌, Bool, List, ◌++◌, ℕ, map, Option, Some, None, option_map, if◌then◌else◌}
+use Rattle.std.specs.Prelude.{◌≡◌, Bool, List, [], ◌∷◌, ◌++◌, ℕ, ◌==◌, length, map, Option, Some, None, option_map, if◌then◌else◌}
 use Rattle.std.specs.Borrow.{Bor}
+use Rattle.std.specs.Str.{chars, IsUtf8}
 use Rattle.urlpattern_core.specs.Captured.{capture_view}
 use Rattle.urlpattern_laws.specs.PartMeaning.{Captures}
+use Rattle.urlpattern_engine.specs.Steps.{Gives}
+
+-- Where a text is cut, by the bytes before it, so that its parts give what is found. None: nothing is found.
+abbrev pub IsCutFor : Gives → (text : List ℕ) → Option ℕ → (found : Option Captures) → Type 0
+IsCutFor gives text None found = found ≡ None
+IsCutFor gives text (Some n) found =
+    (front rest : List ℕ) × IsUtf8 front × IsUtf8 rest × (text ≡ front ++ rest) × (length front ≡ n) × (found ≡ gives (chars front) (chars rest)) × ¬ (found ≡ None)
+
+-- where a run may end: where the segments after it end, or else here, where the steps take what follows
+abbrev pub IsEndHere : (next : Option ℕ) → (here : ℕ) → (found : Option Captures) → (end : Option ℕ) → Type 0
+IsEndHere (Some n) here found end = end ≡ Some n
+IsEndHere None here found None = found ≡ None
+IsEndHere None here found (Some n) = (n ≡ here) × ¬ (found ≡ None)
+
+-- where a run that goes on with the first character ends; there it does not go on with this character
+abbrev pub going_on : (end : ℕ) → (later : Option ℕ) → (text : List ℕ) → Option ℕ
+going_on end later [] = None
+going_on end later (c ∷ text) = if c == end then None else later
 
 -- captures as they are kept
 abbrev pub Kept : Type 0

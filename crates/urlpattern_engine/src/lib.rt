@@ -1,14 +1,21 @@
 //! An engine for the regular expressions that components are made of.
 //!
-//! [`PatternRegexp`] matches by itself an expression of texts, of groups that capture a run of characters, and of groups that may
-//! be missing, where these leave few choices; and leaves every other to `regex::Regex`. It answers what `regex::Regex` answers.
+//! [`PatternRegexp`] matches by itself an expression of texts and their copies, of groups that capture a run of characters or such
+//! runs with a text between each two, and of groups that may be missing, where these leave few choices; and leaves every other to
+//! `regex::Regex`. It answers what `regex::Regex` answers.
 #![tactic(auto)]
 
+mod choices;
+mod failed;
 pub mod laws;
 mod pattern_regexp;
 mod reading;
+mod repeats;
+mod runs;
 mod step;
+mod stops;
 mod texts;
+mod tokens;
 mod walk;
 
 pub use pattern_regexp::PatternRegexp;

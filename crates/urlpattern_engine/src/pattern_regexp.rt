@@ -4,6 +4,7 @@ ghost use Rattle.std.specs.Prelude.{◌≡◌, ⊤, IfOk};
 ghost use Rattle.urlpattern_engine.specs.Engine.{pattern_answer, pattern_text, IsPatternRegexpOf};
 ghost use Rattle.urlpattern_syntax.specs.declared.parser.RegexSyntax.TheVariants.{Rust};
 
+use crate::choices::{Remembered, when_remembered};
 use crate::reading::read_steps;
 use crate::step::Step;
 use crate::walk::walk;
@@ -28,11 +29,12 @@ enum Expression {
     Other(Box<Regex>),
 }
 
-/// The text of an expression, and its steps.
+/// The text of an expression, its steps, and when what failed is remembered.
 #[derive(Drop)]
 struct Steps {
     text: String,
     steps: Vec<Step>,
+    remembered: Remembered,
 }
 
 /// It takes no notice of flags, and reads each text at once. It may refuse any text.
@@ -60,6 +62,7 @@ impl RegExp for PatternRegexp {
         let expression = match read_steps(alloc, pattern)? {
             Some(steps) => Expression::Own(Steps {
                 text: String::from_str(alloc, pattern)?,
+                remembered: when_remembered(&steps),
                 steps,
             }),
             None => {
@@ -76,7 +79,7 @@ impl RegExp for PatternRegexp {
         text: &'a str,
     ) -> Result<Option<Vec<Option<&'a str>>>, OutOfMemory> {
         match &self.expression {
-            Expression::Own(own) => walk(alloc, &own.steps, text),
+            Expression::Own(own) => walk(alloc, &own.steps, own.remembered, text),
             Expression::Other(regex) => RegExp::matches(&**regex, alloc, text),
         }
     }

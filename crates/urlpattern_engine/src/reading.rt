@@ -1,30 +1,18 @@
 //! Reads the text of an expression as steps.
 
-ghost use Rattle.std.specs.Prelude.{◌≡◌, ◌∷◌, ◌++◌, ℕ, ◌<◌, List, length, codes, IfOk, IfSome, IsTrue};
+ghost use Rattle.std.specs.Prelude.{◌≡◌, ◌∷◌, ◌++◌, ℕ, ◌<◌, ◌≤◌, List, length, take, drop, codes, IfOk, IfSome, IsTrue};
 ghost use Rattle.std.specs.Str.{chars};
-ghost use Rattle.urlpattern_engine.specs.Reading.{AreStepsOf, BeginsWithCaptured, BeginsWithCharacter, BeginsWithToken};
+ghost use Rattle.urlpattern_engine.specs.Reading.{AreCopies, AreLiterals, AreStepsOf, EndsSegments, IsGroup, IsRunOf};
 ghost use Rattle.urlpattern_engine.specs.Steps.{capture_count};
-ghost use Rattle.urlpattern_laws.specs.Dialect.{IsCharacter, IsClassCharacter};
-ghost use Rattle.urlpattern_syntax.specs.RegexpText.{regexp_marks};
-ghost use Rattle.urlpattern_syntax.specs.Text.{is_among};
+ghost use Rattle.urlpattern_laws.specs.Dialect.{AreItems, items_text, Items};
 
-use crate::step::{Group, Step};
-use crate::texts::{after, split_first};
-use crate::walk::stop_at;
+use crate::choices::{begin_with_repeats, is_shallow};
+use crate::step::{Copies, Group, Segments, Step, Stretch};
+use crate::texts::after;
+use crate::tokens::{
+    Times, Token, after_open, after_segments, read_literal, read_run, read_token, run_of,
+};
 use std::alloc::{AllocError, Global};
-
-/// What stands in an expression one after the other.
-#[derive(Clone, Copy)]
-enum Token {
-    /// `(?:`
-    Open,
-    /// `)`, and whether a question mark follows.
-    Close(bool),
-    /// A character, or a group that captures.
-    Step(Step),
-    /// A group that captures, and a question mark.
-    MaybeStep(Step),
-}
 
 /// The steps of an expression. `None`: it is none that is matched by steps.
 pub(crate) fn read_steps(alloc: Global, regexp: &str) -> Result<Option<Vec<Step>>, AllocError>
@@ -42,28 +30,94 @@ pub(crate) fn read_steps(alloc: Global, regexp: &str) -> Result<Option<Vec<Step>
                 steps.push(Step::Maybe(ONE_CAPTURE))?;
                 steps.push(step)?;
             }
+            Token::FirstSegment(end, is_greedy) => {
+                let Some(after) = read_segments(&mut steps, end, is_greedy, remaining)? else {
+                    return Ok(None);
+                };
+                rest = after;
+                continue;
+            }
             Token::Open => match opened {
                 Some(_) => return Ok(None),
                 None => opened = Some(steps.len()),
             },
-            Token::Close(is_optional) => {
+            Token::Close(times) => {
                 let Some(first) = opened else {
                     return Ok(None);
                 };
-                if is_optional {
-                    let group = group_of(&steps[first..]);
-                    steps.insert(first, Step::Maybe(group))?;
+                if !close_group(&mut steps, first, times)? {
+                    return Ok(None);
                 }
                 opened = None;
             }
         }
         rest = remaining;
     }
-    if opened.is_none() && is_end(rest) && is_quick(&steps) {
+    if opened.is_none() && is_end(rest) && is_shallow(&steps) && begin_with_repeats(&steps) {
         Ok(Some(steps))
     } else {
         Ok(None)
     }
+}
+
+/// Makes the steps from the first on the group of them that is taken so often. Whether there is such a group.
+fn close_group(steps: &mut Vec<Step>, first: usize, times: Times) -> Result<bool, AllocError>
+    requires { first ≤ length steps.old.items }
+    ensures { IfOk result (λ is_group. IsTrue is_group →
+        (group : List Step) × IsGroup times (drop first steps.old.items) group × (steps.new.items ≡ take first steps.old.items ++ group)) }
+{
+    match times {
+        Times::Once => Ok(true),
+        Times::Optional => {
+            let group = group_of(&steps[first..]);
+            steps.insert(first, Step::Maybe(group))?;
+            Ok(true)
+        }
+        Times::ZeroOrMore => Ok(close_copies(steps, first, true)),
+        Times::OneOrMore => Ok(close_copies(steps, first, false)),
+    }
+}
+
+/// Makes the steps from the first on copies of the text that is made up of them. Whether there is such a text.
+fn close_copies(steps: &mut Vec<Step>, first: usize, may_be_missing: bool) -> bool
+    requires { first ≤ length steps.old.items }
+    ensures { IsTrue result → (group : List Step) × AreCopies may_be_missing (drop first steps.old.items) group × (steps.new.items ≡ take first steps.old.items ++ group) }
+{
+    let Some(text) = stretch_of(&steps[first..]) else {
+        return false;
+    };
+    steps[first] = Step::Copies(Copies {
+        text,
+        may_be_missing,
+    });
+    true
+}
+
+/// The text that is made up of the steps, where each of them is literal and there is one at least.
+fn stretch_of(steps: &[Step]) -> Option<Stretch>
+    ensures { IfSome result (λ text. (others : List Step) × (steps.now ≡ Step.Literal text.first ∷ others) × AreLiterals others × (text.others ≡ length others)) }
+{
+    match steps {
+        [Step::Literal(first), others @ ..] if are_literals(others) => Some(Stretch {
+            first: *first,
+            others: others.len(),
+        }),
+        _ => None,
+    }
+}
+
+/// Whether each of the steps is literal.
+fn are_literals(steps: &[Step]) -> bool
+    ensures { IsTrue result → AreLiterals steps.now }
+{
+    let mut rest = steps;
+    while let [step, others @ ..] = rest {
+        match step {
+            Step::Literal(_) => rest = others,
+            _ => return false,
+        }
+    }
+    true
 }
 
 /// A group of one step, which captures.
@@ -80,50 +134,15 @@ fn group_of(steps: &[Step]) -> Group
     let mut rest = steps;
     while let [step, others @ ..] = rest {
         match step {
-            Step::Segment(_) | Step::Anything => captures += 1,
-            Step::Literal(_) | Step::Maybe(_) => {}
+            Step::Segment(_) | Step::Anything | Step::Longest(_) | Step::Segments(_) => captures +=
+                1,
+            Step::Literal(_) | Step::Maybe(_) | Step::Copies(_) => {}
         }
         rest = others;
     }
     Group {
         steps: steps.len(),
         captures,
-    }
-}
-
-/// How many groups may be missing in an expression that is matched by steps.
-const MAYBE_COUNT: usize = 4;
-
-/// Whether there are so few choices that they are tried in little time, one after the other: of one captured run, and of groups
-/// that may be missing.
-fn is_quick(steps: &[Step]) -> bool {
-    let mut maybe_count: usize = 0;
-    let mut is_chosen = false;
-    let mut rest = steps;
-    while let Some((step, others)) = rest.split_first() {
-        if has_choice(step, others) {
-            if is_chosen {
-                return false;
-            }
-            is_chosen = true;
-        }
-        if matches!(step, Step::Maybe(_)) {
-            if maybe_count == MAYBE_COUNT {
-                return false;
-            }
-            maybe_count = maybe_count.saturating_add(1);
-        }
-        rest = others;
-    }
-    true
-}
-
-/// Whether what the step captures may end at several places before the other steps.
-fn has_choice(step: &Step, others: &[Step]) -> bool {
-    match step {
-        Step::Segment(end) => !stop_at(others, *end),
-        Step::Anything => !stop_at(others, '\n'),
-        Step::Literal(_) | Step::Maybe(_) => false,
     }
 }
 
@@ -137,124 +156,46 @@ fn is_end(text: &str) -> bool
     }
 }
 
-/// The token at the front of the text, and what follows it.
-fn read_token(text: &str) -> Option<(Token, &str)>
-    ensures token { IfSome result (λ read. BeginsWithToken (chars text.now) read.0 (chars read.1.now)) }
-    ensures len { IfSome result (λ read. length read.1.now < length text.now) }
+/// Adds the steps for segments, and answers what follows them. The text is what follows the first of them. `None`: there are none.
+fn read_segments<'a>(
+    steps: &mut Vec<Step>,
+    end: char,
+    is_greedy: bool,
+    text: &'a str,
+) -> Result<Option<&'a str>, AllocError>
+    ensures read { IfOk result (λ read. IfSome read (λ rest. (own : List Step) × EndsSegments end is_greedy own (chars text.now) (chars rest.now) × (steps.new.items ≡ steps.old.items ++ own))) }
+    ensures len { IfOk result (λ read. IfSome read (λ rest. length rest.now < length text.now)) }
 {
-    if let Some(rest) = after(text, ')') {
-        if let Some(remaining) = after(rest, '?') {
-            return Some((Token::Close(true), remaining));
-        }
-        return Some((Token::Close(false), rest));
+    let first = steps.len();
+    let mut rest = text;
+    while let Some((c, remaining)) = read_literal(rest) {
+        steps.push(Step::Literal(c))?;
+        rest = remaining;
     }
-    if let Some(inner) = after(text, '(') {
-        return read_bracket(inner);
-    }
-    let (c, rest) = read_literal(text)?;
-    Some((Token::Step(Step::Literal(c)), rest))
+    let Some(remaining) = read_last_segment(rest, end, is_greedy) else {
+        return Ok(None);
+    };
+    let Some(separator) = stretch_of(&steps[first..]) else {
+        return Ok(None);
+    };
+    steps[first] = Step::Segments(Segments {
+        separator,
+        end,
+        is_greedy,
+    });
+    Ok(Some(remaining))
 }
 
-/// The token that begins with an opening bracket, and what follows it. The text is what follows the bracket.
-fn read_bracket(text: &str) -> Option<(Token, &str)>
-    ensures token { IfSome result (λ read. BeginsWithToken (codes "(" ++ chars text.now) read.0 (chars read.1.now)) }
-    ensures len { IfSome result (λ read. length read.1.now < length text.now) }
-{
-    if let Some(rest) = after(text, '?') {
-        return Some((Token::Open, after(rest, ':')?));
-    }
-    let (step, rest) = read_captured(text)?;
-    let rest = after(rest, ')')?;
-    if let Some(remaining) = after(rest, '?') {
-        return Some((Token::MaybeStep(step), remaining));
-    }
-    Some((Token::Step(step), rest))
-}
-
-/// The step for what brackets capture, and what follows it.
-fn read_captured(text: &str) -> Option<(Step, &str)>
-    ensures step { IfSome result (λ read. BeginsWithCaptured (chars text.now) read.0 (chars read.1.now)) }
-    ensures len { IfSome result (λ read. length read.1.now < length text.now) }
-{
-    match after(text, '.') {
-        Some(rest) => read_repeated_dot(rest),
-        None => read_repeated_class(after(after(text, '[')?, '^')?),
-    }
-}
-
-/// The step for a dot and its quantifier, and what follows that. The text is what follows the dot.
-fn read_repeated_dot(text: &str) -> Option<(Step, &str)>
-    ensures step { IfSome result (λ read. BeginsWithCaptured (codes "." ++ chars text.now) read.0 (chars read.1.now)) }
-    ensures len { IfSome result (λ read. length read.1.now < length text.now) }
-{
-    match after(text, '*') {
-        Some(rest) => Some((Step::Anything, rest)),
-        None => Some((Step::Segment('\n'), after_lazy_plus(text)?)),
-    }
-}
-
-/// The step for a class and its quantifier, and what follows that. The text is what follows the two marks of the class.
-fn read_repeated_class(text: &str) -> Option<(Step, &str)>
-    ensures step { IfSome result (λ read. BeginsWithCaptured (codes "[^" ++ chars text.now) read.0 (chars read.1.now)) }
-    ensures len { IfSome result (λ read. length read.1.now < length text.now) }
-{
-    let (c, rest) = read_class_character(text)?;
-    Some((Step::Segment(c), after_lazy_plus(after(rest, ']')?)?))
-}
-
-/// What follows `+?`.
-fn after_lazy_plus(text: &str) -> Option<&str>
-    ensures cut { IfSome result (λ rest. chars text.now ≡ codes "+?" ++ chars rest.now) }
+/// What follows a run of this kind in brackets, where these close the segments.
+fn read_last_segment(text: &str, end: char, is_greedy: bool) -> Option<&str>
+    ensures cut { IfSome result (λ rest. (items : Items) × AreItems items × IsRunOf end is_greedy items
+        × (chars text.now ≡ codes "(?:" ++ (items_text items ++ (codes "))*)" ++ chars rest.now)))) }
     ensures len { IfSome result (λ rest. length rest.now < length text.now) }
 {
-    after(after(text, '+')?, '?')
-}
-
-/// A character that stands for itself, and what follows it.
-fn read_literal(text: &str) -> Option<(char, &str)>
-    ensures character { IfSome result (λ read. BeginsWithCharacter IsCharacter (chars text.now) read.0 (chars read.1.now)) }
-    ensures len { IfSome result (λ read. length read.1.now < length text.now) }
-{
-    let (c, rest) = split_first(text)?;
-    if c == '\\' {
-        return read_escaped(rest);
+    let (single, rest) = read_run(after_open(text)?)?;
+    let (other, is_other_greedy) = run_of(single)?;
+    if other != end || is_other_greedy != is_greedy {
+        return None;
     }
-    if is_mark(c) { None } else { Some((c, rest)) }
-}
-
-/// A character of a class, and what follows it.
-fn read_class_character(text: &str) -> Option<(char, &str)>
-    ensures character { IfSome result (λ read. BeginsWithCharacter IsClassCharacter (chars text.now) read.0 (chars read.1.now)) }
-    ensures len { IfSome result (λ read. length read.1.now < length text.now) }
-{
-    let (c, rest) = split_first(text)?;
-    match c {
-        '\\' => read_escaped(rest),
-        '[' => None,
-        _ => Some((c, rest)),
-    }
-}
-
-/// A character after a backslash, which is a mark or a slash, and what follows it.
-fn read_escaped(text: &str) -> Option<(char, &str)>
-    ensures mark { IfSome result (λ read. IsTrue (is_among (regexp_marks ++ codes "/") read.0)) }
-    ensures cut { IfSome result (λ read. chars text.now ≡ read.0 ∷ chars read.1.now) }
-    ensures len { IfSome result (λ read. length read.1.now < length text.now) }
-{
-    let (c, rest) = split_first(text)?;
-    if is_mark(c) || c == '/' {
-        Some((c, rest))
-    } else {
-        None
-    }
-}
-
-/// Whether a character means more than itself in an expression.
-fn is_mark(c: char) -> bool
-    ensures { result ≡ is_among regexp_marks c }
-{
-    matches!(
-        c,
-        '.' | '+' | '*' | '?' | '^' | '$' | '{' | '}' | '(' | ')' | '[' | ']' | '|' | '\\'
-    )
+    after_segments(rest)
 }

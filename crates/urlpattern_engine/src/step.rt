@@ -11,6 +11,12 @@ pub(crate) enum Step {
     Anything,
     /// The steps of a group that may be missing, which follow.
     Maybe(Group),
+    /// A run of characters, captured: as long as the steps after it allow.
+    Longest(Run),
+    /// Copies of a text, one after the other: as many as the steps after it allow.
+    Copies(Copies),
+    /// Runs of characters with a text between each two, captured as a whole: as many as the steps after it allow.
+    Segments(Segments),
 }
 
 /// How many of the next steps stand and fall together.
@@ -20,4 +26,43 @@ pub(crate) struct Group {
     pub(crate) steps: usize,
     /// How many of them capture.
     pub(crate) captures: usize,
+}
+
+/// A text: a character, and those of the next literal steps.
+#[derive(Clone, Copy)]
+pub(crate) struct Stretch {
+    /// The first character.
+    pub(crate) first: char,
+    /// How many steps the other characters have.
+    pub(crate) others: usize,
+}
+
+/// Copies of a text.
+#[derive(Clone, Copy)]
+pub(crate) struct Copies {
+    /// The text.
+    pub(crate) text: Stretch,
+    /// Whether there may be none.
+    pub(crate) may_be_missing: bool,
+}
+
+/// A run of characters.
+#[derive(Clone, Copy)]
+pub(crate) struct Run {
+    /// The character that is not among them.
+    pub(crate) end: char,
+    /// Whether there may be none.
+    pub(crate) may_be_empty: bool,
+}
+
+/// Runs of characters with a text between each two.
+#[derive(Clone, Copy)]
+pub(crate) struct Segments {
+    /// The text between two runs.
+    pub(crate) separator: Stretch,
+    /// The character that is not in a run.
+    pub(crate) end: char,
+    /// Whether a run has any number of characters, as many as what follows allows; else it has one or more, as few as that
+    /// allows.
+    pub(crate) is_greedy: bool,
 }

@@ -36,6 +36,15 @@ pub(crate) fn after_front<'a>(text: &'a str, front: &str) -> &'a str
     &text[front.len()..]
 }
 
+/// A text up to this many bytes, and from there on.
+pub(crate) fn split_at_seam(text: &str, count: usize) -> (&str, &str)
+    requires { (front rest : List ℕ) × IsUtf8 front × IsUtf8 rest × (text.now ≡ front ++ rest) × (length front ≡ count) }
+    ensures cut { text.now ≡ result.0.now ++ result.1.now }
+    ensures count { length result.0.now ≡ count }
+{
+    (&text[..count], &text[count..])
+}
+
 /// A text without its last character. `None`: it is empty.
 pub(crate) fn without_last(text: &str) -> Option<&str>
     ensures empty { IfNone result (text.now ≡ []) }

@@ -1,30 +1,40 @@
 //! Matches a text by steps.
 
-ghost use Rattle.std.specs.Prelude.{◌≡◌, ◌++◌, [], List, false, replicate, Bool, None, IfOk, IsTrue, OnOk, drop};
+ghost use Rattle.std.specs.Prelude.{◌≡◌, ◌∷◌, ◌++◌, [], List, false, replicate, Bool, None, IfOk, OnOk};
 ghost use Rattle.std.specs.Str.{chars};
 ghost use Rattle.urlpattern_core.specs.Captured.{captures_view};
-ghost use Rattle.urlpattern_engine.specs.Steps.{captured, longest, shortest, walk, StopAt};
-ghost use Rattle.urlpattern_engine.specs.Taken.{Adds, Extends};
-ghost use Rattle.urlpattern_syntax.specs.Text.{line_feed};
+ghost use Rattle.urlpattern_engine.specs.Failed.{IsPlace};
+ghost use Rattle.urlpattern_engine.specs.Steps.{after_text, any_rounds, captured, literals, segmented, single_run, walk};
+ghost use Rattle.urlpattern_engine.specs.Taken.{Adds, Extends, IsCutFor, IsEndHere};
 
-use crate::step::Step;
-use crate::texts::{after, after_front, split_at_first, split_first, without_last};
+use crate::choices::Remembered;
+use crate::failed::Failed;
+use crate::repeats::{
+    after_literals, begun_after, ends, first_steps, goes_on, pass, skip_copies, without_copy,
+};
+use crate::runs::{has_one_end, longest_front, next_of_run, remember_run};
+use crate::step::{Copies, Group, Run, Segments, Step};
+use crate::texts::{after, after_front, split_at_first, split_at_seam, without_last};
 use std::alloc::Global;
 use urlpattern_core::error::OutOfMemory;
 use urlpattern_syntax::tokenizer::before;
 
 /// What the steps capture of a text that they take whole. `None`: they do not take it whole.
 ///
+/// Where the places that failed are remembered, no choice is tried twice at one of them.
+///
 /// The error is that memory ran out.
 pub(crate) fn walk<'t>(
     alloc: Global,
     steps: &[Step],
+    remembered: Remembered,
     text: &'t str,
 ) -> Result<Option<Vec<Option<&'t str>>>, OutOfMemory>
     ensures { IfOk result (λ found. captures_view found ≡ walk steps.now (chars text.now)) }
 {
     let mut captures = Vec::new(alloc);
-    if follow(&mut captures, steps, text)? {
+    let mut failed = Failed::new(alloc, steps, text, remembered.is_for(text))?;
+    if follow(&mut captures, &mut failed, steps, text)? {
         Ok(Some(captures))
     } else {
         Ok(None)
@@ -37,14 +47,17 @@ pub(crate) fn walk<'t>(
 #[cycle(following)]
 fn follow<'t>(
     captures: &mut Vec<Option<&'t str>>,
+    failed: &mut Failed<'_, '_>,
     steps: &[Step],
     text: &'t str,
 ) -> Result<bool, OutOfMemory>
+    requires { IsPlace failed.old steps.now (chars text.now) }
     ensures adds { IfOk result (λ is_taken. Adds captures.old.items captures.new.items is_taken (walk steps.now (chars text.now))) }
     ensures same { IfOk result (λ is_taken. is_taken ≡ false → captures.new.items ≡ captures.old.items) }
+    ensures whole { failed.new ≡ failed.old }
 {
     let count = captures.len();
-    if follow_on(captures, steps, text)? {
+    if follow_on(captures, failed, steps, text)? {
         return Ok(true);
     }
     captures.truncate(count);
@@ -57,11 +70,14 @@ fn follow<'t>(
 #[cycle(following)]
 fn follow_on<'t>(
     captures: &mut Vec<Option<&'t str>>,
+    failed: &mut Failed<'_, '_>,
     steps: &[Step],
     text: &'t str,
 ) -> Result<bool, OutOfMemory>
+    requires { IsPlace failed.old steps.now (chars text.now) }
     ensures adds { IfOk result (λ is_taken. Adds captures.old.items captures.new.items is_taken (walk steps.now (chars text.now))) }
     ensures more { IfOk result (λ is_taken. is_taken ≡ false → Extends captures.old.items captures.new.items) }
+    ensures whole { failed.new ≡ failed.old }
 {
     let mut left = steps;
     let mut rest = text;
@@ -75,8 +91,8 @@ fn follow_on<'t>(
                 left = others;
             }
             Step::Segment(end) => {
-                if !stop_at(others, *end) {
-                    return follow_shortest(captures, *end, others, rest);
+                if !has_one_end(failed, others, *end) {
+                    return follow_shortest(captures, failed, *end, left, others, rest);
                 }
                 let (front, remaining) = split_at_first(rest, *end);
                 if front.is_empty() {
@@ -87,8 +103,8 @@ fn follow_on<'t>(
                 left = others;
             }
             Step::Anything => {
-                if !stop_at(others, '\n') {
-                    return follow_longest(captures, others, rest);
+                if !has_one_end(failed, others, '\n') {
+                    return follow_longest(captures, failed, left, others, rest);
                 }
                 let (front, remaining) = split_at_first(rest, '\n');
                 captures.push(Some(front))?;
@@ -96,62 +112,113 @@ fn follow_on<'t>(
                 left = others;
             }
             Step::Maybe(group) => {
-                if follow(captures, others, rest)? {
-                    return Ok(true);
-                }
-                add_missing(captures, group.captures)?;
-                left = pass(others, group.steps);
+                return follow_maybe(captures, failed, *group, left, others, rest);
+            }
+            Step::Longest(run) => {
+                return follow_run(captures, failed, *run, left, others, rest);
+            }
+            Step::Copies(copies) => {
+                return follow_repeated_text(captures, failed, *copies, left, others, rest);
+            }
+            Step::Segments(segments) => {
+                return follow_segmented(captures, failed, *segments, left, others, rest);
             }
         }
     }
     Ok(rest.is_empty())
 }
 
-/// Whether the steps take what follows a front of the text without this character, not empty, the shortest first. Where they do,
-/// the front and what they capture are added.
+/// Whether the steps, of which the first is before a group that may be missing, take the text whole. What they capture is added,
+/// and where they do not, some of it.
+///
+/// The error is that memory ran out.
+#[cycle(following)]
+fn follow_maybe<'t>(
+    captures: &mut Vec<Option<&'t str>>,
+    failed: &mut Failed<'_, '_>,
+    group: Group,
+    steps: &[Step],
+    others: &[Step],
+    text: &'t str,
+) -> Result<bool, OutOfMemory>
+    requires place { IsPlace failed.old steps.now (chars text.now) }
+    requires first { steps.now ≡ Step.Maybe group ∷ others.now }
+    ensures adds { IfOk result (λ is_taken. Adds captures.old.items captures.new.items is_taken (walk steps.now (chars text.now))) }
+    ensures more { IfOk result (λ is_taken. is_taken ≡ false → Extends captures.old.items captures.new.items) }
+    ensures whole { failed.new ≡ failed.old }
+{
+    if failed.contains(steps, text) {
+        return Ok(false);
+    }
+    if follow(captures, failed, others, text)? {
+        return Ok(true);
+    }
+    add_missing(captures, group.captures)?;
+    if follow_on(captures, failed, pass(others, group.steps), text)? {
+        return Ok(true);
+    }
+    failed.insert(steps, text);
+    Ok(false)
+}
+
+/// Whether the steps take the text whole: the first a front without this character, not empty, the shortest first. Where they do,
+/// what they capture is added.
 ///
 /// The error is that memory ran out.
 #[cycle(following)]
 fn follow_shortest<'t>(
     captures: &mut Vec<Option<&'t str>>,
+    failed: &mut Failed<'_, '_>,
     end: char,
     steps: &[Step],
+    others: &[Step],
     text: &'t str,
 ) -> Result<bool, OutOfMemory>
-    ensures adds { IfOk result (λ is_taken. Adds captures.old.items captures.new.items is_taken (shortest end (captured (walk steps.now)) [] (chars text.now))) }
+    requires place { IsPlace failed.old steps.now (chars text.now) }
+    requires first { steps.now ≡ Step.Segment end ∷ others.now }
+    ensures adds { IfOk result (λ is_taken. Adds captures.old.items captures.new.items is_taken (walk steps.now (chars text.now))) }
     ensures same { IfOk result (λ is_taken. is_taken ≡ false → captures.new.items ≡ captures.old.items) }
+    ensures whole { failed.new ≡ failed.old }
 {
     let mut rest = text;
-    while let Some((c, remaining)) = split_first(rest) {
-        if c == end {
-            return Ok(false);
-        }
+    while let Some((_, remaining)) = next_of_run(failed, end, steps, rest) {
         rest = remaining;
-        if follow_captured(captures, before(text, rest), steps, rest)? {
+        if follow_captured(captures, failed, before(text, rest), others, rest)? {
             return Ok(true);
         }
     }
+    remember_run(failed, end, steps, text);
     Ok(false)
 }
 
-/// Whether the steps take what follows a front of the text without a line feed, the longest first. Where they do, the front and
-/// what they capture are added.
+/// Whether the steps take the text whole: the first a front without a line feed, the longest first. Where they do, what they
+/// capture is added.
 ///
 /// The error is that memory ran out.
 #[cycle(following)]
 fn follow_longest<'t>(
     captures: &mut Vec<Option<&'t str>>,
+    failed: &mut Failed<'_, '_>,
     steps: &[Step],
+    others: &[Step],
     text: &'t str,
 ) -> Result<bool, OutOfMemory>
-    ensures adds { IfOk result (λ is_taken. Adds captures.old.items captures.new.items is_taken (longest line_feed (captured (walk steps.now)) [] (chars text.now))) }
+    requires place { IsPlace failed.old steps.now (chars text.now) }
+    requires first { steps.now ≡ Step.Anything ∷ others.now }
+    ensures adds { IfOk result (λ is_taken. Adds captures.old.items captures.new.items is_taken (walk steps.now (chars text.now))) }
     ensures same { IfOk result (λ is_taken. is_taken ≡ false → captures.new.items ≡ captures.old.items) }
+    ensures whole { failed.new ≡ failed.old }
 {
-    let (mut front, _) = split_at_first(text, '\n');
+    if failed.contains(steps, text) {
+        return Ok(false);
+    }
+    let mut front = longest_front(failed, steps, text);
     loop {
-        if follow_captured(captures, front, steps, after_front(text, front))? {
+        let rest = after_front(text, front);
+        if follow_captured(captures, failed, front, others, rest)? {
             return Ok(true);
         }
+        failed.insert(steps, rest);
         let Some(shorter) = without_last(front) else {
             return Ok(false);
         };
@@ -165,19 +232,292 @@ fn follow_longest<'t>(
 #[cycle(following)]
 fn follow_captured<'t>(
     captures: &mut Vec<Option<&'t str>>,
+    failed: &mut Failed<'_, '_>,
     front: &'t str,
     steps: &[Step],
     rest: &'t str,
 ) -> Result<bool, OutOfMemory>
+    requires { IsPlace failed.old steps.now (chars rest.now) }
     ensures adds { IfOk result (λ is_taken. Adds captures.old.items captures.new.items is_taken (captured (walk steps.now) (chars front.now) (chars rest.now))) }
     ensures same { IfOk result (λ is_taken. is_taken ≡ false → captures.new.items ≡ captures.old.items) }
+    ensures whole { failed.new ≡ failed.old }
 {
     captures.push(Some(front))?;
-    if follow(captures, steps, rest)? {
+    if follow(captures, failed, steps, rest)? {
         return Ok(true);
     }
     captures.pop();
     Ok(false)
+}
+
+/// Whether the steps, of which the first is a run that is as long as it may be, take the text whole. Where they do, what they
+/// capture is added.
+///
+/// The error is that memory ran out.
+#[cycle(following)]
+fn follow_run<'t>(
+    captures: &mut Vec<Option<&'t str>>,
+    failed: &mut Failed<'_, '_>,
+    run: Run,
+    steps: &[Step],
+    others: &[Step],
+    text: &'t str,
+) -> Result<bool, OutOfMemory>
+    requires place { IsPlace failed.old steps.now (chars text.now) }
+    requires first { steps.now ≡ Step.Longest run ∷ others.now }
+    ensures adds { IfOk result (λ is_taken. Adds captures.old.items captures.new.items is_taken (walk steps.now (chars text.now))) }
+    ensures same { IfOk result (λ is_taken. is_taken ≡ false → captures.new.items ≡ captures.old.items) }
+    ensures whole { failed.new ≡ failed.old }
+{
+    if failed.contains(steps, text) {
+        return Ok(false);
+    }
+    if follow_longest_run(captures, failed, run, others, text)? {
+        return Ok(true);
+    }
+    failed.insert(steps, text);
+    Ok(false)
+}
+
+/// Whether the steps take what follows a run of characters, the longest first. Where they do, the run and what they capture are
+/// added.
+///
+/// The error is that memory ran out.
+#[cycle(following)]
+fn follow_longest_run<'t>(
+    captures: &mut Vec<Option<&'t str>>,
+    failed: &mut Failed<'_, '_>,
+    run: Run,
+    steps: &[Step],
+    text: &'t str,
+) -> Result<bool, OutOfMemory>
+    requires { IsPlace failed.old steps.now (chars text.now) }
+    ensures adds { IfOk result (λ is_taken. Adds captures.old.items captures.new.items is_taken (walk (Step.Longest run ∷ steps.now) (chars text.now))) }
+    ensures same { IfOk result (λ is_taken. is_taken ≡ false → captures.new.items ≡ captures.old.items) }
+    ensures whole { failed.new ≡ failed.old }
+{
+    let (mut front, _) = split_at_first(text, run.end);
+    while let Some(shorter) = without_last(front) {
+        let rest = after_front(text, front);
+        if follow_captured(captures, failed, front, steps, rest)? {
+            return Ok(true);
+        }
+        front = shorter;
+    }
+    if run.may_be_empty {
+        follow_captured(captures, failed, front, steps, text)
+    } else {
+        Ok(false)
+    }
+}
+
+/// Whether the steps, of which the first is before a text that is repeated, take the text whole. Where they do, what they capture
+/// is added.
+///
+/// The error is that memory ran out.
+#[cycle(following)]
+fn follow_repeated_text<'t>(
+    captures: &mut Vec<Option<&'t str>>,
+    failed: &mut Failed<'_, '_>,
+    copies: Copies,
+    steps: &[Step],
+    others: &[Step],
+    text: &'t str,
+) -> Result<bool, OutOfMemory>
+    requires place { IsPlace failed.old steps.now (chars text.now) }
+    requires first { steps.now ≡ Step.Copies copies ∷ others.now }
+    ensures adds { IfOk result (λ is_taken. Adds captures.old.items captures.new.items is_taken (walk steps.now (chars text.now))) }
+    ensures same { IfOk result (λ is_taken. is_taken ≡ false → captures.new.items ≡ captures.old.items) }
+    ensures whole { failed.new ≡ failed.old }
+{
+    if failed.contains(steps, text) {
+        return Ok(false);
+    }
+    if follow_copies(captures, failed, copies, others, text)? {
+        return Ok(true);
+    }
+    failed.insert(steps, text);
+    Ok(false)
+}
+
+/// Whether the steps that follow take what follows copies of a text, the most first. Where they do, what they capture is added.
+///
+/// The error is that memory ran out.
+#[cycle(following)]
+fn follow_copies<'t>(
+    captures: &mut Vec<Option<&'t str>>,
+    failed: &mut Failed<'_, '_>,
+    copies: Copies,
+    steps: &[Step],
+    text: &'t str,
+) -> Result<bool, OutOfMemory>
+    requires { IsPlace failed.old steps.now (chars text.now) }
+    ensures adds { IfOk result (λ is_taken. Adds captures.old.items captures.new.items is_taken (walk (Step.Copies copies ∷ steps.now) (chars text.now))) }
+    ensures same { IfOk result (λ is_taken. is_taken ≡ false → captures.new.items ≡ captures.old.items) }
+    ensures whole { failed.new ≡ failed.old }
+{
+    let first = copies.text.first;
+    let literal = first_steps(steps, copies.text.others);
+    let others = pass(steps, copies.text.others);
+    if copies.may_be_missing {
+        return follow_any_copies(captures, failed, first, literal, others, text);
+    }
+    match after_literals(text, first, literal) {
+        Some(rest) => follow_any_copies(captures, failed, first, literal, others, rest),
+        None => Ok(false),
+    }
+}
+
+/// Whether the other steps take what follows any number of copies of a text, the most first. Where they do, what they capture is
+/// added. The text is the first character and those of the literal steps.
+///
+/// The error is that memory ran out.
+#[cycle(following)]
+fn follow_any_copies<'t>(
+    captures: &mut Vec<Option<&'t str>>,
+    failed: &mut Failed<'_, '_>,
+    first: char,
+    literal: &[Step],
+    others: &[Step],
+    text: &'t str,
+) -> Result<bool, OutOfMemory>
+    requires { IsPlace failed.old others.now (chars text.now) }
+    ensures adds { IfOk result (λ is_taken. Adds captures.old.items captures.new.items is_taken
+        (any_rounds (after_text (first ∷ literals literal.now)) (λ front rest. walk others.now rest) [] (chars text.now))) }
+    ensures same { IfOk result (λ is_taken. is_taken ≡ false → captures.new.items ≡ captures.old.items) }
+    ensures whole { failed.new ≡ failed.old }
+{
+    let rest = skip_copies(text, first, literal);
+    let mut front = before(text, rest);
+    loop {
+        if follow(captures, failed, others, after_front(text, front))? {
+            return Ok(true);
+        }
+        let Some(shorter) = without_copy(front, literal) else {
+            return Ok(false);
+        };
+        front = shorter;
+    }
+}
+
+/// Whether the steps, of which the first is before segments, take the text whole. Where they do, what they capture is added.
+///
+/// The error is that memory ran out.
+#[cycle(following)]
+fn follow_segmented<'t>(
+    captures: &mut Vec<Option<&'t str>>,
+    failed: &mut Failed<'_, '_>,
+    segments: Segments,
+    steps: &[Step],
+    others: &[Step],
+    text: &'t str,
+) -> Result<bool, OutOfMemory>
+    requires place { IsPlace failed.old steps.now (chars text.now) }
+    requires first { steps.now ≡ Step.Segments segments ∷ others.now }
+    ensures adds { IfOk result (λ is_taken. Adds captures.old.items captures.new.items is_taken (walk steps.now (chars text.now))) }
+    ensures same { IfOk result (λ is_taken. is_taken ≡ false → captures.new.items ≡ captures.old.items) }
+    ensures whole { failed.new ≡ failed.old }
+{
+    if failed.contains(steps, text) {
+        return Ok(false);
+    }
+    if follow_segments(captures, failed, segments, others, text)? {
+        return Ok(true);
+    }
+    failed.insert(steps, text);
+    Ok(false)
+}
+
+/// Whether the steps that follow take what follows segments, by the order in which these are tried. Where they do, the segments and
+/// what they capture are added.
+///
+/// The error is that memory ran out.
+#[cycle(following)]
+fn follow_segments<'t>(
+    captures: &mut Vec<Option<&'t str>>,
+    failed: &mut Failed<'_, '_>,
+    segments: Segments,
+    steps: &[Step],
+    text: &'t str,
+) -> Result<bool, OutOfMemory>
+    requires { IsPlace failed.old steps.now (chars text.now) }
+    ensures adds { IfOk result (λ is_taken. Adds captures.old.items captures.new.items is_taken (walk (Step.Segments segments ∷ steps.now) (chars text.now))) }
+    ensures same { IfOk result (λ is_taken. is_taken ≡ false → captures.new.items ≡ captures.old.items) }
+    ensures whole { failed.new ≡ failed.old }
+{
+    let literal = first_steps(steps, segments.separator.others);
+    let others = pass(steps, segments.separator.others);
+    let alloc = *captures.allocator();
+    match end_of_segments(alloc, failed, segments, literal, others, text)? {
+        Some(count) => {
+            let (front, rest) = split_at_seam(text, count);
+            follow_captured(captures, failed, front, others, rest)
+        }
+        None => Ok(false),
+    }
+}
+
+/// Where the segments at the front of a text end that are the first that the other steps lead on from, by the bytes before. `None`:
+/// there are none. The text between two segments is made up of the first character and the literal steps.
+///
+/// The error is that memory ran out.
+#[cycle(following)]
+fn end_of_segments(
+    alloc: Global,
+    failed: &mut Failed<'_, '_>,
+    segments: Segments,
+    literal: &[Step],
+    others: &[Step],
+    text: &str,
+) -> Result<Option<usize>, OutOfMemory>
+    requires { IsPlace failed.old others.now (chars text.now) }
+    ensures cut { IfOk result (λ end. IsCutFor (captured (walk others.now)) text.now end
+        (segmented (segments.separator.first ∷ literals literal.now) (single_run segments.is_greedy segments.end) (captured (walk others.now)) [] (chars text.now))) }
+    ensures whole { failed.new ≡ failed.old }
+{
+    let mut begun = Vec::with_capacity(alloc, text.len())?;
+    let mut later = None;
+    let mut front = text;
+    loop {
+        let rest = after_front(text, front);
+        let next = begun_after(&begun, segments.separator.first, literal, rest);
+        let stopping = end_here(alloc, failed, others, next, front.len(), rest)?;
+        let onward = goes_on(rest, segments.end, later);
+        let (beginning, either) = ends(segments.is_greedy, onward, stopping);
+        let Some(shorter) = without_last(front) else {
+            return Ok(beginning);
+        };
+        begun.push(beginning)?;
+        later = either;
+        front = shorter;
+    }
+}
+
+/// Where segments end of which a run may end here: where those after it end, or else here, where the steps take the rest.
+///
+/// The error is that memory ran out.
+#[cycle(following)]
+fn end_here(
+    alloc: Global,
+    failed: &mut Failed<'_, '_>,
+    steps: &[Step],
+    next: Option<usize>,
+    here: usize,
+    rest: &str,
+) -> Result<Option<usize>, OutOfMemory>
+    requires { IsPlace failed.old steps.now (chars rest.now) }
+    ensures end { IfOk result (λ end. IsEndHere next here (walk steps.now (chars rest.now)) end) }
+    ensures whole { failed.new ≡ failed.old }
+{
+    if next.is_some() {
+        return Ok(next);
+    }
+    let mut captures = Vec::new(alloc);
+    if follow(&mut captures, failed, steps, rest)? {
+        Ok(Some(here))
+    } else {
+        Ok(None)
+    }
 }
 
 /// Adds so many captures that are missing.
@@ -190,41 +530,4 @@ fn add_missing(captures: &mut Vec<Option<&str>>, count: usize) -> Result<(), Out
         captures.push(None)?;
     }
     Ok(())
-}
-
-/// The steps after the first so many, if there are more.
-fn pass(steps: &[Step], count: usize) -> &[Step]
-    ensures { result.now ≡ drop count steps.now }
-{
-    steps.get(count..).unwrap_or(&[])
-}
-
-/// Whether the steps are seen to take no text that begins with another character than this.
-pub(crate) fn stop_at(steps: &[Step], end: char) -> bool
-    ensures { IsTrue result → StopAt end steps.now }
-{
-    let mut rest = steps;
-    while let Some((step, others)) = rest.split_first() {
-        match step {
-            Step::Literal(c) => return *c == end,
-            Step::Maybe(group) => {
-                if !begin_with(others, end) {
-                    return false;
-                }
-                rest = pass(others, group.steps);
-            }
-            Step::Segment(_) | Step::Anything => return false,
-        }
-    }
-    true
-}
-
-/// Whether the first step takes this character and no other.
-fn begin_with(steps: &[Step], c: char) -> bool
-    ensures { IsTrue result → StopAt c steps.now }
-{
-    match steps.split_first() {
-        Some((Step::Literal(other), _)) => *other == c,
-        _ => false,
-    }
 }

@@ -1,59 +1,133 @@
-use Rattle.std.proofs.Common.{◌≡◌, ℕ, List, [], ◌++◌, ◌+◌, ◌*◌, ◌≤◌, length, map, option_map}
+use Rattle.std.proofs.Common.{◌≡◌, ℕ, List, [], ◌∷◌, ◌++◌, ◌+◌, ◌*◌, ◌≤◌, length, map, option_map}
 use denote.Text.{Utf8}
 use denote.Shadow.{shadow}
 use Rattle.std.specs.Str.{chars, IsUtf8}
 use Rattle.urlpattern_core.specs.Captured.{capture_view}
 use Rattle.urlpattern_syntax.specs.Text.{line_feed}
-use Rattle.urlpattern_engine.specs.Steps.{captured, longest, shortest, walk}
+use Rattle.urlpattern_engine.specs.Failed.{IsPlace}
+use Rattle.urlpattern_engine.specs.Steps.{after_text, any_rounds, captured, copies_of, literals, longest, longest_run, shortest, up_to_first, walk}
 use Rattle.urlpattern_engine.specs.Taken.{Extends}
-use Rattle.urlpattern_engine.proofs.RunLemmas.{falling}
+use Rattle.urlpattern_engine.proofs.CopyLemmas.{fewer}
+use Rattle.urlpattern_engine.proofs.EndLemmas.{IsTable}
+use Rattle.urlpattern_engine.proofs.FallingLemmas.{falling}
+use Rattle.urlpattern_engine.proofs.LongestLemmas.{at_least}
 use Rattle.urlpattern_engine.proofs.walk.+following.Given as goal
 
 abbrev pub decreases-follow_on : goal.decreases-follow_on
-decreases-follow_on l = 4 * length l.steps.now
+decreases-follow_on l = 10 * length l.steps.now
 
 abbrev pub decreases-follow : goal.decreases-follow
-decreases-follow l = 4 * length l.steps.now + 1
+decreases-follow l = 10 * length l.steps.now + 1
 
 abbrev pub decreases-follow_captured : goal.decreases-follow_captured
-decreases-follow_captured l = 4 * length l.steps.now + 2
+decreases-follow_captured l = 10 * length l.steps.now + 2
+
+abbrev pub decreases-follow_maybe : goal.decreases-follow_maybe
+decreases-follow_maybe l = 10 * length l.others.now + 3
 
 abbrev pub decreases-follow_shortest : goal.decreases-follow_shortest
-decreases-follow_shortest l = 4 * length l.steps.now + 3
+decreases-follow_shortest l = 10 * length l.others.now + 3
 
 abbrev pub decreases-follow_longest : goal.decreases-follow_longest
-decreases-follow_longest l = 4 * length l.steps.now + 3
+decreases-follow_longest l = 10 * length l.others.now + 3
 
 abbrev pub invariant-follow_on-loop-step : goal.invariant-follow_on-loop-step
 invariant-follow_on-loop-step l = record {
   is_text : shadow (Utf8 l.rest);
   shorter : length l.left ≤ length l.fn.steps;
+  place : IsPlace l.failed l.left (chars l.rest);
   so_far : option_map (λ others. map capture_view l.fn.captures.items ++ others) (walk l.fn.steps (chars l.fn.text))
       ≡ option_map (λ others. map capture_view l.captures.items ++ others) (walk l.left (chars l.rest));
   more : Extends l.fn.captures.items l.captures.items;
+  whole : l.failed ≡ l.fn.failed;
 }
 
 abbrev pub decreases-follow_on-loop-step : goal.decreases-follow_on-loop-step
 decreases-follow_on-loop-step l = length l.left
 
-abbrev pub invariant-follow_shortest-loop-c : goal.invariant-follow_shortest-loop-c
-invariant-follow_shortest-loop-c l = record {
+abbrev pub invariant-follow_shortest-loop-remaining : goal.invariant-follow_shortest-loop-remaining
+invariant-follow_shortest-loop-remaining l = record {
   is_text : shadow (Utf8 l.rest);
   so_far : (front : List ℕ) × (chars l.text ≡ front ++ chars l.rest)
-      × (shortest l.end (captured (walk l.steps)) [] (chars l.text) ≡ shortest l.end (captured (walk l.steps)) front (chars l.rest));
+      × (walk l.steps (chars l.text) ≡ shortest l.end (captured (walk l.others)) front (chars l.rest));
   same : l.captures.items ≡ l.fn.captures.items;
+  whole : l.failed ≡ l.fn.failed;
 }
 
-abbrev pub decreases-follow_shortest-loop-c : goal.decreases-follow_shortest-loop-c
-decreases-follow_shortest-loop-c l = length l.rest
+abbrev pub decreases-follow_shortest-loop-remaining : goal.decreases-follow_shortest-loop-remaining
+decreases-follow_shortest-loop-remaining l = length l.rest
 
-abbrev pub invariant-follow_longest-loop-shorter : goal.invariant-follow_longest-loop-shorter
-invariant-follow_longest-loop-shorter l = record {
+abbrev pub invariant-follow_longest-loop-failed : goal.invariant-follow_longest-loop-failed
+invariant-follow_longest-loop-failed l = record {
+  is_text : shadow (Utf8 l.front);
+  so_far : (rest : List ℕ) × IsUtf8 rest × (l.text ≡ l.front ++ rest) × (up_to_first line_feed (chars l.front) ≡ chars l.front)
+      × (longest line_feed (captured (walk l.others)) (chars l.front) (chars rest) ≡ captured (walk l.others) (chars l.front) (chars rest));
+  same : l.captures.items ≡ l.fn.captures.items;
+  whole : l.failed ≡ l.fn.failed;
+}
+
+abbrev pub decreases-follow_longest-loop-failed : goal.decreases-follow_longest-loop-failed
+decreases-follow_longest-loop-failed l = length l.front
+
+abbrev pub decreases-follow_any_copies : goal.decreases-follow_any_copies
+decreases-follow_any_copies l = 10 * length l.others.now + 2
+
+abbrev pub decreases-follow_copies : goal.decreases-follow_copies
+decreases-follow_copies l = 10 * length l.steps.now + 3
+
+abbrev pub invariant-follow_any_copies-loop-shorter : goal.invariant-follow_any_copies-loop-shorter
+invariant-follow_any_copies-loop-shorter l = record {
   is_text : shadow (Utf8 l.front);
   so_far : (rest : List ℕ) × IsUtf8 rest × (l.text ≡ l.front ++ rest)
-      × (longest line_feed (captured (walk l.steps)) [] (chars l.text) ≡ falling (captured (walk l.steps)) [] (chars l.front) (chars rest));
+      × (n : ℕ) × (chars l.front ≡ copies_of n (l.fn.first ∷ literals l.literal))
+      × (any_rounds (after_text (l.fn.first ∷ literals l.literal)) (λ front rest. walk l.others rest) [] (chars l.text) ≡ fewer (l.fn.first ∷ literals l.literal) (walk l.others) n (chars rest));
   same : l.captures.items ≡ l.fn.captures.items;
+  whole : l.failed ≡ l.fn.failed;
 }
 
-abbrev pub decreases-follow_longest-loop-shorter : goal.decreases-follow_longest-loop-shorter
-decreases-follow_longest-loop-shorter l = length l.front
+abbrev pub decreases-follow_any_copies-loop-shorter : goal.decreases-follow_any_copies-loop-shorter
+decreases-follow_any_copies-loop-shorter l = length l.front
+
+abbrev pub decreases-follow_longest_run : goal.decreases-follow_longest_run
+decreases-follow_longest_run l = 10 * length l.steps.now + 3
+
+abbrev pub invariant-follow_longest_run-loop-shorter : goal.invariant-follow_longest_run-loop-shorter
+invariant-follow_longest_run-loop-shorter l = record {
+  is_text : shadow (Utf8 l.front);
+  so_far : (rest : List ℕ) × IsUtf8 rest × (l.text ≡ l.front ++ rest)
+      × (longest_run l.run.may_be_empty l.run.end (captured (walk l.steps)) [] (chars l.text) ≡ falling (at_least l.run.may_be_empty (captured (walk l.steps))) [] (chars l.front) (chars rest));
+  same : l.captures.items ≡ l.fn.captures.items;
+  whole : l.failed ≡ l.fn.failed;
+}
+
+abbrev pub decreases-follow_longest_run-loop-shorter : goal.decreases-follow_longest_run-loop-shorter
+decreases-follow_longest_run-loop-shorter l = length l.front
+
+abbrev pub decreases-follow_run : goal.decreases-follow_run
+decreases-follow_run l = 10 * length l.others.now + 4
+
+abbrev pub decreases-follow_repeated_text : goal.decreases-follow_repeated_text
+decreases-follow_repeated_text l = 10 * length l.others.now + 4
+
+abbrev pub decreases-end_here : goal.decreases-end_here
+decreases-end_here l = 10 * length l.steps.now + 2
+
+abbrev pub decreases-end_of_segments : goal.decreases-end_of_segments
+decreases-end_of_segments l = 10 * length l.others.now + 3
+
+abbrev pub decreases-follow_segments : goal.decreases-follow_segments
+decreases-follow_segments l = 10 * length l.steps.now + 4
+
+abbrev pub invariant-end_of_segments-loop-begun : goal.invariant-end_of_segments-loop-begun
+invariant-end_of_segments-loop-begun l = record {
+  is_text : shadow (Utf8 l.front);
+  so_far : (rest : List ℕ) × IsUtf8 rest × (l.text ≡ l.front ++ rest)
+      × IsTable l.segments.separator.first (literals l.literal) l.segments.is_greedy l.segments.end (captured (walk l.others)) l.text (chars l.front) (chars rest) l.begun.items l.later;
+  whole : l.failed ≡ l.fn.failed;
+}
+
+abbrev pub decreases-end_of_segments-loop-begun : goal.decreases-end_of_segments-loop-begun
+decreases-end_of_segments-loop-begun l = length l.front
+
+abbrev pub decreases-follow_segmented : goal.decreases-follow_segmented
+decreases-follow_segmented l = 10 * length l.others.now + 5

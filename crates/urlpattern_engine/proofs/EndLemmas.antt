@@ -1,0 +1,298 @@
+-- Where runs with a text between each two end, from the end of the text to its front.
+use Rattle.std.proofs.Common.{◌≡◌, ℕ, ◌<◌, ◌⊎◌, inl, inr, List, [], ◌∷◌, ◌++◌, length, get_or, take, drop, Option, Some, None, option_map, Bool, true, false, cond, ◌==◌, refl, sym, ap, ap₂, ◌∙◌, subst, append_assoc, length-append, arith, eq-eqb, eqb-true}
+use Rattle.std.proofs.lemmas.Bool.{false≢true}
+use Rattle.std.proofs.Math.ListN.{get_or-append}
+use Rattle.std.proofs.Math.Seq.{get_or-append_seam, take-append_seam}
+use Rattle.urlpattern_syntax.proofs.StringTexts.{chars-encode}
+use Rattle.std.proofs.lemmas.List.{append_cancel_left}
+use Rattle.std.proofs.lemmas.Str.{chars-append, chars_past_char, IsUtf8-append}
+use Rattle.std.specs.Char.{IsScalar, encode_utf8}
+use Rattle.std.specs.Option.{option_or}
+use Rattle.std.specs.Prelude.{is_some}
+use Rattle.std.specs.Str.{chars, IsUtf8}
+use Rattle.urlpattern_laws.specs.PartMeaning.{Captures}
+use Rattle.urlpattern_engine.specs.declared.step.Segments.{Segments as Segmented}
+use Rattle.urlpattern_engine.specs.declared.step.Step.{Step}
+use Rattle.urlpattern_engine.specs.declared.step.Step.TheVariants.{Segments}
+use Rattle.urlpattern_engine.specs.Steps.{Gives, after_separator, after_text, any_rounds, captured, literals, segmented, single_run, walk, walk_after}
+use Rattle.urlpattern_engine.specs.Taken.{IsCutFor, IsEndHere, going_on}
+use Rattle.urlpattern_engine.proofs.CopyLemmas.{after-found, after-other}
+use Rattle.urlpattern_engine.proofs.Rounds.{any-unrolled}
+use Rattle.urlpattern_engine.proofs.SegmentLemmas.{advances-separator, keeps-segmented}
+use Rattle.urlpattern_engine.proofs.StepLemmas.{walk_after-drop}
+use Rattle.urlpattern_engine.proofs.Tried.{Next}
+
+-- what is first found is cut first
+pub cut-or : (gives : Gives) (text : List ℕ) (n m : Option ℕ) (a b : Option Captures) → IsCutFor gives text n a → IsCutFor gives text m b → IsCutFor gives text (option_or n m) (option_or a b)
+cut-or gives text None m a b one two = subst (λ o. IsCutFor gives text m (option_or o b)) (sym one) two
+cut-or gives text (Some n) m None b (front, rest, u, v, e, f, g, some) two = absurd (some refl)
+cut-or gives text (Some n) m (Some x) b one two = one
+
+-- a text begins with another, or not
+begins_or_not : (characters text : List ℕ) → ((rest : List ℕ) × (text ≡ characters ++ rest)) ⊎ ((rest : List ℕ) → ¬ (text ≡ characters ++ rest))
+begins_or_not [] text = inl (text, refl)
+begins_or_not (c ∷ characters) [] = inr (λ rest e. let f : [] ≡ c ∷ (characters ++ rest) = e in cc)
+begins_or_not (c ∷ characters) (d ∷ text) = by (d == c) refl (begins_or_not characters text)
+  where
+    tail : (rest : List ℕ) → d ∷ text ≡ c ∷ (characters ++ rest) → text ≡ characters ++ rest
+    tail rest e = cc
+
+    head : (rest : List ℕ) → d ∷ text ≡ c ∷ (characters ++ rest) → d ≡ c
+    head rest e = cc
+
+    by : (b : Bool) → (d == c) ≡ b → ((rest : List ℕ) × (text ≡ characters ++ rest)) ⊎ ((rest : List ℕ) → ¬ (text ≡ characters ++ rest))
+        → ((rest : List ℕ) × (d ∷ text ≡ (c ∷ characters) ++ rest)) ⊎ ((rest : List ℕ) → ¬ (d ∷ text ≡ (c ∷ characters) ++ rest))
+    by true e (inl (rest, f)) = inl (rest, ap₂ (λ x l. x ∷ l) (eqb-true d c e) f)
+    by true e (inr other) = inr (λ rest f. other rest (tail rest f))
+    by false e choice = inr (λ rest f. let g : (d == c) ≡ true = eq-eqb d c (head rest f) in false≢true (sym e ∙ g))
+
+module _ (c : ℕ) (literal : List ℕ) (is_greedy : Bool) (end : ℕ) (gives : Gives) where
+  abbrev pub separator : List ℕ
+  separator = c ∷ literal
+
+  -- what is given where a run may end here
+  abbrev pub stops : Gives
+  stops front text = any_rounds (after_separator separator (single_run is_greedy end)) gives front text
+
+  -- where a run begins here
+  abbrev pub begins : Gives
+  begins front text = segmented separator (single_run is_greedy end) gives front text
+
+  -- where a run may end here or later
+  abbrev pub either : Gives
+  either front text = cond is_greedy (begins front text) (option_or (stops front text) (begins front text))
+
+  -- where a run goes on with the first character
+  abbrev pub onward : Gives
+  onward front [] = None
+  onward front (d ∷ text) = cond (d == end) None (either (front ++ d ∷ []) text)
+
+  pub stops_unrolled : (front text : List ℕ) → stops front text ≡ option_or (after_text separator begins front text) (gives front text)
+  stops_unrolled front text = any-unrolled (after_separator separator (single_run is_greedy end)) (advances-separator c literal is_greedy end) gives front text
+
+  -- the table has where segments end that begin after the front at hand, and where a run ends that goes on
+  pub record IsTable (text front rest : List ℕ) (table : List (Option ℕ)) (later : Option ℕ) : Type 0 where
+    pub count : length table ≡ length rest
+    pub entries : (passed left : List ℕ) → rest ≡ passed ++ left → ¬ (passed ≡ []) → IsCutFor gives text (get_or table (length left) None) (begins (front ++ passed) left)
+    pub goes : (d : ℕ) (left : List ℕ) → rest ≡ d ∷ left → IsCutFor gives text later (either (front ++ d ∷ []) left)
+
+  pub table_begun : (text front : List ℕ) → IsTable text front [] [] None
+  table_begun text front = record {
+    count = refl;
+    entries = λ passed left e some. absurd (some (first_nil passed left e));
+    goes = λ d left e. cc;
+  }
+    where
+      first_nil : (passed left : List ℕ) → [] ≡ passed ++ left → passed ≡ []
+      first_nil [] left e = refl
+      first_nil (d ∷ passed) left e = let f : [] ≡ d ∷ (passed ++ left) = e in cc
+
+  -- where the segments end that begin after the text between two
+  pub next_cut : (text front rest : List ℕ) (table : List (Option ℕ)) (later next : Option ℕ) → IsTable text front rest table later
+      → ((left : List ℕ) → rest ≡ separator ++ left → length table ≡ length rest → next ≡ get_or table (length left) None)
+      → (((left : List ℕ) → ¬ (rest ≡ separator ++ left)) → next ≡ None)
+      → IsCutFor gives text next (after_text separator begins front rest)
+  next_cut text front rest table later next is there other = by (begins_or_not separator rest)
+    where
+      by : ((left : List ℕ) × (rest ≡ separator ++ left)) ⊎ ((left : List ℕ) → ¬ (rest ≡ separator ++ left)) → IsCutFor gives text next (after_text separator begins front rest)
+      by (inl (left, e)) =
+          subst (λ o. IsCutFor gives text next o) (sym (ap (after_text separator begins front) e ∙ after-found separator left begins front))
+          (subst (λ n. IsCutFor gives text n (begins (front ++ separator) left)) (sym (there left e is.count)) (is.entries separator left e (λ f. let g : c ∷ literal ≡ [] = f in cc)))
+      by (inr none) =
+          subst (λ o. IsCutFor gives text next o) (sym (after-other separator rest begins front none))
+          (subst (λ n. IsCutFor gives text n None) (sym (other none)) refl)
+
+  -- where the segments end of which a run may end here
+  pub stop_cut : (text front rest : List ℕ) (next here : Option ℕ) → IsCutFor gives text next (after_text separator begins front rest)
+      → IsCutFor gives text here (gives front rest) → IsCutFor gives text (option_or next here) (stops front rest)
+  stop_cut text front rest next here one two =
+      subst (λ o. IsCutFor gives text (option_or next here) o) (sym (stops_unrolled front rest)) (cut-or gives text next here (after_text separator begins front rest) (gives front rest) one two)
+
+  pub onward_cut : (text front rest : List ℕ) (table : List (Option ℕ)) (later : Option ℕ) → IsTable text front rest table later → IsCutFor gives text (going_on end later rest) (onward front rest)
+  onward_cut text front [] table later is = refl
+  onward_cut text front (d ∷ rest) table later is = by (d == end) (is.goes d rest refl)
+    where
+      by : (b : Bool) → IsCutFor gives text later (either (front ++ d ∷ []) rest) → IsCutFor gives text (cond b None later) (cond b None (either (front ++ d ∷ []) rest))
+      by true cut = refl
+      by false cut = cut
+
+-- the parts of a run, by its kind
+pub begins_parts : (c : ℕ) (literal : List ℕ) (is_greedy : Bool) (end : ℕ) (gives : Gives) (front text : List ℕ)
+    → begins c literal is_greedy end gives front text
+    ≡ cond is_greedy (option_or (onward c literal is_greedy end gives front text) (stops c literal is_greedy end gives front text)) (onward c literal is_greedy end gives front text)
+begins_parts c literal true end gives front [] = refl
+begins_parts c literal true end gives front (d ∷ text) = by (d == end)
+  where
+    by : (b : Bool) → cond b (stops c literal true end gives front (d ∷ text)) (option_or (begins c literal true end gives (front ++ d ∷ []) text) (stops c literal true end gives front (d ∷ text)))
+        ≡ option_or (cond b None (begins c literal true end gives (front ++ d ∷ []) text)) (stops c literal true end gives front (d ∷ text))
+    by true = refl
+    by false = refl
+begins_parts c literal false end gives front [] = refl
+begins_parts c literal false end gives front (d ∷ text) = refl
+
+pub either_parts : (c : ℕ) (literal : List ℕ) (is_greedy : Bool) (end : ℕ) (gives : Gives) (front text : List ℕ)
+    → either c literal is_greedy end gives front text
+    ≡ cond is_greedy (option_or (onward c literal is_greedy end gives front text) (stops c literal is_greedy end gives front text))
+    (option_or (stops c literal is_greedy end gives front text) (onward c literal is_greedy end gives front text))
+either_parts c literal true end gives front text = begins_parts c literal true end gives front text
+either_parts c literal false end gives front text = ap (option_or (stops c literal false end gives front text)) (begins_parts c literal false end gives front text)
+
+cut_either : (is_greedy : Bool) (gives : Gives) (text : List ℕ) (n m : Option ℕ) (a b : Option Captures) → IsCutFor gives text n a → IsCutFor gives text m b
+    → IsCutFor gives text (cond is_greedy (option_or n m) (option_or m n)) (cond is_greedy (option_or a b) (option_or b a))
+cut_either true gives text n m a b one two = cut-or gives text n m a b one two
+cut_either false gives text n m a b one two = cut-or gives text m n b a two one
+
+cut_beginning : (is_greedy : Bool) (gives : Gives) (text : List ℕ) (n m : Option ℕ) (a b : Option Captures) → IsCutFor gives text n a → IsCutFor gives text m b
+    → IsCutFor gives text (cond is_greedy (option_or n m) n) (cond is_greedy (option_or a b) a)
+cut_beginning true gives text n m a b one two = cut-or gives text n m a b one two
+cut_beginning false gives text n m a b one two = one
+
+module _ (c : ℕ) (literal : List ℕ) (is_greedy : Bool) (end : ℕ) (gives : Gives) (text : List ℕ) where
+  -- where segments end that begin here
+  pub beginning_cut : (front rest : List ℕ) (forward stopping beginning : Option ℕ)
+      → IsCutFor gives text forward (onward c literal is_greedy end gives front rest) → IsCutFor gives text stopping (stops c literal is_greedy end gives front rest)
+      → beginning ≡ cond is_greedy (option_or forward stopping) forward → IsCutFor gives text beginning (begins c literal is_greedy end gives front rest)
+  beginning_cut front rest forward stopping beginning one two e =
+      subst (λ n. IsCutFor gives text n (begins c literal is_greedy end gives front rest)) (sym e)
+      (subst (λ o. IsCutFor gives text (cond is_greedy (option_or forward stopping) forward) o) (sym (begins_parts c literal is_greedy end gives front rest))
+      (cut_beginning is_greedy gives text forward stopping (onward c literal is_greedy end gives front rest) (stops c literal is_greedy end gives front rest) one two))
+
+  pub either_cut : (front rest : List ℕ) (forward stopping both : Option ℕ)
+      → IsCutFor gives text forward (onward c literal is_greedy end gives front rest) → IsCutFor gives text stopping (stops c literal is_greedy end gives front rest)
+      → both ≡ cond is_greedy (option_or forward stopping) (option_or stopping forward) → IsCutFor gives text both (either c literal is_greedy end gives front rest)
+  either_cut front rest forward stopping both one two e =
+      subst (λ n. IsCutFor gives text n (either c literal is_greedy end gives front rest)) (sym e)
+      (subst (λ o. IsCutFor gives text (cond is_greedy (option_or forward stopping) (option_or stopping forward)) o) (sym (either_parts c literal is_greedy end gives front rest))
+      (cut_either is_greedy gives text forward stopping (onward c literal is_greedy end gives front rest) (stops c literal is_greedy end gives front rest) one two))
+
+  -- an entry more, at a character before
+  pub table_more : (shorter rest : List ℕ) (d : ℕ) (table : List (Option ℕ)) (later beginning both : Option ℕ)
+      → IsTable c literal is_greedy end gives text (shorter ++ d ∷ []) rest table later
+      → IsCutFor gives text beginning (begins c literal is_greedy end gives (shorter ++ d ∷ []) rest)
+      → IsCutFor gives text both (either c literal is_greedy end gives (shorter ++ d ∷ []) rest)
+      → IsTable c literal is_greedy end gives text shorter (d ∷ rest) (table ++ beginning ∷ []) both
+  table_more shorter rest d table later beginning both is begun ended = record {
+    count = omega (arith, length-append table (beginning ∷ []), is.count);
+    entries = entries;
+    goes = λ e left same.
+        let first : d ≡ e = cc in
+        let others : rest ≡ left = cc in
+        subst (λ l. IsCutFor gives text both (either c literal is_greedy end gives (shorter ++ e ∷ []) l)) others
+        (subst (λ x. IsCutFor gives text both (either c literal is_greedy end gives (shorter ++ x ∷ []) rest)) first ended);
+  }
+    where
+      later_entries : (e : ℕ) (passed left : List ℕ) → d ≡ e → rest ≡ passed ++ left
+          → IsCutFor gives text (get_or (table ++ beginning ∷ []) (length left) None) (begins c literal is_greedy end gives (shorter ++ e ∷ passed) left)
+      later_entries e [] left first same =
+          let n : length left ≡ length table = sym (ap length same) ∙ sym is.count in
+          subst (λ x. IsCutFor gives text (get_or (table ++ beginning ∷ []) (length left) None) (begins c literal is_greedy end gives (shorter ++ x ∷ []) left)) first
+          (subst (λ l. IsCutFor gives text (get_or (table ++ beginning ∷ []) (length left) None) (begins c literal is_greedy end gives (shorter ++ d ∷ []) l)) same
+          (subst (λ v. IsCutFor gives text v (begins c literal is_greedy end gives (shorter ++ d ∷ []) rest)) (sym (ap (λ k. get_or (table ++ beginning ∷ []) k None) n ∙ get_or-append_seam table beginning [] None)) begun))
+      later_entries e (f ∷ passed) left first same =
+          let lt : length left < length table = omega (arith, is.count, ap length same, length-append passed left) in
+          let fronts : (shorter ++ d ∷ []) ++ (f ∷ passed) ≡ shorter ++ e ∷ (f ∷ passed) = append_assoc shorter (d ∷ []) (f ∷ passed) ∙ ap (λ x. shorter ++ x ∷ (f ∷ passed)) first in
+          subst (λ l. IsCutFor gives text (get_or (table ++ beginning ∷ []) (length left) None) (begins c literal is_greedy end gives l left)) fronts
+          (subst (λ v. IsCutFor gives text v (begins c literal is_greedy end gives ((shorter ++ d ∷ []) ++ (f ∷ passed)) left)) (sym (get_or-append table (beginning ∷ []) None (length left) lt))
+          (is.entries (f ∷ passed) left same (λ none. cc)))
+
+      entries : (passed left : List ℕ) → d ∷ rest ≡ passed ++ left → ¬ (passed ≡ [])
+          → IsCutFor gives text (get_or (table ++ beginning ∷ []) (length left) None) (begins c literal is_greedy end gives (shorter ++ passed) left)
+      entries [] left same some = absurd (some refl)
+      entries (e ∷ passed) left same some =
+          let whole : d ∷ rest ≡ e ∷ (passed ++ left) = same in
+          let first : d ≡ e = cc in
+          let others : rest ≡ passed ++ left = cc in
+          later_entries e passed left first others
+
+-- ---- the end here
+
+-- where a run may end, by where it ends here
+pub here_cut : (next : Next) (text front rest : List ℕ) (following end : Option ℕ) (n : ℕ) → IsUtf8 front → IsUtf8 rest → text ≡ front ++ rest → length front ≡ n
+    → IsEndHere following n (next (chars rest)) end
+    → (here : Option ℕ) × (end ≡ option_or following here) × IsCutFor (captured next) text here (captured next (chars front) (chars rest))
+here_cut next text front rest (Some m) end n u v e same is = by (next (chars rest)) refl
+  where
+    by : (o : Option Captures) → next (chars rest) ≡ o → (here : Option ℕ) × (end ≡ Some m) × IsCutFor (captured next) text here (captured next (chars front) (chars rest))
+    by None none = (None, is, ap (option_map (λ others. Some (chars front) ∷ others)) none)
+    by (Some x) some = (Some n, is, (front, rest, u, v, e, same, refl, λ none. let f = sym (ap (option_map (λ others. Some (chars front) ∷ others)) some) ∙ none in cc))
+here_cut next text front rest None None n u v e same is = (None, refl, ap (option_map (λ others. Some (chars front) ∷ others)) is)
+here_cut next text front rest None (Some m) n u v e same (is, some) =
+    (Some m, refl, (front, rest, u, v, e, same ∙ sym is, refl, λ none. some (mapped_none (next (chars rest)) none)))
+  where
+    mapped_none : (o : Option Captures) → option_map (λ others. Some (chars front) ∷ others) o ≡ None → o ≡ None
+    mapped_none None e = refl
+    mapped_none (Some x) e = cc
+
+-- what is known at a place: where segments end that begin here, and where a run ends that may end here
+pub place_cuts : (c : ℕ) (literal : List ℕ) (is_greedy : Bool) (end : ℕ) (next : Next) (text front rest : List ℕ) (table : List (Option ℕ)) (later following stopping forward beginning both : Option ℕ) (n : ℕ)
+    → IsUtf8 front → IsUtf8 rest → text ≡ front ++ rest → length front ≡ n
+    → IsTable c literal is_greedy end (captured next) text (chars front) (chars rest) table later
+    → ((left : List ℕ) → chars rest ≡ (c ∷ literal) ++ left → length table ≡ length (chars rest) → following ≡ get_or table (length left) None)
+    → (((left : List ℕ) → ¬ (chars rest ≡ (c ∷ literal) ++ left)) → following ≡ None)
+    → IsEndHere following n (next (chars rest)) stopping
+    → forward ≡ going_on end later (chars rest)
+    → beginning ≡ cond is_greedy (option_or forward stopping) forward
+    → both ≡ cond is_greedy (option_or forward stopping) (option_or stopping forward)
+    → IsCutFor (captured next) text beginning (begins c literal is_greedy end (captured next) (chars front) (chars rest))
+    × IsCutFor (captured next) text both (either c literal is_greedy end (captured next) (chars front) (chars rest))
+place_cuts c literal is_greedy end next text front rest table later following stopping forward beginning both n u v e same is there other stop onwards one two =
+    let here = here_cut next text front rest following stopping n u v e same stop in
+    let after : IsCutFor (captured next) text following (after_text (c ∷ literal) (begins c literal is_greedy end (captured next)) (chars front) (chars rest)) =
+    next_cut c literal is_greedy end (captured next) text (chars front) (chars rest) table later following is there other in
+    let stopped : IsCutFor (captured next) text stopping (stops c literal is_greedy end (captured next) (chars front) (chars rest)) =
+    subst (λ o. IsCutFor (captured next) text o (stops c literal is_greedy end (captured next) (chars front) (chars rest))) (sym here.1)
+    (stop_cut c literal is_greedy end (captured next) text (chars front) (chars rest) following here.0 after here.2) in
+    let went : IsCutFor (captured next) text forward (onward c literal is_greedy end (captured next) (chars front) (chars rest)) =
+    subst (λ o. IsCutFor (captured next) text o (onward c literal is_greedy end (captured next) (chars front) (chars rest))) (sym onwards)
+    (onward_cut c literal is_greedy end (captured next) text (chars front) (chars rest) table later is) in (
+      beginning_cut c literal is_greedy end (captured next) text (chars front) (chars rest) forward stopping beginning went stopped one,
+      either_cut c literal is_greedy end (captured next) text (chars front) (chars rest) forward stopping both went stopped two,
+    )
+
+-- ---- one place
+
+pub end_next : (next : Option ℕ) (here : ℕ) (found : Option Captures) → is_some next ≡ true → IsEndHere next here found next
+end_next None here found e = absurd (false≢true e)
+end_next (Some n) here found e = refl
+
+pub end_some : (next : Option ℕ) (here : ℕ) (found : Option Captures) → is_some next ≡ false → ¬ (found ≡ None) → IsEndHere next here found (Some here)
+end_some None here found e some = (refl, some)
+end_some (Some n) here found e some = absurd (false≢true (sym e))
+
+pub end_none : (next : Option ℕ) (here : ℕ) (found : Option Captures) → is_some next ≡ false → found ≡ None → IsEndHere next here found None
+end_none None here found e none = none
+end_none (Some n) here found e none = absurd (false≢true (sym e))
+
+-- the step of segments, by its parts
+pub segments_step : (segments : Segmented) (steps literal others : List Step) (text : List ℕ) → literal ≡ take segments.separator.others steps → others ≡ drop segments.separator.others steps
+    → walk (Segments segments ∷ steps) text ≡ segmented (segments.separator.first ∷ literals literal) (single_run segments.is_greedy segments.end) (captured (walk others)) [] text
+segments_step segments steps literal others text e f =
+    ap (λ l. segmented (segments.separator.first ∷ literals l) (single_run segments.is_greedy segments.end) (captured (walk_after segments.separator.others steps)) [] text) (sym e)
+    ∙ (keeps-segmented segments.separator.first (literals literal) segments.is_greedy segments.end).same (captured (walk_after segments.separator.others steps)) (captured (walk others)) [] text
+    (λ before rest le.
+    ap (option_map (λ more. Some before ∷ more)) (walk_after-drop segments.separator.others steps rest ∙ ap (λ l. walk l rest) (sym f)))
+
+-- ---- the whole text
+
+-- both parts are the same where the fronts are of one length
+pub same_fronts : (front rest front' rest' : List ℕ) → front ++ rest ≡ front' ++ rest' → length front ≡ length front' → (front ≡ front') × (rest ≡ rest')
+same_fronts front rest front' rest' e n =
+    let fronts : front ≡ front' = sym (take-append_seam front rest) ∙ ap₂ take n e ∙ take-append_seam front' rest' in
+    (fronts, append_cancel_left front rest rest' (e ∙ ap (λ f. f ++ rest') (sym fronts)))
+
+-- the table at the character before
+pub table_next : (c : ℕ) (literal : List ℕ) (is_greedy : Bool) (end : ℕ) (gives : Gives) (text front shorter rest : List ℕ) (d : ℕ) (table more : List (Option ℕ)) (later beginning both : Option ℕ)
+    → IsUtf8 shorter → IsUtf8 rest → IsScalar d → IsUtf8 (encode_utf8 d) → front ≡ shorter ++ encode_utf8 d → more ≡ table ++ beginning ∷ []
+    → IsTable c literal is_greedy end gives text (chars front) (chars rest) table later
+    → IsCutFor gives text beginning (begins c literal is_greedy end gives (chars front) (chars rest))
+    → IsCutFor gives text both (either c literal is_greedy end gives (chars front) (chars rest))
+    → IsTable c literal is_greedy end gives text (chars shorter) (chars (encode_utf8 d ++ rest)) more both
+table_next c literal is_greedy end gives text front shorter rest d table more later beginning both u v scalar w e f is one two =
+    let spelled : chars front ≡ chars shorter ++ d ∷ [] = ap chars e ∙ chars-append shorter (encode_utf8 d) u ∙ ap (λ l. chars shorter ++ l) (chars-encode d scalar) in
+    let longer : chars (encode_utf8 d ++ rest) ≡ d ∷ chars rest = chars_past_char (encode_utf8 d ++ rest) rest d (IsUtf8-append (encode_utf8 d) rest w v) refl in
+    subst (λ l. IsTable c literal is_greedy end gives text (chars shorter) l more both) (sym longer)
+    (subst (λ t. IsTable c literal is_greedy end gives text (chars shorter) (d ∷ chars rest) t both) (sym f)
+    (table_more c literal is_greedy end gives text (chars shorter) (chars rest) d table later beginning both
+    (subst (λ l. IsTable c literal is_greedy end gives text l (chars rest) table later) spelled is)
+    (subst (λ l. IsCutFor gives text beginning (begins c literal is_greedy end gives l (chars rest))) spelled one)
+    (subst (λ l. IsCutFor gives text both (either c literal is_greedy end gives l (chars rest))) spelled two)))

@@ -1,0 +1,17 @@
+use Rattle.std.proofs.Common.{◌≡◌, ◌<◌, ℕ, List, ◌∷◌, ◌++◌, length}
+use denote.Text.{Utf8}
+use denote.Shadow.{shadow}
+use Rattle.std.specs.Str.{chars}
+use Rattle.urlpattern_engine.specs.Steps.{literals}
+use Rattle.urlpattern_engine.proofs.repeats.after_literals.Given as goal
+
+abbrev pub invariant-loop-step : goal.invariant-loop-step
+invariant-loop-step l = record {
+  is_text : shadow (Utf8 l.rest);
+  there : (end : List ℕ) → chars l.rest ≡ literals l.left ++ end → chars l.text ≡ l.fn.first ∷ (literals l.literal ++ end);
+  back : (end : List ℕ) → chars l.text ≡ l.fn.first ∷ (literals l.literal ++ end) → chars l.rest ≡ literals l.left ++ end;
+  shorter : length l.rest < length l.text;
+}
+
+abbrev pub decreases-loop-step : goal.decreases-loop-step
+decreases-loop-step l = length l.left

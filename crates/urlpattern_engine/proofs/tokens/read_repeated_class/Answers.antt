@@ -1,0 +1,11 @@
+use Rattle.std.specs.Str.{chars}
+use Rattle.urlpattern_laws.specs.Dialect.{IsClassCharacter}
+use Rattle.urlpattern_engine.specs.Reading.{BeginsWithCharacter}
+use Rattle.urlpattern_engine.proofs.TokenLemmas.{lazy_class}
+use Rattle.urlpattern_engine.proofs.tokens.read_repeated_class.Goals as goal
+
+pub returns-clause-step : goal.returns-clause-step
+returns-clause-step c =
+    let character : BeginsWithCharacter IsClassCharacter (chars c.args.text.now) c.in_ok-c.c (chars c.in_ok-c.rest.now) = rw (c.in_ok-c.c-is, c.in_ok-c.rest-is) c.in_ok-c.ensures.character in
+    lazy_class (chars c.args.text.now) (chars c.in_ok-c.rest.now) (chars c.in_ok-after.field-0.now) (chars c.in_ok-after_lazy_plus.field-0.now) c.in_ok-c.c
+    character c.in_ok-after.ensures.cut c.in_ok-after_lazy_plus.ensures.cut

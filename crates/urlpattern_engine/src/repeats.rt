@@ -1,0 +1,143 @@
+//! Texts that are repeated, by the steps that they are made up of.
+
+ghost use Rattle.std.specs.Prelude.{◌≡◌, ◌≢◌, ◌∷◌, ◌++◌, ℕ, suc, ◌<◌, List, length, None, IfNone, IfSome, drop, get_or, take, if◌then◌else◌};
+ghost use Rattle.std.specs.Option.{option_or};
+ghost use Rattle.std.specs.Str.{chars, IsUtf8};
+ghost use Rattle.urlpattern_engine.specs.Steps.{copies_of, literals};
+ghost use Rattle.urlpattern_engine.specs.Taken.{going_on};
+
+use crate::step::Step;
+use crate::texts::{after, split_first, without_last};
+
+/// The steps after the first so many, if there are more.
+pub(crate) fn pass(steps: &[Step], count: usize) -> &[Step]
+    ensures { result.now ≡ drop count steps.now }
+{
+    steps.get(count..).unwrap_or(&[])
+}
+
+/// The first so many steps, or all where there are fewer.
+pub(crate) fn first_steps(steps: &[Step], count: usize) -> &[Step]
+    ensures { result.now ≡ take count steps.now }
+{
+    steps.get(..count).unwrap_or(steps)
+}
+
+/// What follows a text in another that begins with it: the first character and those of the literal steps.
+pub(crate) fn after_literals<'t>(text: &'t str, first: char, literal: &[Step]) -> Option<&'t str>
+    ensures cut { IfSome result (λ rest. chars text.now ≡ first ∷ literals literal.now ++ chars rest.now) }
+    ensures other { IfNone result ((rest : List ℕ) → chars text.now ≢ first ∷ literals literal.now ++ rest) }
+    ensures len { IfSome result (λ rest. length rest.now < length text.now) }
+{
+    let mut rest = after(text, first)?;
+    let mut left = literal;
+    while let Some((step, others)) = left.split_first() {
+        if let Step::Literal(c) = step {
+            let Some(remaining) = after(rest, *c) else {
+                return None;
+            };
+            rest = remaining;
+        }
+        left = others;
+    }
+    Some(rest)
+}
+
+/// What follows all copies of a text at the front of another: of the first character and those of the literal steps.
+pub(crate) fn skip_copies<'t>(text: &'t str, first: char, literal: &[Step]) -> &'t str
+    ensures front { (n : ℕ) × (chars text.now ≡ copies_of n (first ∷ literals literal.now) ++ chars result.now) }
+    ensures all { (rest : List ℕ) → chars result.now ≢ first ∷ literals literal.now ++ rest }
+{
+    let mut rest = text;
+    while let Some(remaining) = after_literals(rest, first, literal) {
+        rest = remaining;
+    }
+    rest
+}
+
+/// A text without its last characters, one and as many as there are literal steps. `None`: it has not so many.
+pub(crate) fn without_copy<'t>(text: &'t str, literal: &[Step]) -> Option<&'t str>
+    ensures few { IfNone result (length (chars text.now) < suc (length (literals literal.now))) }
+    ensures cut { IfSome result (λ front. (end : List ℕ) × IsUtf8 end × (text.now ≡ front.now ++ end) × (length (chars end) ≡ suc (length (literals literal.now)))) }
+    ensures len { IfSome result (λ front. length front.now < length text.now) }
+{
+    let Some(mut front) = without_last(text) else {
+        return None;
+    };
+    let mut left = literal;
+    while let Some((step, others)) = left.split_first() {
+        if let Step::Literal(_) = step {
+            let Some(shorter) = without_last(front) else {
+                return None;
+            };
+            front = shorter;
+        }
+        left = others;
+    }
+    Some(front)
+}
+
+/// How many of the steps are literal.
+fn literal_count(literal: &[Step]) -> usize
+    ensures { result ≡ length (literals literal.now) }
+{
+    let mut count = 0;
+    let mut left = literal;
+    while let Some((step, others)) = left.split_first() {
+        if let Step::Literal(_) = step {
+            count += 1;
+        }
+        left = others;
+    }
+    count
+}
+
+/// What the table has for the text that follows the first character and those of the literal steps. The table has an entry for each
+/// end of the text that has fewer characters, from the shortest on.
+pub(crate) fn begun_after(
+    table: &[Option<usize>],
+    first: char,
+    literal: &[Step],
+    text: &str,
+) -> Option<usize>
+    ensures there { (rest : List ℕ) → chars text.now ≡ first ∷ literals literal.now ++ rest → length table.now ≡ length (chars text.now)
+        → result ≡ get_or table.now (length rest) None }
+    ensures other { ((rest : List ℕ) → chars text.now ≢ first ∷ literals literal.now ++ rest) → result ≡ None }
+{
+    after_literals(text, first, literal)?;
+    let index = table
+        .len()
+        .checked_sub(literal_count(literal))?
+        .checked_sub(1)?;
+    match table.get(index) {
+        Some(entry) => *entry,
+        None => None,
+    }
+}
+
+/// Where a run ends that goes on with the first character of a text, by where it ends later. `None`: it does not go on.
+pub(crate) fn goes_on(text: &str, end: char, later: Option<usize>) -> Option<usize>
+    ensures { result ≡ going_on end later (chars text.now) }
+{
+    match split_first(text) {
+        Some((c, _)) if c != end => later,
+        _ => None,
+    }
+}
+
+/// Where a run ends that begins here, and one that may end here, by where it ends if it goes on and if it stops here.
+pub(crate) fn ends(
+    is_greedy: bool,
+    onward: Option<usize>,
+    stopping: Option<usize>,
+) -> (Option<usize>, Option<usize>)
+    ensures beginning { result.0 ≡ (if is_greedy then option_or onward stopping else onward) }
+    ensures either { result.1 ≡ (if is_greedy then option_or onward stopping else option_or stopping onward) }
+{
+    if is_greedy {
+        let either = onward.or(stopping);
+        (either, either)
+    } else {
+        (onward, stopping.or(onward))
+    }
+}

@@ -1,0 +1,72 @@
+//! Runs of characters in a match.
+
+ghost use Rattle.std.specs.Prelude.{◌≡◌, ◌≢◌, ◌∷◌, ◌++◌, [], ◌⊎◌, ℕ, ◌<◌, List, length, None, IfNone, IfSome, IsTrue};
+ghost use Rattle.std.specs.Str.{chars, IsUtf8};
+ghost use Rattle.urlpattern_engine.specs.Failed.{HasEnded, IsPlace};
+ghost use Rattle.urlpattern_engine.specs.Steps.{up_to_first, walk, StopAt};
+ghost use Rattle.urlpattern_syntax.specs.Text.{line_feed};
+
+use crate::failed::Failed;
+use crate::step::Step;
+use crate::stops::stop_at;
+use crate::texts::split_first;
+use urlpattern_syntax::tokenizer::before;
+
+/// Whether a run before these steps can only end at this character, and nothing is to be remembered of it.
+pub(crate) fn has_one_end(failed: &Failed<'_, '_>, steps: &[Step], end: char) -> bool
+    ensures { IsTrue result → StopAt end steps.now }
+{
+    !failed.has_room() && stop_at(steps, end)
+}
+
+/// The next character of the run that is the first of the steps, and what follows it. `None`: the run has ended, or is known to
+/// have failed from here on.
+pub(crate) fn next_of_run<'t>(
+    failed: &Failed<'_, '_>,
+    end: char,
+    steps: &[Step],
+    text: &'t str,
+) -> Option<(char, &'t str)>
+    requires { IsPlace failed.now steps.now (chars text.now) }
+    ensures none { IfNone result (HasEnded end steps.now (chars text.now)) }
+    ensures cut { IfSome result (λ next. chars text.now ≡ next.0 ∷ chars next.1.now) }
+    ensures other { IfSome result (λ next. next.0 ≢ end) }
+    ensures len { IfSome result (λ next. length next.1.now < length text.now) }
+{
+    if failed.contains(steps, text) {
+        return None;
+    }
+    let (c, rest) = split_first(text)?;
+    if c == end { None } else { Some((c, rest)) }
+}
+
+/// The longest front of a text for the run that is the first of the steps, or a shorter one after which the run is known to have
+/// failed.
+pub(crate) fn longest_front<'t>(failed: &Failed<'_, '_>, steps: &[Step], text: &'t str) -> &'t str
+    requires { IsPlace failed.now steps.now (chars text.now) }
+    ensures { (rest : List ℕ) × IsUtf8 rest × (text.now ≡ result.now ++ rest) × (up_to_first line_feed (chars result.now) ≡ chars result.now)
+        × HasEnded line_feed steps.now (chars rest) }
+{
+    let mut rest = text;
+    while let Some((_, remaining)) = next_of_run(failed, '\n', steps, rest) {
+        rest = remaining;
+    }
+    before(text, rest)
+}
+
+/// Remembers each place of a run, the first of the steps, that failed from the text on.
+pub(crate) fn remember_run(failed: &mut Failed<'_, '_>, end: char, steps: &[Step], text: &str)
+    requires place { IsPlace failed.old steps.now (chars text.now) }
+    requires first { (others : List Step) × (steps.now ≡ Step.Segment end ∷ others) }
+    requires dead { walk steps.now (chars text.now) ≡ None }
+    ensures { failed.new ≡ failed.old }
+{
+    if !failed.has_room() {
+        return;
+    }
+    let mut rest = text;
+    while let Some((_, remaining)) = next_of_run(failed, end, steps, rest) {
+        failed.insert(steps, rest);
+        rest = remaining;
+    }
+}
