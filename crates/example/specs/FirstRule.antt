@@ -1,12 +1,12 @@
 -- What stands beside the first pattern that matches.
-use Rattle.std.specs.Prelude.{◌≡◌, List, Option, None, Some, slice_get}
+use Rattle.std.specs.Prelude.{◌≡◌, ℕ, List, Option, None, Some, slice_get}
 use Rattle.urlpattern.specs.FirstMatch.{FirstView, IsFirstMatch}
-use Rattle.urlpattern.specs.FromString.{Answer}
 use Rattle.urlpattern.specs.Patterns.{PatternView}
+use Rattle.urlpattern.specs.PartMeaning.{Captures}
 use Rattle.urlpattern_init.specs.declared.init.UrlPatternMatchInput.{UrlPatternMatchInput}
 
 -- the rule beside the first pattern of the list that matches the input, or none where no pattern does
-abbrev pub IsOfFirst : {E A : Type 0} → Answer E → List (PatternView E) → (rules : List A) → UrlPatternMatchInput → Option A → Type 0
+abbrev pub IsOfFirst : {E A : Type 0} → (answer : E → List ℕ → Option Captures) → List (PatternView E) → (rules : List A) → UrlPatternMatchInput → Option A → Type 0
 IsOfFirst answer patterns rules input (Some rule) =
     (first : FirstView) × IsFirstMatch answer patterns input (Some first) × (slice_get rules first.0 ≡ Some rule)
 IsOfFirst answer patterns rules input None = IsFirstMatch answer patterns input None

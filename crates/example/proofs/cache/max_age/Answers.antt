@@ -5,14 +5,14 @@ use Rattle.std.specs.Prelude.{None, Option, Some, slice_get}
 use Rattle.example.specs.FirstRule.{IsOfFirst}
 use Rattle.urlpattern.specs.Captures.{captures_view}
 use Rattle.urlpattern.specs.FirstMatch.{FirstView, IsFirstMatch, patterns_view}
-use Rattle.urlpattern.specs.FromString.{Answer}
 use Rattle.urlpattern.specs.Patterns.{PatternView, pattern_view}
+use Rattle.urlpattern.specs.PartMeaning.{Captures}
 use Rattle.urlpattern_init.specs.declared.init.UrlPatternMatchInput.{UrlPatternMatchInput}
 use Rattle.urlpattern_init.specs.declared.init.UrlPatternMatchInput.TheVariants as inputs
 use Rattle.example.proofs.cache.max_age.Goals as goal
 
 -- what stands at the index of the first match is the rule
-rule_of : {E A : Type 0} (answer : Answer E) (patterns : List (PatternView E)) (rules : List A) (input : UrlPatternMatchInput) (first : FirstView) (found : Option A)
+rule_of : {E A : Type 0} (answer : E → List ℕ → Option Captures) (patterns : List (PatternView E)) (rules : List A) (input : UrlPatternMatchInput) (first : FirstView) (found : Option A)
     → length rules ≡ length patterns → IsFirstMatch answer patterns input (Some first) → found ≡ slice_get rules first.0 → IsOfFirst answer patterns rules input found
 rule_of answer patterns rules input first (Some rule) beside is_first is = (first, is_first, sym is)
 rule_of answer patterns rules input first None beside is_first is =
