@@ -1,8 +1,8 @@
 //! An engine for the regular expressions that components are made of.
 //!
 //! [`PatternRegexp`] matches by itself an expression of texts and their copies, of groups that capture a run of characters or such
-//! runs with a text between each two, and of groups that may be missing, where these leave few choices; and leaves every other to
-//! `regex::Regex`. It answers what `regex::Regex` answers.
+//! runs with a text between each two, and of groups that may be missing, but where a repeated group follows another choice; and
+//! leaves every other to `regex::Regex`. It answers what `regex::Regex` answers.
 #![tactic(auto)]
 
 mod choices;

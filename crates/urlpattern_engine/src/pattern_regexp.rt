@@ -16,7 +16,8 @@ use urlpattern_core::regexp::RegExp;
 
 /// An engine that answers what `regex::Regex` answers.
 ///
-/// It matches an expression itself where few choices are left to it, and else by a `regex::Regex`.
+/// It matches by itself an expression of texts and groups as patterns have them, but where a repeated group follows another choice;
+/// and every other by a `regex::Regex`.
 #[derive(Drop)]
 pub struct PatternRegexp {
     expression: Expression,
