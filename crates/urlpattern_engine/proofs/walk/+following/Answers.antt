@@ -392,8 +392,6 @@ follow_on-returns-in-Longest-clause-adds n c =
     let old = c.args.captures.now.items in
     let now = c.loop-step.captures.items in
     let rest = chars c.loop-step.rest.now in
-    let others = c.in-Some.others.now in
-    let left : c.loop-step.left.now ≡ Longest c.in-Longest.run ∷ others = c.in-Some.ensures.cases.0 ∙ ap (λ (s : Step). s ∷ others) c.in-Longest.is in
     later_adds old now c.follow_run.new.captures.items (walk c.args.steps.now (chars c.args.text.now)) (walk c.loop-step.left.now rest) c.follow_run.result
     c.loop-step.invariant.so_far c.follow_run.ensures.adds
 
@@ -570,8 +568,6 @@ follow_on-returns-in-Copies-clause-adds n c =
     let old = c.args.captures.now.items in
     let now = c.loop-step.captures.items in
     let rest = chars c.loop-step.rest.now in
-    let others = c.in-Some.others.now in
-    let left : c.loop-step.left.now ≡ Copies c.in-Copies.copies ∷ others = c.in-Some.ensures.cases.0 ∙ ap (λ (s : Step). s ∷ others) c.in-Copies.is in
     later_adds old now c.follow_repeated_text.new.captures.items (walk c.args.steps.now (chars c.args.text.now)) (walk c.loop-step.left.now rest) c.follow_repeated_text.result
     c.loop-step.invariant.so_far c.follow_repeated_text.ensures.adds
 
@@ -619,7 +615,7 @@ pub follow_copies-follow_any_copies-requires : goal.follow_copies-follow_any_cop
 follow_copies-follow_any_copies-requires n c =
     let steps = c.args.steps.now in
     let text = chars c.args.text.now in (
-      search rules,
+      omega (arith, ap length c.pass-others.ensures, length-drop c.args.copies.text.others c.args.steps.now),
       place_within c.args.failed.now c.args.failed.now steps c.pass-others.result.now text text refl c.requires.1.1
           (subst (EndsWith steps) (sym c.pass-others.ensures) (ends_drop c.args.copies.text.others steps)) (ends_same text),
     )
@@ -628,7 +624,7 @@ pub follow_copies-follow_any_copies-requires-in-Some : goal.follow_copies-follow
 follow_copies-follow_any_copies-requires-in-Some n c =
     let steps = c.args.steps.now in
     let text = chars c.args.text.now in (
-      search rules,
+      omega (arith, ap length c.pass-others.ensures, length-drop c.args.copies.text.others c.args.steps.now),
       place_within c.args.failed.now c.args.failed.now steps c.pass-others.result.now text (chars c.in-Some.rest.now) refl c.requires.1.1
           (subst (EndsWith steps) (sym c.pass-others.ensures) (ends_drop c.args.copies.text.others steps))
           (c.args.copies.text.first ∷ literals c.first_steps-literal.result.now, c.in-Some.ensures.cut),
@@ -822,7 +818,7 @@ pub follow_segments-end_of_segments-requires : goal.follow_segments-end_of_segme
 follow_segments-end_of_segments-requires n c =
     let steps = c.args.steps.now in
     let text = chars c.args.text.now in (
-      search rules,
+      omega (arith, ap length c.pass-others.ensures, length-drop c.args.segments.separator.others c.args.steps.now),
       place_within c.args.failed.now c.args.failed.now steps c.pass-others.result.now text text refl c.requires.1.1
           (subst (EndsWith steps) (sym c.pass-others.ensures) (ends_drop c.args.segments.separator.others steps)) (ends_same text),
     )
@@ -834,7 +830,7 @@ follow_segments-follow_captured-requires n c =
     let front = c.split_at_seam.result.0.now in
     let rest = c.split_at_seam.result.1.now in
     let utf8 : IsUtf8 front = search rules in (
-      search rules,
+      omega (arith, ap length c.pass-others.ensures, length-drop c.args.segments.separator.others c.args.steps.now),
       place_within c.args.failed.now c.end_of_segments.new.failed steps c.pass-others.result.now (chars text) (chars rest) c.end_of_segments.ensures.whole c.requires.1.1
           (subst (EndsWith steps) (sym c.pass-others.ensures) (ends_drop c.args.segments.separator.others steps)) (chars_end text front rest utf8 c.split_at_seam.ensures.cut),
     )
@@ -855,8 +851,6 @@ follow_on-returns-in-Segments-clause-adds n c =
     let old = c.args.captures.now.items in
     let now = c.loop-step.captures.items in
     let rest = chars c.loop-step.rest.now in
-    let others = c.in-Some.others.now in
-    let left : c.loop-step.left.now ≡ Segments c.in-Segments.segments ∷ others = c.in-Some.ensures.cases.0 ∙ ap (λ (s : Step). s ∷ others) c.in-Segments.is in
     later_adds old now c.follow_segmented.new.captures.items (walk c.args.steps.now (chars c.args.text.now)) (walk c.loop-step.left.now rest) c.follow_segmented.result
     c.loop-step.invariant.so_far c.follow_segmented.ensures.adds
 
@@ -915,8 +909,8 @@ end_of_segments-loop-begun-init n c =
       whole = refl;
     }
 
-pub end_of_segments-returns-in_default : goal.end_of_segments-returns-in_default
-end_of_segments-returns-in_default n c =
+pub end_of_segments-returns-in_default-clause-cut : goal.end_of_segments-returns-in_default-clause-cut
+end_of_segments-returns-in_default-clause-cut n c =
     let first = c.args.segments.separator.first in
     let literal = literals c.args.literal.now in
     let is_greedy = c.args.segments.is_greedy in
