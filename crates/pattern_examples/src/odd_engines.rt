@@ -103,7 +103,7 @@ fn captures_that_are_too_many_too_few_or_foreign(rt: HostRuntime) -> Result<(), 
 struct Failing<const HAS_MEMORY: bool>;
 
 impl<const HAS_MEMORY: bool> RegExp for Failing<HAS_MEMORY> {
-    ghost use Rattle.std.specs.Prelude.{[], None};
+    ghost use Rattle.std.specs.Prelude.{⊤, [], None};
     ghost use Rattle.urlpattern.specs.RegexSyntax.TheVariants.{Rust};
 
     ghost syntax_of = { Rust };
