@@ -1,7 +1,7 @@
-use Rattle.std.proofs.Common.{◌≡◌, ◌<◌, ◌≤◌, ℕ, List, map, length, arith, inl, inr, sym, ◌∙◌}
+use Rattle.std.proofs.Common.{◌≡◌, ◌<◌, ◌≤◌, ℕ, List, map, length, arith, rules, inl, inr, sym, ◌∙◌}
 use Rattle.std.proofs.lemmas.List.{length-map}
 use Rattle.std.proofs.lemmas.Option.{slice_get_cases, slice_get_within}
-use Rattle.std.specs.Prelude.{None, Option, Some, slice_get}
+use Rattle.std.specs.Prelude.{None, Option, Some, option_copied, slice_get}
 use Rattle.example.specs.FirstRule.{IsOfFirst}
 use Rattle.urlpattern.specs.Captures.{captures_view}
 use Rattle.urlpattern.specs.FirstMatch.{FirstView, IsFirstMatch, patterns_view}
@@ -22,5 +22,6 @@ rule_of answer patterns rules input first None beside is_first is =
 pub returns-clause-first : goal.returns-clause-first
 returns-clause-first g c =
     let patterns = c.args.patterns.now in
+    let read : option_copied c.get.result ≡ slice_get c.args.ages.now c.in-Some.index = search rules in
     rule_of g.R.RegExp.answer (patterns_view patterns) c.args.ages.now (inputs.Url c.args.url.now) (c.in-Some.index, captures_view c.in-Some.found) c.copied.result
-    (c.requires ∙ sym (length-map patterns (λ pattern. pattern_view pattern))) (rw c.in-Some.is at c.in_ok-index.ensures.first) (c.copied.ensures ∙ c.get.ensures)
+    (c.requires ∙ sym (length-map patterns (λ pattern. pattern_view pattern))) (rw c.in-Some.is at c.in_ok-index.ensures.first) (c.copied.ensures ∙ read)
