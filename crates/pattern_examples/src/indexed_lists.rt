@@ -73,11 +73,17 @@ fn pattern_of(alloc: Global, fields: Fields<'_>, ignore_case: bool) -> Result<Ur
 fn list_from(alloc: Global, start: usize) -> Result<UrlPatternList, Error> {
     let mut list = UrlPatternList::new(alloc);
     for (fields, ignore_case) in PATTERNS.iter().skip(start) {
-        if list.push(pattern_of(alloc, fields, *ignore_case)?).is_err() {
-            return Err(Error::OutOfMemory);
-        }
+        add(&mut list, pattern_of(alloc, fields, *ignore_case)?)?;
     }
     Ok(list)
+}
+
+/// Appends a pattern.
+fn add(list: &mut UrlPatternList, pattern: UrlPattern) -> Result<(), Error> {
+    if list.push(pattern).is_err() {
+        return Err(Error::OutOfMemory);
+    }
+    Ok(())
 }
 
 /// The index of the first match in a list.
@@ -121,10 +127,10 @@ fn a_component_put_together_by_hand_is_found(rt: HostRuntime) -> Result<(), Fail
     let mut list = <UrlPatternList>::new(alloc);
     let mut pattern = pattern_of(alloc, &[("pathname", "/a/:x")], false)?;
     pattern.pathname.matcher.ignore_case = true;
-    assert!(rt; list.push(pattern).is_ok());
+    add(&mut list, pattern)?;
     let mut pattern = pattern_of(alloc, &[("hostname", "example.com")], false)?;
     pattern.hostname.matcher.suffix.push_str(".org")?;
-    assert!(rt; list.push(pattern).is_ok());
+    add(&mut list, pattern)?;
     assert_eq!(rt;
         first_index(alloc, &list, "https://example.com/A/b")?,
         Some(0)
