@@ -291,7 +291,10 @@ fn many_choices_are_answered_as_by_regex(rt: HostRuntime) -> Result<(), Fail> {
         for length in 0..=LENGTH {
             for number in 0..4usize.pow(length) {
                 let text = numbered_text(alloc, number, length)?;
-                assert!(rt; is_answered_alike(alloc, &own, &regex, &text)?, "{regexp} {text:?}");
+                assert!(rt;
+                    is_answered_alike(alloc, &own, &regex, &text)?,
+                    "{regexp} {text:?}"
+                );
             }
         }
     }
@@ -315,7 +318,10 @@ fn many_choices_in_long_texts(rt: HostRuntime) -> Result<(), Fail> {
         let regex = <Regex as RegExp>::parse(alloc, regexp, "u", true)?;
         for piece in ["a", "ab", "a-/"] {
             let text = long_text(alloc, piece, 500)?;
-            assert!(rt; is_answered_alike(alloc, &own, &regex, &text)?, "{regexp} {piece}");
+            assert!(rt;
+                is_answered_alike(alloc, &own, &regex, &text)?,
+                "{regexp} {piece}"
+            );
         }
     }
     Ok(())
