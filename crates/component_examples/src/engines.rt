@@ -258,8 +258,8 @@ const MANY_CHOICES: [&str; 14] = [
 /// The letters of the texts that are tried, a line feed among them.
 const LETTERS: [char; 4] = ['a', 'b', '/', '\n'];
 
-/// How many letters the texts have at most.
-const LENGTH: u32 = 3;
+/// How many letters the texts have, and how many texts of so many letters there are.
+const TEXTS: [(u32, usize); 4] = [(0, 1), (1, 4), (2, 16), (3, 64)];
 
 /// The text with this number among the texts of so many letters.
 fn numbered_text(alloc: Global, number: usize, length: u32) -> Result<String, AllocError> {
@@ -288,8 +288,8 @@ fn many_choices_are_answered_as_by_regex(rt: HostRuntime) -> Result<(), Fail> {
     for regexp in MANY_CHOICES {
         let own = PatternRegexp::parse(alloc, regexp, "u", true)?;
         let regex = <Regex as RegExp>::parse(alloc, regexp, "u", true)?;
-        for length in 0..=LENGTH {
-            for number in 0..4usize.pow(length) {
+        for (length, count) in TEXTS {
+            for number in 0..count {
                 let text = numbered_text(alloc, number, length)?;
                 assert!(rt;
                     is_answered_alike(alloc, &own, &regex, &text)?,
