@@ -1,9 +1,8 @@
 //! Replays recorded questions and answers over the library, and prints how many there are and how many differ. Behind the
 //! word `questions` it makes questions by a seed, on which calls have to agree. Behind the word `time` it times the library's
-//! calls, and behind the word `chart` it draws such times.
+//! calls.
 #![tactic(auto)]
 
-mod chart;
 mod engines;
 mod questions;
 mod recorded;
@@ -16,9 +15,6 @@ use std::{env, io};
 
 /// The word that asks for times.
 const TIME: &str = "time";
-
-/// The word that asks for a picture of times.
-const CHART: &str = "chart";
 
 /// The word that asks for questions.
 const QUESTIONS: &str = "questions";
@@ -42,7 +38,7 @@ fn main(rt: HostRuntime) -> ExitCode {
 
 /// Replays the files that the words name, and says whether each answer is the recorded one. Behind them the word `questions`, a
 /// seed and a count ask so many questions more, on which calls have to agree. Behind the word `time` the files hold pairs that
-/// are timed, and behind the word `chart` tables of such times, which are drawn.
+/// are timed.
 fn run(rt: &HostRuntime) -> io::Result<bool> {
     let mut words = env::args(rt)?;
     // The first word is the program's own name.
@@ -51,10 +47,6 @@ fn run(rt: &HostRuntime) -> io::Result<bool> {
     match words.as_slice() {
         [command, paths @ ..] if command.as_str() == TIME => {
             timing::run(rt, paths, &mut rt.stdout())?;
-            Ok(true)
-        }
-        [command, paths @ ..] if command.as_str() == CHART => {
-            chart::run(rt, paths, &mut rt.stdout())?;
             Ok(true)
         }
         [paths @ .., command, seed, count] if command.as_str() == QUESTIONS => {

@@ -98,13 +98,16 @@ fn captures_that_are_too_many_too_few_or_foreign(rt: HostRuntime) -> Result<(), 
     Ok(())
 }
 
-/// An engine of which there is no value: each text is refused, or finds no memory.
+/// An engine that makes no value: each text is refused, or finds no memory.
 #[derive(Drop)]
-struct Failing<const HAS_MEMORY: bool>;
+struct Failing<const HAS_MEMORY: bool> {
+    text: String,
+}
 
 impl<const HAS_MEMORY: bool> RegExp for Failing<HAS_MEMORY> {
-    ghost use Rattle.std.specs.Prelude.{⊤, [], None};
+    ghost use Rattle.std.specs.Prelude.{⊤, None};
     ghost use Rattle.urlpattern.specs.RegexSyntax.TheVariants.{Rust};
+    ghost use Rattle.urlpattern.specs.Text.{text_of};
 
     ghost syntax_of = { Rust };
 
@@ -114,7 +117,7 @@ impl<const HAS_MEMORY: bool> RegExp for Failing<HAS_MEMORY> {
 
     ghost answer = { λ engine text. None };
 
-    ghost text_made_of = { λ engine. [] };
+    ghost text_made_of = { λ engine. text_of engine.text };
 
     fn syntax() -> RegexSyntax {
         RegexSyntax::Rust
@@ -142,7 +145,7 @@ impl<const HAS_MEMORY: bool> RegExp for Failing<HAS_MEMORY> {
     }
 
     fn pattern_string(&self) -> &str {
-        ""
+        self.text.as_str()
     }
 }
 
