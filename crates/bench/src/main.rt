@@ -1,8 +1,9 @@
 //! Replays recorded questions and answers over the library, and prints how many there are and how many differ. Behind the
 //! word `questions` it makes questions by a seed, on which calls have to agree. Behind the word `time` it times the library's
-//! calls.
+//! calls. The word `chart` alone draws times that standard input gives.
 #![tactic(auto)]
 
+mod chart;
 mod engines;
 mod questions;
 mod recorded;
@@ -16,6 +17,9 @@ use std::{env, io};
 /// The word that asks for times.
 const TIME: &str = "time";
 
+/// The word that asks for a picture of times.
+const CHART: &str = "chart";
+
 /// The word that asks for questions.
 const QUESTIONS: &str = "questions";
 
@@ -25,7 +29,7 @@ const SAME: u8 = 0;
 /// The status of a run in which an answer differs or a line holds no case.
 const DIFFERENT: u8 = 1;
 
-/// The status of a run that could not read or write.
+/// The status of a run that could not read or write, or was given a line of figures that is none.
 const FAILED: u8 = 2;
 
 fn main(rt: HostRuntime) -> ExitCode {
@@ -38,7 +42,7 @@ fn main(rt: HostRuntime) -> ExitCode {
 
 /// Replays the files that the words name, and says whether each answer is the recorded one. Behind them the word `questions`, a
 /// seed and a count ask so many questions more, on which calls have to agree. Behind the word `time` the files hold pairs that
-/// are timed.
+/// are timed. The word `chart` alone draws the times that standard input gives.
 fn run(rt: &HostRuntime) -> io::Result<bool> {
     let mut words = env::args(rt)?;
     // The first word is the program's own name.
@@ -47,6 +51,10 @@ fn run(rt: &HostRuntime) -> io::Result<bool> {
     match words.as_slice() {
         [command, paths @ ..] if command.as_str() == TIME => {
             timing::run(rt, paths, &mut rt.stdout())?;
+            Ok(true)
+        }
+        [command] if command.as_str() == CHART => {
+            chart::run(rt, &mut rt.stdout())?;
             Ok(true)
         }
         [paths @ .., command, seed, count] if command.as_str() == QUESTIONS => {

@@ -11,6 +11,7 @@ use rounds::{Timed, least};
 use serde_json::Value;
 use std::alloc::Global;
 use std::borrow::CowStr;
+use std::collections::HashMap;
 use std::io::Write;
 use std::rt::Files;
 use std::time::Clock;
@@ -41,10 +42,12 @@ enum Call {
     TestLent,
     /// The text of that URL is parsed.
     ParseUrl,
+    /// The maps are made that a result of the pattern has, with the names of the groups and nothing that they capture.
+    Maps,
 }
 
 /// What is timed, in the order of the columns.
-const CALLS: [Call; 8] = [
+const CALLS: [Call; 9] = [
     Call::Parse,
     Call::ExecText,
     Call::ExecMiss,
@@ -53,6 +56,7 @@ const CALLS: [Call; 8] = [
     Call::ParseUrl,
     Call::Captures,
     Call::TestLent,
+    Call::Maps,
 ];
 
 /// A pattern, what it was given as, and what it is asked about.
@@ -103,6 +107,7 @@ impl<'a, E: RegExp> Subject<'a, E> {
             Call::ParseUrl => self.parse_url(alloc),
             Call::Captures => self.captures(alloc),
             Call::TestLent => self.test_lent(alloc),
+            Call::Maps => self.maps(alloc),
         }
     }
 
@@ -151,6 +156,26 @@ impl<'a, E: RegExp> Subject<'a, E> {
         self.pattern.test_url(alloc, &self.url)
     }
 
+    /// Makes a map of the groups of each component.
+    #[inline(never)]
+    fn maps(&self, alloc: Global) -> Result<bool, Error> {
+        let components = [
+            &self.pattern.protocol,
+            &self.pattern.username,
+            &self.pattern.password,
+            &self.pattern.hostname,
+            &self.pattern.port,
+            &self.pattern.pathname,
+            &self.pattern.search,
+            &self.pattern.hash,
+        ];
+        let mut has_groups = false;
+        for component in components {
+            has_groups |= make_map(alloc, &component.group_name_list)?;
+        }
+        Ok(has_groups)
+    }
+
     /// Parses the text of the URL.
     #[inline(never)]
     fn parse_url(&self, alloc: Global) -> Result<bool, Error> {
@@ -182,6 +207,15 @@ fn given_as<'a>(alloc: Global, value: &'a Value) -> Result<StringOrInit<'a>, Err
     }
 }
 
+/// Makes a map of groups with these names. Says whether there is one.
+fn make_map(alloc: Global, names: &[String]) -> Result<bool, Error> {
+    let mut groups: HashMap<String, Option<String>> = HashMap::new(alloc);
+    for name in names {
+        groups.insert(name.clone()?, None)?;
+    }
+    Ok(!groups.is_empty())
+}
+
 /// The pattern that is given in this way.
 fn make_pattern<E: RegExp>(
     alloc: Global,
@@ -206,7 +240,7 @@ pub fn run<R: Files + AllocGlobal + Clock, O: Write>(
 ) -> io::Result<()> {
     writeln!(
         out,
-        "name\tengine\tparse\texec\tmiss\texec of Url\ttest of Url\tUrl::parse\tcaptures of &Url\ttest of &Url"
+        "name\tengine\tparse\texec\tmiss\texec of Url\ttest of Url\tUrl::parse\tcaptures of &Url\ttest of &Url\tmaps"
     )?;
     for path in paths {
         let text = fs::read_to_string(rt, path)?;

@@ -238,7 +238,15 @@ fn expressions_with_repeated_groups(rt: HostRuntime) -> Result<(), Fail> {
 }
 
 /// Expressions that leave many choices.
-const MANY_CHOICES: [&str; 14] = [
+const MANY_CHOICES: [&str; 22] = [
+    "^(.*)(?:ab)*b$",
+    "^(.*)(?:ab)+(.*)b$",
+    "^([^/]+?)((?:[^/]+?)(?:/(?:[^/]+?))*)b$",
+    "^(.*)((?:.*)(?:/(?:.*))*)a$",
+    "^(.*)((?:[^/]+?)(?:/(?:[^/]+?))*)?/$",
+    "^(?:a)?(?:b)*((?:[^a]+?)*)(?:a)?(.*)$",
+    "^(.*)((?:[^/]+?)+)/$",
+    "^(?:a)?(?:/([^/]+?))?(?:a)*(.*)(?:b)+$",
     "^(.*)(.*)(.*)(.*)(.*)b$",
     "^(.*)a(.*)a(.*)b$",
     "^(.*)(.*)/(.*)a$",
@@ -369,4 +377,26 @@ fn without_memory_no_other_answer_is_given(rt: HostRuntime) {
         matches!(&answer, Ok(true) | Err(RegExpError::OutOfMemory)),
         "{answer:?}"
     );
+}
+
+/// So many groups that may be missing.
+fn optional_groups(alloc: Global, count: usize) -> Result<String, AllocError> {
+    let mut regexp = String::new(alloc);
+    regexp.push('^')?;
+    push_copies(&mut regexp, "(?:a)?", count)?;
+    regexp.push('$')?;
+    Ok(regexp)
+}
+
+#[test]
+fn very_many_optional_groups(rt: HostRuntime) -> Result<(), Fail> {
+    let alloc = rt.alloc();
+    let regexp = optional_groups(alloc, 1_001)?;
+    let own = PatternRegexp::parse(alloc, &regexp, "u", true)?;
+    for (count, is_taken) in [(0, true), (1, true), (1_001, true), (1_002, false)] {
+        let mut text = String::new(alloc);
+        push_copies(&mut text, "a", count)?;
+        assert_eq!(rt; own.matches(alloc, &text)?.is_some(), is_taken);
+    }
+    Ok(())
 }

@@ -159,6 +159,38 @@ pub fn expect_path<R: RegExp>(
     expect_copy(rt, &found)
 }
 
+/// Compares what the match of an input tells of the path by name: the groups in the order of their names, and nothing
+/// of another name.
+pub fn expect_names<R: RegExp>(
+    rt: &impl Abort,
+    alloc: Global,
+    pattern: UrlPattern<R>,
+    input: UrlPatternMatchInput,
+    groups: Groups<'_>,
+    other: &str,
+) -> Result<(), Error> {
+    let found = matched(rt, alloc, pattern, input)?;
+    expect_named(rt, alloc, &found.pathname, groups)?;
+    assert_eq!(rt; found.pathname.get(other), None, "of {other:?}");
+    Ok(())
+}
+
+/// Compares the names of a component's groups, in their order, and what each captures.
+fn expect_named(
+    rt: &impl Abort,
+    alloc: Global,
+    found: &UrlPatternComponentResult,
+    groups: Groups<'_>,
+) -> Result<(), Error> {
+    let names = found.sorted_names(alloc)?;
+    assert_eq!(rt; names.len(), groups.len());
+    for (name, (expected, captured)) in names.iter().zip(groups) {
+        assert_eq!(rt; name.as_str(), *expected);
+        assert_eq!(rt; found.get(name), *captured, "of {name:?}");
+    }
+    Ok(())
+}
+
 /// Compares a result with its copy, and what it tells of the path with what it tells of the query, which is another.
 fn expect_copy(rt: &impl Abort, found: &UrlPatternResult) -> Result<(), Error> {
     let copy = found.clone()?;

@@ -15,7 +15,13 @@ use urlpattern::{Error, RegexSyntax, UrlPatternOptions};
 const SEGMENT: &str =
     r#"{"kind":"singleCapture","allowEmpty":false,"filter":"/","prefix":"/users/","suffix":""}"#;
 
-/// The JSON of a component with that matcher.
+/// The JSON of a matcher that compares with a text.
+const LITERAL: &str = r#"{"prefix":"/users/","suffix":"","kind":"literal","literal":"me"}"#;
+
+/// The JSON of a matcher that asks an engine.
+const REGEXP: &str = r#"{"prefix":"/users/","suffix":"","kind":"regExp","regexp":"^a$"}"#;
+
+/// The JSON of a component that captures what has no slash.
 const COMPONENT: &str =
     r#"{"groupNameList":["id"],"matcher":{"kind":"singleCapture","filter":"/","allowEmpty":false,"prefix":"/users/","suffix":""},"regexpString":"^/users(?:/([^/]+?))$","patternString":"/users/:id"}"#;
 
@@ -191,12 +197,7 @@ fn an_init_writes_what_is_given(rt: HostRuntime) -> Result<(), Fail> {
 
 #[test]
 fn a_matcher_tells_its_kind(rt: HostRuntime) -> Result<(), Fail> {
-    let rows = [
-        SEGMENT,
-        r#"{"prefix":"/users/","suffix":"","kind":"literal","literal":"me"}"#,
-        r#"{"prefix":"/users/","suffix":"","kind":"regExp","regexp":"^a$"}"#,
-    ];
-    for text in rows {
+    for text in [SEGMENT, LITERAL, REGEXP] {
         expect_written::<Matcher>(&rt, rt.alloc(), text, text)?;
     }
     Ok(())
@@ -256,7 +257,9 @@ fn serde_writes_and_reads_the_same_trees(rt: HostRuntime) -> Result<(), Fail> {
     expect_derived::<UrlPatternInit>(&rt, alloc, "{}")?;
     expect_derived::<UrlPatternInit>(&rt, alloc, INIT)?;
     expect_derived::<MatchInput>(&rt, alloc, TEXTS)?;
-    expect_derived::<Matcher>(&rt, alloc, SEGMENT)?;
+    for text in [SEGMENT, LITERAL, REGEXP] {
+        expect_derived::<Matcher>(&rt, alloc, text)?;
+    }
     expect_derived::<UrlPatternComponent>(&rt, alloc, COMPONENT)?;
     expect_derived::<UrlPattern>(&rt, alloc, &pattern_text(alloc)?)
 }
@@ -282,6 +285,19 @@ fn a_copy_of_an_input_equals_it(rt: HostRuntime) -> Result<(), Fail> {
     let tree = Value::from_str(alloc, INIT)?;
     let other = Value::Object(Map::new(alloc));
     assert!(rt; is_copied::<StringOrInit<'_>>(alloc, &tree, &other)?);
+    let text = Value::from_str(alloc, "\"a\"")?;
+    assert!(rt; is_copied::<StringOrInit<'_>>(alloc, &text, &tree)?);
+    Ok(())
+}
+
+#[test]
+fn a_copy_of_a_matcher_equals_it(rt: HostRuntime) -> Result<(), Fail> {
+    let alloc = rt.alloc();
+    for (text, other) in [(SEGMENT, LITERAL), (LITERAL, REGEXP), (REGEXP, SEGMENT)] {
+        let tree = Value::from_str(alloc, text)?;
+        let other = Value::from_str(alloc, other)?;
+        assert!(rt; is_copied::<Matcher>(alloc, &tree, &other)?, "{text}");
+    }
     Ok(())
 }
 

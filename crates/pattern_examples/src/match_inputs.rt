@@ -1,4 +1,4 @@
-//! The texts of a match input: the default ones, copies of an init, and want of memory.
+//! The texts of a match input: the default ones, copies of inits, and want of memory.
 
 use crate::inits::init_under;
 use std::alloc::Global;
@@ -43,17 +43,20 @@ fn expect_joined(rt: &impl Abort, alloc: Global) -> Result<(), Error> {
     expect_texts(rt, alloc, UrlPatternMatchInput::Init(init), expected)
 }
 
-/// Whether a copy of an init equals it, and is not an init without texts.
-fn is_copied(init: &UrlPatternInit) -> Result<bool, Error> {
-    let copy = init.clone()?;
-    Ok(copy == *init && copy != UrlPatternInit::default())
+/// Whether a copy of a value equals it, and not another value.
+fn is_copied<T: Clone + PartialEq + Drop>(value: &T, other: &T) -> Result<bool, Error> {
+    let copy = value.clone()?;
+    Ok(copy == *value && copy != *other)
 }
 
 #[test]
 fn a_copy_of_an_init_equals_it(rt: HostRuntime) -> Result<(), Fail> {
     let alloc = rt.alloc();
     let init = init_under(alloc, &[("hostname", "a")], "https://example.com/")?;
-    assert!(rt; is_copied(&init)?);
+    assert!(rt; is_copied(&init, &UrlPatternInit::default())?);
+    let input = UrlPatternMatchInput::Init(init);
+    let other = UrlPatternMatchInput::Init(UrlPatternInit::default());
+    assert!(rt; is_copied(&input, &other)?);
     Ok(())
 }
 

@@ -1,8 +1,8 @@
-//! Matches of patterns with components put together by hand, copies of results, and want of memory.
+//! Matches of patterns with components put together by hand, of URLs and of inits, copies of results, and want of memory.
 
 use crate::components::path_of;
-use crate::facts::{Groups, Told, expect_match, expect_no_match, expect_path};
-use crate::inits::{init_of, url_input};
+use crate::facts::{Groups, Told, expect_match, expect_names, expect_no_match, expect_path};
+use crate::inits::{Fields, init_of, init_under, url_input};
 use regex::Regex;
 use std::alloc::Global;
 use std::process::Abort;
@@ -10,7 +10,7 @@ use std::test::Fail;
 use urlpattern::component::Component;
 use urlpattern::matcher::{InnerMatcher, Matcher};
 use urlpattern::regexp::RegExp;
-use urlpattern::{Error, UrlPattern, UrlPatternInit, UrlPatternOptions};
+use urlpattern::{Error, UrlPattern, UrlPatternInit, UrlPatternMatchInput, UrlPatternOptions};
 
 /// Copies of names.
 fn names_of(alloc: Global, names: &[&str]) -> Result<Vec<String>, Error> {
@@ -161,6 +161,54 @@ fn a_pattern_is_matched_once(rt: HostRuntime) -> Result<(), Fail> {
     assert!(rt; id_once(alloc, "/users/:id", "https://example.com/x")?.is_none());
     let place = fault_once(alloc, "}:", "https://example.com/x")?;
     assert_eq!(rt; place, Some(1));
+    Ok(())
+}
+
+#[test]
+fn names_are_sorted(rt: HostRuntime) -> Result<(), Fail> {
+    let alloc = rt.alloc();
+    let input = url_input(alloc, "https://example.com/1/2")?;
+    let pattern = with_pathname(alloc, path_of::<Regex>(alloc, "/:b/:a{/:c}?")?)?;
+    let groups = [("a", Some("2")), ("b", Some("1")), ("c", None)];
+    expect_names(&rt, alloc, pattern, input, &groups, "d")?;
+    Ok(())
+}
+
+/// Compares what a pattern with a name in its path tells of an init that it matches.
+fn expect_init(
+    rt: &impl Abort,
+    alloc: Global,
+    init: UrlPatternInit,
+    told: &[Told<'_>],
+) -> Result<(), Error> {
+    let pattern = with_pathname(alloc, path_of::<Regex>(alloc, "/users/:id")?)?;
+    expect_match(rt, alloc, pattern, UrlPatternMatchInput::Init(init), told)
+}
+
+#[test]
+fn an_init_is_matched(rt: HostRuntime) -> Result<(), Fail> {
+    let alloc = rt.alloc();
+    let path = ("pathname", "/users/123", "id", Some("123"));
+    let init = init_of(alloc, &[("pathname", "/users/123")])?;
+    expect_init(&rt, alloc, init, &[path, ("hostname", "", "0", Some(""))])?;
+    let init = init_under(alloc, &[("pathname", "users/123")], "https://example.com/a")?;
+    let host = ("hostname", "example.com", "0", Some("example.com"));
+    expect_init(&rt, alloc, init, &[path, host])?;
+    Ok(())
+}
+
+#[test]
+fn an_init_is_not_matched(rt: HostRuntime) -> Result<(), Fail> {
+    let alloc = rt.alloc();
+    let rows: [Fields<'_>; 2] = [
+        &[("pathname", "/x")],
+        &[("pathname", "/users/123"), ("port", "x")],
+    ];
+    for fields in rows {
+        let init = init_of(alloc, fields)?;
+        let pattern = with_pathname(alloc, path_of::<Regex>(alloc, "/users/:id")?)?;
+        expect_no_match(&rt, alloc, pattern, UrlPatternMatchInput::Init(init))?;
+    }
     Ok(())
 }
 

@@ -6,6 +6,7 @@ use crate::inits::init_of;
 use regex::Regex;
 use serde_json::Value;
 use std::alloc::Global;
+use std::process::Abort;
 use std::test::Fail;
 use urlpattern::component::Component;
 use urlpattern::parser::Options;
@@ -51,6 +52,20 @@ fn plain_inner<R: RegExp>(alloc: Global, component: Component<R>) -> Result<Inne
     InnerMatcher::from_inner(alloc, matcher.inner)
 }
 
+/// Compares what the plain matcher of a path has between prefix and suffix, and a copy of that.
+fn expect_inner(
+    rt: &impl Abort,
+    alloc: Global,
+    pathname: &str,
+    expected: InnerMatcher,
+) -> Result<(), Error> {
+    let component: Component<Regex> = path_of(alloc, pathname)?;
+    let inner = plain_inner(alloc, component)?;
+    assert_eq!(rt; inner, expected, "of {pathname:?}");
+    assert_eq!(rt; inner.clone()?, expected, "of {pathname:?}");
+    Ok(())
+}
+
 #[test]
 fn a_pattern_for_the_library_has_its_texts(rt: HostRuntime) -> Result<(), Fail> {
     let facts = [Fact::Text("pathname", "/users/:id")];
@@ -67,13 +82,34 @@ fn a_component_becomes_plain_piece_by_piece(rt: HostRuntime) -> Result<(), Fail>
         allow_empty: true,
     };
     assert_eq!(rt; plain_inner(alloc, search)?, any);
-    let pathname: Component<Regex> = path_of(alloc, "/users/:id")?;
-    let text =
-        r#"{"kind":"singleCapture","allowEmpty":false,"filter":"/","prefix":"/users/","suffix":""}"#;
-    assert_eq!(rt;
-        matcher_tree(alloc, pathname)?,
-        Value::from_str(alloc, text)?
-    );
+    let literal = String::from_str(alloc, "/users/me")?;
+    expect_inner(&rt, alloc, "/users/me", InnerMatcher::Literal { literal })?;
+    let regexp = String::from_str(alloc, "^(?:/(\\d+))$")?;
+    expect_inner(&rt, alloc, "/users/(\\d+)", InnerMatcher::RegExp { regexp })?;
+    Ok(())
+}
+
+#[test]
+fn a_matcher_of_each_kind_becomes_plain(rt: HostRuntime) -> Result<(), Fail> {
+    let alloc = rt.alloc();
+    for (pathname, text) in [
+        (
+            "/users/:id",
+            r#"{"kind":"singleCapture","allowEmpty":false,"filter":"/","prefix":"/users/","suffix":""}"#,
+        ),
+        (
+            "/users/me",
+            r#"{"kind":"literal","literal":"/users/me","prefix":"","suffix":""}"#,
+        ),
+        (
+            "/users/(\\d+)",
+            r#"{"kind":"regExp","regexp":"^(?:/(\\d+))$","prefix":"/users","suffix":""}"#,
+        ),
+    ] {
+        let component: Component<Regex> = path_of(alloc, pathname)?;
+        let tree = Value::from_str(alloc, text)?;
+        assert_eq!(rt; matcher_tree(alloc, component)?, tree, "of {pathname:?}");
+    }
     Ok(())
 }
 

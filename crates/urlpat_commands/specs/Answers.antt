@@ -1,5 +1,5 @@
 -- What the program answers to its words, and what it refuses. Words and texts are bytes.
-use Rattle.std.specs.Prelude.{◌≡◌, ◌≢◌, ◌↔◌, ◌⊎◌, ⊤, All, ◌++◌, ℕ, Bool, false, if◌then◌else◌, List, [], ◌∷◌, length, map, max, codes, bytes_eq, Option, None, Some, Result, Ok, Err, String, string_bytes, encode_utf8_all, slice_get, take, IsSome}
+use Rattle.std.specs.Prelude.{◌≡◌, ◌≢◌, ◌↔◌, ◌⊎◌, All, ◌++◌, ℕ, Bool, false, if◌then◌else◌, List, [], ◌∷◌, length, map, max, codes, bytes_eq, Option, None, Some, Result, Ok, Err, String, string_bytes, encode_utf8_all, slice_get, take, IsSome}
 use Rattle.std.specs.Ordering.{on}
 use Rattle.std.specs.Cmp.Lexicographic.{slice_cmp}
 use Rattle.std.specs.List.{AllZip, Contains, flat_map}
@@ -32,6 +32,7 @@ use Rattle.urlpattern.specs.RegexpText.{group_names, regexp_text}
 use Rattle.urlpattern.specs.RoundTrip.{IsPrintable, ReadsBack}
 use Rattle.urlpattern.specs.SpecialProtocol.{IsSpecialBy}
 use Rattle.urlpattern_engine.specs.Engine.{IsPatternRegexpOf, pattern_answer}
+use Rattle.urlpattern_engine.specs.Reading.{IsGenerated}
 use Rattle.urlpattern_engine.specs.declared.pattern_regexp.PatternRegexp.{PatternRegexp}
 use Rattle.urlpattern_init.specs.declared.init.processing.Component.{Component}
 use Rattle.urlpattern_init.specs.declared.init.processing.Component.TheVariants.{Protocol, Username, Password, Hostname, Port, Pathname, Search, Hash}
@@ -91,11 +92,11 @@ default_pattern_options = record { regex_syntax = Rust; ignore_case = false }
 
 -- they are compiled by the engine `PatternRegexp`
 abbrev pub compiles_by_pattern_regexp : Compiles PatternRegexp
-compiles_by_pattern_regexp = IsCompiledFrom (λ value regexp flags. IsPatternRegexpOf regexp value) (λ regexp flags force_eval. ⊤) Rust
+compiles_by_pattern_regexp = IsCompiledFrom (λ value regexp flags. IsPatternRegexpOf regexp value) (λ regexp flags force_eval. ¬ IsGenerated regexp) Rust
 
 -- whether the pattern of a protocol is that of a special scheme, as this engine answers
 abbrev pub IsSpecial : (protocol : List ℕ) → Bool → Type 0
-IsSpecial = IsSpecialBy (λ value regexp flags. IsPatternRegexpOf regexp value) (λ regexp flags. ⊤) pattern_answer
+IsSpecial = IsSpecialBy (λ value regexp flags. IsPatternRegexpOf regexp value) (λ regexp flags. ¬ IsGenerated regexp) pattern_answer
 
 -- the constructor string with this base URL is compiled to the pattern
 abbrev pub IsPatternOf : (text : List ℕ) → (base : Option (List ℕ)) → PatternView PatternRegexp → Type 0

@@ -73,7 +73,7 @@ DefaultEngineAnswersTheFirstWay =
     IsTakenByRegex options flags parts matcher → IsTrue (lacks line_feed text) → IsTrue (all_scalars text) →
     Answers regex_answer matcher text result → IsFirstOf options parts text result × Agrees options parts text result
 
--- One that `PatternRegexp` made does so too, if that took the text where it was needed.
+-- One that `PatternRegexp` made does so too, without any premise on that.
 abbrev pub PatternEngineAnswersTheFirstWay : Type 0
 PatternEngineAnswersTheFirstWay =
     (options : OptionsView) (flags : List ℕ) (parts : List PartView) (matcher : MatcherView PatternRegexp) (text : List ℕ) (result : Option Captures) →

@@ -26,7 +26,7 @@ pub use urlpattern_core::laws::{
 };
 pub use urlpattern_engine::laws::{
     matchers_by_pattern_regexp_answer_the_first_way, pattern_regexps_answer_as_regex_does,
-    pattern_regexps_answer_the_first_way,
+    pattern_regexps_answer_the_first_way, pattern_regexps_take_each_generated_text,
 };
 pub use urlpattern_init::laws::splits_are_one;
 pub use urlpattern_pattern::laws::{

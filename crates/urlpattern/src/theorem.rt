@@ -22,7 +22,7 @@ use crate::regexp::RegExp;
 /// - `one_answer`: the first way is one answer, so that no other result is a match.
 /// - `default_engine`: a matcher that `regex::Regex` made answers the first way, and this is what the parts mean or None where
 ///   they mean nothing, without a premise on the engine but that it took the regular expression where it was needed.
-/// - `pattern_engine`: the same of a matcher that `PatternRegexp` made.
+/// - `pattern_engine`: the same of a matcher that `PatternRegexp` made, without any premise on the engine.
 /// - `reads_back`: the printed pattern of parts that were read under the standard's options reads as these parts,
 ///   neighbouring plain fixed texts joined, under each encoding that keeps their texts; no fixed text is empty, and none of
 ///   their texts has a tab or a line end.

@@ -1,6 +1,6 @@
 //! Matchers: what a component is matched with, past the engine of regular expressions where that is not needed.
 
-ghost use Rattle.std.specs.Prelude.{◌≡◌, ◌↔◌, ℕ, List, IfErr, IfNone, IfOk, IfSome, IsTrue, map, not};
+ghost use Rattle.std.specs.Prelude.{◌≡◌, ◌↔◌, [], ℕ, List, IfErr, IfNone, IfOk, IfSome, IsTrue, map, not};
 ghost use Rattle.std.specs.Char.{to_ascii_lowercase};
 ghost use Rattle.std.specs.Str.{chars};
 ghost use Rattle.urlpattern_core.specs.Captured.{captures_view};
@@ -127,6 +127,9 @@ impl<R> Matcher<R> {
         ensures some { IfSome result (λ middle. HasMiddle (matcher_view self.now) (chars input.now) (chars middle.now)) }
         ensures none { IfNone result ((middle : List ℕ) → ¬ HasMiddle (matcher_view self.now) (chars input.now) middle) }
     {
+        if self.has_no_ends() {
+            return Some(input);
+        }
         if self.ignore_case {
             let rest = strip_prefix_ignoring_case(input, &self.prefix)?;
             strip_suffix_ignoring_case(rest, &self.suffix)
@@ -134,6 +137,14 @@ impl<R> Matcher<R> {
             let rest = input.strip_prefix(self.prefix.as_str())?;
             rest.strip_suffix(self.suffix.as_str())
         }
+    }
+
+    /// Whether prefix and suffix are empty, so that all of a text stands between them.
+    fn has_no_ends(&self) -> bool
+        ensures prefix { IsTrue result → (matcher_view self.now).prefix ≡ [] }
+        ensures suffix { IsTrue result → (matcher_view self.now).suffix ≡ [] }
+    {
+        self.prefix.is_empty() && self.suffix.is_empty()
     }
 
     /// Whether a text is the literal.

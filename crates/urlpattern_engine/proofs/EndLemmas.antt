@@ -29,7 +29,7 @@ cut-or gives text (Some n) m None b (front, rest, u, v, e, f, g, some) two = abs
 cut-or gives text (Some n) m (Some x) b one two = one
 
 -- a text begins with another, or not
-begins_or_not : (characters text : List ℕ) → ((rest : List ℕ) × (text ≡ characters ++ rest)) ⊎ ((rest : List ℕ) → ¬ (text ≡ characters ++ rest))
+pub begins_or_not : (characters text : List ℕ) → ((rest : List ℕ) × (text ≡ characters ++ rest)) ⊎ ((rest : List ℕ) → ¬ (text ≡ characters ++ rest))
 begins_or_not [] text = inl (text, refl)
 begins_or_not (c ∷ characters) [] = inr (λ rest e. let f : [] ≡ c ∷ (characters ++ rest) = e in cc)
 begins_or_not (c ∷ characters) (d ∷ text) = by (d == c) refl (begins_or_not characters text)

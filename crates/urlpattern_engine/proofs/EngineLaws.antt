@@ -1,18 +1,22 @@
 -- A value of the engine answers the first way, and what `regex::Regex` answers.
-use Rattle.std.proofs.Common.{◌≡◌, ℕ, List, Option, sym, ap, ◌∙◌}
-use Rattle.std.specs.Prelude.{⊤, IsTrue}
+use Rattle.std.proofs.Common.{◌≡◌, ℕ, Bool, List, Option, refl, sym, ap, ◌∙◌, inl, inr}
+use Rattle.std.specs.Prelude.{◌≢◌, ⊤, All, IsOk, IsTrue, Ok, Err, Result}
 use Rattle.std.specs.Str.{all_scalars}
 use Rattle.regex.specs.declared.string.regex.Regex.{Regex}
 use Rattle.urlpattern_core.specs.Engines.{IsRegexOf, regex_answer}
 use Rattle.urlpattern_core.proofs.RegexWays.{regex_answers_first}
 use Rattle.urlpattern_laws.specs.Dialect.{Follows, IsTreeOf, Items}
-use Rattle.urlpattern_laws.specs.FirstAnswers.{AnswersFirst, AnswersFirstInMiddle, IsFirstOf}
-use Rattle.urlpattern_laws.specs.Matching.{Agrees, Answers, MatcherView}
+use Rattle.urlpattern_laws.specs.FirstAnswers.{AnswersFirst, AnswersFirstInMiddle, IsFirstOf, TookText}
+use Rattle.urlpattern_laws.specs.Matching.{Agrees, Answers, IsEngineOf, MatcherView}
 use Rattle.urlpattern_laws.specs.PartMeaning.{Captures}
 use Rattle.urlpattern_laws.specs.Ways.{first_way}
 use Rattle.urlpattern_laws.proofs.DialectUnique.{only_tree, trees_are_one}
 use Rattle.urlpattern_laws.proofs.FirstAnswers.{first_agrees, first_one, matcher_first, of_made}
 use Rattle.urlpattern_laws.proofs.FirstWay.{meant_or_none}
+use Rattle.urlpattern_core.specs.Compiling.{ComponentView, IsComponentOf, MayRefuseAsked, engine_flags, has_regexp, is_asked_again}
+use Rattle.urlpattern_syntax.specs.declared.parser.PartType.TheVariants.{Regexp}
+use Rattle.urlpattern_syntax.specs.declared.parser.RegexSyntax.{RegexSyntax}
+use Rattle.urlpattern_syntax.specs.Errors.{ErrorView}
 use Rattle.urlpattern_syntax.specs.Options.{OptionsView}
 use Rattle.urlpattern_syntax.specs.Parts.{PartView}
 use Rattle.urlpattern_syntax.specs.RegexpText.{regexp_text}
@@ -20,7 +24,9 @@ use Rattle.urlpattern_syntax.specs.Text.{lacks, line_feed}
 use Rattle.urlpattern_engine.specs.declared.pattern_regexp.Expression.{Expression}
 use Rattle.urlpattern_engine.specs.declared.pattern_regexp.Expression.TheVariants.{Own, Other}
 use Rattle.urlpattern_engine.specs.declared.pattern_regexp.PatternRegexp.{PatternRegexp}
-use Rattle.urlpattern_engine.specs.Engine.{IsExpressionOf, IsPatternRegexpOf, IsTakenByPatternRegexp, expression_answer, pattern_answer}
+use Rattle.urlpattern_engine.specs.Engine.{IsExpressionOf, IsMadeByPatternRegexp, IsPatternRegexpOf, IsTakenByPatternRegexp, expression_answer, pattern_answer}
+use Rattle.urlpattern_engine.specs.Reading.{IsGenerated}
+use Rattle.urlpattern_engine.proofs.Refusals.{took_all}
 use Rattle.urlpattern_engine.proofs.TwoRegexes.{regexes_same}
 
 expression_first : (regexp : List ℕ) (tree : Items) (expression : Expression) (text : List ℕ) → IsTreeOf regexp tree → IsExpressionOf regexp expression → IsTrue (all_scalars text)
@@ -54,16 +60,37 @@ pattern_regexp_same regexp value regex text made also fine = expression_same reg
 
 -- ---- matchers
 
+-- the engine took the text of parts of which none is custom
+pub matcher_takes : (options : OptionsView) (flags : List ℕ) (parts : List PartView) (matcher : MatcherView PatternRegexp) → IsMadeByPatternRegexp options flags parts matcher
+    → All (λ part. part.kind ≢ Regexp) parts → TookText (λ value. ⊤) matcher.inner
+matcher_takes options flags parts matcher made plain =
+    took_all (λ value regexp flags. IsPatternRegexpOf regexp value) (λ regexp flags. ¬ IsGenerated regexp) flags options parts matcher made plain (λ middle all may. may (options, middle, all, refl))
+
+engine_taken : (again : Bool) (options : OptionsView) (flags : List ℕ) (parts : List PartView) (engine : Result PatternRegexp ErrorView) → All (λ part. part.kind ≢ Regexp) parts
+    → IsEngineOf (λ value regexp flags. IsPatternRegexpOf regexp value) (MayRefuseAsked (λ regexp flags force_eval. ¬ IsGenerated regexp) again) flags (regexp_text options parts) engine → IsOk engine
+engine_taken again options flags parts (Ok engine) plain is = refl
+engine_taken again options flags parts (Err error) plain (of_regexp, may) = elim may [ inl first ↦ absurd (first (options, parts, plain, refl)) | inr asked ↦ absurd (asked.1 (options, parts, plain, refl)) ]
+
+-- so a component of such parts has a value of the engine, and so has its matcher where it needs one
+pub component_takes : (syntax : RegexSyntax) (options : OptionsView) (parts : List PartView) (component : ComponentView PatternRegexp)
+    → IsComponentOf (λ value regexp flags. IsPatternRegexpOf regexp value) (λ regexp flags force_eval. ¬ IsGenerated regexp) syntax options parts component
+    → All (λ part. part.kind ≢ Regexp) parts → IsOk component.regexp × TookText (λ value. ⊤) component.matcher.inner
+component_takes syntax options parts component is plain = (
+  engine_taken (is_asked_again syntax (has_regexp parts)) options (engine_flags options) parts component.regexp plain is.has_engine,
+  matcher_takes options (engine_flags options) parts component.matcher is.has_matcher plain,
+)
+
 answers_first_of : (regexp : List ℕ) (value : PatternRegexp) → IsPatternRegexpOf regexp value → AnswersFirst regexp (pattern_answer value)
 answers_first_of regexp value made = λ tree text is fine. pattern_regexp_first regexp tree value text is made fine
 
 taken_first : (options : OptionsView) (flags : List ℕ) (parts : List PartView) (matcher : MatcherView PatternRegexp) (text : List ℕ) (result : Option Captures) →
     IsTakenByPatternRegexp options flags parts matcher → IsTrue (lacks line_feed text) → IsTrue (all_scalars text) → Answers pattern_answer matcher text result → IsFirstOf options parts text result
 taken_first options flags parts matcher text result taken no_feed fine answers =
+    let took = matcher_takes options flags parts matcher taken.is_made taken.generated in
     let firsts : AnswersFirstInMiddle pattern_answer options parts matcher.inner =
-    of_made (λ value middle. AnswersFirst (regexp_text options middle) (pattern_answer value)) (λ value. ⊤) (λ value regexp flags. IsPatternRegexpOf regexp value) (λ regexp flags. ⊤) options flags parts matcher
-    taken.is_made taken.generated taken.took (λ value middle plain made took. answers_first_of (regexp_text options middle) value made) in
-    matcher_first pattern_answer (λ value regexp flags. IsPatternRegexpOf regexp value) (λ regexp flags. ⊤) options flags parts matcher text result
+    of_made (λ value middle. AnswersFirst (regexp_text options middle) (pattern_answer value)) (λ value. ⊤) (λ value regexp flags. IsPatternRegexpOf regexp value) (λ regexp flags. ¬ IsGenerated regexp) options flags parts matcher
+    taken.is_made taken.generated took (λ value middle plain made took. answers_first_of (regexp_text options middle) value made) in
+    matcher_first pattern_answer (λ value regexp flags. IsPatternRegexpOf regexp value) (λ regexp flags. ¬ IsGenerated regexp) options flags parts matcher text result
     taken.is_made taken.generated taken.case_kept no_feed fine firsts answers
 
 pub taken_means : (options : OptionsView) (flags : List ℕ) (parts : List PartView) (matcher : MatcherView PatternRegexp) (text : List ℕ) (result : Option Captures) →

@@ -1,22 +1,26 @@
 -- From the text of an expression to a tree and its steps.
-use Rattle.std.proofs.Common.{◌≡◌, ℕ, zero, suc, ◌<◌, ◌≤◌, List, [], ◌∷◌, ◌++◌, ◌-◌, length, take, drop, Option, Some, None, Bool, true, false, refl, sym, ap, ap₂, ◌∙◌, subst, append-nil, append_assoc, length-append, codes, arith}
-use Rattle.std.proofs.lemmas.List.{take-append-le, drop-append-le, length-drop, set_split}
+use Rattle.std.proofs.Common.{◌≡◌, ℕ, zero, suc, Bor, ◌<◌, ◌≤◌, List, [], ◌∷◌, ◌++◌, ◌-◌, length, take, drop, Option, Some, None, Bool, true, false, refl, sym, ap, ap₂, ◌∙◌, subst, inl, inr, append-nil, append_assoc, length-append, codes, arith}
+use Rattle.std.proofs.lemmas.List.{append_cancel_left, take-append-le, drop-append-le, length-drop, set_split}
 use Rattle.std.proofs.Math.Nat.{le_refl}
 use Rattle.std.proofs.Math.Seq.{take-append_seam, drop-append_seam, take-length, drop-length}
-use Rattle.std.specs.Prelude.{insert, set}
+use Rattle.std.specs.Prelude.{◌≢◌, ◌⊎◌, IfNone, IfSome, IsSomeAnd, insert, set}
+use Rattle.std.specs.Str.{chars}
+use Rattle.urlpattern_syntax.specs.RegexpText.{regexp_marks}
+use Rattle.urlpattern_syntax.specs.Text.{is_among}
 use Rattle.urlpattern_laws.specs.Dialect.{AreItems, AllowsGroups, Atom, Captured, Character, Grouped, IsAtom, IsCharacter, IsTreeOf, Item, Items, Nothing, Once, Optional, Quantifier, atom_group_count, group_count, atom_text, character_of, character_text, items_text, quantifier_text}
 use Rattle.urlpattern_engine.specs.declared.tokens.Times.{Times}
-use Rattle.urlpattern_engine.specs.declared.tokens.Times.TheVariants as times
+use Rattle.urlpattern_engine.specs.declared.tokens.Times.TheVariants as often
 use Rattle.urlpattern_engine.specs.declared.tokens.Token.TheVariants.{MaybeStep}
 use Rattle.urlpattern_engine.specs.declared.step.Group.{Group}
 use Rattle.urlpattern_engine.specs.declared.step.Stretch.{Stretch}
 use Rattle.urlpattern_engine.specs.declared.step.Step.{Step}
 use Rattle.urlpattern_engine.specs.declared.step.Step.TheVariants.{Literal, Maybe, Copies, Segments}
-use Rattle.urlpattern_engine.specs.Reading.{AreCharacters, AreCopies, AreLiterals, AreStepsOf, BeginsSegments, EndsSegments, characters_text, literal_steps, BeginsWithCharacter, IsGroup, IsRunOf, IsToken, Spells, times_text}
+use Rattle.urlpattern_engine.specs.Reading.{quantifier_of, AreCharacters, AreCopies, AreLiterals, AreSegments, AreStepsOf, BeginsWithCaptured, BeginsSegments, EndsSegments, characters_text, literal_steps, BeginsWithCharacter, IsGroup, IsRunOf, IsSomeGroup, IsToken, Spells, times_text}
 use Rattle.urlpattern_engine.specs.Steps.{capture_count}
+use Rattle.urlpattern_engine.proofs.FrontLemmas.{ByItself, IsEscapedAt, apart, character_kind, run_step, run_step_is}
 use Rattle.urlpattern_engine.proofs.LongestLemmas.{run_uncaptured}
-use Rattle.urlpattern_engine.proofs.RepeatLemmas.{copied, walks-copies}
-use Rattle.urlpattern_engine.proofs.SegmentLemmas.{in_order, in_order_count, segment_items, walks-segments}
+use Rattle.urlpattern_engine.proofs.RepeatLemmas.{copied, walks-copies, walks-nothing_grouped}
+use Rattle.urlpattern_engine.proofs.SegmentLemmas.{in_order, in_order_count, literal_steps-plain, segment_items, walks-segments}
 use Rattle.urlpattern_engine.proofs.Walks.{Walks, literals_uncaptured, walks-nothing, walks-inside, walks-once, walks-maybe, walks-step, walk_is_first}
 
 -- ---- a tree and its steps
@@ -90,6 +94,23 @@ spells-maybe step group front e f (inner, one, (atom, is, of, g), h) = record {
 grouped_text : (inner others : List ℕ) → codes "(?:" ++ (inner ++ (codes ")" ++ others)) ≡ (codes "(?:" ++ (inner ++ codes ")")) ++ others
 grouped_text inner others = ap (λ t. codes "(?:" ++ t) (sym (append_assoc inner (codes ")") others))
 
+-- a group that takes nothing has no steps
+nothing-spells : (times : Times) (inner : Items) → AreItems inner → Walks inner [] → SpellsAll [] (codes "(?:" ++ (items_text inner ++ (codes ")" ++ times_text times)))
+nothing-spells times inner are walks = record {
+  atom = Grouped inner;
+  quantifier = quantifier_of times;
+  is_atom = are;
+  allows = allowed times walks.count;
+  spelled = grouped_text (items_text inner) (times_text times);
+  walks = λ items further next. walks-nothing_grouped times inner items further walks next;
+}
+  where
+    allowed : (times : Times) → group_count inner ≡ 0 → AllowsGroups (quantifier_of times) (group_count inner)
+    allowed often.Once none = tt
+    allowed often.Optional none = tt
+    allowed often.ZeroOrMore none = none
+    allowed often.OneOrMore none = none
+
 copies-spell : (may_be_missing : Bool) (inner : Items) (own group : List Step) → AreItems inner → Walks inner own → AreCopies may_be_missing own group
     → SpellsAll group (codes "(?:" ++ (items_text inner ++ (codes ")" ++ quantifier_text (copied may_be_missing))))
 copies-spell may_be_missing inner own group are walks (c, others, first, plain, is) =
@@ -109,9 +130,9 @@ copies-spell may_be_missing inner own group are walks (c, others, first, plain, 
     copied_allows true groups e = e
     copied_allows false groups e = e
 
-grouped-spells : (times : Times) (inner : Items) (own group : List Step) → AreItems inner → Walks inner own → IsGroup times own group
+some-spells : (times : Times) (inner : Items) (own group : List Step) → AreItems inner → Walks inner own → IsSomeGroup times own group
     → SpellsAll group (codes "(?:" ++ (items_text inner ++ (codes ")" ++ times_text times)))
-grouped-spells times.Once inner own group are walks is = record {
+some-spells often.Once inner own group are walks is = record {
   atom = Grouped inner;
   quantifier = Once;
   is_atom = are;
@@ -119,7 +140,7 @@ grouped-spells times.Once inner own group are walks is = record {
   spelled = grouped_text (items_text inner) [];
   walks = λ items others next. subst (λ (steps : List Step). Walks (Item (Grouped inner) Once items) (steps ++ others)) (sym is) (walks-once (Grouped inner) items own others (walks-inside inner own walks) next);
 }
-grouped-spells times.Optional inner own group are walks is =
+some-spells often.Optional inner own group are walks is =
     let missing : Group = record { steps = length own; captures = capture_count own } in
     record {
       atom = Grouped inner;
@@ -130,8 +151,15 @@ grouped-spells times.Optional inner own group are walks is =
       walks = λ items others next. subst (λ (steps : List Step). Walks (Item (Grouped inner) Optional items) (steps ++ others)) (sym is)
           (walks-maybe (Grouped inner) items missing own others (walks-inside inner own walks) next refl refl);
     }
-grouped-spells times.ZeroOrMore inner own group are walks is = copies-spell true inner own group are walks is
-grouped-spells times.OneOrMore inner own group are walks is = copies-spell false inner own group are walks is
+some-spells often.ZeroOrMore inner own group are walks is = copies-spell true inner own group are walks is
+some-spells often.OneOrMore inner own group are walks is = copies-spell false inner own group are walks is
+
+grouped-spells : (times : Times) (inner : Items) (own group : List Step) → AreItems inner → Walks inner own → IsGroup times own group
+    → SpellsAll group (codes "(?:" ++ (items_text inner ++ (codes ")" ++ times_text times)))
+grouped-spells times inner own group are walks (inl (none, same)) =
+    subst (λ (steps : List Step). SpellsAll steps (codes "(?:" ++ (items_text inner ++ (codes ")" ++ times_text times)))) (sym same)
+    (nothing-spells times inner are (subst (Walks inner) none walks))
+grouped-spells times inner own group are walks (inr some) = some-spells times inner own group are walks some
 
 pub begun : (regexp rest : List ℕ) → regexp ≡ codes "^" ++ rest → IsBegun regexp None rest []
 begun regexp rest e steps (tree, f, are, walks) = (tree, (e ∙ ap (λ t. codes "^" ++ t) f, are), walks)
@@ -256,17 +284,17 @@ read-ends old items now first end is_greedy separator text rest remaining (chara
       set_split items first step lt ∙ ap₂ (λ a b. a ++ (step ∷ b)) front (drop-one first items (Literal separator.first) others whole),
     )
 
-in_order_text : (characters : List Character) (items : Items) → items_text (in_order characters items) ≡ characters_text characters ++ items_text items
+pub in_order_text : (characters : List Character) (items : Items) → items_text (in_order characters items) ≡ characters_text characters ++ items_text items
 in_order_text [] items = refl
 in_order_text (character ∷ characters) items =
     ap₂ (λ a b. a ++ b) (append-nil (character_text character)) (in_order_text characters items) ∙ sym (append_assoc (character_text character) (characters_text characters) (items_text items))
 
-in_order_allowed : (characters : List Character) (items : Items) → AreCharacters characters → AreItems items → AreItems (in_order characters items)
+pub in_order_allowed : (characters : List Character) (items : Items) → AreCharacters characters → AreItems items → AreItems (in_order characters items)
 in_order_allowed [] items all are = are
 in_order_allowed (character ∷ characters) items all are = (all.0, tt, in_order_allowed characters items all.1 are)
 
 -- how segments are written
-spelled_segments : (first between second rest : List ℕ)
+pub spelled_segments : (first between second rest : List ℕ)
     → (codes "((?:" ++ (first ++ codes ")(?:")) ++ (between ++ (codes "(?:" ++ (second ++ (codes "))*)" ++ rest))))
     ≡ ((codes "(" ++ ((((codes "(?:" ++ (first ++ codes ")")) ++ []) ++ (((codes "(?:" ++ ((between ++ (((codes "(?:" ++ (second ++ codes ")")) ++ []) ++ [])) ++ codes ")")) ++ codes "*") ++ [])) ++ codes ")")) ++ []) ++ rest
 spelled_segments first between second rest = simp (append_assoc, append-nil)
@@ -311,3 +339,77 @@ pub begun-ends : (regexp rest : List ℕ) (done : List Step) → IsBegun regexp 
 begun-ends regexp rest done so_far e =
     let whole : IsWhole regexp done = subst (IsWhole regexp) (append-nil done) (so_far [] (Nothing, e, tt, walks-nothing)) in
     record { tree = whole.0; is_tree = whole.1; answers = walk_is_first whole.0 done whole.2 }
+
+-- ---- what is left to read
+
+-- what follows a front is read
+pub cut_read : (read : Option (Bor (List ℕ))) (front text rest : List ℕ) → IfSome read (λ found. text ≡ front ++ chars found.now) → IfNone read ((rest : List ℕ) → text ≢ front ++ rest)
+    → text ≡ front ++ rest → IsSomeAnd read (λ found. chars found.now ≡ rest)
+cut_read None front text rest some none e = absurd (none rest e)
+cut_read (Some found) front text rest some none e = append_cancel_left front (chars found.now) rest (sym some ∙ e)
+
+-- the characters before an opening bracket that are not yet read, and their steps
+abbrev pub AreLeft : (old items : List Step) → (text rest : List ℕ) → Type 0
+AreLeft old items text rest =
+    (characters : List Character) (behind : List ℕ) → AreCharacters characters → text ≡ characters_text characters ++ (codes "(" ++ behind)
+    → (left : List Character) × AreCharacters left × (rest ≡ characters_text left ++ (codes "(" ++ behind)) × (items ++ literal_steps left ≡ old ++ literal_steps characters)
+
+no_character : (text behind : List ℕ) (c : ℕ) (rest : List ℕ) → text ≡ codes "(" ++ behind → ¬ BeginsWithCharacter IsCharacter text c rest
+no_character text behind c rest e begins = by (character_kind IsCharacter text c rest begins)
+  where
+    by : ByItself IsCharacter text c rest ⊎ IsEscapedAt IsCharacter text c rest → ⊥
+    by (inl (is, f)) = let same : 40 ≡ c = cc in is (subst (λ d. is_among regexp_marks d ≡ true) same refl)
+    by (inr (is, f)) = apart 40 92 behind (c ∷ rest) refl (sym e ∙ f)
+
+first_left : (character : Character) (characters : List Character) (rest behind : List ℕ) → IsCharacter character → rest ≡ (character_text character ++ characters_text characters) ++ behind
+    → BeginsWithCharacter IsCharacter rest (character_of character) (characters_text characters ++ behind)
+first_left character characters rest behind is e = (character, is, refl, e ∙ append_assoc (character_text character) (characters_text characters) behind)
+
+pub left-more : (old items more : List Step) (text rest remaining : List ℕ) (c : ℕ) → AreLeft old items text rest → BeginsWithCharacter IsCharacter rest c remaining
+    → ((d : ℕ) (behind : List ℕ) → BeginsWithCharacter IsCharacter rest d behind → (c ≡ d) × (remaining ≡ behind)) → more ≡ items ++ Literal c ∷ [] → AreLeft old more text remaining
+left-more old items more text rest remaining c left begins reads added characters behind all e = by (left characters behind all e)
+  where
+    by : ((left : List Character) × AreCharacters left × (rest ≡ characters_text left ++ (codes "(" ++ behind)) × (items ++ literal_steps left ≡ old ++ literal_steps characters))
+        → (left : List Character) × AreCharacters left × (remaining ≡ characters_text left ++ (codes "(" ++ behind)) × (more ++ literal_steps left ≡ old ++ literal_steps characters)
+    by ([], are, f, steps) = absurd (no_character rest behind c remaining f begins)
+    by (character ∷ others, are, f, steps) =
+        let same = reads (character_of character) (characters_text others ++ (codes "(" ++ behind)) (first_left character others rest (codes "(" ++ behind) are.0 f) in (
+          others,
+          are.1,
+          same.1,
+          ap (λ l. l ++ literal_steps others) added
+              ∙ append_assoc items (Literal c ∷ []) (literal_steps others)
+              ∙ ap (λ d. items ++ Literal d ∷ literal_steps others) same.0
+              ∙ steps,
+        )
+
+-- where no character is read, none is left
+pub left-ended : (old items : List Step) (text rest : List ℕ) → AreLeft old items text rest → ((d : ℕ) (behind : List ℕ) → ¬ BeginsWithCharacter IsCharacter rest d behind)
+    → (characters : List Character) (behind : List ℕ) → AreCharacters characters → text ≡ characters_text characters ++ (codes "(" ++ behind)
+    → (rest ≡ codes "(" ++ behind) × (items ≡ old ++ literal_steps characters)
+left-ended old items text rest left none characters behind all e = by (left characters behind all e)
+  where
+    by : ((left : List Character) × AreCharacters left × (rest ≡ characters_text left ++ (codes "(" ++ behind)) × (items ++ literal_steps left ≡ old ++ literal_steps characters))
+        → (rest ≡ codes "(" ++ behind) × (items ≡ old ++ literal_steps characters)
+    by ([], are, f, steps) = (f, sym (append-nil items) ∙ steps)
+    by (character ∷ others, are, f, steps) = absurd (none (character_of character) _ (first_left character others rest (codes "(" ++ behind) are.0 f))
+
+-- the steps between two runs
+pub steps_between : (old items now : List Step) (first end : ℕ) (is_greedy : Bool) (characters : List Character) (own : List Step) → items ≡ old ++ literal_steps characters → first ≡ length old
+    → now ≡ items → AreSegments end is_greedy characters own → (c : ℕ) × (others : List Step) × (take (length now - first) (drop first now) ≡ Literal c ∷ others) × AreLiterals others
+steps_between old items now first end is_greedy characters own f place same (c, others, steps, is) = (
+  c,
+  others,
+  take_rest now first ∙ ap (drop first) same ∙ ap₂ drop place f ∙ drop-append_seam old (literal_steps characters) ∙ steps,
+  subst AreLiterals steps (literal_steps-plain characters),
+)
+
+-- the run of the last segment
+pub last_run : (end : ℕ) (is_greedy : Bool) (items : Items) (text inner rest : List ℕ) → AreItems items → IsRunOf end is_greedy items
+    → text ≡ codes "(?:" ++ (items_text items ++ (codes "))*)" ++ rest)) → text ≡ codes "(?:" ++ inner → BeginsWithCaptured inner (run_step end is_greedy) (codes "))*)" ++ rest)
+last_run end is_greedy items text inner rest are is e f = (items, are, (run_step_is end is_greedy items is).1, cc)
+
+-- where there are steps, the group is one of these
+pub some_group : (done : List Step) (first : ℕ) (times : Times) (group : List Step) → first ≤ length done → ¬ (length done ≡ first) → IsGroup times (drop first done) group → IsSomeGroup times (drop first done) group
+some_group done first times group le more (inl (none, same)) = let no : length (drop first done) ≡ 0 = ap length none in absurd (more (omega (arith, no, length-drop first done, le)))
+some_group done first times group le more (inr some) = some

@@ -1,14 +1,18 @@
 -- What is repeated: its ways and its steps.
-use Rattle.std.proofs.Common.{◌≡◌, ℕ, ◌+◌, List, [], ◌∷◌, ◌++◌, length, take, option_map, Bool, true, false, sym, ap, ap₂, ◌∙◌, append_assoc}
+use Rattle.std.proofs.Common.{◌≡◌, ℕ, ◌+◌, List, [], ◌∷◌, ◌++◌, length, take, Option, Some, None, option_map, Bool, true, false, cond, refl, sym, ap, ap₂, ◌∙◌, subst, append_assoc, zero-add, arith}
+use Rattle.std.proofs.lemmas.Bool.{le-ltb}
+use Rattle.std.specs.Option.{option_or}
 use Rattle.std.proofs.Math.Seq.{take-append_seam}
-use Rattle.urlpattern_laws.specs.Dialect.{Quantifier, ZeroOrMore, OneOrMore, Items, Item, Atom, atom_group_count}
-use Rattle.urlpattern_laws.specs.Ways.{Choice, idle, looped, quantified_ways, atom_ways}
+use Rattle.urlpattern_laws.specs.Dialect.{Quantifier, ZeroOrMore, OneOrMore, Items, Item, Atom, Grouped, atom_group_count, group_count}
+use Rattle.urlpattern_laws.specs.Ways.{Choice, idle, is_shorter, looped, more_rounds, quantified_ways, atom_ways, ways}
+use Rattle.urlpattern_engine.specs.declared.tokens.Times.{Times}
+use Rattle.urlpattern_engine.specs.declared.tokens.Times.TheVariants as often
 use Rattle.urlpattern_engine.specs.declared.step.Step.{Step}
 use Rattle.urlpattern_engine.specs.declared.step.Step.TheVariants.{Literal, Copies}
-use Rattle.urlpattern_engine.specs.Reading.{AreLiterals}
-use Rattle.urlpattern_engine.specs.Steps.{Gives, literals, after_text, repeated, walk, walk_after}
-use Rattle.urlpattern_engine.proofs.Tried.{Next, Given, given, bare, tried, before_next, option_map-still}
-use Rattle.urlpattern_engine.proofs.Rounds.{Takes, Keeps, Advances, advances-after, keeps-any, keeps-some, takes-looped, takes-looped_or_not}
+use Rattle.urlpattern_engine.specs.Reading.{AreLiterals, quantifier_of}
+use Rattle.urlpattern_engine.specs.Steps.{Gives, capture_count, literals, after_text, repeated, walk, walk_after}
+use Rattle.urlpattern_engine.proofs.Tried.{Next, Given, given, bare, tried, tried-append, before_next, option_map-still}
+use Rattle.urlpattern_engine.proofs.Rounds.{Takes, Keeps, Advances, advances-after, beyond, keeps-after, keeps-any, keeps-some, takes-looped, takes-looped_or_not, takes-then, then, tried-then, tried_idle}
 use Rattle.urlpattern_engine.proofs.Walks.{AtomWalks, Walks, after_atom, capture_count-append, literals_uncaptured, walk_after-own}
 
 -- how often copies are taken
@@ -60,4 +64,48 @@ walks-copies may_be_missing atom items c own others first plain next =
           ∙ keeps.same (λ front rest. walk (others ++ after) rest) (λ front rest. walk_after (length own) all rest) [] text
           (λ before rest le. sym (walk_after-own own (others ++ after) rest) ∙ ap (λ l. walk_after (length own) l rest) (sym seam))
           ∙ ap (λ l. repeated may_be_missing (after_text (c ∷ literals l)) (λ front rest. walk_after (length own) all rest) [] text) (sym left);
+    }
+
+-- ---- what takes nothing
+
+twice_one : {A : Type 0} (o : Option A) → option_or o o ≡ o
+twice_one None = refl
+twice_one (Some x) = refl
+
+looped_nothing : (atom : Choice) → Takes atom (after_text []) → Takes (looped true atom) (after_text [])
+looped_nothing atom takes = record {
+  takes = λ h front text.
+      let next : Choice = λ rest. cond (is_shorter rest text) (more_rounds true atom (length rest) rest) (idle 0 rest ∷ []) in
+      let same : is_shorter text text ≡ false = le-ltb (length text) (length text) (omega arith) in
+      tried-then h front next (atom text)
+      ∙ takes.takes (then next h) front text
+      ∙ ap (λ b. tried (λ more. h (front ++ more.taken) more.captures more.rest) (cond b (more_rounds true atom (length text) text) (idle 0 text ∷ []))) same
+      ∙ tried_idle h front text;
+}
+
+or_nothing : (choice : Choice) → Takes choice (after_text []) → Takes (λ text. choice text ++ idle 0 text ∷ []) (after_text [])
+or_nothing choice takes = record {
+  takes = λ h front text.
+      tried-append (given (beyond front h)) (choice text) (idle 0 text ∷ [])
+      ∙ ap₂ option_or (takes.takes h front text) (tried_idle h front text)
+      ∙ twice_one (h front [] text);
+}
+
+quantified_nothing : (times : Times) (atom : Choice) → Takes atom (after_text []) → Takes (quantified_ways (quantifier_of times) 0 atom) (after_text [])
+quantified_nothing often.Once atom takes = takes
+quantified_nothing often.Optional atom takes = or_nothing atom takes
+quantified_nothing often.ZeroOrMore atom takes = or_nothing (looped true atom) (looped_nothing atom takes)
+quantified_nothing often.OneOrMore atom takes = looped_nothing atom takes
+
+-- a group that takes nothing adds no steps, however often it is taken
+pub walks-nothing_grouped : (times : Times) (inner items : Items) (others : List Step) → Walks inner [] → Walks items others → Walks (Item (Grouped inner) (quantifier_of times) items) others
+walks-nothing_grouped times inner items others first next =
+    let takes : Takes (quantified_ways (quantifier_of times) (group_count inner) (ways inner)) (after_text []) =
+    subst (λ n. Takes (quantified_ways (quantifier_of times) n (ways inner)) (after_text [])) (sym first.count) (quantified_nothing times (ways inner) (first.text tt)) in
+    record {
+      count = ap₂ (λ m n. m + n) first.count next.count ∙ zero-add (capture_count others);
+      text = λ plain. let both = takes-then _ (ways items) (after_text []) (after_text (literals others)) takes (keeps-after []) (next.text plain) in record { takes = both.takes };
+      walks = λ after text.
+          after_atom items others next after (quantified_ways (quantifier_of times) (group_count inner) (ways inner) text)
+          ∙ taken_next _ (after_text []) takes (keeps-after []) (walk (others ++ after)) text;
     }

@@ -99,10 +99,10 @@ captured-spells text behind rest step (items, are, is, e) f = (
   ap (λ t. codes "(" ++ t) (e ∙ ap (λ t. items_text items ++ t) f ∙ sym (append_assoc (items_text items) (codes ")") rest)),
 )
 
-captured_literal : (character : Character) (items : Items) → ¬ (Captured items ≡ dialect.Literal character)
+pub captured_literal : (character : Character) (items : Items) → ¬ (Captured items ≡ dialect.Literal character)
 captured_literal character items e = cc
 
-captures_one : (step : Step) (items : Items) → IsStepOf step (Captured items) → capture_count (step ∷ []) ≡ 1
+pub captures_one : (step : Step) (items : Items) → IsStepOf step (Captured items) → capture_count (step ∷ []) ≡ 1
 captures_one (Literal c) items is = absurd (captured_literal is.0 items is.2)
 captures_one (Segment c) items is = refl
 captures_one Anything items is = refl

@@ -1,12 +1,11 @@
 -- What a value of the engine is made of, and what it answers.
-use Rattle.std.specs.Prelude.{◌≡◌, ◌≢◌, ⊤, false, All, ℕ, List, Option}
+use Rattle.std.specs.Prelude.{◌≡◌, ◌≢◌, false, All, ℕ, List, Option}
 use Rattle.urlpattern_core.specs.Engines.{IsRegexOf, regex_answer, regex_text}
 use Rattle.urlpattern_engine.specs.declared.pattern_regexp.Expression.{Expression}
 use Rattle.urlpattern_engine.specs.declared.pattern_regexp.Expression.TheVariants.{Own, Other}
 use Rattle.urlpattern_engine.specs.declared.pattern_regexp.PatternRegexp.{PatternRegexp}
-use Rattle.urlpattern_engine.specs.Reading.{AreStepsOf}
+use Rattle.urlpattern_engine.specs.Reading.{AreStepsOf, IsGenerated}
 use Rattle.urlpattern_engine.specs.Steps.{walk}
-use Rattle.urlpattern_laws.specs.FirstAnswers.{TookText}
 use Rattle.urlpattern_laws.specs.Matching.{IsMadeOf, MatcherView}
 use Rattle.urlpattern_laws.specs.PartMeaning.{Captures}
 use Rattle.urlpattern_syntax.specs.declared.parser.PartType.TheVariants.{Regexp}
@@ -39,15 +38,14 @@ pattern_answer value text = expression_answer value.expression text
 pub record IsPatternRegexpOf (regexp : List ℕ) (value : PatternRegexp) : Type 0 where
   pub of_text : IsExpressionOf regexp value.expression
 
--- the matcher is made of the parts by this engine, which takes no notice of flags and may refuse any text
+-- the matcher is made of the parts by this engine, which takes no notice of flags and refuses no generated text
 abbrev pub IsMadeByPatternRegexp : OptionsView → (flags : List ℕ) → List PartView → MatcherView PatternRegexp → Type 0
 IsMadeByPatternRegexp options flags parts matcher =
-    IsMadeOf (λ value regexp flags. IsPatternRegexpOf regexp value) (λ regexp flags. ⊤) options flags parts matcher
+    IsMadeOf (λ value regexp flags. IsPatternRegexpOf regexp value) (λ regexp flags. ¬ IsGenerated regexp) options flags parts matcher
 
--- it is such a matcher, of parts of which none is custom, case is kept, and the engine took the text where it was needed
+-- it is such a matcher, of parts of which none is custom, and case is kept
 pub record IsTakenByPatternRegexp (options : OptionsView) (flags : List ℕ) (parts : List PartView)
     (matcher : MatcherView PatternRegexp) : Type 0 where
   pub is_made : IsMadeByPatternRegexp options flags parts matcher
   pub generated : All (λ part. part.kind ≢ Regexp) parts
   pub case_kept : options.ignore_case ≡ false
-  pub took : TookText (λ value. ⊤) matcher.inner

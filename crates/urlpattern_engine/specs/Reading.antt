@@ -1,5 +1,7 @@
 -- Which steps the text of an expression is read as.
-use Rattle.std.specs.Prelude.{◌≡◌, ℕ, Bool, true, false, length, List, [], ◌∷◌, ◌++◌, codes}
+use Rattle.std.specs.Prelude.{◌≡◌, ◌≢◌, ◌⊎◌, ℕ, Bool, true, false, length, List, [], ◌∷◌, ◌++◌, codes, All, Option, IsSomeAnd}
+use Rattle.std.specs.Borrow.{Bor}
+use Rattle.std.specs.Str.{chars}
 use Rattle.urlpattern_engine.specs.declared.tokens.Times.{Times}
 use Rattle.urlpattern_engine.specs.declared.tokens.Times.TheVariants as times
 use Rattle.urlpattern_engine.specs.declared.tokens.Token.{Token}
@@ -10,7 +12,11 @@ use Rattle.urlpattern_engine.specs.Steps.{capture_count, walk}
 use Rattle.urlpattern_laws.specs.Dialect.{AnyBut, AreItems, Atom, Captured, Character, Dot, Grouped, IsAtom, IsCharacter, IsClassCharacter, IsTreeOf, Item, Items, LazyOneOrMore, Nothing, OneOrMore, Quantifier, ZeroOrMore, atom_text, character_of, character_text, items_text, quantifier_text}
 use Rattle.urlpattern_laws.specs.Dialect as dialect
 use Rattle.urlpattern_laws.specs.Ways.{first_way}
-use Rattle.urlpattern_syntax.specs.Text.{line_feed}
+use Rattle.urlpattern_syntax.specs.declared.parser.PartType.TheVariants.{Regexp}
+use Rattle.urlpattern_syntax.specs.Options.{OptionsView}
+use Rattle.urlpattern_syntax.specs.Parts.{PartView}
+use Rattle.urlpattern_syntax.specs.RegexpText.{regexp_text}
+use Rattle.urlpattern_syntax.specs.Text.{is_among, line_feed, BeginsWith}
 
 -- ---- characters
 
@@ -18,6 +24,14 @@ use Rattle.urlpattern_syntax.specs.Text.{line_feed}
 abbrev pub BeginsWithCharacter : (Is : Character → Type 0) → (text : List ℕ) → (c : ℕ) → (rest : List ℕ) → Type 0
 BeginsWithCharacter Is text c rest =
     (character : Character) × Is character × (character_of character ≡ c) × (text ≡ character_text character ++ rest)
+
+-- this is what was read at the front of a text, and the rest follows
+abbrev pub IsRead : {A : Type 0} → Option (A × Bor (List ℕ)) → A → (rest : List ℕ) → Type 0
+IsRead read it rest = IsSomeAnd read (λ found. (found.0 ≡ it) × (chars found.1.now ≡ rest))
+
+-- the text does not begin with a quantifier
+abbrev pub IsUnquantified : List ℕ → Type 0
+IsUnquantified text = ¬ BeginsWith (is_among (codes "?*+")) text
 
 -- ---- steps
 
@@ -31,6 +45,11 @@ IsAllBut c atom = ⊥
 abbrev pub IsRunOf : (end : ℕ) → (is_greedy : Bool) → Items → Type 0
 IsRunOf end true items = (end ≡ line_feed) × (items ≡ Item Dot ZeroOrMore Nothing)
 IsRunOf end false items = (one : Atom) × IsAllBut end one × (items ≡ Item one LazyOneOrMore Nothing)
+
+-- the step of such a run that is captured
+abbrev pub IsRunStep : (end : ℕ) → (is_greedy : Bool) → Step → Type 0
+IsRunStep end true step = (end ≡ line_feed) × (step ≡ Anything)
+IsRunStep end false step = step ≡ Segment end
 
 -- whether such runs that are taken so often may take nothing
 abbrev pub MayBeEmpty : (is_greedy : Bool) → Quantifier → (may_be_empty : Bool) → Type 0
@@ -98,12 +117,16 @@ AreCopies may_be_missing own group =
     (c : ℕ) × (others : List Step) × (own ≡ Literal c ∷ others) × AreLiterals others
     × (group ≡ Copies (record { text = record { first = c; others = length others }; may_be_missing = may_be_missing }) ∷ others)
 
--- the steps of a group that is taken so often, by the steps within it
+-- the steps of a group that is taken so often, by the steps within it, of which there are some
+abbrev pub IsSomeGroup : Times → (own group : List Step) → Type 0
+IsSomeGroup times.Once own group = group ≡ own
+IsSomeGroup times.Optional own group = group ≡ Maybe (record { steps = length own; captures = capture_count own }) ∷ own
+IsSomeGroup times.ZeroOrMore own group = AreCopies true own group
+IsSomeGroup times.OneOrMore own group = AreCopies false own group
+
+-- the same where there may be none: then the group has none
 abbrev pub IsGroup : Times → (own group : List Step) → Type 0
-IsGroup times.Once own group = group ≡ own
-IsGroup times.Optional own group = group ≡ Maybe (record { steps = length own; captures = capture_count own }) ∷ own
-IsGroup times.ZeroOrMore own group = AreCopies true own group
-IsGroup times.OneOrMore own group = AreCopies false own group
+IsGroup times own group = ((own ≡ []) × (group ≡ [])) ⊎ IsSomeGroup times own group
 
 -- ---- segments
 
@@ -139,3 +162,7 @@ pub record AreStepsOf (regexp : List ℕ) (steps : List Step) : Type 0 where
   pub tree : Items
   pub is_tree : IsTreeOf regexp tree
   pub answers : (text : List ℕ) → walk steps text ≡ first_way tree text
+
+-- the regular expression of parts, none of them custom, under some options
+abbrev pub IsGenerated : List ℕ → Type 0
+IsGenerated regexp = (options : OptionsView) × (parts : List PartView) × All (λ part. part.kind ≢ Regexp) parts × (regexp ≡ regexp_text options parts)

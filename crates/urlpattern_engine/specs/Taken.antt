@@ -27,6 +27,10 @@ going_on end later (c ∷ text) = if c == end then None else later
 abbrev pub Kept : Type 0
 Kept = List (Option (Bor (List ℕ)))
 
+-- what was captured before, and what is captured of the rest
+abbrev pub with_captures : Kept → Option Captures → Option Captures
+with_captures old found = option_map (λ others. map capture_view old ++ others) found
+
 -- nothing was removed
 abbrev pub Extends : (old new : Kept) → Type 0
 Extends old new = (added : Kept) × (new ≡ old ++ added)

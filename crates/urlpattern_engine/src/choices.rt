@@ -33,7 +33,7 @@ const MAYBE_COUNT: usize = 4;
 /// They need not be where at most one captured run may end at several places, and few groups may be missing: then a place is
 /// tried again a few times at most. If another run follows, that one is read again after each end of the first, which takes long
 /// only in a long text.
-pub(crate) fn when_remembered(steps: &[Step]) -> Remembered {
+fn when_remembered(steps: &[Step]) -> Remembered {
     let mut remembered = Remembered::Never;
     let mut is_chosen = false;
     let mut maybe_count: usize = 0;
@@ -76,9 +76,29 @@ fn has_choice(step: &Step, others: &[Step]) -> bool {
     }
 }
 
+/// How a text is matched by steps.
+#[derive(Clone, Copy)]
+pub(crate) enum Way {
+    /// Choices are tried one after the other.
+    ByChoices(Remembered),
+    /// A table says which choice leads on.
+    ByTable,
+}
+
+/// How a text is matched by these steps.
+///
+/// Choices are tried where they are few, so that little of the stack is needed, and no repeated group is begun at many places.
+pub(crate) fn way_of(steps: &[Step]) -> Way {
+    if is_shallow(steps) && begin_with_repeats(steps) {
+        Way::ByChoices(when_remembered(steps))
+    } else {
+        Way::ByTable
+    }
+}
+
 /// Whether the repeated groups among the steps come before each other choice, so that none of them is begun at many places of a
 /// text.
-pub(crate) fn begin_with_repeats(steps: &[Step]) -> bool {
+fn begin_with_repeats(steps: &[Step]) -> bool {
     let mut is_chosen = false;
     let mut rest = steps;
     while let Some((step, others)) = rest.split_first() {
@@ -92,11 +112,11 @@ pub(crate) fn begin_with_repeats(steps: &[Step]) -> bool {
     true
 }
 
-/// How many steps with a choice there are at most in an expression that is matched by steps. Each may be a call within a call.
+/// How many steps with a choice there are at most where choices are tried. Each may be a call within a call.
 const CHOICE_COUNT: usize = 1000;
 
-/// Whether so few of the steps may have a choice that a match by them needs little of the stack.
-pub(crate) fn is_shallow(steps: &[Step]) -> bool {
+/// Whether so few of the steps may have a choice that trying them needs little of the stack.
+fn is_shallow(steps: &[Step]) -> bool {
     let choices = steps
         .iter()
         .filter(|step| !matches!(step, Step::Literal(_)));

@@ -2,18 +2,21 @@
 //!
 //! Each function here does nothing; what it promises is a theorem.
 
-ghost use Rattle.std.specs.Prelude.{◌≡◌, ◌≢◌, ℕ, List, All, IsTrue, Option};
+ghost use Rattle.std.specs.Prelude.{◌≡◌, ◌≢◌, ⊤, ℕ, List, All, IsOk, IsTrue, Option};
 ghost use Rattle.std.specs.Str.{all_scalars};
 ghost use Rattle.regex.specs.declared.string.regex.Regex.{Regex};
 ghost use Rattle.urlpattern_core.specs.Engines.{regex_answer, IsRegexOf};
 ghost use Rattle.urlpattern_engine.specs.declared.pattern_regexp.PatternRegexp.{PatternRegexp};
-ghost use Rattle.urlpattern_engine.specs.Engine.{pattern_answer, IsPatternRegexpOf, IsTakenByPatternRegexp};
+ghost use Rattle.urlpattern_engine.specs.Engine.{pattern_answer, IsMadeByPatternRegexp, IsPatternRegexpOf, IsTakenByPatternRegexp};
+ghost use Rattle.urlpattern_core.specs.Compiling.{ComponentView, IsComponentOf};
+ghost use Rattle.urlpattern_engine.specs.Reading.{IsGenerated};
 ghost use Rattle.urlpattern_laws.specs.Dialect.{Follows, IsTreeOf, Items};
-ghost use Rattle.urlpattern_laws.specs.FirstAnswers.{IsFirstOf};
+ghost use Rattle.urlpattern_laws.specs.FirstAnswers.{IsFirstOf, TookText};
 ghost use Rattle.urlpattern_laws.specs.Matching.{Agrees, Answers, MatcherView};
 ghost use Rattle.urlpattern_laws.specs.PartMeaning.{Captures};
 ghost use Rattle.urlpattern_laws.specs.Ways.{first_way};
 ghost use Rattle.urlpattern_syntax.specs.declared.parser.PartType.TheVariants.{Regexp};
+ghost use Rattle.urlpattern_syntax.specs.declared.parser.RegexSyntax.{RegexSyntax};
 ghost use Rattle.urlpattern_syntax.specs.Options.{OptionsView};
 ghost use Rattle.urlpattern_syntax.specs.Parts.{PartView};
 ghost use Rattle.urlpattern_syntax.specs.RegexpText.{regexp_text};
@@ -40,9 +43,19 @@ pub fn pattern_regexps_answer_as_regex_does()
         pattern_answer value text ≡ regex_answer regex text }
 {}
 
-/// A matcher that the engine made answers the first way of the tree of the parts, without a premise on the engine but that it
-/// took the text where it was needed: a meaning of the parts, or None where they have none. Another matcher of the same parts
-/// answers nothing else.
+/// The engine takes each text that is generated of parts, none of them custom: a matcher of such parts has a value where it needs
+/// one, and a component that was compiled to such parts has one.
+pub fn pattern_regexps_take_each_generated_text()
+    ensures matcher { (options : OptionsView) (flags : List ℕ) (parts : List PartView) (matcher : MatcherView PatternRegexp) →
+        IsMadeByPatternRegexp options flags parts matcher → All (λ part. part.kind ≢ Regexp) parts →
+        TookText (λ value. ⊤) matcher.inner }
+    ensures component { (syntax : RegexSyntax) (options : OptionsView) (parts : List PartView) (component : ComponentView PatternRegexp) →
+        IsComponentOf (λ value regexp flags. IsPatternRegexpOf regexp value) (λ regexp flags force_eval. ¬ IsGenerated regexp) syntax options parts component →
+        All (λ part. part.kind ≢ Regexp) parts → IsOk component.regexp × TookText (λ value. ⊤) component.matcher.inner }
+{}
+
+/// A matcher that the engine made answers the first way of the tree of the parts, without any premise on the engine: a meaning of
+/// the parts, or None where they have none. Another matcher of the same parts answers nothing else.
 pub fn matchers_by_pattern_regexp_answer_the_first_way()
     ensures first { (options : OptionsView) (flags : List ℕ) (parts : List PartView) (matcher : MatcherView PatternRegexp)
         (text : List ℕ) (result : Option Captures) →

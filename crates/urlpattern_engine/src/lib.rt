@@ -1,12 +1,14 @@
 //! An engine for the regular expressions that components are made of.
 //!
 //! [`PatternRegexp`] matches by itself an expression of texts and their copies, of groups that capture a run of characters or such
-//! runs with a text between each two, and of groups that may be missing, but where a repeated group follows another choice; and
-//! leaves every other to `regex::Regex`. It answers what `regex::Regex` answers.
+//! runs with a text between each two, and of groups that may be missing; and leaves every other to `regex::Regex`. It answers what
+//! `regex::Regex` answers.
 #![tactic(auto)]
 
+mod by_table;
 mod choices;
 mod failed;
+mod fronts;
 pub mod laws;
 mod pattern_regexp;
 mod reading;
@@ -14,6 +16,7 @@ mod repeats;
 mod runs;
 mod step;
 mod stops;
+mod table;
 mod texts;
 mod tokens;
 mod walk;

@@ -1,10 +1,15 @@
 //! The engine.
 
-ghost use Rattle.std.specs.Prelude.{◌≡◌, ⊤, IfOk};
+ghost use Rattle.std.specs.Prelude.{◌≡◌, IfOk};
+ghost use Rattle.std.specs.Str.{chars};
+ghost use Rattle.urlpattern_core.specs.Captured.{captures_view};
 ghost use Rattle.urlpattern_engine.specs.Engine.{pattern_answer, pattern_text, IsPatternRegexpOf};
+ghost use Rattle.urlpattern_engine.specs.Reading.{IsGenerated};
+ghost use Rattle.urlpattern_engine.specs.Steps.{walk};
 ghost use Rattle.urlpattern_syntax.specs.declared.parser.RegexSyntax.TheVariants.{Rust};
 
-use crate::choices::{Remembered, when_remembered};
+use crate::by_table::walk_by_table;
+use crate::choices::{Way, way_of};
 use crate::reading::read_steps;
 use crate::step::Step;
 use crate::walk::walk;
@@ -16,8 +21,7 @@ use urlpattern_core::regexp::RegExp;
 
 /// An engine that answers what `regex::Regex` answers.
 ///
-/// It matches by itself an expression of texts and groups as patterns have them, but where a repeated group follows another choice;
-/// and every other by a `regex::Regex`.
+/// It matches by itself each expression of texts and groups as patterns have them, and every other by a `regex::Regex`.
 #[derive(Drop)]
 pub struct PatternRegexp {
     expression: Expression,
@@ -30,21 +34,21 @@ enum Expression {
     Other(Box<Regex>),
 }
 
-/// The text of an expression, its steps, and when what failed is remembered.
+/// The text of an expression, its steps, and how a text is matched by them.
 #[derive(Drop)]
 struct Steps {
     text: String,
     steps: Vec<Step>,
-    remembered: Remembered,
+    way: Way,
 }
 
-/// It takes no notice of flags, and reads each text at once. It may refuse any text.
+/// It takes no notice of flags, and reads each text at once. It refuses none that is generated of parts, none of them custom.
 impl RegExp for PatternRegexp {
     ghost syntax_of = { Rust };
 
     ghost IsMade = { λ value regexp flags. IsPatternRegexpOf regexp value };
 
-    ghost MayRefuse = { λ regexp flags force_eval. ⊤ };
+    ghost MayRefuse = { λ regexp flags force_eval. ¬ IsGenerated regexp };
 
     ghost answer = { pattern_answer };
 
@@ -63,7 +67,7 @@ impl RegExp for PatternRegexp {
         let expression = match read_steps(alloc, pattern)? {
             Some(steps) => Expression::Own(Steps {
                 text: String::from_str(alloc, pattern)?,
-                remembered: when_remembered(&steps),
+                way: way_of(&steps),
                 steps,
             }),
             None => {
@@ -80,7 +84,7 @@ impl RegExp for PatternRegexp {
         text: &'a str,
     ) -> Result<Option<Vec<Option<&'a str>>>, OutOfMemory> {
         match &self.expression {
-            Expression::Own(own) => walk(alloc, &own.steps, own.remembered, text),
+            Expression::Own(own) => match_steps(alloc, &own.steps, own.way, text),
             Expression::Other(regex) => RegExp::matches(&**regex, alloc, text),
         }
     }
@@ -90,6 +94,23 @@ impl RegExp for PatternRegexp {
             Expression::Own(own) => own.text.as_str(),
             Expression::Other(regex) => RegExp::pattern_string(&**regex),
         }
+    }
+}
+
+/// What the steps capture of a text that they take whole. `None`: they do not take it whole.
+///
+/// The error is that memory ran out.
+fn match_steps<'t>(
+    alloc: Global,
+    steps: &[Step],
+    way: Way,
+    text: &'t str,
+) -> Result<Option<Vec<Option<&'t str>>>, OutOfMemory>
+    ensures { IfOk result (λ found. captures_view found ≡ walk steps.now (chars text.now)) }
+{
+    match way {
+        Way::ByChoices(remembered) => walk(alloc, steps, remembered, text),
+        Way::ByTable => walk_by_table(alloc, steps, text),
     }
 }
 

@@ -1,12 +1,11 @@
 //! Reads the text of an expression as steps.
 
-ghost use Rattle.std.specs.Prelude.{◌≡◌, ◌∷◌, ◌++◌, ℕ, ◌<◌, ◌≤◌, List, length, take, drop, codes, IfOk, IfSome, IsTrue};
+ghost use Rattle.std.specs.Prelude.{◌≡◌, ◌↔◌, ◌∷◌, ◌++◌, ℕ, ◌<◌, ◌≤◌, List, length, take, drop, codes, IfNone, IfOk, IfSome, IsSomeAnd, IsTrue};
 ghost use Rattle.std.specs.Str.{chars};
-ghost use Rattle.urlpattern_engine.specs.Reading.{AreCopies, AreLiterals, AreStepsOf, EndsSegments, IsGroup, IsRunOf};
+ghost use Rattle.urlpattern_engine.specs.Reading.{AreCopies, AreLiterals, AreStepsOf, EndsSegments, IsGenerated, IsGroup, IsRunOf};
 ghost use Rattle.urlpattern_engine.specs.Steps.{capture_count};
 ghost use Rattle.urlpattern_laws.specs.Dialect.{AreItems, items_text, Items};
 
-use crate::choices::{begin_with_repeats, is_shallow};
 use crate::step::{Copies, Group, Segments, Step, Stretch};
 use crate::texts::after;
 use crate::tokens::{
@@ -14,9 +13,10 @@ use crate::tokens::{
 };
 use std::alloc::{AllocError, Global};
 
-/// The steps of an expression. `None`: it is none that is matched by steps.
+/// The steps of an expression. `None`: it is not generated of parts of which none is custom.
 pub(crate) fn read_steps(alloc: Global, regexp: &str) -> Result<Option<Vec<Step>>, AllocError>
-    ensures { IfOk result (λ read. IfSome read (λ steps. AreStepsOf (chars regexp.now) steps.items)) }
+    ensures steps { IfOk result (λ read. IfSome read (λ steps. AreStepsOf (chars regexp.now) steps.items)) }
+    ensures none { IfOk result (λ read. IfNone read (¬ IsGenerated (chars regexp.now))) }
 {
     let Some(mut rest) = after(regexp, '^') else {
         return Ok(None);
@@ -53,19 +53,24 @@ pub(crate) fn read_steps(alloc: Global, regexp: &str) -> Result<Option<Vec<Step>
         }
         rest = remaining;
     }
-    if opened.is_none() && is_end(rest) && is_shallow(&steps) && begin_with_repeats(&steps) {
+    if opened.is_none() && is_end(rest) {
         Ok(Some(steps))
     } else {
         Ok(None)
     }
 }
 
-/// Makes the steps from the first on the group of them that is taken so often. Whether there is such a group.
+/// Makes the steps from the first on the group of them that is taken so often, and adds none to none. Whether there is such a
+/// group.
 fn close_group(steps: &mut Vec<Step>, first: usize, times: Times) -> Result<bool, AllocError>
     requires { first ≤ length steps.old.items }
-    ensures { IfOk result (λ is_group. IsTrue is_group →
+    ensures group { IfOk result (λ is_group. IsTrue is_group →
         (group : List Step) × IsGroup times (drop first steps.old.items) group × (steps.new.items ≡ take first steps.old.items ++ group)) }
+    ensures any { IfOk result (λ is_group. (group : List Step) → IsGroup times (drop first steps.old.items) group → IsTrue is_group) }
 {
+    if steps.len() == first {
+        return Ok(true);
+    }
     match times {
         Times::Once => Ok(true),
         Times::Optional => {
@@ -81,7 +86,8 @@ fn close_group(steps: &mut Vec<Step>, first: usize, times: Times) -> Result<bool
 /// Makes the steps from the first on copies of the text that is made up of them. Whether there is such a text.
 fn close_copies(steps: &mut Vec<Step>, first: usize, may_be_missing: bool) -> bool
     requires { first ≤ length steps.old.items }
-    ensures { IsTrue result → (group : List Step) × AreCopies may_be_missing (drop first steps.old.items) group × (steps.new.items ≡ take first steps.old.items ++ group) }
+    ensures group { IsTrue result → (group : List Step) × AreCopies may_be_missing (drop first steps.old.items) group × (steps.new.items ≡ take first steps.old.items ++ group) }
+    ensures any { (group : List Step) → AreCopies may_be_missing (drop first steps.old.items) group → IsTrue result }
 {
     let Some(text) = stretch_of(&steps[first..]) else {
         return false;
@@ -95,7 +101,8 @@ fn close_copies(steps: &mut Vec<Step>, first: usize, may_be_missing: bool) -> bo
 
 /// The text that is made up of the steps, where each of them is literal and there is one at least.
 fn stretch_of(steps: &[Step]) -> Option<Stretch>
-    ensures { IfSome result (λ text. (others : List Step) × (steps.now ≡ Step.Literal text.first ∷ others) × AreLiterals others × (text.others ≡ length others)) }
+    ensures text { IfSome result (λ text. (others : List Step) × (steps.now ≡ Step.Literal text.first ∷ others) × AreLiterals others × (text.others ≡ length others)) }
+    ensures other { IfNone result ((first : ℕ) (others : List Step) → steps.now ≡ Step.Literal first ∷ others → ¬ AreLiterals others) }
 {
     match steps {
         [Step::Literal(first), others @ ..] if are_literals(others) => Some(Stretch {
@@ -108,7 +115,7 @@ fn stretch_of(steps: &[Step]) -> Option<Stretch>
 
 /// Whether each of the steps is literal.
 fn are_literals(steps: &[Step]) -> bool
-    ensures { IsTrue result → AreLiterals steps.now }
+    ensures { IsTrue result ↔ AreLiterals steps.now }
 {
     let mut rest = steps;
     while let [step, others @ ..] = rest {
@@ -148,7 +155,7 @@ fn group_of(steps: &[Step]) -> Group
 
 /// Whether the text is `$` alone.
 fn is_end(text: &str) -> bool
-    ensures { IsTrue result → chars text.now ≡ codes "$" }
+    ensures { IsTrue result ↔ (chars text.now ≡ codes "$") }
 {
     match after(text, '$') {
         Some(rest) => rest.is_empty(),
@@ -164,6 +171,8 @@ fn read_segments<'a>(
     text: &'a str,
 ) -> Result<Option<&'a str>, AllocError>
     ensures read { IfOk result (λ read. IfSome read (λ rest. (own : List Step) × EndsSegments end is_greedy own (chars text.now) (chars rest.now) × (steps.new.items ≡ steps.old.items ++ own))) }
+    ensures reads { IfOk result (λ read. (own : List Step) (rest : List ℕ) →
+        EndsSegments end is_greedy own (chars text.now) rest → IsSomeAnd read (λ remaining. chars remaining.now ≡ rest)) }
     ensures len { IfOk result (λ read. IfSome read (λ rest. length rest.now < length text.now)) }
 {
     let first = steps.len();
@@ -190,6 +199,8 @@ fn read_segments<'a>(
 fn read_last_segment(text: &str, end: char, is_greedy: bool) -> Option<&str>
     ensures cut { IfSome result (λ rest. (items : Items) × AreItems items × IsRunOf end is_greedy items
         × (chars text.now ≡ codes "(?:" ++ (items_text items ++ (codes "))*)" ++ chars rest.now)))) }
+    ensures reads { (items : Items) (rest : List ℕ) → AreItems items → IsRunOf end is_greedy items →
+        chars text.now ≡ codes "(?:" ++ (items_text items ++ (codes "))*)" ++ rest)) → IsSomeAnd result (λ remaining. chars remaining.now ≡ rest) }
     ensures len { IfSome result (λ rest. length rest.now < length text.now) }
 {
     let (single, rest) = read_run(after_open(text)?)?;

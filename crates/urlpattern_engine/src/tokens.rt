@@ -1,8 +1,8 @@
 //! What stands in the text of an expression.
 
-ghost use Rattle.std.specs.Prelude.{◌≡◌, ◌∷◌, ◌++◌, ℕ, ◌<◌, ◌≤◌, List, length, codes, IfSome, IsTrue};
+ghost use Rattle.std.specs.Prelude.{◌≡◌, ◌≢◌, ◌∷◌, ◌++◌, ℕ, ◌<◌, ◌≤◌, Bool, List, length, codes, IfNone, IfSome, IsSomeAnd, IsTrue};
 ghost use Rattle.std.specs.Str.{chars};
-ghost use Rattle.urlpattern_engine.specs.Reading.{BeginsWithCaptured, BeginsWithCharacter, BeginsWithToken, IsRunOf, IsStepOf, MayBeEmpty, quantifier_of, times_text};
+ghost use Rattle.urlpattern_engine.specs.Reading.{BeginsWithCaptured, BeginsWithCharacter, BeginsWithToken, IsRead, IsRunOf, IsRunStep, IsStepOf, IsUnquantified, MayBeEmpty, quantifier_of, times_text};
 ghost use Rattle.urlpattern_laws.specs.Dialect.{AllowsGroups, Captured, group_count, Grouped, IsCharacter, IsClassCharacter, Item, Items, Nothing};
 ghost use Rattle.urlpattern_syntax.specs.RegexpText.{regexp_marks};
 ghost use Rattle.urlpattern_syntax.specs.Text.{is_among};
@@ -41,6 +41,8 @@ pub(crate) enum Times {
 /// The token at the front of the text, and what follows it.
 pub(crate) fn read_token(text: &str) -> Option<(Token, &str)>
     ensures token { IfSome result (λ read. BeginsWithToken (chars text.now) read.0 (chars read.1.now)) }
+    ensures reads { (token : Token) (rest : List ℕ) →
+        BeginsWithToken (chars text.now) token rest → IsUnquantified rest → IsRead result token rest }
     ensures len { IfSome result (λ read. length read.1.now < length text.now) }
 {
     if let Some(rest) = after(text, ')') {
@@ -57,6 +59,7 @@ pub(crate) fn read_token(text: &str) -> Option<(Token, &str)>
 /// How often a group is taken, and what follows that. The text is what follows the closing bracket.
 fn read_times(text: &str) -> (Times, &str)
     ensures times { chars text.now ≡ times_text result.0 ++ chars result.1.now }
+    ensures longest { result.0 ≡ Times.Once → IsUnquantified (chars result.1.now) }
     ensures len { length result.1.now ≤ length text.now }
 {
     match split_first(text) {
@@ -70,6 +73,8 @@ fn read_times(text: &str) -> (Times, &str)
 /// The token that begins with an opening bracket, and what follows it. The text is what follows the bracket.
 fn read_bracket(text: &str) -> Option<(Token, &str)>
     ensures token { IfSome result (λ read. BeginsWithToken (codes "(" ++ chars text.now) read.0 (chars read.1.now)) }
+    ensures reads { (token : Token) (rest : List ℕ) →
+        BeginsWithToken (codes "(" ++ chars text.now) token rest → IsUnquantified rest → IsRead result token rest }
     ensures len { IfSome result (λ read. length read.1.now < length text.now) }
 {
     if let Some(rest) = after(text, '?') {
@@ -89,6 +94,9 @@ fn read_bracket(text: &str) -> Option<(Token, &str)>
 /// The token for the first of segments, and what follows it. The text is what follows the opening bracket.
 fn read_first_segment(text: &str) -> Option<(Token, &str)>
     ensures token { IfSome result (λ read. BeginsWithToken (codes "(" ++ chars text.now) read.0 (chars read.1.now)) }
+    ensures reads { (end : ℕ) (is_greedy : Bool) (rest : List ℕ) →
+        BeginsWithToken (codes "(" ++ chars text.now) (Token.FirstSegment end is_greedy) rest → IsRead result (Token.FirstSegment end is_greedy) rest }
+    ensures other { (step : Step) (rest : List ℕ) → BeginsWithCaptured (chars text.now) step rest → result ≡ None }
     ensures len { IfSome result (λ read. length read.1.now < length text.now) }
 {
     let (single, rest) = read_run(after_open(text)?)?;
@@ -100,6 +108,7 @@ fn read_first_segment(text: &str) -> Option<(Token, &str)>
 /// What follows `(?:`.
 pub(crate) fn after_open(text: &str) -> Option<&str>
     ensures cut { IfSome result (λ rest. chars text.now ≡ codes "(?:" ++ chars rest.now) }
+    ensures other { IfNone result ((rest : List ℕ) → chars text.now ≢ codes "(?:" ++ rest) }
     ensures len { IfSome result (λ rest. length rest.now < length text.now) }
 {
     after(after(after(text, '(')?, '?')?, ':')
@@ -108,6 +117,7 @@ pub(crate) fn after_open(text: &str) -> Option<&str>
 /// What follows `))*)`.
 pub(crate) fn after_segments(text: &str) -> Option<&str>
     ensures cut { IfSome result (λ rest. chars text.now ≡ codes "))*)" ++ chars rest.now) }
+    ensures other { IfNone result ((rest : List ℕ) → chars text.now ≢ codes "))*)" ++ rest) }
     ensures len { IfSome result (λ rest. length rest.now < length text.now) }
 {
     after(after(after(after(text, ')')?, ')')?, '*')?, ')')
@@ -116,6 +126,7 @@ pub(crate) fn after_segments(text: &str) -> Option<&str>
 /// The step for what brackets capture, and what follows it.
 fn read_captured(text: &str) -> Option<(Step, &str)>
     ensures step { IfSome result (λ read. BeginsWithCaptured (chars text.now) read.0 (chars read.1.now)) }
+    ensures reads { (step : Step) (rest : List ℕ) → BeginsWithCaptured (chars text.now) step rest → IsRead result step rest }
     ensures len { IfSome result (λ read. length read.1.now < length text.now) }
 {
     match after(text, '(') {
@@ -128,6 +139,7 @@ fn read_captured(text: &str) -> Option<(Step, &str)>
 /// bracket.
 fn read_repeated_run(text: &str) -> Option<(Step, &str)>
     ensures step { IfSome result (λ read. BeginsWithCaptured (codes "(" ++ chars text.now) read.0 (chars read.1.now)) }
+    ensures reads { (step : Step) (rest : List ℕ) → BeginsWithCaptured (codes "(" ++ chars text.now) step rest → IsRead result step rest }
     ensures len { IfSome result (λ read. length read.1.now < length text.now) }
 {
     let (single, rest) = read_run(after(after(text, '?')?, ':')?)?;
@@ -137,8 +149,11 @@ fn read_repeated_run(text: &str) -> Option<(Step, &str)>
 
 /// The step for runs one after the other, so often, which are one run.
 fn repeated_run(run: Step, times: Times) -> Option<Step>
-    ensures { IfSome result (λ step. (items : Items) → IsStepOf run (Captured items)
+    ensures step { IfSome result (λ step. (items : Items) → IsStepOf run (Captured items)
         → AllowsGroups (quantifier_of times) (group_count items) × IsStepOf step (Captured (Item (Grouped items) (quantifier_of times) Nothing))) }
+    ensures reads { (end : ℕ) (is_greedy may_be_empty : Bool) →
+        IsRunStep end is_greedy run → MayBeEmpty is_greedy (quantifier_of times) may_be_empty →
+        result ≡ Some (Step.Longest (record { end = end; may_be_empty = may_be_empty })) }
 {
     let (end, is_greedy) = run_of(run)?;
     let may_be_empty = may_be_empty(is_greedy, times)?;
@@ -147,7 +162,9 @@ fn repeated_run(run: Step, times: Times) -> Option<Step>
 
 /// The character that ends a run, and whether it is of any number of characters, as many as what follows allows.
 pub(crate) fn run_of(step: Step) -> Option<(char, bool)>
-    ensures { IfSome result (λ run. (items : Items) → IsStepOf step (Captured items) → IsRunOf run.0 run.1 items) }
+    ensures run { IfSome result (λ run. (items : Items) → IsStepOf step (Captured items) → IsRunOf run.0 run.1 items) }
+    ensures reads { (end : ℕ) (is_greedy : Bool) → IsRunStep end is_greedy step →
+        IsSomeAnd result (λ run. (run.0 ≡ end) × (run.1 ≡ is_greedy)) }
 {
     match step {
         Step::Segment(end) => Some((end, false)),
@@ -158,7 +175,8 @@ pub(crate) fn run_of(step: Step) -> Option<(char, bool)>
 
 /// Whether runs that are taken so often may take nothing.
 fn may_be_empty(is_greedy: bool, times: Times) -> Option<bool>
-    ensures { IfSome result (λ may_be_empty. MayBeEmpty is_greedy (quantifier_of times) may_be_empty) }
+    ensures may { IfSome result (λ may_be_empty. MayBeEmpty is_greedy (quantifier_of times) may_be_empty) }
+    ensures reads { (may_be_empty : Bool) → MayBeEmpty is_greedy (quantifier_of times) may_be_empty → result ≡ Some may_be_empty }
 {
     match times {
         Times::ZeroOrMore => Some(true),
@@ -170,6 +188,8 @@ fn may_be_empty(is_greedy: bool, times: Times) -> Option<bool>
 /// The step for a run of characters, and what follows it.
 pub(crate) fn read_run(text: &str) -> Option<(Step, &str)>
     ensures step { IfSome result (λ read. BeginsWithCaptured (chars text.now) read.0 (chars read.1.now)) }
+    ensures reads { (end : ℕ) (is_greedy : Bool) (step : Step) (rest : List ℕ) → IsRunStep end is_greedy step →
+        BeginsWithCaptured (chars text.now) step rest → IsRead result step rest }
     ensures len { IfSome result (λ read. length read.1.now < length text.now) }
 {
     match after(text, '.') {
@@ -181,6 +201,8 @@ pub(crate) fn read_run(text: &str) -> Option<(Step, &str)>
 /// The step for a dot and its quantifier, and what follows that. The text is what follows the dot.
 fn read_repeated_dot(text: &str) -> Option<(Step, &str)>
     ensures step { IfSome result (λ read. BeginsWithCaptured (codes "." ++ chars text.now) read.0 (chars read.1.now)) }
+    ensures reads { (end : ℕ) (is_greedy : Bool) (step : Step) (rest : List ℕ) → IsRunStep end is_greedy step →
+        BeginsWithCaptured (codes "." ++ chars text.now) step rest → IsRead result step rest }
     ensures len { IfSome result (λ read. length read.1.now < length text.now) }
 {
     match after(text, '*') {
@@ -192,6 +214,8 @@ fn read_repeated_dot(text: &str) -> Option<(Step, &str)>
 /// The step for a class and its quantifier, and what follows that. The text is what follows the two marks of the class.
 fn read_repeated_class(text: &str) -> Option<(Step, &str)>
     ensures step { IfSome result (λ read. BeginsWithCaptured (codes "[^" ++ chars text.now) read.0 (chars read.1.now)) }
+    ensures reads { (end : ℕ) (is_greedy : Bool) (step : Step) (rest : List ℕ) → IsRunStep end is_greedy step →
+        BeginsWithCaptured (codes "[^" ++ chars text.now) step rest → IsRead result step rest }
     ensures len { IfSome result (λ read. length read.1.now < length text.now) }
 {
     let (c, rest) = read_class_character(text)?;
@@ -201,6 +225,7 @@ fn read_repeated_class(text: &str) -> Option<(Step, &str)>
 /// What follows `+?`.
 fn after_lazy_plus(text: &str) -> Option<&str>
     ensures cut { IfSome result (λ rest. chars text.now ≡ codes "+?" ++ chars rest.now) }
+    ensures other { IfNone result ((rest : List ℕ) → chars text.now ≢ codes "+?" ++ rest) }
     ensures len { IfSome result (λ rest. length rest.now < length text.now) }
 {
     after(after(text, '+')?, '?')
@@ -209,6 +234,7 @@ fn after_lazy_plus(text: &str) -> Option<&str>
 /// A character that stands for itself, and what follows it.
 pub(crate) fn read_literal(text: &str) -> Option<(char, &str)>
     ensures character { IfSome result (λ read. BeginsWithCharacter IsCharacter (chars text.now) read.0 (chars read.1.now)) }
+    ensures reads { (c : ℕ) (rest : List ℕ) → BeginsWithCharacter IsCharacter (chars text.now) c rest → IsRead result c rest }
     ensures len { IfSome result (λ read. length read.1.now < length text.now) }
 {
     let (c, rest) = split_first(text)?;
@@ -221,6 +247,7 @@ pub(crate) fn read_literal(text: &str) -> Option<(char, &str)>
 /// A character of a class, and what follows it.
 fn read_class_character(text: &str) -> Option<(char, &str)>
     ensures character { IfSome result (λ read. BeginsWithCharacter IsClassCharacter (chars text.now) read.0 (chars read.1.now)) }
+    ensures reads { (c : ℕ) (rest : List ℕ) → BeginsWithCharacter IsClassCharacter (chars text.now) c rest → IsRead result c rest }
     ensures len { IfSome result (λ read. length read.1.now < length text.now) }
 {
     let (c, rest) = split_first(text)?;
@@ -235,6 +262,7 @@ fn read_class_character(text: &str) -> Option<(char, &str)>
 fn read_escaped(text: &str) -> Option<(char, &str)>
     ensures mark { IfSome result (λ read. IsTrue (is_among (regexp_marks ++ codes "/") read.0)) }
     ensures cut { IfSome result (λ read. chars text.now ≡ read.0 ∷ chars read.1.now) }
+    ensures other { IfNone result ((c : ℕ) (rest : List ℕ) → IsTrue (is_among (regexp_marks ++ codes "/") c) → chars text.now ≢ c ∷ rest) }
     ensures len { IfSome result (λ read. length read.1.now < length text.now) }
 {
     let (c, rest) = split_first(text)?;

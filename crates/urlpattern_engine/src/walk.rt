@@ -523,7 +523,7 @@ fn end_here(
 /// Adds so many captures that are missing.
 ///
 /// The error is that memory ran out.
-fn add_missing(captures: &mut Vec<Option<&str>>, count: usize) -> Result<(), OutOfMemory>
+pub(crate) fn add_missing(captures: &mut Vec<Option<&str>>, count: usize) -> Result<(), OutOfMemory>
     ensures { OnOk result (captures.new.items ≡ captures.old.items ++ replicate count None) }
 {
     for _ in 0..count {

@@ -1,5 +1,6 @@
 -- From what eight components answer to what a call tells.
 use Rattle.std.proofs.Common.{◌≡◌, ℕ, Bor, List, true, false, refl, sym, ◌∙◌, subst, inr}
+use Rattle.std.proofs.lemmas.Bool.{false≢true}
 use Rattle.std.specs.HashMap.{HashMap}
 use Rattle.std.specs.Prelude.{Bool, Option, Some, None, Result, Ok, Err, String, is_some, IfOk, IfNone, IfSome, MatchBool, MatchOption}
 use Rattle.std.specs.Str.{chars}
@@ -21,6 +22,21 @@ pub tells-some : {X : Type 0} (P : X → Type 0) (A B : Type 0) (found : Option 
     ((x : X) → P x → A) → IfSome found P → IfNone found B → MatchBool test A B
 tells-some P A B None test e f some none = subst (λ (b : Bool). MatchBool b A B) (sym e) none
 tells-some P A B (Some x) test e f some none = subst (λ (b : Bool). MatchBool b A B) (sym e) (f x some)
+
+-- a test of one thing or the other is one of what they lead to
+pub tells-both : (A B C D : Type 0) (result : Result Bool Error) → (A → C) → (B → D) → IfOk result (λ test. MatchBool test A B) → IfOk result (λ test. MatchBool test C D)
+tells-both A B C D (Ok true) f g h = f h
+tells-both A B C D (Ok false) f g h = g h
+tells-both A B C D (Err error) f g h = tt
+
+-- what a test says, by what it is
+pub said_true : (A B : Type 0) (test : Bool) → test ≡ true → MatchBool test A B → A
+said_true A B true e a = a
+said_true A B false e b = absurd (false≢true e)
+
+pub said_false : (A B : Type 0) (test : Bool) → test ≡ false → MatchBool test A B → B
+said_false A B true e a = absurd (false≢true (sym e))
+said_false A B false e b = b
 
 -- a test of the input's texts tests the input
 pub test-of_texts : {E : Type 0} (answer : E → List ℕ → Option Captures) (pattern : PatternView E) (input : UrlPatternMatchInput) (texts : Texts) (result : Result Bool Error) →

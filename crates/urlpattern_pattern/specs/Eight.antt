@@ -13,6 +13,8 @@ use Rattle.urlpattern_pattern.specs.declared.pattern.result.UrlPatternResult.{Ur
 use Rattle.urlpattern_init.specs.Inheritance.{Texts}
 use Rattle.urlpattern_pattern.specs.Match.{ResultView, group_in, group_of, result_view, text_at}
 use Rattle.urlpattern_core.specs.Captured.{capture_view}
+use Rattle.urlpattern_core.specs.Looks.{look_answer}
+use Rattle.urlpattern_core.specs.declared.matcher.look.Look.{Look}
 use Rattle.urlpattern_laws.specs.PartMeaning.{Captures}
 
 -- the value of one component
@@ -44,6 +46,14 @@ abbrev pub captures_of : Captured → Captures
 captures_of captured.Nothing = []
 captures_of (captured.One capture) = capture_view capture ∷ []
 captures_of (captured.Groups captures) = map capture_view captures.items
+
+-- what is seen in a text leads to a match
+abbrev pub ShowsMatch : {E : Type 0} → (answer : E → List ℕ → Option Captures) → Look E → Type 0
+ShowsMatch answer look = (captures : Captures) × (look_answer answer (Some look) ≡ Some captures)
+
+-- what is seen in a text leads to none
+abbrev pub ShowsNoMatch : {E : Type 0} → (answer : E → List ℕ → Option Captures) → Look E → Type 0
+ShowsNoMatch answer look = look_answer answer (Some look) ≡ None
 
 -- the map has the groups of these names, which capture this, and no others
 abbrev pub AreGroups : {S : Type 0} → (names : List (List ℕ)) → Captures → HashMap (String Global) (Option (String Global)) S → Type 0

@@ -1,4 +1,4 @@
-//! Whether the engine for patterns answers what `regex::Regex` answers.
+//! Whether the other engines answer what `regex::Regex` answers.
 
 use super::Outcome;
 use super::given::{self, Given};
@@ -8,6 +8,7 @@ use regex::Regex;
 use std::alloc::Global;
 use urlpattern::component::generate_regular_expression_and_name_list;
 use urlpattern::error::RegExpError;
+use urlpattern::quirks::EcmaRegexp;
 use urlpattern::regexp::{PatternRegexp, RegExp};
 use urlpattern::{Error, RegexSyntax};
 
@@ -20,7 +21,7 @@ const PIECES: [&str; 19] = [
 /// How many texts an engine is asked about.
 const TEXTS: usize = 4;
 
-/// Asks both engines about texts.
+/// Asks the engines about texts.
 pub fn ask(maker: &mut Maker) -> Result<Outcome, Error> {
     let given = Given::new(maker, RegexSyntax::Rust)?;
     let Some(regexp) = regular_expression(maker, &given)? else {
@@ -28,13 +29,17 @@ pub fn ask(maker: &mut Maker) -> Result<Outcome, Error> {
     };
     let by_regex = Regex::parse(maker.alloc, &regexp, "u", true);
     let by_pattern = PatternRegexp::parse(maker.alloc, &regexp, "u", true);
-    let outcome = match (&by_regex, &by_pattern) {
-        (Ok(by_regex), Ok(by_pattern)) => {
-            are_answered_alike(maker, by_regex, by_pattern, given.near)
+    let by_ecma = EcmaRegexp::parse(maker.alloc, &regexp, "u", true);
+    let outcome = match (&by_regex, &by_pattern, &by_ecma) {
+        (Ok(by_regex), Ok(by_pattern), Ok(by_ecma)) => {
+            are_answered_alike(maker, by_regex, by_pattern, by_ecma, given.near)
         }
-        (Err(RegExpError::Pattern), Err(RegExpError::Pattern)) => Ok(Outcome::Refused),
+        (Err(RegExpError::Pattern), Err(RegExpError::Pattern), Err(RegExpError::Pattern)) => Ok(
+            Outcome::Refused,
+        ),
         _ => Ok(Outcome::Differs),
     };
+    drop(by_ecma);
     drop(by_pattern);
     drop(by_regex);
     outcome
@@ -60,29 +65,31 @@ fn regular_expression(maker: &mut Maker, given: &Given) -> Result<Option<String>
     }
 }
 
-/// What comes of the answers of two engines.
+/// What comes of the answers of the engines.
 fn are_answered_alike(
     maker: &mut Maker,
     by_regex: &Regex,
     by_pattern: &PatternRegexp,
+    by_ecma: &EcmaRegexp,
     near: &str,
 ) -> Result<Outcome, Error> {
     for _ in 0..TEXTS {
         let text = given::text(maker, near)?;
-        if !is_answered_alike(maker.alloc, by_regex, by_pattern, &text)? {
+        if !is_answered_alike(maker.alloc, by_regex, by_pattern, by_ecma, &text)? {
             return Ok(Outcome::Differs);
         }
     }
     Ok(Outcome::Same)
 }
 
-/// Whether two engines answer a text alike.
+/// Whether the engines answer a text alike.
 fn is_answered_alike(
     alloc: Global,
     by_regex: &Regex,
     by_pattern: &PatternRegexp,
+    by_ecma: &EcmaRegexp,
     text: &str,
 ) -> Result<bool, Error> {
     let captures = RegExp::matches(by_regex, alloc, text)?;
-    Ok(by_pattern.matches(alloc, text)? == captures)
+    Ok(by_pattern.matches(alloc, text)? == captures && by_ecma.matches(alloc, text)? == captures)
 }

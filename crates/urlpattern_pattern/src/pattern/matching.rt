@@ -6,7 +6,7 @@ ghost use Rattle.urlpattern_init.specs.Inheritance.{texts_of_url};
 ghost use Rattle.urlpattern_init.specs.declared.init.processing.Component.{Component as Name};
 ghost use Rattle.urlpattern_init.specs.declared.init.UrlPatternMatchInput.TheVariants as inputs;
 ghost use Rattle.urlpattern_pattern.specs.Captures.{captures_view};
-ghost use Rattle.urlpattern_pattern.specs.Eight.{at, borrowed_texts, captures_of, results_of};
+ghost use Rattle.urlpattern_pattern.specs.Eight.{at, borrowed_texts, captures_of, results_of, ShowsMatch, ShowsNoMatch};
 ghost use Rattle.urlpattern_pattern.specs.Match.{AreAnswers, AreMatched, AsksAnEngine, HasMatch, HasNoMatch, IsMatch, IsMatchOf, IsRefused, IsResultOf, result_view, text_at};
 ghost use Rattle.urlpattern_pattern.specs.MatchInput.{texts_view};
 ghost use Rattle.urlpattern_pattern.specs.Patterns.{pattern_view};
@@ -186,10 +186,10 @@ impl<R: RegExp> UrlPattern<R> {
         ensures memory { IfErr result (λ error. error ≡ errors.OutOfMemory) }
         ensures asked { IfErr result (λ _. AsksAnEngine (pattern_view self.now) (borrowed_texts texts.entry)) }
     {
-        let answer = self.captured(alloc, &texts)?;
-        let is_matched = answer.is_some();
-        drop(answer);
-        Ok(is_matched)
+        match self.look(&texts) {
+            Some(looks) => are_accepted(alloc, looks),
+            None => Ok(false),
+        }
     }
 
     /// The match of these texts. `None`: one of them is not matched.
@@ -238,6 +238,7 @@ impl<R: RegExp> UrlPattern<R> {
     }
 
     /// What the components see in their texts, before an engine is asked. None if one of them does not match.
+    #[inline(always)]
     fn look<'a>(&'a self, texts: &Eight<&'a str>) -> Option<Eight<Look<'a, R>>>
         ensures some { IfSome result (λ looks. (name : Name) →
             Answers R.answer (pattern_view self.now name).matcher (text_at (borrowed_texts texts.now) name) (look_answer R.answer (Some (at looks name)))) }
@@ -324,4 +325,47 @@ fn captures_of_looks<'a, R: RegExp>(
         search,
         hash,
     }))
+}
+
+/// Whether each of eight texts is matched, of which this is seen.
+fn are_accepted<R: RegExp>(alloc: Global, looks: Eight<Look<'_, R>>) -> Result<bool, Error>
+    ensures accepted { IfOk result (λ accepted. MatchBool accepted ((name : Name) → ShowsMatch R.answer (at looks.entry name)) ((name : Name) × ShowsNoMatch R.answer (at looks.entry name))) }
+    ensures memory { IfErr result (λ error. error ≡ errors.OutOfMemory) }
+    ensures asked { IfErr result (λ _. (name : Name) × IsAsking (at looks.entry name)) }
+{
+    if !is_accepted(alloc, looks.protocol)? {
+        return Ok(false);
+    }
+    if !is_accepted(alloc, looks.username)? {
+        return Ok(false);
+    }
+    if !is_accepted(alloc, looks.password)? {
+        return Ok(false);
+    }
+    if !is_accepted(alloc, looks.hostname)? {
+        return Ok(false);
+    }
+    if !is_accepted(alloc, looks.port)? {
+        return Ok(false);
+    }
+    if !is_accepted(alloc, looks.pathname)? {
+        return Ok(false);
+    }
+    if !is_accepted(alloc, looks.search)? {
+        return Ok(false);
+    }
+    is_accepted(alloc, looks.hash)
+}
+
+/// Whether a text is matched, of which this is seen.
+fn is_accepted<R: RegExp>(alloc: Global, look: Look<'_, R>) -> Result<bool, Error>
+    ensures accepted { IfOk result (λ accepted. MatchBool accepted (ShowsMatch R.answer look.entry) (ShowsNoMatch R.answer look.entry)) }
+    ensures memory { IfErr result (λ error. error ≡ errors.OutOfMemory) }
+    ensures asked { IfErr result (λ _. IsAsking look.entry) }
+{
+    match look {
+        Look::Matched => Ok(true),
+        Look::Captured(_) => Ok(true),
+        Look::Asks { engine, middle } => Ok(engine.matches(alloc, middle)?.is_some()),
+    }
 }

@@ -4,12 +4,14 @@ use denote.Shadow.{shadow}
 use Rattle.std.specs.Str.{chars}
 use Rattle.urlpattern_laws.specs.Dialect.{Character}
 use Rattle.urlpattern_engine.specs.Reading.{AreCharacters, characters_text, literal_steps}
+use Rattle.urlpattern_engine.proofs.ReadingLemmas.{AreLeft}
 use Rattle.urlpattern_engine.proofs.reading.read_segments.Given as goal
 
 abbrev pub invariant-loop-c : goal.invariant-loop-c
 invariant-loop-c l = record {
   is_text : shadow (Utf8 l.rest);
   so_far : (characters : List Character) × AreCharacters characters × (chars l.text ≡ characters_text characters ++ chars l.rest) × (l.steps.items ≡ l.fn.steps.items ++ literal_steps characters);
+  to_read : AreLeft l.fn.steps.items l.steps.items (chars l.text) (chars l.rest);
   shorter : length l.rest ≤ length l.text;
 }
 

@@ -1,5 +1,8 @@
+use Rattle.std.proofs.Common.{◌≡◌, ◌++◌, Some, codes, sym, ◌∙◌, subst}
 use Rattle.std.specs.Str.{chars}
-use Rattle.urlpattern_engine.specs.Reading.{BeginsWithCaptured}
+use Rattle.urlpattern_engine.specs.declared.step.Step.TheVariants.{Longest}
+use Rattle.urlpattern_engine.specs.Reading.{BeginsWithCaptured, MayBeEmpty, quantifier_of, times_text}
+use Rattle.urlpattern_engine.proofs.FrontLemmas.{ReadsRun, captured_repeated, repeated_read, repeated_run_in, repeated_times}
 use Rattle.urlpattern_engine.proofs.TokenLemmas.{repeated_run}
 use Rattle.urlpattern_engine.proofs.tokens.read_repeated_run.Goals as goal
 
@@ -8,4 +11,61 @@ returns-clause-step c =
     let single : BeginsWithCaptured (chars c.in_ok-after-2.field-0.now) c.in_ok-single.single (chars c.in_ok-single.rest.now) = rw (c.in_ok-single.single-is, c.in_ok-single.rest-is) c.in_ok-single.ensures.step in
     repeated_run (chars c.args.text.now) (chars c.in_ok-after.field-0.now) (chars c.in_ok-after-2.field-0.now) (chars c.in_ok-single.rest.now) (chars c.in_ok-after-3.field-0.now)
     (chars c.read_times-times.result.1.now) c.in_ok-single.single c.in_ok-repeated_run.field-0 c.read_times-times.result.0 c.in_ok-after.ensures.cut c.in_ok-after-2.ensures.cut single
-    c.in_ok-after-3.ensures.cut c.read_times-times.ensures.times c.in_ok-repeated_run.ensures
+    c.in_ok-after-3.ensures.cut c.read_times-times.ensures.times c.in_ok-repeated_run.ensures.step
+
+pub returns-in_err-single-clause-reads : goal.returns-in_err-single-clause-reads
+returns-in_err-single-clause-reads c = λ step rest begins.
+    let text = chars c.args.text.now in
+    let inner = chars c.in_ok-after-2.field-0.now in
+    let asked = c.in_ok-after.ensures.cut in
+    let colon = c.in_ok-after-2.ensures.cut in
+    let cut : text ≡ codes "?:" ++ inner = cc in
+    let repeated = captured_repeated step text rest begins in
+    absurd (c.in_err-single.ensures.reads repeated.end repeated.is_greedy repeated.run (codes ")" ++ (times_text repeated.times ++ rest)) repeated.is_run (repeated_run_in step text rest inner repeated cut))
+
+pub returns-in_err-after-3-clause-reads : goal.returns-in_err-after-3-clause-reads
+returns-in_err-after-3-clause-reads c = λ step rest begins.
+    let text = chars c.args.text.now in
+    let inner = chars c.in_ok-after-2.field-0.now in
+    let asked = c.in_ok-after.ensures.cut in
+    let colon = c.in_ok-after-2.ensures.cut in
+    let cut : text ≡ codes "?:" ++ inner = cc in
+    let repeated = captured_repeated step text rest begins in
+    let reads : ReadsRun inner c.in_ok-single.single (chars c.in_ok-single.rest.now) = rw (c.in_ok-single.single-is, c.in_ok-single.rest-is) c.in_ok-single.ensures.reads in
+    let found = repeated_read step text rest inner repeated c.in_ok-single.single (chars c.in_ok-single.rest.now) cut reads in
+    absurd (c.in_err-after-3.ensures.other (times_text repeated.times ++ rest) found.1)
+
+pub returns-in_err-repeated_run-clause-reads : goal.returns-in_err-repeated_run-clause-reads
+returns-in_err-repeated_run-clause-reads c = λ step rest begins.
+    let text = chars c.args.text.now in
+    let inner = chars c.in_ok-after-2.field-0.now in
+    let behind = chars c.in_ok-single.rest.now in
+    let asked = c.in_ok-after.ensures.cut in
+    let colon = c.in_ok-after-2.ensures.cut in
+    let cut : text ≡ codes "?:" ++ inner = cc in
+    let repeated = captured_repeated step text rest begins in
+    let reads : ReadsRun inner c.in_ok-single.single behind = rw (c.in_ok-single.single-is, c.in_ok-single.rest-is) c.in_ok-single.ensures.reads in
+    let found = repeated_read step text rest inner repeated c.in_ok-single.single behind cut reads in
+    let read = repeated_times step text rest repeated behind (chars c.in_ok-after-3.field-0.now) (chars c.read_times-times.result.1.now) c.read_times-times.result.0 found.1 c.in_ok-after-3.ensures.cut
+    c.read_times-times.ensures.times c.read_times-times.ensures.longest in
+    let may = subst (λ t. MayBeEmpty repeated.is_greedy (quantifier_of t) repeated.may_be_empty) (sym read.0) repeated.may in
+    cc (c.in_err-repeated_run.ensures.reads repeated.end repeated.is_greedy repeated.may_be_empty found.0 may)
+
+pub returns-clause-reads : goal.returns-clause-reads
+returns-clause-reads c = λ step rest begins.
+    let text = chars c.args.text.now in
+    let inner = chars c.in_ok-after-2.field-0.now in
+    let behind = chars c.in_ok-single.rest.now in
+    let asked = c.in_ok-after.ensures.cut in
+    let colon = c.in_ok-after-2.ensures.cut in
+    let cut : text ≡ codes "?:" ++ inner = cc in
+    let repeated = captured_repeated step text rest begins in
+    let reads : ReadsRun inner c.in_ok-single.single behind = rw (c.in_ok-single.single-is, c.in_ok-single.rest-is) c.in_ok-single.ensures.reads in
+    let found = repeated_read step text rest inner repeated c.in_ok-single.single behind cut reads in
+    let read = repeated_times step text rest repeated behind (chars c.in_ok-after-3.field-0.now) (chars c.read_times-times.result.1.now) c.read_times-times.result.0 found.1 c.in_ok-after-3.ensures.cut
+    c.read_times-times.ensures.times c.read_times-times.ensures.longest in
+    let may = subst (λ t. MayBeEmpty repeated.is_greedy (quantifier_of t) repeated.may_be_empty) (sym read.0) repeated.may in
+    let made : Some c.in_ok-repeated_run.field-0 ≡ Some (Longest (record { end = repeated.end; may_be_empty = repeated.may_be_empty })) =
+    c.in_ok-repeated_run.ensures.reads repeated.end repeated.is_greedy repeated.may_be_empty found.0 may in
+    let same : c.in_ok-repeated_run.field-0 ≡ Longest (record { end = repeated.end; may_be_empty = repeated.may_be_empty }) = cc in
+    (same ∙ sym repeated.same, read.1)

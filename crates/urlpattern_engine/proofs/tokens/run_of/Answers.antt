@@ -4,8 +4,8 @@ use Rattle.urlpattern_engine.specs.Reading.{IsStepOf}
 use Rattle.urlpattern_engine.proofs.TokenLemmas.{anything_run, segment_run}
 use Rattle.urlpattern_engine.proofs.tokens.run_of.Goals as goal
 
-pub returns-in-Segment : goal.returns-in-Segment
-returns-in-Segment c = λ items is. segment_run c.in-Segment.end items (subst (λ s. IsStepOf s (Captured items)) c.in-Segment.is is)
+pub returns-in-Segment-clause-run : goal.returns-in-Segment-clause-run
+returns-in-Segment-clause-run c = λ items is. segment_run c.in-Segment.end items (subst (λ s. IsStepOf s (Captured items)) c.in-Segment.is is)
 
-pub returns-in-Anything : goal.returns-in-Anything
-returns-in-Anything c = λ items is. anything_run items (subst (λ s. IsStepOf s (Captured items)) c.in-Anything.is is)
+pub returns-in-Anything-clause-run : goal.returns-in-Anything-clause-run
+returns-in-Anything-clause-run c = λ items is. anything_run items (subst (λ s. IsStepOf s (Captured items)) c.in-Anything.is is)

@@ -1,3 +1,4 @@
+use Rattle.std.proofs.Common.{[], ap, append-nil, sym}
 use Rattle.std.proofs.lemmas.Str.{IsUtf8-string_bytes}
 use Rattle.std.specs.Prelude.{string_bytes}
 use Rattle.std.specs.Str.{chars}
@@ -6,6 +7,19 @@ use Rattle.urlpattern_core.proofs.FoldedEnds.{begins-between, between-folded, en
 use Rattle.urlpattern_core.proofs.MatcherTexts.{between-none, between-some, not_stripped}
 use Rattle.urlpattern_core.proofs.matcher.Matcher.middle.Goals as goal
 use Rattle.urlpattern_laws.proofs.MatchingLaws.{middle_kept}
+use Rattle.urlpattern_laws.specs.Matching.{folded}
+
+-- ---- where prefix and suffix are empty
+
+pub returns-then-has_no_ends-clause-some : goal.returns-then-has_no_ends-clause-some
+returns-then-has_no_ends-clause-some g c =
+    let ignore_case = c.args.self.now.ignore_case in (
+      [],
+      [],
+      sym (append-nil (chars c.args.input.now)),
+      ap (folded ignore_case) (sym (c.has_no_ends.ensures.prefix c.if-has_no_ends.true)),
+      ap (folded ignore_case) (sym (c.has_no_ends.ensures.suffix c.if-has_no_ends.true)),
+    )
 
 -- ---- where case is ignored
 

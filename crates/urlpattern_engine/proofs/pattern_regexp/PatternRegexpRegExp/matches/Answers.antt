@@ -11,8 +11,8 @@ pub returns-in-Own : goal.returns-in-Own
 unfolding pattern_answer
 returns-in-Own c =
     let text = chars c.args.text.now in
-    subst (λ e. IfOk c.walk.result (λ found. captures_view found ≡ expression_answer e text)) (sym c.in-Own.is)
-    (subst (λ s. IfOk c.walk.result (λ found. captures_view found ≡ walk s text)) c.deref.ensures.value c.walk.ensures)
+    subst (λ e. IfOk c.match_steps.result (λ found. captures_view found ≡ expression_answer e text)) (sym c.in-Own.is)
+    (subst (λ s. IfOk c.match_steps.result (λ found. captures_view found ≡ walk s text)) c.deref.ensures.value c.match_steps.ensures)
 
 pub returns-in-Other : goal.returns-in-Other
 unfolding pattern_answer

@@ -1,14 +1,19 @@
-use Rattle.urlpattern_pattern.specs.declared.pattern.captures.Captured.{Captured}
-use Rattle.urlpattern_pattern.specs.declared.pattern.eight.Eight.{Eight}
-use Rattle.urlpattern_pattern.specs.Eight.{at, borrowed_texts, captures_of}
-use Rattle.urlpattern_pattern.specs.Match.{AreAnswers}
+use Rattle.std.proofs.Common.{subst}
+use Rattle.std.specs.Prelude.{Option}
+use Rattle.urlpattern_laws.specs.Matching.{Answers}
+use Rattle.urlpattern_laws.specs.PartMeaning.{Captures}
+use Rattle.urlpattern_pattern.specs.Eight.{borrowed_texts}
+use Rattle.urlpattern_pattern.specs.Match.{text_at}
 use Rattle.urlpattern_pattern.specs.Patterns.{pattern_view}
-use Rattle.urlpattern_pattern.proofs.MatchSteps.{tells-some}
+use Rattle.urlpattern_pattern.proofs.MatchSteps.{tells-both}
 use Rattle.urlpattern_pattern.proofs.pattern.UrlPattern.is_matched.Goals as goal
 
-pub returns-clause-matched : goal.returns-clause-matched
-returns-clause-matched g c =
-    tells-some
-    (λ (captures : Eight Captured). AreAnswers g.R.RegExp.answer (pattern_view c.args.self.now) (borrowed_texts c.args.texts) (λ name. captures_of (at captures name)))
-    _ _ c.in_ok-answer.answer c.is_some-is_matched.result c.is_some-is_matched.ensures (λ captures answers name. (captures_of (at captures name), answers name))
-    c.in_ok-answer.ensures.answers c.in_ok-answer.ensures.refused
+pub returns-in-Some-clause-matched : goal.returns-in-Some-clause-matched
+returns-in-Some-clause-matched g c =
+    let answer = g.R.RegExp.answer in
+    let texts = borrowed_texts c.args.texts in
+    let answers = c.in-Some.ensures.some in
+    tells-both _ _ _ _ c.are_accepted.result
+    (λ shows name. ((shows name).0, subst (λ (found : Option Captures). Answers answer (pattern_view c.args.self.now name).matcher (text_at texts name) found) (shows name).1 (answers name)))
+    (λ shows. (shows.0, subst (λ (found : Option Captures). Answers answer (pattern_view c.args.self.now shows.0).matcher (text_at texts shows.0) found) shows.1 (answers shows.0)))
+    c.are_accepted.ensures.accepted
