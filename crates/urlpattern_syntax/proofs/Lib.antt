@@ -3,6 +3,7 @@ pub mod Escaped
 pub mod TextLemmas
 pub mod ComparedTexts
 pub mod BodyLemmas
+pub mod EightLemmas
 pub mod PieceLemmas
 pub mod PiecesExist
 pub mod ReadingLemmas

@@ -1,4 +1,5 @@
 pub mod Cursors
+pub mod Eight
 pub mod ErrorText
 pub mod Errors
 pub mod GivenNames

@@ -1,0 +1,52 @@
+-- The eight components of a URL, and a value for each of them.
+use Rattle.std.specs.Prelude.{◌≡◌, All, ℕ, List, [], ◌∷◌, ◌++◌, codes, Result, Ok, Err}
+use Rattle.urlpattern_syntax.specs.declared.eight.ComponentName.{ComponentName}
+use Rattle.urlpattern_syntax.specs.declared.eight.ComponentName.TheVariants.{Protocol, Username, Password, Hostname, Port, Pathname, Search, Hash}
+use Rattle.urlpattern_syntax.specs.declared.eight.Eight.{Eight}
+
+-- the components in the order of the standard
+abbrev pub components : List ComponentName
+components = Protocol ∷ Username ∷ Password ∷ Hostname ∷ Port ∷ Pathname ∷ Search ∷ Hash ∷ []
+
+-- the name of a component in lower case
+abbrev pub name_text : ComponentName → List ℕ
+name_text Protocol = codes "protocol"
+name_text Username = codes "username"
+name_text Password = codes "password"
+name_text Hostname = codes "hostname"
+name_text Port = codes "port"
+name_text Pathname = codes "pathname"
+name_text Search = codes "search"
+name_text Hash = codes "hash"
+
+-- the value of one component
+abbrev pub at : {A : Type 0} → Eight A → ComponentName → A
+at values Protocol = values.protocol
+at values Username = values.username
+at values Password = values.password
+at values Hostname = values.hostname
+at values Port = values.port
+at values Pathname = values.pathname
+at values Search = values.search
+at values Hash = values.hash
+
+-- a value for each component
+abbrev pub each : {A : Type 0} → (ComponentName → A) → Eight A
+each value = record {
+  protocol = value Protocol;
+  username = value Username;
+  password = value Password;
+  hostname = value Hostname;
+  port = value Port;
+  pathname = value Pathname;
+  search = value Search;
+  hash = value Hash;
+}
+
+-- a component may be answered by this error, and those before it by values
+abbrev pub IsFirstError : {A E : Type 0} → (Answers : ComponentName → Result A E → Type 0) → E → Type 0
+IsFirstError {A} Answers error =
+    (before after : List ComponentName) × (name : ComponentName)
+    × (components ≡ before ++ name ∷ after)
+    × All (λ earlier. (value : A) × Answers earlier (Ok value)) before
+    × Answers name (Err error)
