@@ -20,7 +20,7 @@ use Rattle.urlpattern.specs.Captured.{capture_view}
 use Rattle.urlpattern.specs.Captures.{captures_view, groups_view}
 use Rattle.urlpattern.specs.Match.{ResultView}
 use Rattle.urlpattern.specs.Text.{text_of}
-use Rattle.urlpattern_init.specs.declared.init.processing.Component.{Component}
+use Rattle.urlpattern_syntax.specs.declared.eight.ComponentName.{ComponentName}
 use Rattle.urlpattern_pattern.specs.declared.pattern.captures.UrlPatternCaptures.{UrlPatternCaptures}
 
 -- ---- names that are gathered
@@ -59,7 +59,7 @@ names-end names captures gathered all ends was =
 -- ---- names and groups
 
 -- a name is among those of the groups where there is a group of it
-pub named-group : (found : UrlPatternCaptures) (component : Component) (name : List ℕ) →
+pub named-group : (found : UrlPatternCaptures) (component : ComponentName) (name : List ℕ) →
     Contains (keys_of (groups_view found component)) name ↔ IsSome ((captures_view found component).group name)
 named-group found component name =
     let groups = groups_view found component in
@@ -103,7 +103,7 @@ is_same_name name other = bytes_eq (string_bytes name.now) (string_bytes other.n
 abbrev pub name_cmp : Bor (String Global) → Bor (String Global) → Ordering
 name_cmp name other = slice_cmp nat_cmp (string_bytes name.now) (string_bytes other.now)
 
-pub names-in_order : (found : UrlPatternCaptures) (component : Component) (gathered sorted : List (Bor (String Global))) → texts gathered ≡ keys_of (groups_view found component) →
+pub names-in_order : (found : UrlPatternCaptures) (component : ComponentName) (gathered sorted : List (Bor (String Global))) → texts gathered ≡ keys_of (groups_view found component) →
     IsPermutation gathered sorted → IsSorted name_cmp sorted → AreNames (captures_view found component) (texts (dedup is_same_name sorted))
 names-in_order found component gathered sorted are_all permuted in_order =
     let once = dedup is_same_name sorted in

@@ -34,8 +34,8 @@ use Rattle.urlpattern.specs.SpecialProtocol.{IsSpecialBy}
 use Rattle.urlpattern_engine.specs.Engine.{IsPatternRegexpOf, pattern_answer}
 use Rattle.urlpattern_engine.specs.Reading.{IsGenerated}
 use Rattle.urlpattern_engine.specs.declared.pattern_regexp.PatternRegexp.{PatternRegexp}
-use Rattle.urlpattern_init.specs.declared.init.processing.Component.{Component}
-use Rattle.urlpattern_init.specs.declared.init.processing.Component.TheVariants.{Protocol, Username, Password, Hostname, Port, Pathname, Search, Hash}
+use Rattle.urlpattern_syntax.specs.declared.eight.ComponentName.{ComponentName}
+use Rattle.urlpattern_syntax.specs.declared.eight.ComponentName.TheVariants.{Protocol, Username, Password, Hostname, Port, Pathname, Search, Hash}
 use Rattle.urlpattern_init.specs.declared.init.UrlPatternMatchInput.TheVariants as match_inputs
 use Rattle.urlpattern_inputs.specs.declared.options.UrlPatternOptions.{UrlPatternOptions}
 use Rattle.urlpattern_syntax.specs.declared.error.Error.{Error}
@@ -130,7 +130,7 @@ AreLines [] text = text ≡ []
 AreLines (component ∷ rest) text =
     (first others : List ℕ) × (text ≡ first ++ others) × AreGroupLines component.0 component.1 first × AreLines rest others
 
-abbrev pub components_of : (Component → ResultView) → List (List ℕ × ResultView)
+abbrev pub components_of : (ComponentName → ResultView) → List (List ℕ × ResultView)
 components_of result =
     (codes "protocol", result Protocol)
     ∷ (codes "username", result Username)
@@ -153,7 +153,7 @@ IsRefusedText input base = IsRefusedByUrl (parsed_text base input) (max (length 
 -- The pattern matches the input, a URL under this base URL, and the text tells what the groups capture.
 pub record IsMatchTextBy (compiled : PatternView PatternRegexp) (input : List ℕ) (base : Option (List ℕ)) (text : List ℕ) : Type 0 where
   pub url : Parts
-  pub result : Component → ResultView
+  pub result : ComponentName → ResultView
   pub is_url : IsUrlOf input base url
   pub is_match : IsMatch pattern_answer compiled (match_inputs.Url url) result
   pub are_lines : AreLines (components_of result) text
@@ -191,7 +191,7 @@ pub record RefusesOneOf (texts : List (List ℕ)) (base : Option (List ℕ)) (er
 pub record IsFirstTextBy (compiled : List (PatternView PatternRegexp)) (input : List ℕ) (base : Option (List ℕ)) (text : List ℕ) : Type 0 where
   pub url : Parts
   pub index : ℕ
-  pub result : Component → ResultView
+  pub result : ComponentName → ResultView
   pub lines : List ℕ
   pub is_url : IsUrlOf input base url
   pub is_first : IsFirstMatch pattern_answer compiled (match_inputs.Url url) (Some (index, result))

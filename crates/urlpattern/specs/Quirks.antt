@@ -1,7 +1,7 @@
 -- What browsers are answered.
 use Rattle.std.specs.Prelude.{ℕ, List}
 use Rattle.std.specs.List.{list_any}
-use Rattle.urlpattern_init.specs.declared.init.processing.Component.TheVariants.{Protocol, Username, Password, Hostname, Port, Pathname, Search, Hash}
+use Rattle.urlpattern_syntax.specs.declared.eight.ComponentName.TheVariants.{Protocol, Username, Password, Hostname, Port, Pathname, Search, Hash}
 use Rattle.urlpattern_init.specs.Inheritance.{components}
 use Rattle.urlpattern_pattern.specs.Patterns.{PatternView}
 use Rattle.urlpattern_plain.specs.Plain.{plain_component}

@@ -6,7 +6,7 @@ use Rattle.urlpattern_core.specs.Engines.{IsTakenByRegex, regex_answer}
 use Rattle.urlpattern_engine.specs.Engine.{IsTakenByPatternRegexp, pattern_answer}
 use Rattle.urlpattern_engine.specs.declared.pattern_regexp.PatternRegexp.{PatternRegexp}
 use Rattle.urlpattern_init.specs.declared.init.UrlPatternMatchInput.{UrlPatternMatchInput}
-use Rattle.urlpattern_init.specs.declared.init.processing.Component.{Component}
+use Rattle.urlpattern_syntax.specs.declared.eight.ComponentName.{ComponentName}
 use Rattle.urlpattern_laws.specs.Dialect.{IsOnlyTreeOf, IsTreeOf, Items, Means}
 use Rattle.urlpattern_laws.specs.FirstAnswers.{AnswersFirstInMiddle, IsFirstOf}
 use Rattle.urlpattern_laws.specs.Laws.{Answered, AnswersOnce, HasOutcome, HasSomeOutcome, LacksAnswer, Outcome, listed}
@@ -102,5 +102,5 @@ PrintedReadsAsNothingElse = (text : List ℕ) (options : OptionsView) (first ans
 -- one, no match is only found of an input that is longer than `url` is sure to take.
 abbrev pub ExecutesByMatchers : {E : Type 0} → (answer : E → List ℕ → Option Captures) → Type 0
 ExecutesByMatchers {E} answer = (pattern : PatternView E) (input : UrlPatternMatchInput) →
-    (((result : Component → ResultView) × IsMatch answer pattern input result) ↔ HasMatch answer pattern input)
+    (((result : ComponentName → ResultView) × IsMatch answer pattern input result) ↔ HasMatch answer pattern input)
     × (HasMatch answer pattern input → HasNoMatch answer pattern input → IsLongInput input)

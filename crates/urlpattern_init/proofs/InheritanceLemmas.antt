@@ -1,7 +1,7 @@
 -- Lemmas on the values of an init.
-use Rattle.std.proofs.Common.{◌≡◌, ◌≢◌, ℕ, zero, suc, Bool, true, false, ◌==◌, ◌<◌, ◌≤◌, ◌+◌, ◌||◌, fold, max, List, [], ◌∷◌, length, get_or, take, Ok, Err, None, Some, Option, Result, String, subst, refl, ap, ◌∙◌, arith, map, inl, inr}
+use Rattle.std.proofs.Common.{◌≡◌, ◌≢◌, ℕ, zero, suc, Bool, true, false, ◌==◌, ◌<◌, ◌≤◌, ◌+◌, ◌||◌, fold, max, List, [], ◌∷◌, length, get_or, take, Ok, Err, None, Some, Option, Result, String, subst, sym, refl, ap, ◌∙◌, arith, map, inl, inr}
 use Rattle.std.specs.List.{list_any}
-use Rattle.std.specs.Prelude.{if◌then◌else◌, option_map, string_bytes, unwrap_or}
+use Rattle.std.specs.Prelude.{All, ◌++◌, if◌then◌else◌, option_map, string_bytes, unwrap_or}
 use Rattle.url.specs.declared.error.ParseError.{ParseError}
 use Rattle.url.specs.Parser.{Parsed, and_then}
 use Rattle.std.specs.Str.{chars, IsUtf8}
@@ -9,13 +9,17 @@ use Rattle.std.specs.declared.alloc.Global.{Global}
 use Rattle.url.specs.Parts.{Parts, cannot_be_a_base}
 use Rattle.urlpattern_canonical.proofs.CanonicalLemmas.{answers-more, dummy_is_parsed, memory_alone}
 use Rattle.urlpattern_canonical.specs.Canonical.{IsAnswer, Tells, bytes_asked, dummy_url, processed_base, processed_pathname}
+use Rattle.std.proofs.lemmas.List.Elements.{All-head, All-tail}
+use Rattle.urlpattern_syntax.proofs.EightLemmas.{at-each, same_values}
 use Rattle.urlpattern_syntax.proofs.StringTexts.{text-nil}
 use Rattle.urlpattern_syntax.proofs.TextLemmas.{byte_len-chars}
 use Rattle.urlpattern_syntax.specs.declared.error.Error.{Error}
+use Rattle.urlpattern_syntax.specs.Eight.{Values, at, components, each}
 use Rattle.urlpattern_syntax.specs.Text.{byte_len, text_of}
-use Rattle.urlpattern_init.specs.declared.init.processing.Component.{Component}
-use Rattle.urlpattern_init.specs.declared.init.processing.Component.TheVariants.{Protocol, Username, Password, Hostname, Port, Pathname, Search, Hash}
-use Rattle.urlpattern_init.specs.Inheritance.{Values, asked_bytes, bytes_of, value_given, components, given_bytes, given_text, is_absolute, is_slash, processed_text, processed_values, protocol_bytes, put_before, up_to_last_slash, value_of, processed_value}
+use Rattle.urlpattern_syntax.specs.declared.eight.ComponentName.{ComponentName}
+use Rattle.urlpattern_syntax.specs.declared.eight.ComponentName.TheVariants.{Protocol, Username, Password, Hostname, Port, Pathname, Search, Hash}
+use Rattle.urlpattern_syntax.specs.declared.eight.Eight.{Eight}
+use Rattle.urlpattern_init.specs.Inheritance.{asked_bytes, bytes_of, first_refusal, value_given, given_bytes, given_text, is_absolute, is_slash, processed_text, processed_values, protocol_bytes, put_before, refusal_or, unless_refused, up_to_last_slash, value_or_none, processed_value}
 use Rattle.urlpattern_canonical.specs.declared.canonicalize_and_process.ProcessType.{ProcessType}
 use Rattle.urlpattern_canonical.specs.declared.canonicalize_and_process.ProcessType.TheVariants.{Pattern, Url}
 use Rattle.urlpattern_syntax.specs.declared.error.Error.TheVariants as errors
@@ -69,7 +73,7 @@ pub up_to_last_slash-at : (path : List ℕ) (at : ℕ) → at < length path → 
 up_to_last_slash-at path at within here later =
     up_to-at path at within here later ∙ ap (λ n. take n path) (let e : suc at ≡ at + 1 = omega arith in e)
 
--- ---- the chain of the values
+-- ---- the values, or the first refusal
 
 bind-ok : {T U : Type 0} (first : Parsed T) (x : T) (next : T → Parsed U) → first ≡ Ok x → and_then first next ≡ next x
 bind-ok first x next e = ap (λ parsed. and_then parsed next) e
@@ -83,53 +87,94 @@ unfolding processed_values
 refused-protocol mode values base reason refused =
     bind-err _ _ _ refused
 
-pub refused-username : (mode : ProcessType) (values : Values) (base : Option Parts) (protocol : Option (List ℕ)) (reason : ParseError) → processed_value mode values base None Protocol ≡ Ok protocol → processed_value mode values base protocol Username ≡ Err reason
-    → processed_values mode values base ≡ Err reason
-unfolding processed_values
-refused-username mode values base protocol reason e_protocol refused =
-    bind-ok _ _ _ e_protocol ∙ bind-err _ _ _ refused
+-- a component has a value
+abbrev pub HasValue : {A : Type 0} → (ComponentName → Parsed A) → ComponentName → Type 0
+HasValue {A} answers name = (value : A) × (answers name ≡ Ok value)
 
-pub refused-password : (mode : ProcessType) (values : Values) (base : Option Parts) (protocol : Option (List ℕ)) (username : Option (List ℕ)) (reason : ParseError) → processed_value mode values base None Protocol ≡ Ok protocol → processed_value mode values base protocol Username ≡ Ok username → processed_value mode values base protocol Password ≡ Err reason
-    → processed_values mode values base ≡ Err reason
-unfolding processed_values
-refused-password mode values base protocol username reason e_protocol e_username refused =
-    bind-ok _ _ _ e_protocol ∙ bind-ok _ _ _ e_username ∙ bind-err _ _ _ refused
+refusal-behind : {A : Type 0} (answers : ComponentName → Parsed A) (reason : ParseError) (name : ComponentName) (before after : List ComponentName)
+    → All (HasValue answers) before → answers name ≡ Err reason → first_refusal answers (before ++ name ∷ after) ≡ Some reason
+refusal-behind answers reason name [] after values refused = ap (λ answer. refusal_or answer (first_refusal answers after)) refused
+refusal-behind answers reason name (earlier ∷ before) after values refused =
+    ap (λ answer. refusal_or answer (first_refusal answers (before ++ name ∷ after))) (All-head (HasValue answers) earlier before values).1
+    ∙ refusal-behind answers reason name before after (All-tail (HasValue answers) earlier before values) refused
 
-pub refused-hostname : (mode : ProcessType) (values : Values) (base : Option Parts) (protocol : Option (List ℕ)) (username : Option (List ℕ)) (password : Option (List ℕ)) (reason : ParseError) → processed_value mode values base None Protocol ≡ Ok protocol → processed_value mode values base protocol Username ≡ Ok username → processed_value mode values base protocol Password ≡ Ok password → processed_value mode values base protocol Hostname ≡ Err reason
-    → processed_values mode values base ≡ Err reason
-unfolding processed_values
-refused-hostname mode values base protocol username password reason e_protocol e_username e_password refused =
-    bind-ok _ _ _ e_protocol ∙ bind-ok _ _ _ e_username ∙ bind-ok _ _ _ e_password ∙ bind-err _ _ _ refused
+no-refusal : {A : Type 0} (answers : ComponentName → Parsed A) (names : List ComponentName) → ((name : ComponentName) → HasValue answers name)
+    → first_refusal answers names ≡ None
+no-refusal answers [] values = refl
+no-refusal answers (name ∷ others) values =
+    ap (λ answer. refusal_or answer (first_refusal answers others)) (values name).1 ∙ no-refusal answers others values
 
-pub refused-port : (mode : ProcessType) (values : Values) (base : Option Parts) (protocol : Option (List ℕ)) (username : Option (List ℕ)) (password : Option (List ℕ)) (hostname : Option (List ℕ)) (reason : ParseError) → processed_value mode values base None Protocol ≡ Ok protocol → processed_value mode values base protocol Username ≡ Ok username → processed_value mode values base protocol Password ≡ Ok password → processed_value mode values base protocol Hostname ≡ Ok hostname → processed_value mode values base protocol Port ≡ Err reason
-    → processed_values mode values base ≡ Err reason
+-- the component is refused, and those before it are not
+pub refused-behind : (mode : ProcessType) (values : Values) (base : Option Parts) (protocol : Option (List ℕ)) (reason : ParseError)
+    (name : ComponentName) (before after : List ComponentName) → components ≡ before ++ name ∷ after
+    → processed_value mode values base None Protocol ≡ Ok protocol
+    → All (HasValue (processed_value mode values base protocol)) before
+    → processed_value mode values base protocol name ≡ Err reason → processed_values mode values base ≡ Err reason
 unfolding processed_values
-refused-port mode values base protocol username password hostname reason e_protocol e_username e_password e_hostname refused =
-    bind-ok _ _ _ e_protocol ∙ bind-ok _ _ _ e_username ∙ bind-ok _ _ _ e_password ∙ bind-ok _ _ _ e_hostname ∙ bind-err _ _ _ refused
+refused-behind mode values base protocol reason name before after split e earlier refused =
+    let answers = processed_value mode values base protocol in
+    bind-ok _ _ _ e
+    ∙ ap (λ refusal. unless_refused refusal (each (λ other. value_or_none (answers other))))
+    (ap (first_refusal answers) split ∙ refusal-behind answers reason name before after earlier refused)
 
-pub refused-pathname : (mode : ProcessType) (values : Values) (base : Option Parts) (protocol : Option (List ℕ)) (username : Option (List ℕ)) (password : Option (List ℕ)) (hostname : Option (List ℕ)) (port : Option (List ℕ)) (reason : ParseError) → processed_value mode values base None Protocol ≡ Ok protocol → processed_value mode values base protocol Username ≡ Ok username → processed_value mode values base protocol Password ≡ Ok password → processed_value mode values base protocol Hostname ≡ Ok hostname → processed_value mode values base protocol Port ≡ Ok port → processed_value mode values base protocol Pathname ≡ Err reason
-    → processed_values mode values base ≡ Err reason
-unfolding processed_values
-refused-pathname mode values base protocol username password hostname port reason e_protocol e_username e_password e_hostname e_port refused =
-    bind-ok _ _ _ e_protocol ∙ bind-ok _ _ _ e_username ∙ bind-ok _ _ _ e_password ∙ bind-ok _ _ _ e_hostname ∙ bind-ok _ _ _ e_port ∙ bind-err _ _ _ refused
+protocol-given : (mode : ProcessType) (values : Values) (base : Option Parts) (protocol given : Option (List ℕ))
+    → value_given mode values base protocol Protocol given ≡ value_given mode values base None Protocol given
+protocol-given mode values base protocol None = refl
+protocol-given mode values base protocol (Some text) = refl
 
-pub refused-search : (mode : ProcessType) (values : Values) (base : Option Parts) (protocol : Option (List ℕ)) (username : Option (List ℕ)) (password : Option (List ℕ)) (hostname : Option (List ℕ)) (port : Option (List ℕ)) (pathname : Option (List ℕ)) (reason : ParseError) → processed_value mode values base None Protocol ≡ Ok protocol → processed_value mode values base protocol Username ≡ Ok username → processed_value mode values base protocol Password ≡ Ok password → processed_value mode values base protocol Hostname ≡ Ok hostname → processed_value mode values base protocol Port ≡ Ok port → processed_value mode values base protocol Pathname ≡ Ok pathname → processed_value mode values base protocol Search ≡ Err reason
-    → processed_values mode values base ≡ Err reason
-unfolding processed_values
-refused-search mode values base protocol username password hostname port pathname reason e_protocol e_username e_password e_hostname e_port e_pathname refused =
-    bind-ok _ _ _ e_protocol ∙ bind-ok _ _ _ e_username ∙ bind-ok _ _ _ e_password ∙ bind-ok _ _ _ e_hostname ∙ bind-ok _ _ _ e_port ∙ bind-ok _ _ _ e_pathname ∙ bind-err _ _ _ refused
+-- the protocol comes to the same under each protocol
+protocol-alone : (mode : ProcessType) (values : Values) (base : Option Parts) (protocol : Option (List ℕ))
+    → processed_value mode values base protocol Protocol ≡ processed_value mode values base None Protocol
+protocol-alone mode values base protocol = protocol-given mode values base protocol values.protocol
 
-pub refused-hash : (mode : ProcessType) (values : Values) (base : Option Parts) (protocol : Option (List ℕ)) (username : Option (List ℕ)) (password : Option (List ℕ)) (hostname : Option (List ℕ)) (port : Option (List ℕ)) (pathname : Option (List ℕ)) (search : Option (List ℕ)) (reason : ParseError) → processed_value mode values base None Protocol ≡ Ok protocol → processed_value mode values base protocol Username ≡ Ok username → processed_value mode values base protocol Password ≡ Ok password → processed_value mode values base protocol Hostname ≡ Ok hostname → processed_value mode values base protocol Port ≡ Ok port → processed_value mode values base protocol Pathname ≡ Ok pathname → processed_value mode values base protocol Search ≡ Ok search → processed_value mode values base protocol Hash ≡ Err reason
-    → processed_values mode values base ≡ Err reason
-unfolding processed_values
-refused-hash mode values base protocol username password hostname port pathname search reason e_protocol e_username e_password e_hostname e_port e_pathname e_search refused =
-    bind-ok _ _ _ e_protocol ∙ bind-ok _ _ _ e_username ∙ bind-ok _ _ _ e_password ∙ bind-ok _ _ _ e_hostname ∙ bind-ok _ _ _ e_port ∙ bind-ok _ _ _ e_pathname ∙ bind-ok _ _ _ e_search ∙ bind-err _ _ _ refused
+-- another protocol leaves the other values as they are
+pub kept : {A : Type 0} (first : A) (values : Eight A) (name : ComponentName) → name ≢ Protocol → at (record values { protocol = first }) name ≡ at values name
+kept first values Protocol other = absurd (other refl)
+kept first values Username other = refl
+kept first values Password other = refl
+kept first values Hostname other = refl
+kept first values Port other = refl
+kept first values Pathname other = refl
+kept first values Search other = refl
+kept first values Hash other = refl
 
-pub processed : (mode : ProcessType) (values : Values) (base : Option Parts) (protocol : Option (List ℕ)) (username : Option (List ℕ)) (password : Option (List ℕ)) (hostname : Option (List ℕ)) (port : Option (List ℕ)) (pathname : Option (List ℕ)) (search : Option (List ℕ)) (hash : Option (List ℕ)) → processed_value mode values base None Protocol ≡ Ok protocol → processed_value mode values base protocol Username ≡ Ok username → processed_value mode values base protocol Password ≡ Ok password → processed_value mode values base protocol Hostname ≡ Ok hostname → processed_value mode values base protocol Port ≡ Ok port → processed_value mode values base protocol Pathname ≡ Ok pathname → processed_value mode values base protocol Search ≡ Ok search → processed_value mode values base protocol Hash ≡ Ok hash
-    → processed_values mode values base ≡ Ok (record { protocol = protocol; username = username; password = password; hostname = hostname; port = port; pathname = pathname; search = search; hash = hash })
+-- what is known of the components behind the protocol is known of all
+module _ (mode : ProcessType) (values : Values) (base : Option Parts) (protocol : Option (List ℕ)) (e : processed_value mode values base None Protocol ≡ Ok protocol) where
+  pub or_protocol : (P : ComponentName → Type 0) → P Protocol → ((name : ComponentName) → name ≢ Protocol → P name) → (name : ComponentName) → P name
+  or_protocol P first others Protocol = first
+  or_protocol P first others Username = others Username (λ same. absurd cc)
+  or_protocol P first others Password = others Password (λ same. absurd cc)
+  or_protocol P first others Hostname = others Hostname (λ same. absurd cc)
+  or_protocol P first others Port = others Port (λ same. absurd cc)
+  or_protocol P first others Pathname = others Pathname (λ same. absurd cc)
+  or_protocol P first others Search = others Search (λ same. absurd cc)
+  or_protocol P first others Hash = others Hash (λ same. absurd cc)
+
+  pub has_value : (name : ComponentName) (value : Option (List ℕ)) → (name ≢ Protocol → processed_value mode values base protocol name ≡ Ok value)
+      → HasValue (processed_value mode values base protocol) name
+  has_value name value other =
+      or_protocol (λ n. n ≡ name → HasValue (processed_value mode values base protocol) n)
+      (λ same. (protocol, protocol-alone mode values base protocol ∙ e))
+      (λ n not_first same. (value, ap (processed_value mode values base protocol) same ∙ other (λ first. not_first (same ∙ first))))
+      name refl
+
+  pub is_value : (found : Values) → found.protocol ≡ protocol
+      → ((name : ComponentName) → name ≢ Protocol → processed_value mode values base protocol name ≡ Ok (at found name))
+      → (name : ComponentName) → processed_value mode values base protocol name ≡ Ok (at found name)
+  is_value found same others =
+      or_protocol (λ name. processed_value mode values base protocol name ≡ Ok (at found name))
+      (protocol-alone mode values base protocol ∙ e ∙ ap Ok (sym same)) others
+
+-- each component comes to its value
+pub processed : (mode : ProcessType) (values : Values) (base : Option Parts) (protocol : Option (List ℕ)) (found : Values)
+    → processed_value mode values base None Protocol ≡ Ok protocol
+    → ((name : ComponentName) → processed_value mode values base protocol name ≡ Ok (at found name)) → processed_values mode values base ≡ Ok found
 unfolding processed_values
-processed mode values base protocol username password hostname port pathname search hash e_protocol e_username e_password e_hostname e_port e_pathname e_search e_hash =
-    bind-ok _ _ _ e_protocol ∙ bind-ok _ _ _ e_username ∙ bind-ok _ _ _ e_password ∙ bind-ok _ _ _ e_hostname ∙ bind-ok _ _ _ e_port ∙ bind-ok _ _ _ e_pathname ∙ bind-ok _ _ _ e_search ∙ bind-ok _ _ _ e_hash
+processed mode values base protocol found e are =
+    let answers = processed_value mode values base protocol in
+    bind-ok _ _ _ e
+    ∙ ap (λ refusal. unless_refused refusal (each (λ name. value_or_none (answers name)))) (no-refusal answers components (λ name. (at found name, are name)))
+    ∙ ap Ok (same_values (each (λ name. value_or_none (answers name))) found (λ name. at-each (λ other. value_or_none (answers other)) name ∙ ap value_or_none (are name)))
 
 -- ---- the bytes of the texts
 
@@ -148,7 +193,7 @@ all_bytes : ProcessType → Values → Option Parts → ℕ
 all_bytes mode values base =
     fold max (protocol_bytes (processed_value mode values base None Protocol)) (map (given_bytes mode values base) components)
 
-given-all : (mode : ProcessType) (values : Values) (base : Option Parts) (component : Component)
+given-all : (mode : ProcessType) (values : Values) (base : Option Parts) (component : ComponentName)
     → max 0 (given_bytes mode values base component) ≤ all_bytes mode values base
 unfolding all_bytes
 given-all mode values base Protocol = omega arith
@@ -160,7 +205,7 @@ given-all mode values base Pathname = omega arith
 given-all mode values base Search = omega arith
 given-all mode values base Hash = omega arith
 
-under-all : (mode : ProcessType) (values : Values) (base : Option Parts) (component : Component) (protocol : Option (List ℕ))
+under-all : (mode : ProcessType) (values : Values) (base : Option Parts) (component : ComponentName) (protocol : Option (List ℕ))
     → processed_value mode values base None Protocol ≡ Ok protocol
     → max (bytes_of protocol) (given_bytes mode values base component) ≤ all_bytes mode values base
 unfolding all_bytes
@@ -173,13 +218,13 @@ under-all mode values base Pathname protocol e = rw e (omega arith)
 under-all mode values base Search protocol e = rw e (omega arith)
 under-all mode values base Hash protocol e = rw e (omega arith)
 
-pub given-le : (mode : ProcessType) (values : Values) (base : Option Parts) (component : Component)
+pub given-le : (mode : ProcessType) (values : Values) (base : Option Parts) (component : ComponentName)
     → bytes_asked mode (max 0 (given_bytes mode values base component)) ≤ asked_bytes mode values base
 unfolding asked_bytes all_bytes
 given-le mode values base component =
     asked-mono mode (max 0 (given_bytes mode values base component)) (all_bytes mode values base) (given-all mode values base component)
 
-pub asked-le : (mode : ProcessType) (values : Values) (base : Option Parts) (component : Component) (protocol : Option (List ℕ))
+pub asked-le : (mode : ProcessType) (values : Values) (base : Option Parts) (component : ComponentName) (protocol : Option (List ℕ))
     → processed_value mode values base None Protocol ≡ Ok protocol
     → bytes_asked mode (max (bytes_of protocol) (given_bytes mode values base component)) ≤ asked_bytes mode values base
 unfolding asked_bytes all_bytes
@@ -188,7 +233,7 @@ asked-le mode values base component protocol e =
 
 -- ---- a pattern is never refused
 
-pattern-text : (protocol : Option (List ℕ)) (component : Component) (text : List ℕ) → (value : List ℕ) × (processed_text Pattern protocol component text ≡ Ok value)
+pattern-text : (protocol : Option (List ℕ)) (component : ComponentName) (text : List ℕ) → (value : List ℕ) × (processed_text Pattern protocol component text ≡ Ok value)
 pattern-text protocol Protocol text = (_, refl)
 pattern-text protocol Username text = (_, refl)
 pattern-text protocol Password text = (_, refl)
@@ -198,30 +243,24 @@ pattern-text protocol Pathname text = (_, refl)
 pattern-text protocol Search text = (_, refl)
 pattern-text protocol Hash text = (_, refl)
 
-pattern-given : (values : Values) (base : Option Parts) (protocol : Option (List ℕ)) (component : Component) (given : Option (List ℕ))
+pattern-given : (values : Values) (base : Option Parts) (protocol : Option (List ℕ)) (component : ComponentName) (given : Option (List ℕ))
     → (value : Option (List ℕ)) × (value_given Pattern values base protocol component given ≡ Ok value)
 pattern-given values base protocol component None = (_, refl)
 pattern-given values base protocol component (Some text) =
     let found = pattern-text protocol component (given_text Pattern base component text) in
     (Some found.0, ap (λ parsed. and_then parsed (λ value. Ok (Some value))) found.1)
 
-pattern-value : (values : Values) (base : Option Parts) (protocol : Option (List ℕ)) (component : Component)
+pattern-value : (values : Values) (base : Option Parts) (protocol : Option (List ℕ)) (component : ComponentName)
     → (value : Option (List ℕ)) × (processed_value Pattern values base protocol component ≡ Ok value)
-pattern-value values base protocol component = pattern-given values base protocol component (value_of component values)
+pattern-value values base protocol component = pattern-given values base protocol component (at values component)
 
 pattern-processed : (values : Values) (base : Option Parts) → (found : Values) × (processed_values Pattern values base ≡ Ok found)
 pattern-processed values base =
     let protocol = pattern-value values base None Protocol in
-    let username = pattern-value values base protocol.0 Username in
-    let password = pattern-value values base protocol.0 Password in
-    let hostname = pattern-value values base protocol.0 Hostname in
-    let port = pattern-value values base protocol.0 Port in
-    let pathname = pattern-value values base protocol.0 Pathname in
-    let search = pattern-value values base protocol.0 Search in
-    let hash = pattern-value values base protocol.0 Hash in (
-      _,
-      processed Pattern values base protocol.0 username.0 password.0 hostname.0 port.0 pathname.0 search.0 hash.0
-          protocol.1 username.1 password.1 hostname.1 port.1 pathname.1 search.1 hash.1,
+    let found : (name : ComponentName) → HasValue (processed_value Pattern values base protocol.0) name = λ name. pattern-value values base protocol.0 name in (
+      each (λ name. (found name).0),
+      processed Pattern values base protocol.0 (each (λ name. (found name).0)) protocol.1
+          (λ name. (found name).1 ∙ ap Ok (sym (at-each (λ other. (found other).0) name))),
     )
 
 never-told : (asked : Parsed Values) (found : Values) (view : ErrorView) → asked ≡ Ok found → ¬ Tells asked 0 view

@@ -3,7 +3,7 @@ use Rattle.std.proofs.Common.{◌≡◌, ℕ, zero, suc, ◌+◌, ◌<◌, ◌�
 use Rattle.std.proofs.lemmas.Bool.{and_from, and_parts, both_ways, cases_eq, cases_lt, false≢true, or_cases, or_left, or_right}
 use Rattle.std.specs.Prelude.{codes, IsSomeAnd, IsTrue}
 use Rattle.urlpattern_init.specs.ConstructorString.{SplitsAs}
-use Rattle.urlpattern_init.specs.Split.{AuthorityFrom, Components, EndsAt, HashAt, HashFrom, HostnameFrom, IsAbsoluteSplit, IsRelativeSplit, PathnameAt, PathnameFrom, PortAt, SearchAt, SearchFrom, Takes, UserinfoFrom}
+use Rattle.urlpattern_init.specs.Split.{AuthorityFrom, EndsAt, HashAt, HashFrom, HostnameFrom, IsAbsoluteSplit, IsRelativeSplit, PathnameAt, PathnameFrom, PortAt, SearchAt, SearchFrom, Takes, UserinfoFrom}
 use Rattle.urlpattern_init.specs.Split.{depth_before, ends_at, has_slashes, implied_pathname, is_at_sign, is_balanced, is_colon_sign, is_hash_sign, is_search_sign, is_slash_sign, may_end}
 use Rattle.urlpattern_init.specs.Splitting.{IsClosed}
 use Rattle.urlpattern_init.specs.declared.constructor_parser.Section.{Section}
@@ -13,45 +13,33 @@ use Rattle.urlpattern_init.proofs.SplitUnique.{search_not_end}
 use Rattle.urlpattern_init.proofs.TextBetween.{are_closed, text_between}
 use Rattle.urlpattern_laws.proofs.TokensExist.{lenient_tokens_exist}
 use Rattle.urlpattern_syntax.specs.Tokens.{AreLenientTokens, TokenView, end_of}
+use Rattle.urlpattern_syntax.specs.Eight.{Values, each}
 
 -- ---- components that are still to be found
 
 -- a hash with which this holds, whatever the other components are
-abbrev HashFor : (Is : Components → Type 0) → Type 0
-HashFor Is = (hash : Option (List ℕ)) × ((c : Components) → Is (record c { hash = hash }))
+abbrev HashFor : (Is : Values → Type 0) → Type 0
+HashFor Is = (hash : Option (List ℕ)) × ((c : Values) → Is (record c { hash = hash }))
 
-abbrev SearchFor : (Is : Components → Type 0) → Type 0
-SearchFor Is = (search hash : Option (List ℕ)) × ((c : Components) → Is (record c { search = search; hash = hash }))
+abbrev SearchFor : (Is : Values → Type 0) → Type 0
+SearchFor Is = (search hash : Option (List ℕ)) × ((c : Values) → Is (record c { search = search; hash = hash }))
 
-abbrev PathnameFor : (Is : Components → Type 0) → Type 0
-PathnameFor Is = (pathname search hash : Option (List ℕ)) × ((c : Components) → Is (record c { pathname = pathname; search = search; hash = hash }))
+abbrev PathnameFor : (Is : Values → Type 0) → Type 0
+PathnameFor Is = (pathname search hash : Option (List ℕ)) × ((c : Values) → Is (record c { pathname = pathname; search = search; hash = hash }))
 
-abbrev PortFor : (Is : Components → Type 0) → Type 0
-PortFor Is = (port pathname search hash : Option (List ℕ)) × ((c : Components) → Is (record c { port = port; pathname = pathname; search = search; hash = hash }))
+abbrev PortFor : (Is : Values → Type 0) → Type 0
+PortFor Is = (port pathname search hash : Option (List ℕ)) × ((c : Values) → Is (record c { port = port; pathname = pathname; search = search; hash = hash }))
 
-abbrev HostnameFor : (Is : Components → Type 0) → Type 0
+abbrev HostnameFor : (Is : Values → Type 0) → Type 0
 HostnameFor Is =
     (hostname port pathname search hash : Option (List ℕ))
-    × ((c : Components) → Is (record c { hostname = hostname; port = port; pathname = pathname; search = search; hash = hash }))
+    × ((c : Values) → Is (record c { hostname = hostname; port = port; pathname = pathname; search = search; hash = hash }))
 
-abbrev UserinfoFor : (Is : Components → Type 0) → Type 0
-UserinfoFor Is = (username password : Option (List ℕ)) × ((c : Components) → Is (record c { username = username; password = password }))
+abbrev UserinfoFor : (Is : Values → Type 0) → Type 0
+UserinfoFor Is = (username password : Option (List ℕ)) × ((c : Values) → Is (record c { username = username; password = password }))
 
--- this for each component
-abbrev each : Option (List ℕ) → Components
-each one = record {
-  protocol = one;
-  username = one;
-  password = one;
-  hostname = one;
-  port = one;
-  pathname = one;
-  search = one;
-  hash = one;
-}
-
-abbrev nothing : Components
-nothing = each None
+abbrev nothing : Values
+nothing = each (λ name. None)
 
 module _ (text : List ℕ) (tokens : List TokenView) (are_tokens : AreLenientTokens text tokens) where
   closed : IsClosed tokens
@@ -240,8 +228,8 @@ module _ (text : List ℕ) (tokens : List TokenView) (are_tokens : AreLenientTok
       ]
 
   -- components behind the protocol
-  abbrev AuthorityFor : (Is : Components → Type 0) → Type 0
-  AuthorityFor Is = (c : Components) × ((protocol : Option (List ℕ)) → Is (record c { protocol = protocol }))
+  abbrev AuthorityFor : (Is : Values → Type 0) → Type 0
+  AuthorityFor Is = (c : Values) × ((protocol : Option (List ℕ)) → Is (record c { protocol = protocol }))
 
   authority_from : (special : Bool) (from : ℕ) → from < length tokens → AuthorityFor (AuthorityFrom text tokens special from)
   authority_from special from within = by_sign (is_at_sign tokens ends.0) refl
@@ -253,22 +241,22 @@ module _ (text : List ℕ) (tokens : List TokenView) (are_tokens : AreLenientTok
       by_sign true sign =
           let u = userinfo_from from ends.0 ends.1 sign in
           let h = hostname_from special (ends.0 + 1) 0 (sign_goes_on (codes "@") tokens ends.0 closed sign) in
-          let c : Components = record nothing { username = u.0; password = u.1; hostname = h.0; port = h.1; pathname = h.2; search = h.3; hash = h.4 } in
+          let c : Values = record nothing { username = u.0; password = u.1; hostname = h.0; port = h.1; pathname = h.2; search = h.3; hash = h.4 } in
           (c, λ protocol. (ends.0, ends.1, inl (sign, u.2 (record c { protocol = protocol }), h.5 (record c { protocol = protocol }))))
       by_sign false other =
           let h = hostname_from special from (depth_before tokens from 0 ends.0) within in
-          let c : Components = record nothing { hostname = h.0; port = h.1; pathname = h.2; search = h.3; hash = h.4 } in
+          let c : Values = record nothing { hostname = h.0; port = h.1; pathname = h.2; search = h.3; hash = h.4 } in
           (c, λ protocol. (ends.0, ends.1, inr (both_ways (is_at_sign tokens ends.0) other, refl, refl, h.5 (record c { protocol = protocol }))))
 
   -- ---- the whole string
 
-  relative : (until : ℕ) → EndsAt Protocol tokens 0 0 until → IsTrue (ends_at tokens until) → (c : Components) × IsRelativeSplit text tokens c
+  relative : (until : ℕ) → EndsAt Protocol tokens 0 0 until → IsTrue (ends_at tokens until) → (c : Values) × IsRelativeSplit text tokens c
   relative until ends end = by_hash (is_hash_sign tokens 0) refl
     where
       depth : ℕ
       depth = depth_before tokens 0 0 until
 
-      by_search : (b : Bool) → is_search_sign tokens 0 ≡ b → is_hash_sign tokens 0 ≡ false → (c : Components) × IsRelativeSplit text tokens c
+      by_search : (b : Bool) → is_search_sign tokens 0 ≡ b → is_hash_sign tokens 0 ≡ false → (c : Values) × IsRelativeSplit text tokens c
       by_search true sign other =
           let next = closed.goes_on 0 some_token (search_not_end text tokens 0 are_tokens sign) in
           let s = search_from 1 (depth_before tokens 0 0 until) (omega arith) in (
@@ -299,7 +287,7 @@ module _ (text : List ℕ) (tokens : List TokenView) (are_tokens : AreLenientTok
             },
           )
 
-      by_hash : (b : Bool) → is_hash_sign tokens 0 ≡ b → (c : Components) × IsRelativeSplit text tokens c
+      by_hash : (b : Bool) → is_hash_sign tokens 0 ≡ b → (c : Values) × IsRelativeSplit text tokens c
       by_hash true sign =
           let next = sign_goes_on (codes "#") tokens 0 closed sign in
           let h = hash_from 1 (omega arith) in (
@@ -314,7 +302,7 @@ module _ (text : List ℕ) (tokens : List TokenView) (are_tokens : AreLenientTok
           )
       by_hash false other = by_search (is_search_sign tokens 0) refl other
 
-  absolute : (special : Bool) (colon : ℕ) → EndsAt Protocol tokens 0 0 colon → IsTrue (is_colon_sign tokens colon) → (c : Components) × IsAbsoluteSplit text tokens special colon c
+  absolute : (special : Bool) (colon : ℕ) → EndsAt Protocol tokens 0 0 colon → IsTrue (is_colon_sign tokens colon) → (c : Values) × IsAbsoluteSplit text tokens special colon c
   absolute special colon ends sign = by_slashes (has_slashes tokens colon) refl
     where
       t : (taken : Option (List ℕ)) × Takes text tokens 0 colon taken
@@ -323,7 +311,7 @@ module _ (text : List ℕ) (tokens : List TokenView) (are_tokens : AreLenientTok
       next : colon + 1 < length tokens
       next = sign_goes_on (codes ":") tokens colon closed sign
 
-      by_special : (b : Bool) → special ≡ b → has_slashes tokens colon ≡ false → (c : Components) × IsAbsoluteSplit text tokens special colon c
+      by_special : (b : Bool) → special ≡ b → has_slashes tokens colon ≡ false → (c : Values) × IsAbsoluteSplit text tokens special colon c
       by_special true is_special no_slashes =
           let a = authority_from special (colon + 1) next in (
             record a.0 { protocol = t.0 },
@@ -336,7 +324,7 @@ module _ (text : List ℕ) (tokens : List TokenView) (are_tokens : AreLenientTok
           )
       by_special false not_special no_slashes =
           let p = pathname_from (colon + 1) 0 next in
-          let c : Components = record nothing { protocol = t.0; hostname = Some []; port = Some [] } in (
+          let c : Values = record nothing { protocol = t.0; hostname = Some []; port = Some [] } in (
             record c { pathname = p.0; search = p.1; hash = p.2 },
             record {
               is_colon_there = sign;
@@ -346,7 +334,7 @@ module _ (text : List ℕ) (tokens : List TokenView) (are_tokens : AreLenientTok
             },
           )
 
-      by_slashes : (b : Bool) → has_slashes tokens colon ≡ b → (c : Components) × IsAbsoluteSplit text tokens special colon c
+      by_slashes : (b : Bool) → has_slashes tokens colon ≡ b → (c : Values) × IsAbsoluteSplit text tokens special colon c
       by_slashes true slashes =
           let second = (and_parts (is_slash_sign tokens (colon + 1)) (is_slash_sign tokens (colon + 2)) slashes).1 in
           let more = sign_goes_on (codes "/") tokens (colon + 2) closed second in
@@ -362,7 +350,7 @@ answered text tokens until special None h = absurd h
 answered text tokens until special (Some protocol) h = refl
 
 -- A text has a split, whatever the answer on its protocol.
-pub split_exists : (text : List ℕ) (special : Bool) → (components : Components) × SplitsAs text special components
+pub split_exists : (text : List ℕ) (special : Bool) → (components : Values) × SplitsAs text special components
 split_exists text special =
     let (tokens, are_tokens) = lenient_tokens_exist text in
     let (until, ends) = ends_some text tokens are_tokens Protocol 0 0 (some_token text tokens are_tokens) in

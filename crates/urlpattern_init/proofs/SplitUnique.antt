@@ -6,7 +6,7 @@ use Rattle.std.proofs.lemmas.Slice.Eq.{bytes_eq-Decides}
 use Rattle.std.specs.Prelude.{codes, IsSomeAnd, IsTrue, slice_get}
 use Rattle.std.specs.Str.{bytes_eq}
 use Rattle.urlpattern_init.specs.ConstructorString.{SplitsAs, SplitsInto}
-use Rattle.urlpattern_init.specs.Split.{AuthorityFrom, Components, EndsAt, HasProtocol, HashAt, HashFrom, HostnameFrom, IsAbsoluteSplit, IsRelativeSplit, IsSplit, IsTextBetween, PathnameAt, PathnameFrom, PortAt, SearchAt, SearchFrom, Takes, UserinfoFrom}
+use Rattle.urlpattern_init.specs.Split.{AuthorityFrom, EndsAt, HasProtocol, HashAt, HashFrom, HostnameFrom, IsAbsoluteSplit, IsRelativeSplit, IsSplit, IsTextBetween, PathnameAt, PathnameFrom, PortAt, SearchAt, SearchFrom, Takes, UserinfoFrom}
 use Rattle.urlpattern_init.specs.Split.{at, ends_at, has_slashes, is_at_sign, is_character, is_colon_sign, is_end, is_hash_sign, is_search_sign, is_sign, is_slash_sign, follows_modified, depth_before}
 use Rattle.urlpattern_init.specs.Splitting.{IsClosed}
 use Rattle.urlpattern_init.specs.declared.constructor_parser.Section.{Section}
@@ -18,6 +18,7 @@ use Rattle.urlpattern_laws.proofs.TokensUnique.{lenient_tokens_one}
 use Rattle.urlpattern_syntax.proofs.TextLemmas.{byte_len-append, byte_len-nil, length-le-byte_len}
 use Rattle.urlpattern_syntax.specs.Text.{byte_len}
 use Rattle.urlpattern_syntax.specs.Tokens.{AreLenientTokens, IsCut, TokenView, end_of}
+use Rattle.urlpattern_syntax.specs.Eight.{Values}
 
 -- ---- texts
 
@@ -117,25 +118,25 @@ search_not_end text tokens place h search end =
 
 -- ---- what two splits have in common
 
-abbrev SameSearch : Components → Components → Type 0
+abbrev SameSearch : Values → Values → Type 0
 SameSearch c d = (c.search ≡ d.search) × (c.hash ≡ d.hash)
 
-abbrev SamePathname : Components → Components → Type 0
+abbrev SamePathname : Values → Values → Type 0
 SamePathname c d = (c.pathname ≡ d.pathname) × SameSearch c d
 
-abbrev SamePort : Components → Components → Type 0
+abbrev SamePort : Values → Values → Type 0
 SamePort c d = (c.port ≡ d.port) × SamePathname c d
 
-abbrev SameHostname : Components → Components → Type 0
+abbrev SameHostname : Values → Values → Type 0
 SameHostname c d = (c.hostname ≡ d.hostname) × SamePort c d
 
-abbrev SameUserinfo : Components → Components → Type 0
+abbrev SameUserinfo : Values → Values → Type 0
 SameUserinfo c d = (c.username ≡ d.username) × (c.password ≡ d.password)
 
-abbrev SameAuthority : Components → Components → Type 0
+abbrev SameAuthority : Values → Values → Type 0
 SameAuthority c d = SameUserinfo c d × SameHostname c d
 
-same_components : (c d : Components) → c.protocol ≡ d.protocol → SameAuthority c d → c ≡ d
+same_components : (c d : Values) → c.protocol ≡ d.protocol → SameAuthority c d → c ≡ d
 same_components c d protocol same = λ i. record {
   protocol = protocol i;
   username = same.0.0 i;
@@ -171,7 +172,7 @@ module _ (text : List ℕ) (tokens : List TokenView) (are_tokens : AreLenientTok
       let two = closed.last other (found_at (λ token. is_end token.kind) tokens other g).3 g in
       omega arith
 
-  module _ (c d : Components) where
+  module _ (c d : Values) where
     hash_from_one : (from : ℕ) → HashFrom text tokens from c → HashFrom text tokens from d → c.hash ≡ d.hash
     hash_from_one from h g =
         takes_one text tokens from g.0 c.hash d.hash (subst (λ until. Takes text tokens from until c.hash) (end_one h.0 g.0 h.1 g.1) h.2) g.2
@@ -264,7 +265,7 @@ module _ (text : List ℕ) (tokens : List TokenView) (are_tokens : AreLenientTok
             takes_one text tokens (g.0 + 1) until c.password d.password (subst (λ place. Takes text tokens (place + 1) until c.password) e a.1) b.1
 
     -- the two forms of an authority, by where it ends
-    abbrev AuthorityAt : Components → (special : Bool) → (from until : ℕ) → Type 0
+    abbrev AuthorityAt : Values → (special : Bool) → (from until : ℕ) → Type 0
     AuthorityAt components special from until =
         (IsTrue (is_at_sign tokens until) × UserinfoFrom text tokens from until components × HostnameFrom text tokens special (until + 1) 0 components)
         ⊎ (¬ IsTrue (is_at_sign tokens until) × (components.username ≡ None) × (components.password ≡ None)
@@ -284,7 +285,7 @@ module _ (text : List ℕ) (tokens : List TokenView) (are_tokens : AreLenientTok
 
     -- ---- the whole string
 
-    abbrev RelativeFrom : Components → (until : ℕ) → Type 0
+    abbrev RelativeFrom : Values → (until : ℕ) → Type 0
     RelativeFrom components until =
         (IsTrue (is_hash_sign tokens 0) × (components.pathname ≡ None) × (components.search ≡ None) × HashFrom text tokens 1 components)
         ⊎ (IsTrue (is_search_sign tokens 0) × (components.pathname ≡ None) × SearchFrom text tokens 1 (depth_before tokens 0 0 until) components)
@@ -310,7 +311,7 @@ module _ (text : List ℕ) (tokens : List TokenView) (are_tokens : AreLenientTok
         same_components c d (protocol ∙ sym no_protocol)
         ((username ∙ sym no_username, password ∙ sym no_password), (hostname ∙ sym no_hostname, (port ∙ sym no_port, pathname)))
 
-    abbrev AbsoluteFrom : Components → (special : Bool) → (colon : ℕ) → Type 0
+    abbrev AbsoluteFrom : Values → (special : Bool) → (colon : ℕ) → Type 0
     AbsoluteFrom components special colon =
         (IsTrue (has_slashes tokens colon) × AuthorityFrom text tokens special (colon + 3) components)
         ⊎ (IsTrue (not (has_slashes tokens colon) && special) × AuthorityFrom text tokens special (colon + 1) components)
@@ -366,7 +367,7 @@ module _ (IsSpecial : List ℕ → Bool → Type 0) (text : List ℕ) where
   two_answers tokens colon (Some protocol) other t ends sign takes e h g =
       (tokens, colon, protocol, t, ends, sign, takes, (h, subst (λ o. IsSomeAnd o (λ p. IsSpecial p false)) (sym e) g))
 
-  absolutes_one : (tokens : List TokenView) (c d : Components) (special other : Bool) (colon place : ℕ) → AreLenientTokens text tokens → IsAbsoluteSplit text tokens special colon c → IsAbsoluteSplit text tokens other place d → IsSomeAnd c.protocol (λ protocol. IsSpecial protocol special) → IsSomeAnd d.protocol (λ protocol. IsSpecial protocol other) → (c ≡ d) ⊎ HasTwoAnswers
+  absolutes_one : (tokens : List TokenView) (c d : Values) (special other : Bool) (colon place : ℕ) → AreLenientTokens text tokens → IsAbsoluteSplit text tokens special colon c → IsAbsoluteSplit text tokens other place d → IsSomeAnd c.protocol (λ protocol. IsSpecial protocol special) → IsSomeAnd d.protocol (λ protocol. IsSpecial protocol other) → (c ≡ d) ⊎ HasTwoAnswers
   absolutes_one tokens c d true true colon place t h g a b = inl (absolute_one text tokens t c d true colon place h g)
   absolutes_one tokens c d false false colon place t h g a b = inl (absolute_one text tokens t c d false colon place h g)
   absolutes_one tokens c d true false colon place t h g a b =
@@ -374,20 +375,20 @@ module _ (IsSpecial : List ℕ → Bool → Type 0) (text : List ℕ) where
   absolutes_one tokens c d false true colon place t h g a b =
       inr (two_answers tokens place d.protocol c.protocol t g.protocol_ends g.is_colon_there g.protocol (sym (protocol_one text tokens t c d false true colon place h g)) b a)
 
-  split_one : (tokens : List TokenView) (c d : Components) → AreLenientTokens text tokens → IsSplit IsSpecial text tokens c → IsSplit IsSpecial text tokens d → (c ≡ d) ⊎ HasTwoAnswers
+  split_one : (tokens : List TokenView) (c d : Values) → AreLenientTokens text tokens → IsSplit IsSpecial text tokens c → IsSplit IsSpecial text tokens d → (c ≡ d) ⊎ HasTwoAnswers
   split_one tokens c d t (inl h) (inl g) = inl (relative_one text tokens t c d h g)
   split_one tokens c d t (inl h) (inr g) = absurd (relative_or_absolute text tokens t c d g.1 g.0 h g.2)
   split_one tokens c d t (inr h) (inl g) = absurd (relative_or_absolute text tokens t d c h.1 h.0 g h.2)
   split_one tokens c d t (inr h) (inr g) = absolutes_one tokens c d h.1 g.1 h.0 g.0 t h.2 g.2 h.3 g.3
 
   -- Two splits of a text are one, but where its protocol has two answers.
-  pub splits_one : (c d : Components) → SplitsInto IsSpecial text c → SplitsInto IsSpecial text d → (c ≡ d) ⊎ HasTwoAnswers
+  pub splits_one : (c d : Values) → SplitsInto IsSpecial text c → SplitsInto IsSpecial text d → (c ≡ d) ⊎ HasTwoAnswers
   splits_one c d h g =
       let e = lenient_tokens_one text h.0 g.0 h.1 g.1 in
       split_one g.0 c d g.1 (subst (λ tokens. IsSplit IsSpecial text tokens c) e h.2) g.2
 
 -- Under one answer for the protocol two splits of a text are one.
-pub splits_one_given : (text : List ℕ) (special : Bool) (c d : Components) → SplitsAs text special c → SplitsAs text special d → c ≡ d
+pub splits_one_given : (text : List ℕ) (special : Bool) (c d : Values) → SplitsAs text special c → SplitsAs text special d → c ≡ d
 splits_one_given text special c d h g = elim (splits_one (λ protocol answer. answer ≡ special) text c d h g) [
   | inl same ↦ same
   | inr two ↦ let both = two.7 in absurd (false≢true (both.1 ∙ sym both.0))

@@ -1,34 +1,21 @@
 -- What parsing a constructor string answers.
-use Rattle.std.specs.Prelude.{◌≡◌, ℕ, ◌*◌, ◌≤◌, ◌⊎◌, Bool, List, Option, None, length, option_map}
+use Rattle.std.specs.Prelude.{◌≡◌, ℕ, ◌*◌, ◌≤◌, ◌⊎◌, Bool, List, Option, None, length}
 use Rattle.url.specs.declared.Url.{Url}
 use Rattle.urlpattern_init.specs.SpecialProtocol.{RefusesProtocol}
-use Rattle.urlpattern_init.specs.Split.{Components, HasProtocol, IsSplit, LacksProtocol}
+use Rattle.urlpattern_init.specs.Split.{HasProtocol, IsSplit, LacksProtocol}
 use Rattle.urlpattern_init.specs.declared.init.UrlPatternInit.{UrlPatternInit}
 use Rattle.urlpattern_syntax.specs.Errors.{ErrorView}
 use Rattle.urlpattern_syntax.specs.Errors.{ErrorView as views}
-use Rattle.urlpattern_syntax.specs.Text.{text_of}
 use Rattle.urlpattern_syntax.specs.Tokens.{AreLenientTokens, TokenView}
-
--- the components of an init
-abbrev pub init_components : UrlPatternInit → Components
-init_components init = record {
-  protocol = option_map text_of init.protocol;
-  username = option_map text_of init.username;
-  password = option_map text_of init.password;
-  hostname = option_map text_of init.hostname;
-  port = option_map text_of init.port;
-  pathname = option_map text_of init.pathname;
-  search = option_map text_of init.search;
-  hash = option_map text_of init.hash;
-}
+use Rattle.urlpattern_syntax.specs.Eight.{Values}
 
 -- The text is split into these components, by its lenient tokens.
-abbrev pub SplitsInto : (IsSpecial : List ℕ → Bool → Type 0) → (text : List ℕ) → Components → Type 0
+abbrev pub SplitsInto : (IsSpecial : List ℕ → Bool → Type 0) → (text : List ℕ) → Values → Type 0
 SplitsInto IsSpecial text components =
     (tokens : List TokenView) × AreLenientTokens text tokens × IsSplit IsSpecial text tokens components
 
 -- The text is split into these components where its protocol, if it has one, is given this answer.
-abbrev pub SplitsAs : (text : List ℕ) → (special : Bool) → Components → Type 0
+abbrev pub SplitsAs : (text : List ℕ) → (special : Bool) → Values → Type 0
 SplitsAs text special components = SplitsInto (λ protocol answer. answer ≡ special) text components
 
 -- so many turns are at most two for each lenient token of the text

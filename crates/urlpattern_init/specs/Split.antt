@@ -9,6 +9,7 @@ use Rattle.urlpattern_syntax.specs.declared.tokenizer.TokenType.{TokenType}
 use Rattle.urlpattern_syntax.specs.declared.tokenizer.TokenType.TheVariants.{Asterisk, Char, Close, End, EscapedChar, InvalidChar, Name, Open, Regexp}
 use Rattle.urlpattern_syntax.specs.Text.{byte_len}
 use Rattle.urlpattern_syntax.specs.Tokens.{AreLenientTokens, TokenView}
+use Rattle.urlpattern_syntax.specs.Eight.{Values}
 
 -- ---- the token at a place
 
@@ -140,17 +141,6 @@ pub record EndsAt (section : Section) (tokens : List TokenView) (from depth plac
 
 -- ---- components
 
--- The eight components, as far as the string has them.
-pub record Components : Type 0 where
-  pub protocol : Option (List ℕ)
-  pub username : Option (List ℕ)
-  pub password : Option (List ℕ)
-  pub hostname : Option (List ℕ)
-  pub port : Option (List ℕ)
-  pub pathname : Option (List ℕ)
-  pub search : Option (List ℕ)
-  pub hash : Option (List ℕ)
-
 -- The text from the index of one token up to that of another.
 pub record IsTextBetween (text : List ℕ) (tokens : List TokenView) (from until : ℕ) (between : List ℕ) : Type 0 where
   pub front : List ℕ
@@ -163,29 +153,29 @@ abbrev pub Takes : (text : List ℕ) → List TokenView → (from until : ℕ) �
 Takes text tokens from until component = IsSomeAnd component (IsTextBetween text tokens from until)
 
 -- the hash begins there and goes on to End
-abbrev pub HashFrom : (text : List ℕ) → List TokenView → (from : ℕ) → Components → Type 0
+abbrev pub HashFrom : (text : List ℕ) → List TokenView → (from : ℕ) → Values → Type 0
 HashFrom text tokens from components = (until : ℕ) × IsTrue (ends_at tokens until) × Takes text tokens from until components.hash
 
 -- a hash begins behind the sign for it, and there is none at End
-abbrev pub HashAt : (text : List ℕ) → List TokenView → (place : ℕ) → Components → Type 0
+abbrev pub HashAt : (text : List ℕ) → List TokenView → (place : ℕ) → Values → Type 0
 HashAt text tokens place components =
     (IsTrue (is_hash_sign tokens place) × HashFrom text tokens (place + 1) components)
     ⊎ (IsTrue (ends_at tokens place) × (components.hash ≡ None))
 
 -- the search begins there, and ends at the sign of the hash or at End
-abbrev pub SearchFrom : (text : List ℕ) → List TokenView → (from depth : ℕ) → Components → Type 0
+abbrev pub SearchFrom : (text : List ℕ) → List TokenView → (from depth : ℕ) → Values → Type 0
 SearchFrom text tokens from depth components =
     (until : ℕ) × EndsAt Search tokens from depth until × Takes text tokens from until components.search × HashAt text tokens until components
 
 -- a search begins behind the sign for it; where the hash begins without one, it is empty
-abbrev pub SearchAt : (text : List ℕ) → List TokenView → (place : ℕ) → Components → Type 0
+abbrev pub SearchAt : (text : List ℕ) → List TokenView → (place : ℕ) → Values → Type 0
 SearchAt text tokens place components =
     (IsTrue (is_search_sign tokens place) × SearchFrom text tokens (place + 1) 0 components)
     ⊎ (IsTrue (is_hash_sign tokens place) × (components.search ≡ Some []) × HashFrom text tokens (place + 1) components)
     ⊎ (IsTrue (ends_at tokens place) × (components.search ≡ None) × (components.hash ≡ None))
 
 -- the pathname begins there, and ends at the sign of the search or of the hash or at End
-abbrev pub PathnameFrom : (text : List ℕ) → List TokenView → (from depth : ℕ) → Components → Type 0
+abbrev pub PathnameFrom : (text : List ℕ) → List TokenView → (from depth : ℕ) → Values → Type 0
 PathnameFrom text tokens from depth components =
     (until : ℕ) × EndsAt Pathname tokens from depth until × Takes text tokens from until components.pathname × SearchAt text tokens until components
 
@@ -195,7 +185,7 @@ implied_pathname true = codes "/"
 implied_pathname false = []
 
 -- behind a hostname or a port a pathname begins with its slash
-abbrev pub PathnameAt : (text : List ℕ) → List TokenView → (special : Bool) → (place : ℕ) → Components → Type 0
+abbrev pub PathnameAt : (text : List ℕ) → List TokenView → (special : Bool) → (place : ℕ) → Values → Type 0
 PathnameAt text tokens special place components =
     (IsTrue (is_slash_sign tokens place) × PathnameFrom text tokens place 0 components)
     ⊎ (IsTrue (is_search_sign tokens place || is_hash_sign tokens place) × (components.pathname ≡ Some (implied_pathname special))
@@ -203,7 +193,7 @@ PathnameAt text tokens special place components =
     ⊎ (IsTrue (ends_at tokens place) × (components.pathname ≡ None) × (components.search ≡ None) × (components.hash ≡ None))
 
 -- the port follows a colon; without one it is empty
-abbrev pub PortAt : (text : List ℕ) → List TokenView → (special : Bool) → (place : ℕ) → Components → Type 0
+abbrev pub PortAt : (text : List ℕ) → List TokenView → (special : Bool) → (place : ℕ) → Values → Type 0
 PortAt text tokens special place components =
     (IsTrue (is_colon_sign tokens place)
     × ((until : ℕ) × EndsAt Port tokens (place + 1) 0 until × Takes text tokens (place + 1) until components.port
@@ -211,13 +201,13 @@ PortAt text tokens special place components =
     ⊎ (¬ IsTrue (is_colon_sign tokens place) × (components.port ≡ Some []) × PathnameAt text tokens special place components)
 
 -- the hostname begins there
-abbrev pub HostnameFrom : (text : List ℕ) → List TokenView → (special : Bool) → (from depth : ℕ) → Components → Type 0
+abbrev pub HostnameFrom : (text : List ℕ) → List TokenView → (special : Bool) → (from depth : ℕ) → Values → Type 0
 HostnameFrom text tokens special from depth components =
     (until : ℕ) × EndsAt Hostname tokens from depth until × Takes text tokens from until components.hostname
     × PortAt text tokens special until components
 
 -- the username ends at a colon or at the sign of the hostname, and the password lies between these two
-abbrev pub UserinfoFrom : (text : List ℕ) → List TokenView → (from until : ℕ) → Components → Type 0
+abbrev pub UserinfoFrom : (text : List ℕ) → List TokenView → (from until : ℕ) → Values → Type 0
 UserinfoFrom text tokens from until components =
     (place : ℕ) × EndsAt Username tokens from 0 place × Takes text tokens from place components.username
     × (((place ≡ until) × (components.password ≡ None))
@@ -225,7 +215,7 @@ UserinfoFrom text tokens from until components =
 
 -- The authority begins there: a username and a password if it ends at the sign for them, and the hostname. Else the
 -- hostname begins where it does, at the depth that was reached at its end.
-abbrev pub AuthorityFrom : (text : List ℕ) → List TokenView → (special : Bool) → (from : ℕ) → Components → Type 0
+abbrev pub AuthorityFrom : (text : List ℕ) → List TokenView → (special : Bool) → (from : ℕ) → Values → Type 0
 AuthorityFrom text tokens special from components =
     (until : ℕ) × EndsAt Authority tokens from 0 until
     × ((IsTrue (is_at_sign tokens until) × UserinfoFrom text tokens from until components
@@ -236,7 +226,7 @@ AuthorityFrom text tokens special from components =
 -- ---- the whole string
 
 -- no protocol: the first token tells where the hash, the search or else the pathname begins
-pub record IsRelativeSplit (text : List ℕ) (tokens : List TokenView) (components : Components) : Type 0 where
+pub record IsRelativeSplit (text : List ℕ) (tokens : List TokenView) (components : Values) : Type 0 where
   pub until : ℕ
   pub no_colon : EndsAt Protocol tokens 0 0 until
   pub is_end : IsTrue (ends_at tokens until)
@@ -254,7 +244,7 @@ abbrev pub has_slashes : List TokenView → ℕ → Bool
 has_slashes tokens place = is_slash_sign tokens (place + 1) && is_slash_sign tokens (place + 2)
 
 -- Behind the protocol stands an authority if slashes or a special protocol tell so, else a pathname with an empty hostname.
-pub record IsAbsoluteSplit (text : List ℕ) (tokens : List TokenView) (special : Bool) (colon : ℕ) (components : Components) : Type 0 where
+pub record IsAbsoluteSplit (text : List ℕ) (tokens : List TokenView) (special : Bool) (colon : ℕ) (components : Values) : Type 0 where
   pub is_colon_there : IsTrue (is_colon_sign tokens colon)
   pub protocol_ends : EndsAt Protocol tokens 0 0 colon
   pub protocol : Takes text tokens 0 colon components.protocol
@@ -266,7 +256,7 @@ pub record IsAbsoluteSplit (text : List ℕ) (tokens : List TokenView) (special 
 
 -- These are the components of the text, whose tokens these are. `IsSpecial` relates the text of a protocol to whether it
 -- is special.
-abbrev pub IsSplit : (IsSpecial : List ℕ → Bool → Type 0) → (text : List ℕ) → List TokenView → Components → Type 0
+abbrev pub IsSplit : (IsSpecial : List ℕ → Bool → Type 0) → (text : List ℕ) → List TokenView → Values → Type 0
 IsSplit IsSpecial text tokens components =
     IsRelativeSplit text tokens components
     ⊎ ((colon : ℕ) × (special : Bool) × IsAbsoluteSplit text tokens special colon components

@@ -1,7 +1,7 @@
 -- Words of the private contracts of the splitting of a constructor string. No public contract cites them.
 use Rattle.std.specs.Prelude.{◌≡◌, ℕ, ◌+◌, ◌-◌, ◌*◌, ◌<◌, ◌≤◌, Bool, true, false, List, length, None, IsTrue}
 use Rattle.std.specs.Str.{chars}
-use Rattle.urlpattern_init.specs.Split.{Components, ends_at, is_seen, is_slash_sign}
+use Rattle.urlpattern_init.specs.Split.{ends_at, is_seen, is_slash_sign}
 use Rattle.urlpattern_init.specs.declared.constructor_parser.Place.{Place}
 use Rattle.urlpattern_init.specs.declared.constructor_parser.Section.{Section}
 use Rattle.urlpattern_init.specs.declared.constructor_parser.Section.TheVariants.{Hostname}
@@ -9,6 +9,7 @@ use Rattle.urlpattern_init.specs.declared.constructor_parser.Source.{Source}
 use Rattle.urlpattern_init.specs.declared.constructor_parser.Split.{Split}
 use Rattle.urlpattern_syntax.specs.Parsing.{name_view, views}
 use Rattle.urlpattern_syntax.specs.Tokens.{AreLenientTokens, TokenView}
+use Rattle.urlpattern_syntax.specs.Eight.{Values}
 
 -- the text of a source, and its tokens
 abbrev pub text_of_source : Source → List ℕ
@@ -18,7 +19,7 @@ abbrev pub tokens_of : Source → List TokenView
 tokens_of source = views source.tokens.now
 
 -- the components that were found
-abbrev pub components_of : Split → Components
+abbrev pub components_of : Split → Values
 components_of split = record {
   protocol = name_view split.protocol;
   username = name_view split.username;
@@ -62,12 +63,12 @@ pub record IsClosed (tokens : List TokenView) : Type 0 where
   pub goes_on : (place : ℕ) → place < length tokens → ¬ IsTrue (ends_at tokens place) → place + 1 < length tokens
 
 -- nothing stands before a pathname, a search or a hash
-abbrev pub NoAuthority : Components → Type 0
+abbrev pub NoAuthority : Values → Type 0
 NoAuthority components = (components.protocol ≡ None) × (components.username ≡ None) × (components.password ≡ None)
     × (components.hostname ≡ None) × (components.port ≡ None)
 
-abbrev pub NoPathname : Components → Type 0
+abbrev pub NoPathname : Values → Type 0
 NoPathname components = NoAuthority components × (components.pathname ≡ None)
 
-abbrev pub NoSearch : Components → Type 0
+abbrev pub NoSearch : Values → Type 0
 NoSearch components = NoPathname components × (components.search ≡ None)

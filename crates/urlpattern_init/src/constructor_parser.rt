@@ -5,7 +5,8 @@
 ghost use Rattle.std.specs.Prelude.{◌≡◌, ◌↔◌, Any, IfErr, IfOk, MatchBool, Some, false, option_map, ℕ, ◌+◌, ◌-◌, ◌*◌, ◌^◌, ◌<◌, ◌≤◌, ◌∷◌, ◌&&◌, ◌||◌, ◌==◌, not, if◌then◌else◌, [], length, IsTrue, None};
 ghost use Rattle.std.specs.Str.{bytes_eq, chars};
 ghost use Rattle.urlpattern_core.specs.Compiling.{MayRefuseAtFirst};
-ghost use Rattle.urlpattern_init.specs.ConstructorString.{AreFewTurns, HasProtocolOrBase, RefusesString, SplitsInto, init_components};
+ghost use Rattle.urlpattern_init.specs.ConstructorString.{AreFewTurns, HasProtocolOrBase, RefusesString, SplitsInto};
+ghost use Rattle.urlpattern_init.specs.Inheritance.{values_view};
 ghost use Rattle.urlpattern_init.specs.SpecialProtocol.{AcceptsSpecialScheme, CanonicalizesProtocol, IsSpecialBy, RefusesProtocol};
 ghost use Rattle.urlpattern_init.specs.Split.{AuthorityFrom, EndsAt, HashAt, HashFrom, HasProtocol, HostnameFrom, IsAbsoluteSplit, IsRelativeSplit, IsSplit, IsTextBetween, PathnameAt, PathnameFrom, PortAt, SearchAt, SearchFrom, UserinfoFrom, at, depth_before, depth_behind, ends_at, follows_modified, has_slashes, implied_pathname, is_at_sign, is_character, is_colon_sign, is_end, is_ending, is_open, is_hash_sign, is_search_sign, is_sign, is_slash_sign, takes_modifier};
 ghost use Rattle.urlpattern_init.specs.Splitting.{CanRead, HasRead, HasTurnForSlash, IsSource, NoAuthority, NoPathname, NoSearch, components_of, is_hostname, text_of_source, tokens_of};
@@ -115,7 +116,7 @@ impl<'a> Split<'a> {
     ///
     /// The error is that memory ran out.
     fn to_init(&self, alloc: Global, base_url: Option<Url>) -> Result<UrlPatternInit, Error>
-        ensures components { IfOk result (λ init. init_components init ≡ components_of self.now) }
+        ensures components { IfOk result (λ init. values_view init ≡ components_of self.now) }
         ensures base { IfOk result (λ init. init.base_url ≡ base_url) }
         ensures memory { IfErr result (λ error. error ≡ errors.OutOfMemory) }
     {
@@ -604,7 +605,7 @@ impl UrlPatternInit {
         base_url: Option<Url>,
     ) -> Result<UrlPatternInit, Error>
         ensures split { IfOk result (λ init. SplitsInto (IsSpecialBy R.IsMade (MayRefuseAtFirst R.MayRefuse) R.answer)
-            (chars pattern.now) (init_components init)) }
+            (chars pattern.now) (values_view init)) }
         ensures base { IfOk result (λ init. init.base_url ≡ base_url) }
         ensures complete { IfOk result HasProtocolOrBase }
         ensures refused { IfErr result (MemoryOr (RefusesString (chars pattern.now) base_url)) }
@@ -620,7 +621,7 @@ impl UrlPatternInit {
         base_url: Option<Url>,
     ) -> Result<(UrlPatternInit, usize), Error>
         ensures split { IfOk result (λ found. SplitsInto (IsSpecialBy R.IsMade (MayRefuseAtFirst R.MayRefuse) R.answer)
-            (chars pattern.now) (init_components found.0)) }
+            (chars pattern.now) (values_view found.0)) }
         ensures turns { IfOk result (λ found. AreFewTurns (chars pattern.now) found.1) }
         ensures base { IfOk result (λ found. found.0.base_url ≡ base_url) }
         ensures complete { IfOk result (λ found. HasProtocolOrBase found.0) }

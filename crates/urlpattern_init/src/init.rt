@@ -3,8 +3,14 @@
 //! <https://urlpattern.spec.whatwg.org/#process-a-urlpatterninit>
 mod processing;
 
-pub use processing::{Component, given, process, url_text};
+ghost use Rattle.std.specs.Prelude.{◌≡◌, None, option_map};
+ghost use Rattle.urlpattern_init.specs.Inheritance.{values_view};
+ghost use Rattle.urlpattern_syntax.specs.Eight.{at, each};
+ghost use Rattle.urlpattern_syntax.specs.Text.{text_of};
+
+pub use processing::{given, process, url_text};
 use url::Url;
+use urlpattern_syntax::eight::Eight;
 
 /// The components of a URL pattern, each with its own pattern, or those of a URL to be matched.
 ///
@@ -29,6 +35,26 @@ pub struct UrlPatternInit {
     pub hash: Option<String>,
     /// The URL from which components are inherited.
     pub base_url: Option<Url>,
+}
+
+impl UrlPatternInit {
+    /// An init of these values, without a base URL.
+    pub(crate) fn of_values(values: Eight<Option<String>>) -> Self
+        ensures values { values_view result ≡ each (λ name. option_map text_of (at values name)) }
+        ensures base { result.base_url ≡ None }
+    {
+        Self {
+            protocol: values.protocol,
+            username: values.username,
+            password: values.password,
+            hostname: values.hostname,
+            port: values.port,
+            pathname: values.pathname,
+            search: values.search,
+            hash: values.hash,
+            base_url: None,
+        }
+    }
 }
 
 /// What a pattern is matched against.

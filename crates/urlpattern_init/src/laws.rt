@@ -6,16 +6,17 @@ ghost use Rattle.std.specs.Prelude.{◌≡◌, ◌⊎◌, ℕ, Bool, true, false
 ghost use Rattle.urlpattern_core.specs.Compiling.{MayRefuseAtFirst};
 ghost use Rattle.urlpattern_init.specs.ConstructorString.{SplitsAs, SplitsInto};
 ghost use Rattle.urlpattern_init.specs.SpecialProtocol.{IsSpecialBy};
-ghost use Rattle.urlpattern_init.specs.Split.{Components, HasProtocol};
+ghost use Rattle.urlpattern_init.specs.Split.{HasProtocol};
+ghost use Rattle.urlpattern_syntax.specs.Eight.{Values};
 
 use urlpattern_core::regexp::RegExp;
 
 /// A constructor string has one split under a given answer on whether its protocol is special. By the answers of a type of
 /// engines it has one at most, unless its protocol is special by them and also not.
 pub fn splits_are_one<R: RegExp>()
-    ensures exist { (text : List ℕ) (special : Bool) → (components : Components) × SplitsAs text special components }
-    ensures given { (text : List ℕ) (special : Bool) (components others : Components) → SplitsAs text special components → SplitsAs text special others → components ≡ others }
-    ensures computed { (text : List ℕ) (components others : Components) →
+    ensures exist { (text : List ℕ) (special : Bool) → (components : Values) × SplitsAs text special components }
+    ensures given { (text : List ℕ) (special : Bool) (components others : Values) → SplitsAs text special components → SplitsAs text special others → components ≡ others }
+    ensures computed { (text : List ℕ) (components others : Values) →
         let IsSpecial = IsSpecialBy R.IsMade (MayRefuseAtFirst R.MayRefuse) R.answer in
         SplitsInto IsSpecial text components → SplitsInto IsSpecial text others →
         (components ≡ others) ⊎ HasProtocol text (λ protocol. IsSpecial protocol true × IsSpecial protocol false) }

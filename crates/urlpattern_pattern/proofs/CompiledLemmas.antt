@@ -10,8 +10,8 @@ use Rattle.urlpattern_laws.proofs.Encodings.{Weakens, reads_weaker, refuses_weak
 use Rattle.urlpattern_pattern.specs.Compiled.{AreCompiled, Compiles, FirstRefused, HasEngine, HasHierarchicalPath, IsCompiled, IsComponentCompiled, IsRefusedFrom, RefusesPattern, RefusesValues, behind_protocol, has_default_port, is_ipv6_pattern, is_mark, is_same, pattern_values, without_default_port}
 use Rattle.urlpattern_init.specs.Inheritance.{Values}
 use Rattle.urlpattern_pattern.specs.Patterns.{pattern_view}
-use Rattle.urlpattern_init.specs.declared.init.processing.Component.{Component as Names}
-use Rattle.urlpattern_init.specs.declared.init.processing.Component.TheVariants.{Protocol, Username, Password, Hostname, Port, Pathname, Search, Hash}
+use Rattle.urlpattern_syntax.specs.declared.eight.ComponentName.{ComponentName as Names}
+use Rattle.urlpattern_syntax.specs.declared.eight.ComponentName.TheVariants.{Protocol, Username, Password, Hostname, Port, Pathname, Search, Hash}
 use Rattle.urlpattern_init.specs.declared.init.UrlPatternInit.{UrlPatternInit}
 use Rattle.urlpattern_pattern.specs.declared.pattern.UrlPattern.{UrlPattern}
 use Rattle.urlpattern_inputs.specs.declared.options.UrlPatternOptions.{UrlPatternOptions}

@@ -1,9 +1,9 @@
 -- Facts on each component, by the eight of them.
 use Rattle.std.specs.Prelude.{Option, Some, None, Result, Ok, Err, IfErr, IfNone}
-use Rattle.urlpattern_init.specs.declared.init.processing.Component.{Component}
-use Rattle.urlpattern_init.specs.declared.init.processing.Component.TheVariants.{Protocol, Username, Password, Hostname, Port, Pathname, Search, Hash}
+use Rattle.urlpattern_syntax.specs.declared.eight.ComponentName.{ComponentName}
+use Rattle.urlpattern_syntax.specs.declared.eight.ComponentName.TheVariants.{Protocol, Username, Password, Hostname, Port, Pathname, Search, Hash}
 
-pub each : (P : Component → Type 0) → P Protocol → P Username → P Password → P Hostname → P Port → P Pathname → P Search → P Hash → (name : Component) → P name
+pub each : (P : ComponentName → Type 0) → P Protocol → P Username → P Password → P Hostname → P Port → P Pathname → P Search → P Hash → (name : ComponentName) → P name
 each P protocol username password hostname port pathname search hash Protocol = protocol
 each P protocol username password hostname port pathname search hash Username = username
 each P protocol username password hostname port pathname search hash Password = password

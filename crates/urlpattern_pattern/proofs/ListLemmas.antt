@@ -6,7 +6,7 @@ use Rattle.std.proofs.lemmas.Option.{get_or_from_slice_get, slice_get-map, slice
 use Rattle.std.specs.Prelude.{All, IfOk, Option, Some, None, Result, Ok, Err, option_map, slice_get}
 use Rattle.urlpattern_init.specs.Inheritance.{Texts}
 use Rattle.urlpattern_init.specs.declared.init.UrlPatternMatchInput.{UrlPatternMatchInput}
-use Rattle.urlpattern_init.specs.declared.init.processing.Component.{Component}
+use Rattle.urlpattern_syntax.specs.declared.eight.ComponentName.{ComponentName}
 use Rattle.urlpattern_laws.specs.PartMeaning.{Captures}
 use Rattle.urlpattern_pattern.proofs.MatchLaws.{refused-unmatched}
 use Rattle.urlpattern_pattern.specs.FirstMatch.{IsFirstMatch, IsFirstMatchOf, OneAsksAnEngine, patterns_view}
@@ -25,7 +25,7 @@ module _ {E : Type 0} (answer : E → List ℕ → Option Captures) (texts : Tex
   refused-views patterns refused = All-map (λ view. IsRefused answer view texts) (λ pattern. pattern_view pattern) patterns refused
 
   -- the pattern at an index is the first where those before it were passed over
-  pub first-views : (patterns : List (UrlPattern E)) (index : ℕ) (pattern : UrlPattern E) (match : Component → ResultView) → slice_get patterns index ≡ Some pattern
+  pub first-views : (patterns : List (UrlPattern E)) (index : ℕ) (pattern : UrlPattern E) (match : ComponentName → ResultView) → slice_get patterns index ≡ Some pattern
       → All (λ earlier. IsRefused answer (pattern_view earlier) texts) (take index patterns)
       → IsMatchOf answer (pattern_view pattern) texts match
       → IsFirstMatchOf answer (patterns_view patterns) texts (Some (index, match))
@@ -49,12 +49,12 @@ one_asks-views texts patterns index pattern is_there asks =
 
 module _ {E : Type 0} (answer : E → List ℕ → Option Captures) (patterns : List (PatternView E)) where
   -- a result of the pattern's match is one of the first match
-  pub first-same : (texts : Texts) (index : ℕ) (match result : Component → ResultView)
+  pub first-same : (texts : Texts) (index : ℕ) (match result : ComponentName → ResultView)
       → ((pattern : PatternView E) → IsMatchOf answer pattern texts match → IsMatchOf answer pattern texts result)
       → IsFirstMatchOf answer patterns texts (Some (index, match)) → IsFirstMatchOf answer patterns texts (Some (index, result))
   first-same texts index match result step ((pattern, is_there, is_match), others) = ((pattern, is_there, step pattern is_match), others)
 
-  pub first-same_input : (input : UrlPatternMatchInput) (index : ℕ) (match result : Component → ResultView)
+  pub first-same_input : (input : UrlPatternMatchInput) (index : ℕ) (match result : ComponentName → ResultView)
       → ((pattern : PatternView E) → IsMatch answer pattern input match → IsMatch answer pattern input result)
       → IsFirstMatch answer patterns input (Some (index, match)) → IsFirstMatch answer patterns input (Some (index, result))
   first-same_input input index match result step ((pattern, is_there, is_match), others) = ((pattern, is_there, step pattern is_match), others)
@@ -67,7 +67,7 @@ module _ {E : Type 0} (answer : E → List ℕ → Option Captures) (patterns : 
   none-of_no_input no_input = λ k d within. inl no_input
 
   -- what is found of the input's texts is found of the input
-  pub first-of_texts : {X : Type 0} (view : X → Component → ResultView) (texts : Texts) (result : Result (Option (ℕ × X)) Error) → input_texts input ≡ Ok texts
+  pub first-of_texts : {X : Type 0} (view : X → ComponentName → ResultView) (texts : Texts) (result : Result (Option (ℕ × X)) Error) → input_texts input ≡ Ok texts
       → IfOk result (λ found. IsFirstMatchOf answer patterns texts (option_map (λ first. (first.0, view first.1)) found))
       → IfOk result (λ found. IsFirstMatch answer patterns input (option_map (λ first. (first.0, view first.1)) found))
   first-of_texts view texts (Ok (Some first)) are_texts ((pattern, is_there, is_match), others) = (

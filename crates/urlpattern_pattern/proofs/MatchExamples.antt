@@ -3,7 +3,7 @@ use Rattle.std.proofs.Common.{◌≡◌, ℕ, false, true, List, [], ◌∷◌, 
 use Rattle.std.proofs.lemmas.List.{append-nil}
 use Rattle.std.specs.Prelude.{codes, Option, Some, None, Ok, Err}
 use Rattle.url.specs.Parts.{Parts}
-use Rattle.urlpattern_init.specs.declared.init.processing.Component.TheVariants.{Pathname}
+use Rattle.urlpattern_syntax.specs.declared.eight.ComponentName.TheVariants.{Pathname}
 use Rattle.urlpattern_init.specs.declared.init.UrlPatternMatchInput.TheVariants.{Url}
 use Rattle.urlpattern_init.specs.Inheritance.{Texts, texts_of_url}
 use Rattle.urlpattern_pattern.specs.Match.{AsksAnEngine, HasMatch, HasNoMatch, IsMatchOf, group_of, text_at}

@@ -1,7 +1,7 @@
 -- The laws of matches: a matcher has one answer, and so has a pattern.
 use Rattle.std.proofs.Common.{◌≡◌, ℕ, Bool, List, refl, sym, ap, ◌∙◌, subst, inl, inr}
 use Rattle.std.specs.Prelude.{Option, Ok, Err}
-use Rattle.urlpattern_init.specs.declared.init.processing.Component.{Component}
+use Rattle.urlpattern_syntax.specs.declared.eight.ComponentName.{ComponentName}
 use Rattle.urlpattern_init.specs.declared.init.UrlPatternMatchInput.{UrlPatternMatchInput}
 use Rattle.urlpattern_init.specs.Inheritance.{Texts}
 use Rattle.urlpattern_pattern.specs.Match.{HasMatch, HasNoMatch, IsLongInput, IsMatch, IsRefused, IsSameResult, ResultView, group_of, text_at}
@@ -14,9 +14,9 @@ use Rattle.urlpattern_laws.specs.PartMeaning.{Captures}
 -- ---- a test tells a match
 
 pub match_from-test : {E : Type 0} (answer : E → List ℕ → Option Captures) (pattern : PatternView E) (input : UrlPatternMatchInput) →
-    HasMatch answer pattern input → (result : Component → ResultView) × IsMatch answer pattern input result
+    HasMatch answer pattern input → (result : ComponentName → ResultView) × IsMatch answer pattern input result
 match_from-test answer pattern input (texts, are_texts, matched) =
-    let captures : Component → Captures = λ component. (matched component).0 in (
+    let captures : ComponentName → Captures = λ component. (matched component).0 in (
       λ component. record { input = text_at texts component; group = group_of (pattern component).group_name_list (captures component) },
       (
         texts,
@@ -29,7 +29,7 @@ match_from-test answer pattern input (texts, are_texts, matched) =
       ),
     )
 
-pub test_from-match : {E : Type 0} (answer : E → List ℕ → Option Captures) (pattern : PatternView E) (input : UrlPatternMatchInput) (result : Component → ResultView) →
+pub test_from-match : {E : Type 0} (answer : E → List ℕ → Option Captures) (pattern : PatternView E) (input : UrlPatternMatchInput) (result : ComponentName → ResultView) →
     IsMatch answer pattern input result → HasMatch answer pattern input
 test_from-match answer pattern input result (texts, are_texts, match) =
     (texts, are_texts, λ component. (match.captures component, match.are_answers component))
@@ -51,8 +51,8 @@ matches-one answer matcher text captures others (middle, cut, accepts) other =
 pub texts-one : (input : UrlPatternMatchInput) (texts others : Texts) → input_texts input ≡ Ok texts → input_texts input ≡ Ok others → texts ≡ others
 texts-one input texts others one other = cc
 
-pub match-one : {E : Type 0} (answer : E → List ℕ → Option Captures) (pattern : PatternView E) (input : UrlPatternMatchInput) (result other : Component → ResultView) →
-    IsMatch answer pattern input result → IsMatch answer pattern input other → (component : Component) → IsSameResult (result component) (other component)
+pub match-one : {E : Type 0} (answer : E → List ℕ → Option Captures) (pattern : PatternView E) (input : UrlPatternMatchInput) (result other : ComponentName → ResultView) →
+    IsMatch answer pattern input result → IsMatch answer pattern input other → (component : ComponentName) → IsSameResult (result component) (other component)
 match-one answer pattern input result other (texts, are_texts, match) (texts', are_texts', match') component =
     let same = texts-one input texts' texts are_texts' are_texts in
     let one = match.are_results component in

@@ -5,7 +5,7 @@ use Rattle.std.specs.HashMap.{HashMap}
 use Rattle.std.specs.Prelude.{Bool, Option, Some, None, Result, Ok, Err, String, is_some, IfOk, IfNone, IfSome, MatchBool, MatchOption}
 use Rattle.std.specs.Str.{chars}
 use Rattle.std.specs.declared.alloc.Global.{Global}
-use Rattle.urlpattern_init.specs.declared.init.processing.Component.{Component}
+use Rattle.urlpattern_syntax.specs.declared.eight.ComponentName.{ComponentName}
 use Rattle.urlpattern_init.specs.declared.init.UrlPatternMatchInput.{UrlPatternMatchInput}
 use Rattle.urlpattern_pattern.specs.declared.pattern.eight.Eight.{Eight}
 use Rattle.urlpattern_pattern.proofs.Each.{each}
@@ -47,7 +47,7 @@ test-of_texts answer pattern input texts (Ok false) e h = inr (texts, e, h)
 test-of_texts answer pattern input texts (Err error) e h = tt
 
 -- what is found of the input's texts is found of the input
-pub found-of_texts : {E X : Type 0} (answer : E → List ℕ → Option Captures) (pattern : PatternView E) (view : X → Component → ResultView) (input : UrlPatternMatchInput) (texts : Texts) (result : Result (Option X) Error) →
+pub found-of_texts : {E X : Type 0} (answer : E → List ℕ → Option Captures) (pattern : PatternView E) (view : X → ComponentName → ResultView) (input : UrlPatternMatchInput) (texts : Texts) (result : Result (Option X) Error) →
     input_texts input ≡ Ok texts → IfOk result (λ found. MatchOption found (IsRefused answer pattern texts) (λ match. IsMatchOf answer pattern texts (view match))) →
     IfOk result (λ found. MatchOption found (HasNoMatch answer pattern input) (λ match. IsMatch answer pattern input (view match)))
 found-of_texts answer pattern view input texts (Ok (Some match)) e matched = (texts, e, matched)
@@ -55,8 +55,8 @@ found-of_texts answer pattern view input texts (Ok None) e refused = inr (texts,
 found-of_texts answer pattern view input texts (Err error) e h = tt
 
 -- a result that tells the same as a match is one
-pub match-same : {E : Type 0} (answer : E → List ℕ → Option Captures) (pattern : PatternView E) (texts : Texts) (match result : Component → ResultView) →
-    ((name : Component) → IsSameResult (result name) (match name)) → IsMatchOf answer pattern texts match → IsMatchOf answer pattern texts result
+pub match-same : {E : Type 0} (answer : E → List ℕ → Option Captures) (pattern : PatternView E) (texts : Texts) (match result : ComponentName → ResultView) →
+    ((name : ComponentName) → IsSameResult (result name) (match name)) → IsMatchOf answer pattern texts match → IsMatchOf answer pattern texts result
 match-same answer pattern texts match result same is_match = record {
   captures = is_match.captures;
   are_answers = is_match.are_answers;
@@ -66,17 +66,17 @@ match-same answer pattern texts match result same is_match = record {
   };
 }
 
-pub input-same : {E : Type 0} (answer : E → List ℕ → Option Captures) (pattern : PatternView E) (input : UrlPatternMatchInput) (match result : Component → ResultView) →
-    ((name : Component) → IsSameResult (result name) (match name)) → IsMatch answer pattern input match → IsMatch answer pattern input result
+pub input-same : {E : Type 0} (answer : E → List ℕ → Option Captures) (pattern : PatternView E) (input : UrlPatternMatchInput) (match result : ComponentName → ResultView) →
+    ((name : ComponentName) → IsSameResult (result name) (match name)) → IsMatch answer pattern input match → IsMatch answer pattern input result
 input-same answer pattern input match result same (texts, e, is_match) = (texts, e, match-same answer pattern texts match result same is_match)
 
 -- texts that are lent, and the text of one component
-pub text-at : (texts : Eight (Bor (List ℕ))) (name : Component) → text_at (borrowed_texts texts) name ≡ chars (at texts name).now
+pub text-at : (texts : Eight (Bor (List ℕ))) (name : ComponentName) → text_at (borrowed_texts texts) name ≡ chars (at texts name).now
 text-at texts = each (λ name. text_at (borrowed_texts texts) name ≡ chars (at texts name).now) refl refl refl refl refl refl refl refl
 
 -- texts beside copies of the groups of a match of them are its results
-pub match-of_groups : {E S : Type 0} (answer : E → List ℕ → Option Captures) (pattern : PatternView E) (texts : Texts) (match : Component → ResultView) (groups : Eight (HashMap (String Global) (Option (String Global)) S)) →
-    ((name : Component) (group : List ℕ) → group_in (at groups name) group ≡ (match name).group group) →
+pub match-of_groups : {E S : Type 0} (answer : E → List ℕ → Option Captures) (pattern : PatternView E) (texts : Texts) (match : ComponentName → ResultView) (groups : Eight (HashMap (String Global) (Option (String Global)) S)) →
+    ((name : ComponentName) (group : List ℕ) → group_in (at groups name) group ≡ (match name).group group) →
     IsMatchOf answer pattern texts match → IsMatchOf answer pattern texts (results_of texts groups)
 match-of_groups answer pattern texts match groups copied is_match = record {
   captures = is_match.captures;

@@ -9,7 +9,7 @@ use Rattle.urlpattern_core.specs.Compiling.{ComponentView, IsCompiledFrom, IsCom
 use Rattle.urlpattern_init.specs.Inheritance.{Texts, Values}
 use Rattle.urlpattern_init.specs.declared.init.UrlPatternInit.{UrlPatternInit}
 use Rattle.urlpattern_init.specs.declared.init.UrlPatternMatchInput.{UrlPatternMatchInput}
-use Rattle.urlpattern_init.specs.declared.init.processing.Component.{Component}
+use Rattle.urlpattern_syntax.specs.declared.eight.ComponentName.{ComponentName}
 use Rattle.urlpattern_inputs.specs.declared.options.UrlPatternOptions.{UrlPatternOptions}
 use Rattle.urlpattern_laws.proofs.CallbackLaws.{EncodesOnce, reading_one_encoded}
 use Rattle.urlpattern_laws.proofs.MatcherMeaning.{matcher_means}
@@ -55,7 +55,7 @@ canonical_once canonical text answer other found more = absurd cc
 
 -- its matcher answers what the parts mean that its pattern text reads as
 component_agrees : {E : Type 0} (answer : E → List ℕ → Option Captures) (IsMade : E → List ℕ → List ℕ → Type 0) (MayRefuse : List ℕ → List ℕ → Bool → Type 0)
-    (syntax : RegexSyntax) (asked : UrlPatternOptions) (values : Values) (hierarchical : Bool) (component : Component) (compiled : ComponentView E)
+    (syntax : RegexSyntax) (asked : UrlPatternOptions) (values : Values) (hierarchical : Bool) (component : ComponentName) (compiled : ComponentView E)
     (text : List ℕ) (parts : List PartView) (result : Option Captures) →
     ReadsAs asked values hierarchical component parts →
     IsComponentOf IsMade MayRefuse syntax (options_of asked values hierarchical component) parts compiled →
@@ -74,11 +74,11 @@ module _ {E : Type 0} (answer : E → List ℕ → Option Captures) (IsMade : E 
     (syntax : RegexSyntax) (asked : UrlPatternOptions) (values : Values) (pattern : PatternView E)
     (compiled : AreCompiled (IsCompiledFrom IsMade MayRefuse syntax) answer asked values pattern) (texts : Texts) where
   -- what is asked of a component
-  abbrev Premises : Component → Type 0
+  abbrev Premises : ComponentName → Type 0
   Premises component = MeaningPremises answer asked values compiled.hierarchical component (pattern component) (text_at texts component)
 
   -- what is matched is meant
-  found_meant : (component : Component) (captures : Captures) → Premises component → Answers answer (pattern component).matcher (text_at texts component) (Some captures) →
+  found_meant : (component : ComponentName) (captures : Captures) → Premises component → Answers answer (pattern component).matcher (text_at texts component) (Some captures) →
       (meant : IsMeant asked values compiled.hierarchical component (text_at texts component))
       × (group_names meant.parts ≡ (pattern component).group_name_list) × (meant.captures ≡ captures)
   found_meant component captures premises answers =
@@ -94,7 +94,7 @@ module _ {E : Type 0} (answer : E → List ℕ → Option Captures) (IsMade : E 
       )
 
   -- what is not matched is not meant
-  refused_unmeant : (component : Component) → Premises component → Answers answer (pattern component).matcher (text_at texts component) None →
+  refused_unmeant : (component : ComponentName) → Premises component → Answers answer (pattern component).matcher (text_at texts component) None →
       ¬ IsMeant asked values compiled.hierarchical component (text_at texts component)
   refused_unmeant component premises answers meant =
       let (parts, reads, is_component) = (compiled.are_compiled component).0 in
@@ -105,7 +105,7 @@ module _ {E : Type 0} (answer : E → List ℕ → Option Captures) (IsMade : E 
       component_agrees answer IsMade MayRefuse syntax asked values compiled.hierarchical component (pattern component) (text_at texts component) parts None reads is_component premises answers
       meant.captures (subst (λ (of : List PartView). PartsMean manner.options of (text_at texts component) meant.captures) same meant.means)
 
-  result_meant : (component : Component) (captures : Captures) (result : ResultView) → Premises component →
+  result_meant : (component : ComponentName) (captures : Captures) (result : ResultView) → Premises component →
       Answers answer (pattern component).matcher (text_at texts component) (Some captures) →
       IsResultOf (pattern component).group_name_list captures (text_at texts component) result →
       (meant : IsMeant asked values compiled.hierarchical component (text_at texts component))
@@ -120,7 +120,7 @@ module _ {E : Type 0} (answer : E → List ℕ → Option Captures) (IsMade : E 
         },
       )
 
-  pub executed_means : (input : UrlPatternMatchInput) (found : Option (Component → ResultView)) → input_texts input ≡ Ok texts → ¬ IsLongInput input →
+  pub executed_means : (input : UrlPatternMatchInput) (found : Option (ComponentName → ResultView)) → input_texts input ≡ Ok texts → ¬ IsLongInput input →
       IsExecuted answer pattern input found → IsFoundByMeaning answer asked values compiled.hierarchical pattern texts found
   executed_means input (Some result) are_texts short (others, are_others, match) = λ component premises.
       let same = texts-one input others texts are_others are_texts in
@@ -141,7 +141,7 @@ executed_of answer pattern input None unmatched = unmatched
 executed_of answer pattern input (Some result) match = match
 
 pub executed_by_meaning : {E : Type 0} (answer : E → List ℕ → Option Captures) (IsMade : E → List ℕ → List ℕ → Type 0) (MayRefuse : List ℕ → List ℕ → Bool → Type 0)
-    (syntax : RegexSyntax) (init : UrlPatternInit) (asked : UrlPatternOptions) (input : UrlPatternMatchInput) (pattern : PatternView E) (found : Option (Component → ResultView)) →
+    (syntax : RegexSyntax) (init : UrlPatternInit) (asked : UrlPatternOptions) (input : UrlPatternMatchInput) (pattern : PatternView E) (found : Option (ComponentName → ResultView)) →
     IsCompiled (IsCompiledFrom IsMade MayRefuse syntax) answer init asked pattern → IsExecuted answer pattern input found →
     IsExecutedByMeaning (IsCompiledFrom IsMade MayRefuse syntax) answer init asked input found
 executed_by_meaning answer IsMade MayRefuse syntax init asked input pattern found (values, are_values, compiled) executed = record {

@@ -10,7 +10,7 @@ use Rattle.urlpattern_index.specs.Keys.{key_of}
 use Rattle.urlpattern_index.specs.Listed.{IsAmong}
 use Rattle.urlpattern_index.specs.Places.{AddressTexts, BeginsWith, FixedPath, FixedTexts, HasTexts, Is, IsPath, IsText}
 use Rattle.urlpattern_init.specs.Inheritance.{Texts}
-use Rattle.urlpattern_init.specs.declared.init.processing.Component.TheVariants.{Hostname, Pathname, Protocol}
+use Rattle.urlpattern_syntax.specs.declared.eight.ComponentName.TheVariants.{Hostname, Pathname, Protocol}
 use Rattle.urlpattern_laws.specs.Matching.{Answers, InnerView, Literal, MatcherView, folded}
 use Rattle.urlpattern_laws.specs.PartMeaning.{Captures}
 use Rattle.urlpattern_pattern.specs.Match.{IsRefused}

@@ -9,7 +9,7 @@ use Rattle.urlpattern_core.specs.Compiling.{IsComponentOf, engine_flags}
 use Rattle.urlpattern_core.specs.Engines.{IsRegexOf, IsTakenByRegex, regex_answer}
 use Rattle.urlpattern_init.specs.Inheritance.{Texts, Values}
 use Rattle.urlpattern_init.specs.declared.init.UrlPatternMatchInput.{UrlPatternMatchInput}
-use Rattle.urlpattern_init.specs.declared.init.processing.Component.{Component}
+use Rattle.urlpattern_syntax.specs.declared.eight.ComponentName.{ComponentName}
 use Rattle.urlpattern_inputs.specs.declared.options.UrlPatternOptions.{UrlPatternOptions}
 use Rattle.urlpattern_laws.proofs.CallbackLaws.{reading_one_encoded}
 use Rattle.urlpattern_laws.proofs.FirstAnswers.{first_one, of_made}
@@ -31,14 +31,14 @@ use Rattle.urlpattern_syntax.specs.Parts.{PartView}
 use Rattle.urlpattern_syntax.specs.RegexpText.{group_names, regexp_text}
 
 -- one list of parts is read
-read_once : (asked : UrlPatternOptions) (values : Values) (hierarchical : Bool) (component : Component) (parts others : List PartView) →
+read_once : (asked : UrlPatternOptions) (values : Values) (hierarchical : Bool) (component : ComponentName) (parts others : List PartView) →
     ReadsAs asked values hierarchical component parts → ReadsAs asked values hierarchical component others → parts ≡ others
 read_once asked values hierarchical component parts others reads also =
     let manner = manner_of asked values hierarchical component in
     reading_one_encoded (pattern_of values component) manner.options (canonical_encoding manner.canonical) parts others (canonical_once manner.canonical) reads also
 
 module _ (asked : UrlPatternOptions) (values : Values) (pattern : PatternView Regex) (compiled : AreCompiled compiles_by_regex regex_answer asked values pattern)
-    (component : Component) (text : List ℕ) (premises : RegexPremises asked values compiled.hierarchical component (pattern component) text) where
+    (component : ComponentName) (text : List ℕ) (premises : RegexPremises asked values compiled.hierarchical component (pattern component) text) where
   -- the matcher is one that `regex` took
   taken : (parts : List PartView) → IsComponentOf (λ regex regexp flags. IsRegexOf regexp regex) (λ regexp flags force_eval. ⊤) Rust (options_of asked values compiled.hierarchical component) parts (pattern component) →
       IsTakenByRegex (options_of asked values compiled.hierarchical component) (engine_flags (options_of asked values compiled.hierarchical component)) parts (pattern component).matcher
@@ -79,7 +79,7 @@ module _ (asked : UrlPatternOptions) (values : Values) (pattern : PatternView Re
         is_result = subst (λ (names : List (List ℕ)). IsResultOf names captures text result) is_component.has_names is_result;
       }
 
-pub matched_first : (asked : UrlPatternOptions) (values : Values) (pattern : PatternView Regex) (input : UrlPatternMatchInput) (texts : Texts) (result : Component → ResultView) (component : Component) →
+pub matched_first : (asked : UrlPatternOptions) (values : Values) (pattern : PatternView Regex) (input : UrlPatternMatchInput) (texts : Texts) (result : ComponentName → ResultView) (component : ComponentName) →
     (compiled : AreCompiled compiles_by_regex regex_answer asked values pattern) → input_texts input ≡ Ok texts → IsMatch regex_answer pattern input result →
     RegexPremises asked values compiled.hierarchical component (pattern component) (text_at texts component) →
     IsFirstResult asked values compiled.hierarchical component (text_at texts component) (result component)
@@ -89,7 +89,7 @@ matched_first asked values pattern input texts result component compiled are_tex
     (subst (λ (t : Texts). Answers regex_answer (pattern component).matcher (text_at t component) (Some (match.captures component))) same (match.are_answers component))
     (subst (λ (t : Texts). IsResultOf (pattern component).group_name_list (match.captures component) (text_at t component) (result component)) same (match.are_results component))
 
-pub first_result_one : (asked : UrlPatternOptions) (values : Values) (hierarchical : Bool) (component : Component) (text : List ℕ) (result other : ResultView) →
+pub first_result_one : (asked : UrlPatternOptions) (values : Values) (hierarchical : Bool) (component : ComponentName) (text : List ℕ) (result other : ResultView) →
     IsFirstResult asked values hierarchical component text result → IsFirstResult asked values hierarchical component text other → IsSameResult result other
 first_result_one asked values hierarchical component text result other first last =
     let options = options_of asked values hierarchical component in

@@ -1,22 +1,22 @@
 -- A match that is borrowed from the pattern and from what it matches, as a result.
 use Rattle.std.specs.Prelude.{ℕ, List, map, zip, Option}
 use Rattle.std.specs.Str.{chars}
-use Rattle.urlpattern_init.specs.declared.init.processing.Component.{Component}
+use Rattle.urlpattern_syntax.specs.declared.eight.ComponentName.{ComponentName}
 use Rattle.urlpattern_pattern.specs.declared.pattern.captures.UrlPatternCaptures.{UrlPatternCaptures}
 use Rattle.urlpattern_pattern.specs.Eight.{at, captures_of}
 use Rattle.urlpattern_pattern.specs.Match.{ResultView, group_of}
 use Rattle.urlpattern_syntax.specs.Text.{text_of}
 
 -- the names of a component's groups
-abbrev pub names_view : UrlPatternCaptures → Component → List (List ℕ)
+abbrev pub names_view : UrlPatternCaptures → ComponentName → List (List ℕ)
 names_view found component = map (λ name. text_of name) (at found.names component).now.items
 
 -- the groups of a component in their order: names beside captures
-abbrev pub groups_view : UrlPatternCaptures → Component → List (List ℕ × Option (List ℕ))
+abbrev pub groups_view : UrlPatternCaptures → ComponentName → List (List ℕ × Option (List ℕ))
 groups_view found component = zip (names_view found component) (captures_of (at found.captures component))
 
 -- A `UrlPatternCaptures`: the text of each component that was matched, and what its groups have at a name.
-abbrev pub captures_view : UrlPatternCaptures → Component → ResultView
+abbrev pub captures_view : UrlPatternCaptures → ComponentName → ResultView
 captures_view found component = record {
   input = chars (at found.texts component).now;
   group = group_of (names_view found component) (captures_of (at found.captures component));

@@ -7,8 +7,8 @@ use Rattle.urlpattern_init.specs.Inheritance.{Values, processed_values, value_of
 use Rattle.urlpattern_pattern.specs.Patterns.{PatternView}
 use Rattle.urlpattern_init.specs.SpecialProtocol.{AcceptsSpecialScheme}
 use Rattle.urlpattern_init.specs.declared.init.UrlPatternInit.{UrlPatternInit}
-use Rattle.urlpattern_init.specs.declared.init.processing.Component.{Component}
-use Rattle.urlpattern_init.specs.declared.init.processing.Component.TheVariants.{Protocol, Username, Password, Hostname, Port, Pathname, Search, Hash}
+use Rattle.urlpattern_syntax.specs.declared.eight.ComponentName.{ComponentName}
+use Rattle.urlpattern_syntax.specs.declared.eight.ComponentName.TheVariants.{Protocol, Username, Password, Hostname, Port, Pathname, Search, Hash}
 use Rattle.urlpattern_inputs.specs.declared.options.UrlPatternOptions.{UrlPatternOptions}
 use Rattle.urlpattern_canonical.specs.Canonical.{IsAnswer, canonical_hash, canonical_hostname, canonical_ipv6_hostname, canonical_opaque_pathname, canonical_password, canonical_pathname, canonical_port, canonical_protocol, canonical_search, canonical_username, default_port, is_special, without_first}
 use Rattle.urlpattern_core.specs.Compiling.{ComponentView}
@@ -75,7 +75,7 @@ is_ipv6_pattern text =
 abbrev pub canonical_in_hostname : (pattern : List ℕ) → List ℕ → Parsed (List ℕ)
 canonical_in_hostname pattern text = if is_ipv6_pattern pattern then canonical_ipv6_hostname text else canonical_hostname text
 
-abbrev pub manner_of : UrlPatternOptions → Values → (hierarchical : Bool) → Component → Manner
+abbrev pub manner_of : UrlPatternOptions → Values → (hierarchical : Bool) → ComponentName → Manner
 manner_of asked values hierarchical Protocol = manner (in_syntax asked default_options) canonical_protocol
 manner_of asked values hierarchical Username = manner (in_syntax asked default_options) canonical_username
 manner_of asked values hierarchical Password = manner (in_syntax asked default_options) canonical_password
@@ -97,7 +97,7 @@ abbrev pub Compiles : Type 0 → Type 1
 Compiles E = (text : List ℕ) → OptionsView → Encoding → ComponentView E → Type 0
 
 -- the pattern text of a component, an asterisk where it is missing
-abbrev pub pattern_of : Values → Component → List ℕ
+abbrev pub pattern_of : Values → ComponentName → List ℕ
 pattern_of values component = unwrap_or (value_of component values) (codes "*")
 
 -- the engine took the component's regular expression
@@ -111,13 +111,13 @@ IsRefusedFrom {E} IsFrom text options encoding error =
     ⊎ ((compiled : ComponentView E) × IsFrom text options encoding compiled × (compiled.regexp ≡ Err views.RegExp) × (error ≡ views.RegExp))
 
 -- the component of a pattern is compiled from its pattern text in its manner, and the engine took its regular expression
-abbrev pub IsComponentCompiled : {E : Type 0} → Compiles E → UrlPatternOptions → Values → (hierarchical : Bool) → Component → ComponentView E → Type 0
+abbrev pub IsComponentCompiled : {E : Type 0} → Compiles E → UrlPatternOptions → Values → (hierarchical : Bool) → ComponentName → ComponentView E → Type 0
 IsComponentCompiled IsFrom asked values hierarchical component compiled =
     let manner = manner_of asked values hierarchical component in
     IsFrom (pattern_of values component) manner.options (canonical_encoding manner.canonical) compiled × HasEngine compiled
 
 -- the component of a pattern is refused with this error
-abbrev pub IsComponentRefused : {E : Type 0} → Compiles E → UrlPatternOptions → Values → (hierarchical : Bool) → Component → ErrorView → Type 0
+abbrev pub IsComponentRefused : {E : Type 0} → Compiles E → UrlPatternOptions → Values → (hierarchical : Bool) → ComponentName → ErrorView → Type 0
 IsComponentRefused IsFrom asked values hierarchical component error =
     let manner = manner_of asked values hierarchical component in
     IsRefusedFrom IsFrom (pattern_of values component) manner.options (canonical_encoding manner.canonical) error
@@ -133,7 +133,7 @@ HasHierarchicalPath answer values protocol =
 pub record AreCompiled {E : Type 0} (IsFrom : Compiles E) (answer : E → List ℕ → Option Captures) (asked : UrlPatternOptions) (values : Values) (pattern : PatternView E) : Type 0 where
   pub hierarchical : Bool
   pub tells_path : IsTrue hierarchical ↔ HasHierarchicalPath answer values (pattern Protocol).matcher
-  pub are_compiled : (component : Component) → IsComponentCompiled IsFrom asked values hierarchical component (pattern component)
+  pub are_compiled : (component : ComponentName) → IsComponentCompiled IsFrom asked values hierarchical component (pattern component)
 
 -- the init is compiled to this pattern
 abbrev pub IsCompiled : {E : Type 0} → Compiles E → (answer : E → List ℕ → Option Captures) → UrlPatternInit → UrlPatternOptions → PatternView E → Type 0
@@ -143,15 +143,15 @@ IsCompiled IsFrom answer init asked pattern =
 -- ---- refusals
 
 -- the order in which components are compiled, behind the protocol
-abbrev pub behind_protocol : List Component
+abbrev pub behind_protocol : List ComponentName
 behind_protocol = Hostname ∷ Pathname ∷ Username ∷ Password ∷ Port ∷ Search ∷ Hash ∷ []
 
 -- those of them behind the pathname
-abbrev pub behind_pathname : List Component
+abbrev pub behind_pathname : List ComponentName
 behind_pathname = Username ∷ Password ∷ Port ∷ Search ∷ Hash ∷ []
 
 -- one of these components is refused with this error, and those before it are compiled
-abbrev pub FirstRefused : {E : Type 0} → Compiles E → UrlPatternOptions → Values → (hierarchical : Bool) → List Component → ErrorView → Type 0
+abbrev pub FirstRefused : {E : Type 0} → Compiles E → UrlPatternOptions → Values → (hierarchical : Bool) → List ComponentName → ErrorView → Type 0
 FirstRefused IsFrom asked values hierarchical [] error = ⊥
 FirstRefused {E} IsFrom asked values hierarchical (component ∷ components) error =
     IsComponentRefused IsFrom asked values hierarchical component error

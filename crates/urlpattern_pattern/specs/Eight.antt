@@ -4,8 +4,8 @@ use Rattle.std.specs.Borrow.{Bor}
 use Rattle.std.specs.HashMap.{HashMap}
 use Rattle.std.specs.Str.{chars}
 use Rattle.std.specs.declared.alloc.Global.{Global}
-use Rattle.urlpattern_init.specs.declared.init.processing.Component.{Component}
-use Rattle.urlpattern_init.specs.declared.init.processing.Component.TheVariants.{Protocol, Username, Password, Hostname, Port, Pathname, Search, Hash}
+use Rattle.urlpattern_syntax.specs.declared.eight.ComponentName.{ComponentName}
+use Rattle.urlpattern_syntax.specs.declared.eight.ComponentName.TheVariants.{Protocol, Username, Password, Hostname, Port, Pathname, Search, Hash}
 use Rattle.urlpattern_pattern.specs.declared.pattern.eight.Eight.{Eight}
 use Rattle.urlpattern_pattern.specs.declared.pattern.captures.Captured.{Captured}
 use Rattle.urlpattern_pattern.specs.declared.pattern.captures.Captured.TheVariants as captured
@@ -18,7 +18,7 @@ use Rattle.urlpattern_core.specs.declared.matcher.look.Look.{Look}
 use Rattle.urlpattern_laws.specs.PartMeaning.{Captures}
 
 -- the value of one component
-abbrev pub at : {T : Type 0} → Eight T → Component → T
+abbrev pub at : {T : Type 0} → Eight T → ComponentName → T
 at eight Protocol = eight.protocol
 at eight Username = eight.username
 at eight Password = eight.password
@@ -65,10 +65,10 @@ HasNoGroups groups = (name : List ℕ) → group_in groups name ≡ None
 
 -- no component of the result has groups
 abbrev pub IsWithoutGroups : UrlPatternResult → Type 0
-IsWithoutGroups result = (component : Component) (name : List ℕ) → (result_view result component).group name ≡ None
+IsWithoutGroups result = (component : ComponentName) (name : List ℕ) → (result_view result component).group name ≡ None
 
 -- texts beside groups, as results
-abbrev pub results_of : {S : Type 0} → Texts → Eight (HashMap (String Global) (Option (String Global)) S) → Component → ResultView
+abbrev pub results_of : {S : Type 0} → Texts → Eight (HashMap (String Global) (Option (String Global)) S) → ComponentName → ResultView
 results_of texts groups component = record { input = text_at texts component; group = group_in (at groups component) }
 
 -- the bytes that a group captured, if it is there and took part

@@ -1,7 +1,7 @@
 -- What the first match of a list of patterns is.
 use Rattle.std.specs.Prelude.{◌≡◌, ℕ, List, map, take, All, Any, Option, Some, None, option_map, slice_get}
 use Rattle.urlpattern_init.specs.declared.init.UrlPatternMatchInput.{UrlPatternMatchInput}
-use Rattle.urlpattern_init.specs.declared.init.processing.Component.{Component}
+use Rattle.urlpattern_syntax.specs.declared.eight.ComponentName.{ComponentName}
 use Rattle.urlpattern_init.specs.Inheritance.{Texts}
 use Rattle.urlpattern_pattern.specs.declared.pattern.UrlPattern.{UrlPattern}
 use Rattle.urlpattern_pattern.specs.declared.pattern.captures.UrlPatternCaptures.{UrlPatternCaptures}
@@ -17,7 +17,7 @@ patterns_view patterns = map (λ pattern. pattern_view pattern) patterns
 
 -- An index with the results of its pattern's components.
 abbrev pub FirstView : Type 0
-FirstView = ℕ × (Component → ResultView)
+FirstView = ℕ × (ComponentName → ResultView)
 
 abbrev pub first_view : Option (ℕ × UrlPatternResult) → Option FirstView
 first_view found = option_map (λ first. (first.0, result_view first.1)) found

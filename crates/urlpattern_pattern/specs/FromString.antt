@@ -6,7 +6,7 @@ use Rattle.url.specs.Parser.{Parsed, and_then, parse_url}
 use Rattle.url.specs.Parts.{Parts}
 use Rattle.urlpattern_canonical.specs.Canonical.{Tells}
 use Rattle.urlpattern_core.specs.Compiling.{IsCompiledFrom, MayRefuseAtFirst}
-use Rattle.urlpattern_init.specs.ConstructorString.{HasProtocolOrBase, RefusesString, SplitsInto, init_components}
+use Rattle.urlpattern_init.specs.ConstructorString.{HasProtocolOrBase, RefusesString, SplitsInto}
 use Rattle.urlpattern_init.specs.SpecialProtocol.{IsSpecialBy}
 use Rattle.urlpattern_init.specs.declared.init.UrlPatternInit.{UrlPatternInit}
 use Rattle.urlpattern_inputs.specs.declared.options.UrlPatternOptions.{UrlPatternOptions}
@@ -43,7 +43,7 @@ text_bytes text = length (unwrap_or text [])
 -- The init of a constructor string with this base URL, where protocols are special in this way
 pub record IsInitOfText (IsSpecial : List ℕ → Bool → Type 0) (text : List ℕ) (base : Option (List ℕ)) (init : UrlPatternInit) : Type 0 where
   pub has_base : parsed_base base ≡ Ok init.base_url
-  pub is_split : SplitsInto IsSpecial text (init_components init)
+  pub is_split : SplitsInto IsSpecial text (values_view init)
   pub is_complete : HasProtocolOrBase init
 
 -- the same, where an engine tells which protocols are special; the text is its bytes

@@ -4,8 +4,8 @@ use Rattle.std.specs.Prelude.{◌≡◌, ◌≤◌, ◌⊎◌, ℕ, List, revers
 use Rattle.std.specs.HashMap.{HashMap, get_by}
 use Rattle.std.specs.Map.{lookup}
 use Rattle.std.specs.declared.alloc.Global.{Global}
-use Rattle.urlpattern_init.specs.declared.init.processing.Component.{Component}
-use Rattle.urlpattern_init.specs.declared.init.processing.Component.TheVariants.{Protocol, Username, Password, Hostname, Port, Pathname, Search, Hash}
+use Rattle.urlpattern_syntax.specs.declared.eight.ComponentName.{ComponentName}
+use Rattle.urlpattern_syntax.specs.declared.eight.ComponentName.TheVariants.{Protocol, Username, Password, Hostname, Port, Pathname, Search, Hash}
 use Rattle.urlpattern_init.specs.declared.init.UrlPatternMatchInput.{UrlPatternMatchInput}
 use Rattle.urlpattern_pattern.specs.declared.pattern.result.UrlPatternComponentResult.{UrlPatternComponentResult}
 use Rattle.urlpattern_pattern.specs.declared.pattern.result.UrlPatternResult.{UrlPatternResult}
@@ -39,7 +39,7 @@ abbrev pub component_result_view : UrlPatternComponentResult → ResultView
 component_result_view result = record { input = text_of result.input; group = group_in result.groups }
 
 -- A `UrlPatternResult`: the results of its components.
-abbrev pub result_view : UrlPatternResult → Component → ResultView
+abbrev pub result_view : UrlPatternResult → ComponentName → ResultView
 result_view result Protocol = component_result_view result.protocol
 result_view result Username = component_result_view result.username
 result_view result Password = component_result_view result.password
@@ -56,7 +56,7 @@ pub record IsResultOf (names : List (List ℕ)) (captures : Captures) (text : Li
 
 -- ---- matches
 
-abbrev pub text_at : Texts → Component → List ℕ
+abbrev pub text_at : Texts → ComponentName → List ℕ
 text_at texts Protocol = texts.protocol
 text_at texts Username = texts.username
 text_at texts Password = texts.password
@@ -67,28 +67,28 @@ text_at texts Search = texts.search
 text_at texts Hash = texts.hash
 
 -- each component's matcher answers its text by these captures
-abbrev pub AreAnswers : {E : Type 0} → (answer : E → List ℕ → Option Captures) → PatternView E → Texts → (captures : Component → Captures) → Type 0
+abbrev pub AreAnswers : {E : Type 0} → (answer : E → List ℕ → Option Captures) → PatternView E → Texts → (captures : ComponentName → Captures) → Type 0
 AreAnswers answer pattern texts captures =
-    (component : Component) → Answers answer (pattern component).matcher (text_at texts component) (Some (captures component))
+    (component : ComponentName) → Answers answer (pattern component).matcher (text_at texts component) (Some (captures component))
 
 -- a component's matcher does not match its text
 abbrev pub IsRefused : {E : Type 0} → (answer : E → List ℕ → Option Captures) → PatternView E → Texts → Type 0
 IsRefused answer pattern texts =
-    (component : Component) × Answers answer (pattern component).matcher (text_at texts component) None
+    (component : ComponentName) × Answers answer (pattern component).matcher (text_at texts component) None
 
 -- The pattern matches eight texts with this result, where engines' values answer in this way: there are eight answers,
 -- whose captures are the groups.
-pub record IsMatchOf {E : Type 0} (answer : E → List ℕ → Option Captures) (pattern : PatternView E) (texts : Texts) (result : Component → ResultView) : Type 0 where
-  pub captures : Component → Captures
+pub record IsMatchOf {E : Type 0} (answer : E → List ℕ → Option Captures) (pattern : PatternView E) (texts : Texts) (result : ComponentName → ResultView) : Type 0 where
+  pub captures : ComponentName → Captures
   pub are_answers : AreAnswers answer pattern texts captures
-  pub are_results : (component : Component) → IsResultOf (pattern component).group_name_list (captures component) (text_at texts component) (result component)
+  pub are_results : (component : ComponentName) → IsResultOf (pattern component).group_name_list (captures component) (text_at texts component) (result component)
 
 -- each of eight texts is matched
 abbrev pub AreMatched : {E : Type 0} → (answer : E → List ℕ → Option Captures) → PatternView E → Texts → Type 0
-AreMatched answer pattern texts = (component : Component) → IsMatched answer (pattern component).matcher (text_at texts component)
+AreMatched answer pattern texts = (component : ComponentName) → IsMatched answer (pattern component).matcher (text_at texts component)
 
 -- the pattern matches the input with this result: the texts that the input has
-abbrev pub IsMatch : {E : Type 0} → (answer : E → List ℕ → Option Captures) → PatternView E → UrlPatternMatchInput → (result : Component → ResultView) → Type 0
+abbrev pub IsMatch : {E : Type 0} → (answer : E → List ℕ → Option Captures) → PatternView E → UrlPatternMatchInput → (result : ComponentName → ResultView) → Type 0
 IsMatch answer pattern input result = (texts : Texts) × (input_texts input ≡ Ok texts) × IsMatchOf answer pattern texts result
 
 -- the pattern matches the input, with some result
@@ -104,7 +104,7 @@ HasNoMatch answer pattern input =
 
 -- an engine is asked: between prefix and suffix of a component's text
 abbrev pub AsksAnEngine : {E : Type 0} → PatternView E → Texts → Type 0
-AsksAnEngine pattern texts = (component : Component) × AsksEngine (pattern component).matcher (text_at texts component)
+AsksAnEngine pattern texts = (component : ComponentName) × AsksEngine (pattern component).matcher (text_at texts component)
 
 -- ---- words of laws
 

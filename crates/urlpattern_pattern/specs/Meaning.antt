@@ -5,7 +5,7 @@ use Rattle.std.specs.Str.{all_scalars}
 use Rattle.urlpattern_init.specs.Inheritance.{Texts, Values}
 use Rattle.urlpattern_init.specs.declared.init.UrlPatternInit.{UrlPatternInit}
 use Rattle.urlpattern_init.specs.declared.init.UrlPatternMatchInput.{UrlPatternMatchInput}
-use Rattle.urlpattern_init.specs.declared.init.processing.Component.{Component}
+use Rattle.urlpattern_syntax.specs.declared.eight.ComponentName.{ComponentName}
 use Rattle.urlpattern_inputs.specs.declared.options.UrlPatternOptions.{UrlPatternOptions}
 use Rattle.regex.specs.declared.string.regex.Regex.{Regex}
 use Rattle.urlpattern_core.specs.Compiling.{ComponentView, IsCompiledFrom}
@@ -27,17 +27,17 @@ use Rattle.urlpattern_syntax.specs.Text.{lacks, line_feed}
 -- ---- what a pattern text means
 
 -- the options under which the pattern text of a component is read
-abbrev pub options_of : UrlPatternOptions → Values → (hierarchical : Bool) → Component → OptionsView
+abbrev pub options_of : UrlPatternOptions → Values → (hierarchical : Bool) → ComponentName → OptionsView
 options_of asked values hierarchical component = (manner_of asked values hierarchical component).options
 
 -- the pattern text of a component reads as these parts
-abbrev pub ReadsAs : UrlPatternOptions → Values → (hierarchical : Bool) → Component → List PartView → Type 0
+abbrev pub ReadsAs : UrlPatternOptions → Values → (hierarchical : Bool) → ComponentName → List PartView → Type 0
 ReadsAs asked values hierarchical component parts =
     let manner = manner_of asked values hierarchical component in
     Reads (pattern_of values component) manner.options (canonical_encoding manner.canonical) parts
 
 -- The pattern text of a component means the text: the parts that it reads as mean it, with these captures.
-pub record IsMeant (asked : UrlPatternOptions) (values : Values) (hierarchical : Bool) (component : Component) (text : List ℕ) : Type 0 where
+pub record IsMeant (asked : UrlPatternOptions) (values : Values) (hierarchical : Bool) (component : ComponentName) (text : List ℕ) : Type 0 where
   pub parts : List PartView
   pub captures : Captures
   pub reads : ReadsAs asked values hierarchical component parts
@@ -47,7 +47,7 @@ pub record IsMeant (asked : UrlPatternOptions) (values : Values) (hierarchical :
 
 -- What is asked of a compiled component and a text: no custom regular expression, case that is kept, characters without
 -- line feed, and that an engine, where one is needed, took the regular expression it was given and follows it.
-pub record MeaningPremises {E : Type 0} (answer : E → List ℕ → Option Captures) (asked : UrlPatternOptions) (values : Values) (hierarchical : Bool) (component : Component) (compiled : ComponentView E) (text : List ℕ) : Type 0 where
+pub record MeaningPremises {E : Type 0} (answer : E → List ℕ → Option Captures) (asked : UrlPatternOptions) (values : Values) (hierarchical : Bool) (component : ComponentName) (compiled : ComponentView E) (text : List ℕ) : Type 0 where
   pub generated : compiled.has_regexp_group ≡ false
   pub case_kept : (options_of asked values hierarchical component).ignore_case ≡ false
   pub no_line_feed : IsTrue (lacks line_feed text)
@@ -58,23 +58,23 @@ pub record MeaningPremises {E : Type 0} (answer : E → List ℕ → Option Capt
 -- What is found of eight texts. Where they are matched, the result of each component that meets the premises tells a meaning
 -- of its text: as groups the names of the parts beside the captures. Where they are not, and all components meet the
 -- premises, the pattern texts do not mean all eight.
-abbrev pub IsFoundByMeaning : {E : Type 0} → (answer : E → List ℕ → Option Captures) → UrlPatternOptions → Values → (hierarchical : Bool) → PatternView E → Texts → Option (Component → ResultView) → Type 0
+abbrev pub IsFoundByMeaning : {E : Type 0} → (answer : E → List ℕ → Option Captures) → UrlPatternOptions → Values → (hierarchical : Bool) → PatternView E → Texts → Option (ComponentName → ResultView) → Type 0
 IsFoundByMeaning answer asked values hierarchical pattern texts (Some result) =
-    (component : Component) → MeaningPremises answer asked values hierarchical component (pattern component) (text_at texts component) →
+    (component : ComponentName) → MeaningPremises answer asked values hierarchical component (pattern component) (text_at texts component) →
     (meant : IsMeant asked values hierarchical component (text_at texts component))
     × IsResultOf (group_names meant.parts) meant.captures (text_at texts component) (result component)
 IsFoundByMeaning answer asked values hierarchical pattern texts None =
-    ((component : Component) → MeaningPremises answer asked values hierarchical component (pattern component) (text_at texts component)) →
-    ¬ ((component : Component) → IsMeant asked values hierarchical component (text_at texts component))
+    ((component : ComponentName) → MeaningPremises answer asked values hierarchical component (pattern component) (text_at texts component)) →
+    ¬ ((component : ComponentName) → IsMeant asked values hierarchical component (text_at texts component))
 
 -- ---- what `exec` answers
 
 -- a match of the input, or none where there is none
-abbrev pub IsExecuted : {E : Type 0} → (answer : E → List ℕ → Option Captures) → PatternView E → UrlPatternMatchInput → Option (Component → ResultView) → Type 0
+abbrev pub IsExecuted : {E : Type 0} → (answer : E → List ℕ → Option Captures) → PatternView E → UrlPatternMatchInput → Option (ComponentName → ResultView) → Type 0
 IsExecuted answer pattern input found = MatchOption found (HasNoMatch answer pattern input) (IsMatch answer pattern input)
 
 -- The init is compiled to a pattern of which this is found on the input, and it is what the pattern texts mean.
-pub record IsExecutedByMeaning {E : Type 0} (IsFrom : Compiles E) (answer : E → List ℕ → Option Captures) (init : UrlPatternInit) (asked : UrlPatternOptions) (input : UrlPatternMatchInput) (found : Option (Component → ResultView)) : Type 0 where
+pub record IsExecutedByMeaning {E : Type 0} (IsFrom : Compiles E) (answer : E → List ℕ → Option Captures) (init : UrlPatternInit) (asked : UrlPatternOptions) (input : UrlPatternMatchInput) (found : Option (ComponentName → ResultView)) : Type 0 where
   pub values : Values
   pub pattern : PatternView E
   pub are_values : pattern_values init ≡ Ok values
@@ -87,7 +87,7 @@ pub record IsExecutedByMeaning {E : Type 0} (IsFrom : Compiles E) (answer : E �
 
 -- What is asked of a component that was compiled by `regex::Regex`, and of a text: as above, but of the engine no more than
 -- that it took the regular expression it was given, where one is needed.
-pub record RegexPremises (asked : UrlPatternOptions) (values : Values) (hierarchical : Bool) (component : Component) (compiled : ComponentView Regex) (text : List ℕ) : Type 0 where
+pub record RegexPremises (asked : UrlPatternOptions) (values : Values) (hierarchical : Bool) (component : ComponentName) (compiled : ComponentView Regex) (text : List ℕ) : Type 0 where
   pub generated : compiled.has_regexp_group ≡ false
   pub case_kept : (options_of asked values hierarchical component).ignore_case ≡ false
   pub took : TookText (λ regex. ⊤) compiled.matcher.inner
@@ -96,7 +96,7 @@ pub record RegexPremises (asked : UrlPatternOptions) (values : Values) (hierarch
 
 -- The result of a component tells the first way of its text: as groups the names of the parts that its pattern text reads as,
 -- beside what the first way captures.
-pub record IsFirstResult (asked : UrlPatternOptions) (values : Values) (hierarchical : Bool) (component : Component) (text : List ℕ) (result : ResultView) : Type 0 where
+pub record IsFirstResult (asked : UrlPatternOptions) (values : Values) (hierarchical : Bool) (component : ComponentName) (text : List ℕ) (result : ResultView) : Type 0 where
   pub parts : List PartView
   pub captures : Captures
   pub reads : ReadsAs asked values hierarchical component parts

@@ -4,7 +4,7 @@ use Rattle.std.specs.List.{AllZip}
 use Rattle.urlpattern_index.specs.Keys.{key_of}
 use Rattle.urlpattern_index.specs.Places.{AddressTexts, BeginsWith, FixedPath, FixedTexts, Is}
 use Rattle.urlpattern_init.specs.Inheritance.{Texts}
-use Rattle.urlpattern_init.specs.declared.init.processing.Component.TheVariants.{Hostname, Pathname, Protocol}
+use Rattle.urlpattern_syntax.specs.declared.eight.ComponentName.TheVariants.{Hostname, Pathname, Protocol}
 use Rattle.urlpattern_laws.specs.Matching.{Literal, MatcherView}
 use Rattle.urlpattern_pattern.specs.Patterns.{PatternView, pattern_view}
 use Rattle.urlpattern_pattern.specs.declared.pattern.UrlPattern.{UrlPattern}

@@ -3,7 +3,7 @@
 //! Each function here does nothing; what it promises is a theorem.
 
 ghost use Rattle.std.specs.Prelude.{◌≡◌, ◌↔◌, ℕ, Bool, List, Ok, Option};
-ghost use Rattle.urlpattern_init.specs.declared.init.processing.Component.{Component};
+ghost use Rattle.urlpattern_syntax.specs.declared.eight.ComponentName.{ComponentName};
 ghost use Rattle.urlpattern_init.specs.declared.init.UrlPatternMatchInput.{UrlPatternMatchInput};
 ghost use Rattle.regex.specs.declared.string.regex.Regex.{Regex};
 ghost use Rattle.urlpattern_core.specs.Compiling.{IsCompiledFrom};
@@ -28,7 +28,7 @@ use urlpattern_core::regexp::RegExp;
 /// input is longer than `url` is sure to take.
 pub fn groups_mean_the_parts<R: RegExp>()
     ensures { (asked : UrlPatternOptions) (values : Values) (pattern : PatternView R) (input : UrlPatternMatchInput) (texts : Texts)
-        (found : Option (Component → ResultView)) →
+        (found : Option (ComponentName → ResultView)) →
         (compiled : AreCompiled (IsCompiledFrom R.IsMade R.MayRefuse R.syntax_of) R.answer asked values pattern) →
         input_texts input ≡ Ok texts → ¬ IsLongInput input →
         IsExecuted R.answer pattern input found → IsFoundByMeaning R.answer asked values compiled.hierarchical pattern texts found }
@@ -38,9 +38,9 @@ pub fn groups_mean_the_parts<R: RegExp>()
 /// the texts of an init are longer than `url` takes.
 pub fn tests_tell_matches<E>()
     ensures tells { (answer : E → List ℕ → Option Captures) (pattern : PatternView E) (input : UrlPatternMatchInput) →
-        HasMatch answer pattern input ↔ ((result : Component → ResultView) × IsMatch answer pattern input result) }
-    ensures one { (answer : E → List ℕ → Option Captures) (pattern : PatternView E) (input : UrlPatternMatchInput) (result other : Component → ResultView) →
-        IsMatch answer pattern input result → IsMatch answer pattern input other → (component : Component) → IsSameResult (result component) (other component) }
+        HasMatch answer pattern input ↔ ((result : ComponentName → ResultView) × IsMatch answer pattern input result) }
+    ensures one { (answer : E → List ℕ → Option Captures) (pattern : PatternView E) (input : UrlPatternMatchInput) (result other : ComponentName → ResultView) →
+        IsMatch answer pattern input result → IsMatch answer pattern input other → (component : ComponentName) → IsSameResult (result component) (other component) }
     ensures not_both { (answer : E → List ℕ → Option Captures) (pattern : PatternView E) (input : UrlPatternMatchInput) →
         HasMatch answer pattern input → HasNoMatch answer pattern input → IsLongInput input }
 {}
@@ -49,17 +49,17 @@ pub fn tests_tell_matches<E>()
 /// that it was given. So in a match the groups of a component are the names of its parts beside what the first way captures,
 /// which are determined by the pattern text and the component's text: no other result is a match.
 pub fn groups_by_regex_are_of_the_first_way()
-    ensures premises { (asked : UrlPatternOptions) (values : Values) (pattern : PatternView Regex) (component : Component) (text : List ℕ) →
+    ensures premises { (asked : UrlPatternOptions) (values : Values) (pattern : PatternView Regex) (component : ComponentName) (text : List ℕ) →
         (compiled : AreCompiled compiles_by_regex regex_answer asked values pattern) →
         RegexPremises asked values compiled.hierarchical component (pattern component) text →
         MeaningPremises regex_answer asked values compiled.hierarchical component (pattern component) text }
     ensures first { (asked : UrlPatternOptions) (values : Values) (pattern : PatternView Regex) (input : UrlPatternMatchInput) (texts : Texts)
-        (result : Component → ResultView) (component : Component) →
+        (result : ComponentName → ResultView) (component : ComponentName) →
         (compiled : AreCompiled compiles_by_regex regex_answer asked values pattern) →
         input_texts input ≡ Ok texts → IsMatch regex_answer pattern input result →
         RegexPremises asked values compiled.hierarchical component (pattern component) (text_at texts component) →
         IsFirstResult asked values compiled.hierarchical component (text_at texts component) (result component) }
-    ensures one { (asked : UrlPatternOptions) (values : Values) (hierarchical : Bool) (component : Component) (text : List ℕ) (result other : ResultView) →
+    ensures one { (asked : UrlPatternOptions) (values : Values) (hierarchical : Bool) (component : ComponentName) (text : List ℕ) (result other : ResultView) →
         IsFirstResult asked values hierarchical component text result → IsFirstResult asked values hierarchical component text other →
         IsSameResult result other }
 {}

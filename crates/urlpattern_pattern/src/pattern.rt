@@ -4,7 +4,7 @@ ghost use Rattle.std.specs.List.{list_any};
 ghost use Rattle.std.specs.Str.{chars};
 ghost use Rattle.urlpattern_init.specs.Inheritance.{components};
 ghost use Rattle.urlpattern_pattern.specs.Patterns.{pattern_view};
-ghost use Rattle.urlpattern_init.specs.declared.init.processing.Component.TheVariants as names;
+ghost use Rattle.urlpattern_syntax.specs.declared.eight.ComponentName.TheVariants as names;
 
 mod captures;
 mod eight;

@@ -1,11 +1,13 @@
 -- Facts about the eight components and their values.
-use Rattle.std.proofs.Common.{◌≡◌, ℕ, List, [], ◌∷◌, ◌++◌, subst, sym}
+use Rattle.std.proofs.Common.{◌≡◌, ℕ, List, [], ◌∷◌, ◌++◌, refl, subst, sym}
 use Rattle.std.proofs.lemmas.List.Elements.{All-cons, All-nil}
 use Rattle.std.specs.List.{AllByRecursion}
 use Rattle.std.specs.Prelude.{All, Result, Ok, Err, IfErr}
 use Rattle.std.specs.Result.{IsErrAnd}
 use Rattle.urlpattern_syntax.specs.declared.eight.ComponentName.{ComponentName}
-use Rattle.urlpattern_syntax.specs.Eight.{IsFirstError, components}
+use Rattle.urlpattern_syntax.specs.declared.eight.ComponentName.TheVariants.{Protocol, Username, Password, Hostname, Port, Pathname, Search, Hash}
+use Rattle.urlpattern_syntax.specs.declared.eight.Eight.{Eight}
+use Rattle.urlpattern_syntax.specs.Eight.{IsFirstError, at, components, each}
 
 -- what holds of each element by recursion holds of all
 all-by_recursion : {X : Type 0} (P : X → Type 0) (xs : List X) → AllByRecursion P xs → All P xs
@@ -20,3 +22,26 @@ pub passed_on : {T A E : Type 0} (Answers : ComponentName → Result A E → Typ
 passed_on Answers (Ok x) error before after name same split earlier answers = tt
 passed_on {T} {A} Answers (Err passed) error before after name same split earlier answers =
     subst (IsFirstError Answers) (sym same) (before, after, name, split, all-by_recursion _ before earlier, answers)
+
+-- two that have the same value for each component are the same
+pub same_values : {A : Type 0} (values others : Eight A) → ((name : ComponentName) → at values name ≡ at others name) → values ≡ others
+same_values values others same = λ i. record {
+  protocol = same Protocol i;
+  username = same Username i;
+  password = same Password i;
+  hostname = same Hostname i;
+  port = same Port i;
+  pathname = same Pathname i;
+  search = same Search i;
+  hash = same Hash i;
+}
+
+pub at-each : {A : Type 0} (value : ComponentName → A) (name : ComponentName) → at (each value) name ≡ value name
+at-each value Protocol = refl
+at-each value Username = refl
+at-each value Password = refl
+at-each value Hostname = refl
+at-each value Port = refl
+at-each value Pathname = refl
+at-each value Search = refl
+at-each value Hash = refl

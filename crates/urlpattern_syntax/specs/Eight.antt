@@ -1,5 +1,5 @@
 -- The eight components of a URL, and a value for each of them.
-use Rattle.std.specs.Prelude.{◌≡◌, All, ℕ, List, [], ◌∷◌, ◌++◌, codes, Result, Ok, Err}
+use Rattle.std.specs.Prelude.{◌≡◌, All, ℕ, List, [], ◌∷◌, ◌++◌, codes, Option, Result, Ok, Err}
 use Rattle.urlpattern_syntax.specs.declared.eight.ComponentName.{ComponentName}
 use Rattle.urlpattern_syntax.specs.declared.eight.ComponentName.TheVariants.{Protocol, Username, Password, Hostname, Port, Pathname, Search, Hash}
 use Rattle.urlpattern_syntax.specs.declared.eight.Eight.{Eight}
@@ -42,6 +42,14 @@ each value = record {
   search = value Search;
   hash = value Hash;
 }
+
+-- the texts of the components
+abbrev pub Texts : Type 0
+Texts = Eight (List ℕ)
+
+-- the texts of the components, where they are there
+abbrev pub Values : Type 0
+Values = Eight (Option (List ℕ))
 
 -- a component may be answered by this error, and those before it by values
 abbrev pub IsFirstError : {A E : Type 0} → (Answers : ComponentName → Result A E → Type 0) → E → Type 0

@@ -1,13 +1,15 @@
 //! The processing of an init, in either mode, by one table.
-ghost use Rattle.std.specs.Prelude.{◌≡◌, ◌&&◌, max, [], None, Ok, is_none, option_copied, option_map, unwrap_or, length, IfOk, IfErr, IsAscii};
-ghost use Rattle.std.specs.Option.{option_or};
+ghost use Rattle.std.specs.Prelude.{◌≡◌, ◌&&◌, None, Ok, is_none, option_map, IfOk, IfErr, IsAscii};
 ghost use Rattle.std.specs.Str.{chars};
-ghost use Rattle.urlpattern_syntax.specs.declared.error.Error.TheVariants as errors;
-ghost use Rattle.urlpattern_syntax.specs.Errors.{MemoryOr};
-ghost use Rattle.urlpattern_syntax.specs.Text.{byte_len, text_of};
-ghost use Rattle.urlpattern_canonical.specs.Canonical.{IsAnswer, Tells, bytes_asked, processed_pathname};
+ghost use Rattle.urlpattern_canonical.specs.Canonical.{Tells};
 ghost use Rattle.urlpattern_init.specs.Inheritance as spec;
-ghost use Rattle.urlpattern_init.specs.Inheritance.{asked_bytes, bytes_of, given_bytes, given_text, is_inheritable, missing, must_lack, processed_text, processed_values, up_to_last_slash, value_of, processed_value, values_view};
+ghost use Rattle.urlpattern_init.specs.Inheritance.{bytes_of, init_bytes, init_values, is_inheritable, missing, must_lack, up_to_last_slash, values_view};
+ghost use Rattle.urlpattern_init.specs.Processing.{IsFailureIn, IsPathnameAnswer, IsTextAnswer, IsValueAfter, bytes_in, given_values, lacking_in, optional_bytes, optional_text, value_in, values_in};
+ghost use Rattle.urlpattern_syntax.specs.declared.eight.ComponentName.{ComponentName};
+ghost use Rattle.urlpattern_syntax.specs.declared.error.Error.TheVariants as errors;
+ghost use Rattle.urlpattern_syntax.specs.Eight.{at};
+ghost use Rattle.urlpattern_syntax.specs.Errors.{MemoryOr};
+ghost use Rattle.urlpattern_syntax.specs.Text.{text_of};
 
 use crate::init::UrlPatternInit;
 use std::alloc::Global;
@@ -16,96 +18,103 @@ use urlpattern_canonical::canonicalize_and_process::{
     Canonicalizer, ProcessType, begins_with_slash, process_base_url, without_first,
 };
 use urlpattern_core::Error;
+use urlpattern_syntax::eight::{ComponentName, Eight};
 
-/// A component of a URL.
-#[derive(Clone, Copy)]
-pub enum Component {
-    Protocol,
-    Username,
-    Password,
-    Hostname,
-    Port,
-    Pathname,
-    Search,
-    Hash,
+/// What an init must lack besides the component itself, so that it is inherited.
+fn must_lack(component: ComponentName) -> &'static [ComponentName]
+    ensures { result.now ≡ must_lack component }
+{
+    match component {
+        ComponentName::Protocol => &[],
+        ComponentName::Username => &[
+            ComponentName::Protocol,
+            ComponentName::Hostname,
+            ComponentName::Port,
+        ],
+        ComponentName::Password => &[
+            ComponentName::Protocol,
+            ComponentName::Hostname,
+            ComponentName::Port,
+            ComponentName::Username,
+        ],
+        ComponentName::Hostname => &[ComponentName::Protocol],
+        ComponentName::Port => &[ComponentName::Protocol, ComponentName::Hostname],
+        ComponentName::Pathname => &[
+            ComponentName::Protocol,
+            ComponentName::Hostname,
+            ComponentName::Port,
+        ],
+        ComponentName::Search => &[
+            ComponentName::Protocol,
+            ComponentName::Hostname,
+            ComponentName::Port,
+            ComponentName::Pathname,
+        ],
+        ComponentName::Hash => &[
+            ComponentName::Protocol,
+            ComponentName::Hostname,
+            ComponentName::Port,
+            ComponentName::Pathname,
+            ComponentName::Search,
+        ],
+    }
 }
 
-impl Component {
-    /// What an init must lack besides the component itself, so that it is inherited.
-    fn must_lack(self) -> &'static [Component]
-        ensures { result.now ≡ must_lack self }
-    {
-        match self {
-            Self::Protocol => &[],
-            Self::Username => &[Self::Protocol, Self::Hostname, Self::Port],
-            Self::Password => &[Self::Protocol, Self::Hostname, Self::Port, Self::Username],
-            Self::Hostname => &[Self::Protocol],
-            Self::Port => &[Self::Protocol, Self::Hostname],
-            Self::Pathname => &[Self::Protocol, Self::Hostname, Self::Port],
-            Self::Search => &[Self::Protocol, Self::Hostname, Self::Port, Self::Pathname],
-            Self::Hash => &[
-                Self::Protocol,
-                Self::Hostname,
-                Self::Port,
-                Self::Pathname,
-                Self::Search,
-            ],
-        }
-    }
-
-    /// Whether the component may be inherited at all: a pattern inherits no user name and no password.
-    fn is_inheritable(self, kind: &ProcessType) -> bool
-        ensures { result ≡ is_inheritable kind.now self }
-    {
-        match kind {
-            ProcessType::Pattern => !matches!(self, Self::Username | Self::Password),
-            ProcessType::Url => true,
-        }
+/// Whether the component may be inherited at all: a pattern inherits no user name and no password.
+fn is_inheritable(component: ComponentName, kind: &ProcessType) -> bool
+    ensures { result ≡ is_inheritable kind.now component }
+{
+    match kind {
+        ProcessType::Pattern => !matches!(
+            component,
+            ComponentName::Username | ComponentName::Password
+        ),
+        ProcessType::Url => true,
     }
 }
 
 /// What a URL has for a component, empty where there is nothing.
-pub fn url_text(url: &Url, component: Component) -> &str
+pub fn url_text(url: &Url, component: ComponentName) -> &str
     ensures { chars result.now ≡ spec.url_text component url.now }
 {
     match component {
-        Component::Protocol => url.scheme(),
-        Component::Username => url.username(),
-        Component::Password => quirks::password(url),
-        Component::Hostname => quirks::hostname(url),
-        Component::Port => quirks::port(url),
-        Component::Pathname => url.path(),
-        Component::Search => url.query().unwrap_or(""),
-        Component::Hash => url.fragment().unwrap_or(""),
+        ComponentName::Protocol => url.scheme(),
+        ComponentName::Username => url.username(),
+        ComponentName::Password => quirks::password(url),
+        ComponentName::Hostname => quirks::hostname(url),
+        ComponentName::Port => quirks::port(url),
+        ComponentName::Pathname => url.path(),
+        ComponentName::Search => url.query().unwrap_or(""),
+        ComponentName::Hash => url.fragment().unwrap_or(""),
     }
 }
 
 /// What an init has for a component.
-pub fn given(init: &UrlPatternInit, component: Component) -> &Option<String>
-    ensures { option_map text_of result.now ≡ value_of component (values_view init.now) }
+pub fn given(init: &UrlPatternInit, component: ComponentName) -> &Option<String>
+    ensures { option_map text_of result.now ≡ at (values_view init.now) component }
 {
     match component {
-        Component::Protocol => &init.protocol,
-        Component::Username => &init.username,
-        Component::Password => &init.password,
-        Component::Hostname => &init.hostname,
-        Component::Port => &init.port,
-        Component::Pathname => &init.pathname,
-        Component::Search => &init.search,
-        Component::Hash => &init.hash,
+        ComponentName::Protocol => &init.protocol,
+        ComponentName::Username => &init.username,
+        ComponentName::Password => &init.password,
+        ComponentName::Hostname => &init.hostname,
+        ComponentName::Port => &init.port,
+        ComponentName::Pathname => &init.pathname,
+        ComponentName::Search => &init.search,
+        ComponentName::Hash => &init.hash,
     }
 }
 
 /// Whether an init lacks all of these components.
-fn lacks_all(init: &UrlPatternInit, components: &[Component]) -> bool
+fn lacks_all(init: &UrlPatternInit, components: &[ComponentName]) -> bool
     ensures { result ≡ spec.lacks_all (values_view init.now) components.now }
 {
     components.iter().all(|&component| lacks(init, component))
 }
 
 /// Whether an init lacks a component.
-fn lacks(init: &UrlPatternInit, component: Component) -> bool
-    ensures { result ≡ is_none (value_of component (values_view init.now)) }
+fn lacks(init: &UrlPatternInit, component: ComponentName) -> bool
+    ensures { result ≡ is_none (at (values_view init.now) component) }
 {
     given(init, component).is_none()
 }
@@ -148,43 +157,40 @@ struct Processing<'a> {
 impl Processing<'_> {
     /// The values that the init comes to, with this one for the protocol.
     fn values(&self, protocol: Option<String>) -> Result<UrlPatternInit, Error>
-        requires { processed_value self.now.kind.now (values_view self.now.init.now) self.now.init.now.base_url None Component.Protocol
-            ≡ Ok (option_map text_of protocol) }
-        ensures ok { IfOk result (λ values. processed_values self.now.kind.now (values_view self.now.init.now) self.now.init.now.base_url ≡ Ok (values_view values)) }
-        ensures err { IfErr result (MemoryOr (Tells (processed_values self.now.kind.now (values_view self.now.init.now) self.now.init.now.base_url)
-            (asked_bytes self.now.kind.now (values_view self.now.init.now) self.now.init.now.base_url))) }
+        requires { value_in self.now None ComponentName.Protocol ≡ Ok (option_map text_of protocol) }
+        ensures ok { IfOk result (λ values. values_in self.now ≡ Ok (values_view values)) }
+        ensures err { IfErr result (MemoryOr (Tells (values_in self.now) (bytes_in self.now))) }
     {
-        let username = self.value_under(Component::Username, &protocol)?;
-        let password = self.value_under(Component::Password, &protocol)?;
-        let hostname = self.value_under(Component::Hostname, &protocol)?;
-        let port = self.value_under(Component::Port, &protocol)?;
-        let pathname = self.value_under(Component::Pathname, &protocol)?;
-        let search = self.value_under(Component::Search, &protocol)?;
-        let hash = self.value_under(Component::Hash, &protocol)?;
-        Ok(UrlPatternInit {
-            base_url: None,
-            protocol,
-            username,
-            password,
-            hostname,
-            port,
-            pathname,
-            search,
-            hash,
-        })
+        let value = |name: ComponentName| -> Result<Option<String>, Error>
+            ensures { IsValueAfter self.entry.now (option_map text_of protocol) name result }
+        { self.value_after(name, &protocol) };
+        let mut values = Eight::try_from_fn(value)?;
+        values.protocol = protocol;
+        Ok(UrlPatternInit::of_values(values))
+    }
+
+    /// The value that a component comes to, under the protocol that the init comes to. Of the protocol there is none.
+    fn value_after(
+        &self,
+        component: ComponentName,
+        protocol: &Option<String>,
+    ) -> Result<Option<String>, Error>
+        ensures { IsValueAfter self.now (option_map text_of protocol.now) component result }
+    {
+        match component {
+            ComponentName::Protocol => Ok(None),
+            _ => self.value_under(component, protocol),
+        }
     }
 
     /// The value that a component comes to, under the protocol that the init comes to.
     fn value_under(
         &self,
-        component: Component,
+        component: ComponentName,
         protocol: &Option<String>,
     ) -> Result<Option<String>, Error>
-        ensures ok { IfOk result (λ value. processed_value self.now.kind.now (values_view self.now.init.now) self.now.init.now.base_url
-            (option_map text_of protocol.now) component ≡ Ok (option_map text_of value)) }
-        ensures err { IfErr result (MemoryOr (Tells (processed_value self.now.kind.now (values_view self.now.init.now) self.now.init.now.base_url
-            (option_map text_of protocol.now) component)
-            (bytes_asked self.now.kind.now (max (bytes_of (option_map text_of protocol.now)) (given_bytes self.now.kind.now (values_view self.now.init.now) self.now.init.now.base_url component))))) }
+        ensures ok { IfOk result (λ value. value_in self.now (option_map text_of protocol.now) component ≡ Ok (option_map text_of value)) }
+        ensures err { IfErr result (IsFailureIn self.now (option_map text_of protocol.now) (bytes_of (option_map text_of protocol.now)) component) }
     {
         match protocol {
             Some(protocol) => self.value(component, Some(protocol)),
@@ -193,12 +199,13 @@ impl Processing<'_> {
     }
 
     /// The value that a component comes to, under the protocol that the init comes to.
-    fn value(&self, component: Component, protocol: Option<&str>) -> Result<Option<String>, Error>
-        ensures ok { IfOk result (λ value. processed_value self.now.kind.now (values_view self.now.init.now) self.now.init.now.base_url
-            (option_map chars (option_copied protocol.entry)) component ≡ Ok (option_map text_of value)) }
-        ensures err { IfErr result (MemoryOr (Tells (processed_value self.now.kind.now (values_view self.now.init.now) self.now.init.now.base_url
-            (option_map chars (option_copied protocol.entry)) component)
-            (bytes_asked self.now.kind.now (max (length (unwrap_or (option_copied protocol.entry) [])) (given_bytes self.now.kind.now (values_view self.now.init.now) self.now.init.now.base_url component))))) }
+    fn value(
+        &self,
+        component: ComponentName,
+        protocol: Option<&str>,
+    ) -> Result<Option<String>, Error>
+        ensures ok { IfOk result (λ value. value_in self.now (optional_text protocol.entry) component ≡ Ok (option_map text_of value)) }
+        ensures err { IfErr result (IsFailureIn self.now (optional_text protocol.entry) (optional_bytes protocol.entry) component) }
     {
         match given(self.init, component) {
             Some(text) => Ok(Some(self.processed(component, text, protocol)?)),
@@ -207,10 +214,8 @@ impl Processing<'_> {
     }
 
     /// The value that a component comes to that the init lacks.
-    fn lacking(&self, component: Component) -> Result<Option<String>, Error>
-        ensures ok { IfOk result (λ value. option_map text_of value
-            ≡ option_or (spec.inherited self.now.kind.now (values_view self.now.init.now) self.now.init.now.base_url component)
-            (missing self.now.kind.now)) }
+    fn lacking(&self, component: ComponentName) -> Result<Option<String>, Error>
+        ensures ok { IfOk result (λ value. option_map text_of value ≡ lacking_in self.now component) }
         ensures memory { IfErr result (λ error. error ≡ errors.OutOfMemory) }
     {
         match &self.init.base_url {
@@ -223,10 +228,10 @@ impl Processing<'_> {
     }
 
     /// Whether a component that the init lacks is the base's.
-    fn inherits(&self, component: Component) -> bool
-        ensures { result ≡ (is_inheritable self.now.kind.now component && spec.lacks_all (values_view self.now.init.now) (must_lack component)) }
+    fn inherits(&self, component: ComponentName) -> bool
+        ensures { result ≡ (is_inheritable self.now.kind.now component && spec.lacks_all (given_values self.now) (must_lack component)) }
     {
-        component.is_inheritable(self.kind) && lacks_all(self.init, component.must_lack())
+        is_inheritable(component, self.kind) && lacks_all(self.init, must_lack(component))
     }
 
     /// The value of a component that is neither given nor inherited.
@@ -242,33 +247,28 @@ impl Processing<'_> {
     /// The value of a text of the init.
     fn processed(
         &self,
-        component: Component,
+        component: ComponentName,
         text: &str,
         protocol: Option<&str>,
     ) -> Result<String, Error>
-        ensures { IsAnswer (processed_text self.now.kind.now (option_map chars (option_copied protocol.entry)) component
-            (given_text self.now.kind.now self.now.init.now.base_url component (chars text.now)))
-            (bytes_asked self.now.kind.now (max (length (unwrap_or (option_copied protocol.entry) [])) (byte_len (given_text self.now.kind.now self.now.init.now.base_url component (chars text.now)))))
-            result }
+        ensures { IsTextAnswer self.now protocol.entry component (chars text.now) result }
     {
         let values = &self.canonicalizer;
         match component {
-            Component::Protocol => values.process_protocol(text, self.kind),
-            Component::Username => values.process_username(text, self.kind),
-            Component::Password => values.process_password(text, self.kind),
-            Component::Hostname => values.process_hostname(text, self.kind),
-            Component::Port => values.process_port(text, protocol, self.kind),
-            Component::Pathname => self.processed_pathname(text, protocol),
-            Component::Search => values.process_search(text, self.kind),
-            Component::Hash => values.process_hash(text, self.kind),
+            ComponentName::Protocol => values.process_protocol(text, self.kind),
+            ComponentName::Username => values.process_username(text, self.kind),
+            ComponentName::Password => values.process_password(text, self.kind),
+            ComponentName::Hostname => values.process_hostname(text, self.kind),
+            ComponentName::Port => values.process_port(text, protocol, self.kind),
+            ComponentName::Pathname => self.processed_pathname(text, protocol),
+            ComponentName::Search => values.process_search(text, self.kind),
+            ComponentName::Hash => values.process_hash(text, self.kind),
         }
     }
 
     /// The value of a pathname of the init. A relative one is put behind the base's path.
     fn processed_pathname(&self, text: &str, protocol: Option<&str>) -> Result<String, Error>
-        ensures { IsAnswer (processed_pathname self.now.kind.now (option_map chars (option_copied protocol.entry))
-            (given_text self.now.kind.now self.now.init.now.base_url Component.Pathname (chars text.now)))
-            (bytes_asked self.now.kind.now (byte_len (given_text self.now.kind.now self.now.init.now.base_url Component.Pathname (chars text.now)))) result }
+        ensures { IsPathnameAnswer self.now protocol.entry (chars text.now) result }
     {
         match &self.init.base_url {
             Some(base) if !is_absolute(text, self.kind) && !base.cannot_be_a_base() => {
@@ -295,9 +295,8 @@ pub fn process(
     init: &UrlPatternInit,
     kind: &ProcessType,
 ) -> Result<UrlPatternInit, Error>
-    ensures ok { IfOk result (λ values. processed_values kind.now (values_view init.now) init.now.base_url ≡ Ok (values_view values)) }
-    ensures err { IfErr result (MemoryOr (Tells (processed_values kind.now (values_view init.now) init.now.base_url)
-        (asked_bytes kind.now (values_view init.now) init.now.base_url))) }
+    ensures ok { IfOk result (λ values. init_values kind.now init.now ≡ Ok (values_view values)) }
+    ensures err { IfErr result (MemoryOr (Tells (init_values kind.now init.now) (init_bytes kind.now init.now))) }
 {
     let canonicalizer = match kind {
         ProcessType::Pattern => Canonicalizer::new(alloc),
@@ -309,6 +308,6 @@ pub fn process(
         init,
         kind,
     };
-    let protocol = processing.value(Component::Protocol, None)?;
+    let protocol = processing.value(ComponentName::Protocol, None)?;
     processing.values(protocol)
 }

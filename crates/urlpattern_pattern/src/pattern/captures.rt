@@ -5,7 +5,7 @@ ghost use Rattle.std.specs.Slice.Iter.{iter_rest};
 ghost use Rattle.std.specs.Str.{chars};
 ghost use Rattle.urlpattern_core.specs.Captured.{capture_view};
 ghost use Rattle.urlpattern_core.specs.Looks.{look_answer, IsAsking};
-ghost use Rattle.urlpattern_init.specs.declared.init.processing.Component.{Component as Name};
+ghost use Rattle.urlpattern_syntax.specs.declared.eight.ComponentName.{ComponentName as Name};
 ghost use Rattle.urlpattern_pattern.specs.Captures.{captures_view, groups_view};
 ghost use Rattle.urlpattern_pattern.specs.Eight.{at, captures_of, HasNoGroups, IsWithoutGroups};
 ghost use Rattle.urlpattern_pattern.specs.Match.{component_result_view, group_in, group_of, result_view, IsSameResult};

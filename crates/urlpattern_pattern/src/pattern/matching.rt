@@ -3,7 +3,7 @@
 //! All components look at their texts before anything is made. Engines are asked last, and the first refusal ends it.
 ghost use Rattle.std.specs.Prelude.{◌≡◌, None, Some, IfErr, IfNone, IfOk, IfSome, MatchBool, MatchOption};
 ghost use Rattle.urlpattern_init.specs.Inheritance.{texts_of_url};
-ghost use Rattle.urlpattern_init.specs.declared.init.processing.Component.{Component as Name};
+ghost use Rattle.urlpattern_syntax.specs.declared.eight.ComponentName.{ComponentName as Name};
 ghost use Rattle.urlpattern_init.specs.declared.init.UrlPatternMatchInput.TheVariants as inputs;
 ghost use Rattle.urlpattern_pattern.specs.Captures.{captures_view};
 ghost use Rattle.urlpattern_pattern.specs.Eight.{at, borrowed_texts, captures_of, results_of, ShowsMatch, ShowsNoMatch};

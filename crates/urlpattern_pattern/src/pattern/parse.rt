@@ -6,7 +6,7 @@ ghost use Rattle.std.specs.Str.{chars};
 ghost use Rattle.urlpattern_pattern.specs.Compiled.{AreCompiled, FirstRefused, HasEngine, HasHierarchicalPath, IsCompiled, IsComponentCompiled, IsComponentRefused, IsRefusedFrom, RefusesPattern, RefusesValues, behind_pathname, behind_protocol, canonical_in_hostname, has_default_port, is_ipv6_pattern, is_mark, is_same, manner_of, pattern_of, pattern_values, without_default_port};
 ghost use Rattle.urlpattern_init.specs.Inheritance.{values_view};
 ghost use Rattle.urlpattern_pattern.specs.Patterns.{pattern_view};
-ghost use Rattle.urlpattern_init.specs.declared.init.processing.Component.{Component};
+ghost use Rattle.urlpattern_syntax.specs.declared.eight.ComponentName.{ComponentName};
 ghost use Rattle.urlpattern_canonical.specs.Canonical.{IsAnswer};
 ghost use Rattle.urlpattern_core.specs.Compiling.{IsCompiledFrom, component_view, pattern_text};
 ghost use Rattle.urlpattern_syntax.specs.declared.error.Error.TheVariants as errors;
@@ -24,7 +24,7 @@ use urlpattern_canonical::canonicalize_and_process::{
 use urlpattern_core::parser::Options;
 use urlpattern_core::regexp::RegExp;
 use urlpattern_core::{Error, component};
-use urlpattern_init::{Component, UrlPatternInit, accepts_special_scheme, given, process};
+use urlpattern_init::{ComponentName, UrlPatternInit, accepts_special_scheme, given, process};
 use urlpattern_inputs::UrlPatternOptions;
 
 impl<R: RegExp> UrlPattern<R> {
@@ -140,7 +140,7 @@ fn is_ipv6_pattern(pattern: &str) -> bool
 }
 
 /// The pattern text of a component, if it has one.
-fn pattern_of(values: &UrlPatternInit, component: Component) -> Option<&str>
+fn pattern_of(values: &UrlPatternInit, component: ComponentName) -> Option<&str>
     ensures { pattern_text result ≡ pattern_of (values_view values.now) component }
 {
     match given(values, component) {
@@ -155,7 +155,7 @@ fn compile_component<R: RegExp, F: Fn(&str) -> Result<String, Error> + Drop>(
     pattern: Option<&str>,
     encoding_callback: F,
     options: Options,
-) -> Result<component::Component<R>, Error>
+) -> Result<component::ComponentName<R>, Error>
     requires { F.IsAlwaysCallable encoding_callback }
     ensures compiled { IfOk result (λ compiled. IsCompiledFrom R.IsMade R.MayRefuse R.syntax_of (pattern_text pattern.entry) (options_view options)
         (encoding_of (FnReturnsAt F.Fn encoding_callback)) (component_view compiled)) }
@@ -163,7 +163,7 @@ fn compile_component<R: RegExp, F: Fn(&str) -> Result<String, Error> + Drop>(
     ensures refused { IfErr result (MemoryOr (IsRefusedFrom (IsCompiledFrom R.IsMade R.MayRefuse R.syntax_of) (pattern_text pattern.entry) (options_view options)
         (encoding_of (FnReturnsAt F.Fn encoding_callback)))) }
 {
-    let compiled = component::Component::compile(alloc, pattern, encoding_callback, options)?;
+    let compiled = component::ComponentName::compile(alloc, pattern, encoding_callback, options)?;
     if compiled.regexp.is_err() {
         drop(compiled);
         return Err(Error::RegExp(()));
@@ -183,11 +183,11 @@ struct Compiler<'a> {
 /// The components behind the pathname.
 #[derive(Drop)]
 struct Others<R> {
-    username: component::Component<R>,
-    password: component::Component<R>,
-    port: component::Component<R>,
-    search: component::Component<R>,
-    hash: component::Component<R>,
+    username: component::ComponentName<R>,
+    password: component::ComponentName<R>,
+    port: component::ComponentName<R>,
+    search: component::ComponentName<R>,
+    hash: component::ComponentName<R>,
 }
 
 impl Compiler<'_> {
@@ -200,7 +200,7 @@ impl Compiler<'_> {
         ensures refused { IfErr result (MemoryOr (RefusesValues (IsCompiledFrom R.IsMade R.MayRefuse R.syntax_of) R.answer
             self.now.options.now (values_view self.now.values.now))) }
     {
-        let protocol = self.component(Component::Protocol, false)?;
+        let protocol = self.component(ComponentName::Protocol, false)?;
         let hierarchical = self.is_hierarchical(&protocol)?;
         self.behind_protocol(protocol, hierarchical)
     }
@@ -210,19 +210,19 @@ impl Compiler<'_> {
     /// The error is that of the first component that is refused, or that memory ran out.
     fn behind_protocol<R: RegExp>(
         &self,
-        protocol: component::Component<R>,
+        protocol: component::ComponentName<R>,
         hierarchical: bool,
     ) -> Result<UrlPattern<R>, Error>
         requires { IsComponentCompiled (IsCompiledFrom R.IsMade R.MayRefuse R.syntax_of)
-            self.now.options.now (values_view self.now.values.now) hierarchical Component.Protocol (component_view protocol) }
+            self.now.options.now (values_view self.now.values.now) hierarchical ComponentName.Protocol (component_view protocol) }
         ensures protocol { IfOk result (λ pattern. component_view pattern.protocol ≡ component_view protocol) }
-        ensures compiled { IfOk result (λ pattern. (component : Component) → IsComponentCompiled (IsCompiledFrom R.IsMade R.MayRefuse R.syntax_of)
+        ensures compiled { IfOk result (λ pattern. (component : ComponentName) → IsComponentCompiled (IsCompiledFrom R.IsMade R.MayRefuse R.syntax_of)
             self.now.options.now (values_view self.now.values.now) hierarchical component (pattern_view pattern component)) }
         ensures refused { IfErr result (MemoryOr (FirstRefused (IsCompiledFrom R.IsMade R.MayRefuse R.syntax_of)
             self.now.options.now (values_view self.now.values.now) hierarchical behind_protocol)) }
     {
-        let hostname = self.component(Component::Hostname, hierarchical)?;
-        let pathname = self.component(Component::Pathname, hierarchical)?;
+        let hostname = self.component(ComponentName::Hostname, hierarchical)?;
+        let pathname = self.component(ComponentName::Pathname, hierarchical)?;
         let others = self.others(hierarchical)?;
         Ok(UrlPattern {
             protocol,
@@ -241,23 +241,23 @@ impl Compiler<'_> {
     /// The error is that of the first component that is refused, or that memory ran out.
     fn others<R: RegExp>(&self, hierarchical: bool) -> Result<Others<R>, Error>
         ensures username { IfOk result (λ others. IsComponentCompiled (IsCompiledFrom R.IsMade R.MayRefuse R.syntax_of)
-            self.now.options.now (values_view self.now.values.now) hierarchical Component.Username (component_view others.username)) }
+            self.now.options.now (values_view self.now.values.now) hierarchical ComponentName.Username (component_view others.username)) }
         ensures password { IfOk result (λ others. IsComponentCompiled (IsCompiledFrom R.IsMade R.MayRefuse R.syntax_of)
-            self.now.options.now (values_view self.now.values.now) hierarchical Component.Password (component_view others.password)) }
+            self.now.options.now (values_view self.now.values.now) hierarchical ComponentName.Password (component_view others.password)) }
         ensures port { IfOk result (λ others. IsComponentCompiled (IsCompiledFrom R.IsMade R.MayRefuse R.syntax_of)
-            self.now.options.now (values_view self.now.values.now) hierarchical Component.Port (component_view others.port)) }
+            self.now.options.now (values_view self.now.values.now) hierarchical ComponentName.Port (component_view others.port)) }
         ensures search { IfOk result (λ others. IsComponentCompiled (IsCompiledFrom R.IsMade R.MayRefuse R.syntax_of)
-            self.now.options.now (values_view self.now.values.now) hierarchical Component.Search (component_view others.search)) }
+            self.now.options.now (values_view self.now.values.now) hierarchical ComponentName.Search (component_view others.search)) }
         ensures hash { IfOk result (λ others. IsComponentCompiled (IsCompiledFrom R.IsMade R.MayRefuse R.syntax_of)
-            self.now.options.now (values_view self.now.values.now) hierarchical Component.Hash (component_view others.hash)) }
+            self.now.options.now (values_view self.now.values.now) hierarchical ComponentName.Hash (component_view others.hash)) }
         ensures refused { IfErr result (MemoryOr (FirstRefused (IsCompiledFrom R.IsMade R.MayRefuse R.syntax_of)
             self.now.options.now (values_view self.now.values.now) hierarchical behind_pathname)) }
     {
-        let username = self.component(Component::Username, hierarchical)?;
-        let password = self.component(Component::Password, hierarchical)?;
-        let port = self.component(Component::Port, hierarchical)?;
-        let search = self.component(Component::Search, hierarchical)?;
-        let hash = self.component(Component::Hash, hierarchical)?;
+        let username = self.component(ComponentName::Username, hierarchical)?;
+        let password = self.component(ComponentName::Password, hierarchical)?;
+        let port = self.component(ComponentName::Port, hierarchical)?;
+        let search = self.component(ComponentName::Search, hierarchical)?;
+        let hash = self.component(ComponentName::Hash, hierarchical)?;
         Ok(Others {
             username,
             password,
@@ -272,9 +272,9 @@ impl Compiler<'_> {
     /// The error is that its text or its regular expression is refused, or that memory ran out.
     fn component<R: RegExp>(
         &self,
-        component: Component,
+        component: ComponentName,
         hierarchical: bool,
-    ) -> Result<component::Component<R>, Error>
+    ) -> Result<component::ComponentName<R>, Error>
         ensures compiled { IfOk result (λ compiled. IsComponentCompiled (IsCompiledFrom R.IsMade R.MayRefuse R.syntax_of)
             self.now.options.now (values_view self.now.values.now) hierarchical component (component_view compiled)) }
         ensures refused { IfErr result (MemoryOr (IsComponentRefused (IsCompiledFrom R.IsMade R.MayRefuse R.syntax_of)
@@ -291,18 +291,18 @@ impl Compiler<'_> {
     /// The options that the pattern of the component is read under.
     ///
     /// The error is that memory ran out.
-    fn options_of(&self, component: Component, hierarchical: bool) -> Result<Options, Error>
+    fn options_of(&self, component: ComponentName, hierarchical: bool) -> Result<Options, Error>
         ensures ok { IfOk result (λ options. options_view options ≡ (manner_of self.now.options.now (values_view self.now.values.now) hierarchical component).options) }
         ensures memory { IfErr result (λ error. error ≡ errors.OutOfMemory) }
     {
         let standard = match component {
-            Component::Hostname => Options::hostname(self.alloc),
-            Component::Pathname if hierarchical => Options::pathname(self.alloc)?,
+            ComponentName::Hostname => Options::hostname(self.alloc),
+            ComponentName::Pathname if hierarchical => Options::pathname(self.alloc)?,
             _ => Options::default(self.alloc),
         };
         let takes_case = matches!(
             component,
-            Component::Pathname | Component::Search | Component::Hash
+            ComponentName::Pathname | ComponentName::Search | ComponentName::Hash
         );
         Ok(Options {
             regex_syntax: self.options.regex_syntax,
@@ -316,7 +316,7 @@ impl Compiler<'_> {
     /// The error is the refusal of `url`, or that memory ran out.
     fn canonical(
         &self,
-        component: Component,
+        component: ComponentName,
         hierarchical: bool,
         text: &str,
     ) -> Result<String, Error>
@@ -324,15 +324,15 @@ impl Compiler<'_> {
     {
         let values = &self.canonicalizer;
         match component {
-            Component::Protocol => values.protocol(text),
-            Component::Username => values.username(text),
-            Component::Password => values.password(text),
-            Component::Hostname => self.canonical_in_hostname(text),
-            Component::Port => values.port(text, None),
-            Component::Pathname if hierarchical => values.pathname(text),
-            Component::Pathname => values.opaque_pathname(text),
-            Component::Search => values.search(text),
-            Component::Hash => values.hash(text),
+            ComponentName::Protocol => values.protocol(text),
+            ComponentName::Username => values.username(text),
+            ComponentName::Password => values.password(text),
+            ComponentName::Hostname => self.canonical_in_hostname(text),
+            ComponentName::Port => values.port(text, None),
+            ComponentName::Pathname if hierarchical => values.pathname(text),
+            ComponentName::Pathname => values.opaque_pathname(text),
+            ComponentName::Search => values.search(text),
+            ComponentName::Hash => values.hash(text),
         }
     }
 
@@ -353,7 +353,7 @@ impl Compiler<'_> {
     /// Whether the pathname of the pattern is hierarchical, by what its protocol was compiled to.
     ///
     /// The error is that memory ran out.
-    fn is_hierarchical<R: RegExp>(&self, protocol: &component::Component<R>) -> Result<bool, Error>
+    fn is_hierarchical<R: RegExp>(&self, protocol: &component::ComponentName<R>) -> Result<bool, Error>
         ensures tells { IfOk result (λ hierarchical. IsTrue hierarchical ↔ HasHierarchicalPath R.answer (values_view self.now.values.now) (component_view protocol.now).matcher) }
         ensures memory { IfErr result (λ error. error ≡ errors.OutOfMemory) }
     {

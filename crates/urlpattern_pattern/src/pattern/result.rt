@@ -5,7 +5,7 @@ ghost use Rattle.std.specs.Ordering.{nat_cmp};
 ghost use Rattle.std.specs.Prelude.{◌≡◌, ℕ, List, None, map, option_copied, string_bytes, string_eq, unwrap_or, IfErr, IfOk, IsPermutation, IsSorted};
 ghost use Rattle.std.specs.Str.{chars};
 ghost use Rattle.urlpattern_core.specs.Captured.{capture_view};
-ghost use Rattle.urlpattern_init.specs.declared.init.processing.Component.{Component as Name};
+ghost use Rattle.urlpattern_syntax.specs.declared.eight.ComponentName.{ComponentName as Name};
 ghost use Rattle.urlpattern_pattern.specs.Eight.{at, captured_bytes, AreGroups, HasNoGroups, IsWithoutGroups};
 ghost use Rattle.urlpattern_pattern.specs.Match.{component_result_view, group_in, result_view, text_at};
 ghost use Rattle.urlpattern_pattern.specs.MatchInput.{texts_view};

@@ -7,7 +7,7 @@ use Rattle.urlpattern.specs.Captured.{capture_view}
 use Rattle.urlpattern.specs.Captures.{captures_view}
 use Rattle.urlpattern.specs.Patterns.{pattern_view}
 use Rattle.urlpattern_init.specs.declared.init.UrlPatternMatchInput.TheVariants as inputs
-use Rattle.urlpattern_init.specs.declared.init.processing.Component.TheVariants.{Pathname}
+use Rattle.urlpattern_syntax.specs.declared.eight.ComponentName.TheVariants.{Pathname}
 use Rattle.example.specs.Captured.{IsCaptured}
 use Rattle.example.proofs.router.user.Goals as goal
 

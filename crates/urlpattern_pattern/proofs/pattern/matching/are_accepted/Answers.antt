@@ -1,4 +1,4 @@
-use Rattle.urlpattern_init.specs.declared.init.processing.Component.TheVariants.{Protocol, Username, Password, Hostname, Port, Pathname, Search, Hash}
+use Rattle.urlpattern_syntax.specs.declared.eight.ComponentName.TheVariants.{Protocol, Username, Password, Hostname, Port, Pathname, Search, Hash}
 use Rattle.urlpattern_pattern.specs.Eight.{at, ShowsMatch, ShowsNoMatch}
 use Rattle.urlpattern_pattern.proofs.Each.{each, err-leads, if_err}
 use Rattle.urlpattern_pattern.proofs.MatchSteps.{said_false, said_true, tells-both}

@@ -1,4 +1,4 @@
-use Rattle.urlpattern_init.specs.declared.init.processing.Component.TheVariants.{Protocol, Username, Password, Hostname, Port, Pathname, Search, Hash}
+use Rattle.urlpattern_syntax.specs.declared.eight.ComponentName.TheVariants.{Protocol, Username, Password, Hostname, Port, Pathname, Search, Hash}
 use Rattle.std.proofs.Common.{sym, ◌∙◌, ap, option_map}
 use Rattle.urlpattern_pattern.specs.Eight.{captures_of}
 use Rattle.urlpattern_pattern.proofs.Each.{if_err}

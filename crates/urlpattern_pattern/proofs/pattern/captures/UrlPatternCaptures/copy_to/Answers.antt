@@ -1,4 +1,4 @@
-use Rattle.urlpattern_init.specs.declared.init.processing.Component.TheVariants.{Protocol, Username, Password, Hostname, Port, Pathname, Search, Hash}
+use Rattle.urlpattern_syntax.specs.declared.eight.ComponentName.TheVariants.{Protocol, Username, Password, Hostname, Port, Pathname, Search, Hash}
 use Rattle.urlpattern_pattern.proofs.pattern.captures.UrlPatternCaptures.copy_to.Goals as goal
 
 pub copy_component-requires : goal.copy_component-requires

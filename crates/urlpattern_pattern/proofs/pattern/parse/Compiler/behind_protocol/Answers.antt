@@ -3,7 +3,7 @@ use Rattle.std.proofs.lemmas.Result.{err_from_is_err_and}
 use Rattle.urlpattern_pattern.proofs.CompiledLemmas.{each_component, memory_or-map}
 use Rattle.urlpattern_pattern.specs.Compiled.{FirstRefused, IsComponentCompiled, IsComponentRefused, behind_pathname, behind_protocol}
 use Rattle.urlpattern_init.specs.Inheritance.{values_view}
-use Rattle.urlpattern_init.specs.declared.init.processing.Component.TheVariants.{Hostname, Pathname}
+use Rattle.urlpattern_syntax.specs.declared.eight.ComponentName.TheVariants.{Hostname, Pathname}
 use Rattle.urlpattern_core.specs.Compiling.{IsCompiledFrom, component_view}
 use Rattle.urlpattern_pattern.proofs.pattern.parse.Compiler.behind_protocol.Goals as goal
 

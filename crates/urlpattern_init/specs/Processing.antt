@@ -1,0 +1,82 @@
+-- Words of the private contracts of the processing of an init. No public contract cites them.
+use Rattle.std.specs.Prelude.{◌≡◌, ◌≢◌, ℕ, List, [], length, max, Option, Result, String, Ok, option_copied, option_map, unwrap_or, IfErr, IfOk}
+use Rattle.std.specs.Borrow.{Bor}
+use Rattle.std.specs.Option.{option_or}
+use Rattle.std.specs.Str.{chars}
+use Rattle.std.specs.declared.alloc.Global.{Global}
+use Rattle.url.specs.Parser.{Parsed}
+use Rattle.urlpattern_canonical.specs.Canonical.{IsAnswer, Tells, bytes_asked}
+use Rattle.urlpattern_init.specs.declared.init.processing.Processing.{Processing}
+use Rattle.urlpattern_init.specs.Inheritance.{bytes_of, given_bytes, given_text, inherited, init_bytes, init_values, missing, processed_text, processed_value, values_view}
+use Rattle.urlpattern_syntax.specs.declared.eight.ComponentName.{ComponentName}
+use Rattle.urlpattern_syntax.specs.declared.eight.ComponentName.TheVariants.{Pathname, Protocol}
+use Rattle.urlpattern_syntax.specs.declared.error.Error.{Error}
+use Rattle.urlpattern_syntax.specs.Eight.{Values}
+use Rattle.urlpattern_syntax.specs.Errors.{MemoryOr}
+use Rattle.urlpattern_syntax.specs.Text.{byte_len, text_of}
+
+-- the values that the init gives
+abbrev pub given_values : Processing → Values
+given_values processing = values_view processing.init.now
+
+-- the value that a component comes to, under this protocol
+abbrev pub value_in : Processing → (protocol : Option (List ℕ)) → ComponentName → Parsed (Option (List ℕ))
+value_in processing protocol component =
+    processed_value processing.kind.now (given_values processing) processing.init.now.base_url protocol component
+
+-- the values that the init comes to
+abbrev pub values_in : Processing → Parsed Values
+values_in processing = init_values processing.kind.now processing.init.now
+
+-- the bytes about which `url` is asked for the whole init
+abbrev pub bytes_in : Processing → ℕ
+bytes_in processing = init_bytes processing.kind.now processing.init.now
+
+-- the bytes about which it is asked for one component, where the protocol has so many
+abbrev pub component_bytes : Processing → (protocol_bytes : ℕ) → ComponentName → ℕ
+component_bytes processing protocol_bytes component =
+    bytes_asked processing.kind.now
+    (max protocol_bytes (given_bytes processing.kind.now (given_values processing) processing.init.now.base_url component))
+
+-- a text of the init, behind what is put before it
+abbrev pub given_in : Processing → ComponentName → List ℕ → List ℕ
+given_in processing component text = given_text processing.kind.now processing.init.now.base_url component text
+
+-- the value of such a text
+abbrev pub text_value_in : Processing → (protocol : Option (List ℕ)) → ComponentName → List ℕ → Parsed (List ℕ)
+text_value_in processing protocol component text =
+    processed_text processing.kind.now protocol component (given_in processing component text)
+
+-- a text that may be missing, and its bytes
+abbrev pub optional_text : Option (Bor (List ℕ)) → Option (List ℕ)
+optional_text text = option_map chars (option_copied text)
+
+abbrev pub optional_bytes : Option (Bor (List ℕ)) → ℕ
+optional_bytes text = length (unwrap_or (option_copied text) [])
+
+-- a text of the init is answered under a protocol of so many bytes
+abbrev pub IsTextAnswer : Processing → (protocol : Option (Bor (List ℕ))) → ComponentName → List ℕ → Result (String Global) Error → Type 0
+IsTextAnswer processing protocol component text result =
+    IsAnswer (text_value_in processing (optional_text protocol) component text)
+    (bytes_asked processing.kind.now (max (optional_bytes protocol) (byte_len (given_in processing component text)))) result
+
+-- a pathname of the init is answered, about its own bytes alone
+abbrev pub IsPathnameAnswer : Processing → (protocol : Option (Bor (List ℕ))) → List ℕ → Result (String Global) Error → Type 0
+IsPathnameAnswer processing protocol text result =
+    IsAnswer (text_value_in processing (optional_text protocol) Pathname text)
+    (bytes_asked processing.kind.now (byte_len (given_in processing Pathname text))) result
+
+-- the value of a component that the init lacks
+abbrev pub lacking_in : Processing → ComponentName → Option (List ℕ)
+lacking_in processing component =
+    option_or (inherited processing.kind.now (given_values processing) processing.init.now.base_url component) (missing processing.kind.now)
+
+-- the refusal of a component's value, or that memory ran out
+abbrev pub IsFailureIn : Processing → (protocol : Option (List ℕ)) → (protocol_bytes : ℕ) → ComponentName → Error → Type 0
+IsFailureIn processing protocol protocol_bytes component =
+    MemoryOr (Tells (value_in processing protocol component) (component_bytes processing protocol_bytes component))
+
+-- the value that a component behind the protocol comes to, or why it comes to none
+pub record IsValueAfter (processing : Processing) (protocol : Option (List ℕ)) (component : ComponentName) (result : Result (Option (String Global)) Error) : Type 0 where
+  pub ok : IfOk result (λ value. component ≢ Protocol → value_in processing protocol component ≡ Ok (option_map text_of value))
+  pub err : IfErr result (IsFailureIn processing protocol (bytes_of protocol) component)
