@@ -4,7 +4,7 @@
 
 ghost use Rattle.std.specs.Prelude.{◌≡◌, ◌<◌, ◌≤◌, ◌+◌, List, map, ℕ, ◌∷◌, ◌++◌, [], length, codes, IfNone, IfSome, IfOk, IfErr, OnOk};
 ghost use Rattle.std.specs.Str.{chars};
-ghost use Rattle.urlpattern_syntax.specs.Cursors.{AreCharactersBefore, AreTokensAfter, IsPlace, IsTokenAfter, stands_for_itself, tokens_left};
+ghost use Rattle.urlpattern_syntax.specs.Cursors.{AreCharactersBefore, AreTokensAfter, IsPlace, IsTokenAfter, cursor_rest, cursor_text, stands_for_itself, tokens_left};
 ghost use Rattle.urlpattern_syntax.specs.Text.{BeginsAt, BeginsWith, is_among, is_name_start, is_name_part};
 ghost use Rattle.urlpattern_syntax.specs.Tokens.{AreTokensUnder, FaultView, IsFaultAt, IsInvalidChar, LacksEscaped, LacksQuestionMark, Lexes, LexesUnder, Skips, SkipsBy, TellsFault, TellsFaultUnder, TokenView, fault_view, is_ignored, token_view};
 
@@ -161,12 +161,12 @@ impl<'a> Cursor<'a> {
     ///
     /// The error is the first fault of the text. It leaves the place as it was.
     pub(crate) fn next(&mut self) -> Result<Token<'a>, Error>
-        requires { IsPlace (chars self.old.input.now) (chars self.old.rest.now) }
+        requires { IsPlace (cursor_text self.old) (cursor_rest self.old) }
         ensures whole { self.new.input.now ≡ self.old.input.now }
-        ensures place { OnOk result (IsPlace (chars self.old.input.now) (chars self.new.rest.now)) }
-        ensures token { IfOk result (λ token. IsTokenAfter (chars self.old.input.now) (chars self.old.rest.now) (token_view token) (chars self.new.rest.now)) }
+        ensures place { OnOk result (IsPlace (cursor_text self.old) (cursor_rest self.new)) }
+        ensures token { IfOk result (λ token. IsTokenAfter (cursor_text self.old) (cursor_rest self.old) (token_view token) (cursor_rest self.new)) }
         ensures len { IfOk result (λ token. length self.new.rest.now + tokens_left token.kind ≤ length self.old.rest.now) }
-        ensures fault { IfErr result (TellsFault (chars self.old.input.now)) }
+        ensures fault { IfErr result (TellsFault (cursor_text self.old)) }
     {
         let place = place_of(self.input, self.rest);
         if self.rest.is_empty() {
@@ -194,10 +194,10 @@ impl<'a> Cursor<'a> {
     ///
     /// Each of them is a token. The text is empty where fewer than two of them stand there.
     pub(crate) fn characters(&mut self) -> &'a str
-        requires { IsPlace (chars self.old.input.now) (chars self.old.rest.now) }
+        requires { IsPlace (cursor_text self.old) (cursor_rest self.old) }
         ensures whole { self.new.input.now ≡ self.old.input.now }
-        ensures place { IsPlace (chars self.old.input.now) (chars self.new.rest.now) }
-        ensures before { AreCharactersBefore (chars self.old.rest.now) (chars result.now) (chars self.new.rest.now) }
+        ensures place { IsPlace (cursor_text self.old) (cursor_rest self.new) }
+        ensures before { AreCharactersBefore (cursor_rest self.old) (chars result.now) (cursor_rest self.new) }
         ensures len { length self.new.rest.now ≤ length self.old.rest.now }
     {
         let mut last = self.rest;
@@ -218,9 +218,9 @@ impl<'a> Cursor<'a> {
     ///
     /// The error is the first fault of the text.
     pub(crate) fn read_to_end(&self) -> Result<(), Error>
-        requires { IsPlace (chars self.now.input.now) (chars self.now.rest.now) }
-        ensures tokens { OnOk result ((tokens : List TokenView) × AreTokensAfter (chars self.now.input.now) (chars self.now.rest.now) tokens) }
-        ensures fault { IfErr result (TellsFault (chars self.now.input.now)) }
+        requires { IsPlace (cursor_text self.now) (cursor_rest self.now) }
+        ensures tokens { OnOk result ((tokens : List TokenView) × AreTokensAfter (cursor_text self.now) (cursor_rest self.now) tokens) }
+        ensures fault { IfErr result (TellsFault (cursor_text self.now)) }
     {
         let mut cursor = *self;
         loop {

@@ -1,6 +1,5 @@
 use Rattle.std.proofs.Common.{◌≡◌, ◌++◌, ◌∷◌, [], Ok, false, map, sym, ap, ◌∙◌, subst, inr, refl}
 use Rattle.std.specs.Str.{chars}
-use Rattle.std.specs.Fn.{FnReturnsAt}
 use Rattle.std.proofs.lemmas.List.{append-nil, map-append}
 use Rattle.std.proofs.lemmas.Result.{err_from_is_err_and}
 use Rattle.urlpattern_syntax.specs.declared.parser.PartList.{PartList}
@@ -8,7 +7,7 @@ use Rattle.urlpattern_syntax.specs.Errors.{error_view}
 use Rattle.urlpattern_syntax.specs.Options.{options_view}
 use Rattle.urlpattern_syntax.specs.Parsing.{AddsParts, pending_items, part_list_view}
 use Rattle.urlpattern_syntax.specs.Parts.{fixed_text, part_view}
-use Rattle.urlpattern_syntax.specs.Reading.{Fixed, encoding_of}
+use Rattle.urlpattern_syntax.specs.Reading.{Fixed, encoding_by}
 use Rattle.urlpattern_syntax.specs.RegexpText.{is_empty, group_names}
 use Rattle.urlpattern_syntax.specs.Text.{text_of}
 use Rattle.urlpattern_syntax.proofs.ReadingLemmas.{adds_item, fails_item, fixed_fails, fixed_met, fixed_parts}
@@ -19,7 +18,7 @@ use Rattle.urlpattern_syntax.proofs.parser.PartList.add_fixed.Goals.{then-not-is
 pub returns-in_err-value-clause-err : goal.returns-in_err-value-clause-err
 returns-in_err-value-clause-err g c =
     let options = options_view c.args.parser.now.options.now in
-    let encoding = encoding_of (FnReturnsAt g.F.Fn c.args.parser.now.encoding_callback) in
+    let encoding = encoding_by g.F.Fn c.args.parser.now.encoding_callback in
     let old = part_list_view c.args.self.now in
     let mid = part_list_view c.add_pending.new.self in
     let text = chars c.args.text.now in
@@ -33,7 +32,7 @@ returns-in_err-value-clause-err g c =
 pub returns-clause-ok : goal.returns-clause-ok
 returns-clause-ok g c =
     let options = options_view c.args.parser.now.options.now in
-    let encoding = encoding_of (FnReturnsAt g.F.Fn c.args.parser.now.encoding_callback) in
+    let encoding = encoding_by g.F.Fn c.args.parser.now.encoding_callback in
     let old = part_list_view c.args.self.now in
     let mid = part_list_view c.add_pending.new.self in
     let text = chars c.args.text.now in

@@ -1,7 +1,6 @@
 use Rattle.std.proofs.Common.{◌≡◌, ◌++◌, ◌∷◌, [], Ok, List, map, sym, ap, ◌∙◌, subst, refl, inl, inr, ℕ, Vec, Global}
 use Rattle.std.specs.Prelude.{Contains}
 use Rattle.std.specs.Str.{chars}
-use Rattle.std.specs.Fn.{FnReturnsAt}
 use Rattle.std.proofs.lemmas.List.{map-append}
 use Rattle.std.proofs.lemmas.Result.{err_from_is_err_and}
 use Rattle.urlpattern_syntax.specs.declared.parser.Part.{Part}
@@ -9,7 +8,7 @@ use Rattle.urlpattern_syntax.specs.Errors.{ErrorView, error_view}
 use Rattle.urlpattern_syntax.specs.Options.{options_view}
 use Rattle.urlpattern_syntax.specs.Parsing.{AddsParts, PartListView, group_item, item_demands, matched_view, name_view, pending_items, part_list_view}
 use Rattle.urlpattern_syntax.specs.Parts.{PartView, part_view}
-use Rattle.urlpattern_syntax.specs.Reading.{Capture, FirstFails, capture_part, encoding_of, name_or}
+use Rattle.urlpattern_syntax.specs.Reading.{Capture, FirstFails, capture_part, encoding_by, name_or}
 use Rattle.urlpattern_syntax.specs.RegexpText.{group_names}
 use Rattle.urlpattern_syntax.specs.Text.{text_of}
 use Rattle.urlpattern_syntax.proofs.GivenNameLemmas.{knows_same, names_pending, names_with}
@@ -19,7 +18,7 @@ use Rattle.urlpattern_syntax.proofs.parser.PartList.add_group.Goals as goal
 pub returns-in_err-prefix-clause-err : goal.returns-in_err-prefix-clause-err
 returns-in_err-prefix-clause-err g c =
     let options = options_view c.args.parser.now.options.now in
-    let encoding = encoding_of (FnReturnsAt g.F.Fn c.args.parser.now.encoding_callback) in
+    let encoding = encoding_by g.F.Fn c.args.parser.now.encoding_callback in
     let old = part_list_view c.args.self.now in
     let mid = part_list_view c.add_pending.new.self in
     let prefix = chars c.args.before.now in
@@ -40,7 +39,7 @@ returns-in_err-prefix-clause-err g c =
 pub returns-in_err-suffix-clause-err : goal.returns-in_err-suffix-clause-err
 returns-in_err-suffix-clause-err g c =
     let options = options_view c.args.parser.now.options.now in
-    let encoding = encoding_of (FnReturnsAt g.F.Fn c.args.parser.now.encoding_callback) in
+    let encoding = encoding_by g.F.Fn c.args.parser.now.encoding_callback in
     let old = part_list_view c.args.self.now in
     let mid = part_list_view c.add_pending.new.self in
     let prefix = chars c.args.before.now in
@@ -61,7 +60,7 @@ returns-in_err-suffix-clause-err g c =
 pub returns-clause-ok : goal.returns-clause-ok
 returns-clause-ok g c =
     let options = options_view c.args.parser.now.options.now in
-    let encoding = encoding_of (FnReturnsAt g.F.Fn c.args.parser.now.encoding_callback) in
+    let encoding = encoding_by g.F.Fn c.args.parser.now.encoding_callback in
     let old = part_list_view c.args.self.now in
     let mid = part_list_view c.add_pending.new.self in
     let prefix = chars c.args.before.now in
@@ -96,7 +95,7 @@ returns-clause-ok g c =
 pub new_name-requires-clause-knows : goal.new_name-requires-clause-knows
 new_name-requires-clause-knows g c =
     let options = options_view c.args.parser.now.options.now in
-    let encoding = encoding_of (FnReturnsAt g.F.Fn c.args.parser.now.encoding_callback) in
+    let encoding = encoding_by g.F.Fn c.args.parser.now.encoding_callback in
     let old = c.args.self.now in
     let mid = c.add_pending.new.self in
     knows_same _ _ old.given_names mid.given_names old.next_numeric_name mid.next_numeric_name
@@ -105,7 +104,7 @@ new_name-requires-clause-knows g c =
 pub returns-clause-knows : goal.returns-clause-knows
 returns-clause-knows g c =
     let options = options_view c.args.parser.now.options.now in
-    let encoding = encoding_of (FnReturnsAt g.F.Fn c.args.parser.now.encoding_callback) in
+    let encoding = encoding_by g.F.Fn c.args.parser.now.encoding_callback in
     let old = part_list_view c.args.self.now in
     let mid = part_list_view c.add_pending.new.self in
     let given = c.new_name.new.self.given_names in
@@ -122,7 +121,7 @@ returns-clause-knows g c =
 pub returns-in_err-name-clause-err : goal.returns-in_err-name-clause-err
 returns-in_err-name-clause-err g c =
     let options = options_view c.args.parser.now.options.now in
-    let encoding = encoding_of (FnReturnsAt g.F.Fn c.args.parser.now.encoding_callback) in
+    let encoding = encoding_by g.F.Fn c.args.parser.now.encoding_callback in
     let old = part_list_view c.args.self.now in
     let mid = part_list_view c.add_pending.new.self in
     let name = name_or (name_view c.args.placeholder.now.name) in

@@ -1,5 +1,4 @@
 use Rattle.std.proofs.Common.{◌≡◌, ◌<◌, ◌++◌, map, refl, sym, ap, ◌∙◌, subst, arith, append_assoc, Vec, Global}
-use Rattle.std.specs.Fn.{FnReturnsAt}
 use Rattle.std.specs.Str.{chars}
 use Rattle.std.proofs.lemmas.Result.{err_from_is_err_and}
 use Rattle.urlpattern_syntax.specs.declared.parser.pieces.Next.TheVariants as nexts
@@ -13,7 +12,7 @@ use Rattle.urlpattern_syntax.specs.RegexpText.{group_names}
 use Rattle.urlpattern_syntax.specs.Text.{text_of}
 use Rattle.urlpattern_syntax.proofs.GivenNameLemmas.{knows_same}
 use Rattle.urlpattern_syntax.specs.Parts.{part_view}
-use Rattle.urlpattern_syntax.specs.Reading.{encoding_of}
+use Rattle.urlpattern_syntax.specs.Reading.{encoding_by}
 use Rattle.urlpattern_syntax.proofs.PartListLemmas.{number_most}
 use Rattle.urlpattern_syntax.proofs.TextReadingLemmas.{HasReadUpTo, end_fails, end_read, gives_end, group_fails, nothing_read_yet, piece_fails, piece_read, row_read}
 use Rattle.urlpattern_syntax.proofs.parser.PatternParser.part_list.Goals as goal
@@ -21,7 +20,7 @@ use Rattle.urlpattern_syntax.proofs.parser.PatternParser.part_list.Goals as goal
 pub loop-next-init : goal.loop-next-init
 loop-next-init g c =
     let options = options_view c.args.self.now.options.now in
-    let encoding = encoding_of (FnReturnsAt g.F.Fn c.args.self.now.encoding_callback) in
+    let encoding = encoding_by g.F.Fn c.args.self.now.encoding_callback in
     let text = reader_text c.args.reader.now in
     record {
       whole = refl;
@@ -34,7 +33,7 @@ loop-next-init g c =
 pub loop-next-preserved-in-Ok : goal.loop-next-preserved-in-Ok
 loop-next-preserved-in-Ok g c =
     let options = options_view c.args.self.now.options.now in
-    let encoding = encoding_of (FnReturnsAt g.F.Fn c.args.self.now.encoding_callback) in
+    let encoding = encoding_by g.F.Fn c.args.self.now.encoding_callback in
     let text = reader_text c.args.reader.now in
     let old = c.loop-next.reader in
     let new = c.next_piece.new.self in
@@ -60,7 +59,7 @@ loop-next-preserved-in-Ok g c =
 pub loop-next-preserved : goal.loop-next-preserved
 loop-next-preserved g c =
     let options = options_view c.args.self.now.options.now in
-    let encoding = encoding_of (FnReturnsAt g.F.Fn c.args.self.now.encoding_callback) in
+    let encoding = encoding_by g.F.Fn c.args.self.now.encoding_callback in
     let text = reader_text c.args.reader.now in
     let old = c.loop-next.reader in
     let new = c.next_piece.new.self in
@@ -91,7 +90,7 @@ loop-next-preserved g c =
 pub returns-in-Err-clause-refuses : goal.returns-in-Err-clause-refuses
 returns-in-Err-clause-refuses g c =
     let options = options_view c.args.self.now.options.now in
-    let encoding = encoding_of (FnReturnsAt g.F.Fn c.args.self.now.encoding_callback) in
+    let encoding = encoding_by g.F.Fn c.args.self.now.encoding_callback in
     let text = reader_text c.args.reader.now in
     let old = c.loop-next.reader in
     let new = c.next_piece.new.self in
@@ -106,7 +105,7 @@ returns-in-Err-clause-refuses g c =
 pub returns-in-LacksClose-clause-refuses : goal.returns-in-LacksClose-clause-refuses
 returns-in-LacksClose-clause-refuses g c =
     let options = options_view c.args.self.now.options.now in
-    let encoding = encoding_of (FnReturnsAt g.F.Fn c.args.self.now.encoding_callback) in
+    let encoding = encoding_by g.F.Fn c.args.self.now.encoding_callback in
     let text = reader_text c.args.reader.now in
     let old = c.loop-next.reader in
     let new = c.next_piece.new.self in
@@ -122,7 +121,7 @@ returns-in-LacksClose-clause-refuses g c =
 pub returns-in-Stops-clause-reads : goal.returns-in-Stops-clause-reads
 returns-in-Stops-clause-reads g c =
     let options = options_view c.args.self.now.options.now in
-    let encoding = encoding_of (FnReturnsAt g.F.Fn c.args.self.now.encoding_callback) in
+    let encoding = encoding_by g.F.Fn c.args.self.now.encoding_callback in
     let text = reader_text c.args.reader.now in
     let old = c.loop-next.reader in
     let new = c.next_piece.new.self in
@@ -136,7 +135,7 @@ returns-in-Stops-clause-reads g c =
 pub returns-in_err-finish-in-Stops-clause-refuses : goal.returns-in_err-finish-in-Stops-clause-refuses
 returns-in_err-finish-in-Stops-clause-refuses g c =
     let options = options_view c.args.self.now.options.now in
-    let encoding = encoding_of (FnReturnsAt g.F.Fn c.args.self.now.encoding_callback) in
+    let encoding = encoding_by g.F.Fn c.args.self.now.encoding_callback in
     let text = reader_text c.args.reader.now in
     let old = c.loop-next.reader in
     let new = c.next_piece.new.self in
