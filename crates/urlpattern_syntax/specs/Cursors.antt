@@ -2,7 +2,7 @@
 use Rattle.std.specs.Prelude.{◌≡◌, ℕ, ◌⊎◌, ◌&&◌, not, Bool, IsTrue, List, [], ◌∷◌, ◌++◌}
 use Rattle.std.specs.List.{list_all}
 use Rattle.std.specs.Str.{chars}
-use Rattle.urlpattern_syntax.specs.declared.tokenizer.Cursor.{Cursor}
+use Rattle.urlpattern_syntax.specs.declared.tokenizer.cursors.Cursor.{Cursor}
 use Rattle.urlpattern_syntax.specs.declared.tokenizer.TokenType.{TokenType}
 use Rattle.urlpattern_syntax.specs.declared.tokenizer.TokenType.TheVariants.{End}
 use Rattle.urlpattern_syntax.specs.Text.{BeginsWith, is_among}

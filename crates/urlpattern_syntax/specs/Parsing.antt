@@ -16,7 +16,7 @@ use Rattle.urlpattern_syntax.specs.declared.parser.pieces.Reader.{Reader}
 use Rattle.urlpattern_syntax.specs.declared.tokenizer.TokenType.{TokenType}
 use Rattle.urlpattern_syntax.specs.declared.tokenizer.TokenType.TheVariants.{Close, Name, OtherModifier, End}
 use Rattle.urlpattern_syntax.specs.declared.error.Error.{Error}
-use Rattle.urlpattern_syntax.specs.declared.parser.PartList.{PartList}
+use Rattle.urlpattern_syntax.specs.declared.parser.part_list.PartList.{PartList}
 use Rattle.urlpattern_syntax.specs.declared.parser.PartModifier.TheVariants as modifiers
 use Rattle.urlpattern_syntax.specs.Cursors.{AreTokensAfter, IsPlace, cursor_rest, cursor_text, tokens_left}
 use Rattle.urlpattern_syntax.specs.Errors.{ErrorView, error_view}

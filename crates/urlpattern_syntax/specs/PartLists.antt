@@ -5,7 +5,7 @@ use Rattle.std.specs.Borrow.{Bor}
 use Rattle.std.specs.Str.{chars}
 use Rattle.urlpattern_syntax.specs.declared.error.Error.{Error}
 use Rattle.urlpattern_syntax.specs.declared.parser.Part.{Part}
-use Rattle.urlpattern_syntax.specs.declared.parser.PartList.{PartList}
+use Rattle.urlpattern_syntax.specs.declared.parser.part_list.PartList.{PartList}
 use Rattle.urlpattern_syntax.specs.declared.parser.PartModifier.{PartModifier}
 use Rattle.urlpattern_syntax.specs.declared.parser.PatternParser.{PatternParser}
 use Rattle.urlpattern_syntax.specs.declared.parser.pieces.Matched.{Matched}
