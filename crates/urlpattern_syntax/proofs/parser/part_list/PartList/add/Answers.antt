@@ -2,9 +2,9 @@ use Rattle.std.proofs.Common.{◌++◌, ◌∷◌, ◌∙◌, [], sym, subst}
 use Rattle.std.specs.Prelude.{IfErr, OnOk}
 use Rattle.std.specs.Str.{chars}
 use Rattle.std.proofs.lemmas.Str.{chars-nil}
-use Rattle.urlpattern_syntax.specs.Options.{options_view}
 use Rattle.urlpattern_syntax.specs.Parsing.{AddsItem, AddsParts, FailsItem, FailsItems, group_item, part_list_view, pending_items, piece_view}
-use Rattle.urlpattern_syntax.specs.Reading.{Fixed, encoding_by, item}
+use Rattle.urlpattern_syntax.specs.PartLists.{parser_encoding, parser_options}
+use Rattle.urlpattern_syntax.specs.Reading.{Fixed, item}
 use Rattle.urlpattern_syntax.specs.RegexpText.{group_names}
 use Rattle.std.proofs.lemmas.List.{append-nil}
 use Rattle.urlpattern_syntax.proofs.GivenNameLemmas.{knows_same, names_with, ok_both}
@@ -12,8 +12,8 @@ use Rattle.urlpattern_syntax.proofs.parser.part_list.PartList.add.Goals as goal
 
 pub returns-in-Bare-clause-ok : goal.returns-in-Bare-clause-ok
 returns-in-Bare-clause-ok g c =
-    let options = options_view c.args.parser.now.options.now in
-    let encoding = encoding_by g.F.Fn c.args.parser.now.encoding_callback in
+    let options = parser_options c.args.parser.now in
+    let encoding = parser_encoding g.F.Fn c.args.parser.now in
     let old = part_list_view c.args.self.now in
     let new = part_list_view c.add_group.new.self in
     subst (λ piece. OnOk c.add_group.result (AddsItem options encoding old (item old.number (piece_view piece)) new)) (sym c.in-Bare.is)
@@ -22,7 +22,7 @@ returns-in-Bare-clause-ok g c =
 
 pub returns-in-Bare-clause-err : goal.returns-in-Bare-clause-err
 returns-in-Bare-clause-err g c =
-    let encoding = encoding_by g.F.Fn c.args.parser.now.encoding_callback in
+    let encoding = parser_encoding g.F.Fn c.args.parser.now in
     let old = part_list_view c.args.self.now in
     subst (λ piece. IfErr c.add_group.result (FailsItem encoding old (item old.number (piece_view piece)))) (sym c.in-Bare.is)
     (subst (λ modifier. IfErr c.add_group.result (FailsItems encoding old.parts (pending_items old.pending ++ group_item (chars c.in-Bare.prefix.now) c.in-Bare.placeholder [] modifier old.number ∷ []))) c.copied-in-Bare.ensures
@@ -30,8 +30,8 @@ returns-in-Bare-clause-err g c =
 
 pub returns-in-TextGroup-clause-knows : goal.returns-in-TextGroup-clause-knows
 returns-in-TextGroup-clause-knows g c =
-    let options = options_view c.args.parser.now.options.now in
-    let encoding = encoding_by g.F.Fn c.args.parser.now.encoding_callback in
+    let options = parser_options c.args.parser.now in
+    let encoding = parser_encoding g.F.Fn c.args.parser.now in
     let old = c.args.self.now in
     let new = c.add_fixed.new.self in
     let text = Fixed (chars c.deref-in-TextGroup.result.now) c.copied.result in

@@ -4,10 +4,10 @@ use Rattle.std.proofs.lemmas.List.{append-nil, map-append}
 use Rattle.std.proofs.lemmas.Result.{err_from_is_err_and}
 use Rattle.urlpattern_syntax.specs.declared.parser.part_list.PartList.{PartList}
 use Rattle.urlpattern_syntax.specs.Errors.{error_view}
-use Rattle.urlpattern_syntax.specs.Options.{options_view}
 use Rattle.urlpattern_syntax.specs.Parsing.{AddsParts, pending_items, part_list_view}
+use Rattle.urlpattern_syntax.specs.PartLists.{parser_encoding, parser_options}
 use Rattle.urlpattern_syntax.specs.Parts.{fixed_text, part_view}
-use Rattle.urlpattern_syntax.specs.Reading.{Fixed, encoding_by}
+use Rattle.urlpattern_syntax.specs.Reading.{Fixed}
 use Rattle.urlpattern_syntax.specs.RegexpText.{is_empty, group_names}
 use Rattle.urlpattern_syntax.specs.Text.{text_of}
 use Rattle.urlpattern_syntax.proofs.ReadingLemmas.{adds_item, fails_item, fixed_fails, fixed_met, fixed_parts}
@@ -17,8 +17,8 @@ use Rattle.urlpattern_syntax.proofs.parser.part_list.PartList.add_fixed.Goals.{t
 
 pub returns-in_err-value-clause-err : goal.returns-in_err-value-clause-err
 returns-in_err-value-clause-err g c =
-    let options = options_view c.args.parser.now.options.now in
-    let encoding = encoding_by g.F.Fn c.args.parser.now.encoding_callback in
+    let options = parser_options c.args.parser.now in
+    let encoding = parser_encoding g.F.Fn c.args.parser.now in
     let old = part_list_view c.args.self.now in
     let mid = part_list_view c.add_pending.new.self in
     let text = chars c.args.text.now in
@@ -31,8 +31,8 @@ returns-in_err-value-clause-err g c =
 
 pub returns-clause-ok : goal.returns-clause-ok
 returns-clause-ok g c =
-    let options = options_view c.args.parser.now.options.now in
-    let encoding = encoding_by g.F.Fn c.args.parser.now.encoding_callback in
+    let options = parser_options c.args.parser.now in
+    let encoding = parser_encoding g.F.Fn c.args.parser.now in
     let old = part_list_view c.args.self.now in
     let mid = part_list_view c.add_pending.new.self in
     let text = chars c.args.text.now in
