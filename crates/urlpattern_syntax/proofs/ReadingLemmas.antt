@@ -23,9 +23,9 @@ use Rattle.urlpattern_syntax.specs.Errors.{ErrorView, error_view}
 use Rattle.urlpattern_syntax.specs.Options.{OptionsView}
 use Rattle.urlpattern_syntax.specs.Parsing.{AddsParts, PartListView, MemoryOr, item_demands, pending_items}
 use Rattle.urlpattern_syntax.specs.Parts.{PartView, fixed_text, part_view}
-use Rattle.urlpattern_syntax.specs.Pieces.{Ending, Matched}
+use Rattle.urlpattern_syntax.specs.Pieces.{Ending}
 use Rattle.urlpattern_syntax.specs.Pieces.{Ending as endings}
-use Rattle.urlpattern_syntax.specs.Reading.{AreMet, AreParts, Capture, Demand, Encode, Encoding, Expect, FirstFails, Fixed, Item, NewName, capture_part, compared, demands_after, encode_fixed, encoding_of, item, joined_items, kind_of, value_of, with_text}
+use Rattle.urlpattern_syntax.specs.Reading.{AreMet, AreParts, Capture, Demand, Encode, Encoding, Expect, FirstFails, Fixed, Item, NewName, capture_part, compared, demands_after, encode_fixed, encoding_of, item, joined_items, kind_of, with_text}
 use Rattle.urlpattern_syntax.specs.declared.parser.RegexSyntax.{RegexSyntax}
 use Rattle.urlpattern_syntax.specs.RegexpText.{is_empty, full_wildcard, group_names, is_fixed_text, segment_wildcard, segment_wildcard_of}
 use Rattle.urlpattern_syntax.specs.Tokens.{TokenView}

@@ -1,4 +1,4 @@
-use Rattle.std.proofs.Common.{◌≡◌, ◌≢◌, ◌∷◌, ◌++◌, List, ℕ, false, inl, inr, ap, ◌∙◌, sym, subst}
+use Rattle.std.proofs.Common.{◌≡◌, ◌≢◌, ◌++◌, List, ℕ, false, inl, inr, ap, ◌∙◌, sym, subst}
 use Rattle.urlpattern_syntax.specs.declared.tokenizer.TokenType.TheVariants.{Close}
 use Rattle.urlpattern_syntax.specs.Parsing.{BeginsWithClose, BeginsWithPiece, EndsAt, Takes, placeholder_view}
 use Rattle.urlpattern_syntax.specs.Pieces.{BeginsWithKind, IsFilled, is_placeholder, is_text}
