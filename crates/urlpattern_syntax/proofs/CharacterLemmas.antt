@@ -173,15 +173,16 @@ text_after whole (c ∷ rest) next token (inr h) stands =
 
 -- ---- they are taken
 
+-- what is left is less then
+pub row_less : (old new : Reader) (middle : List ℕ) → length middle ≤ length old.cursor.rest.now → length new.cursor.rest.now + tokens_left new.token.kind ≤ length middle → old.token.kind ≢ End → reader_left new < reader_left old
+row_less old new middle le len other =
+    let one = one_left old.token.kind other in
+    omega (arith, one, len, le)
+
 module _ (old new : Reader) (middle : List ℕ) (more : List ℕ) (whole : new.cursor.input.now ≡ old.cursor.input.now)
     (before : AreCharactersBefore (chars old.cursor.rest.now) more (chars middle)) (place : IsPlace (reader_text old) (chars new.cursor.rest.now))
     (after : IsTokenAfter (reader_text old) (chars middle) (token_view new.token) (chars new.cursor.rest.now))
     (le : length middle ≤ length old.cursor.rest.now) (len : length new.cursor.rest.now + tokens_left new.token.kind ≤ length middle) (stands : Stands old) (other : old.token.kind ≢ End) where
-  pub row_less : reader_left new < reader_left old
-  row_less =
-      let one = one_left old.token.kind other in
-      omega (arith, one, len, le)
-
   begins : BeginsWithTokens (reader_text old) (chars old.cursor.rest.now) more (chars middle)
   begins = character_tokens (reader_text old) (chars old.cursor.rest.now) more (chars middle) stands.place before
 

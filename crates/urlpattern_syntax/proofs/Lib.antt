@@ -7,9 +7,11 @@ pub mod EightLemmas
 pub mod PieceLemmas
 pub mod PiecesExist
 pub mod ReadingLemmas
+pub mod GroupLemmas
 pub mod PartListLemmas
 pub mod TokenLemmas
 pub mod ReaderLemmas
+pub mod BracedLemmas
 pub mod CharacterLemmas
 pub mod TextReadingLemmas
 pub mod NameCharacters

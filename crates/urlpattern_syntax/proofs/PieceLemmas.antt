@@ -205,7 +205,8 @@ takes_narrower matched.Segment (token ∷ back) behind closing h = h
 takes_narrower matched.Anything back behind closing h = tt
 takes_narrower (matched.Custom body) back behind closing h = tt
 
-narrower : (inner : List TokenView) (before after : List ℕ) (behind : List TokenView) (closing : TokenView) (placeholder : Placeholder) → IsFilled inner before placeholder after (closing ∷ behind) → IsFilled inner before placeholder after (closing ∷ [])
+-- what fills braces fills them whatever stands behind them
+pub narrower : (inner : List TokenView) (before after : List ℕ) (behind : List TokenView) (closing : TokenView) (placeholder : Placeholder) → IsFilled inner before placeholder after (closing ∷ behind) → IsFilled inner before placeholder after (closing ∷ [])
 narrower inner before after behind closing placeholder f = record {
   front = f.front;
   middle = f.middle;

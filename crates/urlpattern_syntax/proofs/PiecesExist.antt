@@ -13,7 +13,7 @@ use Rattle.urlpattern_syntax.specs.Parsing.{BeginsWithPlaceholder, BeginsWithMod
 use Rattle.urlpattern_syntax.specs.Pieces.{Piece, Ending, Stops, LacksClose, Placeholder, Matched, ArePieces, IsPiece, IsEnding, IsBraced, IsFilled, IsPrefixOf, IsPlaceholderOf, TakesPrefix, TakesRegexp, BeginsWithKind, is_text, is_placeholder, is_modifier, is_stop}
 use Rattle.urlpattern_syntax.specs.Pieces.{Matched as matched, Piece as pieces}
 use Rattle.urlpattern_syntax.specs.Tokens.{TokenView}
-use Rattle.urlpattern_syntax.proofs.PieceLemmas.{IsTokenList-rest, IsTokenList-texts, named, named_regexp, one_or_more, open_texts, optional, unnamed_regexp, wildcard, zero_or_more}
+use Rattle.urlpattern_syntax.proofs.PieceLemmas.{IsTokenList-rest, IsTokenList-texts, named, named_regexp, narrower, one_or_more, open_texts, optional, unnamed_regexp, wildcard, zero_or_more}
 
 -- ---- kinds
 
@@ -191,24 +191,6 @@ char_step point token (next ∷ rest) e h = before_placeholder (is_placeholder n
 
 -- ---- groups
 
-narrow : (what : Matched) (back behind : List TokenView) (closing : TokenView) → TakesRegexp what (back ++ closing ∷ behind) → TakesRegexp what (back ++ closing ∷ [])
-narrow matched.Segment [] behind closing h = h
-narrow matched.Segment (token ∷ back) behind closing h = h
-narrow matched.Anything back behind closing h = tt
-narrow (matched.Custom body) back behind closing h = tt
-
-narrow_filled : (inner : List TokenView) (before after : List ℕ) (behind : List TokenView) (closing : TokenView) (placeholder : Placeholder) → IsFilled inner before placeholder after (closing ∷ behind) → IsFilled inner before placeholder after (closing ∷ [])
-narrow_filled inner before after behind closing placeholder f = record {
-  front = f.front;
-  middle = f.middle;
-  back = f.back;
-  cut = f.cut;
-  are_texts_before = f.are_texts_before;
-  is_placeholder = f.is_placeholder;
-  takes_regexp = narrow placeholder.matched f.back behind closing f.takes_regexp;
-  are_texts_after = f.are_texts_after;
-}
-
 -- braces, with what they make of what is between them
 group_step : (point : List ℕ) (opening closing : TokenView) (inner behind : List TokenView) (piece : PartModifier → Piece) → opening.kind ≡ Open → closing.kind ≡ Close →
     ((tokens rest : List TokenView) (modifier : PartModifier) → (braces : IsBraced tokens inner modifier rest) → braces.closing ≡ closing → IsPiece point tokens (piece modifier) rest) →
@@ -241,7 +223,7 @@ filled_step point opening inner before after placeholder (found ∷ behind) k f 
     by_kind Close e =
         group_step point opening found inner behind (λ modifier. pieces.Group before placeholder after modifier) k e
         (λ tokens rest modifier braces same.
-        (inner, braces, subst (λ closing. IsFilled inner before placeholder after (closing ∷ [])) (sym same) (narrow_filled inner before after behind found placeholder f)))
+        (inner, braces, subst (λ closing. IsFilled inner before placeholder after (closing ∷ [])) (sym same) (narrower inner before after behind found placeholder f)))
         (IsTokenList-rest found behind h (λ g. cc (e, g)))
     by_kind other e = ends (LacksClose found) (opening, inner, behind, refl, k, (none, inr (before, after, placeholder, f)), λ g. cc (e, g))
 

@@ -23,9 +23,9 @@ use Rattle.urlpattern_syntax.specs.Errors.{ErrorView, error_view}
 use Rattle.urlpattern_syntax.specs.Options.{OptionsView}
 use Rattle.urlpattern_syntax.specs.Parsing.{AddsParts, PartListView, MemoryOr, item_demands, pending_items}
 use Rattle.urlpattern_syntax.specs.Parts.{PartView, fixed_text, part_view}
-use Rattle.urlpattern_syntax.specs.Pieces.{Ending, Matched}
+use Rattle.urlpattern_syntax.specs.Pieces.{Ending}
 use Rattle.urlpattern_syntax.specs.Pieces.{Ending as endings}
-use Rattle.urlpattern_syntax.specs.Reading.{AreMet, AreParts, Capture, Demand, Encode, Encoding, Expect, FirstFails, Fixed, Item, NewName, capture_part, compared, demands_after, encode_fixed, encoding_of, item, joined_items, kind_of, value_of, with_text}
+use Rattle.urlpattern_syntax.specs.Reading.{AreMet, AreParts, Capture, Demand, Encode, Encoding, Expect, FirstFails, Fixed, Item, NewName, capture_part, compared, demands_after, encode_fixed, encoding_of, item, joined_items, kind_of, with_text}
 use Rattle.urlpattern_syntax.specs.declared.parser.RegexSyntax.{RegexSyntax}
 use Rattle.urlpattern_syntax.specs.RegexpText.{is_empty, full_wildcard, group_names, is_fixed_text, segment_wildcard, segment_wildcard_of}
 use Rattle.urlpattern_syntax.specs.Tokens.{TokenView}
@@ -319,7 +319,7 @@ fails_longer encoding earlier items item error (inl h) = inl h
 fails_longer encoding earlier items item error (inr h) =
     inr (subst (λ demands. FirstFails encoding demands (error_view error)) (sym (item_demands-append earlier items (item ∷ []))) (FirstFails-before encoding (error_view error) _ _ h))
 
--- ---- fixed texts with a modifier, and groups
+-- ---- fixed texts with a modifier
 
 pub fixed_parts : (options : OptionsView) (encoding : Encoding) (text value : List ℕ) (modifier : PartModifier) → is_empty text ≡ false → encoding text (Ok value) → AreParts options encoding (Fixed text modifier ∷ []) (fixed_text value modifier ∷ [])
 fixed_parts options encoding [] value modifier e h = absurd (false≢true (sym e))
@@ -332,23 +332,3 @@ fixed_met encoding earlier (c ∷ text) value modifier h = ((value, h), tt)
 pub fixed_fails : (encoding : Encoding) (earlier : List (List ℕ)) (text : List ℕ) (modifier : PartModifier) (error : ErrorView) → is_empty text ≡ false → encoding text (Err error) → FirstFails encoding (item_demands earlier (Fixed text modifier ∷ [])) error
 fixed_fails encoding earlier [] modifier error e h = absurd (false≢true (sym e))
 fixed_fails encoding earlier (c ∷ text) modifier error e h = inl h
-
--- what a group's demands come to
-pub capture_met : (encoding : Encoding) (earlier : List (List ℕ)) (prefix name : List ℕ) (match : Matched) (suffix : List ℕ) (modifier : PartModifier) (before after : List ℕ) → ¬ Contains earlier name → encoding prefix (Ok before) → encoding suffix (Ok after) → AreMet encoding (item_demands earlier (Capture prefix name match suffix modifier ∷ []))
-capture_met encoding earlier prefix name match suffix modifier before after new h g = (new, ((before, h), ((after, g), tt)))
-
-pub prefix_fails : (encoding : Encoding) (earlier : List (List ℕ)) (prefix name : List ℕ) (match : Matched) (suffix : List ℕ) (modifier : PartModifier) (error : ErrorView) → ¬ Contains earlier name → encoding prefix (Err error) → FirstFails encoding (item_demands earlier (Capture prefix name match suffix modifier ∷ [])) error
-prefix_fails encoding earlier prefix name match suffix modifier error new h = inr (new, inl h)
-
-pub suffix_fails : (encoding : Encoding) (earlier : List (List ℕ)) (prefix name : List ℕ) (match : Matched) (suffix : List ℕ) (modifier : PartModifier) (before : List ℕ) (error : ErrorView) → ¬ Contains earlier name → encoding prefix (Ok before) → encoding suffix (Err error) → FirstFails encoding (item_demands earlier (Capture prefix name match suffix modifier ∷ [])) error
-suffix_fails encoding earlier prefix name match suffix modifier before error new h g = inr (new, inr ((before, h), inl g))
-
-pub capture_view : (options : OptionsView) (prefix name : List ℕ) (match : Matched) (suffix : List ℕ) (modifier : PartModifier) (kind : PartType) (value : List ℕ) → kind ≡ kind_of options (compared options match) → value ≡ value_of kind (compared options match) → record { kind = kind; value = value; modifier = modifier; name = name; prefix = prefix; suffix = suffix } ≡ capture_part options prefix name match suffix modifier
-capture_view options prefix name match suffix modifier kind value e f = λ i. record {
-  kind = e i;
-  value = (f ∙ ap (λ k. value_of k (compared options match)) e) i;
-  modifier = modifier;
-  name = name;
-  prefix = prefix;
-  suffix = suffix;
-}

@@ -2,12 +2,14 @@
 use Rattle.std.proofs.Common.{◌≡◌, ◌⊎◌, ℕ, List, [], ◌∷◌, ◌++◌, refl, sym, ap, ◌∙◌, subst, inl, inr}
 use Rattle.urlpattern_syntax.specs.declared.error.Error.{Error}
 use Rattle.urlpattern_syntax.specs.declared.error.Error.TheVariants as errors
+use Rattle.std.specs.Str.{chars}
+use Rattle.urlpattern_syntax.specs.declared.parser.pieces.Next.{Next}
 use Rattle.urlpattern_syntax.specs.declared.parser.pieces.Reader.{Reader}
 use Rattle.urlpattern_syntax.specs.declared.tokenizer.TokenType.TheVariants.{Close, End}
 use Rattle.urlpattern_syntax.specs.Errors.{ErrorView, error_view}
 use Rattle.urlpattern_syntax.specs.Errors.{ErrorView as error_views}
 use Rattle.urlpattern_syntax.specs.Options.{OptionsView}
-use Rattle.urlpattern_syntax.specs.Parsing.{AddsItem, AddsParts, BeginsWithPiece, BeginsWithRow, EndsAt, FailsItem, FailsTokens, FaultOr, Gives, MemoryOr, PartListView, ReadsTokens, StartsText, Takes, pending_items, reader_text}
+use Rattle.urlpattern_syntax.specs.Parsing.{AddsItem, AddsParts, BeginsWithPiece, BeginsWithRow, EndsAt, FailsItem, FailsTokens, FaultOr, Gives, IsNext, MemoryOr, PartListView, ReadsTokens, StartsText, Takes, pending_items, reader_text}
 use Rattle.urlpattern_syntax.specs.Pieces.{IsEnding, Piece}
 use Rattle.urlpattern_syntax.specs.Pieces.{Ending as endings}
 use Rattle.urlpattern_syntax.specs.Reading.{Encoding, Expect, FirstFails, Reads, Refuses, encode_fixed, item, number_after}
@@ -43,6 +45,13 @@ abbrev pub HasReadUpTo : OptionsView → Encoding → (text : List ℕ) → Read
 HasReadUpTo options encoding text reader list =
     (rest : List TokenView) → Gives reader rest → (tokens : List TokenView) × AreTokens text tokens × HasRead options encoding tokens rest list
 
+-- what is taken, where the prefix code point and what was written are known by other names
+pub takes_as : (old new : Reader) (bytes point : List ℕ) (written next : Next) → chars bytes ≡ point → written ≡ next →
+    Takes old new (λ tokens rest. IsNext (chars bytes) tokens written rest) → Takes old new (λ tokens rest. IsNext point tokens next rest)
+takes_as old new bytes point written next e f h =
+    subst (λ x. Takes old new (λ tokens rest. IsNext point tokens x rest)) f
+    (subst (λ x. Takes old new (λ tokens rest. IsNext x tokens written rest)) e h)
+
 module _ (options : OptionsView) (encoding : Encoding) (text : List ℕ) where
   pub nothing_read_yet : (reader : Reader) → StartsText text reader → HasReadUpTo options encoding text reader (record { parts = []; pending = []; number = 0 })
   nothing_read_yet reader s rest g = (rest, s.all rest g, nothing_read options encoding rest)
@@ -68,8 +77,8 @@ module _ (options : OptionsView) (encoding : Encoding) (text : List ℕ) where
         )
 
     -- a piece that is not added
-    pub piece_fails : (piece : Piece) (error other : Error) → Takes old new (λ tokens rest. BeginsWithPiece options.prefix tokens piece rest) → FailsItem encoding list (item list.number piece) error → reader_text new ≡ text → FaultOr new (λ view. view ≡ error_view error) other → MemoryOr (Refuses text options encoding) other
-    piece_fails piece error other takes failed same (inl h) = tells_refuses text options encoding other (subst (λ x. TellsFault x other) same h)
+    pub piece_fails : (piece : Piece) (error other : Error) → Takes old new (λ tokens rest. BeginsWithPiece options.prefix tokens piece rest) → FailsItem encoding list (item list.number piece) error → reader_text old ≡ text → FaultOr new (λ view. view ≡ error_view error) other → MemoryOr (Refuses text options encoding) other
+    piece_fails piece error other takes failed same (inl h) = tells_refuses text options encoding other (subst (λ x. TellsFault x other) (ap chars takes.whole ∙ same) h)
     piece_fails piece error other takes failed same (inr (left, inl h)) = inl h
     piece_fails piece error other takes failed same (inr (left, inr h)) =
         let t = takes.gives left.0 left.1 in
@@ -105,8 +114,8 @@ module _ (options : OptionsView) (encoding : Encoding) (text : List ℕ) where
           are_parts = reads.are_parts;
         }
 
-    pub end_fails : (error : Error) → Takes old new (λ tokens rest. EndsAt tokens endings.Stops rest) → reader_text new ≡ text → FaultOr new (FirstFails encoding (encode_fixed list.pending ++ Expect End (token_view new.token) ∷ [])) error → MemoryOr (Refuses text options encoding) error
-    end_fails error takes same (inl h) = tells_refuses text options encoding error (subst (λ x. TellsFault x error) same h)
+    pub end_fails : (error : Error) → Takes old new (λ tokens rest. EndsAt tokens endings.Stops rest) → reader_text old ≡ text → FaultOr new (FirstFails encoding (encode_fixed list.pending ++ Expect End (token_view new.token) ∷ [])) error → MemoryOr (Refuses text options encoding) error
+    end_fails error takes same (inl h) = tells_refuses text options encoding error (subst (λ x. TellsFault x error) (ap chars takes.whole ∙ same) h)
     end_fails error takes same (inr (left, h)) =
         let t = takes.gives left.0 left.1 in
         let r = read t.0 t.1 in

@@ -7,7 +7,7 @@ use Rattle.std.proofs.lemmas.List.{append_cancel_right}
 use Rattle.std.specs.Str.{chars}
 use Rattle.urlpattern_syntax.specs.declared.error.Error.TheVariants as errors
 use Rattle.urlpattern_syntax.specs.declared.error.TokenizerError.{TokenizerError}
-use Rattle.urlpattern_syntax.specs.declared.tokenizer.Lexeme.{Lexeme}
+use Rattle.urlpattern_syntax.specs.declared.tokenizer.lexemes.Lexeme.{Lexeme}
 use Rattle.urlpattern_syntax.specs.declared.tokenizer.TokenizePolicy.{TokenizePolicy}
 use Rattle.urlpattern_syntax.specs.declared.tokenizer.TokenizePolicy.TheVariants as policies
 use Rattle.urlpattern_syntax.specs.declared.tokenizer.TokenType.{TokenType}

@@ -1,10 +1,20 @@
 -- Strict tokens that are read one by one, and where the reading is. No public contract cites these words.
 use Rattle.std.specs.Prelude.{◌≡◌, ℕ, ◌⊎◌, ◌&&◌, not, Bool, IsTrue, List, [], ◌∷◌, ◌++◌}
 use Rattle.std.specs.List.{list_all}
+use Rattle.std.specs.Str.{chars}
+use Rattle.urlpattern_syntax.specs.declared.tokenizer.cursors.Cursor.{Cursor}
 use Rattle.urlpattern_syntax.specs.declared.tokenizer.TokenType.{TokenType}
 use Rattle.urlpattern_syntax.specs.declared.tokenizer.TokenType.TheVariants.{End}
 use Rattle.urlpattern_syntax.specs.Text.{BeginsWith, is_among}
 use Rattle.urlpattern_syntax.specs.Tokens.{IsCut, IsStrictCut, IsTokenOf, Skips, TokenView, end_of, is_ignored, marks}
+
+-- the text that is read
+abbrev pub cursor_text : Cursor → List ℕ
+cursor_text cursor = chars cursor.input.now
+
+-- what stands in it after the place
+abbrev pub cursor_rest : Cursor → List ℕ
+cursor_rest cursor = chars cursor.rest.now
 
 -- the whole text is cut into strict tokens up to this rest of it, and nothing is skipped where that begins
 pub record IsPlace (whole rest : List ℕ) : Type 0 where

@@ -5,6 +5,7 @@ pub mod Errors
 pub mod GivenNames
 pub mod Options
 pub mod Parsing
+pub mod PartLists
 pub mod Parts
 pub mod PatternText
 pub mod Pieces

@@ -16,19 +16,19 @@ use Rattle.urlpattern_syntax.specs.declared.parser.pieces.Reader.{Reader}
 use Rattle.urlpattern_syntax.specs.declared.tokenizer.TokenType.{TokenType}
 use Rattle.urlpattern_syntax.specs.declared.tokenizer.TokenType.TheVariants.{Close, Name, OtherModifier, End}
 use Rattle.urlpattern_syntax.specs.declared.error.Error.{Error}
-use Rattle.urlpattern_syntax.specs.declared.parser.PartList.{PartList}
+use Rattle.urlpattern_syntax.specs.declared.parser.part_list.PartList.{PartList}
 use Rattle.urlpattern_syntax.specs.declared.parser.PartModifier.TheVariants as modifiers
-use Rattle.urlpattern_syntax.specs.Cursors.{AreTokensAfter, IsPlace, tokens_left}
+use Rattle.urlpattern_syntax.specs.Cursors.{AreTokensAfter, IsPlace, cursor_rest, cursor_text, tokens_left}
 use Rattle.urlpattern_syntax.specs.Errors.{ErrorView, error_view}
 pub use Rattle.urlpattern_syntax.specs.Errors.{MemoryOr}
 use Rattle.urlpattern_syntax.specs.Errors.{ErrorView as error_views}
 use Rattle.urlpattern_syntax.specs.declared.parser.given_names.GivenNames.{GivenNames}
 use Rattle.urlpattern_syntax.specs.GivenNames.{has_name}
 use Rattle.urlpattern_syntax.specs.Options.{OptionsView}
-use Rattle.urlpattern_syntax.specs.Parts.{PartView, part_view}
+use Rattle.urlpattern_syntax.specs.Parts.{PartView, parts_view}
 use Rattle.urlpattern_syntax.specs.RegexpText.{group_names}
 use Rattle.urlpattern_syntax.specs.Text.{BeginsWith, is_name_start, text_of}
-use Rattle.urlpattern_syntax.specs.Pieces.{ArePieces, Piece, Placeholder, Matched, Ending, IsPiece, IsEnding, IsPlaceholderOf, IsModifier, TakesModifier, TakesRegexp, AreTexts, BeginsWithKind, is_text}
+use Rattle.urlpattern_syntax.specs.Pieces.{ArePieces, Piece, Placeholder, Matched, Ending, IsPiece, IsEnding, IsPlaceholderOf, IsPrefixOf, IsModifier, TakesModifier, TakesRegexp, AreTexts, BeginsWithKind, is_text}
 use Rattle.urlpattern_syntax.specs.Pieces.{Matched as matched, Ending as endings, Piece as pieces}
 use Rattle.urlpattern_syntax.specs.Reading.{demands, items_of, AreMet, AreParts, Demand, Encode, Encoding, FirstFails, Item, Fixed, Capture, NewName, encode_fixed, name_or}
 use Rattle.urlpattern_syntax.specs.Tokens.{AreTokens, TellsFault, TokenView, token_view}
@@ -83,7 +83,7 @@ pub record BeginsWithModifier (tokens : List TokenView) (modifier : PartModifier
 
 -- the text that is read
 abbrev pub reader_text : Reader → List ℕ
-reader_text reader = chars reader.cursor.input.now
+reader_text reader = cursor_text reader.cursor
 
 -- more than the tokens that are left, End apart
 abbrev pub reader_left : Reader → ℕ
@@ -95,11 +95,11 @@ pub record Gives (reader : Reader) (tokens : List TokenView) : Type 0 where
   pub first : tokens ≡ token_view reader.token ∷ more
   pub closed : IsTokenList tokens
   pub others : ((reader.token.kind ≡ End) × (more ≡ []))
-      ⊎ ((reader.token.kind ≢ End) × AreTokensAfter (reader_text reader) (chars reader.cursor.rest.now) more)
+      ⊎ ((reader.token.kind ≢ End) × AreTokensAfter (reader_text reader) (cursor_rest reader.cursor) more)
 
 -- the reader is at a place of its text, and the token before that is spelled as its kind is
 pub record Stands (reader : Reader) : Type 0 where
-  pub place : IsPlace (reader_text reader) (chars reader.cursor.rest.now)
+  pub place : IsPlace (reader_text reader) (cursor_rest reader.cursor)
   pub mark : IsModifierSpelled (token_view reader.token)
   pub name : IsNameSpelled (token_view reader.token)
 
@@ -200,6 +200,23 @@ IsNext point tokens (nexts.Characters first more) rest = BeginsWithRow tokens (c
 IsNext point tokens nexts.Stops rest = EndsAt tokens endings.Stops rest
 IsNext point tokens nexts.LacksClose rest = EndsAt tokens endings.LacksClose rest
 
+-- the same of these tokens behind any that are the prefix
+abbrev pub IsNextBehind : (prefix : List ℕ) → (tokens : List TokenView) → Next → (rest : List TokenView) → Type 0
+IsNextBehind prefix tokens next rest =
+    (point : List ℕ) (before : List TokenView) → IsPrefixOf point before prefix → IsNext point (before ++ tokens) next rest
+
+-- a placeholder is taken
+abbrev pub TakesPlaceholder : (old new : Reader) → PlaceholderValue → Type 0
+TakesPlaceholder old new value = Takes old new (λ tokens rest. BeginsWithPlaceholder tokens (placeholder_view value) rest)
+
+-- the first token, a character, is taken and then more of them, whose values these are
+abbrev pub TakesRow : (old new : Reader) → (more : Bor (List ℕ)) → Type 0
+TakesRow old new more = Takes old new (λ tokens rest. IsRow tokens (token_view old.token) (chars more.now) rest)
+
+-- the end of a group and its modifier are taken
+abbrev pub TakesClose : (old new : Reader) → PartModifier → Type 0
+TakesClose old new modifier = Takes old new (λ tokens rest. BeginsWithClose tokens modifier rest)
+
 -- what is taken leaves less
 abbrev pub IsShorter : (new old : ℕ) → Next → Type 0
 IsShorter new old (nexts.Piece piece) = new < old
@@ -215,15 +232,12 @@ pub record PartListView : Type 0 where
   pub number : ℕ
 
 abbrev pub part_list_view : PartList → PartListView
-part_list_view list = record { parts = map part_view list.parts.items; pending = text_of list.pending_fixed_value; number = list.next_numeric_name }
+part_list_view list = record { parts = parts_view list.parts.items; pending = text_of list.pending_fixed_value; number = list.next_numeric_name }
 
 -- these are the names so far: those that the pattern gives are kept, and the others are numbers below this one
 pub record KnowsNames (names : List (List ℕ)) (given : GivenNames) (number : ℕ) : Type 0 where
   pub named : (name : List ℕ) → IsUtf8 name → IsGiven (chars name) → Contains names (chars name) ↔ IsTrue (has_name given name)
   pub numbered : (other : ℕ) → number ≤ other → other < 2 ^ 64 → ¬ Contains names (decimal other)
-
-abbrev pub KnowsItsNames : PartList → Type 0
-KnowsItsNames list = KnowsNames (group_names (part_list_view list).parts) list.given_names list.next_numeric_name
 
 -- the demands of items, where more may follow them
 abbrev pub item_demands : List (List ℕ) → List Item → List Demand

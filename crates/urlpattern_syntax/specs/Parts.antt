@@ -1,5 +1,5 @@
 -- The parts of a pattern: what a clause sees of them.
-use Rattle.std.specs.Prelude.{ℕ, List, []}
+use Rattle.std.specs.Prelude.{ℕ, List, [], map}
 use Rattle.urlpattern_syntax.specs.declared.parser.Part.{Part}
 use Rattle.urlpattern_syntax.specs.declared.parser.PartModifier.{PartModifier}
 use Rattle.urlpattern_syntax.specs.declared.parser.PartType.{PartType}
@@ -24,6 +24,9 @@ part_view part = record {
   prefix = text_of part.prefix;
   suffix = text_of part.suffix;
 }
+
+abbrev pub parts_view : List Part → List PartView
+parts_view parts = map part_view parts
 
 -- a fixed text
 abbrev pub fixed_text : List ℕ → PartModifier → PartView

@@ -1,5 +1,8 @@
 -- What a pattern text means, or why it is refused, after the URLPattern Standard, section "Parsing pattern strings".
+use denote.Param.Members.{Shared}
 use Rattle.std.specs.Prelude.{◌≡◌, ◌≢◌, ℕ, suc, ◌⊎◌, List, [], ◌∷◌, ◌++◌, bytes_eq, decimal, Option, Some, None, Result, Ok, Err, String, Contains, if◌then◌else◌, encode_utf8_all}
+use Rattle.std.specs.Borrow.{Bor}
+use Rattle.std.specs.Fn.{FnReturnsAt}
 use Rattle.std.specs.declared.alloc.Global.{Global}
 use Rattle.urlpattern_syntax.specs.declared.error.Error.{Error}
 use Rattle.urlpattern_syntax.specs.declared.parser.PartModifier.{PartModifier}
@@ -205,3 +208,11 @@ answer_view (Err error) = Err (error_view error)
 abbrev pub encoding_of : (List ℕ → Result (String Global) Error → Type 0) → Encoding
 encoding_of returns text answer =
     (returned : Result (String Global) Error) × returns (encode_utf8_all text) returned × (answer ≡ answer_view returned)
+
+-- what calls of callbacks of the type `F` may return: `F.Fn`, of the bound `F: Fn(&str) -> Result<String, Error>`
+abbrev pub Calls : Type 0 → Type 1
+Calls F = Shared F (Bor (List ℕ) × Unit {0}) (Result (String Global) Error)
+
+-- the encoding of this callback
+abbrev pub encoding_by : {F : Type 0} → Calls F → F → Encoding
+encoding_by calls callback = encoding_of (FnReturnsAt calls callback)

@@ -8,7 +8,7 @@ use Rattle.urlpattern_syntax.specs.declared.error.RegexFault.{RegexFault}
 use Rattle.urlpattern_syntax.specs.declared.error.RegexFault.TheVariants as regex_faults
 use Rattle.urlpattern_syntax.specs.declared.error.TokenizerError.{TokenizerError}
 use Rattle.urlpattern_syntax.specs.declared.error.TokenizerError.TheVariants as faults
-use Rattle.urlpattern_syntax.specs.declared.tokenizer.Lexeme.{Lexeme}
+use Rattle.urlpattern_syntax.specs.declared.tokenizer.lexemes.Lexeme.{Lexeme}
 use Rattle.urlpattern_syntax.specs.declared.tokenizer.Token.{Token}
 use Rattle.urlpattern_syntax.specs.declared.tokenizer.TokenizePolicy.{TokenizePolicy}
 use Rattle.urlpattern_syntax.specs.declared.tokenizer.TokenizePolicy.TheVariants as policies

@@ -1,30 +1,29 @@
 //! The parts of a pattern text.
 //!
 //! <https://urlpattern.spec.whatwg.org/#parts-and-part-lists>
-ghost use Rattle.urlpattern_syntax.specs.declared.error.Error.TheVariants as errors;
-ghost use Rattle.urlpattern_syntax.specs.Text.{text_of};
-ghost use Rattle.urlpattern_syntax.specs.RegexpText.{segment_wildcard, modifier_text};
-ghost use Rattle.urlpattern_syntax.specs.Options.{options_view};
-ghost use Rattle.std.specs.Prelude.{◌<◌, ◌≤◌, Contains, Result, map, ◌≡◌, ◌∷◌, ◌++◌, ◌↔◌, IsTrue, [], Some, IfOk, IfErr, OnOk};
+ghost use Rattle.std.specs.Prelude.{◌≤◌, ◌≡◌, Result, Some, IfOk, IfErr, OnOk};
 ghost use Rattle.std.specs.Str.{chars};
-ghost use Rattle.std.specs.Fn.{FnReturnsAt};
+ghost use Rattle.urlpattern_syntax.specs.declared.error.Error.TheVariants as errors;
 ghost use Rattle.urlpattern_syntax.specs.Errors.{ErrorView, error_view};
-ghost use Rattle.urlpattern_syntax.specs.Parsing.{MemoryOr, AddsItem, AddsParts, FailsItem, FailsItems, FaultOr, IsNamed, IsPieceNamed, KnowsItsNames, KnowsNames, Stands, StartsText, group_item, matched_view, name_view, part_list_view, pending_items, piece_view, reader_left, reader_text};
-ghost use Rattle.urlpattern_syntax.specs.Tokens.{token_view};
-ghost use Rattle.urlpattern_syntax.specs.Parts.{fixed_text, part_view};
-ghost use Rattle.urlpattern_syntax.specs.Reading.{Expect, FirstFails, Fixed, Reads, Refuses, compared, encode_fixed, encoding_of, item, kind_of, name_or, next_number, number_after, value_of};
-ghost use Rattle.urlpattern_syntax.specs.RegexpText.{group_names};
+ghost use Rattle.urlpattern_syntax.specs.Options.{options_view};
+ghost use Rattle.urlpattern_syntax.specs.Parsing.{FaultOr, MemoryOr, Stands, StartsText, reader_left, reader_text};
+ghost use Rattle.urlpattern_syntax.specs.PartLists.{AddsAll, ParserReads, ParserRefuses, end_demands, matched_regexp, parser_encoding, parser_options, pending_item};
+ghost use Rattle.urlpattern_syntax.specs.Parts.{fixed_text, part_view, parts_view};
+ghost use Rattle.urlpattern_syntax.specs.Reading.{FirstFails, Reads, Refuses, encoding_by, kind_of, value_of};
+ghost use Rattle.urlpattern_syntax.specs.RegexpText.{modifier_text};
+ghost use Rattle.urlpattern_syntax.specs.Text.{text_of};
 
 mod given_names;
 mod option_sets;
+mod part_list;
 mod pieces;
 
 use crate::error::{Error, ParserError};
 use crate::escape::SegmentWildcard;
 use crate::tokenizer::{Token, TokenType};
 use crate::writing::is_written;
-use given_names::GivenNames;
-use pieces::{Matched, Next, Piece, Placeholder, Reader};
+use part_list::PartList;
+use pieces::{Matched, Next, Reader};
 use serde::{Deserialize, Serialize};
 use std::alloc::Global;
 use std::fmt;
@@ -156,15 +155,6 @@ struct PatternParser<'o, F> {
     encoding_callback: F,
 }
 
-/// What is read of a pattern text so far.
-#[derive(Drop)]
-struct PartList<'a> {
-    parts: Vec<Part>,
-    pending_fixed_value: String,
-    given_names: GivenNames<'a>,
-    next_numeric_name: usize,
-}
-
 /// The parts of a pattern text.
 ///
 /// Each fixed text, prefix and suffix goes through the callback, which may be asked in any order. The error is the first
@@ -180,9 +170,8 @@ pub fn parse_pattern_string<F: Fn(&str) -> Result<String, Error> + Drop>(
 ) -> Result<Vec<Part>, Error>
     requires { F.IsAlwaysCallable encoding_callback }
     ensures reads { IfOk result (λ parts. Reads (chars input.now) (options_view options.now)
-        (encoding_of (FnReturnsAt F.Fn encoding_callback)) (map part_view parts.items)) }
-    ensures refuses { IfErr result (MemoryOr (Refuses (chars input.now) (options_view options.now)
-        (encoding_of (FnReturnsAt F.Fn encoding_callback)))) }
+        (encoding_by F.Fn encoding_callback) (parts_view parts.items)) }
+    ensures refuses { IfErr result (MemoryOr (Refuses (chars input.now) (options_view options.now) (encoding_by F.Fn encoding_callback))) }
 {
     let mut reader = Reader::new(alloc, input)?;
     let parser = PatternParser {
@@ -199,10 +188,8 @@ impl<F: Fn(&str) -> Result<String, Error>> PatternParser<'_, F> {
         requires callable { F.IsAlwaysCallable self.now.encoding_callback }
         requires starts { StartsText (reader_text reader.old) reader.old }
         requires room { reader_left reader.old ≤ usize.MAX }
-        ensures reads { IfOk result (λ parts. Reads (reader_text reader.old) (options_view self.now.options.now)
-            (encoding_of (FnReturnsAt F.Fn self.now.encoding_callback)) (map part_view parts.items)) }
-        ensures refuses { IfErr result (MemoryOr (Refuses (reader_text reader.old) (options_view self.now.options.now)
-            (encoding_of (FnReturnsAt F.Fn self.now.encoding_callback)))) }
+        ensures reads { IfOk result (λ parts. ParserReads F.Fn self.now (reader_text reader.old) parts.items) }
+        ensures refuses { IfErr result (MemoryOr (ParserRefuses F.Fn self.now (reader_text reader.old))) }
     {
         let mut list = PartList::new(self.alloc);
         let mut next = Next::Stops;
@@ -234,10 +221,8 @@ impl<F: Fn(&str) -> Result<String, Error>> PatternParser<'_, F> {
         requires callable { F.IsAlwaysCallable self.now.encoding_callback }
         requires stands { Stands reader.now }
         ensures end { OnOk result (reader.now.token.kind ≡ TokenType.End) }
-        ensures ok { OnOk result (AddsParts (options_view self.now.options.now) (encoding_of (FnReturnsAt F.Fn self.now.encoding_callback)) (part_list_view list.old)
-            (pending_items (part_list_view list.old).pending) (part_list_view list.new)) }
-        ensures err { IfErr result (FaultOr reader.now (FirstFails (encoding_of (FnReturnsAt F.Fn self.now.encoding_callback))
-            (encode_fixed (part_list_view list.old).pending ++ Expect TokenType.End (token_view reader.now.token) ∷ []))) }
+        ensures ok { OnOk result (AddsAll F.Fn self.now list.old (pending_item list.old) list.new) }
+        ensures err { IfErr result (FaultOr reader.now (FirstFails (parser_encoding F.Fn self.now) (end_demands list.old reader.now.token))) }
     {
         if let Err(error) = list.add_pending(self) {
             return Err(first_fault(reader, error));
@@ -252,8 +237,8 @@ impl<F: Fn(&str) -> Result<String, Error>> PatternParser<'_, F> {
     /// What the callback answers for a text.
     fn ask(&self, text: &str) -> Result<String, Error>
         requires { F.IsAlwaysCallable self.now.encoding_callback }
-        ensures ok { IfOk result (λ answer. encoding_of (FnReturnsAt F.Fn self.now.encoding_callback) (chars text.now) (Result.Ok (text_of answer))) }
-        ensures err { IfErr result (λ error. encoding_of (FnReturnsAt F.Fn self.now.encoding_callback) (chars text.now) (Result.Err (error_view error))) }
+        ensures ok { IfOk result (λ answer. parser_encoding F.Fn self.now (chars text.now) (Result.Ok (text_of answer))) }
+        ensures err { IfErr result (λ error. parser_encoding F.Fn self.now (chars text.now) (Result.Err (error_view error))) }
     {
         (self.encoding_callback)(text)
     }
@@ -261,8 +246,8 @@ impl<F: Fn(&str) -> Result<String, Error>> PatternParser<'_, F> {
     /// The kind of a placeholder's part, and its value: the body of a custom regular expression that is no wildcard.
     #[inline(always)]
     fn kind_and_value(&self, matched: Matched<'_>) -> Result<(PartType, String), Error>
-        ensures kind { IfOk result (λ found. found.0 ≡ kind_of (options_view self.now.options.now) (compared (options_view self.now.options.now) (matched_view matched.entry))) }
-        ensures value { IfOk result (λ found. text_of found.1 ≡ value_of found.0 (compared (options_view self.now.options.now) (matched_view matched.entry))) }
+        ensures kind { IfOk result (λ found. found.0 ≡ kind_of (parser_options self.now) (matched_regexp self.now matched.entry)) }
+        ensures value { IfOk result (λ found. text_of found.1 ≡ value_of found.0 (matched_regexp self.now matched.entry)) }
         ensures memory { IfErr result (λ error. error ≡ errors.OutOfMemory) }
     {
         match matched {
@@ -274,7 +259,7 @@ impl<F: Fn(&str) -> Result<String, Error>> PatternParser<'_, F> {
 
     /// The kind and the value of a part that stands for what this regular expression matches.
     fn kind_by_regexp(&self, regexp: &str) -> Result<(PartType, String), Error>
-        ensures kind { IfOk result (λ found. found.0 ≡ kind_of (options_view self.now.options.now) (chars regexp.now)) }
+        ensures kind { IfOk result (λ found. found.0 ≡ kind_of (parser_options self.now) (chars regexp.now)) }
         ensures value { IfOk result (λ found. text_of found.1 ≡ value_of found.0 (chars regexp.now)) }
         ensures memory { IfErr result (λ error. error ≡ errors.OutOfMemory) }
     {
@@ -285,186 +270,6 @@ impl<F: Fn(&str) -> Result<String, Error>> PatternParser<'_, F> {
             return Ok((PartType::FullWildcard, String::new(self.alloc)));
         }
         Ok((PartType::Regexp, String::from_str(self.alloc, regexp)?))
-    }
-}
-
-impl<'a> PartList<'a> {
-    /// No part, and nothing pending.
-    fn new(alloc: Global) -> Self
-        ensures empty { part_list_view result ≡ record { parts = []; pending = []; number = 0 } }
-        ensures knows { KnowsItsNames result }
-    {
-        PartList {
-            parts: Vec::new(alloc),
-            pending_fixed_value: String::new(alloc),
-            given_names: GivenNames::new(alloc),
-            next_numeric_name: 0,
-        }
-    }
-
-    /// Adds a piece.
-    ///
-    /// <https://urlpattern.spec.whatwg.org/#add-a-part>
-    fn add<F: Fn(&str) -> Result<String, Error>>(
-        &mut self,
-        parser: &PatternParser<'_, F>,
-        piece: &Piece<'a>,
-    ) -> Result<(), Error>
-        requires callable { F.IsAlwaysCallable parser.now.encoding_callback }
-        requires room { self.old.next_numeric_name < usize.MAX }
-        requires named { IsPieceNamed (piece_view piece.now) }
-        requires knows { KnowsItsNames self.old }
-        ensures knows { OnOk result (KnowsItsNames self.new) }
-        ensures ok { OnOk result (AddsItem (options_view parser.now.options.now) (encoding_of (FnReturnsAt F.Fn parser.now.encoding_callback))
-            (part_list_view self.old) (item self.old.next_numeric_name (piece_view piece.now)) (part_list_view self.new)) }
-        ensures number { OnOk result (self.new.next_numeric_name ≡ number_after self.old.next_numeric_name (piece_view piece.now)) }
-        ensures err { IfErr result (FailsItem (encoding_of (FnReturnsAt F.Fn parser.now.encoding_callback))
-            (part_list_view self.old) (item self.old.next_numeric_name (piece_view piece.now))) }
-    {
-        match piece {
-            Piece::Text(text) => self.add_plain(text),
-            Piece::TextGroup(text, PartModifier::None) => self.add_plain(text),
-            Piece::TextGroup(text, modifier) => self.add_fixed(parser, text, modifier.copied()),
-            Piece::Bare(prefix, placeholder, modifier) => {
-                self.add_group(parser, prefix, placeholder, "", modifier.copied())
-            }
-            Piece::Group(before, placeholder, after, modifier) => {
-                self.add_group(parser, before, placeholder, after, modifier.copied())
-            }
-        }
-    }
-
-    /// Puts a text after the pending text.
-    fn add_plain(&mut self, text: &str) -> Result<(), Error>
-        ensures parts { self.new.parts ≡ self.old.parts }
-        ensures pending { OnOk result (text_of self.new.pending_fixed_value ≡ text_of self.old.pending_fixed_value ++ chars text.now) }
-        ensures names { self.new.given_names ≡ self.old.given_names }
-        ensures number { self.new.next_numeric_name ≡ self.old.next_numeric_name }
-        ensures memory { IfErr result (λ error. error ≡ errors.OutOfMemory) }
-    {
-        self.pending_fixed_value.push_str(text)?;
-        Ok(())
-    }
-
-    /// Adds a text with a modifier, and the pending text before it.
-    fn add_fixed<F: Fn(&str) -> Result<String, Error>>(
-        &mut self,
-        parser: &PatternParser<'_, F>,
-        text: &str,
-        modifier: PartModifier,
-    ) -> Result<(), Error>
-        requires { F.IsAlwaysCallable parser.now.encoding_callback }
-        ensures ok { OnOk result (AddsParts (options_view parser.now.options.now) (encoding_of (FnReturnsAt F.Fn parser.now.encoding_callback)) (part_list_view self.old)
-            (pending_items (part_list_view self.old).pending ++ Fixed (chars text.now) modifier ∷ []) (part_list_view self.new)) }
-        ensures names { OnOk result (self.new.given_names ≡ self.old.given_names) }
-        ensures number { OnOk result (self.new.next_numeric_name ≡ self.old.next_numeric_name) }
-        ensures err { IfErr result (FailsItems (encoding_of (FnReturnsAt F.Fn parser.now.encoding_callback)) (part_list_view self.old).parts
-            (pending_items (part_list_view self.old).pending ++ Fixed (chars text.now) modifier ∷ [])) }
-    {
-        self.add_pending(parser)?;
-        if !text.is_empty() {
-            let value = parser.ask(text)?;
-            self.parts.push(Part::fixed(parser.alloc, value, modifier))?;
-        }
-        Ok(())
-    }
-
-    /// Adds a placeholder with the texts around it, and the pending text before them.
-    fn add_group<F: Fn(&str) -> Result<String, Error>>(
-        &mut self,
-        parser: &PatternParser<'_, F>,
-        before: &str,
-        placeholder: &Placeholder<'a>,
-        after: &str,
-        modifier: PartModifier,
-    ) -> Result<(), Error>
-        requires callable { F.IsAlwaysCallable parser.now.encoding_callback }
-        requires room { self.old.next_numeric_name < usize.MAX }
-        requires named { IsNamed (name_view placeholder.now.name) }
-        requires knows { KnowsItsNames self.old }
-        ensures knows { OnOk result (KnowsItsNames self.new) }
-        ensures ok { OnOk result (AddsParts (options_view parser.now.options.now) (encoding_of (FnReturnsAt F.Fn parser.now.encoding_callback)) (part_list_view self.old)
-            (pending_items (part_list_view self.old).pending ++ group_item (chars before.now) placeholder.now (chars after.now) modifier self.old.next_numeric_name ∷ [])
-            (part_list_view self.new)) }
-        ensures number { OnOk result (self.new.next_numeric_name ≡ next_number (name_view placeholder.now.name) self.old.next_numeric_name) }
-        ensures err { IfErr result (FailsItems (encoding_of (FnReturnsAt F.Fn parser.now.encoding_callback)) (part_list_view self.old).parts
-            (pending_items (part_list_view self.old).pending ++ group_item (chars before.now) placeholder.now (chars after.now) modifier self.old.next_numeric_name ∷ [])) }
-    {
-        self.add_pending(parser)?;
-        let name = self.new_name(parser.alloc, placeholder.name)?;
-        let prefix = parser.ask(before)?;
-        let suffix = parser.ask(after)?;
-        let (kind, value) = parser.kind_and_value(placeholder.matched)?;
-        self.parts.push(Part {
-            kind,
-            value,
-            modifier,
-            name,
-            prefix,
-            suffix,
-        })?;
-        Ok(())
-    }
-
-    /// The name, or else the number of a placeholder among those without a name, which is no name so far.
-    ///
-    /// The error is that the name stands before, or that memory ran out.
-    ///
-    /// <https://urlpattern.spec.whatwg.org/#is-a-duplicate-name>
-    fn new_name(&mut self, alloc: Global, name: Option<&'a str>) -> Result<String, Error>
-        requires knows { KnowsItsNames self.old }
-        requires named { IsNamed (name_view name) }
-        requires room { self.old.next_numeric_name < usize.MAX }
-        ensures name { IfOk result (λ text. text_of text ≡ name_or (name_view name.entry) self.old.next_numeric_name) }
-        ensures new { OnOk result (¬ Contains (group_names (part_list_view self.old).parts) (name_or (name_view name.entry) self.old.next_numeric_name)) }
-        ensures knows { OnOk result (KnowsNames (group_names (part_list_view self.old).parts ++ name_or (name_view name.entry) self.old.next_numeric_name ∷ [])
-            self.new.given_names self.new.next_numeric_name) }
-        ensures number { OnOk result (self.new.next_numeric_name ≡ next_number (name_view name.entry) self.old.next_numeric_name) }
-        ensures same { OnOk result ((self.new.parts ≡ self.old.parts) × (self.new.pending_fixed_value ≡ self.old.pending_fixed_value)) }
-        ensures err { IfErr result (MemoryOr (λ error. Contains (group_names (part_list_view self.old).parts) (name_or (name_view name.entry) self.old.next_numeric_name)
-            × (error ≡ ErrorView.DuplicateName (name_or (name_view name.entry) self.old.next_numeric_name)))) }
-    {
-        match name {
-            None => {
-                let number = self.next_numeric_name.to_string(alloc)?;
-                self.next_numeric_name += 1;
-                Ok(number)
-            }
-            Some(name) => {
-                let text = String::from_str(alloc, name)?;
-                if self.given_names.contain(name) {
-                    return Err(Error::Parser(ParserError::DuplicateName(text)));
-                }
-                self.given_names.add(name)?;
-                Ok(text)
-            }
-        }
-    }
-
-    /// Adds the pending text as a fixed text, if there is one.
-    ///
-    /// <https://urlpattern.spec.whatwg.org/#maybe-add-a-part-from-the-pending-fixed-value>
-    #[inline(always)]
-    fn add_pending<F: Fn(&str) -> Result<String, Error>>(
-        &mut self,
-        parser: &PatternParser<'_, F>,
-    ) -> Result<(), Error>
-        requires { F.IsAlwaysCallable parser.now.encoding_callback }
-        ensures ok { OnOk result (AddsParts (options_view parser.now.options.now) (encoding_of (FnReturnsAt F.Fn parser.now.encoding_callback)) (part_list_view self.old)
-            (pending_items (part_list_view self.old).pending) (part_list_view self.new)) }
-        ensures names { OnOk result (self.new.given_names ≡ self.old.given_names) }
-        ensures number { OnOk result (self.new.next_numeric_name ≡ self.old.next_numeric_name) }
-        ensures err { IfErr result (FailsItems (encoding_of (FnReturnsAt F.Fn parser.now.encoding_callback)) (part_list_view self.old).parts
-            (pending_items (part_list_view self.old).pending)) }
-    {
-        if self.pending_fixed_value.is_empty() {
-            return Ok(());
-        }
-        let value = parser.ask(&self.pending_fixed_value)?;
-        self.pending_fixed_value.clear();
-        self.parts
-            .push(Part::fixed(parser.alloc, value, PartModifier::None))?;
-        Ok(())
     }
 }
 

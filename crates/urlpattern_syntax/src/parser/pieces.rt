@@ -4,8 +4,8 @@
 ghost use Rattle.std.specs.Prelude.{◌≡◌, ◌≢◌, ◌∷◌, ◌++◌, ◌<◌, ◌≤◌, ℕ, List, IsTrue, IfErr, IfNone, IfOk, IfSome, OnOk, length};
 ghost use Rattle.std.specs.Str.{chars};
 ghost use Rattle.urlpattern_syntax.specs.declared.tokenizer.TokenType.TheVariants as kinds;
-ghost use Rattle.urlpattern_syntax.specs.Parsing.{BeginsWithClose, BeginsWithModifier, BeginsWithPiece, BeginsWithPlaceholder, BeginsWithTexts, Gives, IsNamed, IsNext, IsNextNamed, IsRow, IsShorter, Stands, StartsText, Takes, name_view, piece_view, placeholder_view, reader_left, reader_text};
-ghost use Rattle.urlpattern_syntax.specs.Pieces.{IsPrefixOf, is_placeholder, is_text};
+ghost use Rattle.urlpattern_syntax.specs.Parsing.{BeginsWithModifier, BeginsWithTexts, Gives, IsNamed, IsNext, IsNextBehind, IsNextNamed, IsShorter, Stands, StartsText, Takes, TakesClose, TakesPlaceholder, TakesRow, name_view, reader_left, reader_text};
+ghost use Rattle.urlpattern_syntax.specs.Pieces.{is_placeholder, is_text};
 ghost use Rattle.urlpattern_syntax.specs.Text.{text_of};
 ghost use Rattle.urlpattern_syntax.specs.Tokens.{TellsFault, TokenView, token_view};
 
@@ -176,7 +176,7 @@ impl<'a> Reader<'a> {
         requires stands { Stands self.old }
         requires character { self.old.token.kind ≡ kinds.Char }
         ensures first { IfOk result (λ taken. taken.0 ≡ self.old.token.value) }
-        ensures more { IfOk result (λ taken. Takes self.old self.new (λ tokens rest. IsRow tokens (token_view self.old.token) (chars taken.1.now) rest)) }
+        ensures more { IfOk result (λ taken. TakesRow self.old self.new taken.1) }
         ensures less { OnOk result (reader_left self.new < reader_left self.old) }
         ensures fault { IfErr result (TellsFault (reader_text self.old)) }
     {
@@ -191,8 +191,7 @@ impl<'a> Reader<'a> {
     fn bare(&mut self, prefix: &'a str, next: &mut Next<'a>) -> Result<(), Error>
         requires stands { Stands self.old }
         requires placeholder { IsTrue (is_placeholder self.old.token.kind) }
-        ensures next { OnOk result (Takes self.old self.new (λ tokens rest. (point : List ℕ) (before : List TokenView)
-            → IsPrefixOf point before (chars prefix.now) → IsNext point (before ++ tokens) next.new rest)) }
+        ensures next { OnOk result (Takes self.old self.new (λ tokens rest. IsNextBehind (chars prefix.now) tokens next.new rest)) }
         ensures named { OnOk result (IsNextNamed next.new) }
         ensures less { OnOk result (reader_left self.new < reader_left self.old) }
         ensures fault { IfErr result (TellsFault (reader_text self.old)) }
@@ -248,7 +247,7 @@ impl<'a> Reader<'a> {
     fn placeholder(&mut self) -> Result<Placeholder<'a>, Error>
         requires stands { Stands self.old }
         requires placeholder { IsTrue (is_placeholder self.old.token.kind) }
-        ensures placeholder { IfOk result (λ placeholder. Takes self.old self.new (λ tokens rest. BeginsWithPlaceholder tokens (placeholder_view placeholder) rest)) }
+        ensures placeholder { IfOk result (TakesPlaceholder self.old self.new) }
         ensures named { IfOk result (λ placeholder. IsNamed (name_view placeholder.name)) }
         ensures less { OnOk result (reader_left self.new < reader_left self.old) }
         ensures fault { IfErr result (TellsFault (reader_text self.old)) }
@@ -282,7 +281,7 @@ impl<'a> Reader<'a> {
     /// Takes the end of a group and its modifier, if the tokens begin with that end.
     fn close(&mut self) -> Result<Option<PartModifier>, Error>
         requires { Stands self.old }
-        ensures closes { IfOk result (λ found. IfSome found (λ modifier. Takes self.old self.new (λ tokens rest. BeginsWithClose tokens modifier rest))) }
+        ensures closes { IfOk result (λ found. IfSome found (TakesClose self.old self.new)) }
         ensures lacks { IfOk result (λ found. IfNone found (Takes self.old self.new (λ tokens rest. tokens ≡ rest))) }
         ensures other { IfOk result (λ found. IfNone found (self.new.token.kind ≢ kinds.Close)) }
         ensures fault { IfErr result (TellsFault (reader_text self.old)) }

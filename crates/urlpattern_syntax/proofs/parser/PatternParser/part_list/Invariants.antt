@@ -1,8 +1,6 @@
 use Rattle.std.proofs.Common.{◌≡◌, ◌+◌, ◌≤◌}
-use Rattle.std.specs.Fn.{FnReturnsAt}
-use Rattle.urlpattern_syntax.specs.Options.{options_view}
-use Rattle.urlpattern_syntax.specs.Parsing.{KnowsItsNames, Stands, part_list_view, reader_left, reader_text}
-use Rattle.urlpattern_syntax.specs.Reading.{encoding_of}
+use Rattle.urlpattern_syntax.specs.Parsing.{Stands, part_list_view, reader_left, reader_text}
+use Rattle.urlpattern_syntax.specs.PartLists.{KnowsItsNames, parser_encoding, parser_options}
 use Rattle.urlpattern_syntax.proofs.TextReadingLemmas.{HasReadUpTo}
 use Rattle.urlpattern_syntax.proofs.parser.PatternParser.part_list.Given as goal
 
@@ -13,7 +11,7 @@ invariant-loop-next g l = record {
   stands : Stands l.reader;
   knows : KnowsItsNames l.list;
   few : l.list.next_numeric_name + reader_left l.reader ≤ reader_left l.fn.reader;
-  read : HasReadUpTo (options_view l.self.options.now) (encoding_of (FnReturnsAt g.F.Fn l.self.encoding_callback)) (reader_text l.fn.reader) l.reader (part_list_view l.list);
+  read : HasReadUpTo (parser_options l.self) (parser_encoding g.F.Fn l.self) (reader_text l.fn.reader) l.reader (part_list_view l.list);
 }
 
 abbrev pub decreases-loop-next : goal.decreases-loop-next

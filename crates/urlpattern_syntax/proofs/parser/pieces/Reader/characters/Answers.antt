@@ -20,14 +20,8 @@ returns-clause-more c =
 
 pub returns-clause-less : goal.returns-clause-less
 returns-clause-less c =
-    let middle = c.characters-more.new.self.rest.now in
-    let rest = chars c.next.new.self.rest.now in
-    let whole = c.characters-more.ensures.whole in
-    row_less c.args.self.now (record { alloc = c.args.self.now.alloc; cursor = c.next.new.self; token = c.in_ok-next.next }) middle (chars c.characters-more.result.now)
-    (c.in_ok-next.ensures.whole ∙ whole) c.characters-more.ensures.before
-    (subst (λ text. IsPlace (chars text) rest) whole c.in_ok-next.ensures.place)
-    (subst (λ text. IsTokenAfter (chars text) (chars middle) (token_view c.in_ok-next.next) rest) whole c.in_ok-next.ensures.token)
-    c.characters-more.ensures.len c.in_ok-next.ensures.len c.requires.stands
+    row_less c.args.self.now (record { alloc = c.args.self.now.alloc; cursor = c.next.new.self; token = c.in_ok-next.next }) c.characters-more.new.self.rest.now
+    c.characters-more.ensures.len c.in_ok-next.ensures.len
     (let k = c.requires.character in λ e. cc (k, e))
 
 pub returns-in_err-next-clause-fault : goal.returns-in_err-next-clause-fault

@@ -1,0 +1,18 @@
+use Rattle.std.proofs.Common.{◌≤◌, length}
+use denote.Text.{Utf8}
+use denote.Shadow.{shadow}
+use Rattle.std.specs.Str.{chars}
+use Rattle.urlpattern_syntax.specs.Tokens.{is_ignored}
+use Rattle.urlpattern_syntax.specs.Tokens.{SkipsBy}
+use Rattle.urlpattern_syntax.proofs.tokenizer.lexemes.skip_ignored.Given as goal
+
+-- what is behind `rest` was skipped
+abbrev pub invariant-loop-first : goal.invariant-loop-first
+invariant-loop-first l = record {
+  is_text : shadow (Utf8 l.rest);
+  skips : SkipsBy is_ignored (chars l.text) (chars l.rest);
+  len : length l.rest ≤ length l.text;
+}
+
+abbrev pub decreases-loop-first : goal.decreases-loop-first
+decreases-loop-first l = length l.rest
