@@ -5,7 +5,7 @@ use Rattle.std.specs.Str.{chars}
 use Rattle.urlpattern_canonical.proofs.CanonicalLemmas.{begins_with-chars}
 use Rattle.urlpattern_canonical.proofs.MarkLemmas.{without_first-mark, without_first-other}
 use Rattle.urlpattern_syntax.specs.Text.{begins_with}
-use Rattle.urlpattern_canonical.proofs.canonicalize_and_process.without_first.Goals as goal
+use Rattle.urlpattern_canonical.proofs.canonicalize_and_process.marks.without_first.Goals as goal
 
 pub range_from-requires : goal.range_from-requires
 range_from-requires c few =

@@ -2,7 +2,7 @@ use Rattle.std.proofs.Common.{arith}
 use Rattle.std.proofs.lemmas.Grind.{common_steps}
 use Rattle.url.specs.Ascii.{slash}
 use Rattle.urlpattern_canonical.proofs.CanonicalLemmas.{begins_with-chars}
-use Rattle.urlpattern_canonical.proofs.canonicalize_and_process.begins_with_slash.Goals as goal
+use Rattle.urlpattern_canonical.proofs.canonicalize_and_process.marks.begins_with_slash.Goals as goal
 
 pub returns-in-47-clause-text : goal.returns-in-47-clause-text
 returns-in-47-clause-text c =

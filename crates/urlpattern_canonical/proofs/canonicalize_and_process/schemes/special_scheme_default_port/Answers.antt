@@ -1,7 +1,7 @@
 use Rattle.std.proofs.Common.{sym, ap, ◌∙◌, inl, inr}
 use Rattle.urlpattern_canonical.proofs.SchemeLemmas.{port-chars, port-none}
 use Rattle.urlpattern_canonical.specs.Canonical.{default_port}
-use Rattle.urlpattern_canonical.proofs.canonicalize_and_process.special_scheme_default_port.Goals as goal
+use Rattle.urlpattern_canonical.proofs.canonicalize_and_process.schemes.special_scheme_default_port.Goals as goal
 
 pub returns-in-ftp : goal.returns-in-ftp
 returns-in-ftp c = sym (port-chars c.args.scheme.now c.utf8.scheme ∙ ap default_port c.in-ftp.is)

@@ -2,7 +2,7 @@ use Rattle.std.proofs.Common.{◌≡◌, ◌-◌, ap, ◌∙◌, length, get_or,
 use Rattle.std.proofs.lemmas.Grind.{common_steps}
 use Rattle.std.specs.Str.{chars}
 use Rattle.urlpattern_canonical.proofs.MarkLemmas.{slice_range-front, without_last-mark, without_last-none}
-use Rattle.urlpattern_canonical.proofs.canonicalize_and_process.without_colon.Goals as goal
+use Rattle.urlpattern_canonical.proofs.canonicalize_and_process.marks.without_colon.Goals as goal
 
 pub returns-in-58-clause-value : goal.returns-in-58-clause-value
 returns-in-58-clause-value c =

@@ -4,7 +4,7 @@ use Rattle.urlpattern_canonical.proofs.SchemeLemmas.{hierarchical-special}
 use Rattle.std.specs.Str.{chars}
 use Rattle.urlpattern_canonical.specs.Canonical.{is_hierarchical_under}
 use Rattle.urlpattern_syntax.proofs.TextLemmas.{chars-empty, chars-some}
-use Rattle.urlpattern_canonical.proofs.canonicalize_and_process.makes_hierarchical.Goals as goal
+use Rattle.urlpattern_canonical.proofs.canonicalize_and_process.processing.makes_hierarchical.Goals as goal
 
 pub returns-then-is_empty : goal.returns-then-is_empty
 returns-then-is_empty c =

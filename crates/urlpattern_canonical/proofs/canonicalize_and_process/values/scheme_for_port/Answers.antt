@@ -2,7 +2,7 @@ use Rattle.std.proofs.Common.{sym, ap, ◌∙◌}
 use Rattle.urlpattern_canonical.proofs.CanonicalLemmas.{chars_dummy, is_empty-false, is_empty-true, scheme_for_port-some}
 use Rattle.urlpattern_canonical.specs.Canonical.{scheme_for_port}
 use Rattle.urlpattern_syntax.proofs.TextLemmas.{chars-empty, chars-some}
-use Rattle.urlpattern_canonical.proofs.canonicalize_and_process.scheme_for_port.Goals as goal
+use Rattle.urlpattern_canonical.proofs.canonicalize_and_process.values.scheme_for_port.Goals as goal
 
 pub returns-then-is_empty : goal.returns-then-is_empty
 returns-then-is_empty c =

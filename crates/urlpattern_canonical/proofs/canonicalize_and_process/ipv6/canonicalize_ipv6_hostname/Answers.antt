@@ -3,7 +3,7 @@ use Rattle.std.specs.Char.{to_ascii_lowercase}
 use Rattle.std.specs.Str.{chars}
 use Rattle.url.specs.declared.error.ParseError.TheVariants.{InvalidIpv6Address}
 use Rattle.urlpattern_canonical.proofs.MarkLemmas.{ipv6-chars, ipv6-lower}
-use Rattle.urlpattern_canonical.proofs.canonicalize_and_process.canonicalize_ipv6_hostname.Goals as goal
+use Rattle.urlpattern_canonical.proofs.canonicalize_and_process.ipv6.canonicalize_ipv6_hostname.Goals as goal
 
 pub returns-then-not-is_ipv6_text : goal.returns-then-not-is_ipv6_text
 returns-then-not-is_ipv6_text c =

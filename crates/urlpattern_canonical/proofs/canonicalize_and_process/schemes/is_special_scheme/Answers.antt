@@ -1,7 +1,7 @@
 use Rattle.std.proofs.Common.{sym, ap, ◌∙◌}
 use Rattle.urlpattern_canonical.proofs.SchemeLemmas.{special-chars, special-none}
 use Rattle.urlpattern_canonical.specs.Canonical.{is_special}
-use Rattle.urlpattern_canonical.proofs.canonicalize_and_process.is_special_scheme.Goals as goal
+use Rattle.urlpattern_canonical.proofs.canonicalize_and_process.schemes.is_special_scheme.Goals as goal
 
 pub returns-in_default : goal.returns-in_default
 returns-in_default c =
