@@ -1,5 +1,9 @@
+pub mod PlaceholderForms
+pub mod BraceForms
 pub mod PiecesUnique
+pub mod FrontTokens
 pub mod TokensUnique
+pub mod TokensPlaced
 pub mod TokensExist
 pub mod OutcomesExist
 pub mod OutcomeExamples
