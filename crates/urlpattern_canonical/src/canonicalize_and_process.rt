@@ -1,12 +1,12 @@
 //! Canonical values of the components of a URL, and the values of an init.
 //!
 //! <https://urlpattern.spec.whatwg.org/#canon>
-ghost use Rattle.std.specs.Prelude.{◌≡◌, Ok, [], max, length, option_copied, option_map, unwrap_or, IfOk, IfErr};
+ghost use Rattle.std.specs.Prelude.{◌≡◌, Ok, length, IfOk, IfErr};
 ghost use Rattle.std.specs.Option.{ForSome};
 ghost use Rattle.std.specs.Str.{chars};
 ghost use Rattle.urlpattern_syntax.specs.Text.{text_of};
 ghost use Rattle.urlpattern_syntax.specs.declared.error.Error.TheVariants as errors;
-ghost use Rattle.urlpattern_canonical.specs.Canonical.{IsAnswer, bytes_asked, canonical_hash, canonical_hostname, canonical_opaque_pathname, canonical_password, canonical_pathname, canonical_port, canonical_protocol, canonical_search, canonical_username, dummy_url, processed_base, processed_hash, processed_hostname, processed_password, processed_pathname, processed_port, processed_protocol, processed_search, processed_username};
+ghost use Rattle.urlpattern_canonical.specs.Canonical.{IsAnswer, IsPathnameAnswer, IsPortAnswer, bytes_asked, canonical_hash, canonical_hostname, canonical_opaque_pathname, canonical_password, canonical_pathname, canonical_port, canonical_protocol, canonical_search, canonical_username, dummy_url, option_text, port_bytes, processed_base, processed_hash, processed_hostname, processed_password, processed_protocol, processed_search, processed_username};
 
 mod ipv6;
 mod marks;
@@ -98,8 +98,7 @@ pub fn canonicalize_port(
     value: &str,
     protocol: Option<&str>,
 ) -> Result<String, Error>
-    ensures { IsAnswer (canonical_port (option_map chars (option_copied protocol.entry)) (chars value.now))
-        (max (length value.now) (length (unwrap_or (option_copied protocol.entry) []))) result }
+    ensures { IsAnswer (canonical_port (option_text protocol.entry) (chars value.now)) (port_bytes value.now protocol.entry) result }
 {
     Canonicalizer::new(alloc).port(value, protocol)
 }
@@ -219,8 +218,7 @@ pub fn process_port_init(
     protocol: Option<&str>,
     kind: &ProcessType,
 ) -> Result<String, Error>
-    ensures { IsAnswer (processed_port kind.now (option_map chars (option_copied protocol.entry)) (chars value.now))
-        (bytes_asked kind.now (max (length value.now) (length (unwrap_or (option_copied protocol.entry) [])))) result }
+    ensures { IsPortAnswer kind.now value.now protocol.entry result }
 {
     Canonicalizer::new(alloc).process_port(value, protocol, kind)
 }
@@ -236,7 +234,7 @@ pub fn process_pathname_init(
     protocol: Option<&str>,
     kind: &ProcessType,
 ) -> Result<String, Error>
-    ensures { IsAnswer (processed_pathname kind.now (option_map chars (option_copied protocol.entry)) (chars value.now)) (bytes_asked kind.now (length value.now)) result }
+    ensures { IsPathnameAnswer kind.now value.now protocol.entry result }
 {
     Canonicalizer::new(alloc).process_pathname(value, protocol, kind)
 }

@@ -1,9 +1,9 @@
 //! The values of an init: kept for a pattern, and made canonical for a URL.
-ghost use Rattle.std.specs.Prelude.{◌≡◌, Some, [], max, length, option_copied, option_map, unwrap_or, IfOk, IfErr};
+ghost use Rattle.std.specs.Prelude.{◌≡◌, Some, length, IfOk, IfErr};
 ghost use Rattle.std.specs.Str.{chars};
 ghost use Rattle.urlpattern_syntax.specs.Text.{text_of};
 ghost use Rattle.urlpattern_syntax.specs.declared.error.Error.TheVariants as errors;
-ghost use Rattle.urlpattern_canonical.specs.Canonical.{IsAnswer, bytes_asked, is_hierarchical, is_hierarchical_under, processed_hash, processed_hostname, processed_password, processed_pathname, processed_port, processed_protocol, processed_search, processed_username};
+ghost use Rattle.urlpattern_canonical.specs.Canonical.{IsAnswer, IsPathnameAnswer, IsPortAnswer, bytes_asked, is_hierarchical, is_hierarchical_under, option_text, processed_hash, processed_hostname, processed_password, processed_protocol, processed_search, processed_username};
 
 use super::marks::{begins_with_slash, without_colon, without_first};
 use super::schemes::is_special_scheme;
@@ -69,8 +69,7 @@ impl Canonicalizer {
         protocol: Option<&str>,
         kind: &ProcessType,
     ) -> Result<String, Error>
-        ensures { IsAnswer (processed_port kind.now (option_map chars (option_copied protocol.entry)) (chars value.now))
-            (bytes_asked kind.now (max (length value.now) (length (unwrap_or (option_copied protocol.entry) [])))) result }
+        ensures { IsPortAnswer kind.now value.now protocol.entry result }
     {
         match kind {
             ProcessType::Pattern => self.kept(value),
@@ -87,7 +86,7 @@ impl Canonicalizer {
         protocol: Option<&str>,
         kind: &ProcessType,
     ) -> Result<String, Error>
-        ensures { IsAnswer (processed_pathname kind.now (option_map chars (option_copied protocol.entry)) (chars value.now)) (bytes_asked kind.now (length value.now)) result }
+        ensures { IsPathnameAnswer kind.now value.now protocol.entry result }
     {
         match kind {
             ProcessType::Pattern => self.kept(value),
@@ -123,7 +122,7 @@ impl Canonicalizer {
 
     /// The canonical path, by what the protocol says of it.
     fn pathname_under(&self, value: &str, protocol: Option<&str>) -> Result<String, Error>
-        ensures { IsAnswer (processed_pathname ProcessType.Url (option_map chars (option_copied protocol.entry)) (chars value.now)) (length value.now) result }
+        ensures { IsPathnameAnswer ProcessType.Url value.now protocol.entry result }
     {
         if is_hierarchical(protocol, value) {
             self.pathname(value)
@@ -143,7 +142,7 @@ impl Canonicalizer {
 
 /// Whether the path of a URL is a list of segments: its protocol is empty or special, or it begins with a slash.
 fn is_hierarchical(protocol: Option<&str>, pathname: &str) -> bool
-    ensures { result ≡ is_hierarchical (option_map chars (option_copied protocol.entry)) (chars pathname.now) }
+    ensures { result ≡ is_hierarchical (option_text protocol.entry) (chars pathname.now) }
 {
     match protocol {
         Some(protocol) if makes_hierarchical(protocol) => true,

@@ -1,8 +1,8 @@
 //! What a refusal by `url` is reported as.
-ghost use Rattle.std.specs.Prelude.{◌≡◌, Ok, IsErrAnd, MatchResult};
+ghost use Rattle.std.specs.Prelude.{◌≡◌};
 ghost use Rattle.urlpattern_syntax.specs.Errors.{error_view};
-ghost use Rattle.urlpattern_canonical.specs.Asking.{reported_as};
-ghost use Rattle.urlpattern_canonical.specs.Canonical.{reported};
+ghost use Rattle.urlpattern_canonical.specs.Asking.{IsToldAs};
+ghost use Rattle.urlpattern_canonical.specs.Canonical.{IsTold, reported};
 
 use url::{ParseError, ParseResult};
 use urlpattern_syntax::Error;
@@ -15,7 +15,7 @@ const LONG_TEXT: usize = 1 << 24;
 /// The error is the refusal of `url`. It is want of memory only where `url` says so, or says that a text is too long where
 /// none is.
 pub fn told<T>(answer: ParseResult<T>, bytes: usize) -> Result<T, Error>
-    ensures { MatchResult answer (λ value. result ≡ Ok value) (λ reason. IsErrAnd result (λ error. error_view error ≡ reported reason bytes)) }
+    ensures { IsTold answer bytes result }
 {
     match answer {
         Ok(value) => Ok(value),
@@ -29,7 +29,7 @@ pub(super) fn told_as(
     answer: ParseResult<()>,
     bytes: usize,
 ) -> Result<(), Error>
-    ensures { MatchResult answer (λ value. result ≡ Ok value) (λ other. IsErrAnd result (λ error. error_view error ≡ reported_as reason other bytes)) }
+    ensures { IsToldAs reason answer bytes result }
 {
     match answer {
         Ok(()) => Ok(()),

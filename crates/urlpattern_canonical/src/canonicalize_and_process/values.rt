@@ -1,7 +1,7 @@
 //! Canonical values of the components of a URL: what `url` answers once they are set.
-ghost use Rattle.std.specs.Prelude.{◌≡◌, [], max, length, option_copied, option_map, unwrap_or, IsAscii};
+ghost use Rattle.std.specs.Prelude.{◌≡◌, length, IsAscii};
 ghost use Rattle.std.specs.Str.{chars};
-ghost use Rattle.urlpattern_canonical.specs.Canonical.{IsAnswer, canonical_hash, canonical_hostname, canonical_opaque_pathname, canonical_password, canonical_pathname, canonical_port, canonical_protocol, canonical_search, canonical_username, scheme_for_port, without_guard};
+ghost use Rattle.urlpattern_canonical.specs.Canonical.{IsAnswer, canonical_hash, canonical_hostname, canonical_opaque_pathname, canonical_password, canonical_pathname, canonical_port, canonical_protocol, canonical_search, canonical_username, option_text, port_bytes, scheme_for_port, without_guard};
 
 use super::Canonicalizer;
 use super::marks::begins_with_slash;
@@ -72,8 +72,7 @@ impl Canonicalizer {
     ///
     /// The error is the refusal of `url`, or that memory ran out.
     pub fn port(&self, value: &str, protocol: Option<&str>) -> Result<String, Error>
-        ensures { IsAnswer (canonical_port (option_map chars (option_copied protocol.entry)) (chars value.now))
-            (max (length value.now) (length (unwrap_or (option_copied protocol.entry) []))) result }
+        ensures { IsAnswer (canonical_port (option_text protocol.entry) (chars value.now)) (port_bytes value.now protocol.entry) result }
     {
         if value.is_empty() {
             return Ok(String::new(self.alloc));
