@@ -231,11 +231,13 @@ special_schemes =
     ∷ (codes "file", None)
     ∷ []
 
-abbrev scheme_among : List (List ℕ × Option (List ℕ)) → List ℕ → Bool
+-- the text is one of these schemes
+abbrev pub scheme_among : List (List ℕ × Option (List ℕ)) → List ℕ → Bool
 scheme_among [] text = false
 scheme_among (scheme ∷ schemes) text = bytes_eq text scheme.0 || scheme_among schemes text
 
-abbrev port_among : List (List ℕ × Option (List ℕ)) → List ℕ → Option (List ℕ)
+-- the default port of the text among these schemes
+abbrev pub port_among : List (List ℕ × Option (List ℕ)) → List ℕ → Option (List ℕ)
 port_among [] text = None
 port_among (scheme ∷ schemes) text = if bytes_eq text scheme.0 then scheme.1 else port_among schemes text
 
