@@ -18,6 +18,7 @@ pub mod TokenLaws
 pub mod Encodings
 pub mod ReadingLaws
 pub mod CallbackLaws
+pub mod KindValues
 pub mod NameLaws
 pub mod RoundTripWords
 pub mod PartTrees

@@ -19,6 +19,7 @@ use Rattle.urlpattern_syntax.specs.RegexpText.{full_wildcard, segment_wildcard, 
 use Rattle.urlpattern_syntax.specs.Text.{begins_with, is_among}
 use Rattle.urlpattern_syntax.specs.Tokens.{AreTokens, IsCut, IsName, IsRegexpBody, IsTokenOf, Spells, TokenView, end_of}
 use Rattle.urlpattern_laws.specs.RoundTrip.{AllHaveFields, AreNamed, ArePatternParts, HasFields, IsNamed, number_behind}
+use Rattle.urlpattern_laws.proofs.KindValues.{AllOfKind, AllOfKind-left, AllOfKind-middle, AllOfKind-right, text_of_kind}
 use Rattle.urlpattern_laws.proofs.NameLaws.{GivesName, NamePieces, all_piece_names, names_distinct, text_names}
 use Rattle.urlpattern_syntax.proofs.NameCharacters.{decimal_starts, name_starts, starts_with_digit}
 
@@ -26,25 +27,10 @@ use Rattle.urlpattern_syntax.proofs.NameCharacters.{decimal_starts, name_starts,
 
 -- each Regexp has a body
 abbrev BodyTokens : List TokenView → Type 0
-BodyTokens [] = Unit {0}
-BodyTokens (token ∷ tokens) = (token.kind ≡ Regexp → IsRegexpBody token.value) × BodyTokens tokens
-
-BodyTokens-left : (xs ys : List TokenView) → BodyTokens (xs ++ ys) → BodyTokens xs
-BodyTokens-left [] ys h = tt
-BodyTokens-left (x ∷ xs) ys h = (h.0, BodyTokens-left xs ys h.1)
-
-BodyTokens-right : (xs ys : List TokenView) → BodyTokens (xs ++ ys) → BodyTokens ys
-BodyTokens-right [] ys h = h
-BodyTokens-right (x ∷ xs) ys h = BodyTokens-right xs ys h.1
-
-cut_bodies : (whole text left : List ℕ) (tokens : List TokenView) → IsCut (IsTokenOf whole) text tokens left → BodyTokens (tokens ++ end_of whole ∷ [])
-cut_bodies whole text left [] h = (λ k. absurd (cc k), tt)
-cut_bodies whole text left (token ∷ tokens) h =
-    let lexed = h.3.lexed in
-    (λ k. (subst (λ kind. Spells kind token.value lexed.spelling) k lexed.spells).1, cut_bodies whole h.1 left tokens h.4)
+BodyTokens tokens = AllOfKind Regexp IsRegexpBody tokens
 
 text_bodies : (text : List ℕ) (tokens : List TokenView) → AreTokens text tokens → BodyTokens tokens
-text_bodies text tokens h = subst BodyTokens (sym h.all) (cut_bodies text text [] h.front h.cut)
+text_bodies = text_of_kind Regexp IsRegexpBody (λ e. cc e) (λ value text spells. spells.1)
 
 abbrev GivesBody : Matched → Type 0
 GivesBody (matched.Custom body) = IsRegexpBody body
@@ -97,13 +83,13 @@ piece_match point tokens rest (pieces.Text text) h is = tt
 piece_match point tokens rest (pieces.TextGroup text modifier) h is = tt
 piece_match point tokens rest (pieces.Bare prefix placeholder modifier) h is =
     placeholder_match is.middle placeholder.name placeholder.matched
-    (BodyTokens-right is.front is.middle (BodyTokens-left (is.front ++ is.middle) is.back (subst BodyTokens is.cut h))) is.is_placeholder
+    (AllOfKind-middle Regexp IsRegexpBody is.front is.middle is.back (subst BodyTokens is.cut h)) is.is_placeholder
 piece_match point tokens rest (pieces.Group before placeholder after modifier) h is =
     let braces = is.1 in
     let filled = is.2 in
-    let inner : BodyTokens is.0 = BodyTokens-left is.0 (braces.closing ∷ braces.back) (subst BodyTokens braces.cut h).1 in
+    let inner : BodyTokens is.0 = AllOfKind-left Regexp IsRegexpBody is.0 (braces.closing ∷ braces.back) (subst BodyTokens braces.cut h).1 in
     placeholder_match filled.middle placeholder.name placeholder.matched
-    (BodyTokens-right filled.front filled.middle (BodyTokens-left (filled.front ++ filled.middle) filled.back (subst BodyTokens filled.cut inner))) filled.is_placeholder
+    (AllOfKind-middle Regexp IsRegexpBody filled.front filled.middle filled.back (subst BodyTokens filled.cut inner)) filled.is_placeholder
 
 -- each piece has such a match
 abbrev MatchPieces : List Piece → Type 0
@@ -114,8 +100,8 @@ all_piece_matches : (point : List ℕ) (tokens : List TokenView) (list : List Pi
 all_piece_matches point tokens [] ending h are = tt
 all_piece_matches point tokens (piece ∷ list) ending h are =
     let all = subst BodyTokens are.2 h in (
-      piece_match point are.0 are.1 piece (BodyTokens-left are.0 are.1 all) are.3,
-      all_piece_matches point are.1 list ending (BodyTokens-right are.0 are.1 all) are.4,
+      piece_match point are.0 are.1 piece (AllOfKind-left Regexp IsRegexpBody are.0 are.1 all) are.3,
+      all_piece_matches point are.1 list ending (AllOfKind-right Regexp IsRegexpBody are.0 are.1 all) are.4,
     )
 
 -- ---- items
