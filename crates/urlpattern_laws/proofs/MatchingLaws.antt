@@ -162,29 +162,32 @@ abbrev pub AcceptsBetween : {E : Type 0} → (answer : E → List ℕ → Option
 AcceptsBetween answer front back text captures Mean matcher =
     IsFast matcher.inner → Matches answer matcher text captures ↔ ((inner : List ℕ) × (text ≡ front ++ inner ++ back) × Mean inner captures)
 
+wildcard_between : {E : Type 0} (answer : E → List ℕ → Option Captures) (options : OptionsView) (front back : List ℕ) (kind : PartType) (filter : Option ℕ) (allow_empty : Bool)
+    (value name prefix suffix : List ℕ) (matcher : MatcherView E) (text : List ℕ) (captures : Captures) →
+    IsWildcard kind → options.ignore_case ≡ false → IsTrue (lacks line_feed text) →
+    ((piece : List ℕ) → IsTrue (lacks line_feed piece) → (MayBeEmpty allow_empty piece × PassesFilter options.ignore_case filter piece) ↔ IsWildcardText options kind piece) →
+    matcher ≡ single_capture options front (part_of kind modifiers.None value name prefix suffix) back filter allow_empty →
+    Matches answer matcher text captures ↔ ((inner : List ℕ) × (text ≡ front ++ inner ++ back) × PartMeans options (part_of kind modifiers.None value name prefix suffix) inner captures)
+wildcard_between answer options front back kind filter allow_empty value name prefix suffix matcher text captures is_wildcard case no_feed accepts made =
+    let part = part_of kind modifiers.None value name prefix suffix in
+    let matches = matches_single answer options front back part filter allow_empty text captures case no_feed accepts in (
+      λ h.
+          let found = matches.0 (subst (λ m. Matches answer m text captures) made h) in
+          (found.0, found.1, (one_by options kind value name prefix suffix found.0 captures is_wildcard).1 found.2),
+      λ (inner, e, means).
+          subst (λ m. Matches answer m text captures) (sym made)
+          (matches.1 (inner, e, (one_by options kind value name prefix suffix inner captures is_wildcard).0 means)),
+    )
+
 one_between : {E : Type 0} (answer : E → List ℕ → Option Captures) (IsEngine : List ℕ → Result E ErrorView → Type 0) (options : OptionsView) (front back : List ℕ) (kind : PartType) (modifier : PartModifier) (value name prefix suffix : List ℕ) (matcher : MatcherView E) (text : List ℕ) (captures : Captures) →
     options.ignore_case ≡ false → IsTrue (lacks line_feed text) → IsMadeOfOne IsEngine kind modifier options front (part_of kind modifier value name prefix suffix) back matcher →
     AcceptsBetween answer front back text captures (PartMeans options (part_of kind modifier value name prefix suffix)) matcher
 one_between answer IsEngine options front back FullWildcard modifiers.None value name prefix suffix matcher text captures case no_feed made fast =
-    let part = part_of FullWildcard modifiers.None value name prefix suffix in
-    let matches = matches_single answer options front back part None true text captures case no_feed (accepts_full options) in (
-      λ h.
-          let found = matches.0 (subst (λ m. Matches answer m text captures) made h) in
-          (found.0, found.1, (one_by options FullWildcard value name prefix suffix found.0 captures tt).1 found.2),
-      λ (inner, e, means).
-          subst (λ m. Matches answer m text captures) (sym made)
-          (matches.1 (inner, e, (one_by options FullWildcard value name prefix suffix inner captures tt).0 means)),
-    )
+    wildcard_between answer options front back FullWildcard None true value name prefix suffix matcher text captures tt case no_feed
+    (accepts_full options) made
 one_between answer IsEngine options front back SegmentWildcard modifiers.None value name prefix suffix matcher text captures case no_feed made fast =
-    let part = part_of SegmentWildcard modifiers.None value name prefix suffix in
-    let matches = matches_single answer options front back part options.delimiter false text captures case no_feed (accepts_segment options case) in (
-      λ h.
-          let found = matches.0 (subst (λ m. Matches answer m text captures) made h) in
-          (found.0, found.1, (one_by options SegmentWildcard value name prefix suffix found.0 captures tt).1 found.2),
-      λ (inner, e, means).
-          subst (λ m. Matches answer m text captures) (sym made)
-          (matches.1 (inner, e, (one_by options SegmentWildcard value name prefix suffix inner captures tt).0 means)),
-    )
+    wildcard_between answer options front back SegmentWildcard options.delimiter false value name prefix suffix matcher text captures tt case no_feed
+    (accepts_segment options case) made
 one_between answer IsEngine options front back kind modifier value name prefix suffix matcher text captures case no_feed made fast =
     absurd (subst (λ m. IsFast m.inner) made.2 fast)
 

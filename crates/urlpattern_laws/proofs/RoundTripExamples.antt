@@ -78,6 +78,13 @@ lone placeholder = Bare [] placeholder modifiers.None
 abbrev named : List ℕ → Piece
 named name = lone (record { name = Some name; matched = Segment })
 
+-- two names, one behind the other
+names_cut : (point first second : List ℕ) (place end : ℕ)
+    → PieceCut point (Stops (token tokens.End end [])) (token tokens.Name 0 first ∷ token tokens.Name place second ∷ token tokens.End end [] ∷ [])
+    (named first ∷ named second ∷ [])
+names_cut point first second place end =
+    piece 1 (bare 0 1 (inl (refl, refl)) (refl, refl) refl no no) (piece 1 (bare 0 1 (inl (refl, refl)) (refl, refl) refl no no) (ends (_, refl, refl)))
+
 -- an empty fixed text: nothing is printed, and nothing is read
 pub empty_text : printed default_options (plain [] ∷ []) ≡ []
 unfolding printing
@@ -132,14 +139,8 @@ letter_tokens = record {
   all = refl;
 }
 
-abbrev letter_pieces : List Piece
-letter_pieces = named (codes "xa") ∷ named (codes "y") ∷ []
-
-letter_cut : PieceCut (codes "a") (Stops (token tokens.End 5 [])) (token tokens.Name 0 (codes "xa") ∷ token tokens.Name 3 (codes "y") ∷ token tokens.End 5 [] ∷ []) letter_pieces
-letter_cut = piece 1 (bare 0 1 (inl (refl, refl)) (refl, refl) refl no no) (piece 1 (bare 0 1 (inl (refl, refl)) (refl, refl) refl no no) (ends (_, refl, refl)))
-
 pub letter_read : Reads (codes ":xa:y") letter_options keeping (segment [] (codes "xa") [] ∷ segment [] (codes "y") [] ∷ [])
-letter_read = read_by letter_options keeping letter_tokens letter_cut (first_name, ((_, refl), ((_, refl), (other_name (λ e. cc), ((_, refl), ((_, refl), (refl, tt))))))) ([], [], _, refl, refl, refl, ([], [], [], refl, refl, refl, refl))
+letter_read = read_by letter_options keeping letter_tokens (names_cut (codes "a") (codes "xa") (codes "y") 3 5) (first_name, ((_, refl), ((_, refl), (other_name (λ e. cc), ((_, refl), ((_, refl), (refl, tt))))))) ([], [], _, refl, refl, refl, ([], [], [], refl, refl, refl, refl))
 
 -- one that is a mark: its backslash keeps it from the name behind it
 pub mark_text : printed (standard_options None (codes "*")) (segment (codes "*") (codes "x") [] ∷ []) ≡ codes "\\*:x"
@@ -183,19 +184,13 @@ twice_tokens = record {
   all = refl;
 }
 
-abbrev twice_pieces : List Piece
-twice_pieces = named (codes "x") ∷ named (codes "x") ∷ []
-
-twice_cut : PieceCut [] (Stops (token tokens.End 4 [])) (token tokens.Name 0 (codes "x") ∷ token tokens.Name 2 (codes "x") ∷ token tokens.End 4 [] ∷ []) twice_pieces
-twice_cut = piece 1 (bare 0 1 (inl (refl, refl)) (refl, refl) refl no no) (piece 1 (bare 0 1 (inl (refl, refl)) (refl, refl) refl no no) (ends (_, refl, refl)))
-
 pub twice_refused : Refuses (codes ":x:x") default_options keeping (views.DuplicateName (codes "x"))
 twice_refused = inr (record {
   tokens = _;
-  pieces = twice_pieces;
+  pieces = named (codes "x") ∷ named (codes "x") ∷ [];
   ending = Stops (token tokens.End 4 []);
   are_tokens = twice_tokens;
-  are_pieces = pieces_of twice_cut;
+  are_pieces = pieces_of (names_cut [] (codes "x") (codes "x") 2 4);
   fails = inr (first_name, inr ((_, refl), inr ((_, refl), inl ((0, omega arith, refl), refl))));
 })
 
