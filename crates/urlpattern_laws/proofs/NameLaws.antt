@@ -6,7 +6,7 @@ use Rattle.std.specs.Fmt.{digit_glyph, digits, digits_onto}
 use Rattle.std.proofs.lemmas.Bool.{both_ways, cond_both, false≢true}
 use Rattle.std.proofs.lemmas.List.Elements.{All-cons, All-nil, All-weaker, Contains-append_left, Contains-push}
 use Rattle.std.proofs.lemmas.List.Kept.{AllPairs-cons}
-use Rattle.urlpattern_laws.proofs.KindValues.{AllOfKind, AllOfKind-left, AllOfKind-middle, AllOfKind-right, text_of_kind}
+use Rattle.urlpattern_laws.proofs.KindValues.{AllOfKind, AllOfKind-right, PiecesHave, pieces_have, text_of_kind}
 use Rattle.urlpattern_syntax.proofs.ReadingLemmas.{item_names, names-AreParts}
 use Rattle.urlpattern_syntax.proofs.NameCharacters.{decimal_starts, name_start_no_digit, name_starts, starts_with_digit}
 use Rattle.urlpattern_syntax.specs.declared.parser.PartModifier.TheVariants as modifiers
@@ -48,37 +48,12 @@ placeholder_name tokens (Some name) matched.Segment h is = first_name tokens [] 
 placeholder_name tokens (Some name) (matched.Custom body) h is = first_name tokens (Regexp ∷ []) (body ∷ []) name h is.0 is.1
 placeholder_name tokens (Some name) matched.Anything h is = absurd is
 
-abbrev pub piece_name : Piece → Option (List ℕ)
-piece_name (pieces.Text text) = None
-piece_name (pieces.TextGroup text modifier) = None
-piece_name (pieces.Bare prefix placeholder modifier) = placeholder.name
-piece_name (pieces.Group before placeholder after modifier) = placeholder.name
-
-piece_names : (point : List ℕ) (tokens rest : List TokenView) (piece : Piece) → NameTokens tokens → IsPiece point tokens piece rest → GivesName (piece_name piece)
-piece_names point tokens rest (pieces.Text text) h is = tt
-piece_names point tokens rest (pieces.TextGroup text modifier) h is = tt
-piece_names point tokens rest (pieces.Bare prefix placeholder modifier) h is =
-    placeholder_name is.middle placeholder.name placeholder.matched
-    (AllOfKind-middle Name IsName is.front is.middle is.back (subst NameTokens is.cut h)) is.is_placeholder
-piece_names point tokens rest (pieces.Group before placeholder after modifier) h is =
-    let braces = is.1 in
-    let filled = is.2 in
-    let inner : NameTokens is.0 = AllOfKind-left Name IsName is.0 (braces.closing ∷ braces.back) (subst NameTokens braces.cut h).1 in
-    placeholder_name filled.middle placeholder.name placeholder.matched
-    (AllOfKind-middle Name IsName filled.front filled.middle filled.back (subst NameTokens filled.cut inner)) filled.is_placeholder
-
 -- each piece with a name gives one
 abbrev pub NamePieces : List Piece → Type 0
-NamePieces [] = Unit {0}
-NamePieces (piece ∷ rest) = GivesName (piece_name piece) × NamePieces rest
+NamePieces list = PiecesHave (λ name what. GivesName name) list
 
 pub all_piece_names : (point : List ℕ) (tokens : List TokenView) (list : List Piece) (ending : Ending) → NameTokens tokens → ArePieces point tokens list ending → NamePieces list
-all_piece_names point tokens [] ending h are = tt
-all_piece_names point tokens (piece ∷ list) ending h are =
-    let all = subst NameTokens are.2 h in (
-      piece_names point are.0 are.1 piece (AllOfKind-left Name IsName are.0 are.1 all) are.3,
-      all_piece_names point are.1 list ending (AllOfKind-right Name IsName are.0 are.1 all) are.4,
-    )
+all_piece_names = pieces_have Name IsName (λ name what. GivesName name) placeholder_name
 
 -- ---- the names of items
 

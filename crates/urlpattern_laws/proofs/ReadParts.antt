@@ -19,7 +19,7 @@ use Rattle.urlpattern_syntax.specs.RegexpText.{full_wildcard, segment_wildcard, 
 use Rattle.urlpattern_syntax.specs.Text.{begins_with, is_among}
 use Rattle.urlpattern_syntax.specs.Tokens.{AreTokens, IsCut, IsName, IsRegexpBody, IsTokenOf, Spells, TokenView, end_of}
 use Rattle.urlpattern_laws.specs.RoundTrip.{AllHaveFields, AreNamed, ArePatternParts, HasFields, IsNamed, number_behind}
-use Rattle.urlpattern_laws.proofs.KindValues.{AllOfKind, AllOfKind-left, AllOfKind-middle, AllOfKind-right, text_of_kind}
+use Rattle.urlpattern_laws.proofs.KindValues.{AllOfKind, PiecesHave, pieces_have, text_of_kind}
 use Rattle.urlpattern_laws.proofs.NameLaws.{GivesName, NamePieces, all_piece_names, names_distinct, text_names}
 use Rattle.urlpattern_syntax.proofs.NameCharacters.{decimal_starts, name_starts, starts_with_digit}
 
@@ -72,37 +72,12 @@ record HasMatch (name : Option (List ℕ)) (what : Matched) : Type 0 where
 placeholder_match : (tokens : List TokenView) (name : Option (List ℕ)) (what : Matched) → BodyTokens tokens → IsPlaceholderOf tokens name what → HasMatch name what
 placeholder_match tokens name what h is = record { body = placeholder_body tokens name what h is; segment = placeholder_segment tokens name what is }
 
-abbrev PieceMatch : Piece → Type 0
-PieceMatch (pieces.Text text) = Unit {0}
-PieceMatch (pieces.TextGroup text modifier) = Unit {0}
-PieceMatch (pieces.Bare prefix placeholder modifier) = HasMatch placeholder.name placeholder.matched
-PieceMatch (pieces.Group before placeholder after modifier) = HasMatch placeholder.name placeholder.matched
-
-piece_match : (point : List ℕ) (tokens rest : List TokenView) (piece : Piece) → BodyTokens tokens → IsPiece point tokens piece rest → PieceMatch piece
-piece_match point tokens rest (pieces.Text text) h is = tt
-piece_match point tokens rest (pieces.TextGroup text modifier) h is = tt
-piece_match point tokens rest (pieces.Bare prefix placeholder modifier) h is =
-    placeholder_match is.middle placeholder.name placeholder.matched
-    (AllOfKind-middle Regexp IsRegexpBody is.front is.middle is.back (subst BodyTokens is.cut h)) is.is_placeholder
-piece_match point tokens rest (pieces.Group before placeholder after modifier) h is =
-    let braces = is.1 in
-    let filled = is.2 in
-    let inner : BodyTokens is.0 = AllOfKind-left Regexp IsRegexpBody is.0 (braces.closing ∷ braces.back) (subst BodyTokens braces.cut h).1 in
-    placeholder_match filled.middle placeholder.name placeholder.matched
-    (AllOfKind-middle Regexp IsRegexpBody filled.front filled.middle filled.back (subst BodyTokens filled.cut inner)) filled.is_placeholder
-
 -- each piece has such a match
 abbrev MatchPieces : List Piece → Type 0
-MatchPieces [] = Unit {0}
-MatchPieces (piece ∷ rest) = PieceMatch piece × MatchPieces rest
+MatchPieces list = PiecesHave HasMatch list
 
 all_piece_matches : (point : List ℕ) (tokens : List TokenView) (list : List Piece) (ending : Ending) → BodyTokens tokens → ArePieces point tokens list ending → MatchPieces list
-all_piece_matches point tokens [] ending h are = tt
-all_piece_matches point tokens (piece ∷ list) ending h are =
-    let all = subst BodyTokens are.2 h in (
-      piece_match point are.0 are.1 piece (AllOfKind-left Regexp IsRegexpBody are.0 are.1 all) are.3,
-      all_piece_matches point are.1 list ending (AllOfKind-right Regexp IsRegexpBody are.0 are.1 all) are.4,
-    )
+all_piece_matches = pieces_have Regexp IsRegexpBody HasMatch placeholder_match
 
 -- ---- items
 
