@@ -1,9 +1,8 @@
 -- The names of a reading's groups.
-use Rattle.std.proofs.Common.{rules, ◌≡◌, ◌≢◌, ℕ, zero, suc, ◌+◌, ◌-◌, ◌<◌, ◌≤◌, ◌/◌, ◌%◌, Bool, true, false, List, [], ◌∷◌, ◌++◌, Option, Some, None, refl, sym, ap, ◌∙◌, subst, arith}
-use Rattle.std.specs.Prelude.{◌==◌, All, AllPairs, Contains, decimal, if◌then◌else◌}
+use Rattle.std.proofs.Common.{◌≡◌, ◌≢◌, ℕ, suc, true, false, List, [], ◌∷◌, ◌++◌, Option, Some, None, refl, sym, ap, ◌∙◌, subst, arith}
+use Rattle.std.specs.Prelude.{All, AllPairs, Contains, decimal, if◌then◌else◌}
 use Rattle.std.specs.Char.{is_ascii_digit}
-use Rattle.std.specs.Fmt.{digit_glyph, digits, digits_onto}
-use Rattle.std.proofs.lemmas.Bool.{both_ways, cond_both, false≢true}
+use Rattle.std.proofs.lemmas.Bool.{both_ways, false≢true}
 use Rattle.std.proofs.lemmas.List.Elements.{All-cons, All-nil, All-weaker, Contains-append_left, Contains-push}
 use Rattle.std.proofs.lemmas.List.Kept.{AllPairs-cons}
 use Rattle.urlpattern_laws.proofs.KindValues.{AllOfKind, AllOfKind-right, PiecesHave, pieces_have, text_of_kind}
@@ -15,12 +14,12 @@ use Rattle.urlpattern_syntax.specs.declared.tokenizer.TokenType.TheVariants.{Nam
 use Rattle.urlpattern_laws.specs.Laws.{CountFrom, numbers_among}
 use Rattle.urlpattern_syntax.specs.Options.{OptionsView}
 use Rattle.urlpattern_syntax.specs.Parts.{PartView}
-use Rattle.urlpattern_syntax.specs.Pieces.{ArePieces, Ending, IsPiece, IsPlaceholderOf, Matched, Piece, kinds, values}
+use Rattle.urlpattern_syntax.specs.Pieces.{ArePieces, Ending, IsPlaceholderOf, Matched, Piece, kinds, values}
 use Rattle.urlpattern_syntax.specs.Pieces.{Ending as endings, Matched as matched, Piece as pieces}
 use Rattle.urlpattern_syntax.specs.Reading.{AreMet, Capture, Demand, Encoding, Fixed, Item, Reads, demands_after, encode_fixed, items_from, items_of, joined_items, name_or, next_number, with_text}
 use Rattle.urlpattern_syntax.specs.RegexpText.{group_names}
-use Rattle.urlpattern_syntax.specs.Text.{begins_with, BeginsWith, is_name_start}
-use Rattle.urlpattern_syntax.specs.Tokens.{AreTokens, IsCut, IsName, IsTokenOf, Spells, TokenView, end_of}
+use Rattle.urlpattern_syntax.specs.Text.{begins_with, BeginsWith}
+use Rattle.urlpattern_syntax.specs.Tokens.{AreTokens, IsName, TokenView}
 
 -- ---- the names that tokens and placeholders give
 

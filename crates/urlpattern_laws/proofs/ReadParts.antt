@@ -1,5 +1,5 @@
 -- The parts that a text reads as are such as a pattern text may be read as.
-use Rattle.std.proofs.Common.{◌≡◌, ◌≢◌, ℕ, suc, ◌⊎◌, Bool, true, false, not, List, [], ◌∷◌, ◌++◌, Option, Some, None, refl, sym, ap, ◌∙◌, subst, inl, inr}
+use Rattle.std.proofs.Common.{◌≡◌, ◌≢◌, ℕ, suc, ◌⊎◌, Bool, true, false, not, List, [], ◌∷◌, Option, Some, None, refl, sym, ap, ◌∙◌, subst, inl, inr}
 use Rattle.std.specs.Prelude.{IsTrue, bytes_eq, codes, decimal, if◌then◌else◌}
 use Rattle.std.specs.Char.{is_ascii_digit}
 use Rattle.std.proofs.lemmas.Bool.{cond_both, false≢true}
@@ -12,12 +12,12 @@ use Rattle.urlpattern_syntax.specs.declared.parser.PartType.TheVariants as part_
 use Rattle.urlpattern_syntax.specs.declared.tokenizer.TokenType.TheVariants.{Name, Regexp}
 use Rattle.urlpattern_syntax.specs.Options.{OptionsView}
 use Rattle.urlpattern_syntax.specs.Parts.{PartView}
-use Rattle.urlpattern_syntax.specs.Pieces.{ArePieces, Ending, IsPiece, IsPlaceholderOf, Matched, Piece, kinds, values}
+use Rattle.urlpattern_syntax.specs.Pieces.{ArePieces, Ending, IsPlaceholderOf, Matched, Piece, kinds, values}
 use Rattle.urlpattern_syntax.specs.Pieces.{Ending as endings, Matched as matched, Piece as pieces}
 use Rattle.urlpattern_syntax.specs.Reading.{AreParts, Capture, Encoding, Fixed, Item, Reads, capture_part, compared, items_from, items_of, joined_items, kind_of, name_or, next_number, value_of, with_text}
 use Rattle.urlpattern_syntax.specs.RegexpText.{full_wildcard, segment_wildcard, segment_wildcard_of}
 use Rattle.urlpattern_syntax.specs.Text.{begins_with, is_among}
-use Rattle.urlpattern_syntax.specs.Tokens.{AreTokens, IsCut, IsName, IsRegexpBody, IsTokenOf, Spells, TokenView, end_of}
+use Rattle.urlpattern_syntax.specs.Tokens.{AreTokens, IsName, IsRegexpBody, TokenView}
 use Rattle.urlpattern_laws.specs.RoundTrip.{AllHaveFields, AreNamed, ArePatternParts, HasFields, IsNamed, number_behind}
 use Rattle.urlpattern_laws.proofs.KindValues.{AllOfKind, PiecesHave, pieces_have, text_of_kind}
 use Rattle.urlpattern_laws.proofs.NameLaws.{GivesName, NamePieces, all_piece_names, names_distinct, text_names}

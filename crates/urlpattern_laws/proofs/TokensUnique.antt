@@ -1,5 +1,5 @@
 -- A text has one list of tokens or one first fault.
-use Rattle.std.proofs.Common.{◌≡◌, ℕ, ◌⊎◌, false, List, [], ◌∷◌, ◌++◌, refl, sym, ap, ◌∙◌, subst, inl, inr, arith}
+use Rattle.std.proofs.Common.{◌≡◌, ℕ, ◌⊎◌, List, [], ◌∷◌, ◌++◌, refl, sym, ap, ◌∙◌, subst, inl, inr, arith}
 use Rattle.std.proofs.lemmas.Bool.{false≢true}
 use Rattle.urlpattern_syntax.specs.declared.tokenizer.TokenType.TheVariants.{InvalidChar}
 use Rattle.urlpattern_syntax.specs.Text.{BeginsAt, BeginsWith}
