@@ -13,8 +13,8 @@ use Rattle.url.specs.declared.error.ParseError.{ParseError}
 use Rattle.url.specs.declared.error.ParseError.TheVariants.{Overflow, OutOfMemory}
 use Rattle.url.specs.Parser.{Gives, GivesBy, IsOutOfRoom, Parsed, and_then, parse_url}
 use Rattle.url.specs.Parts.{Parts}
-use Rattle.urlpattern_canonical.specs.Asking.{reported_as}
-use Rattle.urlpattern_canonical.specs.Canonical.{IsAnswer, Tells, after, canonical, dummy_url, long_text, path_of, pathname_of, reported, scheme_for_port, told_as, without_guard}
+use Rattle.urlpattern_canonical.specs.Asking.{IsToldAs, reported_as}
+use Rattle.urlpattern_canonical.specs.Canonical.{IsAnswer, IsTold, Tells, after, canonical, dummy_url, long_text, path_of, pathname_of, reported, scheme_for_port, told_as, without_guard}
 use Rattle.urlpattern_syntax.proofs.TextLemmas.{chars-empty}
 use Rattle.urlpattern_syntax.specs.declared.error.Error.{Error}
 use Rattle.urlpattern_syntax.specs.declared.error.Error.TheVariants as errors
@@ -77,36 +77,27 @@ tells_as asked whole reason other bytes error proper step gives is =
     url_tells whole reason bytes error proper
     (step (ap (told_as reason) (refused_by asked other (λ same. cc) (λ same. cc) gives))) is
 
--- what `told` makes of an answer
-abbrev pub Tell : {T : Type 0} → Parsed T → (bytes : ℕ) → Result T Error → Type 0
-Tell answer bytes result = MatchResult answer (λ found. result ≡ Ok found) (λ reason. IsErrAnd result (λ error. error_view error ≡ reported reason bytes))
-
--- what `told_as` makes of one
-abbrev pub TellAs : {T : Type 0} → ParseError → Parsed T → (bytes : ℕ) → Result T Error → Type 0
-TellAs reason answer bytes result =
-    MatchResult answer (λ found. result ≡ Ok found) (λ other. IsErrAnd result (λ error. error_view error ≡ reported_as reason other bytes))
-
 -- what is told of an answer that is seen by `view`
 pub told-ok : {T U : Type 0} (view : T → U) (answer : Parsed T) (asked : Parsed U) (bytes : ℕ) (result : Result T Error) (value : T)
-    → GivesBy view answer asked → Tell answer bytes result → result ≡ Ok value → asked ≡ Ok (view value)
+    → GivesBy view answer asked → IsTold answer bytes result → result ≡ Ok value → asked ≡ Ok (view value)
 told-ok view (Ok found) asked bytes result value gives told was = gives ∙ ap (λ x. Ok (view x)) (let same : found ≡ value = cc in same)
 told-ok view (Err reason) asked bytes result value gives told was = absurd (rw was at told)
 
 pub told-err : {T U V : Type 0} (view : T → U) (answer : Parsed T) (asked : Parsed U) (whole : Parsed V) (bytes : ℕ) (result : Result T Error)
-    (error : Error) → GivesBy view answer asked → Tell answer bytes result → result ≡ Err error
+    (error : Error) → GivesBy view answer asked → IsTold answer bytes result → result ≡ Err error
     → ((reason : ParseError) → asked ≡ Err reason → whole ≡ Err reason) → MemoryOr (Tells whole bytes) error
 told-err view (Ok found) asked whole bytes result error gives told was step = absurd cc
 told-err view (Err reason) asked whole bytes result error gives told was step =
     tells asked whole reason bytes error (step reason) gives (rw was at told)
 
 pub told_as-ok : {T U : Type 0} (view : T → U) (answer : Parsed T) (asked : Parsed U) (reason : ParseError) (bytes : ℕ) (result : Result T Error)
-    (value : T) → GivesBy view answer asked → TellAs reason answer bytes result → result ≡ Ok value → told_as reason asked ≡ Ok (view value)
+    (value : T) → GivesBy view answer asked → IsToldAs reason answer bytes result → result ≡ Ok value → told_as reason asked ≡ Ok (view value)
 told_as-ok view (Ok found) asked reason bytes result value gives told was =
     ap (told_as reason) gives ∙ ap (λ x. Ok (view x)) (let same : found ≡ value = cc in same)
 told_as-ok view (Err other) asked reason bytes result value gives told was = absurd (rw was at told)
 
 pub told_as-err : {T U V : Type 0} (view : T → U) (answer : Parsed T) (asked : Parsed U) (whole : Parsed V) (reason : ParseError) (bytes : ℕ)
-    (result : Result T Error) (error : Error) → reason ≢ OutOfMemory → GivesBy view answer asked → TellAs reason answer bytes result
+    (result : Result T Error) (error : Error) → reason ≢ OutOfMemory → GivesBy view answer asked → IsToldAs reason answer bytes result
     → result ≡ Err error → (told_as reason asked ≡ Err reason → whole ≡ Err reason) → MemoryOr (Tells whole bytes) error
 told_as-err view (Ok found) asked whole reason bytes result error proper gives told was step = absurd cc
 told_as-err view (Err other) asked whole reason bytes result error proper gives told was step =
@@ -142,7 +133,7 @@ answers-more asked few many (Err error) more answer = tells-more asked few many 
 
 -- what is told of a URL that is parsed
 pub told_parse : (answer : Parsed Parts) (asked : Parsed Parts) (bytes : ℕ) (result : Result Parts Error) → Gives answer asked
-    → Tell answer bytes result → IfOk result (λ url. asked ≡ Ok url) × IfErr result (MemoryOr (Tells asked bytes))
+    → IsTold answer bytes result → IfOk result (λ url. asked ≡ Ok url) × IfErr result (MemoryOr (Tells asked bytes))
 told_parse answer asked bytes (Ok url) gives told = (told-ok (λ x. x) answer asked bytes (Ok url) url gives told refl, tt)
 told_parse answer asked bytes (Err error) gives told =
     (tt, told-err (λ x. x) answer asked asked bytes (Err error) error gives told refl (λ reason e. e))

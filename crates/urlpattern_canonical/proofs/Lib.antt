@@ -1,3 +1,4 @@
 pub mod CanonicalLemmas
+pub mod SettingLemmas
 pub mod MarkLemmas
 pub mod SchemeLemmas

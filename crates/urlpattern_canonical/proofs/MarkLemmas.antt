@@ -1,7 +1,7 @@
 -- Lemmas on ASCII characters in a text: at its ends, and as all of it.
-use Rattle.std.proofs.Common.{◌≡◌, ℕ, Bool, true, false, ◌==◌, ◌<◌, ◌≤◌, ◌-◌, ◌+◌, ◌&&◌, List, [], ◌∷◌, ◌++◌, length, length-append, get_or, take, drop, map, refl, sym, ap, ◌∙◌, arith}
+use Rattle.std.proofs.Common.{◌≡◌, ℕ, Bool, true, false, ◌==◌, ◌<◌, ◌≤◌, ◌-◌, ◌+◌, List, [], ◌∷◌, ◌++◌, length, length-append, get_or, take, drop, map, refl, sym, ap, ◌∙◌, arith}
 use Rattle.std.proofs.Math.Seq.{get_or-append_seam}
-use Rattle.std.proofs.lemmas.Bool.{false≢true}
+use Rattle.std.proofs.lemmas.Bool.{and_parts, false≢true, ltb-true}
 use Rattle.std.proofs.lemmas.Bool.Decides.{nat_tests}
 use Rattle.std.proofs.lemmas.Grind.{common_steps}
 use Rattle.std.proofs.lemmas.Slice.Eq.{bytes_eq-Decides}
@@ -10,7 +10,7 @@ use Rattle.std.proofs.lemmas.Str.Ascii.{IsAscii-cons, IsAscii-map, IsAscii-nil, 
 use Rattle.std.specs.Bool.{Decides}
 use Rattle.std.specs.Char.{encode_utf8, to_ascii_lowercase}
 use Rattle.std.specs.List.{list_all}
-use Rattle.std.specs.Prelude.{bytes_eq, encode_utf8_all, slice_range, if◌then◌else◌}
+use Rattle.std.specs.Prelude.{bytes_eq, encode_utf8_all, ltb, slice_range, if◌then◌else◌}
 use Rattle.std.specs.Str.{chars, IsAscii, IsUtf8}
 use Rattle.urlpattern_canonical.specs.Canonical.{is_ipv6_character, without_first, without_last}
 use Rattle.urlpattern_syntax.specs.Text.{begins_with}
@@ -18,6 +18,13 @@ use Rattle.urlpattern_syntax.specs.Text.{begins_with}
 -- the front of a list, as a slice
 pub slice_range-front : (xs : List ℕ) (n : ℕ) → slice_range xs 0 n ≡ take n xs
 slice_range-front xs n = ap (λ k. take k xs) (let same : n - 0 ≡ n = omega arith in same)
+
+-- a text of ASCII, by a test
+pub ascii_text : (text : List ℕ) → list_all (λ c. ltb c 128) text ≡ true → IsAscii text
+ascii_text [] e = IsAscii-nil
+ascii_text (c ∷ text) e =
+    let parts = and_parts (ltb c 128) (list_all (λ b. ltb b 128) text) e in
+    IsAscii-cons c text (ltb-true c 128 parts.0) (ascii_text text parts.1)
 
 -- ---- a mark at the end
 
@@ -121,15 +128,8 @@ ipv6_ascii c e = grind (arith, nat_tests)
 all_ipv6_ascii : (text : List ℕ) → list_all is_ipv6_character text ≡ true → IsAscii text
 all_ipv6_ascii [] e = IsAscii-nil
 all_ipv6_ascii (c ∷ text) e =
-    IsAscii-cons c text (ipv6_ascii c (let first : is_ipv6_character c ≡ true = and_first _ _ e in first)) (all_ipv6_ascii text (and_second _ _ e))
-  where
-    and_first : (a b : Bool) → a && b ≡ true → a ≡ true
-    and_first true b e = refl
-    and_first false b e = absurd (false≢true e)
-
-    and_second : (a b : Bool) → a && b ≡ true → b ≡ true
-    and_second true b e = e
-    and_second false b e = absurd (false≢true e)
+    let parts = and_parts (is_ipv6_character c) (list_all is_ipv6_character text) e in
+    IsAscii-cons c text (ipv6_ascii c parts.0) (all_ipv6_ascii text parts.1)
 
 pub ipv6-chars : (bytes : List ℕ) → IsUtf8 bytes → list_all is_ipv6_character (chars bytes) ≡ list_all is_ipv6_character bytes
 ipv6-chars bytes u = go (list_all is_ipv6_character bytes) (list_all is_ipv6_character (chars bytes)) refl refl

@@ -1,49 +1,45 @@
 -- Lemmas on special schemes.
-use Rattle.std.proofs.Common.{◌≡◌, ℕ, Bool, true, false, ◌||◌, List, [], ◌∷◌, codes, lit<, None, Some, refl, ap, ◌∙◌}
-use Rattle.std.proofs.lemmas.Str.Ascii.{IsAscii-cons, IsAscii-nil}
-use Rattle.std.specs.Prelude.{if◌then◌else◌}
+use Rattle.std.proofs.Common.{◌≡◌, ℕ, Bool, true, false, ◌||◌, List, [], ◌∷◌, codes, Option, None, Some, refl, ap, ◌∙◌}
+use Rattle.std.specs.Prelude.{bytes_eq, if◌then◌else◌}
 use Rattle.std.specs.Str.{chars, IsAscii, IsUtf8}
-use Rattle.urlpattern_canonical.proofs.MarkLemmas.{bytes_eq-chars, bytes_eq-other}
-use Rattle.urlpattern_canonical.specs.Canonical.{default_port, is_hierarchical_under, is_special}
+use Rattle.urlpattern_canonical.proofs.MarkLemmas.{ascii_text, bytes_eq-chars, bytes_eq-other}
+use Rattle.urlpattern_canonical.specs.Canonical.{default_port, is_hierarchical_under, is_special, port_among, scheme_among, special_schemes}
 
-ascii-http : IsAscii (codes "http")
-ascii-http = IsAscii-cons 104 (codes "ttp") (lit< tt) (IsAscii-cons 116 (codes "tp") (lit< tt) (IsAscii-cons 116 (codes "p") (lit< tt) (IsAscii-cons 112 [] (lit< tt) IsAscii-nil)))
+-- each of these schemes is ASCII
+abbrev AllAscii : List (List ℕ × Option (List ℕ)) → Type 0
+AllAscii [] = Unit {0}
+AllAscii (scheme ∷ schemes) = IsAscii scheme.0 × AllAscii schemes
 
-ascii-https : IsAscii (codes "https")
-ascii-https = IsAscii-cons 104 (codes "ttps") (lit< tt) (IsAscii-cons 116 (codes "tps") (lit< tt) (IsAscii-cons 116 (codes "ps") (lit< tt) (IsAscii-cons 112 (codes "s") (lit< tt) (IsAscii-cons 115 [] (lit< tt) IsAscii-nil))))
+ascii-schemes : AllAscii special_schemes
+ascii-schemes =
+    let http = ascii_text (codes "http") refl in
+    let https = ascii_text (codes "https") refl in
+    let ws = ascii_text (codes "ws") refl in
+    let wss = ascii_text (codes "wss") refl in
+    let ftp = ascii_text (codes "ftp") refl in
+    let file = ascii_text (codes "file") refl in
+    (http, (https, (ws, (wss, (ftp, (file, tt))))))
 
-ascii-ws : IsAscii (codes "ws")
-ascii-ws = IsAscii-cons 119 (codes "s") (lit< tt) (IsAscii-cons 115 [] (lit< tt) IsAscii-nil)
+-- a scheme is told by its bytes
+among-chars : (schemes : List (List ℕ × Option (List ℕ))) → AllAscii schemes → (text : List ℕ) → IsUtf8 text
+    → scheme_among schemes (chars text) ≡ scheme_among schemes text
+among-chars [] ascii text u = refl
+among-chars (scheme ∷ schemes) ascii text u =
+    ap (λ is. is || scheme_among schemes (chars text)) (bytes_eq-chars text scheme.0 u ascii.0)
+    ∙ ap (λ more. bytes_eq text scheme.0 || more) (among-chars schemes ascii.1 text u)
 
-ascii-wss : IsAscii (codes "wss")
-ascii-wss = IsAscii-cons 119 (codes "ss") (lit< tt) (IsAscii-cons 115 (codes "s") (lit< tt) (IsAscii-cons 115 [] (lit< tt) IsAscii-nil))
+port_among-chars : (schemes : List (List ℕ × Option (List ℕ))) → AllAscii schemes → (text : List ℕ) → IsUtf8 text
+    → port_among schemes (chars text) ≡ port_among schemes text
+port_among-chars [] ascii text u = refl
+port_among-chars (scheme ∷ schemes) ascii text u =
+    ap (λ is. if is then scheme.1 else port_among schemes (chars text)) (bytes_eq-chars text scheme.0 u ascii.0)
+    ∙ ap (λ port. if bytes_eq text scheme.0 then scheme.1 else port) (port_among-chars schemes ascii.1 text u)
 
-ascii-ftp : IsAscii (codes "ftp")
-ascii-ftp = IsAscii-cons 102 (codes "tp") (lit< tt) (IsAscii-cons 116 (codes "p") (lit< tt) (IsAscii-cons 112 [] (lit< tt) IsAscii-nil))
-
-ascii-file : IsAscii (codes "file")
-ascii-file = IsAscii-cons 102 (codes "ile") (lit< tt) (IsAscii-cons 105 (codes "le") (lit< tt) (IsAscii-cons 108 (codes "e") (lit< tt) (IsAscii-cons 101 [] (lit< tt) IsAscii-nil)))
-
--- the scheme is told by its bytes
 pub special-chars : (scheme : List ℕ) → IsUtf8 scheme → is_special (chars scheme) ≡ is_special scheme
-special-chars scheme u =
-    let http = bytes_eq-chars scheme (codes "http") u ascii-http in
-    let https = bytes_eq-chars scheme (codes "https") u ascii-https in
-    let ws = bytes_eq-chars scheme (codes "ws") u ascii-ws in
-    let wss = bytes_eq-chars scheme (codes "wss") u ascii-wss in
-    let ftp = bytes_eq-chars scheme (codes "ftp") u ascii-ftp in
-    let file = bytes_eq-chars scheme (codes "file") u ascii-file in
-    cc
+special-chars = among-chars special_schemes ascii-schemes
 
 pub port-chars : (scheme : List ℕ) → IsUtf8 scheme → default_port (chars scheme) ≡ default_port scheme
-port-chars scheme u =
-    let http = bytes_eq-chars scheme (codes "http") u ascii-http in
-    let https = bytes_eq-chars scheme (codes "https") u ascii-https in
-    let ws = bytes_eq-chars scheme (codes "ws") u ascii-ws in
-    let wss = bytes_eq-chars scheme (codes "wss") u ascii-wss in
-    let ftp = bytes_eq-chars scheme (codes "ftp") u ascii-ftp in
-    let file = bytes_eq-chars scheme (codes "file") u ascii-file in
-    cc
+port-chars = port_among-chars special_schemes ascii-schemes
 
 or_false : (a b : Bool) → a ≡ false → b ≡ false → (a || b) ≡ false
 or_false a b e f = ap (λ x. x || b) e ∙ f

@@ -1,7 +1,8 @@
 -- Canonical values: what `url` answers to a question about a value, after the URLPattern Standard, section
 -- "Canonicalization", with the values of an init, section "Processing". A text is a list of characters; `url` is asked
 -- and answers in bytes.
-use Rattle.std.specs.Prelude.{◌≡◌, ◌≢◌, ℕ, ◌^◌, ◌≤◌, ◌⊎◌, Bool, true, false, ◌||◌, ◌==◌, ltb, List, [], ◌∷◌, ◌++◌, drop, map, nat_eq, codes, encode_utf8_all, slice_index, bytes_eq, Option, Some, None, unwrap_or, Result, Ok, Err, MatchResult, String, if◌then◌else◌}
+use Rattle.std.specs.Prelude.{◌≡◌, ◌≢◌, ℕ, ◌^◌, ◌≤◌, ◌⊎◌, Bool, true, false, ◌||◌, ◌==◌, ltb, List, [], ◌∷◌, ◌++◌, drop, map, nat_eq, codes, encode_utf8_all, slice_index, bytes_eq, Option, Some, None, unwrap_or, option_copied, option_map, length, max, Result, Ok, Err, IsErrAnd, MatchResult, String, if◌then◌else◌}
+use Rattle.std.specs.Borrow.{Bor}
 use Rattle.std.specs.Char.{is_ascii_hexdigit, to_ascii_lowercase}
 use Rattle.std.specs.List.{list_all, starts_with}
 use Rattle.std.specs.Str.{chars}
@@ -19,7 +20,7 @@ use Rattle.urlpattern_canonical.specs.declared.canonicalize_and_process.ProcessT
 use Rattle.urlpattern_canonical.specs.declared.canonicalize_and_process.ProcessType.TheVariants.{Pattern, Url}
 use Rattle.urlpattern_syntax.specs.PatternText.{escaped_pattern}
 use Rattle.urlpattern_syntax.specs.declared.error.Error.{Error}
-use Rattle.urlpattern_syntax.specs.Errors.{ErrorView}
+use Rattle.urlpattern_syntax.specs.Errors.{ErrorView, error_view}
 use Rattle.urlpattern_syntax.specs.Errors.{ErrorView as views}
 use Rattle.urlpattern_syntax.specs.Errors.{MemoryOr}
 use Rattle.urlpattern_syntax.specs.Text.{begins_with, is_among, text_of}
@@ -92,6 +93,10 @@ hash_of value = after dummy_url (λ url. Ok (set_fragment url (Some value))) (λ
 
 -- ---- canonical values
 
+-- the characters of a text that may be missing
+abbrev pub option_text : Option (Bor (List ℕ)) → Option (List ℕ)
+option_text text = option_map chars (option_copied text)
+
 -- the answer to a question about a text, of which the empty one needs none
 abbrev pub canonical : (List ℕ → Parsed (List ℕ)) → List ℕ → Parsed (List ℕ)
 canonical ask [] = Ok []
@@ -150,6 +155,11 @@ reported OutOfMemory bytes = views.OutOfMemory
 reported Overflow bytes = if ltb bytes long_text then views.OutOfMemory else views.Url Overflow
 reported reason bytes = views.Url reason
 
+-- The result is the answer of `url`, with its refusal as it is reported.
+abbrev pub IsTold : {T : Type 0} → (answer : Result T ParseError) → (bytes : ℕ) → Result T Error → Type 0
+IsTold answer bytes result =
+    MatchResult answer (λ value. result ≡ Ok value) (λ reason. IsErrAnd result (λ error. error_view error ≡ reported reason bytes))
+
 -- `url` refuses the question, or the longest text of it may be too long
 abbrev pub IsRefusedByUrl : {T : Type 0} → Parsed T → (bytes : ℕ) → Type 0
 IsRefusedByUrl asked bytes = ((reason : ParseError) × (asked ≡ Err reason)) ⊎ (long_text ≤ bytes)
@@ -163,6 +173,10 @@ Tells asked bytes error = ⊥
 -- A call answers a question about so many bytes: with the text, with the refusal, or that memory ran out.
 abbrev pub IsAnswer : Parsed (List ℕ) → (bytes : ℕ) → Result (String Global) Error → Type 0
 IsAnswer asked bytes result = MatchResult result (λ text. asked ≡ Ok (text_of text)) (MemoryOr (Tells asked bytes))
+
+-- how many bytes a port has, or its protocol where that has more
+abbrev pub port_bytes : (port : List ℕ) → (protocol : Option (Bor (List ℕ))) → ℕ
+port_bytes port protocol = max (length port) (length (unwrap_or (option_copied protocol) []))
 
 -- ---- values of an init
 
@@ -217,11 +231,13 @@ special_schemes =
     ∷ (codes "file", None)
     ∷ []
 
-abbrev scheme_among : List (List ℕ × Option (List ℕ)) → List ℕ → Bool
+-- the text is one of these schemes
+abbrev pub scheme_among : List (List ℕ × Option (List ℕ)) → List ℕ → Bool
 scheme_among [] text = false
 scheme_among (scheme ∷ schemes) text = bytes_eq text scheme.0 || scheme_among schemes text
 
-abbrev port_among : List (List ℕ × Option (List ℕ)) → List ℕ → Option (List ℕ)
+-- the default port of the text among these schemes
+abbrev pub port_among : List (List ℕ × Option (List ℕ)) → List ℕ → Option (List ℕ)
 port_among [] text = None
 port_among (scheme ∷ schemes) text = if bytes_eq text scheme.0 then scheme.1 else port_among schemes text
 
@@ -244,6 +260,16 @@ is_hierarchical protocol pathname = is_hierarchical_under protocol || begins_wit
 abbrev pub processed_pathname : ProcessType → (protocol : Option (List ℕ)) → List ℕ → Parsed (List ℕ)
 processed_pathname mode protocol text =
     processed mode (λ path. if is_hierarchical protocol path then canonical_pathname path else canonical_opaque_pathname path) text
+
+-- A call answers with the port of an init under a protocol, with the refusal, or that memory ran out.
+abbrev pub IsPortAnswer : ProcessType → (port : List ℕ) → (protocol : Option (Bor (List ℕ))) → Result (String Global) Error → Type 0
+IsPortAnswer mode port protocol result =
+    IsAnswer (processed_port mode (option_text protocol) (chars port)) (bytes_asked mode (port_bytes port protocol)) result
+
+-- A call answers with the pathname of an init under a protocol, with the refusal, or that memory ran out.
+abbrev pub IsPathnameAnswer : ProcessType → (pathname : List ℕ) → (protocol : Option (Bor (List ℕ))) → Result (String Global) Error → Type 0
+IsPathnameAnswer mode pathname protocol result =
+    IsAnswer (processed_pathname mode (option_text protocol) (chars pathname)) (bytes_asked mode (length pathname)) result
 
 abbrev pub processed_search : ProcessType → List ℕ → Parsed (List ℕ)
 processed_search mode text = processed mode canonical_search (without_first question_mark text)

@@ -5,11 +5,10 @@ use Rattle.std.specs.Prelude.{◌&&◌}
 use Rattle.urlpattern_laws.specs.PartMeaning.{Allows, Captures, IsCapture, IsWildcardText, PartMeans, capture_of_none}
 use Rattle.urlpattern_syntax.specs.declared.parser.PartModifier.{PartModifier}
 use Rattle.urlpattern_syntax.specs.declared.parser.PartType.{PartType}
-use Rattle.urlpattern_syntax.specs.declared.parser.PartType.TheVariants.{SegmentWildcard, FullWildcard}
 use Rattle.urlpattern_syntax.specs.Options.{OptionsView}
 use Rattle.urlpattern_syntax.specs.RegexpText.{IsWildcard, is_empty}
 use Rattle.urlpattern_syntax.specs.Text.{IsRepeated}
-use Rattle.urlpattern_laws.proofs.MatchingLaws.{middle_cancel, part_of}
+use Rattle.urlpattern_laws.proofs.MatchingLaws.{middle_cancel, part_of, wildcard_copies}
 
 -- ---- stretches
 
@@ -109,28 +108,18 @@ counted IsPiece kind modifier value name prefix suffix text captures (suc n) all
 -- what a wildcard stands for is no copies, or at least one
 pub wildcard_means : (options : OptionsView) (kind : PartType) (modifier : PartModifier) (value name prefix suffix text : List ℕ) (captures : Captures) → IsWildcard kind →
     PartMeans options (part_of kind modifier value name prefix suffix) text captures ↔ GroupMeans (IsWildcardText options kind) (is_empty prefix && is_empty suffix) modifier prefix suffix text captures
-wildcard_means options SegmentWildcard modifier value name prefix suffix text captures h = (
-  λ means. counted (IsWildcardText options SegmentWildcard) SegmentWildcard modifier value name prefix suffix text captures means.count means.allowed means.are_copies means.are_captures,
-  λ means. elim means [
-    | inl none ↦ record { count = 0; allowed = none.0; are_copies = none.1; are_captures = (capture_of_none modifier (is_empty prefix && is_empty suffix), refl, none.2) }
-    | inr some ↦ record {
-      count = suc some.0;
-      allowed = some.2;
-      are_copies = core_copies (IsWildcardText options SegmentWildcard) prefix suffix some.0 some.1 text some.3 some.4;
-      are_captures = (Some some.1, (some.1, some.3, refl), some.5);
-    }
-  ],
-)
-wildcard_means options FullWildcard modifier value name prefix suffix text captures h = (
-  λ means. counted (IsWildcardText options FullWildcard) FullWildcard modifier value name prefix suffix text captures means.count means.allowed means.are_copies means.are_captures,
-  λ means. elim means [
-    | inl none ↦ record { count = 0; allowed = none.0; are_copies = none.1; are_captures = (capture_of_none modifier (is_empty prefix && is_empty suffix), refl, none.2) }
-    | inr some ↦ record {
-      count = suc some.0;
-      allowed = some.2;
-      are_copies = core_copies (IsWildcardText options FullWildcard) prefix suffix some.0 some.1 text some.3 some.4;
-      are_captures = (Some some.1, (some.1, some.3, refl), some.5);
-    }
-  ],
-)
-wildcard_means options kind modifier value name prefix suffix text captures h = absurd h
+wildcard_means options kind modifier value name prefix suffix text captures h =
+    let same = wildcard_copies options kind modifier value name prefix suffix text captures h in (
+      λ means.
+          let found = same.0 means in
+          counted (IsWildcardText options kind) kind modifier value name prefix suffix text captures found.0 found.1 found.2 found.3,
+      λ means. elim means [
+        | inl none ↦ same.1 (0, none.0, none.1, (capture_of_none modifier (is_empty prefix && is_empty suffix), refl, none.2))
+        | inr some ↦ same.1 (
+          suc some.0,
+          some.2,
+          core_copies (IsWildcardText options kind) prefix suffix some.0 some.1 text some.3 some.4,
+          (Some some.1, (some.1, some.3, refl), some.5),
+        )
+      ],
+    )

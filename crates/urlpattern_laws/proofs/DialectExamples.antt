@@ -1,5 +1,5 @@
 -- Worked examples of trees of regular expressions, and of what they mean.
-use Rattle.std.proofs.Common.{◌≡◌, ℕ, List, [], ◌∷◌, refl, Some, None, inl, inr}
+use Rattle.std.proofs.Common.{◌≡◌, ℕ, List, [], ◌∷◌, ◌++◌, refl, Some, None, inl, inr}
 use Rattle.std.specs.Prelude.{codes, slice_index}
 use Rattle.urlpattern_laws.proofs.DialectUnique.{only_tree}
 use Rattle.urlpattern_laws.specs.Dialect.{Items, Nothing, Item, Atom, Literal, Dot, AnyBut, Captured, Grouped, Escaped, Plain, Once, Optional, ZeroOrMore, LazyOneOrMore, AreItems, AtomMeans, IsAtom, IsOnlyTreeOf, IsTreeOf, Means}
@@ -14,100 +14,46 @@ plain text = Literal (Plain (slice_index text 0))
 abbrev pub once : Atom → Items
 once atom = Item atom Once Nothing
 
+-- characters that stand by themselves, one behind the other, and what follows them
+abbrev pub word_then : List ℕ → Items → Items
+word_then [] items = items
+word_then (c ∷ word) items = Item (Literal (Plain c)) Once (word_then word items)
+
+word_means : (word : List ℕ) (items : Items) (rest : List ℕ) (captures : Captures) → Means items rest captures
+    → Means (word_then word items) (word ++ rest) captures
+word_means [] items rest captures means = means
+word_means (c ∷ word) items rest captures means =
+    (c ∷ [], word ++ rest, [], captures, refl, refl, (refl, refl), word_means word items rest captures means)
+
+-- the tree of `([^/]+?)`
+abbrev pub segment_tree : Items
+segment_tree = once (Captured (Item (AnyBut (Plain (slice_index (codes "/") 0))) LazyOneOrMore Nothing))
+
 -- the tree of `^/users(?:/([^/]+?))$`
 abbrev pub users_tree : Items
-users_tree =
-    Item (plain (codes "/")) Once (Item (plain (codes "u")) Once (Item (plain (codes "s")) Once
-    (Item (plain (codes "e")) Once (Item (plain (codes "r")) Once (Item (plain (codes "s")) Once
-    (once (Grouped (Item (plain (codes "/")) Once (once (Captured (Item (AnyBut (Plain (slice_index (codes "/") 0))) LazyOneOrMore Nothing)))))))))))
+users_tree = word_then (codes "/users") (once (Grouped (word_then (codes "/") segment_tree)))
 
 pub users_is_tree : IsTreeOf (codes "^/users(?:/([^/]+?))$") users_tree
 users_is_tree = (refl, (no, tt, (no, tt, (no, tt, (no, tt, (no, tt, (no, tt, ((no, tt, ((no, refl, tt), tt, tt)), tt, tt))))))))
 
 -- what it captures from `/users/1`
 pub users_means : Means users_tree (codes "/users/1") (Some (codes "1") ∷ [])
-users_means = (
-  _,
-  _,
-  [],
-  _,
-  refl,
-  refl,
-  (refl, refl),
-  (
-    _,
-    _,
-    [],
-    _,
-    refl,
-    refl,
-    (refl, refl),
-    (
-      _,
-      _,
+users_means = word_means (codes "/users") (once (Grouped (word_then (codes "/") segment_tree))) (codes "/1") (Some (codes "1") ∷ []) behind_users
+  where
+    segment : Means segment_tree (codes "1") (Some (codes "1") ∷ [])
+    segment = (
+      codes "1",
       [],
-      _,
+      Some (codes "1") ∷ [],
+      [],
       refl,
       refl,
+      ([], refl, (codes "1", [], [], [], refl, refl, (0, (codes "1", [], refl, ((_, refl, refl), refl), refl), refl), (refl, refl))),
       (refl, refl),
-      (
-        _,
-        _,
-        [],
-        _,
-        refl,
-        refl,
-        (refl, refl),
-        (
-          _,
-          _,
-          [],
-          _,
-          refl,
-          refl,
-          (refl, refl),
-          (
-            _,
-            _,
-            [],
-            _,
-            refl,
-            refl,
-            (refl, refl),
-            (
-              codes "/1",
-              [],
-              Some (codes "1") ∷ [],
-              [],
-              refl,
-              refl,
-              (
-                _,
-                _,
-                [],
-                _,
-                refl,
-                refl,
-                (refl, refl),
-                (
-                  codes "1",
-                  [],
-                  Some (codes "1") ∷ [],
-                  [],
-                  refl,
-                  refl,
-                  ([], refl, (codes "1", [], [], [], refl, refl, (0, (codes "1", [], refl, ((_, refl, refl), refl), refl), refl), (refl, refl))),
-                  (refl, refl),
-                ),
-              ),
-              (refl, refl),
-            ),
-          ),
-        ),
-      ),
-    ),
-  ),
-)
+    )
+
+    behind_users : Means (once (Grouped (word_then (codes "/") segment_tree))) (codes "/1") (Some (codes "1") ∷ [])
+    behind_users = (codes "/1", [], Some (codes "1") ∷ [], [], refl, refl, word_means (codes "/") segment_tree (codes "1") (Some (codes "1") ∷ []) segment, (refl, refl))
 
 -- the tree of `^(?:a)?$`
 abbrev pub optional_tree : Items

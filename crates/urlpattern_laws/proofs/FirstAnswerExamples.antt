@@ -1,12 +1,13 @@
 -- Worked examples of the one answer of parts.
-use Rattle.std.proofs.Common.{ℕ, List, [], ◌∷◌, refl, Some, None}
+use Rattle.std.proofs.Common.{◌≡◌, ℕ, List, [], ◌∷◌, refl, Option, Some, None}
 use Rattle.std.proofs.lemmas.List.Elements.{All-cons, All-nil}
 use Rattle.std.specs.Prelude.{All, codes}
 use Rattle.urlpattern_laws.specs.FirstAnswers.{IsFirstOf}
+use Rattle.urlpattern_laws.specs.PartMeaning.{Captures}
 use Rattle.urlpattern_laws.specs.Ways.{first_way}
 use Rattle.urlpattern_syntax.specs.declared.parser.PartModifier.TheVariants as modifiers
 use Rattle.urlpattern_syntax.specs.declared.parser.PartType.TheVariants.{FullWildcard, SegmentWildcard}
-use Rattle.urlpattern_syntax.specs.Options.{default_options, pathname_options}
+use Rattle.urlpattern_syntax.specs.Options.{OptionsView, default_options, pathname_options}
 use Rattle.urlpattern_syntax.specs.Parts.{PartView}
 use Rattle.urlpattern_syntax.proofs.RegexpTextExamples.{group}
 use Rattle.urlpattern_laws.proofs.OneMeaning.{is_tree_of}
@@ -29,17 +30,22 @@ two_names =
       is_first = refl;
     }
 
+-- the first way of one part without a custom regular expression
+first_of_one : (options : OptionsView) (part : PartView) (text : List ℕ) (result : Option Captures) → IsNotCustom part
+    → result ≡ first_way (tree_of options (part ∷ [])) text → IsFirstOf options (part ∷ []) text result
+first_of_one options part text result plain is_first = record {
+  tree = tree_of options (part ∷ []);
+  is_tree = is_tree_of options (part ∷ []) (one_plain part plain);
+  is_first = is_first;
+}
+
 -- the pattern `*?` on the empty text takes part in it
 abbrev pub optional_wildcard : PartView
 optional_wildcard = group FullWildcard [] (codes "0") [] modifiers.Optional
 
 pub wildcard_on_nothing : IsFirstOf default_options (optional_wildcard ∷ []) [] (Some (Some [] ∷ []))
 unfolding first_way
-wildcard_on_nothing = record {
-  tree = tree_of default_options (optional_wildcard ∷ []);
-  is_tree = is_tree_of default_options (optional_wildcard ∷ []) (one_plain optional_wildcard (λ e. cc e));
-  is_first = refl;
-}
+wildcard_on_nothing = first_of_one default_options optional_wildcard [] (Some (Some [] ∷ [])) (λ e. cc e) refl
 
 -- the pattern `/:a?` of a path on the empty text takes no part, as the slash before the name is missing
 abbrev pub optional_segment : PartView
@@ -47,11 +53,7 @@ optional_segment = group SegmentWildcard (codes "/") (codes "a") [] modifiers.Op
 
 pub segment_on_nothing : IsFirstOf pathname_options (optional_segment ∷ []) [] (Some (None ∷ []))
 unfolding first_way
-segment_on_nothing = record {
-  tree = tree_of pathname_options (optional_segment ∷ []);
-  is_tree = is_tree_of pathname_options (optional_segment ∷ []) (one_plain optional_segment (λ e. cc e));
-  is_first = refl;
-}
+segment_on_nothing = first_of_one pathname_options optional_segment [] (Some (None ∷ [])) (λ e. cc e) refl
 
 -- the pattern `:x*` on `ab`: two copies are one capture
 abbrev pub repeated_name : PartView
@@ -59,8 +61,4 @@ repeated_name = group SegmentWildcard [] (codes "x") [] modifiers.ZeroOrMore
 
 pub copies_on_text : IsFirstOf default_options (repeated_name ∷ []) (codes "ab") (Some (Some (codes "ab") ∷ []))
 unfolding first_way
-copies_on_text = record {
-  tree = tree_of default_options (repeated_name ∷ []);
-  is_tree = is_tree_of default_options (repeated_name ∷ []) (one_plain repeated_name (λ e. cc e));
-  is_first = refl;
-}
+copies_on_text = first_of_one default_options repeated_name (codes "ab") (Some (Some (codes "ab") ∷ [])) (λ e. cc e) refl

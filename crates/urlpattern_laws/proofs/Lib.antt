@@ -1,5 +1,9 @@
+pub mod PlaceholderForms
+pub mod BraceForms
 pub mod PiecesUnique
+pub mod FrontTokens
 pub mod TokensUnique
+pub mod TokensPlaced
 pub mod TokensExist
 pub mod OutcomesExist
 pub mod OutcomeExamples
@@ -14,6 +18,7 @@ pub mod TokenLaws
 pub mod Encodings
 pub mod ReadingLaws
 pub mod CallbackLaws
+pub mod KindValues
 pub mod NameLaws
 pub mod RoundTripWords
 pub mod PartTrees

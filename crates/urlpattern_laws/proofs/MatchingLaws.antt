@@ -10,10 +10,10 @@ use Rattle.urlpattern_syntax.specs.declared.parser.PartType.TheVariants.{Segment
 use Rattle.urlpattern_syntax.specs.Errors.{ErrorView}
 use Rattle.urlpattern_laws.specs.Matching.{HasMiddle, IsSame, MayBeEmpty, PassesFilter, InnerView, Literal, SingleCapture, RegExp, MatcherView, IsEngineOf, IsMadeBetween, IsMadeOf, IsMadeOfOne, Matches, end_text, single_capture}
 use Rattle.urlpattern_syntax.specs.Options.{OptionsView}
-use Rattle.urlpattern_laws.specs.PartMeaning.{AreCaptures, Captures, IsCapture, IsWildcardText, PartMeans, PartsMean}
+use Rattle.urlpattern_laws.specs.PartMeaning.{Allows, Captures, IsCapture, IsWildcardText, PartMeans, PartsMean}
 use Rattle.urlpattern_syntax.specs.Parts.{PartView}
 use Rattle.urlpattern_syntax.specs.RegexpText.{IsWildcard}
-use Rattle.urlpattern_syntax.specs.Text.{lacks, line_feed}
+use Rattle.urlpattern_syntax.specs.Text.{IsRepeated, lacks, line_feed}
 use Rattle.urlpattern_laws.proofs.MeaningExamples.{part_alone}
 use Rattle.urlpattern_laws.proofs.MeaningLaws.{one_copy, peeled_means}
 use Rattle.urlpattern_syntax.proofs.TokenExamples.{no}
@@ -75,33 +75,37 @@ one_piece options part text captures (piece, e, is) (capture, (inner, f, g), h) 
     let same : inner ≡ piece = middle_cancel part.prefix inner piece part.suffix (sym f ∙ e) in
     (piece, e, is, h ∙ ap (λ c. c ∷ []) (g ∙ ap Some same))
 
+-- Copies of a wildcard between prefix and suffix, as many as the modifier allows, and their capture.
+abbrev pub WildcardMeans : OptionsView → PartView → List ℕ → Captures → Type 0
+WildcardMeans options part text captures =
+    (n : ℕ) × Allows part.modifier n
+    × IsRepeated (λ copy. (piece : List ℕ) × (copy ≡ part.prefix ++ piece ++ part.suffix) × IsWildcardText options part.kind piece) n text
+    × ((capture : Option (List ℕ)) × IsCapture part n text capture × (captures ≡ capture ∷ []))
+
+-- a wildcard of either kind means such copies
+pub wildcard_copies : (options : OptionsView) (kind : PartType) (modifier : PartModifier) (value name prefix suffix text : List ℕ) (captures : Captures) → IsWildcard kind →
+    PartMeans options (part_of kind modifier value name prefix suffix) text captures ↔ WildcardMeans options (part_of kind modifier value name prefix suffix) text captures
+wildcard_copies options SegmentWildcard modifier value name prefix suffix text captures h = (
+  λ means. (means.count, means.allowed, means.are_copies, means.are_captures),
+  λ means. record { count = means.0; allowed = means.1; are_copies = means.2; are_captures = means.3 },
+)
+wildcard_copies options FullWildcard modifier value name prefix suffix text captures h = (
+  λ means. (means.count, means.allowed, means.are_copies, means.are_captures),
+  λ means. record { count = means.0; allowed = means.1; are_copies = means.2; are_captures = means.3 },
+)
+wildcard_copies options kind modifier value name prefix suffix text captures h = absurd h
+
 one_by : (options : OptionsView) (kind : PartType) (value name prefix suffix text : List ℕ) (captures : Captures) → IsWildcard kind →
     PartMeans options (part_of kind modifiers.None value name prefix suffix) text captures ↔ IsOnePiece options (part_of kind modifiers.None value name prefix suffix) text captures
-one_by options SegmentWildcard value name prefix suffix text captures h = (
-  λ means.
-      one_piece options (part_of SegmentWildcard modifiers.None value name prefix suffix) text captures
-      (one_copy _ _ _ means.are_copies means.allowed)
-      (subst (λ n. AreCaptures SegmentWildcard (part_of SegmentWildcard modifiers.None value name prefix suffix) n text captures) means.allowed means.are_captures),
-  λ is. record {
-    count = 1;
-    allowed = refl;
-    are_copies = (text, [], sym (append-nil text), (is.0, is.1, is.2), refl);
-    are_captures = (Some is.0, (is.0, is.1, refl), is.3);
-  },
-)
-one_by options FullWildcard value name prefix suffix text captures h = (
-  λ means.
-      one_piece options (part_of FullWildcard modifiers.None value name prefix suffix) text captures
-      (one_copy _ _ _ means.are_copies means.allowed)
-      (subst (λ n. AreCaptures FullWildcard (part_of FullWildcard modifiers.None value name prefix suffix) n text captures) means.allowed means.are_captures),
-  λ is. record {
-    count = 1;
-    allowed = refl;
-    are_copies = (text, [], sym (append-nil text), (is.0, is.1, is.2), refl);
-    are_captures = (Some is.0, (is.0, is.1, refl), is.3);
-  },
-)
-one_by options kind value name prefix suffix text captures h = absurd h
+one_by options kind value name prefix suffix text captures h =
+    let part = part_of kind modifiers.None value name prefix suffix in
+    let same = wildcard_copies options kind modifiers.None value name prefix suffix text captures h in (
+      λ means.
+          let found = same.0 means in
+          one_piece options part text captures (one_copy _ _ _ found.2 found.1)
+          (subst (λ n. (capture : Option (List ℕ)) × IsCapture part n text capture × (captures ≡ capture ∷ [])) found.1 found.3),
+      λ is. same.1 (1, refl, (text, [], sym (append-nil text), (is.0, is.1, is.2), refl), (Some is.0, (is.0, is.1, refl), is.3)),
+    )
 
 -- ---- a single capture
 
@@ -158,29 +162,32 @@ abbrev pub AcceptsBetween : {E : Type 0} → (answer : E → List ℕ → Option
 AcceptsBetween answer front back text captures Mean matcher =
     IsFast matcher.inner → Matches answer matcher text captures ↔ ((inner : List ℕ) × (text ≡ front ++ inner ++ back) × Mean inner captures)
 
+wildcard_between : {E : Type 0} (answer : E → List ℕ → Option Captures) (options : OptionsView) (front back : List ℕ) (kind : PartType) (filter : Option ℕ) (allow_empty : Bool)
+    (value name prefix suffix : List ℕ) (matcher : MatcherView E) (text : List ℕ) (captures : Captures) →
+    IsWildcard kind → options.ignore_case ≡ false → IsTrue (lacks line_feed text) →
+    ((piece : List ℕ) → IsTrue (lacks line_feed piece) → (MayBeEmpty allow_empty piece × PassesFilter options.ignore_case filter piece) ↔ IsWildcardText options kind piece) →
+    matcher ≡ single_capture options front (part_of kind modifiers.None value name prefix suffix) back filter allow_empty →
+    Matches answer matcher text captures ↔ ((inner : List ℕ) × (text ≡ front ++ inner ++ back) × PartMeans options (part_of kind modifiers.None value name prefix suffix) inner captures)
+wildcard_between answer options front back kind filter allow_empty value name prefix suffix matcher text captures is_wildcard case no_feed accepts made =
+    let part = part_of kind modifiers.None value name prefix suffix in
+    let matches = matches_single answer options front back part filter allow_empty text captures case no_feed accepts in (
+      λ h.
+          let found = matches.0 (subst (λ m. Matches answer m text captures) made h) in
+          (found.0, found.1, (one_by options kind value name prefix suffix found.0 captures is_wildcard).1 found.2),
+      λ (inner, e, means).
+          subst (λ m. Matches answer m text captures) (sym made)
+          (matches.1 (inner, e, (one_by options kind value name prefix suffix inner captures is_wildcard).0 means)),
+    )
+
 one_between : {E : Type 0} (answer : E → List ℕ → Option Captures) (IsEngine : List ℕ → Result E ErrorView → Type 0) (options : OptionsView) (front back : List ℕ) (kind : PartType) (modifier : PartModifier) (value name prefix suffix : List ℕ) (matcher : MatcherView E) (text : List ℕ) (captures : Captures) →
     options.ignore_case ≡ false → IsTrue (lacks line_feed text) → IsMadeOfOne IsEngine kind modifier options front (part_of kind modifier value name prefix suffix) back matcher →
     AcceptsBetween answer front back text captures (PartMeans options (part_of kind modifier value name prefix suffix)) matcher
 one_between answer IsEngine options front back FullWildcard modifiers.None value name prefix suffix matcher text captures case no_feed made fast =
-    let part = part_of FullWildcard modifiers.None value name prefix suffix in
-    let matches = matches_single answer options front back part None true text captures case no_feed (accepts_full options) in (
-      λ h.
-          let found = matches.0 (subst (λ m. Matches answer m text captures) made h) in
-          (found.0, found.1, (one_by options FullWildcard value name prefix suffix found.0 captures tt).1 found.2),
-      λ (inner, e, means).
-          subst (λ m. Matches answer m text captures) (sym made)
-          (matches.1 (inner, e, (one_by options FullWildcard value name prefix suffix inner captures tt).0 means)),
-    )
+    wildcard_between answer options front back FullWildcard None true value name prefix suffix matcher text captures tt case no_feed
+    (accepts_full options) made
 one_between answer IsEngine options front back SegmentWildcard modifiers.None value name prefix suffix matcher text captures case no_feed made fast =
-    let part = part_of SegmentWildcard modifiers.None value name prefix suffix in
-    let matches = matches_single answer options front back part options.delimiter false text captures case no_feed (accepts_segment options case) in (
-      λ h.
-          let found = matches.0 (subst (λ m. Matches answer m text captures) made h) in
-          (found.0, found.1, (one_by options SegmentWildcard value name prefix suffix found.0 captures tt).1 found.2),
-      λ (inner, e, means).
-          subst (λ m. Matches answer m text captures) (sym made)
-          (matches.1 (inner, e, (one_by options SegmentWildcard value name prefix suffix inner captures tt).0 means)),
-    )
+    wildcard_between answer options front back SegmentWildcard options.delimiter false value name prefix suffix matcher text captures tt case no_feed
+    (accepts_segment options case) made
 one_between answer IsEngine options front back kind modifier value name prefix suffix matcher text captures case no_feed made fast =
     absurd (subst (λ m. IsFast m.inner) made.2 fast)
 

@@ -1,11 +1,11 @@
 -- The names of a reading's groups.
-use Rattle.std.proofs.Common.{rules, ◌≡◌, ◌≢◌, ℕ, zero, suc, ◌+◌, ◌-◌, ◌<◌, ◌≤◌, ◌/◌, ◌%◌, Bool, true, false, List, [], ◌∷◌, ◌++◌, Option, Some, None, refl, sym, ap, ◌∙◌, subst, arith}
-use Rattle.std.specs.Prelude.{◌==◌, All, AllPairs, Contains, decimal, if◌then◌else◌}
+use Rattle.std.proofs.Common.{◌≡◌, ◌≢◌, ℕ, suc, true, false, List, [], ◌∷◌, ◌++◌, Option, Some, None, refl, sym, ap, ◌∙◌, subst, arith}
+use Rattle.std.specs.Prelude.{All, AllPairs, Contains, decimal, if◌then◌else◌}
 use Rattle.std.specs.Char.{is_ascii_digit}
-use Rattle.std.specs.Fmt.{digit_glyph, digits, digits_onto}
-use Rattle.std.proofs.lemmas.Bool.{both_ways, cond_both, false≢true}
+use Rattle.std.proofs.lemmas.Bool.{both_ways, false≢true}
 use Rattle.std.proofs.lemmas.List.Elements.{All-cons, All-nil, All-weaker, Contains-append_left, Contains-push}
 use Rattle.std.proofs.lemmas.List.Kept.{AllPairs-cons}
+use Rattle.urlpattern_laws.proofs.KindValues.{AllOfKind, AllOfKind-right, PiecesHave, pieces_have, text_of_kind}
 use Rattle.urlpattern_syntax.proofs.ReadingLemmas.{item_names, names-AreParts}
 use Rattle.urlpattern_syntax.proofs.NameCharacters.{decimal_starts, name_start_no_digit, name_starts, starts_with_digit}
 use Rattle.urlpattern_syntax.specs.declared.parser.PartModifier.TheVariants as modifiers
@@ -14,36 +14,21 @@ use Rattle.urlpattern_syntax.specs.declared.tokenizer.TokenType.TheVariants.{Nam
 use Rattle.urlpattern_laws.specs.Laws.{CountFrom, numbers_among}
 use Rattle.urlpattern_syntax.specs.Options.{OptionsView}
 use Rattle.urlpattern_syntax.specs.Parts.{PartView}
-use Rattle.urlpattern_syntax.specs.Pieces.{ArePieces, Ending, IsPiece, IsPlaceholderOf, Matched, Piece, kinds, values}
+use Rattle.urlpattern_syntax.specs.Pieces.{ArePieces, Ending, IsPlaceholderOf, Matched, Piece, kinds, values}
 use Rattle.urlpattern_syntax.specs.Pieces.{Ending as endings, Matched as matched, Piece as pieces}
 use Rattle.urlpattern_syntax.specs.Reading.{AreMet, Capture, Demand, Encoding, Fixed, Item, Reads, demands_after, encode_fixed, items_from, items_of, joined_items, name_or, next_number, with_text}
 use Rattle.urlpattern_syntax.specs.RegexpText.{group_names}
-use Rattle.urlpattern_syntax.specs.Text.{begins_with, BeginsWith, is_name_start}
-use Rattle.urlpattern_syntax.specs.Tokens.{AreTokens, IsCut, IsName, IsTokenOf, Spells, TokenView, end_of}
+use Rattle.urlpattern_syntax.specs.Text.{begins_with, BeginsWith}
+use Rattle.urlpattern_syntax.specs.Tokens.{AreTokens, IsName, TokenView}
 
 -- ---- the names that tokens and placeholders give
 
 -- each Name has a name
 abbrev pub NameTokens : List TokenView → Type 0
-NameTokens [] = Unit {0}
-NameTokens (token ∷ tokens) = (token.kind ≡ Name → IsName token.value) × NameTokens tokens
-
-NameTokens-left : (xs ys : List TokenView) → NameTokens (xs ++ ys) → NameTokens xs
-NameTokens-left [] ys h = tt
-NameTokens-left (x ∷ xs) ys h = (h.0, NameTokens-left xs ys h.1)
-
-NameTokens-right : (xs ys : List TokenView) → NameTokens (xs ++ ys) → NameTokens ys
-NameTokens-right [] ys h = h
-NameTokens-right (x ∷ xs) ys h = NameTokens-right xs ys h.1
-
-cut_names : (whole text left : List ℕ) (tokens : List TokenView) → IsCut (IsTokenOf whole) text tokens left → NameTokens (tokens ++ end_of whole ∷ [])
-cut_names whole text left [] h = (λ k. absurd (cc k), tt)
-cut_names whole text left (token ∷ tokens) h =
-    let lexed = h.3.lexed in
-    (λ k. (subst (λ kind. Spells kind token.value lexed.spelling) k lexed.spells).1, cut_names whole h.1 left tokens h.4)
+NameTokens tokens = AllOfKind Name IsName tokens
 
 pub text_names : (text : List ℕ) (tokens : List TokenView) → AreTokens text tokens → NameTokens tokens
-text_names text tokens h = subst NameTokens (sym h.all) (cut_names text text [] h.front h.cut)
+text_names = text_of_kind Name IsName (λ e. cc e) (λ value text spells. spells.1)
 
 abbrev pub GivesName : Option (List ℕ) → Type 0
 GivesName None = Unit {0}
@@ -62,37 +47,12 @@ placeholder_name tokens (Some name) matched.Segment h is = first_name tokens [] 
 placeholder_name tokens (Some name) (matched.Custom body) h is = first_name tokens (Regexp ∷ []) (body ∷ []) name h is.0 is.1
 placeholder_name tokens (Some name) matched.Anything h is = absurd is
 
-abbrev pub piece_name : Piece → Option (List ℕ)
-piece_name (pieces.Text text) = None
-piece_name (pieces.TextGroup text modifier) = None
-piece_name (pieces.Bare prefix placeholder modifier) = placeholder.name
-piece_name (pieces.Group before placeholder after modifier) = placeholder.name
-
-piece_names : (point : List ℕ) (tokens rest : List TokenView) (piece : Piece) → NameTokens tokens → IsPiece point tokens piece rest → GivesName (piece_name piece)
-piece_names point tokens rest (pieces.Text text) h is = tt
-piece_names point tokens rest (pieces.TextGroup text modifier) h is = tt
-piece_names point tokens rest (pieces.Bare prefix placeholder modifier) h is =
-    placeholder_name is.middle placeholder.name placeholder.matched
-    (NameTokens-right is.front is.middle (NameTokens-left (is.front ++ is.middle) is.back (subst NameTokens is.cut h))) is.is_placeholder
-piece_names point tokens rest (pieces.Group before placeholder after modifier) h is =
-    let braces = is.1 in
-    let filled = is.2 in
-    let inner : NameTokens is.0 = NameTokens-left is.0 (braces.closing ∷ braces.back) (subst NameTokens braces.cut h).1 in
-    placeholder_name filled.middle placeholder.name placeholder.matched
-    (NameTokens-right filled.front filled.middle (NameTokens-left (filled.front ++ filled.middle) filled.back (subst NameTokens filled.cut inner))) filled.is_placeholder
-
 -- each piece with a name gives one
 abbrev pub NamePieces : List Piece → Type 0
-NamePieces [] = Unit {0}
-NamePieces (piece ∷ rest) = GivesName (piece_name piece) × NamePieces rest
+NamePieces list = PiecesHave (λ name what. GivesName name) list
 
 pub all_piece_names : (point : List ℕ) (tokens : List TokenView) (list : List Piece) (ending : Ending) → NameTokens tokens → ArePieces point tokens list ending → NamePieces list
-all_piece_names point tokens [] ending h are = tt
-all_piece_names point tokens (piece ∷ list) ending h are =
-    let all = subst NameTokens are.2 h in (
-      piece_names point are.0 are.1 piece (NameTokens-left are.0 are.1 all) are.3,
-      all_piece_names point are.1 list ending (NameTokens-right are.0 are.1 all) are.4,
-    )
+all_piece_names = pieces_have Name IsName (λ name what. GivesName name) placeholder_name
 
 -- ---- the names of items
 
@@ -234,4 +194,4 @@ name_undigited (c ∷ name) h b = both_ways (is_ascii_digit c) (name_start_no_di
 
 pub given_undigited : (text : List ℕ) (tokens front back : List TokenView) (token : TokenView) → AreTokens text tokens → tokens ≡ front ++ token ∷ back → token.kind ≡ Name → ¬ BeginsWith is_ascii_digit token.value
 given_undigited text tokens front back token h e k =
-    name_undigited token.value ((NameTokens-right front (token ∷ back) (subst NameTokens e (text_names text tokens h))).0 k)
+    name_undigited token.value ((AllOfKind-right Name IsName front (token ∷ back) (subst NameTokens e (text_names text tokens h))).0 k)

@@ -28,25 +28,16 @@ use Rattle.urlpattern_syntax.specs.Tokens.{AreTokens, TokenView}
 -- two kinds are one or not
 kind_or_other : (kind other : TokenType) → (kind ≡ other) ⊎ (kind ≢ other)
 kind_or_other Open Open = inl refl
-kind_or_other Open other = inr (λ e. cc e)
 kind_or_other Close Close = inl refl
-kind_or_other Close other = inr (λ e. cc e)
 kind_or_other Regexp Regexp = inl refl
-kind_or_other Regexp other = inr (λ e. cc e)
 kind_or_other Name Name = inl refl
-kind_or_other Name other = inr (λ e. cc e)
 kind_or_other Char Char = inl refl
-kind_or_other Char other = inr (λ e. cc e)
 kind_or_other EscapedChar EscapedChar = inl refl
-kind_or_other EscapedChar other = inr (λ e. cc e)
 kind_or_other OtherModifier OtherModifier = inl refl
-kind_or_other OtherModifier other = inr (λ e. cc e)
 kind_or_other Asterisk Asterisk = inl refl
-kind_or_other Asterisk other = inr (λ e. cc e)
 kind_or_other End End = inl refl
-kind_or_other End other = inr (λ e. cc e)
 kind_or_other InvalidChar InvalidChar = inl refl
-kind_or_other InvalidChar other = inr (λ e. cc e)
+kind_or_other kind other = inr (λ e. cc e)
 
 -- a name is among some names or not
 contained_or_not : (names : List (List ℕ)) (name : List ℕ) → Contains names name ⊎ (¬ Contains names name)

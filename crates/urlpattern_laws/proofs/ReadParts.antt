@@ -1,5 +1,5 @@
 -- The parts that a text reads as are such as a pattern text may be read as.
-use Rattle.std.proofs.Common.{◌≡◌, ◌≢◌, ℕ, suc, ◌⊎◌, Bool, true, false, not, List, [], ◌∷◌, ◌++◌, Option, Some, None, refl, sym, ap, ◌∙◌, subst, inl, inr}
+use Rattle.std.proofs.Common.{◌≡◌, ◌≢◌, ℕ, suc, ◌⊎◌, Bool, true, false, not, List, [], ◌∷◌, Option, Some, None, refl, sym, ap, ◌∙◌, subst, inl, inr}
 use Rattle.std.specs.Prelude.{IsTrue, bytes_eq, codes, decimal, if◌then◌else◌}
 use Rattle.std.specs.Char.{is_ascii_digit}
 use Rattle.std.proofs.lemmas.Bool.{cond_both, false≢true}
@@ -12,13 +12,14 @@ use Rattle.urlpattern_syntax.specs.declared.parser.PartType.TheVariants as part_
 use Rattle.urlpattern_syntax.specs.declared.tokenizer.TokenType.TheVariants.{Name, Regexp}
 use Rattle.urlpattern_syntax.specs.Options.{OptionsView}
 use Rattle.urlpattern_syntax.specs.Parts.{PartView}
-use Rattle.urlpattern_syntax.specs.Pieces.{ArePieces, Ending, IsPiece, IsPlaceholderOf, Matched, Piece, kinds, values}
+use Rattle.urlpattern_syntax.specs.Pieces.{ArePieces, Ending, IsPlaceholderOf, Matched, Piece, kinds, values}
 use Rattle.urlpattern_syntax.specs.Pieces.{Ending as endings, Matched as matched, Piece as pieces}
 use Rattle.urlpattern_syntax.specs.Reading.{AreParts, Capture, Encoding, Fixed, Item, Reads, capture_part, compared, items_from, items_of, joined_items, kind_of, name_or, next_number, value_of, with_text}
 use Rattle.urlpattern_syntax.specs.RegexpText.{full_wildcard, segment_wildcard, segment_wildcard_of}
 use Rattle.urlpattern_syntax.specs.Text.{begins_with, is_among}
-use Rattle.urlpattern_syntax.specs.Tokens.{AreTokens, IsCut, IsName, IsRegexpBody, IsTokenOf, Spells, TokenView, end_of}
+use Rattle.urlpattern_syntax.specs.Tokens.{AreTokens, IsName, IsRegexpBody, TokenView}
 use Rattle.urlpattern_laws.specs.RoundTrip.{AllHaveFields, AreNamed, ArePatternParts, HasFields, IsNamed, number_behind}
+use Rattle.urlpattern_laws.proofs.KindValues.{AllOfKind, PiecesHave, pieces_have, text_of_kind}
 use Rattle.urlpattern_laws.proofs.NameLaws.{GivesName, NamePieces, all_piece_names, names_distinct, text_names}
 use Rattle.urlpattern_syntax.proofs.NameCharacters.{decimal_starts, name_starts, starts_with_digit}
 
@@ -26,25 +27,10 @@ use Rattle.urlpattern_syntax.proofs.NameCharacters.{decimal_starts, name_starts,
 
 -- each Regexp has a body
 abbrev BodyTokens : List TokenView → Type 0
-BodyTokens [] = Unit {0}
-BodyTokens (token ∷ tokens) = (token.kind ≡ Regexp → IsRegexpBody token.value) × BodyTokens tokens
-
-BodyTokens-left : (xs ys : List TokenView) → BodyTokens (xs ++ ys) → BodyTokens xs
-BodyTokens-left [] ys h = tt
-BodyTokens-left (x ∷ xs) ys h = (h.0, BodyTokens-left xs ys h.1)
-
-BodyTokens-right : (xs ys : List TokenView) → BodyTokens (xs ++ ys) → BodyTokens ys
-BodyTokens-right [] ys h = h
-BodyTokens-right (x ∷ xs) ys h = BodyTokens-right xs ys h.1
-
-cut_bodies : (whole text left : List ℕ) (tokens : List TokenView) → IsCut (IsTokenOf whole) text tokens left → BodyTokens (tokens ++ end_of whole ∷ [])
-cut_bodies whole text left [] h = (λ k. absurd (cc k), tt)
-cut_bodies whole text left (token ∷ tokens) h =
-    let lexed = h.3.lexed in
-    (λ k. (subst (λ kind. Spells kind token.value lexed.spelling) k lexed.spells).1, cut_bodies whole h.1 left tokens h.4)
+BodyTokens tokens = AllOfKind Regexp IsRegexpBody tokens
 
 text_bodies : (text : List ℕ) (tokens : List TokenView) → AreTokens text tokens → BodyTokens tokens
-text_bodies text tokens h = subst BodyTokens (sym h.all) (cut_bodies text text [] h.front h.cut)
+text_bodies = text_of_kind Regexp IsRegexpBody (λ e. cc e) (λ value text spells. spells.1)
 
 abbrev GivesBody : Matched → Type 0
 GivesBody (matched.Custom body) = IsRegexpBody body
@@ -86,37 +72,12 @@ record HasMatch (name : Option (List ℕ)) (what : Matched) : Type 0 where
 placeholder_match : (tokens : List TokenView) (name : Option (List ℕ)) (what : Matched) → BodyTokens tokens → IsPlaceholderOf tokens name what → HasMatch name what
 placeholder_match tokens name what h is = record { body = placeholder_body tokens name what h is; segment = placeholder_segment tokens name what is }
 
-abbrev PieceMatch : Piece → Type 0
-PieceMatch (pieces.Text text) = Unit {0}
-PieceMatch (pieces.TextGroup text modifier) = Unit {0}
-PieceMatch (pieces.Bare prefix placeholder modifier) = HasMatch placeholder.name placeholder.matched
-PieceMatch (pieces.Group before placeholder after modifier) = HasMatch placeholder.name placeholder.matched
-
-piece_match : (point : List ℕ) (tokens rest : List TokenView) (piece : Piece) → BodyTokens tokens → IsPiece point tokens piece rest → PieceMatch piece
-piece_match point tokens rest (pieces.Text text) h is = tt
-piece_match point tokens rest (pieces.TextGroup text modifier) h is = tt
-piece_match point tokens rest (pieces.Bare prefix placeholder modifier) h is =
-    placeholder_match is.middle placeholder.name placeholder.matched
-    (BodyTokens-right is.front is.middle (BodyTokens-left (is.front ++ is.middle) is.back (subst BodyTokens is.cut h))) is.is_placeholder
-piece_match point tokens rest (pieces.Group before placeholder after modifier) h is =
-    let braces = is.1 in
-    let filled = is.2 in
-    let inner : BodyTokens is.0 = BodyTokens-left is.0 (braces.closing ∷ braces.back) (subst BodyTokens braces.cut h).1 in
-    placeholder_match filled.middle placeholder.name placeholder.matched
-    (BodyTokens-right filled.front filled.middle (BodyTokens-left (filled.front ++ filled.middle) filled.back (subst BodyTokens filled.cut inner))) filled.is_placeholder
-
 -- each piece has such a match
 abbrev MatchPieces : List Piece → Type 0
-MatchPieces [] = Unit {0}
-MatchPieces (piece ∷ rest) = PieceMatch piece × MatchPieces rest
+MatchPieces list = PiecesHave HasMatch list
 
 all_piece_matches : (point : List ℕ) (tokens : List TokenView) (list : List Piece) (ending : Ending) → BodyTokens tokens → ArePieces point tokens list ending → MatchPieces list
-all_piece_matches point tokens [] ending h are = tt
-all_piece_matches point tokens (piece ∷ list) ending h are =
-    let all = subst BodyTokens are.2 h in (
-      piece_match point are.0 are.1 piece (BodyTokens-left are.0 are.1 all) are.3,
-      all_piece_matches point are.1 list ending (BodyTokens-right are.0 are.1 all) are.4,
-    )
+all_piece_matches = pieces_have Regexp IsRegexpBody HasMatch placeholder_match
 
 -- ---- items
 

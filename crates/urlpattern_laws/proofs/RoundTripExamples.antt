@@ -9,9 +9,9 @@ use Rattle.urlpattern_syntax.specs.Errors.{ErrorView as views}
 use Rattle.urlpattern_syntax.specs.Options.{OptionsView, default_options, pathname_options, standard_options}
 use Rattle.urlpattern_syntax.specs.Parts.{PartView}
 use Rattle.urlpattern_syntax.specs.Pieces.{Piece, Text, Bare, Segment, Anything, Custom, Placeholder, Stops}
-use Rattle.urlpattern_syntax.specs.Reading.{Encoding, Reads, Refuses}
+use Rattle.urlpattern_syntax.specs.Reading.{AreMet, AreParts, Encoding, Reads, Refuses, demands, items_of}
 use Rattle.urlpattern_syntax.specs.RegexpText.{escaped}
-use Rattle.urlpattern_syntax.specs.Tokens.{AreTokens, IsRegexpBody, InvalidRegex, NoBody, Nothing, Plain, reason}
+use Rattle.urlpattern_syntax.specs.Tokens.{AreTokens, IsRegexpBody, InvalidRegex, NoBody, Nothing, Plain, TokenView, reason}
 use Rattle.urlpattern_syntax.proofs.PieceExamples.{PieceCut, bare, ends, piece, pieces_of}
 use Rattle.urlpattern_syntax.proofs.ReadingExamples.{first_name, keeping, other_name}
 use Rattle.urlpattern_syntax.proofs.RegexpTextExamples.{group}
@@ -30,6 +30,21 @@ keeps_texts (text ∷ texts) = (λ answer. (λ e. e, λ e. e), keeps_texts texts
 
 pub keeps_parts : (parts : List PartView) → Keeps keeping parts
 keeps_parts parts = keeps_texts ([] ∷ encoded_texts (joined parts))
+
+-- a text reads as these parts by its tokens, its pieces, what is met and what the parts are
+read_by : {text : List ℕ} {tokens : List TokenView} {pieces : List Piece} {found : TokenView} {parts : List PartView} (options : OptionsView)
+    (encoding : Encoding) → AreTokens text tokens → PieceCut options.prefix (Stops found) tokens pieces
+    → AreMet encoding (demands (items_of pieces) (Stops found)) → AreParts options encoding (items_of pieces) parts
+    → Reads text options encoding parts
+read_by options encoding are_tokens cut met are_parts = record {
+  tokens = _;
+  pieces = _;
+  found = _;
+  are_tokens = are_tokens;
+  are_pieces = pieces_of cut;
+  are_met = met;
+  are_parts = are_parts;
+}
 
 -- a slash and a name, which print as `/{:x}`
 pub slash_printable : IsPrintable pathname_options (plain (codes "/") ∷ segment [] (codes "x") [] ∷ [])
@@ -63,6 +78,13 @@ lone placeholder = Bare [] placeholder modifiers.None
 abbrev named : List ℕ → Piece
 named name = lone (record { name = Some name; matched = Segment })
 
+-- two names, one behind the other
+names_cut : (point first second : List ℕ) (place end : ℕ)
+    → PieceCut point (Stops (token tokens.End end [])) (token tokens.Name 0 first ∷ token tokens.Name place second ∷ token tokens.End end [] ∷ [])
+    (named first ∷ named second ∷ [])
+names_cut point first second place end =
+    piece 1 (bare 0 1 (inl (refl, refl)) (refl, refl) refl no no) (piece 1 (bare 0 1 (inl (refl, refl)) (refl, refl) refl no no) (ends (_, refl, refl)))
+
 -- an empty fixed text: nothing is printed, and nothing is read
 pub empty_text : printed default_options (plain [] ∷ []) ≡ []
 unfolding printing
@@ -87,15 +109,7 @@ between_cut : PieceCut [] (Stops (token tokens.End 3 [])) (token tokens.Name 0 (
 between_cut = piece 1 (bare 0 1 (inl (refl, refl)) (refl, refl) refl no no) (ends (_, refl, refl))
 
 pub between_read : Reads (codes ":xb") default_options keeping (segment [] (codes "xb") [] ∷ [])
-between_read = record {
-  tokens = _;
-  pieces = between_pieces;
-  found = token tokens.End 3 [];
-  are_tokens = between_tokens;
-  are_pieces = pieces_of between_cut;
-  are_met = (first_name, ((_, refl), ((_, refl), (refl, tt))));
-  are_parts = ([], [], [], refl, refl, refl, refl);
-}
+between_read = read_by default_options keeping between_tokens between_cut (first_name, ((_, refl), ((_, refl), (refl, tt)))) ([], [], [], refl, refl, refl, refl)
 
 -- a tab: it is skipped where it is read
 pub tab_text : printed default_options (plain (codes "\t") ∷ []) ≡ codes "\t"
@@ -125,22 +139,8 @@ letter_tokens = record {
   all = refl;
 }
 
-abbrev letter_pieces : List Piece
-letter_pieces = named (codes "xa") ∷ named (codes "y") ∷ []
-
-letter_cut : PieceCut (codes "a") (Stops (token tokens.End 5 [])) (token tokens.Name 0 (codes "xa") ∷ token tokens.Name 3 (codes "y") ∷ token tokens.End 5 [] ∷ []) letter_pieces
-letter_cut = piece 1 (bare 0 1 (inl (refl, refl)) (refl, refl) refl no no) (piece 1 (bare 0 1 (inl (refl, refl)) (refl, refl) refl no no) (ends (_, refl, refl)))
-
 pub letter_read : Reads (codes ":xa:y") letter_options keeping (segment [] (codes "xa") [] ∷ segment [] (codes "y") [] ∷ [])
-letter_read = record {
-  tokens = _;
-  pieces = letter_pieces;
-  found = token tokens.End 5 [];
-  are_tokens = letter_tokens;
-  are_pieces = pieces_of letter_cut;
-  are_met = (first_name, ((_, refl), ((_, refl), (other_name (λ e. cc), ((_, refl), ((_, refl), (refl, tt)))))));
-  are_parts = ([], [], _, refl, refl, refl, ([], [], [], refl, refl, refl, refl));
-}
+letter_read = read_by letter_options keeping letter_tokens (names_cut (codes "a") (codes "xa") (codes "y") 3 5) (first_name, ((_, refl), ((_, refl), (other_name (λ e. cc), ((_, refl), ((_, refl), (refl, tt))))))) ([], [], _, refl, refl, refl, ([], [], [], refl, refl, refl, refl))
 
 -- one that is a mark: its backslash keeps it from the name behind it
 pub mark_text : printed (standard_options None (codes "*")) (segment (codes "*") (codes "x") [] ∷ []) ≡ codes "\\*:x"
@@ -169,15 +169,7 @@ number_cut = piece 1 (bare 0 1 (inl (refl, refl)) refl refl tt no) (ends (_, ref
 
 pub number_read : Reads (codes "*") default_options keeping (wildcard (codes "0") ∷ [])
 unfolding digits
-number_read = record {
-  tokens = _;
-  pieces = number_pieces;
-  found = token tokens.End 1 [];
-  are_tokens = number_tokens;
-  are_pieces = pieces_of number_cut;
-  are_met = (first_name, ((_, refl), ((_, refl), (refl, tt))));
-  are_parts = ([], [], [], refl, refl, refl, refl);
-}
+number_read = read_by default_options keeping number_tokens number_cut (first_name, ((_, refl), ((_, refl), (refl, tt)))) ([], [], [], refl, refl, refl, refl)
 
 -- two groups of one name
 pub twice_text : printed default_options (segment [] (codes "x") [] ∷ segment [] (codes "x") [] ∷ []) ≡ codes ":x:x"
@@ -192,19 +184,13 @@ twice_tokens = record {
   all = refl;
 }
 
-abbrev twice_pieces : List Piece
-twice_pieces = named (codes "x") ∷ named (codes "x") ∷ []
-
-twice_cut : PieceCut [] (Stops (token tokens.End 4 [])) (token tokens.Name 0 (codes "x") ∷ token tokens.Name 2 (codes "x") ∷ token tokens.End 4 [] ∷ []) twice_pieces
-twice_cut = piece 1 (bare 0 1 (inl (refl, refl)) (refl, refl) refl no no) (piece 1 (bare 0 1 (inl (refl, refl)) (refl, refl) refl no no) (ends (_, refl, refl)))
-
 pub twice_refused : Refuses (codes ":x:x") default_options keeping (views.DuplicateName (codes "x"))
 twice_refused = inr (record {
   tokens = _;
-  pieces = twice_pieces;
+  pieces = named (codes "x") ∷ named (codes "x") ∷ [];
   ending = Stops (token tokens.End 4 []);
   are_tokens = twice_tokens;
-  are_pieces = pieces_of twice_cut;
+  are_pieces = pieces_of (names_cut [] (codes "x") (codes "x") 2 4);
   fails = inr (first_name, inr ((_, refl), inr ((_, refl), inl ((0, omega arith, refl), refl))));
 })
 
@@ -251,15 +237,7 @@ full_cut = piece 1 (bare 0 1 (inl (refl, refl)) (refl, refl) refl tt no) (ends (
 
 pub full_read : Reads (codes "(.*)") default_options keeping (wildcard (codes "0") ∷ [])
 unfolding escaped digits
-full_read = record {
-  tokens = _;
-  pieces = full_pieces;
-  found = token tokens.End 4 [];
-  are_tokens = full_tokens;
-  are_pieces = pieces_of full_cut;
-  are_met = (first_name, ((_, refl), ((_, refl), (refl, tt))));
-  are_parts = ([], [], [], refl, refl, refl, refl);
-}
+full_read = read_by default_options keeping full_tokens full_cut (first_name, ((_, refl), ((_, refl), (refl, tt)))) ([], [], [], refl, refl, refl, refl)
 
 -- a value that is none of a group's
 pub value_text : printed default_options (record (wildcard (codes "0")) { value = codes "a" } ∷ []) ≡ codes "*"
@@ -291,12 +269,4 @@ changed_cut : PieceCut [] (Stops (token tokens.End 1 [])) (token tokens.Char 0 (
 changed_cut = piece 1 (_, refl, refl, refl, λ k v. no) (ends (_, refl, refl))
 
 pub changed_read : Reads (codes "a") default_options changing (plain (codes "b") ∷ [])
-changed_read = record {
-  tokens = _;
-  pieces = changed_pieces;
-  found = token tokens.End 1 [];
-  are_tokens = changed_tokens;
-  are_pieces = pieces_of changed_cut;
-  are_met = ((_, refl), (refl, tt));
-  are_parts = (codes "b", [], refl, refl, refl);
-}
+changed_read = read_by default_options changing changed_tokens changed_cut ((_, refl), (refl, tt)) (codes "b", [], refl, refl, refl)

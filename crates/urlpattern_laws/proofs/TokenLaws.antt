@@ -2,7 +2,7 @@
 use Rattle.std.proofs.Common.{◌≡◌, ◌≢◌, ℕ, List, [], ◌∷◌, ◌++◌, refl, sym, ap, ◌∙◌, append_assoc}
 use Rattle.std.specs.Prelude.{codes}
 use Rattle.std.proofs.lemmas.List.{append-nil}
-use Rattle.urlpattern_laws.proofs.TokensUnique.{end_last, last_end, tokens_stand}
+use Rattle.urlpattern_laws.proofs.TokensPlaced.{end_last, last_end, tokens_stand}
 use Rattle.urlpattern_syntax.specs.declared.tokenizer.TokenType.{TokenType}
 use Rattle.urlpattern_syntax.specs.declared.tokenizer.TokenType.TheVariants.{Name, EscapedChar, Regexp, End}
 use Rattle.urlpattern_laws.specs.Laws.{spelling}

@@ -1,5 +1,5 @@
 -- The ways of a tree in a text, and in the same text with another after it: those that take nothing of the other.
-use Rattle.std.proofs.Common.{◌≡◌, ℕ, zero, suc, ◌+◌, ◌≤◌, ◌<◌, List, [], ◌∷◌, ◌++◌, map, length, Bool, true, false, cond, if◌then◌else◌, nat_lt, not, ◌==◌, refl, sym, ap, ◌∙◌, subst, length-append, inl, inr, ◌⊎◌, arith, lt-ltb, le-ltb, ⊎_elim}
+use Rattle.std.proofs.Common.{◌≡◌, ℕ, zero, suc, ◌≤◌, ◌<◌, List, [], ◌∷◌, ◌++◌, map, length, Bool, true, false, cond, if◌then◌else◌, nat_lt, not, ◌==◌, refl, sym, ap, ◌∙◌, subst, length-append, inl, inr, ◌⊎◌, arith, lt-ltb, le-ltb, ⊎_elim}
 use Rattle.std.proofs.lemmas.Bool.{cases_Bool, cond-false, ltb-false, ltb-true}
 use Rattle.urlpattern_laws.specs.Dialect.{character_of, Quantifier, Once, Optional, ZeroOrMore, OneOrMore, LazyOneOrMore, Items, Nothing, Item, Atom, Literal, Dot, AnyBut, Captured, Grouped, atom_group_count, AreItems, IsAtom, Means, AtomMeans}
 use Rattle.urlpattern_laws.specs.PartMeaning.{Captures}

@@ -1,5 +1,5 @@
 use Rattle.urlpattern_laws.proofs.TokenLaws.{value_stands}
-use Rattle.urlpattern_laws.proofs.TokensUnique.{tokens_lay, tokens_rise, tokens_stand, last_end, end_last}
+use Rattle.urlpattern_laws.proofs.TokensPlaced.{tokens_lay, tokens_rise, tokens_stand, last_end, end_last}
 use Rattle.urlpattern_laws.proofs.laws.tokens_lose_nothing.Goals as goal
 
 pub returns-clause-lay : goal.returns-clause-lay

@@ -1,33 +1,22 @@
-use Rattle.std.proofs.Common.{◌≡◌, [], length, refl, unwrap_or, Some, Ok, ◌∙◌}
-use Rattle.std.proofs.lemmas.Result.{err_from_is_err_and}
-use Rattle.std.specs.Str.{chars}
+use Rattle.std.proofs.Common.{[], refl, unwrap_or, Some, Ok, ◌∙◌}
 use Rattle.url.specs.Setters.{set_fragment}
-use Rattle.urlpattern_canonical.proofs.CanonicalLemmas.{after-err, after-ok, canonical-empty, canonical-err, canonical-ok, is_empty-false, is_empty-true, told-err, told-ok, unwrapped-copied}
-use Rattle.urlpattern_canonical.specs.Canonical.{canonical_hash, dummy_url, hash_of}
+use Rattle.urlpattern_canonical.proofs.CanonicalLemmas.{unwrapped-copied}
+use Rattle.urlpattern_canonical.proofs.SettingLemmas.{empty-answered, set-answered, set-refused}
+use Rattle.urlpattern_canonical.specs.Canonical.{dummy_url, hash_of}
 use Rattle.urlpattern_canonical.proofs.canonicalize_and_process.Canonicalizer.hash.Goals as goal
 
 pub returns-then-is_empty : goal.returns-then-is_empty
 returns-then-is_empty c =
-    canonical-empty hash_of c.args.value.now c.new.result (is_empty-true c.args.value.now c.is_empty.result c.is_empty.ensures c.if-is_empty.true)
-    c.new.ensures.bytes
+    empty-answered hash_of c.args.value.now c.new.result c.is_empty.ensures c.if-is_empty.true c.new.ensures.bytes
 
 pub returns-in_err-told : goal.returns-in_err-told
 returns-in_err-told c =
-    let p = err_from_is_err_and c.from_residual-in_err-told.result c.from_residual-in_err-told.ensures.1 in
-    let value = c.args.value.now in
-    let some : ¬ (length value ≡ 0) = is_empty-false value c.is_empty.result c.is_empty.ensures c.if-is_empty.false in
-    rw (p.1, p.2)
-    (told-err (λ _. c.set_fragment.new.self) c.set_fragment.result (Ok (set_fragment c.in_ok-url.url (Some value))) (canonical_hash (chars value)) (length value)
-    c.told.result c.in_err-told.field-0.0 c.set_fragment.ensures.0 c.told.ensures c.in_err-told.was
-    (λ reason refused. canonical-err hash_of value reason c.utf8.value some
-    (after-err dummy_url (λ url. Ok (set_fragment url (Some value))) (λ url. unwrap_or url.fragment []) c.in_ok-url.url reason c.in_ok-url.ensures.ok refused)))
+    set-refused dummy_url (λ value url. Ok (set_fragment url (Some value))) (λ url. unwrap_or url.fragment []) c.args.value.now c.set_fragment.new.self c.set_fragment.result c.told.result
+    c.from_residual-in_err-told.result c.in_err-told.field-0.0 c.utf8.value c.is_empty.ensures c.if-is_empty.false c.in_ok-url.ensures.ok
+    c.set_fragment.ensures.0 c.told.ensures c.in_err-told.was c.from_residual-in_err-told.ensures.1
 
 pub returns : goal.returns
 returns c =
-    let value = c.args.value.now in
-    canonical-ok hash_of value (unwrap_or c.set_fragment.new.self.fragment []) c.in_ok-from_str.field-0 c.utf8.value
-    (is_empty-false value c.is_empty.result c.is_empty.ensures c.if-is_empty.false)
-    (after-ok dummy_url (λ url. Ok (set_fragment url (Some value))) (λ url. unwrap_or url.fragment []) c.in_ok-url.url c.set_fragment.new.self c.in_ok-url.ensures.ok
-    (told-ok (λ _. c.set_fragment.new.self) c.set_fragment.result (Ok (set_fragment c.in_ok-url.url (Some value))) (length value) c.told.result c.in_ok-told.field-0 c.set_fragment.ensures.0
-    c.told.ensures c.in_ok-told.was))
-    (c.in_ok-from_str.ensures.ok ∙ unwrapped-copied c.fragment.result c.unwrap_or.result _ _ c.fragment.ensures.value refl c.unwrap_or.ensures)
+    set-answered dummy_url (λ value url. Ok (set_fragment url (Some value))) (λ url. unwrap_or url.fragment []) c.args.value.now c.set_fragment.new.self c.set_fragment.result c.told.result
+    c.in_ok-from_str.field-0 c.utf8.value c.is_empty.ensures c.if-is_empty.false c.in_ok-url.ensures.ok c.set_fragment.ensures.0 c.told.ensures
+    c.in_ok-told.was (c.in_ok-from_str.ensures.ok ∙ unwrapped-copied c.fragment.result c.unwrap_or.result _ _ c.fragment.ensures.value refl c.unwrap_or.ensures)

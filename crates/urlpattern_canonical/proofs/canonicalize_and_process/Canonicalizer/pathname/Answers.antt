@@ -1,43 +1,36 @@
 use Rattle.std.proofs.Common.{◌≡◌, ◌++◌, length, codes, sym, ap, Ok, ◌∙◌}
-use Rattle.std.proofs.lemmas.Result.{err_from_is_err_and}
-use Rattle.std.specs.Str.{chars}
 use Rattle.url.specs.Parser.{and_then}
-use Rattle.urlpattern_canonical.proofs.CanonicalLemmas.{canonical-empty, canonical-err, canonical-ok, is_empty-false, is_empty-true, pathname_of-bare, pathname_of-slash, tells-through}
-use Rattle.urlpattern_canonical.specs.Canonical.{canonical_pathname, dummy_url, path_of, pathname_of, without_guard}
+use Rattle.urlpattern_canonical.proofs.CanonicalLemmas.{pathname_of-bare, pathname_of-slash}
+use Rattle.urlpattern_canonical.proofs.SettingLemmas.{answered, empty-answered, refused}
+use Rattle.urlpattern_canonical.specs.Canonical.{dummy_url, path_of, pathname_of, without_guard}
 use Rattle.urlpattern_canonical.proofs.canonicalize_and_process.Canonicalizer.pathname.Goals as goal
 
 pub returns-then-is_empty : goal.returns-then-is_empty
 returns-then-is_empty c =
-    canonical-empty pathname_of c.args.value.now c.new.result (is_empty-true c.args.value.now c.is_empty.result c.is_empty.ensures c.if-is_empty.true)
-    c.new.ensures.bytes
+    empty-answered pathname_of c.args.value.now c.new.result c.is_empty.ensures c.if-is_empty.true c.new.ensures.bytes
 
 pub returns-then-begins_with_slash : goal.returns-then-begins_with_slash
 returns-then-begins_with_slash c =
     let value = c.args.value.now in
-    let some : ¬ (length value ≡ 0) = is_empty-false value c.is_empty.result c.is_empty.ensures c.if-is_empty.false in
-    canonical-ok pathname_of value c.in_ok-url.url.path c.in_ok-from_str.field-0 c.utf8.value some
+    answered pathname_of value c.in_ok-url.url.path c.in_ok-from_str.field-0 c.utf8.value c.is_empty.ensures c.if-is_empty.false
     (pathname_of-slash value (sym c.begins_with_slash.ensures.bytes ∙ c.if-begins_with_slash.true) ∙ c.in_ok-url.ensures)
     (c.in_ok-from_str.ensures.ok ∙ c.path.ensures.value)
 
 pub returns-in_err-url-2 : goal.returns-in_err-url-2
 returns-in_err-url-2 c =
-    let p = err_from_is_err_and c.from_residual-in_err-url-2.result c.from_residual-in_err-url-2.ensures.1 in
     let value = c.args.value.now in
-    let some : ¬ (length value ≡ 0) = is_empty-false value c.is_empty.result c.is_empty.ensures c.if-is_empty.false in
     let text : c.deref.result.now ≡ codes "/-" ++ value = c.deref.ensures ∙ c.in_ok-guarded.ensures.ok in
-    rw (p.1, p.2)
-    (tells-through (path_of dummy_url c.deref.result.now) (canonical_pathname (chars value)) (length value) c.in_err-url-2.field-0.0
-    (λ reason refused. canonical-err pathname_of value reason c.utf8.value some
-    (pathname_of-bare value (sym c.begins_with_slash.ensures.bytes ∙ c.if-begins_with_slash.false)
-    ∙ ap (λ parsed. and_then parsed (λ path. Ok (without_guard path))) (ap (path_of dummy_url) (sym text) ∙ refused)))
-    c.in_err-url-2.ensures)
+    refused pathname_of (path_of dummy_url c.deref.result.now) value (length value) c.from_residual-in_err-url-2.result c.in_err-url-2.field-0.0
+    c.utf8.value c.is_empty.ensures c.if-is_empty.false
+    (λ reason no. pathname_of-bare value (sym c.begins_with_slash.ensures.bytes ∙ c.if-begins_with_slash.false)
+    ∙ ap (λ parsed. and_then parsed (λ path. Ok (without_guard path))) (ap (path_of dummy_url) (sym text) ∙ no)) c.in_err-url-2.ensures
+    c.from_residual-in_err-url-2.ensures.1
 
 pub returns : goal.returns
 returns c =
     let value = c.args.value.now in
-    let some : ¬ (length value ≡ 0) = is_empty-false value c.is_empty.result c.is_empty.ensures c.if-is_empty.false in
     let text : c.deref.result.now ≡ codes "/-" ++ value = c.deref.ensures ∙ c.in_ok-guarded.ensures.ok in
-    canonical-ok pathname_of value (without_guard c.in_ok-url-2.url.path) c.in_ok-from_str-2.field-0 c.utf8.value some
+    answered pathname_of value (without_guard c.in_ok-url-2.url.path) c.in_ok-from_str-2.field-0 c.utf8.value c.is_empty.ensures c.if-is_empty.false
     (pathname_of-bare value (sym c.begins_with_slash.ensures.bytes ∙ c.if-begins_with_slash.false)
     ∙ ap (λ parsed. and_then parsed (λ path. Ok (without_guard path))) (ap (path_of dummy_url) (sym text) ∙ c.in_ok-url-2.ensures))
     (c.in_ok-from_str-2.ensures.ok ∙ c.without_guard.ensures ∙ ap without_guard c.path-2.ensures.value)

@@ -1,33 +1,22 @@
-use Rattle.std.proofs.Common.{◌≡◌, [], length, refl, unwrap_or, Some, Ok, ◌∙◌}
-use Rattle.std.proofs.lemmas.Result.{err_from_is_err_and}
-use Rattle.std.specs.Str.{chars}
+use Rattle.std.proofs.Common.{[], refl, unwrap_or, Some, Ok, ◌∙◌}
 use Rattle.url.specs.Setters.{set_query}
-use Rattle.urlpattern_canonical.proofs.CanonicalLemmas.{after-err, after-ok, canonical-empty, canonical-err, canonical-ok, is_empty-false, is_empty-true, told-err, told-ok, unwrapped-copied}
-use Rattle.urlpattern_canonical.specs.Canonical.{canonical_search, dummy_url, search_of}
+use Rattle.urlpattern_canonical.proofs.CanonicalLemmas.{unwrapped-copied}
+use Rattle.urlpattern_canonical.proofs.SettingLemmas.{empty-answered, set-answered, set-refused}
+use Rattle.urlpattern_canonical.specs.Canonical.{dummy_url, search_of}
 use Rattle.urlpattern_canonical.proofs.canonicalize_and_process.Canonicalizer.search.Goals as goal
 
 pub returns-then-is_empty : goal.returns-then-is_empty
 returns-then-is_empty c =
-    canonical-empty search_of c.args.value.now c.new.result (is_empty-true c.args.value.now c.is_empty.result c.is_empty.ensures c.if-is_empty.true)
-    c.new.ensures.bytes
+    empty-answered search_of c.args.value.now c.new.result c.is_empty.ensures c.if-is_empty.true c.new.ensures.bytes
 
 pub returns-in_err-told : goal.returns-in_err-told
 returns-in_err-told c =
-    let p = err_from_is_err_and c.from_residual-in_err-told.result c.from_residual-in_err-told.ensures.1 in
-    let value = c.args.value.now in
-    let some : ¬ (length value ≡ 0) = is_empty-false value c.is_empty.result c.is_empty.ensures c.if-is_empty.false in
-    rw (p.1, p.2)
-    (told-err (λ _. c.set_query.new.self) c.set_query.result (Ok (set_query c.in_ok-url.url (Some value))) (canonical_search (chars value)) (length value)
-    c.told.result c.in_err-told.field-0.0 c.set_query.ensures.0 c.told.ensures c.in_err-told.was
-    (λ reason refused. canonical-err search_of value reason c.utf8.value some
-    (after-err dummy_url (λ url. Ok (set_query url (Some value))) (λ url. unwrap_or url.query []) c.in_ok-url.url reason c.in_ok-url.ensures.ok refused)))
+    set-refused dummy_url (λ value url. Ok (set_query url (Some value))) (λ url. unwrap_or url.query []) c.args.value.now c.set_query.new.self c.set_query.result c.told.result
+    c.from_residual-in_err-told.result c.in_err-told.field-0.0 c.utf8.value c.is_empty.ensures c.if-is_empty.false c.in_ok-url.ensures.ok
+    c.set_query.ensures.0 c.told.ensures c.in_err-told.was c.from_residual-in_err-told.ensures.1
 
 pub returns : goal.returns
 returns c =
-    let value = c.args.value.now in
-    canonical-ok search_of value (unwrap_or c.set_query.new.self.query []) c.in_ok-from_str.field-0 c.utf8.value
-    (is_empty-false value c.is_empty.result c.is_empty.ensures c.if-is_empty.false)
-    (after-ok dummy_url (λ url. Ok (set_query url (Some value))) (λ url. unwrap_or url.query []) c.in_ok-url.url c.set_query.new.self c.in_ok-url.ensures.ok
-    (told-ok (λ _. c.set_query.new.self) c.set_query.result (Ok (set_query c.in_ok-url.url (Some value))) (length value) c.told.result c.in_ok-told.field-0 c.set_query.ensures.0
-    c.told.ensures c.in_ok-told.was))
-    (c.in_ok-from_str.ensures.ok ∙ unwrapped-copied c.query.result c.unwrap_or.result _ _ c.query.ensures.value refl c.unwrap_or.ensures)
+    set-answered dummy_url (λ value url. Ok (set_query url (Some value))) (λ url. unwrap_or url.query []) c.args.value.now c.set_query.new.self c.set_query.result c.told.result
+    c.in_ok-from_str.field-0 c.utf8.value c.is_empty.ensures c.if-is_empty.false c.in_ok-url.ensures.ok c.set_query.ensures.0 c.told.ensures
+    c.in_ok-told.was (c.in_ok-from_str.ensures.ok ∙ unwrapped-copied c.query.result c.unwrap_or.result _ _ c.query.ensures.value refl c.unwrap_or.ensures)

@@ -1,33 +1,21 @@
-use Rattle.std.proofs.Common.{◌≡◌, length, ◌∙◌}
-use Rattle.std.proofs.lemmas.Result.{err_from_is_err_and}
-use Rattle.std.specs.Str.{chars}
+use Rattle.std.proofs.Common.{◌∙◌}
 use Rattle.url.specs.Setters.{set_username}
-use Rattle.urlpattern_canonical.proofs.CanonicalLemmas.{after-err, after-ok, canonical-empty, canonical-err, canonical-ok, is_empty-false, is_empty-true, told-err, told-ok}
-use Rattle.urlpattern_canonical.specs.Canonical.{canonical_username, dummy_url, username_of}
+use Rattle.urlpattern_canonical.proofs.SettingLemmas.{empty-answered, set-answered, set-refused}
+use Rattle.urlpattern_canonical.specs.Canonical.{dummy_url, username_of}
 use Rattle.urlpattern_canonical.proofs.canonicalize_and_process.Canonicalizer.username.Goals as goal
 
 pub returns-then-is_empty : goal.returns-then-is_empty
 returns-then-is_empty c =
-    canonical-empty username_of c.args.value.now c.new.result (is_empty-true c.args.value.now c.is_empty.result c.is_empty.ensures c.if-is_empty.true)
-    c.new.ensures.bytes
+    empty-answered username_of c.args.value.now c.new.result c.is_empty.ensures c.if-is_empty.true c.new.ensures.bytes
 
 pub returns-in_err-told : goal.returns-in_err-told
 returns-in_err-told c =
-    let p = err_from_is_err_and c.from_residual-in_err-told.result c.from_residual-in_err-told.ensures.1 in
-    let value = c.args.value.now in
-    let some : ¬ (length value ≡ 0) = is_empty-false value c.is_empty.result c.is_empty.ensures c.if-is_empty.false in
-    rw (p.1, p.2)
-    (told-err (λ _. c.set_username.new.self) c.set_username.result (set_username c.in_ok-url.url value) (canonical_username (chars value)) (length value)
-    c.told.result c.in_err-told.field-0.0 c.set_username.ensures.0 c.told.ensures c.in_err-told.was
-    (λ reason refused. canonical-err username_of value reason c.utf8.value some
-    (after-err dummy_url (λ url. set_username url value) (λ url. url.username) c.in_ok-url.url reason c.in_ok-url.ensures.ok refused)))
+    set-refused dummy_url (λ value url. set_username url value) (λ url. url.username) c.args.value.now c.set_username.new.self c.set_username.result c.told.result
+    c.from_residual-in_err-told.result c.in_err-told.field-0.0 c.utf8.value c.is_empty.ensures c.if-is_empty.false c.in_ok-url.ensures.ok
+    c.set_username.ensures.0 c.told.ensures c.in_err-told.was c.from_residual-in_err-told.ensures.1
 
 pub returns : goal.returns
 returns c =
-    let value = c.args.value.now in
-    canonical-ok username_of value (c.set_username.new.self.username) c.in_ok-from_str.field-0 c.utf8.value
-    (is_empty-false value c.is_empty.result c.is_empty.ensures c.if-is_empty.false)
-    (after-ok dummy_url (λ url. set_username url value) (λ url. url.username) c.in_ok-url.url c.set_username.new.self c.in_ok-url.ensures.ok
-    (told-ok (λ _. c.set_username.new.self) c.set_username.result (set_username c.in_ok-url.url value) (length value) c.told.result c.in_ok-told.field-0 c.set_username.ensures.0
-    c.told.ensures c.in_ok-told.was))
-    (c.in_ok-from_str.ensures.ok ∙ c.username.ensures)
+    set-answered dummy_url (λ value url. set_username url value) (λ url. url.username) c.args.value.now c.set_username.new.self c.set_username.result c.told.result
+    c.in_ok-from_str.field-0 c.utf8.value c.is_empty.ensures c.if-is_empty.false c.in_ok-url.ensures.ok c.set_username.ensures.0 c.told.ensures
+    c.in_ok-told.was (c.in_ok-from_str.ensures.ok ∙ c.username.ensures)

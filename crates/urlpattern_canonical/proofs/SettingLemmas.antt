@@ -1,0 +1,113 @@
+-- Lemmas on calls that ask `url` about a value: the value is set on a URL and read back.
+use Rattle.std.proofs.Common.{◌≡◌, ◌≢◌, ℕ, false, true, ◌==◌, List, [], ◌++◌, length, max, codes, Ok, Err, String, string_bytes, subst, refl, sym, ap, ◌∙◌}
+use Rattle.std.proofs.lemmas.Str.{encodes-chars}
+use Rattle.std.specs.Prelude.{Bool, encode_utf8_all, option_copied, unwrap_or, IsErrAnd, Option, Result}
+use Rattle.std.specs.Borrow.{Bor}
+use Rattle.std.specs.Str.{chars, IsUtf8}
+use Rattle.std.specs.declared.alloc.Global.{Global}
+use Rattle.url.specs.declared.error.ParseError.{ParseError}
+use Rattle.url.specs.declared.error.ParseError.TheVariants.{OutOfMemory}
+use Rattle.url.specs.Parser.{GivesBy, Parsed}
+use Rattle.url.specs.Parts.{Parts}
+use Rattle.urlpattern_canonical.proofs.CanonicalLemmas.{after-err, after-ok, canonical-empty, canonical-err, canonical-ok, is_empty-false, is_empty-true, tells-through, told-err, told-ok, told_as-err, told_as-ok, unwrap_or-chars, unwrapped-copied}
+use Rattle.urlpattern_canonical.specs.Asking.{IsToldAs}
+use Rattle.urlpattern_canonical.specs.Canonical.{IsAnswer, IsTold, Tells, after, canonical, option_text, port_bytes, scheme_for_port, told_as}
+use Rattle.urlpattern_syntax.specs.declared.error.Error.{Error}
+use Rattle.urlpattern_syntax.specs.Errors.{MemoryOr}
+use Rattle.urlpattern_syntax.specs.Text.{text_of}
+
+-- ---- any question
+
+-- the empty text needs none
+pub empty-answered : (ask : List ℕ → Parsed (List ℕ)) (value : List ℕ) {tested : Bool} (string : String Global) → tested ≡ (length value == 0)
+    → tested ≡ true → string_bytes string ≡ [] → canonical ask (chars value) ≡ Ok (text_of string)
+empty-answered ask value {tested} string is_tested none empty =
+    canonical-empty ask value string (is_empty-true value tested is_tested none) empty
+
+-- the answer
+pub answered : (ask : List ℕ → Parsed (List ℕ)) (value : List ℕ) {tested : Bool} (answer : List ℕ) (string : String Global) → IsUtf8 value
+    → tested ≡ (length value == 0) → tested ≡ false → ask value ≡ Ok answer → string_bytes string ≡ answer
+    → canonical ask (chars value) ≡ Ok (text_of string)
+answered ask value {tested} answer string u is_tested some asked is_answer =
+    canonical-ok ask value answer string u (is_empty-false value tested is_tested some) asked is_answer
+
+-- an error that is handed on
+handed_on : (asked : Parsed (List ℕ)) (bytes : ℕ) (result : Result (String Global) Error) (error : Error) → IsErrAnd result (λ e. e ≡ error)
+    → MemoryOr (Tells asked bytes) error → IsAnswer asked bytes result
+handed_on asked bytes (Ok text) error was told = absurd was
+handed_on asked bytes (Err e) error was told = subst (MemoryOr (Tells asked bytes)) (sym was) told
+
+-- the refusal of a step
+pub refused : {T : Type 0} (ask : List ℕ → Parsed (List ℕ)) (asked : Parsed T) (value : List ℕ) {tested : Bool} (bytes : ℕ)
+    (result : Result (String Global) Error) (error : Error) → IsUtf8 value → tested ≡ (length value == 0) → tested ≡ false
+    → ((reason : ParseError) → asked ≡ Err reason → ask value ≡ Err reason) → MemoryOr (Tells asked bytes) error
+    → IsErrAnd result (λ e. e ≡ error) → IsAnswer (canonical ask (chars value)) bytes result
+refused ask asked value {tested} bytes result error u is_tested some step told was =
+    handed_on (canonical ask (chars value)) bytes result error was
+    (tells-through asked (canonical ask (chars value)) bytes error
+    (λ reason no. canonical-err ask value reason u (is_empty-false value tested is_tested some) (step reason no)) told)
+
+-- ---- a value that is set
+
+module _ {T : Type 0} (url : Parsed Parts) (set : List ℕ → Parts → Parsed Parts) (get : Parts → List ℕ) (value : List ℕ) {tested : Bool}
+    {old : Parts} (new : Parts) (answer : Parsed T) (told : Result T Error) where
+  pub set-answered : {found : T} (string : String Global) → IsUtf8 value → tested ≡ (length value == 0) → tested ≡ false → url ≡ Ok old
+      → GivesBy (λ _. new) answer (set value old) → IsTold answer (length value) told → told ≡ Ok found → string_bytes string ≡ get new
+      → canonical (λ bytes. after url (set bytes) get) (chars value) ≡ Ok (text_of string)
+  set-answered {found} string u is_tested some is_old gives is_told was is_new =
+      answered (λ bytes. after url (set bytes) get) value (get new) string u is_tested some
+      (after-ok url (set value) get old new is_old
+      (told-ok (λ _. new) answer (set value old) (length value) told found gives is_told was)) is_new
+
+  pub set-refused : (result : Result (String Global) Error) (error : Error) → IsUtf8 value → tested ≡ (length value == 0) → tested ≡ false
+      → url ≡ Ok old → GivesBy (λ _. new) answer (set value old) → IsTold answer (length value) told → told ≡ Err error
+      → IsErrAnd result (λ e. e ≡ error) → IsAnswer (canonical (λ bytes. after url (set bytes) get) (chars value)) (length value) result
+  set-refused result error u is_tested some is_old gives is_told failed was =
+      let ask : List ℕ → Parsed (List ℕ) = λ bytes. after url (set bytes) get in
+      handed_on (canonical ask (chars value)) (length value) result error was
+      (told-err (λ _. new) answer (set value old) (canonical ask (chars value)) (length value) told error gives is_told failed
+      (λ reason no. canonical-err ask value reason u (is_empty-false value tested is_tested some) (after-err url (set value) get old reason is_old no)))
+
+-- the question where each refusal is told as this one
+abbrev pub ask_as : ParseError → Parsed Parts → (List ℕ → Parts → Parsed Parts) → (Parts → List ℕ) → List ℕ → Parsed (List ℕ)
+ask_as reason url set get text = after url (λ start. told_as reason (set text start)) get
+
+module _ {T : Type 0} (reason : ParseError) (url : Parsed Parts) (set : List ℕ → Parts → Parsed Parts) (get : Parts → List ℕ) (value : List ℕ)
+    {tested : Bool} (bytes : ℕ) {old : Parts} (new : Parts) (answer : Parsed T) (told : Result T Error) where
+  pub set_as-answered : {found : T} (string : String Global) → IsUtf8 value → tested ≡ (length value == 0) → tested ≡ false → url ≡ Ok old
+      → GivesBy (λ _. new) answer (set value old) → IsToldAs reason answer bytes told → told ≡ Ok found → string_bytes string ≡ get new
+      → canonical (ask_as reason url set get) (chars value) ≡ Ok (text_of string)
+  set_as-answered {found} string u is_tested some is_old gives is_told was is_new =
+      answered (ask_as reason url set get) value (get new) string u is_tested some
+      (after-ok url (λ start. told_as reason (set value start)) get old new is_old
+      (told_as-ok (λ _. new) answer (set value old) reason bytes told found gives is_told was)) is_new
+
+  pub set_as-refused : (result : Result (String Global) Error) (error : Error) → reason ≢ OutOfMemory → IsUtf8 value
+      → tested ≡ (length value == 0) → tested ≡ false → url ≡ Ok old → GivesBy (λ _. new) answer (set value old)
+      → IsToldAs reason answer bytes told → told ≡ Err error → IsErrAnd result (λ e. e ≡ error)
+      → IsAnswer (canonical (ask_as reason url set get) (chars value)) bytes result
+  set_as-refused result error proper u is_tested some is_old gives is_told failed was =
+      handed_on (canonical (ask_as reason url set get) (chars value)) bytes result error was
+      (told_as-err (λ _. new) answer (set value old) (canonical (ask_as reason url set get) (chars value)) reason bytes told error proper gives is_told failed
+      (λ no. canonical-err (ask_as reason url set get) value reason u (is_empty-false value tested is_tested some)
+      (after-err url (λ start. told_as reason (set value start)) get old reason is_old no)))
+
+-- ---- the URL that a port is set on, and the longest of the texts that are asked about
+
+module _ (protocol : Option (Bor (List ℕ))) (given default : Bor (List ℕ)) where
+  pub port-url : (scheme text : List ℕ) → default.now ≡ [] → given ≡ unwrap_or protocol default → chars scheme ≡ scheme_for_port (chars given.now)
+      → IsUtf8 scheme → text ≡ scheme ++ codes "://dummy.test"
+      → text ≡ encode_utf8_all (scheme_for_port (unwrap_or (option_text protocol) [])) ++ codes "://dummy.test"
+  port-url scheme text empty is_given is_scheme u is_text =
+      let found : unwrap_or (option_text protocol) [] ≡ chars given.now
+      = unwrap_or-chars (option_copied protocol) ∙ ap chars (sym (unwrapped-copied protocol given default _ refl empty is_given))
+      in
+      let spelled : encode_utf8_all (scheme_for_port (unwrap_or (option_text protocol) [])) ≡ scheme
+      = ap (λ t. encode_utf8_all (scheme_for_port t)) found ∙ ap encode_utf8_all (sym is_scheme) ∙ encodes-chars scheme u
+      in
+      is_text ∙ ap (λ x. x ++ codes "://dummy.test") (sym spelled)
+
+  pub port-bytes : (value : List ℕ) (bytes : ℕ) → default.now ≡ [] → given ≡ unwrap_or protocol default → bytes ≡ max (length value) (length given.now)
+      → bytes ≡ port_bytes value protocol
+  port-bytes value bytes empty is_given is_bytes =
+      is_bytes ∙ ap (λ t. max (length value) (length t)) (unwrapped-copied protocol given default _ refl empty is_given)

@@ -1,0 +1,83 @@
+//! The URLs on which values are set.
+ghost use Rattle.std.specs.Prelude.{◌≡◌, None, Ok, IfOk, IfErr, MatchResult};
+ghost use Rattle.url.specs.Parser.{parse_url};
+ghost use Rattle.urlpattern_syntax.specs.Errors.{MemoryOr};
+ghost use Rattle.urlpattern_syntax.specs.declared.error.Error.TheVariants as errors;
+ghost use Rattle.urlpattern_canonical.specs.Canonical.{Tells, dummy_url, opaque_url, path_of};
+
+use super::Canonicalizer;
+use super::refusals::told;
+use std::alloc::Global;
+use url::Url;
+use urlpattern_syntax::Error;
+
+/// The URL on which values are set.
+const DUMMY_URL: &str = "http://dummy.test";
+
+/// A URL with an opaque path.
+const OPAQUE_URL: &str = "data:dummy,test";
+
+impl Canonicalizer {
+    /// For a single value: the URL is parsed when it is needed.
+    pub fn new(alloc: Global) -> Self {
+        Self { alloc, dummy: None }
+    }
+
+    /// For several values: the URL is parsed here, and copied for each value.
+    ///
+    /// The error is that memory ran out.
+    pub fn shared(alloc: Global) -> Result<Self, Error>
+        ensures { IfErr result (λ error. error ≡ errors.OutOfMemory) }
+    {
+        let url = parse_dummy(alloc)?;
+        Ok(Self {
+            alloc,
+            dummy: Some(url),
+        })
+    }
+
+    /// The URL on which a value is set.
+    pub(super) fn dummy(&self) -> Result<Url, Error>
+        ensures ok { IfOk result (λ url. dummy_url ≡ Ok url) }
+        ensures memory { IfErr result (λ error. error ≡ errors.OutOfMemory) }
+    {
+        match &self.dummy {
+            Some(url) => Ok(url.clone()?),
+            None => parse_dummy(self.alloc),
+        }
+    }
+
+    /// The URL on which values are set, with this path.
+    pub(super) fn dummy_with_path(&self, path: &str, bytes: usize) -> Result<Url, Error>
+        ensures { MatchResult result (λ url. path_of dummy_url path.now ≡ Ok url.path)
+            (MemoryOr (Tells (path_of dummy_url path.now) bytes)) }
+    {
+        let mut url = self.dummy()?;
+        told(url.set_path(path), bytes)?;
+        Ok(url)
+    }
+}
+
+/// Parses the URL on which opaque paths are set.
+pub(super) fn parse_opaque(alloc: Global) -> Result<Url, Error>
+    ensures ok { IfOk result (λ url. opaque_url ≡ Ok url) }
+    ensures memory { IfErr result (λ error. error ≡ errors.OutOfMemory) }
+{
+    parse(alloc, OPAQUE_URL, 0)
+}
+
+/// Parses the URL on which values are set.
+fn parse_dummy(alloc: Global) -> Result<Url, Error>
+    ensures ok { IfOk result (λ url. dummy_url ≡ Ok url) }
+    ensures memory { IfErr result (λ error. error ≡ errors.OutOfMemory) }
+{
+    parse(alloc, DUMMY_URL, 0)
+}
+
+/// Parses a URL, in a question about texts of this many bytes at most.
+pub(super) fn parse(alloc: Global, text: &str, bytes: usize) -> Result<Url, Error>
+    ensures ok { IfOk result (λ url. parse_url None text.now ≡ Ok url) }
+    ensures err { IfErr result (MemoryOr (Tells (parse_url None text.now) bytes)) }
+{
+    told(Url::parse(alloc, text), bytes)
+}

@@ -1,0 +1,174 @@
+//! Canonical values of the components of a URL: what `url` answers once they are set.
+ghost use Rattle.std.specs.Prelude.{◌≡◌, length, IsAscii};
+ghost use Rattle.std.specs.Str.{chars};
+ghost use Rattle.urlpattern_canonical.specs.Canonical.{IsAnswer, canonical_hash, canonical_hostname, canonical_opaque_pathname, canonical_password, canonical_pathname, canonical_port, canonical_protocol, canonical_search, canonical_username, option_text, port_bytes, scheme_for_port, without_guard};
+
+use super::Canonicalizer;
+use super::marks::begins_with_slash;
+use super::refusals::{told, told_as};
+use super::urls::{parse, parse_opaque};
+use url::{ParseError, quirks};
+use urlpattern_syntax::Error;
+
+impl Canonicalizer {
+    /// The canonical protocol: the scheme of a URL.
+    ///
+    /// The error is the refusal of `url`, or that memory ran out.
+    pub fn protocol(&self, value: &str) -> Result<String, Error>
+        ensures { IsAnswer (canonical_protocol (chars value.now)) (length value.now) result }
+    {
+        if value.is_empty() {
+            return Ok(String::new(self.alloc));
+        }
+        let text = format!(in self.alloc; "{value}://dummy.test")?;
+        let url = parse(self.alloc, &text, value.len())?;
+        Ok(String::from_str(self.alloc, url.scheme())?)
+    }
+
+    /// The canonical user name.
+    ///
+    /// The error is the refusal of `url`, or that memory ran out.
+    pub fn username(&self, value: &str) -> Result<String, Error>
+        ensures { IsAnswer (canonical_username (chars value.now)) (length value.now) result }
+    {
+        if value.is_empty() {
+            return Ok(String::new(self.alloc));
+        }
+        let mut url = self.dummy()?;
+        told(url.set_username(value), value.len())?;
+        Ok(String::from_str(self.alloc, url.username())?)
+    }
+
+    /// The canonical password.
+    ///
+    /// The error is the refusal of `url`, or that memory ran out.
+    pub fn password(&self, value: &str) -> Result<String, Error>
+        ensures { IsAnswer (canonical_password (chars value.now)) (length value.now) result }
+    {
+        if value.is_empty() {
+            return Ok(String::new(self.alloc));
+        }
+        let mut url = self.dummy()?;
+        told(url.set_password(Some(value)), value.len())?;
+        Ok(String::from_str(self.alloc, quirks::password(&url))?)
+    }
+
+    /// The canonical hostname.
+    ///
+    /// The error is the refusal of `url`, or that memory ran out.
+    pub fn hostname(&self, value: &str) -> Result<String, Error>
+        ensures { IsAnswer (canonical_hostname (chars value.now)) (length value.now) result }
+    {
+        if value.is_empty() {
+            return Ok(String::new(self.alloc));
+        }
+        let mut url = self.dummy()?;
+        let answer = quirks::set_hostname(&mut url, value);
+        told_as(ParseError::InvalidDomainCharacter, answer, value.len())?;
+        Ok(String::from_str(self.alloc, quirks::hostname(&url))?)
+    }
+
+    /// The canonical port under a protocol, empty if it is the protocol's default.
+    ///
+    /// The error is the refusal of `url`, or that memory ran out.
+    pub fn port(&self, value: &str, protocol: Option<&str>) -> Result<String, Error>
+        ensures { IsAnswer (canonical_port (option_text protocol.entry) (chars value.now)) (port_bytes value.now protocol.entry) result }
+    {
+        if value.is_empty() {
+            return Ok(String::new(self.alloc));
+        }
+        let protocol = protocol.unwrap_or("");
+        let scheme = scheme_for_port(protocol);
+        let bytes = value.len().max(protocol.len());
+        let text = format!(in self.alloc; "{scheme}://dummy.test")?;
+        let mut url = parse(self.alloc, &text, bytes)?;
+        told_as(
+            ParseError::InvalidPort,
+            quirks::set_port(&mut url, value),
+            bytes,
+        )?;
+        Ok(String::from_str(self.alloc, quirks::port(&url))?)
+    }
+
+    /// The canonical path of segments.
+    ///
+    /// The error is the refusal of `url`, or that memory ran out.
+    pub fn pathname(&self, value: &str) -> Result<String, Error>
+        ensures { IsAnswer (canonical_pathname (chars value.now)) (length value.now) result }
+    {
+        if value.is_empty() {
+            return Ok(String::new(self.alloc));
+        }
+        if begins_with_slash(value) {
+            let url = self.dummy_with_path(value, value.len())?;
+            return Ok(String::from_str(self.alloc, url.path())?);
+        }
+        let guarded = format!(in self.alloc; "/-{value}")?;
+        let url = self.dummy_with_path(&guarded, value.len())?;
+        Ok(String::from_str(self.alloc, without_guard(url.path()))?)
+    }
+
+    /// The canonical opaque path.
+    ///
+    /// The error is the refusal of `url`, or that memory ran out.
+    pub fn opaque_pathname(&self, value: &str) -> Result<String, Error>
+        ensures { IsAnswer (canonical_opaque_pathname (chars value.now)) (length value.now) result }
+    {
+        if value.is_empty() {
+            return Ok(String::new(self.alloc));
+        }
+        let mut url = parse_opaque(self.alloc)?;
+        told(url.set_path(value), value.len())?;
+        Ok(String::from_str(self.alloc, url.path())?)
+    }
+
+    /// The canonical query.
+    ///
+    /// The error is the refusal of `url`, or that memory ran out.
+    pub fn search(&self, value: &str) -> Result<String, Error>
+        ensures { IsAnswer (canonical_search (chars value.now)) (length value.now) result }
+    {
+        if value.is_empty() {
+            return Ok(String::new(self.alloc));
+        }
+        let mut url = self.dummy()?;
+        told(url.set_query(Some(value)), value.len())?;
+        Ok(String::from_str(self.alloc, url.query().unwrap_or(""))?)
+    }
+
+    /// The canonical fragment.
+    ///
+    /// The error is the refusal of `url`, or that memory ran out.
+    pub fn hash(&self, value: &str) -> Result<String, Error>
+        ensures { IsAnswer (canonical_hash (chars value.now)) (length value.now) result }
+    {
+        if value.is_empty() {
+            return Ok(String::new(self.alloc));
+        }
+        let mut url = self.dummy()?;
+        told(url.set_fragment(Some(value)), value.len())?;
+        Ok(String::from_str(self.alloc, url.fragment().unwrap_or(""))?)
+    }
+}
+
+/// The scheme that a port is read under.
+fn scheme_for_port(protocol: &str) -> &str
+    ensures { chars result.now ≡ scheme_for_port (chars protocol.now) }
+{
+    if protocol.is_empty() {
+        "dummy"
+    } else {
+        protocol
+    }
+}
+
+/// The path without `/-` at its front.
+fn without_guard(path: &str) -> &str
+    requires { IsAscii path.now }
+    ensures { result.now ≡ without_guard path.now }
+{
+    match path.as_bytes() {
+        [b'/', b'-', ..] => &path[2..],
+        _ => path,
+    }
+}
