@@ -2,7 +2,7 @@
 use Rattle.std.proofs.Common.{◌≡◌, ◌≢◌, ℕ, Bool, true, false, ◌==◌, ◌≤◌, ◌<◌, ◌⊎◌, List, [], ◌∷◌, ◌++◌, length, length-append, codes, Ok, Err, String, string_bytes, subst, refl, sym, ap, ◌∙◌, arith, inl, inr}
 use Rattle.std.proofs.lemmas.Bool.{cases_lt, le-ltb, lt-ltb}
 use Rattle.std.proofs.lemmas.Str.{byte_from_char, len_utf8_bounds, length-encode, char_from_byte, chars-nil, encodes-chars}
-use Rattle.std.specs.Prelude.{encode_utf8_all, option_copied, option_map, slice_index, if◌then◌else◌, unwrap_or, IfErr, IfOk, IsErrAnd, MatchResult, Option, None, Some, Result}
+use Rattle.std.specs.Prelude.{encode_utf8_all, option_copied, option_map, slice_index, if◌then◌else◌, unwrap_or, IfErr, IfOk, Option, None, Some, Result}
 use Rattle.std.specs.Borrow.{Bor}
 use Rattle.std.specs.Char.{encode_utf8}
 use Rattle.std.specs.Str.{chars, IsUtf8}
