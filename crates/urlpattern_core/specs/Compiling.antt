@@ -4,6 +4,7 @@ use Rattle.std.specs.Borrow.{Bor}
 use Rattle.std.specs.List.{list_any}
 use Rattle.std.specs.Str.{chars}
 use Rattle.urlpattern_core.specs.declared.component.Component.{Component}
+use Rattle.urlpattern_core.specs.declared.regexp.RegExp.{Ghosts as Engine}
 use Rattle.urlpattern_core.specs.Matchers.{engine_view, matcher_view}
 use Rattle.urlpattern_laws.specs.Matching.{IsEngineOf, IsMadeOf, MatcherView}
 use Rattle.urlpattern_laws.specs.Printing.{printed}
@@ -77,3 +78,17 @@ pub record IsComponentOf {E : Type 0} (IsMade : E → (regexp flags : List ℕ) 
 abbrev pub IsCompiledFrom : {E : Type 0} → (IsMade : E → (regexp flags : List ℕ) → Type 0) → (MayRefuse : (regexp flags : List ℕ) → (force_eval : Bool) → Type 0) → RegexSyntax → (text : List ℕ) → OptionsView → Encoding → ComponentView E → Type 0
 IsCompiledFrom IsMade MayRefuse syntax text options encoding component =
     (parts : List PartView) × Reads text options encoding parts × IsComponentOf IsMade MayRefuse syntax options parts component
+
+-- ---- what a type of engines means, as one
+
+-- a component of these parts
+abbrev pub IsComponentBy : {E : Type 0} → Engine E → OptionsView → List PartView → ComponentView E → Type 0
+IsComponentBy engine = IsComponentOf engine.IsMade engine.MayRefuse engine.syntax_of
+
+-- a component that is compiled from the text
+abbrev pub IsCompiledBy : {E : Type 0} → Engine E → (text : List ℕ) → OptionsView → Encoding → ComponentView E → Type 0
+IsCompiledBy engine = IsCompiledFrom engine.IsMade engine.MayRefuse engine.syntax_of
+
+-- a matcher of these parts
+abbrev pub IsMatcherBy : {E : Type 0} → Engine E → OptionsView → (flags : List ℕ) → List PartView → MatcherView E → Type 0
+IsMatcherBy engine = IsMadeOf engine.IsMade (MayRefuseAtFirst engine.MayRefuse)

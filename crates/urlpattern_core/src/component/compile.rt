@@ -3,14 +3,14 @@
 ghost use Rattle.std.specs.Prelude.{◌≡◌, List, map, IfErr, IfOk};
 ghost use Rattle.std.specs.Fn.{FnReturnsAt};
 ghost use Rattle.std.specs.Str.{chars};
-ghost use Rattle.urlpattern_core.specs.Compiling.{IsCompiledFrom, IsComponentOf, MayRefuseAsked, component_view, engine_flags, has_regexp, is_asked_again, pattern_text};
+ghost use Rattle.urlpattern_core.specs.Compiling.{IsCompiledBy, IsComponentOf, MayRefuseAsked, component_view, engine_flags, has_regexp, is_asked_again, pattern_text};
 ghost use Rattle.urlpattern_core.specs.Matchers.{engine_view, matcher_view};
 ghost use Rattle.urlpattern_laws.specs.Matching.{AnswersByMeaning, IsEngineOf};
 ghost use Rattle.urlpattern_syntax.specs.declared.error.Error.TheVariants as errors;
 ghost use Rattle.urlpattern_syntax.specs.Options.{options_view};
 ghost use Rattle.urlpattern_syntax.specs.Errors.{MemoryOr};
 ghost use Rattle.urlpattern_syntax.specs.Parts.{PartView, part_view};
-ghost use Rattle.urlpattern_syntax.specs.Reading.{Refuses, encoding_of};
+ghost use Rattle.urlpattern_syntax.specs.Reading.{Refuses, encoding_by, encoding_of};
 
 use super::matchers::{ask_engine, generate_matcher_knowing};
 use super::printed::generate_pattern_string;
@@ -41,8 +41,8 @@ impl<R: RegExp> Component<R> {
         options: Options,
     ) -> Result<Self, Error>
         requires { F.IsAlwaysCallable encoding_callback }
-        ensures compiled { IfOk result (λ component. IsCompiledFrom R.IsMade R.MayRefuse R.syntax_of (pattern_text pattern.entry) (options_view options)
-            (encoding_of (FnReturnsAt F.Fn encoding_callback)) (component_view component)) }
+        ensures compiled { IfOk result (λ component. IsCompiledBy R.RegExp (pattern_text pattern.entry) (options_view options)
+            (encoding_by F.Fn encoding_callback) (component_view component)) }
         ensures means { IfOk result (λ component. (parts : List PartView) →
             IsComponentOf R.IsMade R.MayRefuse R.syntax_of (options_view options) parts (component_view component) →
             AnswersByMeaning R.answer (options_view options) parts (matcher_view component.matcher)) }
