@@ -130,6 +130,10 @@ AreLines [] text = text ≡ []
 AreLines (component ∷ rest) text =
     (first others : List ℕ) × (text ≡ first ++ others) × AreGroupLines component.0 component.1 first × AreLines rest others
 
+-- the text gets such lines behind what it has
+abbrev pub GetsLines : (AreSuch : List ℕ → Type 0) → (old new : String Global) → Type 0
+GetsLines AreSuch old new = (lines : List ℕ) × (string_bytes new ≡ string_bytes old ++ lines) × AreSuch lines
+
 abbrev pub components_of : (ComponentName → ResultView) → List (List ℕ × ResultView)
 components_of result =
     (codes "protocol", result Protocol)
@@ -149,6 +153,10 @@ IsUrlOf input base url = parsed_text base input ≡ Ok url
 -- `url` refuses the input or the base URL, or they are too long
 abbrev pub IsRefusedText : (input : List ℕ) → (base : Option (List ℕ)) → Type 0
 IsRefusedText input base = IsRefusedByUrl (parsed_text base input) (max (length input) (text_bytes base))
+
+-- what is found is the URL of the input; None where it has none
+abbrev pub FindsUrl : (input : List ℕ) → (base : Option (List ℕ)) → Option Url → Type 0
+FindsUrl input base found = MatchOption found (IsRefusedText input base) (IsUrlOf input base)
 
 -- The pattern matches the input, a URL under this base URL, and the text tells what the groups capture.
 pub record IsMatchTextBy (compiled : PatternView PatternRegexp) (input : List ℕ) (base : Option (List ℕ)) (text : List ℕ) : Type 0 where
@@ -170,6 +178,15 @@ IsUnmatchedBy compiled input base =
 abbrev pub IsUnmatched : (pattern input : List ℕ) → (base : Option (List ℕ)) → Type 0
 IsUnmatched pattern input base =
     (compiled : PatternView PatternRegexp) × IsPatternOf pattern base compiled × IsUnmatchedBy compiled input base
+
+-- what is found are the lines of a match; None where there is none
+abbrev pub FindsMatch : (pattern input : List ℕ) → (base : Option (List ℕ)) → Option (String Global) → Type 0
+FindsMatch pattern input base found =
+    MatchOption found (IsUnmatched pattern input base) (λ text. IsMatchText pattern input base (string_bytes text))
+
+abbrev pub FindsMatchBy : PatternView PatternRegexp → (input : List ℕ) → (base : Option (List ℕ)) → Option (String Global) → Type 0
+FindsMatchBy compiled input base found =
+    MatchOption found (IsUnmatchedBy compiled input base) (λ text. IsMatchTextBy compiled input base (string_bytes text))
 
 -- ---- what the first match captures
 
@@ -210,6 +227,15 @@ IsUnmatchedByAll compiled input base =
 abbrev pub IsUnmatchedByEach : (patterns : List (List ℕ)) → (input : List ℕ) → (base : Option (List ℕ)) → Type 0
 IsUnmatchedByEach patterns input base =
     (compiled : List (PatternView PatternRegexp)) × ArePatternsOf patterns base compiled × IsUnmatchedByAll compiled input base
+
+-- what is found are the lines of the first match; None where there is none
+abbrev pub FindsFirst : (patterns : List (List ℕ)) → (input : List ℕ) → (base : Option (List ℕ)) → Option (String Global) → Type 0
+FindsFirst patterns input base found =
+    MatchOption found (IsUnmatchedByEach patterns input base) (λ text. IsFirstText patterns input base (string_bytes text))
+
+abbrev pub FindsFirstBy : List (PatternView PatternRegexp) → (input : List ℕ) → (base : Option (List ℕ)) → Option (String Global) → Type 0
+FindsFirstBy compiled input base found =
+    MatchOption found (IsUnmatchedByAll compiled input base) (λ text. IsFirstTextBy compiled input base (string_bytes text))
 
 -- ---- the words after `component`
 

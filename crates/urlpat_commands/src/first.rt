@@ -1,7 +1,7 @@
 //! The command `first`: the first of some patterns that matches a URL, and what its groups capture.
 
-ghost use Rattle.std.specs.Prelude.{◌≡◌, option_copied, string_bytes, IfErr, IfOk, MatchOption};
-ghost use Rattle.urlpat_commands.specs.Answers.{ArePatternsOf, IsFirstText, IsFirstTextBy, IsUnmatchedByAll, IsUnmatchedByEach, RefusesOneOf, base_of, words_view};
+ghost use Rattle.std.specs.Prelude.{◌≡◌, option_copied, IfErr, IfOk};
+ghost use Rattle.urlpat_commands.specs.Answers.{ArePatternsOf, FindsFirst, FindsFirstBy, RefusesOneOf, base_of, words_view};
 ghost use Rattle.urlpattern.specs.Errors.{MemoryOr};
 ghost use Rattle.urlpattern.specs.FirstMatch.{patterns_view};
 ghost use Rattle.urlpattern_syntax.specs.declared.error.Error.TheVariants as errors;
@@ -21,8 +21,7 @@ pub fn first_groups(
     input: &str,
     patterns: &[String],
 ) -> Result<Option<String>, Error>
-    ensures found { IfOk result (λ found. MatchOption found (IsUnmatchedByEach (words_view patterns.now) input.now (base_of base.now))
-        (λ text. IsFirstText (words_view patterns.now) input.now (base_of base.now) (string_bytes text))) }
+    ensures found { IfOk result (FindsFirst (words_view patterns.now) input.now (base_of base.now)) }
     ensures refused { IfErr result (MemoryOr (RefusesOneOf (words_view patterns.now) (base_of base.now))) }
 {
     let base = base_of(base);
@@ -64,8 +63,7 @@ fn groups_of_first(
     base: Option<&str>,
     input: &str,
 ) -> Result<Option<String>, Error>
-    ensures found { IfOk result (λ found. MatchOption found (IsUnmatchedByAll (patterns_view list.now) input.now (option_copied base.entry))
-        (λ text. IsFirstTextBy (patterns_view list.now) input.now (option_copied base.entry) (string_bytes text))) }
+    ensures found { IfOk result (FindsFirstBy (patterns_view list.now) input.now (option_copied base.entry)) }
     ensures memory { IfErr result (λ error. error ≡ errors.OutOfMemory) }
 {
     let Some(url) = url_of(alloc, base, input)? else {

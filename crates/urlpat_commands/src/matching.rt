@@ -3,7 +3,7 @@
 ghost use Rattle.std.specs.Map.{keys_of};
 ghost use Rattle.std.specs.Prelude.{◌≡◌, ◌++◌, ℕ, List, map, option_copied, string_bytes, IfErr, IfOk, MatchOption, OnOk};
 ghost use Rattle.std.specs.Str.{chars};
-ghost use Rattle.urlpat_commands.specs.Answers.{AreGroupLines, AreLines, AreNames, IsMatchText, IsMatchTextBy, IsPatternOf, IsRefusedText, IsUnmatched, IsUnmatchedBy, IsUrlOf, RefusesPatternOf, base_of, capture_of, components_of};
+ghost use Rattle.urlpat_commands.specs.Answers.{AreGroupLines, AreLines, AreNames, FindsMatch, FindsMatchBy, FindsUrl, GetsLines, IsPatternOf, RefusesPatternOf, base_of, capture_of, components_of};
 ghost use Rattle.urlpat_commands.specs.Report.{group_line};
 ghost use Rattle.urlpattern.specs.Captures.{captures_view, groups_view};
 ghost use Rattle.urlpattern.specs.Errors.{MemoryOr};
@@ -32,8 +32,7 @@ pub fn matched_groups(
     base: &str,
     input: &str,
 ) -> Result<Option<String>, Error>
-    ensures found { IfOk result (λ found. MatchOption found (IsUnmatched pattern.now input.now (base_of base.now))
-        (λ text. IsMatchText pattern.now input.now (base_of base.now) (string_bytes text))) }
+    ensures found { IfOk result (FindsMatch pattern.now input.now (base_of base.now)) }
     ensures refused { IfErr result (MemoryOr (RefusesPatternOf pattern.now (base_of base.now))) }
 {
     let base = base_of(base);
@@ -73,8 +72,7 @@ fn groups_of_match(
     base: Option<&str>,
     input: &str,
 ) -> Result<Option<String>, Error>
-    ensures found { IfOk result (λ found. MatchOption found (IsUnmatchedBy (pattern_view pattern.now) input.now (option_copied base.entry))
-        (λ text. IsMatchTextBy (pattern_view pattern.now) input.now (option_copied base.entry) (string_bytes text))) }
+    ensures found { IfOk result (FindsMatchBy (pattern_view pattern.now) input.now (option_copied base.entry)) }
     ensures memory { IfErr result (λ error. error ≡ errors.OutOfMemory) }
 {
     let Some(url) = url_of(alloc, base, input)? else {
@@ -94,8 +92,7 @@ fn groups_of_match(
 ///
 /// The error is that memory ran out.
 pub fn url_of(alloc: Global, base: Option<&str>, input: &str) -> Result<Option<Url>, Error>
-    ensures found { IfOk result (λ found. MatchOption found (IsRefusedText input.now (option_copied base.entry))
-        (IsUrlOf input.now (option_copied base.entry))) }
+    ensures found { IfOk result (FindsUrl input.now (option_copied base.entry)) }
     ensures memory { IfErr result (λ error. error ≡ errors.OutOfMemory) }
 {
     let input = StringOrInit::String(CowStr::Borrowed(input));
@@ -117,7 +114,7 @@ pub fn push_match(
     text: &mut String,
     found: &UrlPatternCaptures<'_>,
 ) -> Result<(), AllocError>
-    ensures { OnOk result ((lines : List ℕ) × (string_bytes text.new ≡ string_bytes text.old ++ lines) × AreLines (components_of (captures_view found.now)) lines) }
+    ensures { OnOk result (GetsLines (AreLines (components_of (captures_view found.now))) text.old text.new) }
 {
     push_groups(alloc, text, "protocol", found, ComponentName::Protocol)?;
     push_groups(alloc, text, "username", found, ComponentName::Username)?;
@@ -138,7 +135,7 @@ fn push_groups(
     found: &UrlPatternCaptures<'_>,
     name: ComponentName,
 ) -> Result<(), AllocError>
-    ensures { OnOk result ((lines : List ℕ) × (string_bytes text.new ≡ string_bytes text.old ++ lines) × AreGroupLines component.now (captures_view found.now name) lines) }
+    ensures { OnOk result (GetsLines (AreGroupLines component.now (captures_view found.now name)) text.old text.new) }
 {
     let groups = sorted_names(alloc, found, name)?;
     for group in &groups {

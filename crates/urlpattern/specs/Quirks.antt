@@ -2,10 +2,10 @@
 use Rattle.std.specs.Prelude.{ℕ, List}
 use Rattle.std.specs.List.{list_any}
 use Rattle.urlpattern_syntax.specs.declared.eight.ComponentName.TheVariants.{Protocol, Username, Password, Hostname, Port, Pathname, Search, Hash}
-use Rattle.urlpattern_init.specs.Inheritance.{components}
 use Rattle.urlpattern_pattern.specs.Patterns.{PatternView}
 use Rattle.urlpattern_plain.specs.Plain.{plain_component}
 use Rattle.urlpattern_plain.specs.Values as plain
+use Rattle.urlpattern_syntax.specs.Eight.{components}
 
 -- the plain value of a pattern: that of each component, and whether one has a regular expression of its own
 abbrev pub plain_pattern : {E : Type 0} → (text_made_of : E → List ℕ) → PatternView E → plain.PatternView

@@ -8,7 +8,6 @@ use Rattle.std.specs.declared.alloc.Global.{Global}
 use Rattle.std.proofs.lemmas.Str.{IsUtf8-string_bytes}
 use Rattle.urlpattern_laws.proofs.Encodings.{Weakens, reads_weaker, refuses_weaker}
 use Rattle.urlpattern_pattern.specs.Compiled.{AreCompiled, Compiles, FirstRefused, HasEngine, HasHierarchicalPath, IsCompiled, IsComponentCompiled, IsRefusedFrom, RefusesPattern, RefusesValues, behind_protocol, has_default_port, is_ipv6_pattern, is_mark, is_same, pattern_values, without_default_port}
-use Rattle.urlpattern_init.specs.Inheritance.{Values}
 use Rattle.urlpattern_pattern.specs.Patterns.{pattern_view}
 use Rattle.urlpattern_syntax.specs.declared.eight.ComponentName.{ComponentName as Names}
 use Rattle.urlpattern_syntax.specs.declared.eight.ComponentName.TheVariants.{Protocol, Username, Password, Hostname, Port, Pathname, Search, Hash}
@@ -28,6 +27,7 @@ use Rattle.urlpattern_syntax.specs.Errors.{MemoryOr}
 use Rattle.urlpattern_syntax.specs.Reading.{Encoding}
 use Rattle.urlpattern_syntax.specs.RegexpText.{is_empty}
 use Rattle.urlpattern_syntax.specs.Text.{begins_with, text_of}
+use Rattle.urlpattern_syntax.specs.Eight.{Values}
 
 -- ---- ports
 

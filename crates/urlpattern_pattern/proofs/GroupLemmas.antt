@@ -11,7 +11,7 @@ use Rattle.std.specs.Prelude.{◌⊎◌, Option, Some, None, String, option_copi
 use Rattle.std.specs.Str.{chars, IsUtf8}
 use Rattle.std.specs.String.{string_eq}
 use Rattle.std.specs.declared.alloc.Global.{Global}
-use Rattle.urlpattern_pattern.specs.Eight.{captured_bytes}
+use Rattle.urlpattern_pattern.specs.Matching.{captured_bytes}
 use Rattle.urlpattern_pattern.specs.Match.{group_in, group_of}
 use Rattle.urlpattern_core.specs.Captured.{capture_view}
 use Rattle.urlpattern_laws.specs.PartMeaning.{Captures}

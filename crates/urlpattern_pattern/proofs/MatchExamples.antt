@@ -5,14 +5,15 @@ use Rattle.std.specs.Prelude.{codes, Option, Some, None, Ok, Err}
 use Rattle.url.specs.Parts.{Parts}
 use Rattle.urlpattern_syntax.specs.declared.eight.ComponentName.TheVariants.{Pathname}
 use Rattle.urlpattern_init.specs.declared.init.UrlPatternMatchInput.TheVariants.{Url}
-use Rattle.urlpattern_init.specs.Inheritance.{Texts, texts_of_url}
-use Rattle.urlpattern_pattern.specs.Match.{AsksAnEngine, HasMatch, HasNoMatch, IsMatchOf, group_of, text_at}
+use Rattle.urlpattern_init.specs.Inheritance.{texts_of_url}
+use Rattle.urlpattern_pattern.specs.Match.{AsksAnEngine, HasMatch, HasNoMatch, IsMatchOf, group_of}
 use Rattle.urlpattern_pattern.specs.Patterns.{PatternView}
 use Rattle.urlpattern_core.specs.Compiling.{ComponentView}
 use Rattle.urlpattern_laws.specs.Matching.{InnerView, Literal, RegExp, SingleCapture}
 use Rattle.urlpattern_laws.specs.PartMeaning.{Captures}
 use Rattle.urlpattern_laws.proofs.MatchingLaws.{middle_kept}
 use Rattle.urlpattern_syntax.specs.Errors.{ErrorView as views}
+use Rattle.urlpattern_syntax.specs.Eight.{Texts, at}
 
 -- ---- groups
 
@@ -66,10 +67,10 @@ abbrev wildcards : PatternView ⊥
 wildcards component = component_of (SingleCapture None true) (codes "0" ∷ [])
 
 wildcards-texts : (texts : Texts) → IsMatchOf no_engine wildcards texts
-    (λ component. record { input = text_at texts component; group = group_of (codes "0" ∷ []) (Some (text_at texts component) ∷ []) })
+    (λ component. record { input = at texts component; group = group_of (codes "0" ∷ []) (Some (at texts component) ∷ []) })
 wildcards-texts texts = record {
-  captures = λ component. Some (text_at texts component) ∷ [];
-  are_answers = λ component. (text_at texts component, ([], [], sym (append-nil (text_at texts component)), refl, refl), (tt, tt, refl));
+  captures = λ component. Some (at texts component) ∷ [];
+  are_answers = λ component. (at texts component, ([], [], sym (append-nil (at texts component)), refl, refl), (tt, tt, refl));
   are_results = λ component. record { has_input = refl; has_groups = λ name. refl };
 }
 
@@ -84,7 +85,7 @@ wildcards_but_path Pathname = component_of (Literal []) []
 wildcards_but_path component = wildcards component
 
 -- one component that is not matched is no match
-wildcards_but_path-url : (url : Parts) → ¬ (text_at (texts_of_url url) Pathname ≡ []) → HasNoMatch no_engine wildcards_but_path (Url url)
+wildcards_but_path-url : (url : Parts) → ¬ (at (texts_of_url url) Pathname ≡ []) → HasNoMatch no_engine wildcards_but_path (Url url)
 wildcards_but_path-url url other =
     inr (
       texts_of_url url,
@@ -92,7 +93,7 @@ wildcards_but_path-url url other =
       (
         Pathname,
         λ captures (middle, cut, (empty, none)).
-            let e = (middle_kept (wildcards_but_path Pathname).matcher (text_at (texts_of_url url) Pathname) middle refl).0 cut in
+            let e = (middle_kept (wildcards_but_path Pathname).matcher (at (texts_of_url url) Pathname) middle refl).0 cut in
             other (rw empty at (rw append-nil at e)),
       ),
     )
@@ -115,4 +116,4 @@ engine_component = record {
 
 -- an engine that stands alone is asked about each text
 engine_alone-asked : (texts : Texts) → AsksAnEngine (λ component. engine_component) texts
-engine_alone-asked texts = (Pathname, (text_at texts Pathname, ([], [], sym (append-nil (text_at texts Pathname)), refl, refl), tt))
+engine_alone-asked texts = (Pathname, (at texts Pathname, ([], [], sym (append-nil (at texts Pathname)), refl, refl), tt))

@@ -3,13 +3,13 @@ use Rattle.std.proofs.Common.{◌≡◌, ℕ, Bool, List, refl, sym, ap, ◌∙�
 use Rattle.std.specs.Prelude.{Option, Ok, Err}
 use Rattle.urlpattern_syntax.specs.declared.eight.ComponentName.{ComponentName}
 use Rattle.urlpattern_init.specs.declared.init.UrlPatternMatchInput.{UrlPatternMatchInput}
-use Rattle.urlpattern_init.specs.Inheritance.{Texts}
-use Rattle.urlpattern_pattern.specs.Match.{HasMatch, HasNoMatch, IsLongInput, IsMatch, IsRefused, IsSameResult, ResultView, group_of, text_at}
+use Rattle.urlpattern_pattern.specs.Match.{HasMatch, HasNoMatch, IsLongInput, IsMatch, IsRefused, IsSameResult, ResultView, group_of}
 use Rattle.urlpattern_pattern.specs.MatchInput.{IsNoInput, input_texts}
 use Rattle.urlpattern_pattern.specs.Patterns.{PatternView}
 use Rattle.urlpattern_core.proofs.MatcherAnswers.{matches-accepts}
 use Rattle.urlpattern_laws.specs.Matching.{Accepts, InnerView, Literal, Matches, MatcherView, RegExp, SingleCapture}
 use Rattle.urlpattern_laws.specs.PartMeaning.{Captures}
+use Rattle.urlpattern_syntax.specs.Eight.{Texts, at}
 
 -- ---- a test tells a match
 
@@ -17,7 +17,7 @@ pub match_from-test : {E : Type 0} (answer : E → List ℕ → Option Captures)
     HasMatch answer pattern input → (result : ComponentName → ResultView) × IsMatch answer pattern input result
 match_from-test answer pattern input (texts, are_texts, matched) =
     let captures : ComponentName → Captures = λ component. (matched component).0 in (
-      λ component. record { input = text_at texts component; group = group_of (pattern component).group_name_list (captures component) },
+      λ component. record { input = at texts component; group = group_of (pattern component).group_name_list (captures component) },
       (
         texts,
         are_texts,
@@ -58,10 +58,10 @@ match-one answer pattern input result other (texts, are_texts, match) (texts', a
     let one = match.are_results component in
     let two = match'.are_results component in
     let captured : match.captures component ≡ match'.captures component =
-    matches-one answer (pattern component).matcher (text_at texts component) (match.captures component) (match'.captures component)
+    matches-one answer (pattern component).matcher (at texts component) (match.captures component) (match'.captures component)
     (match.are_answers component)
-    (subst (λ (t : Texts). Matches answer (pattern component).matcher (text_at t component) (match'.captures component)) same (match'.are_answers component)) in (
-      one.has_input ∙ ap (λ (t : Texts). text_at t component) (sym same) ∙ sym two.has_input,
+    (subst (λ (t : Texts). Matches answer (pattern component).matcher (at t component) (match'.captures component)) same (match'.are_answers component)) in (
+      one.has_input ∙ ap (λ (t : Texts). at t component) (sym same) ∙ sym two.has_input,
       λ name. one.has_groups name ∙ ap (λ (c : Captures). group_of (pattern component).group_name_list c name) captured ∙ sym (two.has_groups name),
     )
 
@@ -77,7 +77,7 @@ pub refused-unmatched : {E : Type 0} (answer : E → List ℕ → Option Capture
 refused-unmatched answer pattern input texts are_texts (component, refused) = λ (others, are_others, matched).
     let same = texts-one input others texts are_others are_texts in
     let found = matched component in
-    refused found.0 (subst (λ (t : Texts). Matches answer (pattern component).matcher (text_at t component) found.0) same found.1)
+    refused found.0 (subst (λ (t : Texts). Matches answer (pattern component).matcher (at t component) found.0) same found.1)
 
 pub match-not_both : {E : Type 0} (answer : E → List ℕ → Option Captures) (pattern : PatternView E) (input : UrlPatternMatchInput) →
     HasMatch answer pattern input → HasNoMatch answer pattern input → IsLongInput input

@@ -7,15 +7,15 @@ use Rattle.std.specs.Str.{chars}
 use Rattle.std.specs.declared.alloc.Global.{Global}
 use Rattle.urlpattern_syntax.specs.declared.eight.ComponentName.{ComponentName}
 use Rattle.urlpattern_init.specs.declared.init.UrlPatternMatchInput.{UrlPatternMatchInput}
-use Rattle.urlpattern_pattern.specs.declared.pattern.eight.Eight.{Eight}
+use Rattle.urlpattern_syntax.specs.declared.eight.Eight.{Eight}
 use Rattle.urlpattern_pattern.proofs.Each.{each}
-use Rattle.urlpattern_pattern.specs.Eight.{at, borrowed_texts, results_of}
-use Rattle.urlpattern_init.specs.Inheritance.{Texts}
-use Rattle.urlpattern_pattern.specs.Match.{AreMatched, HasMatch, HasNoMatch, IsMatch, IsMatchOf, IsRefused, IsSameResult, ResultView, group_in, text_at}
+use Rattle.urlpattern_pattern.specs.Matching.{borrowed_texts, results_of}
+use Rattle.urlpattern_pattern.specs.Match.{AreMatched, HasMatch, HasNoMatch, IsMatch, IsMatchOf, IsRefused, IsSameResult, ResultView, group_in}
 use Rattle.urlpattern_pattern.specs.MatchInput.{input_texts}
 use Rattle.urlpattern_pattern.specs.Patterns.{PatternView}
 use Rattle.urlpattern_laws.specs.PartMeaning.{Captures}
 use Rattle.urlpattern_syntax.specs.declared.error.Error.{Error}
+use Rattle.urlpattern_syntax.specs.Eight.{Texts, at}
 
 -- whether something was found
 pub tells-some : {X : Type 0} (P : X → Type 0) (A B : Type 0) (found : Option X) (test : Bool) → test ≡ is_some found →
@@ -71,8 +71,8 @@ pub input-same : {E : Type 0} (answer : E → List ℕ → Option Captures) (pat
 input-same answer pattern input match result same (texts, e, is_match) = (texts, e, match-same answer pattern texts match result same is_match)
 
 -- texts that are lent, and the text of one component
-pub text-at : (texts : Eight (Bor (List ℕ))) (name : ComponentName) → text_at (borrowed_texts texts) name ≡ chars (at texts name).now
-text-at texts = each (λ name. text_at (borrowed_texts texts) name ≡ chars (at texts name).now) refl refl refl refl refl refl refl refl
+pub text-at : (texts : Eight (Bor (List ℕ))) (name : ComponentName) → at (borrowed_texts texts) name ≡ chars (at texts name).now
+text-at texts = each (λ name. at (borrowed_texts texts) name ≡ chars (at texts name).now) refl refl refl refl refl refl refl refl
 
 -- texts beside copies of the groups of a match of them are its results
 pub match-of_groups : {E S : Type 0} (answer : E → List ℕ → Option Captures) (pattern : PatternView E) (texts : Texts) (match : ComponentName → ResultView) (groups : Eight (HashMap (String Global) (Option (String Global)) S)) →

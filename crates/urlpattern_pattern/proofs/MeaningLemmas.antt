@@ -6,7 +6,6 @@ use Rattle.std.specs.Prelude.{◌⊎◌, All, MatchOption, Option, Some, None, o
 use Rattle.url.specs.Parser.{Parsed}
 use Rattle.urlpattern_canonical.specs.Canonical.{IsAnswer}
 use Rattle.urlpattern_core.specs.Compiling.{ComponentView, IsCompiledFrom, IsComponentOf, MayRefuseAtFirst, engine_flags, has_regexp, is_regexp}
-use Rattle.urlpattern_init.specs.Inheritance.{Texts, Values}
 use Rattle.urlpattern_init.specs.declared.init.UrlPatternInit.{UrlPatternInit}
 use Rattle.urlpattern_init.specs.declared.init.UrlPatternMatchInput.{UrlPatternMatchInput}
 use Rattle.urlpattern_syntax.specs.declared.eight.ComponentName.{ComponentName}
@@ -17,7 +16,7 @@ use Rattle.urlpattern_laws.specs.Matching.{Agrees, Answers}
 use Rattle.urlpattern_laws.specs.PartMeaning.{Captures, PartsMean}
 use Rattle.urlpattern_pattern.proofs.MatchLaws.{no_input-long, texts-one}
 use Rattle.urlpattern_pattern.specs.Compiled.{AreCompiled, IsCompiled, canonical_encoding, manner_of, pattern_of}
-use Rattle.urlpattern_pattern.specs.Match.{HasNoMatch, IsLongInput, IsMatch, IsResultOf, ResultView, group_of, result_view, text_at}
+use Rattle.urlpattern_pattern.specs.Match.{HasNoMatch, IsLongInput, IsMatch, IsResultOf, ResultView, group_of, result_view}
 use Rattle.urlpattern_pattern.specs.MatchInput.{input_texts}
 use Rattle.urlpattern_pattern.specs.Meaning.{IsExecuted, IsExecutedByMeaning, IsFoundByMeaning, IsMeant, MeaningPremises, ReadsAs, options_of}
 use Rattle.urlpattern_pattern.specs.Patterns.{PatternView}
@@ -29,6 +28,7 @@ use Rattle.urlpattern_syntax.specs.Parts.{PartView}
 use Rattle.urlpattern_syntax.specs.Reading.{Encoding}
 use Rattle.urlpattern_syntax.specs.RegexpText.{group_names}
 use Rattle.urlpattern_syntax.specs.Text.{text_of}
+use Rattle.urlpattern_syntax.specs.Eight.{Texts, Values, at}
 
 -- ---- no custom regular expression
 
@@ -75,11 +75,11 @@ module _ {E : Type 0} (answer : E → List ℕ → Option Captures) (IsMade : E 
     (compiled : AreCompiled (IsCompiledFrom IsMade MayRefuse syntax) answer asked values pattern) (texts : Texts) where
   -- what is asked of a component
   abbrev Premises : ComponentName → Type 0
-  Premises component = MeaningPremises answer asked values compiled.hierarchical component (pattern component) (text_at texts component)
+  Premises component = MeaningPremises answer asked values compiled.hierarchical component (pattern component) (at texts component)
 
   -- what is matched is meant
-  found_meant : (component : ComponentName) (captures : Captures) → Premises component → Answers answer (pattern component).matcher (text_at texts component) (Some captures) →
-      (meant : IsMeant asked values compiled.hierarchical component (text_at texts component))
+  found_meant : (component : ComponentName) (captures : Captures) → Premises component → Answers answer (pattern component).matcher (at texts component) (Some captures) →
+      (meant : IsMeant asked values compiled.hierarchical component (at texts component))
       × (group_names meant.parts ≡ (pattern component).group_name_list) × (meant.captures ≡ captures)
   found_meant component captures premises answers =
       let (parts, reads, is_component) = (compiled.are_compiled component).0 in (
@@ -87,29 +87,29 @@ module _ {E : Type 0} (answer : E → List ℕ → Option Captures) (IsMade : E 
           parts = parts;
           captures = captures;
           reads = reads;
-          means = component_agrees answer IsMade MayRefuse syntax asked values compiled.hierarchical component (pattern component) (text_at texts component) parts (Some captures) reads is_component premises answers;
+          means = component_agrees answer IsMade MayRefuse syntax asked values compiled.hierarchical component (pattern component) (at texts component) parts (Some captures) reads is_component premises answers;
         },
         sym is_component.has_names,
         refl,
       )
 
   -- what is not matched is not meant
-  refused_unmeant : (component : ComponentName) → Premises component → Answers answer (pattern component).matcher (text_at texts component) None →
-      ¬ IsMeant asked values compiled.hierarchical component (text_at texts component)
+  refused_unmeant : (component : ComponentName) → Premises component → Answers answer (pattern component).matcher (at texts component) None →
+      ¬ IsMeant asked values compiled.hierarchical component (at texts component)
   refused_unmeant component premises answers meant =
       let (parts, reads, is_component) = (compiled.are_compiled component).0 in
       let manner = manner_of asked values compiled.hierarchical component in
       let same : meant.parts ≡ parts =
       reading_one_encoded (pattern_of values component) manner.options (canonical_encoding manner.canonical) meant.parts parts (canonical_once manner.canonical) meant.reads reads
       in
-      component_agrees answer IsMade MayRefuse syntax asked values compiled.hierarchical component (pattern component) (text_at texts component) parts None reads is_component premises answers
-      meant.captures (subst (λ (of : List PartView). PartsMean manner.options of (text_at texts component) meant.captures) same meant.means)
+      component_agrees answer IsMade MayRefuse syntax asked values compiled.hierarchical component (pattern component) (at texts component) parts None reads is_component premises answers
+      meant.captures (subst (λ (of : List PartView). PartsMean manner.options of (at texts component) meant.captures) same meant.means)
 
   result_meant : (component : ComponentName) (captures : Captures) (result : ResultView) → Premises component →
-      Answers answer (pattern component).matcher (text_at texts component) (Some captures) →
-      IsResultOf (pattern component).group_name_list captures (text_at texts component) result →
-      (meant : IsMeant asked values compiled.hierarchical component (text_at texts component))
-      × IsResultOf (group_names meant.parts) meant.captures (text_at texts component) result
+      Answers answer (pattern component).matcher (at texts component) (Some captures) →
+      IsResultOf (pattern component).group_name_list captures (at texts component) result →
+      (meant : IsMeant asked values compiled.hierarchical component (at texts component))
+      × IsResultOf (group_names meant.parts) meant.captures (at texts component) result
   result_meant component captures result premises answers is_result =
       let (meant, names, captured) = found_meant component captures premises answers in (
         meant,
@@ -125,12 +125,12 @@ module _ {E : Type 0} (answer : E → List ℕ → Option Captures) (IsMade : E 
   executed_means input (Some result) are_texts short (others, are_others, match) = λ component premises.
       let same = texts-one input others texts are_others are_texts in
       result_meant component (match.captures component) (result component) premises
-      (subst (λ (t : Texts). Answers answer (pattern component).matcher (text_at t component) (Some (match.captures component))) same (match.are_answers component))
-      (subst (λ (t : Texts). IsResultOf (pattern component).group_name_list (match.captures component) (text_at t component) (result component)) same (match.are_results component))
+      (subst (λ (t : Texts). Answers answer (pattern component).matcher (at t component) (Some (match.captures component))) same (match.are_answers component))
+      (subst (λ (t : Texts). IsResultOf (pattern component).group_name_list (match.captures component) (at t component) (result component)) same (match.are_results component))
   executed_means input None are_texts short (inl no_input) = absurd (short (no_input-long input texts are_texts no_input))
   executed_means input None are_texts short (inr (others, are_others, (component, refused))) = λ premises meant.
       let same = texts-one input others texts are_others are_texts in
-      refused_unmeant component (premises component) (subst (λ (t : Texts). Answers answer (pattern component).matcher (text_at t component) None) same refused) (meant component)
+      refused_unmeant component (premises component) (subst (λ (t : Texts). Answers answer (pattern component).matcher (at t component) None) same refused) (meant component)
 
 -- ---- a pattern that is matched once
 

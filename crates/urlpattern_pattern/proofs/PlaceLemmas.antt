@@ -9,7 +9,6 @@ use Rattle.std.specs.Prelude.{All, Option, None, Some, bytes_eq, slice_get}
 use Rattle.urlpattern_index.specs.Keys.{key_of}
 use Rattle.urlpattern_index.specs.Listed.{IsAmong}
 use Rattle.urlpattern_index.specs.Places.{AddressTexts, BeginsWith, FixedPath, FixedTexts, HasTexts, Is, IsPath, IsText}
-use Rattle.urlpattern_init.specs.Inheritance.{Texts}
 use Rattle.urlpattern_syntax.specs.declared.eight.ComponentName.TheVariants.{Hostname, Pathname, Protocol}
 use Rattle.urlpattern_laws.specs.Matching.{Answers, InnerView, Literal, MatcherView, folded}
 use Rattle.urlpattern_laws.specs.PartMeaning.{Captures}
@@ -17,6 +16,7 @@ use Rattle.urlpattern_pattern.specs.Match.{IsRefused}
 use Rattle.urlpattern_pattern.specs.Patterns.{PatternView, pattern_view}
 use Rattle.urlpattern_pattern.specs.declared.pattern.UrlPattern.{UrlPattern}
 use Rattle.urlpattern_pattern.specs.Places.{AreFixed, AreKeys, IsFixedPath, IsFixedText, IsKeyOf, address_of, text_matcher}
+use Rattle.urlpattern_syntax.specs.Eight.{Texts}
 
 -- ---- texts
 

@@ -7,7 +7,6 @@ use Rattle.urlpattern_core.proofs.RegexMatchers.{taken_first}
 use Rattle.urlpattern_core.proofs.RegexWays.{regex_follows}
 use Rattle.urlpattern_core.specs.Compiling.{IsComponentOf, engine_flags}
 use Rattle.urlpattern_core.specs.Engines.{IsRegexOf, IsTakenByRegex, regex_answer}
-use Rattle.urlpattern_init.specs.Inheritance.{Texts, Values}
 use Rattle.urlpattern_init.specs.declared.init.UrlPatternMatchInput.{UrlPatternMatchInput}
 use Rattle.urlpattern_syntax.specs.declared.eight.ComponentName.{ComponentName}
 use Rattle.urlpattern_inputs.specs.declared.options.UrlPatternOptions.{UrlPatternOptions}
@@ -22,13 +21,14 @@ use Rattle.urlpattern_laws.specs.PartMeaning.{Captures}
 use Rattle.urlpattern_pattern.proofs.MatchLaws.{texts-one}
 use Rattle.urlpattern_pattern.proofs.MeaningLemmas.{canonical_once, none_custom}
 use Rattle.urlpattern_pattern.specs.Compiled.{AreCompiled, canonical_encoding, manner_of, pattern_of}
-use Rattle.urlpattern_pattern.specs.Match.{IsMatch, IsResultOf, IsSameResult, ResultView, group_of, text_at}
+use Rattle.urlpattern_pattern.specs.Match.{IsMatch, IsResultOf, IsSameResult, ResultView, group_of}
 use Rattle.urlpattern_pattern.specs.MatchInput.{input_texts}
 use Rattle.urlpattern_pattern.specs.Meaning.{IsFirstResult, MeaningPremises, ReadsAs, RegexPremises, compiles_by_regex, options_of}
 use Rattle.urlpattern_pattern.specs.Patterns.{PatternView}
 use Rattle.urlpattern_syntax.specs.declared.parser.RegexSyntax.TheVariants.{Rust}
 use Rattle.urlpattern_syntax.specs.Parts.{PartView}
 use Rattle.urlpattern_syntax.specs.RegexpText.{group_names, regexp_text}
+use Rattle.urlpattern_syntax.specs.Eight.{Texts, Values, at}
 
 -- one list of parts is read
 read_once : (asked : UrlPatternOptions) (values : Values) (hierarchical : Bool) (component : ComponentName) (parts others : List PartView) →
@@ -81,13 +81,13 @@ module _ (asked : UrlPatternOptions) (values : Values) (pattern : PatternView Re
 
 pub matched_first : (asked : UrlPatternOptions) (values : Values) (pattern : PatternView Regex) (input : UrlPatternMatchInput) (texts : Texts) (result : ComponentName → ResultView) (component : ComponentName) →
     (compiled : AreCompiled compiles_by_regex regex_answer asked values pattern) → input_texts input ≡ Ok texts → IsMatch regex_answer pattern input result →
-    RegexPremises asked values compiled.hierarchical component (pattern component) (text_at texts component) →
-    IsFirstResult asked values compiled.hierarchical component (text_at texts component) (result component)
+    RegexPremises asked values compiled.hierarchical component (pattern component) (at texts component) →
+    IsFirstResult asked values compiled.hierarchical component (at texts component) (result component)
 matched_first asked values pattern input texts result component compiled are_texts (others, are_others, match) premises =
     let same = texts-one input others texts are_others are_texts in
-    first_result asked values pattern compiled component (text_at texts component) premises (match.captures component) (result component)
-    (subst (λ (t : Texts). Answers regex_answer (pattern component).matcher (text_at t component) (Some (match.captures component))) same (match.are_answers component))
-    (subst (λ (t : Texts). IsResultOf (pattern component).group_name_list (match.captures component) (text_at t component) (result component)) same (match.are_results component))
+    first_result asked values pattern compiled component (at texts component) premises (match.captures component) (result component)
+    (subst (λ (t : Texts). Answers regex_answer (pattern component).matcher (at t component) (Some (match.captures component))) same (match.are_answers component))
+    (subst (λ (t : Texts). IsResultOf (pattern component).group_name_list (match.captures component) (at t component) (result component)) same (match.are_results component))
 
 pub first_result_one : (asked : UrlPatternOptions) (values : Values) (hierarchical : Bool) (component : ComponentName) (text : List ℕ) (result other : ResultView) →
     IsFirstResult asked values hierarchical component text result → IsFirstResult asked values hierarchical component text other → IsSameResult result other

@@ -3,9 +3,10 @@ use Rattle.std.specs.Prelude.{ℕ, List, map, zip, Option}
 use Rattle.std.specs.Str.{chars}
 use Rattle.urlpattern_syntax.specs.declared.eight.ComponentName.{ComponentName}
 use Rattle.urlpattern_pattern.specs.declared.pattern.captures.UrlPatternCaptures.{UrlPatternCaptures}
-use Rattle.urlpattern_pattern.specs.Eight.{at, captures_of}
+use Rattle.urlpattern_pattern.specs.Matching.{captures_of}
 use Rattle.urlpattern_pattern.specs.Match.{ResultView, group_of}
 use Rattle.urlpattern_syntax.specs.Text.{text_of}
+use Rattle.urlpattern_syntax.specs.Eight.{at}
 
 -- the names of a component's groups
 abbrev pub names_view : UrlPatternCaptures → ComponentName → List (List ℕ)

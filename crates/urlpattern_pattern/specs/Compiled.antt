@@ -3,7 +3,7 @@
 use Rattle.std.specs.Prelude.{◌≡◌, ◌↔◌, ◌⊎◌, ℕ, Bool, true, false, not, ◌&&◌, ◌||◌, ◌==◌, List, [], ◌∷◌, bytes_eq, codes, length, slice_index, Option, Some, None, unwrap_or, Ok, Err, IsOk, IsTrue, if◌then◌else◌}
 use Rattle.std.specs.Str.{chars}
 use Rattle.url.specs.Parser.{Parsed, and_then}
-use Rattle.urlpattern_init.specs.Inheritance.{Values, processed_values, value_of, values_view}
+use Rattle.urlpattern_init.specs.Inheritance.{init_values}
 use Rattle.urlpattern_pattern.specs.Patterns.{PatternView}
 use Rattle.urlpattern_init.specs.SpecialProtocol.{AcceptsSpecialScheme}
 use Rattle.urlpattern_init.specs.declared.init.UrlPatternInit.{UrlPatternInit}
@@ -11,7 +11,8 @@ use Rattle.urlpattern_syntax.specs.declared.eight.ComponentName.{ComponentName}
 use Rattle.urlpattern_syntax.specs.declared.eight.ComponentName.TheVariants.{Protocol, Username, Password, Hostname, Port, Pathname, Search, Hash}
 use Rattle.urlpattern_inputs.specs.declared.options.UrlPatternOptions.{UrlPatternOptions}
 use Rattle.urlpattern_canonical.specs.Canonical.{IsAnswer, canonical_hash, canonical_hostname, canonical_ipv6_hostname, canonical_opaque_pathname, canonical_password, canonical_pathname, canonical_port, canonical_protocol, canonical_search, canonical_username, default_port, is_special, without_first}
-use Rattle.urlpattern_core.specs.Compiling.{ComponentView}
+use Rattle.urlpattern_core.specs.Compiling.{ComponentView, IsCompiledBy}
+use Rattle.urlpattern_core.specs.declared.regexp.RegExp.{Ghosts as Engine}
 use Rattle.urlpattern_canonical.specs.declared.canonicalize_and_process.ProcessType.TheVariants.{Pattern}
 use Rattle.urlpattern_laws.specs.Matching.{MatcherView}
 use Rattle.urlpattern_laws.specs.PartMeaning.{Captures}
@@ -20,6 +21,7 @@ use Rattle.urlpattern_syntax.specs.Errors.{ErrorView as views}
 use Rattle.urlpattern_syntax.specs.Options.{OptionsView, default_options, hostname_options, pathname_options}
 use Rattle.urlpattern_syntax.specs.Reading.{Encoding, Refuses, encoding_of}
 use Rattle.urlpattern_syntax.specs.Text.{begins_with}
+use Rattle.urlpattern_syntax.specs.Eight.{Values, at}
 
 -- ---- the values that are compiled
 
@@ -40,7 +42,7 @@ without_default_port values = if has_default_port values.protocol values.port th
 
 -- what an init comes to as a pattern
 abbrev pub pattern_values : UrlPatternInit → Parsed Values
-pattern_values init = and_then (processed_values Pattern (values_view init) init.base_url) (λ values. Ok (without_default_port values))
+pattern_values init = and_then (init_values Pattern init) (λ values. Ok (without_default_port values))
 
 -- ---- how the pattern of a component is read
 
@@ -98,7 +100,7 @@ Compiles E = (text : List ℕ) → OptionsView → Encoding → ComponentView E 
 
 -- the pattern text of a component, an asterisk where it is missing
 abbrev pub pattern_of : Values → ComponentName → List ℕ
-pattern_of values component = unwrap_or (value_of component values) (codes "*")
+pattern_of values component = unwrap_or (at values component) (codes "*")
 
 -- the engine took the component's regular expression
 abbrev pub HasEngine : {E : Type 0} → ComponentView E → Type 0
@@ -175,3 +177,13 @@ RefusesValues IsFrom answer asked values error =
 abbrev pub RefusesPattern : {E : Type 0} → Compiles E → (answer : E → List ℕ → Option Captures) → UrlPatternInit → UrlPatternOptions → ErrorView → Type 0
 RefusesPattern IsFrom answer init asked error =
     (values : Values) × (pattern_values init ≡ Ok values) × RefusesValues IsFrom answer asked values error
+
+-- ---- by an engine
+
+-- the init is compiled to this pattern
+abbrev pub IsPatternOf : {E : Type 0} → Engine E → UrlPatternInit → UrlPatternOptions → PatternView E → Type 0
+IsPatternOf engine = IsCompiled (IsCompiledBy engine) engine.answer
+
+-- it is refused with this error
+abbrev pub RefusesInit : {E : Type 0} → Engine E → UrlPatternInit → UrlPatternOptions → ErrorView → Type 0
+RefusesInit engine = RefusesPattern (IsCompiledBy engine) engine.answer

@@ -2,7 +2,6 @@
 use Rattle.std.specs.Prelude.{◌≡◌, ℕ, List, map, take, All, Any, Option, Some, None, option_map, slice_get}
 use Rattle.urlpattern_init.specs.declared.init.UrlPatternMatchInput.{UrlPatternMatchInput}
 use Rattle.urlpattern_syntax.specs.declared.eight.ComponentName.{ComponentName}
-use Rattle.urlpattern_init.specs.Inheritance.{Texts}
 use Rattle.urlpattern_pattern.specs.declared.pattern.UrlPattern.{UrlPattern}
 use Rattle.urlpattern_pattern.specs.declared.pattern.captures.UrlPatternCaptures.{UrlPatternCaptures}
 use Rattle.urlpattern_pattern.specs.declared.pattern.result.UrlPatternResult.{UrlPatternResult}
@@ -10,6 +9,7 @@ use Rattle.urlpattern_pattern.specs.Captures.{captures_view}
 use Rattle.urlpattern_pattern.specs.Match.{AsksAnEngine, HasMatch, HasNoMatch, IsMatch, IsMatchOf, IsRefused, ResultView, result_view}
 use Rattle.urlpattern_pattern.specs.Patterns.{PatternView, pattern_view}
 use Rattle.urlpattern_laws.specs.PartMeaning.{Captures}
+use Rattle.urlpattern_syntax.specs.Eight.{Texts}
 
 -- A `UrlPatternList`: what the components of each pattern are compiled to.
 abbrev pub patterns_view : {E : Type 0} → List (UrlPattern E) → List (PatternView E)

@@ -5,8 +5,10 @@ use Rattle.std.specs.Str.{chars}
 use Rattle.url.specs.Parser.{Parsed, and_then, parse_url}
 use Rattle.url.specs.Parts.{Parts}
 use Rattle.urlpattern_canonical.specs.Canonical.{Tells}
-use Rattle.urlpattern_core.specs.Compiling.{IsCompiledFrom, MayRefuseAtFirst}
+use Rattle.urlpattern_core.specs.Compiling.{IsCompiledBy, MayRefuseAtFirst}
+use Rattle.urlpattern_core.specs.declared.regexp.RegExp.{Ghosts as Engine}
 use Rattle.urlpattern_init.specs.ConstructorString.{HasProtocolOrBase, RefusesString, SplitsInto}
+use Rattle.urlpattern_init.specs.Inheritance.{values_view}
 use Rattle.urlpattern_init.specs.SpecialProtocol.{IsSpecialBy}
 use Rattle.urlpattern_init.specs.declared.init.UrlPatternInit.{UrlPatternInit}
 use Rattle.urlpattern_inputs.specs.declared.options.UrlPatternOptions.{UrlPatternOptions}
@@ -14,19 +16,7 @@ use Rattle.urlpattern_laws.specs.PartMeaning.{Captures}
 use Rattle.urlpattern_pattern.specs.Compiled.{Compiles, IsCompiled, RefusesPattern}
 use Rattle.urlpattern_pattern.specs.Patterns.{PatternView, pattern_view}
 use Rattle.urlpattern_pattern.specs.declared.pattern.UrlPattern.{UrlPattern}
-use Rattle.urlpattern_syntax.specs.declared.parser.RegexSyntax.{RegexSyntax}
 use Rattle.urlpattern_syntax.specs.Errors.{ErrorView}
-
--- ---- engines: which values they make of texts and flags, which texts they may refuse, and what values answer
-
-abbrev Makes : Type 0 → Type 1
-Makes E = E → (regexp flags : List ℕ) → Type 0
-
-abbrev MayRefuseText : Type 1
-MayRefuseText = (regexp flags : List ℕ) → (force_eval : Bool) → Type 0
-
-abbrev Answer : Type 0 → Type 0
-Answer E = E → List ℕ → Option Captures
 
 -- ---- base URLs: texts are their bytes
 
@@ -47,8 +37,8 @@ pub record IsInitOfText (IsSpecial : List ℕ → Bool → Type 0) (text : List 
   pub is_complete : HasProtocolOrBase init
 
 -- the same, where an engine tells which protocols are special; the text is its bytes
-abbrev pub IsInitOfTextBy : {E : Type 0} → Makes E → MayRefuseText → Answer E → (text : List ℕ) → (base : Option (List ℕ)) → UrlPatternInit → Type 0
-IsInitOfTextBy IsMade MayRefuse answer text base init = IsInitOfText (IsSpecialBy IsMade (MayRefuseAtFirst MayRefuse) answer) (chars text) base init
+abbrev pub IsInitOfTextBy : {E : Type 0} → Engine E → (text : List ℕ) → (base : Option (List ℕ)) → UrlPatternInit → Type 0
+IsInitOfTextBy engine text = IsInitOfText (IsSpecialBy engine.IsMade (MayRefuseAtFirst engine.MayRefuse) engine.answer) (chars text)
 
 -- a constructor string is refused with this error, that of its base URL or its own
 abbrev pub RefusesText : (text : List ℕ) → (base : Option (List ℕ)) → ErrorView → Type 0
@@ -70,13 +60,13 @@ RefusesPatternOfText IsFrom IsSpecial answer text base asked error =
     RefusesText text base error
     ⊎ ((init : UrlPatternInit) × IsInitOfText IsSpecial text base init × RefusesPattern IsFrom answer init asked error)
 
--- the same, where an engine takes this syntax; the text is its bytes
-abbrev pub IsPatternOfTextBy : {E : Type 0} → Makes E → MayRefuseText → RegexSyntax → Answer E → (text : List ℕ) → (base : Option (List ℕ)) → UrlPatternOptions → UrlPattern E → Type 0
-IsPatternOfTextBy IsMade MayRefuse syntax answer text base asked pattern =
-    IsPatternOfText (IsCompiledFrom IsMade MayRefuse syntax) (IsSpecialBy IsMade (MayRefuseAtFirst MayRefuse) answer)
-    answer (chars text) base asked (pattern_view pattern)
+-- the same, where an engine compiles and tells which protocols are special; the text is its bytes
+abbrev pub IsPatternOfTextBy : {E : Type 0} → Engine E → (text : List ℕ) → (base : Option (List ℕ)) → UrlPatternOptions → UrlPattern E → Type 0
+IsPatternOfTextBy engine text base asked pattern =
+    IsPatternOfText (IsCompiledBy engine) (IsSpecialBy engine.IsMade (MayRefuseAtFirst engine.MayRefuse) engine.answer)
+    engine.answer (chars text) base asked (pattern_view pattern)
 
-abbrev pub RefusesPatternOfTextBy : {E : Type 0} → Makes E → MayRefuseText → RegexSyntax → Answer E → (text : List ℕ) → (base : Option (List ℕ)) → UrlPatternOptions → ErrorView → Type 0
-RefusesPatternOfTextBy IsMade MayRefuse syntax answer text base asked error =
-    RefusesPatternOfText (IsCompiledFrom IsMade MayRefuse syntax) (IsSpecialBy IsMade (MayRefuseAtFirst MayRefuse) answer)
-    answer (chars text) base asked error
+abbrev pub RefusesPatternOfTextBy : {E : Type 0} → Engine E → (text : List ℕ) → (base : Option (List ℕ)) → UrlPatternOptions → ErrorView → Type 0
+RefusesPatternOfTextBy engine text =
+    RefusesPatternOfText (IsCompiledBy engine) (IsSpecialBy engine.IsMade (MayRefuseAtFirst engine.MayRefuse) engine.answer)
+    engine.answer (chars text)

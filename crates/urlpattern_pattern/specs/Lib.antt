@@ -1,10 +1,11 @@
 pub mod Captures
 pub mod Compiled
-pub mod Eight
+pub mod Compilers
 pub mod FirstMatch
 pub mod FromString
 pub mod Match
 pub mod MatchInput
+pub mod Matching
 pub mod Meaning
 pub mod Patterns
 pub mod Places

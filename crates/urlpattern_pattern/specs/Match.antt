@@ -1,6 +1,6 @@
 -- What it means that a pattern matches an input, and the groups of a match, after the URLPattern Standard, section
 -- "Matching", at "match".
-use Rattle.std.specs.Prelude.{◌≡◌, ◌≤◌, ◌⊎◌, ℕ, List, reverse, zip, bytes_eq, Option, Some, None, option_map, Ok, String}
+use Rattle.std.specs.Prelude.{◌≡◌, ◌≤◌, ◌⊎◌, ℕ, Bool, List, MatchBool, MatchOption, reverse, zip, bytes_eq, Option, Some, None, option_map, Ok, String}
 use Rattle.std.specs.HashMap.{HashMap, get_by}
 use Rattle.std.specs.Map.{lookup}
 use Rattle.std.specs.declared.alloc.Global.{Global}
@@ -9,13 +9,13 @@ use Rattle.urlpattern_syntax.specs.declared.eight.ComponentName.TheVariants.{Pro
 use Rattle.urlpattern_init.specs.declared.init.UrlPatternMatchInput.{UrlPatternMatchInput}
 use Rattle.urlpattern_pattern.specs.declared.pattern.result.UrlPatternComponentResult.{UrlPatternComponentResult}
 use Rattle.urlpattern_pattern.specs.declared.pattern.result.UrlPatternResult.{UrlPatternResult}
-use Rattle.urlpattern_init.specs.Inheritance.{Texts}
 use Rattle.urlpattern_pattern.specs.MatchInput.{IsNoInput, input_bytes, input_texts}
 use Rattle.urlpattern_pattern.specs.Patterns.{PatternView}
 use Rattle.urlpattern_canonical.specs.Canonical.{long_text}
 use Rattle.urlpattern_laws.specs.Matching.{Answers, AsksEngine, IsMatched}
 use Rattle.urlpattern_laws.specs.PartMeaning.{Captures}
 use Rattle.urlpattern_syntax.specs.Text.{text_of}
+use Rattle.urlpattern_syntax.specs.Eight.{Texts, at}
 
 -- ---- groups
 
@@ -56,36 +56,26 @@ pub record IsResultOf (names : List (List ℕ)) (captures : Captures) (text : Li
 
 -- ---- matches
 
-abbrev pub text_at : Texts → ComponentName → List ℕ
-text_at texts Protocol = texts.protocol
-text_at texts Username = texts.username
-text_at texts Password = texts.password
-text_at texts Hostname = texts.hostname
-text_at texts Port = texts.port
-text_at texts Pathname = texts.pathname
-text_at texts Search = texts.search
-text_at texts Hash = texts.hash
-
 -- each component's matcher answers its text by these captures
 abbrev pub AreAnswers : {E : Type 0} → (answer : E → List ℕ → Option Captures) → PatternView E → Texts → (captures : ComponentName → Captures) → Type 0
 AreAnswers answer pattern texts captures =
-    (component : ComponentName) → Answers answer (pattern component).matcher (text_at texts component) (Some (captures component))
+    (component : ComponentName) → Answers answer (pattern component).matcher (at texts component) (Some (captures component))
 
 -- a component's matcher does not match its text
 abbrev pub IsRefused : {E : Type 0} → (answer : E → List ℕ → Option Captures) → PatternView E → Texts → Type 0
 IsRefused answer pattern texts =
-    (component : ComponentName) × Answers answer (pattern component).matcher (text_at texts component) None
+    (component : ComponentName) × Answers answer (pattern component).matcher (at texts component) None
 
 -- The pattern matches eight texts with this result, where engines' values answer in this way: there are eight answers,
 -- whose captures are the groups.
 pub record IsMatchOf {E : Type 0} (answer : E → List ℕ → Option Captures) (pattern : PatternView E) (texts : Texts) (result : ComponentName → ResultView) : Type 0 where
   pub captures : ComponentName → Captures
   pub are_answers : AreAnswers answer pattern texts captures
-  pub are_results : (component : ComponentName) → IsResultOf (pattern component).group_name_list (captures component) (text_at texts component) (result component)
+  pub are_results : (component : ComponentName) → IsResultOf (pattern component).group_name_list (captures component) (at texts component) (result component)
 
 -- each of eight texts is matched
 abbrev pub AreMatched : {E : Type 0} → (answer : E → List ℕ → Option Captures) → PatternView E → Texts → Type 0
-AreMatched answer pattern texts = (component : ComponentName) → IsMatched answer (pattern component).matcher (text_at texts component)
+AreMatched answer pattern texts = (component : ComponentName) → IsMatched answer (pattern component).matcher (at texts component)
 
 -- the pattern matches the input with this result: the texts that the input has
 abbrev pub IsMatch : {E : Type 0} → (answer : E → List ℕ → Option Captures) → PatternView E → UrlPatternMatchInput → (result : ComponentName → ResultView) → Type 0
@@ -100,11 +90,31 @@ abbrev pub HasNoMatch : {E : Type 0} → (answer : E → List ℕ → Option Cap
 HasNoMatch answer pattern input =
     IsNoInput input ⊎ ((texts : Texts) × (input_texts input ≡ Ok texts) × IsRefused answer pattern texts)
 
+-- ---- what calls answer
+
+-- whether the pattern matches the input
+abbrev pub TestsInput : {E : Type 0} → (answer : E → List ℕ → Option Captures) → PatternView E → UrlPatternMatchInput → Bool → Type 0
+TestsInput answer pattern input matched = MatchBool matched (HasMatch answer pattern input) (HasNoMatch answer pattern input)
+
+-- whether it matches eight texts
+abbrev pub TestsTexts : {E : Type 0} → (answer : E → List ℕ → Option Captures) → PatternView E → Texts → Bool → Type 0
+TestsTexts answer pattern texts matched = MatchBool matched (AreMatched answer pattern texts) (IsRefused answer pattern texts)
+
+-- what is found in the input, seen in this way, is a match; None where there is none
+abbrev pub FindsInInput : {E R : Type 0} → (view : R → ComponentName → ResultView) → (answer : E → List ℕ → Option Captures) → PatternView E → UrlPatternMatchInput → Option R → Type 0
+FindsInInput view answer pattern input found =
+    MatchOption found (HasNoMatch answer pattern input) (λ result. IsMatch answer pattern input (view result))
+
+-- the same of eight texts
+abbrev pub FindsInTexts : {E R : Type 0} → (view : R → ComponentName → ResultView) → (answer : E → List ℕ → Option Captures) → PatternView E → Texts → Option R → Type 0
+FindsInTexts view answer pattern texts found =
+    MatchOption found (IsRefused answer pattern texts) (λ result. IsMatchOf answer pattern texts (view result))
+
 -- ---- when memory is asked for
 
 -- an engine is asked: between prefix and suffix of a component's text
 abbrev pub AsksAnEngine : {E : Type 0} → PatternView E → Texts → Type 0
-AsksAnEngine pattern texts = (component : ComponentName) × AsksEngine (pattern component).matcher (text_at texts component)
+AsksAnEngine pattern texts = (component : ComponentName) × AsksEngine (pattern component).matcher (at texts component)
 
 -- ---- words of laws
 

@@ -3,11 +3,12 @@ use Rattle.std.specs.Prelude.{ℕ, Ok}
 use Rattle.url.specs.Parser.{Parsed, and_then}
 use Rattle.urlpattern_init.specs.declared.init.UrlPatternMatchInput.{UrlPatternMatchInput}
 use Rattle.urlpattern_init.specs.declared.init.UrlPatternMatchInput.TheVariants.{Init, Url as UrlInput}
-use Rattle.urlpattern_init.specs.Inheritance.{Texts, asked_bytes, processed_values, texts_of_url, texts_of_values, values_view}
+use Rattle.urlpattern_init.specs.Inheritance.{asked_bytes, processed_values, texts_of_url, texts_of_values, values_view}
 use Rattle.urlpattern_canonical.specs.Canonical.{IsRefusedByUrl}
 use Rattle.urlpattern_canonical.specs.declared.canonicalize_and_process.ProcessType.TheVariants.{Url}
 use Rattle.urlpattern_inputs.specs.declared.match_input.MatchInput.{MatchInput}
 use Rattle.urlpattern_syntax.specs.Text.{text_of}
+use Rattle.urlpattern_syntax.specs.Eight.{Texts}
 
 abbrev pub texts_view : MatchInput → Texts
 texts_view input = record {

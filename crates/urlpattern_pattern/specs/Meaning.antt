@@ -2,19 +2,19 @@
 -- are the names of these parts beside what they capture.
 use Rattle.std.specs.Prelude.{◌≡◌, ⊤, ℕ, Bool, false, List, Option, Some, None, MatchOption, Ok, IsTrue}
 use Rattle.std.specs.Str.{all_scalars}
-use Rattle.urlpattern_init.specs.Inheritance.{Texts, Values}
 use Rattle.urlpattern_init.specs.declared.init.UrlPatternInit.{UrlPatternInit}
 use Rattle.urlpattern_init.specs.declared.init.UrlPatternMatchInput.{UrlPatternMatchInput}
 use Rattle.urlpattern_syntax.specs.declared.eight.ComponentName.{ComponentName}
 use Rattle.urlpattern_inputs.specs.declared.options.UrlPatternOptions.{UrlPatternOptions}
 use Rattle.regex.specs.declared.string.regex.Regex.{Regex}
-use Rattle.urlpattern_core.specs.Compiling.{ComponentView, IsCompiledFrom}
+use Rattle.urlpattern_core.specs.Compiling.{ComponentView, IsCompiledBy, IsCompiledFrom}
+use Rattle.urlpattern_core.specs.declared.regexp.RegExp.{Ghosts as Engine}
 use Rattle.urlpattern_core.specs.Engines.{IsRegexOf}
 use Rattle.urlpattern_laws.specs.FirstAnswers.{IsFirstOf, TookText}
 use Rattle.urlpattern_laws.specs.Matching.{FollowsMiddle}
 use Rattle.urlpattern_laws.specs.PartMeaning.{Captures, PartsMean}
 use Rattle.urlpattern_pattern.specs.Compiled.{AreCompiled, Compiles, canonical_encoding, manner_of, pattern_of, pattern_values}
-use Rattle.urlpattern_pattern.specs.Match.{HasNoMatch, IsLongInput, IsMatch, IsResultOf, ResultView, text_at}
+use Rattle.urlpattern_pattern.specs.Match.{HasNoMatch, IsLongInput, IsMatch, IsResultOf, ResultView}
 use Rattle.urlpattern_pattern.specs.MatchInput.{input_texts}
 use Rattle.urlpattern_pattern.specs.Patterns.{PatternView}
 use Rattle.urlpattern_syntax.specs.declared.parser.RegexSyntax.TheVariants.{Rust}
@@ -23,6 +23,7 @@ use Rattle.urlpattern_syntax.specs.Parts.{PartView}
 use Rattle.urlpattern_syntax.specs.Reading.{Reads}
 use Rattle.urlpattern_syntax.specs.RegexpText.{group_names}
 use Rattle.urlpattern_syntax.specs.Text.{lacks, line_feed}
+use Rattle.urlpattern_syntax.specs.Eight.{Texts, Values, at}
 
 -- ---- what a pattern text means
 
@@ -60,12 +61,12 @@ pub record MeaningPremises {E : Type 0} (answer : E → List ℕ → Option Capt
 -- premises, the pattern texts do not mean all eight.
 abbrev pub IsFoundByMeaning : {E : Type 0} → (answer : E → List ℕ → Option Captures) → UrlPatternOptions → Values → (hierarchical : Bool) → PatternView E → Texts → Option (ComponentName → ResultView) → Type 0
 IsFoundByMeaning answer asked values hierarchical pattern texts (Some result) =
-    (component : ComponentName) → MeaningPremises answer asked values hierarchical component (pattern component) (text_at texts component) →
-    (meant : IsMeant asked values hierarchical component (text_at texts component))
-    × IsResultOf (group_names meant.parts) meant.captures (text_at texts component) (result component)
+    (component : ComponentName) → MeaningPremises answer asked values hierarchical component (pattern component) (at texts component) →
+    (meant : IsMeant asked values hierarchical component (at texts component))
+    × IsResultOf (group_names meant.parts) meant.captures (at texts component) (result component)
 IsFoundByMeaning answer asked values hierarchical pattern texts None =
-    ((component : ComponentName) → MeaningPremises answer asked values hierarchical component (pattern component) (text_at texts component)) →
-    ¬ ((component : ComponentName) → IsMeant asked values hierarchical component (text_at texts component))
+    ((component : ComponentName) → MeaningPremises answer asked values hierarchical component (pattern component) (at texts component)) →
+    ¬ ((component : ComponentName) → IsMeant asked values hierarchical component (at texts component))
 
 -- ---- what `exec` answers
 
@@ -82,6 +83,10 @@ pub record IsExecutedByMeaning {E : Type 0} (IsFrom : Compiles E) (answer : E �
   pub executed : IsExecuted answer pattern input found
   pub means : (texts : Texts) → input_texts input ≡ Ok texts → ¬ IsLongInput input
       → IsFoundByMeaning answer asked values compiled.hierarchical pattern texts found
+
+-- the same, by an engine
+abbrev pub IsExecutedBy : {E : Type 0} → Engine E → UrlPatternInit → UrlPatternOptions → UrlPatternMatchInput → Option (ComponentName → ResultView) → Type 0
+IsExecutedBy engine = IsExecutedByMeaning (IsCompiledBy engine) engine.answer
 
 -- ---- the default engine
 

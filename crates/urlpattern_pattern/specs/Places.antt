@@ -3,11 +3,11 @@ use Rattle.std.specs.Prelude.{◌≡◌, ◌⊎◌, ℕ, Bool, false, List, [], 
 use Rattle.std.specs.List.{AllZip}
 use Rattle.urlpattern_index.specs.Keys.{key_of}
 use Rattle.urlpattern_index.specs.Places.{AddressTexts, BeginsWith, FixedPath, FixedTexts, Is}
-use Rattle.urlpattern_init.specs.Inheritance.{Texts}
 use Rattle.urlpattern_syntax.specs.declared.eight.ComponentName.TheVariants.{Hostname, Pathname, Protocol}
 use Rattle.urlpattern_laws.specs.Matching.{Literal, MatcherView}
 use Rattle.urlpattern_pattern.specs.Patterns.{PatternView, pattern_view}
 use Rattle.urlpattern_pattern.specs.declared.pattern.UrlPattern.{UrlPattern}
+use Rattle.urlpattern_syntax.specs.Eight.{Texts}
 
 -- the matcher of one text, whose case is kept
 abbrev pub text_matcher : {E : Type 0} → List ℕ → MatcherView E

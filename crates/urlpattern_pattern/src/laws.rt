@@ -8,14 +8,14 @@ ghost use Rattle.urlpattern_init.specs.declared.init.UrlPatternMatchInput.{UrlPa
 ghost use Rattle.regex.specs.declared.string.regex.Regex.{Regex};
 ghost use Rattle.urlpattern_core.specs.Compiling.{IsCompiledFrom};
 ghost use Rattle.urlpattern_core.specs.Engines.{regex_answer};
-ghost use Rattle.urlpattern_init.specs.Inheritance.{Texts, Values};
 ghost use Rattle.urlpattern_inputs.specs.declared.options.UrlPatternOptions.{UrlPatternOptions};
 ghost use Rattle.urlpattern_pattern.specs.Compiled.{AreCompiled};
 ghost use Rattle.urlpattern_pattern.specs.MatchInput.{input_texts};
 ghost use Rattle.urlpattern_pattern.specs.Meaning.{IsExecuted, IsFirstResult, IsFoundByMeaning, MeaningPremises, RegexPremises, compiles_by_regex};
-ghost use Rattle.urlpattern_pattern.specs.Match.{HasMatch, HasNoMatch, IsLongInput, IsMatch, IsSameResult, ResultView, text_at};
+ghost use Rattle.urlpattern_pattern.specs.Match.{HasMatch, HasNoMatch, IsLongInput, IsMatch, IsSameResult, ResultView};
 ghost use Rattle.urlpattern_pattern.specs.Patterns.{PatternView};
 ghost use Rattle.urlpattern_laws.specs.PartMeaning.{Captures};
+ghost use Rattle.urlpattern_syntax.specs.Eight.{Texts, Values, at};
 
 use urlpattern_core::regexp::RegExp;
 
@@ -57,8 +57,8 @@ pub fn groups_by_regex_are_of_the_first_way()
         (result : ComponentName → ResultView) (component : ComponentName) →
         (compiled : AreCompiled compiles_by_regex regex_answer asked values pattern) →
         input_texts input ≡ Ok texts → IsMatch regex_answer pattern input result →
-        RegexPremises asked values compiled.hierarchical component (pattern component) (text_at texts component) →
-        IsFirstResult asked values compiled.hierarchical component (text_at texts component) (result component) }
+        RegexPremises asked values compiled.hierarchical component (pattern component) (at texts component) →
+        IsFirstResult asked values compiled.hierarchical component (at texts component) (result component) }
     ensures one { (asked : UrlPatternOptions) (values : Values) (hierarchical : Bool) (component : ComponentName) (text : List ℕ) (result other : ResultView) →
         IsFirstResult asked values hierarchical component text result → IsFirstResult asked values hierarchical component text other →
         IsSameResult result other }

@@ -4,18 +4,20 @@
 //! and by the text that the pathname begins with. Those look at them, in the order of the list, and nothing is made of those
 //! that do not match.
 ghost use Rattle.std.specs.Iterator.Adapters.{IterYieldsInOrder};
-ghost use Rattle.std.specs.Prelude.{◌≡◌, ◌==◌, ◌++◌, [], ◌∷◌, length, map, option_copied, option_map, slice_get, IfErr, IfOk, OnErr, OnOk};
+ghost use Rattle.std.specs.Prelude.{◌≡◌, ◌==◌, ◌++◌, [], ◌∷◌, length, map, option_copied, slice_get, IfErr, IfOk, OnErr, OnOk};
 ghost use Rattle.std.specs.Slice.Iter.{iter_rest};
 ghost use Rattle.urlpattern_init.specs.Inheritance.{texts_of_url};
 ghost use Rattle.urlpattern_init.specs.declared.init.UrlPatternMatchInput.TheVariants as inputs;
-ghost use Rattle.urlpattern_pattern.specs.Eight.{borrowed_texts, results_of};
+ghost use Rattle.urlpattern_pattern.specs.Matching.{borrowed_texts, first_groups_view};
 ghost use Rattle.urlpattern_pattern.specs.FirstMatch.{first_captures_view, first_view, patterns_view, IsFirstMatch, IsFirstMatchOf, OneAsksAnEngine};
 ghost use Rattle.urlpattern_pattern.specs.MatchInput.{texts_view};
 ghost use Rattle.urlpattern_pattern.specs.declared.pattern.UrlPattern.{UrlPattern};
 ghost use Rattle.urlpattern_syntax.specs.declared.error.Error.TheVariants as errors;
 
 use crate::match_input::parse_match_input;
-use crate::pattern::{Eight, Groups, UrlPattern, UrlPatternCaptures, UrlPatternResult};
+use crate::pattern::{
+    Groups, UrlPattern, UrlPatternCaptures, UrlPatternResult, input_texts, url_texts,
+};
 use std::alloc::Global;
 use std::marker::Model;
 use std::slice;
@@ -25,6 +27,7 @@ use urlpattern_core::regexp::RegExp;
 use urlpattern_index::{Address, Index};
 use urlpattern_init::UrlPatternMatchInput;
 use urlpattern_inputs::MatchInput;
+use urlpattern_syntax::eight::Eight;
 
 /// Patterns in their order, as the routes of a router.
 #[derive(Debug, Drop)]
@@ -144,7 +147,7 @@ impl<R: RegExp> UrlPatternList<R> {
         ensures memory { IfErr result (λ error. error ≡ errors.OutOfMemory) }
         ensures asked { IfErr result (λ _. OneAsksAnEngine (patterns_view self.now) (texts_of_url url.now)) }
     {
-        self.first(alloc, Eight::of_url(url))
+        self.first(alloc, url_texts(url))
     }
 
     /// The least index whose pattern matches an input that has its eight texts, and that match, borrowed from the pattern and
@@ -160,7 +163,7 @@ impl<R: RegExp> UrlPatternList<R> {
         ensures memory { IfErr result (λ error. error ≡ errors.OutOfMemory) }
         ensures asked { IfErr result (λ _. OneAsksAnEngine (patterns_view self.now) (texts_view input.now)) }
     {
-        self.first(alloc, Eight::of_input(input))
+        self.first(alloc, input_texts(input))
     }
 
     /// The first match of a URL, whose texts are copied.
@@ -209,7 +212,7 @@ impl<R: RegExp> UrlPatternList<R> {
         input: &MatchInput,
     ) -> Result<Option<(usize, Eight<Groups>)>, Error>
         ensures first { IfOk result (λ found. IsFirstMatchOf R.answer (patterns_view self.now) (texts_view input.now)
-            (option_map (λ first. (first.0, results_of (texts_view input.now) first.1)) found)) }
+            (first_groups_view (texts_view input.now) found)) }
         ensures memory { IfErr result (λ error. error ≡ errors.OutOfMemory) }
     {
         match self.first_captures_of_input(alloc, input)? {
@@ -230,7 +233,8 @@ impl<R: RegExp> UrlPatternList<R> {
         alloc: Global,
         texts: Eight<&'a str>,
     ) -> Result<Option<(usize, UrlPatternCaptures<'a>)>, Error>
-        ensures first { IfOk result (λ found. IsFirstMatchOf R.answer (patterns_view self.now) (borrowed_texts texts.entry) (first_captures_view found)) }
+        ensures first { IfOk result (λ found.
+            IsFirstMatchOf R.answer (patterns_view self.now) (borrowed_texts texts.entry) (first_captures_view found)) }
         ensures memory { IfErr result (λ error. error ≡ errors.OutOfMemory) }
         ensures asked { IfErr result (λ _. OneAsksAnEngine (patterns_view self.now) (borrowed_texts texts.entry)) }
     {

@@ -5,7 +5,7 @@ ghost use Rattle.urlpattern_syntax.specs.Text.{text_of};
 ghost use Rattle.urlpattern_init.specs.Inheritance.{texts_of_url, texts_of_values, values_view};
 ghost use Rattle.urlpattern_pattern.specs.MatchInput.{IsNoInput, input_texts, texts_view};
 
-use crate::pattern::Eight;
+use crate::pattern::{copied, url_texts};
 use std::alloc::{AllocError, Global};
 use url::Url;
 use urlpattern_canonical::canonicalize_and_process::ProcessType;
@@ -17,7 +17,7 @@ use urlpattern_inputs::MatchInput;
 fn of_url(alloc: Global, url: &Url) -> Result<MatchInput, AllocError>
     ensures { IfOk result (λ texts. texts_view texts ≡ texts_of_url url.now) }
 {
-    Eight::of_url(url).copied(alloc)
+    copied(alloc, &url_texts(url))
 }
 
 /// The values that an init came to.

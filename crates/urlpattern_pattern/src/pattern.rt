@@ -2,12 +2,11 @@
 ghost use Rattle.std.specs.Prelude.{◌≡◌};
 ghost use Rattle.std.specs.List.{list_any};
 ghost use Rattle.std.specs.Str.{chars};
-ghost use Rattle.urlpattern_init.specs.Inheritance.{components};
 ghost use Rattle.urlpattern_pattern.specs.Patterns.{pattern_view};
 ghost use Rattle.urlpattern_syntax.specs.declared.eight.ComponentName.TheVariants as names;
+ghost use Rattle.urlpattern_syntax.specs.Eight.{components};
 
 mod captures;
-mod eight;
 mod from_string;
 mod groups;
 mod matching;
@@ -15,12 +14,13 @@ mod once;
 mod parse;
 mod place;
 mod result;
+mod texts;
 
 pub use captures::{UrlPatternCaptures, UrlPatternGroups};
-pub(crate) use eight::Eight;
 pub use from_string::{init_of_text, parse_base, parse_url};
 pub(crate) use groups::Groups;
 pub use result::{UrlPatternComponentResult, UrlPatternResult};
+pub(crate) use texts::{copied, input_texts, url_texts};
 use urlpattern_core::component::Component;
 use urlpattern_core::regexp::RegExp;
 

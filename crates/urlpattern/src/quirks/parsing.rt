@@ -1,9 +1,8 @@
 //! Patterns for browsers: compiled, and as plain data.
 ghost use Rattle.std.specs.Prelude.{◌≡◌, IfErr, IfOk};
-ghost use Rattle.urlpattern_pattern.specs.Compiled.{IsCompiled, RefusesPattern};
+ghost use Rattle.urlpattern_pattern.specs.Compiled.{IsPatternOf, RefusesInit};
 ghost use Rattle.urlpattern_pattern.specs.Patterns.{PatternView, pattern_view};
 ghost use Rattle.urlpattern.specs.Quirks.{plain_pattern};
-ghost use Rattle.urlpattern_core.specs.Compiling.{IsCompiledFrom};
 ghost use Rattle.urlpattern_plain.specs.Values.{pattern_by};
 ghost use Rattle.urlpattern_syntax.specs.declared.error.Error.TheVariants as errors;
 ghost use Rattle.urlpattern_syntax.specs.Errors.{MemoryOr};
@@ -26,9 +25,9 @@ pub fn parse_pattern<R: RegExp>(
     options: UrlPatternOptions,
 ) -> Result<UrlPattern, Error>
     ensures parsed { IfOk result (λ plain. (compiled : PatternView R)
-        × IsCompiled (IsCompiledFrom R.IsMade R.MayRefuse R.syntax_of) R.answer init options compiled
+        × IsPatternOf R.RegExp init options compiled
         × (pattern_by text_of plain ≡ plain_pattern R.text_made_of compiled)) }
-    ensures refused { IfErr result (MemoryOr (RefusesPattern (IsCompiledFrom R.IsMade R.MayRefuse R.syntax_of) R.answer init options)) }
+    ensures refused { IfErr result (MemoryOr (RefusesInit R.RegExp init options)) }
 {
     let pattern = pattern::UrlPattern::<R>::parse(alloc, init, options)?;
     plain_pattern(alloc, pattern)
@@ -42,8 +41,8 @@ pub fn parse_pattern_as_lib<R: RegExp>(
     init: UrlPatternInit,
     options: UrlPatternOptions,
 ) -> Result<pattern::UrlPattern<R>, Error>
-    ensures compiled { IfOk result (λ pattern. IsCompiled (IsCompiledFrom R.IsMade R.MayRefuse R.syntax_of) R.answer init options (pattern_view pattern)) }
-    ensures refused { IfErr result (MemoryOr (RefusesPattern (IsCompiledFrom R.IsMade R.MayRefuse R.syntax_of) R.answer init options)) }
+    ensures compiled { IfOk result (λ pattern. IsPatternOf R.RegExp init options (pattern_view pattern)) }
+    ensures refused { IfErr result (MemoryOr (RefusesInit R.RegExp init options)) }
 {
     pattern::UrlPattern::parse(alloc, init, options)
 }

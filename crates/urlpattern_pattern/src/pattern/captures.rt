@@ -1,18 +1,18 @@
 //! What the groups of a pattern capture, borrowed from the pattern and from the texts that it matches.
 ghost use Rattle.std.specs.Iterator.Adapters.{zip_first, zip_second};
-ghost use Rattle.std.specs.Prelude.{◌≡◌, Some, List, ℕ, map, option_map, zip, IfErr, IfOk};
+ghost use Rattle.std.specs.Prelude.{◌≡◌, Some, map, option_map, zip, IfErr, IfOk};
 ghost use Rattle.std.specs.Slice.Iter.{iter_rest};
 ghost use Rattle.std.specs.Str.{chars};
 ghost use Rattle.urlpattern_core.specs.Captured.{capture_view};
 ghost use Rattle.urlpattern_core.specs.Looks.{look_answer, IsAsking};
 ghost use Rattle.urlpattern_syntax.specs.declared.eight.ComponentName.{ComponentName as Name};
 ghost use Rattle.urlpattern_pattern.specs.Captures.{captures_view, groups_view};
-ghost use Rattle.urlpattern_pattern.specs.Eight.{at, captures_of, HasNoGroups, IsWithoutGroups};
-ghost use Rattle.urlpattern_pattern.specs.Match.{component_result_view, group_in, group_of, result_view, IsSameResult};
+ghost use Rattle.urlpattern_pattern.specs.Matching.{AreGroupsOf, captures_of, texts_of, HasNoGroups, IsWithoutGroups};
+ghost use Rattle.urlpattern_pattern.specs.Match.{component_result_view, group_of, result_view, IsSameResult};
 ghost use Rattle.urlpattern_syntax.specs.Text.{text_of};
 ghost use Rattle.urlpattern_syntax.specs.declared.error.Error.TheVariants as errors;
+ghost use Rattle.urlpattern_syntax.specs.Eight.{at};
 
-use super::eight::Eight;
 use super::groups::{Groups, groups_of};
 use super::result::{UrlPatternComponentResult, UrlPatternResult};
 use std::alloc::Global;
@@ -21,7 +21,7 @@ use std::slice;
 use urlpattern_core::Error;
 use urlpattern_core::matcher::Look;
 use urlpattern_core::regexp::RegExp;
-use urlpattern_init::Component as ComponentName;
+use urlpattern_syntax::eight::{ComponentName, Eight};
 
 /// The groups of a component in their order: each name, with what the group captures. `None`: the group took no part.
 pub type UrlPatternGroups<'c, 'a> = Zip<slice::Iter<'c, String>, slice::Iter<'c, Option<&'a str>>>;
@@ -44,7 +44,7 @@ impl<'a> UrlPatternCaptures<'a> {
     pub fn input(&self, name: ComponentName) -> &'a str
         ensures { chars result.now ≡ (captures_view self.now name).input }
     {
-        self.texts.at(name)
+        self.texts.get(name)
     }
 
     /// What a group of a component captures. `None`: there is no group of this name. `Some(None)`: the group took no part. Of
@@ -53,20 +53,20 @@ impl<'a> UrlPatternCaptures<'a> {
         ensures { option_map capture_view result ≡ (captures_view self.now name).group (chars group.now) }
     {
         group_named(
-            self.names.at(name),
-            self.captures.at(name).as_slice(),
+            self.names.get(name),
+            self.captures.get(name).as_slice(),
             group,
         )
     }
 
     /// The groups of a component, in their order.
     pub fn groups(&self, name: ComponentName) -> UrlPatternGroups<'_, 'a>
-        ensures { zip (map (λ name. text_of name) (iter_rest (zip_first result))) (map capture_view (iter_rest (zip_second result))) ≡ groups_view self.now name }
+        ensures { zip (texts_of (iter_rest (zip_first result))) (map capture_view (iter_rest (zip_second result))) ≡ groups_view self.now name }
     {
         self.names
-            .at(name)
+            .get(name)
             .iter()
-            .zip(self.captures.at(name).as_slice())
+            .zip(self.captures.get(name).as_slice())
     }
 
     /// The match with copies of its texts, names and captures, as `UrlPattern::exec` answers it.
@@ -115,8 +115,8 @@ impl<'a> UrlPatternCaptures<'a> {
         copy.fill(
             alloc,
             self.input(name),
-            self.names.at(name),
-            self.captures.at(name).as_slice(),
+            self.names.get(name),
+            self.captures.get(name).as_slice(),
         )
     }
 
@@ -124,33 +124,23 @@ impl<'a> UrlPatternCaptures<'a> {
     ///
     /// The error is that memory ran out.
     pub(crate) fn to_groups(&self, alloc: Global) -> Result<Eight<Groups>, Error>
-        ensures groups { IfOk result (λ groups. (name : Name) (group : List ℕ) →
-            group_in (at groups name) group ≡ (captures_view self.now name).group group) }
+        ensures groups { IfOk result (λ groups. (name : Name) → AreGroupsOf (at groups name) (captures_view self.now name)) }
         ensures memory { IfErr result (λ error. error ≡ errors.OutOfMemory) }
     {
-        Ok(Eight {
-            protocol: self.groups_of(alloc, ComponentName::Protocol)?,
-            username: self.groups_of(alloc, ComponentName::Username)?,
-            password: self.groups_of(alloc, ComponentName::Password)?,
-            hostname: self.groups_of(alloc, ComponentName::Hostname)?,
-            port: self.groups_of(alloc, ComponentName::Port)?,
-            pathname: self.groups_of(alloc, ComponentName::Pathname)?,
-            search: self.groups_of(alloc, ComponentName::Search)?,
-            hash: self.groups_of(alloc, ComponentName::Hash)?,
-        })
+        Eight::try_from_fn(|name| self.groups_of(alloc, name))
     }
 
     /// Copies of what the groups of a component capture, by name.
     ///
     /// The error is that memory ran out.
     fn groups_of(&self, alloc: Global, name: ComponentName) -> Result<Groups, Error>
-        ensures groups { IfOk result (λ groups. (group : List ℕ) → group_in groups group ≡ (captures_view self.now name).group group) }
+        ensures groups { IfOk result (λ groups. AreGroupsOf groups (captures_view self.now name)) }
         ensures memory { IfErr result (λ error. error ≡ errors.OutOfMemory) }
     {
         groups_of(
             alloc,
-            self.names.at(name),
-            self.captures.at(name).as_slice(),
+            self.names.get(name),
+            self.captures.get(name).as_slice(),
         )
     }
 }
@@ -161,7 +151,7 @@ fn group_named<'a>(
     captures: &[Option<&'a str>],
     group: &str,
 ) -> Option<Option<&'a str>>
-    ensures { option_map capture_view result ≡ group_of (map (λ name. text_of name) names.now) (map capture_view captures.now) (chars group.now) }
+    ensures { option_map capture_view result ≡ group_of (texts_of names.now) (map capture_view captures.now) (chars group.now) }
 {
     let mut found = None;
     for (name, capture) in names.iter().zip(captures) {

@@ -29,9 +29,8 @@ impl<R: RegExp> UrlPattern<R> {
         base_url: Option<&str>,
         options: UrlPatternOptions,
     ) -> Result<Self, Error>
-        ensures compiled { IfOk result (IsPatternOfTextBy R.IsMade R.MayRefuse R.syntax_of R.answer pattern.now (option_copied base_url.entry) options) }
-        ensures refused { IfErr result (MemoryOr (RefusesPatternOfTextBy R.IsMade R.MayRefuse R.syntax_of R.answer
-            pattern.now (option_copied base_url.entry) options)) }
+        ensures compiled { IfOk result (IsPatternOfTextBy R.RegExp pattern.now (option_copied base_url.entry) options) }
+        ensures refused { IfErr result (MemoryOr (RefusesPatternOfTextBy R.RegExp pattern.now (option_copied base_url.entry) options)) }
     {
         let init = init_of_text::<R>(alloc, pattern, base_url)?;
         Self::parse(alloc, init, options)
@@ -46,7 +45,7 @@ pub fn init_of_text<R: RegExp>(
     text: &str,
     base_url: Option<&str>,
 ) -> Result<UrlPatternInit, Error>
-    ensures constructed { IfOk result (IsInitOfTextBy R.IsMade R.MayRefuse R.answer text.now (option_copied base_url.entry)) }
+    ensures constructed { IfOk result (IsInitOfTextBy R.RegExp text.now (option_copied base_url.entry)) }
     ensures refused { IfErr result (MemoryOr (RefusesText (chars text.now) (option_copied base_url.entry))) }
 {
     let base_url = parse_base(alloc, base_url)?;

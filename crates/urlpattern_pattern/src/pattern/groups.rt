@@ -1,6 +1,6 @@
 //! The groups of a match, by their names.
 ghost use Rattle.std.specs.Prelude.{◌≡◌, IfErr, IfOk, map, option_map};
-ghost use Rattle.urlpattern_pattern.specs.Eight.{AreGroups, HasNoGroups};
+ghost use Rattle.urlpattern_pattern.specs.Matching.{AreGroups, HasNoGroups};
 ghost use Rattle.urlpattern_core.specs.Captured.{capture_view};
 ghost use Rattle.urlpattern_syntax.specs.declared.error.Error.TheVariants as errors;
 ghost use Rattle.urlpattern_syntax.specs.Text.{text_of};

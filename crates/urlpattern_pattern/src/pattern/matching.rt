@@ -1,24 +1,24 @@
 //! Matching: what a pattern answers to eight texts, and the groups of the answer.
 //!
 //! All components look at their texts before anything is made. Engines are asked last, and the first refusal ends it.
-ghost use Rattle.std.specs.Prelude.{◌≡◌, None, Some, IfErr, IfNone, IfOk, IfSome, MatchBool, MatchOption};
-ghost use Rattle.urlpattern_init.specs.Inheritance.{texts_of_url};
-ghost use Rattle.urlpattern_syntax.specs.declared.eight.ComponentName.{ComponentName as Name};
-ghost use Rattle.urlpattern_init.specs.declared.init.UrlPatternMatchInput.TheVariants as inputs;
-ghost use Rattle.urlpattern_pattern.specs.Captures.{captures_view};
-ghost use Rattle.urlpattern_pattern.specs.Eight.{at, borrowed_texts, captures_of, results_of, ShowsMatch, ShowsNoMatch};
-ghost use Rattle.urlpattern_pattern.specs.Match.{AreAnswers, AreMatched, AsksAnEngine, HasMatch, HasNoMatch, IsMatch, IsMatchOf, IsRefused, IsResultOf, result_view, text_at};
-ghost use Rattle.urlpattern_pattern.specs.MatchInput.{texts_view};
-ghost use Rattle.urlpattern_pattern.specs.Patterns.{pattern_view};
+ghost use Rattle.std.specs.Prelude.{◌≡◌, None, Some, IfErr, IfNone, IfOk, IfSome, MatchBool};
 ghost use Rattle.urlpattern_core.specs.Looks.{look_answer, IsAsking};
-ghost use Rattle.urlpattern_laws.specs.Matching.{Answers, AsksEngine};
+ghost use Rattle.urlpattern_init.specs.declared.init.UrlPatternMatchInput.TheVariants as inputs;
+ghost use Rattle.urlpattern_init.specs.Inheritance.{texts_of_url};
+ghost use Rattle.urlpattern_pattern.specs.Captures.{captures_view};
+ghost use Rattle.urlpattern_pattern.specs.Match.{AreAnswers, AsksAnEngine, FindsInInput, FindsInTexts, IsRefused, TestsInput, TestsTexts, result_view};
+ghost use Rattle.urlpattern_pattern.specs.MatchInput.{texts_view};
+ghost use Rattle.urlpattern_pattern.specs.Matching.{AreCaptured, AreLooks, AskWithCause, HasCaptures, ShowsMatch, ShowsNoMatch, ShowsWhether, all_captures, borrowed_texts, results_of};
+ghost use Rattle.urlpattern_pattern.specs.Patterns.{pattern_view};
+ghost use Rattle.urlpattern_syntax.specs.declared.eight.ComponentName.{ComponentName as Name};
 ghost use Rattle.urlpattern_syntax.specs.declared.error.Error.TheVariants as errors;
+ghost use Rattle.urlpattern_syntax.specs.Eight.{at};
 
 use super::UrlPattern;
 use super::captures::{Captured, UrlPatternCaptures};
-use super::eight::Eight;
 use super::groups::Groups;
 use super::result::UrlPatternResult;
+use super::texts::{input_texts, url_texts};
 use crate::match_input::parse_match_input;
 use std::alloc::Global;
 use url::Url;
@@ -27,6 +27,7 @@ use urlpattern_core::matcher::Look;
 use urlpattern_core::regexp::RegExp;
 use urlpattern_init::UrlPatternMatchInput;
 use urlpattern_inputs::MatchInput;
+use urlpattern_syntax::eight::Eight;
 
 impl<R: RegExp> UrlPattern<R> {
     /// Whether the pattern matches an input. A URL's texts are its own; an init's are those that it comes to, with what it
@@ -36,13 +37,13 @@ impl<R: RegExp> UrlPattern<R> {
     ///
     /// <https://urlpattern.spec.whatwg.org/#url-pattern-match>
     pub fn test(&self, alloc: Global, input: UrlPatternMatchInput) -> Result<bool, Error>
-        ensures matched { IfOk result (λ matched. MatchBool matched (HasMatch R.answer (pattern_view self.now) input) (HasNoMatch R.answer (pattern_view self.now) input)) }
+        ensures matched { IfOk result (TestsInput R.answer (pattern_view self.now) input) }
         ensures memory { IfErr result (λ error. error ≡ errors.OutOfMemory) }
     {
         match input {
             UrlPatternMatchInput::Url(url) => self.test_url(alloc, &url),
             input => match parse_match_input(alloc, input)? {
-                Some(texts) => self.is_matched(alloc, Eight::of_input(&texts)),
+                Some(texts) => self.is_matched(alloc, input_texts(&texts)),
                 None => Ok(false),
             },
         }
@@ -59,8 +60,7 @@ impl<R: RegExp> UrlPattern<R> {
         alloc: Global,
         input: UrlPatternMatchInput,
     ) -> Result<Option<UrlPatternResult>, Error>
-        ensures matched { IfOk result (λ found. MatchOption found (HasNoMatch R.answer (pattern_view self.now) input)
-            (λ result. IsMatch R.answer (pattern_view self.now) input (result_view result))) }
+        ensures matched { IfOk result (FindsInInput result_view R.answer (pattern_view self.now) input) }
         ensures memory { IfErr result (λ error. error ≡ errors.OutOfMemory) }
     {
         match input {
@@ -76,20 +76,18 @@ impl<R: RegExp> UrlPattern<R> {
     ///
     /// The error is that memory ran out. Only an engine allocates.
     pub fn test_url(&self, alloc: Global, url: &Url) -> Result<bool, Error>
-        ensures matched { IfOk result (λ matched. MatchBool matched (HasMatch R.answer (pattern_view self.now) (inputs.Url url.now))
-            (HasNoMatch R.answer (pattern_view self.now) (inputs.Url url.now))) }
+        ensures matched { IfOk result (TestsInput R.answer (pattern_view self.now) (inputs.Url url.now)) }
         ensures memory { IfErr result (λ error. error ≡ errors.OutOfMemory) }
         ensures asked { IfErr result (λ _. AsksAnEngine (pattern_view self.now) (texts_of_url url.now)) }
     {
-        self.is_matched(alloc, Eight::of_url(url))
+        self.is_matched(alloc, url_texts(url))
     }
 
     /// What the groups capture of a URL, as `exec` answers it. `None`: the pattern does not match the URL.
     ///
     /// The error is that memory ran out.
     pub fn exec_url(&self, alloc: Global, url: &Url) -> Result<Option<UrlPatternResult>, Error>
-        ensures matched { IfOk result (λ found. MatchOption found (HasNoMatch R.answer (pattern_view self.now) (inputs.Url url.now))
-            (λ result. IsMatch R.answer (pattern_view self.now) (inputs.Url url.now) (result_view result))) }
+        ensures matched { IfOk result (FindsInInput result_view R.answer (pattern_view self.now) (inputs.Url url.now)) }
         ensures memory { IfErr result (λ error. error ≡ errors.OutOfMemory) }
     {
         match self.captures(alloc, url)? {
@@ -114,12 +112,11 @@ impl<R: RegExp> UrlPattern<R> {
         alloc: Global,
         url: &'a Url,
     ) -> Result<Option<UrlPatternCaptures<'a>>, Error>
-        ensures matched { IfOk result (λ found. MatchOption found (HasNoMatch R.answer (pattern_view self.now) (inputs.Url url.now))
-            (λ captures. IsMatch R.answer (pattern_view self.now) (inputs.Url url.now) (captures_view captures))) }
+        ensures matched { IfOk result (FindsInInput captures_view R.answer (pattern_view self.now) (inputs.Url url.now)) }
         ensures memory { IfErr result (λ error. error ≡ errors.OutOfMemory) }
         ensures asked { IfErr result (λ _. AsksAnEngine (pattern_view self.now) (texts_of_url url.now)) }
     {
-        self.captures_of_texts(alloc, Eight::of_url(url))
+        self.captures_of_texts(alloc, url_texts(url))
     }
 
     /// The match of an input that has its eight texts, borrowed from the pattern and the input. `None`: the pattern does not
@@ -133,12 +130,11 @@ impl<R: RegExp> UrlPattern<R> {
         alloc: Global,
         input: &'a MatchInput,
     ) -> Result<Option<UrlPatternCaptures<'a>>, Error>
-        ensures matched { IfOk result (λ found. MatchOption found (IsRefused R.answer (pattern_view self.now) (texts_view input.now))
-            (λ captures. IsMatchOf R.answer (pattern_view self.now) (texts_view input.now) (captures_view captures))) }
+        ensures matched { IfOk result (FindsInTexts captures_view R.answer (pattern_view self.now) (texts_view input.now)) }
         ensures memory { IfErr result (λ error. error ≡ errors.OutOfMemory) }
         ensures asked { IfErr result (λ _. AsksAnEngine (pattern_view self.now) (texts_view input.now)) }
     {
-        self.captures_of_texts(alloc, Eight::of_input(input))
+        self.captures_of_texts(alloc, input_texts(input))
     }
 
     /// The match of texts that are there, which are moved.
@@ -147,8 +143,7 @@ impl<R: RegExp> UrlPattern<R> {
         alloc: Global,
         texts: MatchInput,
     ) -> Result<Option<UrlPatternResult>, Error>
-        ensures matched { IfOk result (λ found. MatchOption found (IsRefused R.answer (pattern_view self.now) (texts_view texts))
-            (λ result. IsMatchOf R.answer (pattern_view self.now) (texts_view texts) (result_view result))) }
+        ensures matched { IfOk result (FindsInTexts result_view R.answer (pattern_view self.now) (texts_view texts)) }
         ensures memory { IfErr result (λ error. error ≡ errors.OutOfMemory) }
     {
         match self.matched_groups(alloc, &texts)? {
@@ -165,8 +160,7 @@ impl<R: RegExp> UrlPattern<R> {
         alloc: Global,
         input: &MatchInput,
     ) -> Result<Option<Eight<Groups>>, Error>
-        ensures matched { IfOk result (λ found. MatchOption found (IsRefused R.answer (pattern_view self.now) (texts_view input.now))
-            (λ groups. IsMatchOf R.answer (pattern_view self.now) (texts_view input.now) (results_of (texts_view input.now) groups))) }
+        ensures matched { IfOk result (FindsInTexts (results_of (texts_view input.now)) R.answer (pattern_view self.now) (texts_view input.now)) }
         ensures memory { IfErr result (λ error. error ≡ errors.OutOfMemory) }
     {
         match self.captures_of_input(alloc, input)? {
@@ -181,8 +175,7 @@ impl<R: RegExp> UrlPattern<R> {
 
     /// Whether these texts are matched.
     fn is_matched(&self, alloc: Global, texts: Eight<&str>) -> Result<bool, Error>
-        ensures matched { IfOk result (λ matched. MatchBool matched (AreMatched R.answer (pattern_view self.now) (borrowed_texts texts.entry))
-            (IsRefused R.answer (pattern_view self.now) (borrowed_texts texts.entry))) }
+        ensures matched { IfOk result (TestsTexts R.answer (pattern_view self.now) (borrowed_texts texts.entry)) }
         ensures memory { IfErr result (λ error. error ≡ errors.OutOfMemory) }
         ensures asked { IfErr result (λ _. AsksAnEngine (pattern_view self.now) (borrowed_texts texts.entry)) }
     {
@@ -200,8 +193,7 @@ impl<R: RegExp> UrlPattern<R> {
         alloc: Global,
         texts: Eight<&'a str>,
     ) -> Result<Option<UrlPatternCaptures<'a>>, Error>
-        ensures matched { IfOk result (λ found. MatchOption found (IsRefused R.answer (pattern_view self.now) (borrowed_texts texts.entry))
-            (λ captures. IsMatchOf R.answer (pattern_view self.now) (borrowed_texts texts.entry) (captures_view captures))) }
+        ensures matched { IfOk result (FindsInTexts captures_view R.answer (pattern_view self.now) (borrowed_texts texts.entry)) }
         ensures memory { IfErr result (λ error. error ≡ errors.OutOfMemory) }
         ensures asked { IfErr result (λ _. AsksAnEngine (pattern_view self.now) (borrowed_texts texts.entry)) }
     {
@@ -217,8 +209,7 @@ impl<R: RegExp> UrlPattern<R> {
         texts: Eight<&'a str>,
         captures: Eight<Captured<'a>>,
     ) -> UrlPatternCaptures<'a>
-        ensures { (name : Name) →
-            IsResultOf (pattern_view self.now name).group_name_list (captures_of (at captures.entry name)) (text_at (borrowed_texts texts.entry) name) (captures_view result name) }
+        ensures { HasCaptures (pattern_view self.now) (borrowed_texts texts.entry) captures.entry (captures_view result) }
     {
         let names = Eight {
             protocol: &self.protocol.group_name_list,
@@ -240,11 +231,9 @@ impl<R: RegExp> UrlPattern<R> {
     /// What the components see in their texts, before an engine is asked. None if one of them does not match.
     #[inline(always)]
     fn look<'a>(&'a self, texts: &Eight<&'a str>) -> Option<Eight<Look<'a, R>>>
-        ensures some { IfSome result (λ looks. (name : Name) →
-            Answers R.answer (pattern_view self.now name).matcher (text_at (borrowed_texts texts.now) name) (look_answer R.answer (Some (at looks name)))) }
+        ensures some { IfSome result (AreLooks R.answer (pattern_view self.now) (borrowed_texts texts.now)) }
         ensures none { IfNone result (IsRefused R.answer (pattern_view self.now) (borrowed_texts texts.now)) }
-        ensures asked { IfSome result (λ looks. (name : Name) → IsAsking (at looks name) →
-            AsksEngine (pattern_view self.now name).matcher (text_at (borrowed_texts texts.now) name)) }
+        ensures asked { IfSome result (AskWithCause (pattern_view self.now) (borrowed_texts texts.now)) }
     {
         // The path refuses most, so it is the first.
         Some(Eight {
@@ -269,7 +258,7 @@ impl<R: RegExp> UrlPattern<R> {
     ) -> Result<Option<Eight<Captured<'a>>>, Error>
         ensures refused { IfOk result (λ found. IfNone found (IsRefused R.answer (pattern_view self.now) (borrowed_texts texts.now))) }
         ensures answers { IfOk result (λ found. IfSome found (λ captures.
-            AreAnswers R.answer (pattern_view self.now) (borrowed_texts texts.now) (λ name. captures_of (at captures name)))) }
+            AreAnswers R.answer (pattern_view self.now) (borrowed_texts texts.now) (all_captures captures))) }
         ensures memory { IfErr result (λ error. error ≡ errors.OutOfMemory) }
         ensures asked { IfErr result (λ _. AsksAnEngine (pattern_view self.now) (borrowed_texts texts.now)) }
     {
@@ -285,8 +274,7 @@ fn captures_of_looks<'a, R: RegExp>(
     alloc: Global,
     looks: Eight<Look<'a, R>>,
 ) -> Result<Option<Eight<Captured<'a>>>, Error>
-    ensures some { IfOk result (λ found. IfSome found (λ captures. (name : Name) →
-        look_answer R.answer (Some (at looks.entry name)) ≡ Some (captures_of (at captures name)))) }
+    ensures some { IfOk result (λ found. IfSome found (AreCaptured R.answer looks.entry)) }
     ensures none { IfOk result (λ found. IfNone found ((name : Name) × (look_answer R.answer (Some (at looks.entry name)) ≡ None))) }
     ensures memory { IfErr result (λ error. error ≡ errors.OutOfMemory) }
     ensures asked { IfErr result (λ _. (name : Name) × IsAsking (at looks.entry name)) }
@@ -329,7 +317,7 @@ fn captures_of_looks<'a, R: RegExp>(
 
 /// Whether each of eight texts is matched, of which this is seen.
 fn are_accepted<R: RegExp>(alloc: Global, looks: Eight<Look<'_, R>>) -> Result<bool, Error>
-    ensures accepted { IfOk result (λ accepted. MatchBool accepted ((name : Name) → ShowsMatch R.answer (at looks.entry name)) ((name : Name) × ShowsNoMatch R.answer (at looks.entry name))) }
+    ensures accepted { IfOk result (ShowsWhether R.answer looks.entry) }
     ensures memory { IfErr result (λ error. error ≡ errors.OutOfMemory) }
     ensures asked { IfErr result (λ _. (name : Name) × IsAsking (at looks.entry name)) }
 {

@@ -1,10 +1,9 @@
 //! A pattern that is needed for one input.
 
 ghost use Rattle.std.specs.Prelude.{option_map, IfErr, IfOk};
-ghost use Rattle.urlpattern_core.specs.Compiling.{IsCompiledFrom};
-ghost use Rattle.urlpattern_pattern.specs.Compiled.{RefusesPattern};
+ghost use Rattle.urlpattern_pattern.specs.Compiled.{RefusesInit};
 ghost use Rattle.urlpattern_pattern.specs.Match.{result_view};
-ghost use Rattle.urlpattern_pattern.specs.Meaning.{IsExecutedByMeaning};
+ghost use Rattle.urlpattern_pattern.specs.Meaning.{IsExecutedBy};
 ghost use Rattle.urlpattern_syntax.specs.Errors.{MemoryOr};
 
 use super::UrlPattern;
@@ -29,9 +28,8 @@ impl<R: RegExp> UrlPattern<R> {
         options: UrlPatternOptions,
         input: UrlPatternMatchInput,
     ) -> Result<Option<UrlPatternResult>, Error>
-        ensures executed { IfOk result (λ found. IsExecutedByMeaning (IsCompiledFrom R.IsMade R.MayRefuse R.syntax_of) R.answer init options input
-            (option_map result_view found)) }
-        ensures refused { IfErr result (MemoryOr (RefusesPattern (IsCompiledFrom R.IsMade R.MayRefuse R.syntax_of) R.answer init options)) }
+        ensures executed { IfOk result (λ found. IsExecutedBy R.RegExp init options input (option_map result_view found)) }
+        ensures refused { IfErr result (MemoryOr (RefusesInit R.RegExp init options)) }
     {
         let pattern = Self::parse(alloc, init, options)?;
         let found = pattern.exec(alloc, input);

@@ -1,18 +1,18 @@
 //! Compiles a pattern from an init.
 
 ghost use Rattle.std.specs.Prelude.{◌≡◌, ◌↔◌, [], codes, length, option_copied, option_map, unwrap_or, IfErr, IfOk, IfSome, IsAscii, IsTrue, Some};
-ghost use Rattle.std.specs.Fn.{FnReturnsAt};
 ghost use Rattle.std.specs.Str.{chars};
-ghost use Rattle.urlpattern_pattern.specs.Compiled.{AreCompiled, FirstRefused, HasEngine, HasHierarchicalPath, IsCompiled, IsComponentCompiled, IsComponentRefused, IsRefusedFrom, RefusesPattern, RefusesValues, behind_pathname, behind_protocol, canonical_in_hostname, has_default_port, is_ipv6_pattern, is_mark, is_same, manner_of, pattern_of, pattern_values, without_default_port};
+ghost use Rattle.urlpattern_canonical.specs.Canonical.{IsAnswer};
+ghost use Rattle.urlpattern_core.specs.Compiling.{IsCompiledBy, component_view, pattern_text};
 ghost use Rattle.urlpattern_init.specs.Inheritance.{values_view};
+ghost use Rattle.urlpattern_pattern.specs.Compiled.{HasEngine, HasHierarchicalPath, IsPatternOf, RefusesInit, behind_pathname, behind_protocol, canonical_in_hostname, has_default_port, is_ipv6_pattern, is_mark, is_same, pattern_of, pattern_values, without_default_port};
+ghost use Rattle.urlpattern_pattern.specs.Compilers.{AreRefused, ComeTo, CompilesComponent, RefusesComponent, RefusesFirstOf, RefusesFrom, component_manner};
 ghost use Rattle.urlpattern_pattern.specs.Patterns.{pattern_view};
 ghost use Rattle.urlpattern_syntax.specs.declared.eight.ComponentName.{ComponentName};
-ghost use Rattle.urlpattern_canonical.specs.Canonical.{IsAnswer};
-ghost use Rattle.urlpattern_core.specs.Compiling.{IsCompiledFrom, component_view, pattern_text};
 ghost use Rattle.urlpattern_syntax.specs.declared.error.Error.TheVariants as errors;
-ghost use Rattle.urlpattern_syntax.specs.Options.{options_view};
 ghost use Rattle.urlpattern_syntax.specs.Errors.{MemoryOr};
-ghost use Rattle.urlpattern_syntax.specs.Reading.{encoding_of};
+ghost use Rattle.urlpattern_syntax.specs.Options.{options_view};
+ghost use Rattle.urlpattern_syntax.specs.Reading.{encoding_by};
 ghost use Rattle.urlpattern_syntax.specs.Text.{begins_with, text_of};
 
 use super::UrlPattern;
@@ -24,8 +24,9 @@ use urlpattern_canonical::canonicalize_and_process::{
 use urlpattern_core::parser::Options;
 use urlpattern_core::regexp::RegExp;
 use urlpattern_core::{Error, component};
-use urlpattern_init::{ComponentName, UrlPatternInit, accepts_special_scheme, given, process};
+use urlpattern_init::{UrlPatternInit, accepts_special_scheme, given, process};
 use urlpattern_inputs::UrlPatternOptions;
+use urlpattern_syntax::eight::ComponentName;
 
 impl<R: RegExp> UrlPattern<R> {
     /// Compiles a pattern from an init: from its own texts, and from what they inherit from its base URL.
@@ -40,8 +41,8 @@ impl<R: RegExp> UrlPattern<R> {
         init: UrlPatternInit,
         options: UrlPatternOptions,
     ) -> Result<Self, Error>
-        ensures compiled { IfOk result (λ pattern. IsCompiled (IsCompiledFrom R.IsMade R.MayRefuse R.syntax_of) R.answer init options (pattern_view pattern)) }
-        ensures refused { IfErr result (MemoryOr (RefusesPattern (IsCompiledFrom R.IsMade R.MayRefuse R.syntax_of) R.answer init options)) }
+        ensures compiled { IfOk result (λ pattern. IsPatternOf R.RegExp init options (pattern_view pattern)) }
+        ensures refused { IfErr result (MemoryOr (RefusesInit R.RegExp init options)) }
     {
         let values = pattern_values(alloc, &init);
         drop(init);
@@ -60,10 +61,8 @@ fn compile_values<R: RegExp>(
     values: &UrlPatternInit,
     options: &UrlPatternOptions,
 ) -> Result<UrlPattern<R>, Error>
-    ensures compiled { IfOk result (λ pattern. AreCompiled (IsCompiledFrom R.IsMade R.MayRefuse R.syntax_of) R.answer
-        options.now (values_view values.now) (pattern_view pattern)) }
-    ensures refused { IfErr result (MemoryOr (RefusesValues (IsCompiledFrom R.IsMade R.MayRefuse R.syntax_of) R.answer
-        options.now (values_view values.now))) }
+    ensures compiled { IfOk result (λ pattern. ComeTo R.RegExp options.now values.now (pattern_view pattern)) }
+    ensures refused { IfErr result (MemoryOr (AreRefused R.RegExp options.now values.now)) }
 {
     let canonicalizer = Canonicalizer::shared(alloc)?;
     let compiler = Compiler {
@@ -155,15 +154,15 @@ fn compile_component<R: RegExp, F: Fn(&str) -> Result<String, Error> + Drop>(
     pattern: Option<&str>,
     encoding_callback: F,
     options: Options,
-) -> Result<component::ComponentName<R>, Error>
+) -> Result<component::Component<R>, Error>
     requires { F.IsAlwaysCallable encoding_callback }
-    ensures compiled { IfOk result (λ compiled. IsCompiledFrom R.IsMade R.MayRefuse R.syntax_of (pattern_text pattern.entry) (options_view options)
-        (encoding_of (FnReturnsAt F.Fn encoding_callback)) (component_view compiled)) }
+    ensures compiled { IfOk result (λ compiled. IsCompiledBy R.RegExp (pattern_text pattern.entry) (options_view options)
+        (encoding_by F.Fn encoding_callback) (component_view compiled)) }
     ensures engine { IfOk result (λ compiled. HasEngine (component_view compiled)) }
-    ensures refused { IfErr result (MemoryOr (IsRefusedFrom (IsCompiledFrom R.IsMade R.MayRefuse R.syntax_of) (pattern_text pattern.entry) (options_view options)
-        (encoding_of (FnReturnsAt F.Fn encoding_callback)))) }
+    ensures refused { IfErr result (MemoryOr (RefusesFrom R.RegExp (pattern_text pattern.entry) (options_view options)
+        (encoding_by F.Fn encoding_callback))) }
 {
-    let compiled = component::ComponentName::compile(alloc, pattern, encoding_callback, options)?;
+    let compiled = component::Component::compile(alloc, pattern, encoding_callback, options)?;
     if compiled.regexp.is_err() {
         drop(compiled);
         return Err(Error::RegExp(()));
@@ -183,11 +182,11 @@ struct Compiler<'a> {
 /// The components behind the pathname.
 #[derive(Drop)]
 struct Others<R> {
-    username: component::ComponentName<R>,
-    password: component::ComponentName<R>,
-    port: component::ComponentName<R>,
-    search: component::ComponentName<R>,
-    hash: component::ComponentName<R>,
+    username: component::Component<R>,
+    password: component::Component<R>,
+    port: component::Component<R>,
+    search: component::Component<R>,
+    hash: component::Component<R>,
 }
 
 impl Compiler<'_> {
@@ -195,10 +194,8 @@ impl Compiler<'_> {
     ///
     /// The error is that of the first component that is refused, or that memory ran out.
     fn pattern<R: RegExp>(&self) -> Result<UrlPattern<R>, Error>
-        ensures compiled { IfOk result (λ pattern. AreCompiled (IsCompiledFrom R.IsMade R.MayRefuse R.syntax_of) R.answer
-            self.now.options.now (values_view self.now.values.now) (pattern_view pattern)) }
-        ensures refused { IfErr result (MemoryOr (RefusesValues (IsCompiledFrom R.IsMade R.MayRefuse R.syntax_of) R.answer
-            self.now.options.now (values_view self.now.values.now))) }
+        ensures compiled { IfOk result (λ pattern. ComeTo R.RegExp self.now.options.now self.now.values.now (pattern_view pattern)) }
+        ensures refused { IfErr result (MemoryOr (AreRefused R.RegExp self.now.options.now self.now.values.now)) }
     {
         let protocol = self.component(ComponentName::Protocol, false)?;
         let hierarchical = self.is_hierarchical(&protocol)?;
@@ -210,16 +207,13 @@ impl Compiler<'_> {
     /// The error is that of the first component that is refused, or that memory ran out.
     fn behind_protocol<R: RegExp>(
         &self,
-        protocol: component::ComponentName<R>,
+        protocol: component::Component<R>,
         hierarchical: bool,
     ) -> Result<UrlPattern<R>, Error>
-        requires { IsComponentCompiled (IsCompiledFrom R.IsMade R.MayRefuse R.syntax_of)
-            self.now.options.now (values_view self.now.values.now) hierarchical ComponentName.Protocol (component_view protocol) }
+        requires { CompilesComponent R.RegExp self.now hierarchical ComponentName.Protocol (component_view protocol) }
         ensures protocol { IfOk result (λ pattern. component_view pattern.protocol ≡ component_view protocol) }
-        ensures compiled { IfOk result (λ pattern. (component : ComponentName) → IsComponentCompiled (IsCompiledFrom R.IsMade R.MayRefuse R.syntax_of)
-            self.now.options.now (values_view self.now.values.now) hierarchical component (pattern_view pattern component)) }
-        ensures refused { IfErr result (MemoryOr (FirstRefused (IsCompiledFrom R.IsMade R.MayRefuse R.syntax_of)
-            self.now.options.now (values_view self.now.values.now) hierarchical behind_protocol)) }
+        ensures compiled { IfOk result (λ pattern. (component : ComponentName) → CompilesComponent R.RegExp self.now hierarchical component (pattern_view pattern component)) }
+        ensures refused { IfErr result (MemoryOr (RefusesFirstOf R.RegExp self.now hierarchical behind_protocol)) }
     {
         let hostname = self.component(ComponentName::Hostname, hierarchical)?;
         let pathname = self.component(ComponentName::Pathname, hierarchical)?;
@@ -240,18 +234,12 @@ impl Compiler<'_> {
     ///
     /// The error is that of the first component that is refused, or that memory ran out.
     fn others<R: RegExp>(&self, hierarchical: bool) -> Result<Others<R>, Error>
-        ensures username { IfOk result (λ others. IsComponentCompiled (IsCompiledFrom R.IsMade R.MayRefuse R.syntax_of)
-            self.now.options.now (values_view self.now.values.now) hierarchical ComponentName.Username (component_view others.username)) }
-        ensures password { IfOk result (λ others. IsComponentCompiled (IsCompiledFrom R.IsMade R.MayRefuse R.syntax_of)
-            self.now.options.now (values_view self.now.values.now) hierarchical ComponentName.Password (component_view others.password)) }
-        ensures port { IfOk result (λ others. IsComponentCompiled (IsCompiledFrom R.IsMade R.MayRefuse R.syntax_of)
-            self.now.options.now (values_view self.now.values.now) hierarchical ComponentName.Port (component_view others.port)) }
-        ensures search { IfOk result (λ others. IsComponentCompiled (IsCompiledFrom R.IsMade R.MayRefuse R.syntax_of)
-            self.now.options.now (values_view self.now.values.now) hierarchical ComponentName.Search (component_view others.search)) }
-        ensures hash { IfOk result (λ others. IsComponentCompiled (IsCompiledFrom R.IsMade R.MayRefuse R.syntax_of)
-            self.now.options.now (values_view self.now.values.now) hierarchical ComponentName.Hash (component_view others.hash)) }
-        ensures refused { IfErr result (MemoryOr (FirstRefused (IsCompiledFrom R.IsMade R.MayRefuse R.syntax_of)
-            self.now.options.now (values_view self.now.values.now) hierarchical behind_pathname)) }
+        ensures username { IfOk result (λ others. CompilesComponent R.RegExp self.now hierarchical ComponentName.Username (component_view others.username)) }
+        ensures password { IfOk result (λ others. CompilesComponent R.RegExp self.now hierarchical ComponentName.Password (component_view others.password)) }
+        ensures port { IfOk result (λ others. CompilesComponent R.RegExp self.now hierarchical ComponentName.Port (component_view others.port)) }
+        ensures search { IfOk result (λ others. CompilesComponent R.RegExp self.now hierarchical ComponentName.Search (component_view others.search)) }
+        ensures hash { IfOk result (λ others. CompilesComponent R.RegExp self.now hierarchical ComponentName.Hash (component_view others.hash)) }
+        ensures refused { IfErr result (MemoryOr (RefusesFirstOf R.RegExp self.now hierarchical behind_pathname)) }
     {
         let username = self.component(ComponentName::Username, hierarchical)?;
         let password = self.component(ComponentName::Password, hierarchical)?;
@@ -274,15 +262,13 @@ impl Compiler<'_> {
         &self,
         component: ComponentName,
         hierarchical: bool,
-    ) -> Result<component::ComponentName<R>, Error>
-        ensures compiled { IfOk result (λ compiled. IsComponentCompiled (IsCompiledFrom R.IsMade R.MayRefuse R.syntax_of)
-            self.now.options.now (values_view self.now.values.now) hierarchical component (component_view compiled)) }
-        ensures refused { IfErr result (MemoryOr (IsComponentRefused (IsCompiledFrom R.IsMade R.MayRefuse R.syntax_of)
-            self.now.options.now (values_view self.now.values.now) hierarchical component)) }
+    ) -> Result<component::Component<R>, Error>
+        ensures compiled { IfOk result (λ compiled. CompilesComponent R.RegExp self.now hierarchical component (component_view compiled)) }
+        ensures refused { IfErr result (MemoryOr (RefusesComponent R.RegExp self.now hierarchical component)) }
     {
         let options = self.options_of(component, hierarchical)?;
         let canonicalize = |text: &str| -> Result<String, Error>
-            ensures { IsAnswer ((manner_of self.entry.now.options.now (values_view self.entry.now.values.now) hierarchical component).canonical (chars text.now)) (length text.now) result }
+            ensures { IsAnswer ((component_manner self.entry.now hierarchical component).canonical (chars text.now)) (length text.now) result }
         { self.canonical(component, hierarchical, text) };
         let pattern = pattern_of(self.values, component);
         compile_component(self.alloc, pattern, canonicalize, options)
@@ -292,7 +278,7 @@ impl Compiler<'_> {
     ///
     /// The error is that memory ran out.
     fn options_of(&self, component: ComponentName, hierarchical: bool) -> Result<Options, Error>
-        ensures ok { IfOk result (λ options. options_view options ≡ (manner_of self.now.options.now (values_view self.now.values.now) hierarchical component).options) }
+        ensures ok { IfOk result (λ options. options_view options ≡ (component_manner self.now hierarchical component).options) }
         ensures memory { IfErr result (λ error. error ≡ errors.OutOfMemory) }
     {
         let standard = match component {
@@ -320,7 +306,7 @@ impl Compiler<'_> {
         hierarchical: bool,
         text: &str,
     ) -> Result<String, Error>
-        ensures { IsAnswer ((manner_of self.now.options.now (values_view self.now.values.now) hierarchical component).canonical (chars text.now)) (length text.now) result }
+        ensures { IsAnswer ((component_manner self.now hierarchical component).canonical (chars text.now)) (length text.now) result }
     {
         let values = &self.canonicalizer;
         match component {
@@ -353,7 +339,7 @@ impl Compiler<'_> {
     /// Whether the pathname of the pattern is hierarchical, by what its protocol was compiled to.
     ///
     /// The error is that memory ran out.
-    fn is_hierarchical<R: RegExp>(&self, protocol: &component::ComponentName<R>) -> Result<bool, Error>
+    fn is_hierarchical<R: RegExp>(&self, protocol: &component::Component<R>) -> Result<bool, Error>
         ensures tells { IfOk result (λ hierarchical. IsTrue hierarchical ↔ HasHierarchicalPath R.answer (values_view self.now.values.now) (component_view protocol.now).matcher) }
         ensures memory { IfErr result (λ error. error ≡ errors.OutOfMemory) }
     {

@@ -6,18 +6,19 @@ ghost use Rattle.std.specs.Prelude.{◌≡◌, ℕ, List, None, map, option_copi
 ghost use Rattle.std.specs.Str.{chars};
 ghost use Rattle.urlpattern_core.specs.Captured.{capture_view};
 ghost use Rattle.urlpattern_syntax.specs.declared.eight.ComponentName.{ComponentName as Name};
-ghost use Rattle.urlpattern_pattern.specs.Eight.{at, captured_bytes, AreGroups, HasNoGroups, IsWithoutGroups};
-ghost use Rattle.urlpattern_pattern.specs.Match.{component_result_view, group_in, result_view, text_at};
+ghost use Rattle.urlpattern_pattern.specs.Matching.{captured_bytes, lent_bytes, texts_of, AreGroups, HasNoGroups, IsWithoutGroups};
+ghost use Rattle.urlpattern_pattern.specs.Match.{component_result_view, group_in, result_view};
 ghost use Rattle.urlpattern_pattern.specs.MatchInput.{texts_view};
 ghost use Rattle.urlpattern_syntax.specs.declared.error.Error.TheVariants as errors;
 ghost use Rattle.urlpattern_syntax.specs.Text.{text_of};
+ghost use Rattle.urlpattern_syntax.specs.Eight.{at};
 
-use super::eight::Eight;
 use super::groups::{Groups, add_groups};
 use std::alloc::{AllocError, Global};
 use std::collections::HashMap;
 use urlpattern_core::Error;
 use urlpattern_inputs::MatchInput;
+use urlpattern_syntax::eight::Eight;
 
 /// What a match tells of each component.
 ///
@@ -72,7 +73,7 @@ impl UrlPatternResult {
 
     /// The results of these texts with these groups.
     pub(crate) fn new(texts: MatchInput, groups: Eight<Groups>) -> Self
-        ensures inputs { (name : Name) → (result_view result name).input ≡ text_at (texts_view texts) name }
+        ensures inputs { (name : Name) → (result_view result name).input ≡ at (texts_view texts) name }
         ensures groups { (name : Name) (group : List ℕ) → (result_view result name).group group ≡ group_in (at groups name) group }
     {
         Self {
@@ -99,8 +100,8 @@ impl UrlPatternComponentResult {
     /// The names of the groups, in the order of their bytes.
     pub fn sorted_names(&self, alloc: Global) -> Result<Vec<&String>, AllocError>
         ensures differ { IfOk result (λ names. IsUnique string_eq self.now.groups) }
-        ensures all { IfOk result (λ names. IsPermutation (map (λ name. string_bytes name) (keys self.now.groups)) (map (λ name. string_bytes name.now) names.items)) }
-        ensures in_order { IfOk result (λ names. IsSorted (slice_cmp nat_cmp) (map (λ name. string_bytes name.now) names.items)) }
+        ensures all { IfOk result (λ names. IsPermutation (map (λ name. string_bytes name) (keys self.now.groups)) (lent_bytes names.items)) }
+        ensures in_order { IfOk result (λ names. IsSorted (slice_cmp nat_cmp) (lent_bytes names.items)) }
     {
         let mut names = names_of(alloc, &self.groups)?;
         names.sort_unstable();
@@ -129,7 +130,7 @@ impl UrlPatternComponentResult {
     ) -> Result<(), Error>
         requires { HasNoGroups self.old.groups }
         ensures input { IfOk result (λ _. text_of self.new.input ≡ chars text.now) }
-        ensures groups { IfOk result (λ _. AreGroups (map (λ name. text_of name) names.now) (map capture_view captures.now) self.new.groups) }
+        ensures groups { IfOk result (λ _. AreGroups (texts_of names.now) (map capture_view captures.now) self.new.groups) }
         ensures memory { IfErr result (λ error. error ≡ errors.OutOfMemory) }
     {
         self.input = String::from_str(alloc, text)?;

@@ -8,13 +8,14 @@ use Rattle.urlpattern_pattern.proofs.Each.{if_err}
 use Rattle.urlpattern_pattern.proofs.ListLemmas.{first-views, one_asks-views, refused-views}
 use Rattle.urlpattern_pattern.proofs.PlaceLemmas.{candidate_within, passed_over}
 use Rattle.urlpattern_pattern.specs.Captures.{captures_view}
-use Rattle.urlpattern_pattern.specs.Eight.{at, borrowed_texts, captures_of}
+use Rattle.urlpattern_pattern.specs.Matching.{borrowed_texts, captures_of}
 use Rattle.urlpattern_pattern.specs.FirstMatch.{IsFirstMatchOf, OneAsksAnEngine, patterns_view}
 use Rattle.urlpattern_pattern.specs.Match.{IsMatchOf, IsRefused}
 use Rattle.urlpattern_pattern.specs.Patterns.{pattern_view}
 use Rattle.urlpattern_pattern.specs.Places.{address_of}
 use Rattle.urlpattern_pattern.specs.declared.pattern.UrlPattern.{UrlPattern}
 use Rattle.urlpattern_pattern.proofs.list.UrlPatternList.first.Goals as goal
+use Rattle.urlpattern_syntax.specs.Eight.{at}
 
 pub index-pattern-requires : goal.index-pattern-requires
 index-pattern-requires g c =

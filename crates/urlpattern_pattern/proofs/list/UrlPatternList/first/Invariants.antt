@@ -1,6 +1,6 @@
 use Rattle.std.proofs.Common.{length, take, ◌-◌, ◌≤◌}
 use Rattle.std.specs.Prelude.{All}
-use Rattle.urlpattern_pattern.specs.Eight.{borrowed_texts}
+use Rattle.urlpattern_pattern.specs.Matching.{borrowed_texts}
 use Rattle.urlpattern_pattern.specs.Match.{IsRefused}
 use Rattle.urlpattern_pattern.specs.Patterns.{pattern_view}
 use Rattle.urlpattern_pattern.proofs.list.UrlPatternList.first.Given as goal

@@ -1,7 +1,7 @@
 use Rattle.urlpattern_pattern.proofs.ListLemmas.{first-same}
 use Rattle.urlpattern_pattern.proofs.MatchSteps.{match-of_groups}
 use Rattle.urlpattern_pattern.specs.Captures.{captures_view}
-use Rattle.urlpattern_pattern.specs.Eight.{results_of}
+use Rattle.urlpattern_pattern.specs.Matching.{results_of}
 use Rattle.urlpattern_pattern.specs.FirstMatch.{patterns_view}
 use Rattle.urlpattern_pattern.specs.MatchInput.{texts_view}
 use Rattle.urlpattern_pattern.proofs.list.UrlPatternList.first_groups.Goals as goal

@@ -1,6 +1,6 @@
 use Rattle.urlpattern_pattern.proofs.ListLemmas.{first-same}
 use Rattle.urlpattern_pattern.proofs.MatchSteps.{match-same}
-use Rattle.urlpattern_pattern.specs.Eight.{results_of}
+use Rattle.urlpattern_pattern.specs.Matching.{results_of}
 use Rattle.urlpattern_pattern.specs.FirstMatch.{patterns_view}
 use Rattle.urlpattern_pattern.specs.Match.{result_view}
 use Rattle.urlpattern_pattern.specs.MatchInput.{texts_view}

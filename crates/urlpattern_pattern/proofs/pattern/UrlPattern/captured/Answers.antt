@@ -4,14 +4,14 @@ use Rattle.std.proofs.lemmas.Result.{IfOk-weaker}
 use Rattle.std.specs.Prelude.{Option}
 use Rattle.urlpattern_laws.specs.Matching.{Answers}
 use Rattle.urlpattern_laws.specs.PartMeaning.{Captures}
-use Rattle.urlpattern_pattern.specs.Eight.{borrowed_texts}
-use Rattle.urlpattern_pattern.specs.Match.{text_at}
+use Rattle.urlpattern_pattern.specs.Matching.{borrowed_texts}
 use Rattle.urlpattern_pattern.specs.Patterns.{pattern_view}
 use Rattle.urlpattern_pattern.proofs.pattern.UrlPattern.captured.Goals as goal
+use Rattle.urlpattern_syntax.specs.Eight.{at}
 
 pub returns-clause-answers : goal.returns-clause-answers
 returns-clause-answers g c =
     IfOk-weaker c.captures_of_looks.result _ _ (λ found some. IfSome_then found some (λ captures answered name.
     subst
-    (λ (found : Option Captures). Answers g.R.RegExp.answer (pattern_view c.args.self.now name).matcher (text_at (borrowed_texts c.args.texts.now) name) found)
+    (λ (found : Option Captures). Answers g.R.RegExp.answer (pattern_view c.args.self.now name).matcher (at (borrowed_texts c.args.texts.now) name) found)
     (answered name) (c.in-Some.ensures.some name))) c.captures_of_looks.ensures.some

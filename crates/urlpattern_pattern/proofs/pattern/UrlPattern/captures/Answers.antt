@@ -3,7 +3,7 @@ use Rattle.std.specs.Prelude.{Ok}
 use Rattle.urlpattern_init.specs.declared.init.UrlPatternMatchInput.TheVariants.{Url}
 use Rattle.urlpattern_pattern.proofs.MatchSteps.{found-of_texts}
 use Rattle.urlpattern_pattern.specs.Captures.{captures_view}
-use Rattle.urlpattern_pattern.specs.Eight.{borrowed_texts}
+use Rattle.urlpattern_pattern.specs.Matching.{borrowed_texts}
 use Rattle.urlpattern_pattern.specs.Patterns.{pattern_view}
 use Rattle.urlpattern_pattern.specs.declared.pattern.captures.UrlPatternCaptures.{UrlPatternCaptures}
 use Rattle.urlpattern_pattern.proofs.pattern.UrlPattern.captures.Goals as goal

@@ -1,10 +1,10 @@
 use Rattle.std.proofs.Common.{subst}
 use Rattle.std.specs.Prelude.{IfOk, MatchOption}
-use Rattle.urlpattern_init.specs.Inheritance.{Texts}
 use Rattle.urlpattern_pattern.specs.Captures.{captures_view}
 use Rattle.urlpattern_pattern.specs.Match.{IsMatchOf, IsRefused}
 use Rattle.urlpattern_pattern.specs.Patterns.{pattern_view}
 use Rattle.urlpattern_pattern.proofs.pattern.UrlPattern.captures_of_input.Goals as goal
+use Rattle.urlpattern_syntax.specs.Eight.{Texts}
 
 pub returns-clause-matched : goal.returns-clause-matched
 returns-clause-matched g c =

@@ -1,5 +1,6 @@
-use Rattle.urlpattern_pattern.specs.Eight.{at, captures_of}
+use Rattle.urlpattern_pattern.specs.Matching.{captures_of}
 use Rattle.urlpattern_pattern.proofs.pattern.UrlPattern.captures_of_texts.Goals as goal
+use Rattle.urlpattern_syntax.specs.Eight.{at}
 
 pub returns-in-Some-clause-matched : goal.returns-in-Some-clause-matched
 returns-in-Some-clause-matched g c = record {

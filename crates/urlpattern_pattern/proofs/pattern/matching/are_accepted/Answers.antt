@@ -1,8 +1,9 @@
 use Rattle.urlpattern_syntax.specs.declared.eight.ComponentName.TheVariants.{Protocol, Username, Password, Hostname, Port, Pathname, Search, Hash}
-use Rattle.urlpattern_pattern.specs.Eight.{at, ShowsMatch, ShowsNoMatch}
+use Rattle.urlpattern_pattern.specs.Matching.{ShowsMatch, ShowsNoMatch}
 use Rattle.urlpattern_pattern.proofs.Each.{each, err-leads, if_err}
 use Rattle.urlpattern_pattern.proofs.MatchSteps.{said_false, said_true, tells-both}
 use Rattle.urlpattern_pattern.proofs.pattern.matching.are_accepted.Goals as goal
+use Rattle.urlpattern_syntax.specs.Eight.{at}
 
 pub returns-then-not-branch-clause-accepted : goal.returns-then-not-branch-clause-accepted
 returns-then-not-branch-clause-accepted g c =
