@@ -15,7 +15,7 @@ use Rattle.urlpattern_engine.specs.declared.step.Step.{Step}
 use Rattle.urlpattern_engine.specs.declared.step.Step.TheVariants.{Anything, Literal, Maybe}
 use Rattle.urlpattern_engine.specs.Failed.{EndsWith}
 use Rattle.urlpattern_engine.specs.Steps.{Gives, captured, longest, shortest, up_to_first, walk}
-use Rattle.urlpattern_engine.specs.Taken.{Adds, Extends, Kept}
+use Rattle.urlpattern_engine.specs.Taken.{AreAdded, Extends, Kept}
 use Rattle.urlpattern_engine.proofs.RunLemmas.{longest_found, longest_no_more}
 use Rattle.urlpattern_engine.proofs.StepLemmas.{maybe_missing}
 use Rattle.urlpattern_syntax.specs.Text.{line_feed}
@@ -26,17 +26,17 @@ plus old found = option_map (λ others. map capture_view old ++ others) found
 
 -- ---- what was added
 
-pub adds_none : (old new : Kept) (found : Option Captures) → Adds old new false found → found ≡ None
+pub adds_none : (old new : Kept) (found : Option Captures) → AreAdded old new false found → found ≡ None
 adds_none old new None e = refl
 adds_none old new (Some x) e = cc
 
-pub adds_some : (old new : Kept) (found : Option Captures) → Adds old new true found → (x : Captures) × (found ≡ Some x)
+pub adds_some : (old new : Kept) (found : Option Captures) → AreAdded old new true found → (x : Captures) × (found ≡ Some x)
 adds_some old new None e = cc
 adds_some old new (Some x) e = (x, refl)
 
 -- what a call adds is what is added in all
 pub later_adds : {E : Type 0} (old now new : Kept) (whole part : Option Captures) (result : Result Bool E) → plus old whole ≡ plus now part
-    → IfOk result (λ is_taken. Adds now new is_taken part) → IfOk result (λ is_taken. Adds old new is_taken whole)
+    → IfOk result (λ is_taken. AreAdded now new is_taken part) → IfOk result (λ is_taken. AreAdded old new is_taken whole)
 later_adds old now new whole part (Ok is_taken) e adds = adds ∙ sym e
 later_adds old now new whole part (Err error) e adds = tt
 
@@ -77,7 +77,7 @@ pub literal_passed : (c : ℕ) (others : List Step) (rest remaining : List ℕ) 
 literal_passed c others rest remaining e = ap (walk (Literal c ∷ others)) e ∙ ap (λ b. cond b (walk others remaining) None) (eq-eqb c c refl)
 
 -- the end of the steps
-pub end_adds : (now : Kept) (rest : List ℕ) (is_empty : Bool) → (is_empty ≡ true → rest ≡ []) → (is_empty ≡ false → ¬ (rest ≡ [])) → Adds now now is_empty (walk [] rest)
+pub end_adds : (now : Kept) (rest : List ℕ) (is_empty : Bool) → (is_empty ≡ true → rest ≡ []) → (is_empty ≡ false → ¬ (rest ≡ [])) → AreAdded now now is_empty (walk [] rest)
 end_adds now [] true full some = ap Some (sym (append-nil (map capture_view now)))
 end_adds now (c ∷ rest) true full some = let e : (c ∷ rest) ≡ [] = full refl in cc
 end_adds now [] false full some = absurd (some refl refl)

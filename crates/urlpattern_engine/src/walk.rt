@@ -1,11 +1,11 @@
 //! Matches a text by steps.
 
-ghost use Rattle.std.specs.Prelude.{◌≡◌, ◌∷◌, ◌++◌, [], List, false, replicate, Bool, None, IfOk, OnOk};
+ghost use Rattle.std.specs.Prelude.{◌≡◌, ◌∷◌, ◌++◌, List, false, replicate, Bool, None, IfOk, OnOk};
 ghost use Rattle.std.specs.Str.{chars};
 ghost use Rattle.urlpattern_core.specs.Captured.{captures_view};
 ghost use Rattle.urlpattern_engine.specs.Failed.{IsPlace};
-ghost use Rattle.urlpattern_engine.specs.Steps.{after_text, any_rounds, captured, literals, segmented, single_run, walk};
-ghost use Rattle.urlpattern_engine.specs.Taken.{Adds, Extends, IsCutFor, IsEndHere};
+ghost use Rattle.urlpattern_engine.specs.Steps.{captured, walk, walk_copies};
+ghost use Rattle.urlpattern_engine.specs.Taken.{Adds, Extends, IsEndHere, IsEndOfSegments};
 
 use crate::choices::Remembered;
 use crate::failed::Failed;
@@ -52,8 +52,8 @@ fn follow<'t>(
     text: &'t str,
 ) -> Result<bool, OutOfMemory>
     requires { IsPlace failed.old steps.now (chars text.now) }
-    ensures adds { IfOk result (λ is_taken. Adds captures.old.items captures.new.items is_taken (walk steps.now (chars text.now))) }
-    ensures same { IfOk result (λ is_taken. is_taken ≡ false → captures.new.items ≡ captures.old.items) }
+    ensures adds { IfOk result (λ taken. Adds captures.old captures.new taken (walk steps.now (chars text.now))) }
+    ensures same { IfOk result (λ taken. taken ≡ false → captures.new.items ≡ captures.old.items) }
     ensures whole { failed.new ≡ failed.old }
 {
     let count = captures.len();
@@ -75,8 +75,8 @@ fn follow_on<'t>(
     text: &'t str,
 ) -> Result<bool, OutOfMemory>
     requires { IsPlace failed.old steps.now (chars text.now) }
-    ensures adds { IfOk result (λ is_taken. Adds captures.old.items captures.new.items is_taken (walk steps.now (chars text.now))) }
-    ensures more { IfOk result (λ is_taken. is_taken ≡ false → Extends captures.old.items captures.new.items) }
+    ensures adds { IfOk result (λ taken. Adds captures.old captures.new taken (walk steps.now (chars text.now))) }
+    ensures more { IfOk result (λ taken. taken ≡ false → Extends captures.old.items captures.new.items) }
     ensures whole { failed.new ≡ failed.old }
 {
     let mut left = steps;
@@ -143,8 +143,8 @@ fn follow_maybe<'t>(
 ) -> Result<bool, OutOfMemory>
     requires place { IsPlace failed.old steps.now (chars text.now) }
     requires first { steps.now ≡ Step.Maybe group ∷ others.now }
-    ensures adds { IfOk result (λ is_taken. Adds captures.old.items captures.new.items is_taken (walk steps.now (chars text.now))) }
-    ensures more { IfOk result (λ is_taken. is_taken ≡ false → Extends captures.old.items captures.new.items) }
+    ensures adds { IfOk result (λ taken. Adds captures.old captures.new taken (walk steps.now (chars text.now))) }
+    ensures more { IfOk result (λ taken. taken ≡ false → Extends captures.old.items captures.new.items) }
     ensures whole { failed.new ≡ failed.old }
 {
     if failed.contains(steps, text) {
@@ -176,8 +176,8 @@ fn follow_shortest<'t>(
 ) -> Result<bool, OutOfMemory>
     requires place { IsPlace failed.old steps.now (chars text.now) }
     requires first { steps.now ≡ Step.Segment end ∷ others.now }
-    ensures adds { IfOk result (λ is_taken. Adds captures.old.items captures.new.items is_taken (walk steps.now (chars text.now))) }
-    ensures same { IfOk result (λ is_taken. is_taken ≡ false → captures.new.items ≡ captures.old.items) }
+    ensures adds { IfOk result (λ taken. Adds captures.old captures.new taken (walk steps.now (chars text.now))) }
+    ensures same { IfOk result (λ taken. taken ≡ false → captures.new.items ≡ captures.old.items) }
     ensures whole { failed.new ≡ failed.old }
 {
     let mut rest = text;
@@ -205,8 +205,8 @@ fn follow_longest<'t>(
 ) -> Result<bool, OutOfMemory>
     requires place { IsPlace failed.old steps.now (chars text.now) }
     requires first { steps.now ≡ Step.Anything ∷ others.now }
-    ensures adds { IfOk result (λ is_taken. Adds captures.old.items captures.new.items is_taken (walk steps.now (chars text.now))) }
-    ensures same { IfOk result (λ is_taken. is_taken ≡ false → captures.new.items ≡ captures.old.items) }
+    ensures adds { IfOk result (λ taken. Adds captures.old captures.new taken (walk steps.now (chars text.now))) }
+    ensures same { IfOk result (λ taken. taken ≡ false → captures.new.items ≡ captures.old.items) }
     ensures whole { failed.new ≡ failed.old }
 {
     if failed.contains(steps, text) {
@@ -238,8 +238,8 @@ fn follow_captured<'t>(
     rest: &'t str,
 ) -> Result<bool, OutOfMemory>
     requires { IsPlace failed.old steps.now (chars rest.now) }
-    ensures adds { IfOk result (λ is_taken. Adds captures.old.items captures.new.items is_taken (captured (walk steps.now) (chars front.now) (chars rest.now))) }
-    ensures same { IfOk result (λ is_taken. is_taken ≡ false → captures.new.items ≡ captures.old.items) }
+    ensures adds { IfOk result (λ taken. Adds captures.old captures.new taken (captured (walk steps.now) (chars front.now) (chars rest.now))) }
+    ensures same { IfOk result (λ taken. taken ≡ false → captures.new.items ≡ captures.old.items) }
     ensures whole { failed.new ≡ failed.old }
 {
     captures.push(Some(front))?;
@@ -265,8 +265,8 @@ fn follow_run<'t>(
 ) -> Result<bool, OutOfMemory>
     requires place { IsPlace failed.old steps.now (chars text.now) }
     requires first { steps.now ≡ Step.Longest run ∷ others.now }
-    ensures adds { IfOk result (λ is_taken. Adds captures.old.items captures.new.items is_taken (walk steps.now (chars text.now))) }
-    ensures same { IfOk result (λ is_taken. is_taken ≡ false → captures.new.items ≡ captures.old.items) }
+    ensures adds { IfOk result (λ taken. Adds captures.old captures.new taken (walk steps.now (chars text.now))) }
+    ensures same { IfOk result (λ taken. taken ≡ false → captures.new.items ≡ captures.old.items) }
     ensures whole { failed.new ≡ failed.old }
 {
     if failed.contains(steps, text) {
@@ -292,8 +292,8 @@ fn follow_longest_run<'t>(
     text: &'t str,
 ) -> Result<bool, OutOfMemory>
     requires { IsPlace failed.old steps.now (chars text.now) }
-    ensures adds { IfOk result (λ is_taken. Adds captures.old.items captures.new.items is_taken (walk (Step.Longest run ∷ steps.now) (chars text.now))) }
-    ensures same { IfOk result (λ is_taken. is_taken ≡ false → captures.new.items ≡ captures.old.items) }
+    ensures adds { IfOk result (λ taken. Adds captures.old captures.new taken (walk (Step.Longest run ∷ steps.now) (chars text.now))) }
+    ensures same { IfOk result (λ taken. taken ≡ false → captures.new.items ≡ captures.old.items) }
     ensures whole { failed.new ≡ failed.old }
 {
     let (mut front, _) = split_at_first(text, run.end);
@@ -326,8 +326,8 @@ fn follow_repeated_text<'t>(
 ) -> Result<bool, OutOfMemory>
     requires place { IsPlace failed.old steps.now (chars text.now) }
     requires first { steps.now ≡ Step.Copies copies ∷ others.now }
-    ensures adds { IfOk result (λ is_taken. Adds captures.old.items captures.new.items is_taken (walk steps.now (chars text.now))) }
-    ensures same { IfOk result (λ is_taken. is_taken ≡ false → captures.new.items ≡ captures.old.items) }
+    ensures adds { IfOk result (λ taken. Adds captures.old captures.new taken (walk steps.now (chars text.now))) }
+    ensures same { IfOk result (λ taken. taken ≡ false → captures.new.items ≡ captures.old.items) }
     ensures whole { failed.new ≡ failed.old }
 {
     if failed.contains(steps, text) {
@@ -352,8 +352,8 @@ fn follow_copies<'t>(
     text: &'t str,
 ) -> Result<bool, OutOfMemory>
     requires { IsPlace failed.old steps.now (chars text.now) }
-    ensures adds { IfOk result (λ is_taken. Adds captures.old.items captures.new.items is_taken (walk (Step.Copies copies ∷ steps.now) (chars text.now))) }
-    ensures same { IfOk result (λ is_taken. is_taken ≡ false → captures.new.items ≡ captures.old.items) }
+    ensures adds { IfOk result (λ taken. Adds captures.old captures.new taken (walk (Step.Copies copies ∷ steps.now) (chars text.now))) }
+    ensures same { IfOk result (λ taken. taken ≡ false → captures.new.items ≡ captures.old.items) }
     ensures whole { failed.new ≡ failed.old }
 {
     let first = copies.text.first;
@@ -382,9 +382,8 @@ fn follow_any_copies<'t>(
     text: &'t str,
 ) -> Result<bool, OutOfMemory>
     requires { IsPlace failed.old others.now (chars text.now) }
-    ensures adds { IfOk result (λ is_taken. Adds captures.old.items captures.new.items is_taken
-        (any_rounds (after_text (first ∷ literals literal.now)) (λ front rest. walk others.now rest) [] (chars text.now))) }
-    ensures same { IfOk result (λ is_taken. is_taken ≡ false → captures.new.items ≡ captures.old.items) }
+    ensures adds { IfOk result (λ taken. Adds captures.old captures.new taken (walk_copies first literal.now others.now (chars text.now))) }
+    ensures same { IfOk result (λ taken. taken ≡ false → captures.new.items ≡ captures.old.items) }
     ensures whole { failed.new ≡ failed.old }
 {
     let rest = skip_copies(text, first, literal);
@@ -414,8 +413,8 @@ fn follow_segmented<'t>(
 ) -> Result<bool, OutOfMemory>
     requires place { IsPlace failed.old steps.now (chars text.now) }
     requires first { steps.now ≡ Step.Segments segments ∷ others.now }
-    ensures adds { IfOk result (λ is_taken. Adds captures.old.items captures.new.items is_taken (walk steps.now (chars text.now))) }
-    ensures same { IfOk result (λ is_taken. is_taken ≡ false → captures.new.items ≡ captures.old.items) }
+    ensures adds { IfOk result (λ taken. Adds captures.old captures.new taken (walk steps.now (chars text.now))) }
+    ensures same { IfOk result (λ taken. taken ≡ false → captures.new.items ≡ captures.old.items) }
     ensures whole { failed.new ≡ failed.old }
 {
     if failed.contains(steps, text) {
@@ -441,8 +440,8 @@ fn follow_segments<'t>(
     text: &'t str,
 ) -> Result<bool, OutOfMemory>
     requires { IsPlace failed.old steps.now (chars text.now) }
-    ensures adds { IfOk result (λ is_taken. Adds captures.old.items captures.new.items is_taken (walk (Step.Segments segments ∷ steps.now) (chars text.now))) }
-    ensures same { IfOk result (λ is_taken. is_taken ≡ false → captures.new.items ≡ captures.old.items) }
+    ensures adds { IfOk result (λ taken. Adds captures.old captures.new taken (walk (Step.Segments segments ∷ steps.now) (chars text.now))) }
+    ensures same { IfOk result (λ taken. taken ≡ false → captures.new.items ≡ captures.old.items) }
     ensures whole { failed.new ≡ failed.old }
 {
     let literal = first_steps(steps, segments.separator.others);
@@ -471,8 +470,7 @@ fn end_of_segments(
     text: &str,
 ) -> Result<Option<usize>, OutOfMemory>
     requires { IsPlace failed.old others.now (chars text.now) }
-    ensures cut { IfOk result (λ end. IsCutFor (captured (walk others.now)) text.now end
-        (segmented (segments.separator.first ∷ literals literal.now) (single_run segments.is_greedy segments.end) (captured (walk others.now)) [] (chars text.now))) }
+    ensures cut { IfOk result (λ end. IsEndOfSegments segments literal.now others.now text.now end) }
     ensures whole { failed.new ≡ failed.old }
 {
     let mut begun = Vec::with_capacity(alloc, text.len())?;

@@ -7,7 +7,7 @@ use Rattle.urlpattern_engine.specs.declared.step.Step.{Step}
 use Rattle.urlpattern_engine.specs.Failed.{EndsWith}
 use Rattle.urlpattern_engine.specs.Steps.{walk}
 use Rattle.urlpattern_engine.specs.Table.{IsRow, following, row_at}
-use Rattle.urlpattern_engine.specs.Taken.{Adds, with_captures}
+use Rattle.urlpattern_engine.specs.Taken.{AreAdded, with_captures}
 use Rattle.urlpattern_engine.proofs.FailedLemmas.{ends_drop, ends_longer}
 use Rattle.urlpattern_engine.proofs.FollowLemmas.{end_adds}
 use Rattle.urlpattern_engine.proofs.TableLemmas.{row_within}
@@ -73,9 +73,9 @@ returns-then-is_empty c =
     let rest = c.loop-step.rest.now in
     let none : c.loop-step.left.now ≡ [] = nil_from_length c.loop-step.left.now (search rules) in
     let utf8 : IsUtf8 rest = search rules in
-    let adds : Adds now now c.is_empty.result (walk [] (chars rest)) =
+    let adds : AreAdded now now c.is_empty.result (walk [] (chars rest)) =
     end_adds now (chars rest) c.is_empty.result (λ e. chars-empty rest (search rules)) (λ e. chars-some rest utf8 (search rules)) in
-    subst (λ b. Adds now now b (walk [] (chars rest))) c.if-is_empty.true adds
+    subst (λ b. AreAdded now now b (walk [] (chars rest))) c.if-is_empty.true adds
     ∙ sym (c.loop-step.invariant.so_far ∙ ap (λ l. with_captures now (walk l (chars rest))) none)
 
 pub returns : goal.returns
@@ -84,7 +84,7 @@ returns c =
     let rest = c.loop-step.rest.now in
     let none : c.loop-step.left.now ≡ [] = nil_from_length c.loop-step.left.now (search rules) in
     let utf8 : IsUtf8 rest = search rules in
-    let adds : Adds now now c.is_empty.result (walk [] (chars rest)) =
+    let adds : AreAdded now now c.is_empty.result (walk [] (chars rest)) =
     end_adds now (chars rest) c.is_empty.result (λ e. chars-empty rest (search rules)) (λ e. chars-some rest utf8 (search rules)) in
-    subst (λ b. Adds now now b (walk [] (chars rest))) c.if-is_empty.false adds
+    subst (λ b. AreAdded now now b (walk [] (chars rest))) c.if-is_empty.false adds
     ∙ sym (c.loop-step.invariant.so_far ∙ ap (λ l. with_captures now (walk l (chars rest))) none)

@@ -10,7 +10,7 @@ use Rattle.urlpattern_engine.specs.declared.step.Step.{Step}
 use Rattle.urlpattern_engine.specs.declared.step.Step.TheVariants.{Literal, Segment, Anything, Maybe, Longest, Copies, Segments}
 use Rattle.urlpattern_engine.specs.Failed.{EndsWith, HasEnded}
 use Rattle.urlpattern_engine.specs.Steps.{Gives, after_text, any_rounds, captured, copies_of, literals, longest, repeated, segmented, shortest, single_run, some_rounds, up_to_first, walk, StopAt}
-use Rattle.urlpattern_engine.specs.Taken.{Adds, Extends, IsCutFor}
+use Rattle.urlpattern_engine.specs.Taken.{AreAdded, Extends, IsCutFor}
 use Rattle.urlpattern_engine.proofs.CopyLemmas.{after-other, copies_fewer, copies_after, copies_step, copy_shrinks, fewer-found, no_copy_left}
 use Rattle.urlpattern_engine.proofs.EndLemmas.{IsTable, begins, place_cuts, same_fronts, segments_step, table_begun, table_next}
 use Rattle.urlpattern_engine.proofs.FailedLemmas.{ends_drop, ends_longer, ends_same, place_within}
@@ -56,9 +56,9 @@ follow_longest-returns-then-branch-clause-adds n c =
     let so_far = c.loop-failed.invariant.so_far in
     let same : rest ≡ so_far.0 = append_cancel_left front rest so_far.0 (sym c.after_front-rest.ensures ∙ so_far.2) in
     let utf8 : IsUtf8 front = search rules in
-    let adds : Adds old c.follow_captured.new.captures.items true (gives (chars front) (chars rest)) =
-    subst (λ l. Adds l c.follow_captured.new.captures.items true (gives (chars front) (chars rest))) c.loop-failed.invariant.same
-    (subst (λ b. Adds c.loop-failed.captures.items c.follow_captured.new.captures.items b (gives (chars front) (chars rest))) c.if-branch.true c.in_ok-follow_captured.ensures.adds) in
+    let adds : AreAdded old c.follow_captured.new.captures.items true (gives (chars front) (chars rest)) =
+    subst (λ l. AreAdded l c.follow_captured.new.captures.items true (gives (chars front) (chars rest))) c.loop-failed.invariant.same
+    (subst (λ b. AreAdded c.loop-failed.captures.items c.follow_captured.new.captures.items b (gives (chars front) (chars rest))) c.if-branch.true c.in_ok-follow_captured.ensures.adds) in
     let found = adds_some old c.follow_captured.new.captures.items (gives (chars front) (chars rest)) adds in
     let no_longer : longest line_feed gives (chars front) (chars rest) ≡ gives (chars front) (chars rest) = rw same so_far.4 in
     adds
@@ -86,7 +86,7 @@ follow_longest-insert-requires-clause-dead n c =
     let same : rest ≡ so_far.0 = append_cancel_left front rest so_far.0 (sym c.after_front-rest.ensures ∙ so_far.2) in
     let none : gives (chars front) (chars rest) ≡ None =
     adds_none c.loop-failed.captures.items c.follow_captured.new.captures.items _
-    (subst (λ b. Adds c.loop-failed.captures.items c.follow_captured.new.captures.items b (gives (chars front) (chars rest))) c.if-branch.false c.in_ok-follow_captured.ensures.adds) in
+    (subst (λ b. AreAdded c.loop-failed.captures.items c.follow_captured.new.captures.items b (gives (chars front) (chars rest))) c.if-branch.false c.in_ok-follow_captured.ensures.adds) in
     let no_longer : longest line_feed gives (chars front) (chars rest) ≡ gives (chars front) (chars rest) = rw same so_far.4 in
     longest_dead c.args.steps.now c.args.others.now c.requires.1.1.1 (chars front) (chars rest) no_longer none
 
@@ -100,7 +100,7 @@ follow_longest-returns-in_default-clause-adds n c =
     let same : rest ≡ so_far.0 = append_cancel_left front rest so_far.0 (sym c.after_front-rest.ensures ∙ so_far.2) in
     let none : gives (chars front) (chars rest) ≡ None =
     adds_none c.loop-failed.captures.items c.follow_captured.new.captures.items _
-    (subst (λ b. Adds c.loop-failed.captures.items c.follow_captured.new.captures.items b (gives (chars front) (chars rest))) c.if-branch.false c.in_ok-follow_captured.ensures.adds) in
+    (subst (λ b. AreAdded c.loop-failed.captures.items c.follow_captured.new.captures.items b (gives (chars front) (chars rest))) c.if-branch.false c.in_ok-follow_captured.ensures.adds) in
     let no_longer : longest line_feed gives (chars front) (chars rest) ≡ gives (chars front) (chars rest) = rw same so_far.4 in
     let whole : text ≡ rest = c.after_front-rest.ensures ∙ ap (λ f. f ++ rest) c.in_default.ensures.empty in
     sym (ap (plus c.args.captures.now.items)
@@ -116,7 +116,7 @@ follow_longest-loop-failed-preserved n c =
     let same : rest ≡ so_far.0 = append_cancel_left front rest so_far.0 (sym c.after_front-rest.ensures ∙ so_far.2) in
     let none : gives (chars front) (chars rest) ≡ None =
     adds_none c.loop-failed.captures.items c.follow_captured.new.captures.items _
-    (subst (λ b. Adds c.loop-failed.captures.items c.follow_captured.new.captures.items b (gives (chars front) (chars rest))) c.if-branch.false c.in_ok-follow_captured.ensures.adds) in
+    (subst (λ b. AreAdded c.loop-failed.captures.items c.follow_captured.new.captures.items b (gives (chars front) (chars rest))) c.if-branch.false c.in_ok-follow_captured.ensures.adds) in
     let no_longer : longest line_feed gives (chars front) (chars rest) ≡ gives (chars front) (chars rest) = rw same so_far.4 in
     let last = c.in-Some.ensures.cut in
     let utf8 : IsUtf8 shorter = search rules in
@@ -171,8 +171,8 @@ follow_maybe-returns-then-branch-2-clause-adds n c =
     let left = c.pass.result.now in
     let none : walk others text ≡ None =
     adds_none old c.follow.new.captures.items (walk others text)
-    (subst (λ b. Adds old c.follow.new.captures.items b (walk others text)) c.if-branch.false c.in_ok-follow.ensures.adds) in
-    let adds : Adds more new true (walk left text) = subst (λ b. Adds more new b (walk left text)) c.if-branch-2.true c.in_ok-follow_on.ensures.adds in
+    (subst (λ b. AreAdded old c.follow.new.captures.items b (walk others text)) c.if-branch.false c.in_ok-follow.ensures.adds) in
+    let adds : AreAdded more new true (walk left text) = subst (λ b. AreAdded more new b (walk left text)) c.if-branch-2.true c.in_ok-follow_on.ensures.adds in
     adds ∙ ap (λ l. plus more (walk l text)) c.pass.ensures
     ∙ sym (plus_maybe old c.follow.new.captures.items more group others text none (c.in_ok-follow.ensures.same c.if-branch.false) c.in_ok-add_missing.ensures)
     ∙ ap (λ l. plus old (walk l text)) (sym c.requires.1.1.1)
@@ -187,9 +187,9 @@ follow_maybe-insert-requires-clause-dead n c =
     let left = c.pass.result.now in
     let none : walk others text ≡ None =
     adds_none old c.follow.new.captures.items (walk others text)
-    (subst (λ b. Adds old c.follow.new.captures.items b (walk others text)) c.if-branch.false c.in_ok-follow.ensures.adds) in
+    (subst (λ b. AreAdded old c.follow.new.captures.items b (walk others text)) c.if-branch.false c.in_ok-follow.ensures.adds) in
     let also : walk left text ≡ None =
-    adds_none more new (walk left text) (subst (λ b. Adds more new b (walk left text)) c.if-branch-2.false c.in_ok-follow_on.ensures.adds) in
+    adds_none more new (walk left text) (subst (λ b. AreAdded more new b (walk left text)) c.if-branch-2.false c.in_ok-follow_on.ensures.adds) in
     maybe_dead c.args.group c.args.steps.now others left text c.requires.1.1.1 c.pass.ensures none also
 
 pub follow_maybe-returns-clause-adds : goal.follow_maybe-returns-clause-adds
@@ -202,9 +202,9 @@ follow_maybe-returns-clause-adds n c =
     let left = c.pass.result.now in
     let none : walk others text ≡ None =
     adds_none old c.follow.new.captures.items (walk others text)
-    (subst (λ b. Adds old c.follow.new.captures.items b (walk others text)) c.if-branch.false c.in_ok-follow.ensures.adds) in
+    (subst (λ b. AreAdded old c.follow.new.captures.items b (walk others text)) c.if-branch.false c.in_ok-follow.ensures.adds) in
     let also : walk left text ≡ None =
-    adds_none more new (walk left text) (subst (λ b. Adds more new b (walk left text)) c.if-branch-2.false c.in_ok-follow_on.ensures.adds) in
+    adds_none more new (walk left text) (subst (λ b. AreAdded more new b (walk left text)) c.if-branch-2.false c.in_ok-follow_on.ensures.adds) in
     sym (ap (plus old) (maybe_dead c.args.group c.args.steps.now others left text c.requires.1.1.1 c.pass.ensures none also))
 
 -- ---- the steps one after the other
@@ -336,9 +336,9 @@ follow_shortest-returns-then-branch-clause-adds n c =
     let so_far = c.loop-remaining.invariant.so_far in
     let front : chars c.before-in-Some.result.now ≡ so_far.0 ++ d ∷ [] =
     front_grows (chars c.args.text.now) so_far.0 (chars c.before-in-Some.result.now) (chars c.loop-remaining.rest.now) remaining d so_far.1 c.in-Some.ensures.cut c.before-in-Some.ensures in
-    let adds : Adds old new true (gives (chars c.before-in-Some.result.now) remaining) =
-    subst (λ l. Adds l new true (gives (chars c.before-in-Some.result.now) remaining)) c.loop-remaining.invariant.same
-    (subst (λ b. Adds c.loop-remaining.captures.items new b (gives (chars c.before-in-Some.result.now) remaining)) c.if-branch.true c.in_ok-follow_captured.ensures.adds) in
+    let adds : AreAdded old new true (gives (chars c.before-in-Some.result.now) remaining) =
+    subst (λ l. AreAdded l new true (gives (chars c.before-in-Some.result.now) remaining)) c.loop-remaining.invariant.same
+    (subst (λ b. AreAdded c.loop-remaining.captures.items new b (gives (chars c.before-in-Some.result.now) remaining)) c.if-branch.true c.in_ok-follow_captured.ensures.adds) in
     let found = adds_some old new (gives (chars c.before-in-Some.result.now) remaining) adds in
     let first : gives (so_far.0 ++ d ∷ []) remaining ≡ Some found.0 = ap (λ f. gives f remaining) (sym front) ∙ found.1 in
     adds ∙ ap (plus old)
@@ -358,7 +358,7 @@ follow_shortest-loop-remaining-preserved n c =
     front_grows (chars c.args.text.now) so_far.0 (chars c.before-in-Some.result.now) (chars c.loop-remaining.rest.now) remaining d so_far.1 c.in-Some.ensures.cut c.before-in-Some.ensures in
     let none : gives (chars c.before-in-Some.result.now) remaining ≡ None =
     adds_none c.loop-remaining.captures.items new _
-    (subst (λ b. Adds c.loop-remaining.captures.items new b (gives (chars c.before-in-Some.result.now) remaining)) c.if-branch.false c.in_ok-follow_captured.ensures.adds) in
+    (subst (λ b. AreAdded c.loop-remaining.captures.items new b (gives (chars c.before-in-Some.result.now) remaining)) c.if-branch.false c.in_ok-follow_captured.ensures.adds) in
     record {
       is_text = search rules;
       so_far = (
@@ -412,8 +412,8 @@ follow_run-returns-then-branch-clause-adds n c =
     let old = c.args.captures.now.items in
     let new = c.follow_longest_run.new.captures.items in
     let text = chars c.args.text.now in
-    let adds : Adds old new true (walk (Longest c.args.run ∷ c.args.others.now) text) =
-    subst (λ b. Adds old new b (walk (Longest c.args.run ∷ c.args.others.now) text)) c.if-branch.true c.in_ok-follow_longest_run.ensures.adds in
+    let adds : AreAdded old new true (walk (Longest c.args.run ∷ c.args.others.now) text) =
+    subst (λ b. AreAdded old new b (walk (Longest c.args.run ∷ c.args.others.now) text)) c.if-branch.true c.in_ok-follow_longest_run.ensures.adds in
     adds ∙ ap (λ l. plus old (walk l text)) (sym c.requires.1.1.1)
 
 pub follow_run-insert-requires-clause-dead : goal.follow_run-insert-requires-clause-dead
@@ -423,7 +423,7 @@ follow_run-insert-requires-clause-dead n c =
     let text = chars c.args.text.now in
     ap (λ l. walk l text) c.requires.1.1.1
     ∙ adds_none old new (walk (Longest c.args.run ∷ c.args.others.now) text)
-    (subst (λ b. Adds old new b (walk (Longest c.args.run ∷ c.args.others.now) text)) c.if-branch.false c.in_ok-follow_longest_run.ensures.adds)
+    (subst (λ b. AreAdded old new b (walk (Longest c.args.run ∷ c.args.others.now) text)) c.if-branch.false c.in_ok-follow_longest_run.ensures.adds)
 
 pub follow_run-returns-clause-adds : goal.follow_run-returns-clause-adds
 follow_run-returns-clause-adds n c =
@@ -433,7 +433,7 @@ follow_run-returns-clause-adds n c =
     sym (ap (plus old)
     (ap (λ l. walk l text) c.requires.1.1.1
     ∙ adds_none old new (walk (Longest c.args.run ∷ c.args.others.now) text)
-    (subst (λ b. Adds old new b (walk (Longest c.args.run ∷ c.args.others.now) text)) c.if-branch.false c.in_ok-follow_longest_run.ensures.adds)))
+    (subst (λ b. AreAdded old new b (walk (Longest c.args.run ∷ c.args.others.now) text)) c.if-branch.false c.in_ok-follow_longest_run.ensures.adds)))
 
 pub follow_longest_run-loop-shorter-init : goal.follow_longest_run-loop-shorter-init
 follow_longest_run-loop-shorter-init n c =
@@ -493,9 +493,9 @@ follow_longest_run-returns-then-branch-clause-adds n c =
     let last = c.in-Some.ensures.cut in
     let utf8 : IsUtf8 c.in-Some.shorter.now = search rules in
     let some = front_some front c.in-Some.shorter.now last.0 utf8 last.1 last.2 in
-    let adds : Adds old new true (gives (chars front) (chars left)) =
-    subst (λ l. Adds l new true (gives (chars front) (chars left))) c.loop-shorter.invariant.same
-    (subst (λ b. Adds c.loop-shorter.captures.items new b (gives (chars front) (chars left))) c.if-branch.true c.in_ok-follow_captured.ensures.adds) in
+    let adds : AreAdded old new true (gives (chars front) (chars left)) =
+    subst (λ l. AreAdded l new true (gives (chars front) (chars left))) c.loop-shorter.invariant.same
+    (subst (λ b. AreAdded c.loop-shorter.captures.items new b (gives (chars front) (chars left))) c.if-branch.true c.in_ok-follow_captured.ensures.adds) in
     let found = adds_some old new (gives (chars front) (chars left)) adds in
     adds ∙ ap (plus old)
     (found.1
@@ -518,7 +518,7 @@ follow_longest_run-loop-shorter-preserved n c =
     let some = front_some front shorter last.0 utf8 last.1 last.2 in
     let none : gives (chars front) (chars left) ≡ None =
     adds_none c.loop-shorter.captures.items new _
-    (subst (λ b. Adds c.loop-shorter.captures.items new b (gives (chars front) (chars left))) c.if-branch.false c.in_ok-follow_captured.ensures.adds) in
+    (subst (λ b. AreAdded c.loop-shorter.captures.items new b (gives (chars front) (chars left))) c.if-branch.false c.in_ok-follow_captured.ensures.adds) in
     record {
       is_text = search rules;
       so_far = (
@@ -588,8 +588,8 @@ follow_repeated_text-returns-then-branch-clause-adds n c =
     let old = c.args.captures.now.items in
     let new = c.follow_copies.new.captures.items in
     let text = chars c.args.text.now in
-    let adds : Adds old new true (walk (Copies c.args.copies ∷ c.args.others.now) text) =
-    subst (λ b. Adds old new b (walk (Copies c.args.copies ∷ c.args.others.now) text)) c.if-branch.true c.in_ok-follow_copies.ensures.adds in
+    let adds : AreAdded old new true (walk (Copies c.args.copies ∷ c.args.others.now) text) =
+    subst (λ b. AreAdded old new b (walk (Copies c.args.copies ∷ c.args.others.now) text)) c.if-branch.true c.in_ok-follow_copies.ensures.adds in
     adds ∙ ap (λ l. plus old (walk l text)) (sym c.requires.1.1.1)
 
 pub follow_repeated_text-insert-requires-clause-dead : goal.follow_repeated_text-insert-requires-clause-dead
@@ -599,7 +599,7 @@ follow_repeated_text-insert-requires-clause-dead n c =
     let text = chars c.args.text.now in
     ap (λ l. walk l text) c.requires.1.1.1
     ∙ adds_none old new (walk (Copies c.args.copies ∷ c.args.others.now) text)
-    (subst (λ b. Adds old new b (walk (Copies c.args.copies ∷ c.args.others.now) text)) c.if-branch.false c.in_ok-follow_copies.ensures.adds)
+    (subst (λ b. AreAdded old new b (walk (Copies c.args.copies ∷ c.args.others.now) text)) c.if-branch.false c.in_ok-follow_copies.ensures.adds)
 
 pub follow_repeated_text-returns-clause-adds : goal.follow_repeated_text-returns-clause-adds
 follow_repeated_text-returns-clause-adds n c =
@@ -609,7 +609,7 @@ follow_repeated_text-returns-clause-adds n c =
     sym (ap (plus old)
     (ap (λ l. walk l text) c.requires.1.1.1
     ∙ adds_none old new (walk (Copies c.args.copies ∷ c.args.others.now) text)
-    (subst (λ b. Adds old new b (walk (Copies c.args.copies ∷ c.args.others.now) text)) c.if-branch.false c.in_ok-follow_copies.ensures.adds)))
+    (subst (λ b. AreAdded old new b (walk (Copies c.args.copies ∷ c.args.others.now) text)) c.if-branch.false c.in_ok-follow_copies.ensures.adds)))
 
 pub follow_copies-follow_any_copies-requires : goal.follow_copies-follow_any_copies-requires
 follow_copies-follow_any_copies-requires n c =
@@ -724,9 +724,9 @@ follow_any_copies-returns-then-branch-clause-adds n c =
     let so_far = c.loop-shorter.invariant.so_far in
     let left = c.after_front.result.now in
     let rest : left ≡ so_far.0 = append_cancel_left c.loop-shorter.front.now left so_far.0 (sym c.after_front.ensures ∙ so_far.2) in
-    let adds : Adds old new true (next (chars left)) =
-    subst (λ l. Adds l new true (next (chars left))) c.loop-shorter.invariant.same
-    (subst (λ b. Adds c.loop-shorter.captures.items new b (next (chars left))) c.if-branch.true c.in_ok-follow.ensures.adds) in
+    let adds : AreAdded old new true (next (chars left)) =
+    subst (λ l. AreAdded l new true (next (chars left))) c.loop-shorter.invariant.same
+    (subst (λ b. AreAdded c.loop-shorter.captures.items new b (next (chars left))) c.if-branch.true c.in_ok-follow.ensures.adds) in
     let found = adds_some old new (next (chars left)) adds in
     adds ∙ ap (plus old) (found.1 ∙ sym (so_far.5 ∙ fewer-found copy next so_far.3 (chars so_far.0) found.0 (ap (λ r. next (chars r)) (sym rest) ∙ found.1)))
 
@@ -741,7 +741,7 @@ follow_any_copies-returns-in_default-clause-adds n c =
     let rest : left ≡ so_far.0 = append_cancel_left front left so_far.0 (sym c.after_front.ensures ∙ so_far.2) in
     let none : next (chars left) ≡ None =
     adds_none c.loop-shorter.captures.items new _
-    (subst (λ b. Adds c.loop-shorter.captures.items new b (next (chars left))) c.if-branch.false c.in_ok-follow.ensures.adds) in
+    (subst (λ b. AreAdded c.loop-shorter.captures.items new b (next (chars left))) c.if-branch.false c.in_ok-follow.ensures.adds) in
     sym (ap (plus old)
     (so_far.5
     ∙ no_copy_left c.args.first (literals c.args.literal.now) next so_far.3 (chars front) (chars so_far.0) so_far.4 c.in_default.ensures.few
@@ -758,7 +758,7 @@ follow_any_copies-loop-shorter-preserved n c =
     let rest : left ≡ so_far.0 = append_cancel_left front left so_far.0 (sym c.after_front.ensures ∙ so_far.2) in
     let none : next (chars left) ≡ None =
     adds_none c.loop-shorter.captures.items new _
-    (subst (λ b. Adds c.loop-shorter.captures.items new b (next (chars left))) c.if-branch.false c.in_ok-follow.ensures.adds) in
+    (subst (λ b. AreAdded c.loop-shorter.captures.items new b (next (chars left))) c.if-branch.false c.in_ok-follow.ensures.adds) in
     let last = c.in-Some.ensures.cut in
     let utf8 : IsUtf8 shorter = search rules in
     let fewer_now = copy_shrinks c.args.first (literals c.args.literal.now) next so_far.3 front shorter last.0 so_far.0 utf8 last.1 last.2 so_far.4 last.3 (ap (λ r. next (chars r)) (sym rest) ∙ none) in
@@ -791,8 +791,8 @@ follow_segmented-returns-then-branch-clause-adds n c =
     let old = c.args.captures.now.items in
     let new = c.follow_segments.new.captures.items in
     let text = chars c.args.text.now in
-    let adds : Adds old new true (walk (Segments c.args.segments ∷ c.args.others.now) text) =
-    subst (λ b. Adds old new b (walk (Segments c.args.segments ∷ c.args.others.now) text)) c.if-branch.true c.in_ok-follow_segments.ensures.adds in
+    let adds : AreAdded old new true (walk (Segments c.args.segments ∷ c.args.others.now) text) =
+    subst (λ b. AreAdded old new b (walk (Segments c.args.segments ∷ c.args.others.now) text)) c.if-branch.true c.in_ok-follow_segments.ensures.adds in
     adds ∙ ap (λ l. plus old (walk l text)) (sym c.requires.1.1.1)
 
 pub follow_segmented-insert-requires-clause-dead : goal.follow_segmented-insert-requires-clause-dead
@@ -802,7 +802,7 @@ follow_segmented-insert-requires-clause-dead n c =
     let text = chars c.args.text.now in
     ap (λ l. walk l text) c.requires.1.1.1
     ∙ adds_none old new (walk (Segments c.args.segments ∷ c.args.others.now) text)
-    (subst (λ b. Adds old new b (walk (Segments c.args.segments ∷ c.args.others.now) text)) c.if-branch.false c.in_ok-follow_segments.ensures.adds)
+    (subst (λ b. AreAdded old new b (walk (Segments c.args.segments ∷ c.args.others.now) text)) c.if-branch.false c.in_ok-follow_segments.ensures.adds)
 
 pub follow_segmented-returns-clause-adds : goal.follow_segmented-returns-clause-adds
 follow_segmented-returns-clause-adds n c =
@@ -812,7 +812,7 @@ follow_segmented-returns-clause-adds n c =
     sym (ap (plus old)
     (ap (λ l. walk l text) c.requires.1.1.1
     ∙ adds_none old new (walk (Segments c.args.segments ∷ c.args.others.now) text)
-    (subst (λ b. Adds old new b (walk (Segments c.args.segments ∷ c.args.others.now) text)) c.if-branch.false c.in_ok-follow_segments.ensures.adds)))
+    (subst (λ b. AreAdded old new b (walk (Segments c.args.segments ∷ c.args.others.now) text)) c.if-branch.false c.in_ok-follow_segments.ensures.adds)))
 
 pub follow_segments-end_of_segments-requires : goal.follow_segments-end_of_segments-requires
 follow_segments-end_of_segments-requires n c =
