@@ -2,7 +2,7 @@
 
 ghost use Rattle.std.specs.Prelude.{◌≡◌, ◌≢◌, ◌∷◌, ◌++◌, ℕ, ◌<◌, ◌≤◌, Bool, List, length, codes, IfNone, IfSome, IsSomeAnd, IsTrue};
 ghost use Rattle.std.specs.Str.{chars};
-ghost use Rattle.urlpattern_engine.specs.Reading.{BeginsWithCaptured, BeginsWithCharacter, BeginsWithToken, IsRead, IsRunOf, IsRunStep, IsStepOf, IsUnquantified, MayBeEmpty, quantifier_of, times_text};
+ghost use Rattle.urlpattern_engine.specs.Reading.{BeginsWithCaptured, BeginsWithCharacter, BeginsWithToken, IsRead, IsRepeatOf, IsRunOf, IsRunStep, IsStepOf, IsUnquantified, MayBeEmpty, ReadsCaptured, ReadsFirstSegments, ReadsRuns, ReadsTokens, RepeatsRuns, quantifier_of, times_text};
 ghost use Rattle.urlpattern_laws.specs.Dialect.{Captured, IsCharacter, IsClassCharacter, Items};
 ghost use Rattle.urlpattern_syntax.specs.RegexpText.{regexp_marks};
 ghost use Rattle.urlpattern_syntax.specs.Text.{is_among};
