@@ -1,5 +1,5 @@
 -- What is added to captures, step by step.
-use Rattle.std.proofs.Common.{◌≡◌, ℕ, zero, suc, List, [], ◌∷◌, ◌++◌, map, drop, eq-eqb, replicate, Option, Some, None, option_map, Result, Ok, Err, Bool, true, false, cond, ◌==◌, refl, sym, ap, ap₂, ◌∙◌, append-nil, append_assoc}
+use Rattle.std.proofs.Common.{◌≡◌, ℕ, zero, suc, List, [], ◌∷◌, ◌++◌, map, drop, eq-eqb, replicate, Option, Some, None, option_map, Result, Ok, Err, Bool, true, false, cond, ◌==◌, refl, sym, ap, ap₂, ◌∙◌, subst, append-nil, append_assoc}
 use Rattle.std.proofs.lemmas.List.{map-append, append_cancel_right}
 use Rattle.std.proofs.lemmas.Str.{chars-append, chars_past_char, encodes-append, encodes-chars, IsUtf8-append}
 use Rattle.std.specs.Borrow.{Bor}
@@ -26,13 +26,24 @@ plus old found = option_map (λ others. map capture_view old ++ others) found
 
 -- ---- what was added
 
-pub adds_none : (old new : Kept) (found : Option Captures) → AreAdded old new false found → found ≡ None
-adds_none old new None e = refl
-adds_none old new (Some x) e = cc
+none_added : (old new : Kept) (found : Option Captures) → AreAdded old new false found → found ≡ None
+none_added old new None e = refl
+none_added old new (Some x) e = cc
+
+pub adds_none : (old new : Kept) (is_taken : Bool) (found : Option Captures) → is_taken ≡ false → AreAdded old new is_taken found → found ≡ None
+adds_none old new is_taken found missed adds = none_added old new found (subst (λ b. AreAdded old new b found) missed adds)
 
 pub adds_some : (old new : Kept) (found : Option Captures) → AreAdded old new true found → (x : Captures) × (found ≡ Some x)
 adds_some old new None e = cc
 adds_some old new (Some x) e = (x, refl)
+
+-- what a part adds to what was kept is what the whole does, where the whole is what the part is
+pub taken_adds : (old now new : Kept) (is_taken : Bool) (part whole : Option Captures) → now ≡ old → is_taken ≡ true → AreAdded now new is_taken part
+    → ((found : Captures) → part ≡ Some found → whole ≡ Some found) → AreAdded old new true whole
+taken_adds old now new is_taken part whole same taken adds leads =
+    let added : AreAdded old new true part = subst (λ l. AreAdded l new true part) same (subst (λ b. AreAdded now new b part) taken adds) in
+    let found = adds_some old new part added in
+    added ∙ ap (plus old) (found.1 ∙ sym (leads found.0 found.1))
 
 -- what a call adds is what is added in all
 pub later_adds : {E : Type 0} (old now new : Kept) (whole part : Option Captures) (result : Result Bool E) → plus old whole ≡ plus now part

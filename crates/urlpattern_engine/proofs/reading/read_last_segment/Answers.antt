@@ -4,7 +4,7 @@ use Rattle.std.proofs.Common.{◌≡◌, ◌++◌, Bool, true, false, not, codes
 use Rattle.std.specs.Str.{chars}
 use Rattle.urlpattern_engine.specs.Reading.{IsRunStep}
 use Rattle.urlpattern_engine.proofs.FrontLemmas.{ReadsRun, run_step, run_step_is}
-use Rattle.urlpattern_engine.proofs.ReadingLemmas.{cut_read, last_run}
+use Rattle.urlpattern_engine.proofs.SegmentTextLemmas.{cut_read, last_run}
 use Rattle.urlpattern_engine.proofs.reading.read_last_segment.Goals as goal
 use Rattle.urlpattern_engine.proofs.reading.read_last_segment.Goals.{then-other-end-via-then-other-end, then-other-end-via-else-other-end+then-is_other_greedy-is_greedy}
 
