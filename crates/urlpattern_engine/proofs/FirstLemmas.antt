@@ -1,11 +1,17 @@
--- The first of the steps, by what it and the others do.
-use Rattle.std.proofs.Common.{◌≡◌, ℕ, List, [], ◌∷◌, Bool, true, false, None, refl, sym, ap, ◌∙◌, subst}
+-- The places that are left of a match, and the first of the steps.
+use Rattle.std.proofs.Common.{◌≡◌, ℕ, List, [], ◌∷◌, ◌++◌, Bool, true, false, None, refl, sym, ap, ◌∙◌, subst}
+use Rattle.std.specs.Str.{chars, IsUtf8}
 use Rattle.urlpattern_engine.specs.declared.step.Step.{Step}
-use Rattle.urlpattern_engine.specs.Failed.{IsPlace, Whole}
+use Rattle.urlpattern_engine.specs.Failed.{EndsWith, IsPlace, Whole}
 use Rattle.urlpattern_engine.specs.Steps.{walk}
 use Rattle.urlpattern_engine.specs.Taken.{AreAdded, Kept}
 use Rattle.urlpattern_engine.proofs.FailedLemmas.{ends_same, place_within}
-use Rattle.urlpattern_engine.proofs.FollowLemmas.{plus, adds_none}
+use Rattle.urlpattern_engine.proofs.FollowLemmas.{plus, adds_none, chars_end}
+
+-- what stands behind a front may be left too
+pub rest_place : (whole now : Whole) (steps others : List Step) (text front rest : List ℕ) → now ≡ whole → IsPlace whole steps (chars text) → EndsWith steps others → IsUtf8 front → text ≡ front ++ rest
+    → IsPlace now others (chars rest)
+rest_place whole now steps others text front rest same place end u e = place_within whole now steps others (chars text) (chars rest) same place end (chars_end text front rest u e)
 
 module _ (step : Step) (steps others : List Step) (first : steps ≡ step ∷ others) where
   -- the others and the same text may be left too

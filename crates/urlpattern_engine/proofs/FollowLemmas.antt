@@ -1,7 +1,7 @@
 -- What is added to captures, step by step.
 use Rattle.std.proofs.Common.{◌≡◌, ℕ, zero, suc, List, [], ◌∷◌, ◌++◌, map, drop, eq-eqb, replicate, Option, Some, None, option_map, Result, Ok, Err, Bool, true, false, cond, ◌==◌, refl, sym, ap, ap₂, ◌∙◌, subst, append-nil, append_assoc}
-use Rattle.std.proofs.lemmas.List.{map-append, append_cancel_right}
-use Rattle.std.proofs.lemmas.Str.{chars-append, chars_past_char, encodes-append, encodes-chars, IsUtf8-append}
+use Rattle.std.proofs.lemmas.List.{map-append, append_cancel_left, append_cancel_right}
+use Rattle.std.proofs.lemmas.Str.{chars-append, chars_past_char, encodes-append, encodes-chars, IsUtf8-append, IsUtf8-encode}
 use Rattle.std.specs.Borrow.{Bor}
 use Rattle.std.specs.Char.{IsScalar, encode_utf8}
 use Rattle.std.specs.Option.{option_or}
@@ -124,11 +124,27 @@ last_passed front shorter rest c u v scalar w e = (
 pub chars_end : (text front rest : List ℕ) → IsUtf8 front → text ≡ front ++ rest → EndsWith (chars text) (chars rest)
 chars_end text front rest u e = (chars front, ap chars e ∙ chars-append front rest u)
 
+-- the last character of a front goes to the rest, by the bytes
+pub front_shortened : (text front shorter rest : List ℕ) (c : ℕ) → IsScalar c → IsUtf8 rest → text ≡ front ++ rest → front ≡ shorter ++ encode_utf8 c
+    → IsUtf8 (encode_utf8 c ++ rest) × (text ≡ shorter ++ (encode_utf8 c ++ rest))
+front_shortened text front shorter rest c scalar u e f =
+    (IsUtf8-append (encode_utf8 c) rest (IsUtf8-encode c scalar) u, e ∙ ap (λ l. l ++ rest) f ∙ append_assoc shorter (encode_utf8 c) rest)
+
+-- where no longer front leads on, and this one does not, none from this one on does
+pub longest_missed : (others : List Step) (text front rest left : List ℕ) (old new : Kept) (is_taken : Bool) → text ≡ front ++ rest → text ≡ front ++ left
+    → longest line_feed (captured (walk others)) (chars front) (chars left) ≡ captured (walk others) (chars front) (chars left)
+    → is_taken ≡ false → AreAdded old new is_taken (captured (walk others) (chars front) (chars rest))
+    → longest line_feed (captured (walk others)) (chars front) (chars rest) ≡ None
+longest_missed others text front rest left old new is_taken e f no_longer missed adds =
+    let gives : Gives = captured (walk others) in
+    let behind : rest ≡ left = append_cancel_left front rest left (sym e ∙ f) in
+    subst (λ r. longest line_feed gives (chars front) (chars r) ≡ gives (chars front) (chars r)) (sym behind) no_longer
+    ∙ adds_none old new is_taken (gives (chars front) (chars rest)) missed adds
+
 module _ (steps others : List Step) (first : steps ≡ Anything ∷ others) where
-  -- no front that is longer, nor this one, leads on
-  pub longest_dead : (front rest : List ℕ) → longest line_feed (captured (walk others)) front rest ≡ captured (walk others) front rest → captured (walk others) front rest ≡ None
-      → walk steps rest ≡ None
-  longest_dead front rest longest none = ap (λ s. walk s rest) first ∙ longest_no_more line_feed (walk others) front [] rest (longest ∙ none)
+  -- no front from this one on leads on
+  pub longest_dead : (front rest : List ℕ) → longest line_feed (captured (walk others)) front rest ≡ None → walk steps rest ≡ None
+  longest_dead front rest none = ap (λ s. walk s rest) first ∙ longest_no_more line_feed (walk others) front [] rest none
 
   -- this front is the longest that leads on
   pub longest_taken : (text front rest : List ℕ) (found : Captures) → text ≡ front ++ rest → up_to_first line_feed front ≡ front
@@ -138,8 +154,14 @@ module _ (steps others : List Step) (first : steps ≡ Anything ∷ others) wher
 
 -- ---- groups that may be missing
 
-pub maybe_dead : (group : Group) (steps others left : List Step) (text : List ℕ) → steps ≡ Maybe group ∷ others → left ≡ drop group.steps others → walk others text ≡ None → walk left text ≡ None
+maybe_dead : (group : Group) (steps others left : List Step) (text : List ℕ) → steps ≡ Maybe group ∷ others → left ≡ drop group.steps others → walk others text ≡ None → walk left text ≡ None
     → walk steps text ≡ None
 maybe_dead group steps others left text first passed none also =
     ap (λ s. walk s text) first ∙ maybe_missing group others text none
     ∙ ap (option_map (λ others. replicate group.captures None ++ others)) (ap (λ s. walk s text) (sym passed) ∙ also)
+
+-- a group that may be missing leads on neither with its steps nor without
+pub maybe_missed : (group : Group) (steps others left : List Step) (text : List ℕ) (old new more newer : Kept) (is_taken is_left : Bool) → steps ≡ Maybe group ∷ others → left ≡ drop group.steps others
+    → is_taken ≡ false → AreAdded old new is_taken (walk others text) → is_left ≡ false → AreAdded more newer is_left (walk left text) → walk steps text ≡ None
+maybe_missed group steps others left text old new more newer is_taken is_left first passed missed adds also adds_more =
+    maybe_dead group steps others left text first passed (adds_none old new is_taken (walk others text) missed adds) (adds_none more newer is_left (walk left text) also adds_more)

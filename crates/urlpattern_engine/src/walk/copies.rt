@@ -18,8 +18,9 @@ use urlpattern_syntax::tokenizer::before;
 /// is added.
 ///
 /// The error is that memory ran out.
+#[tactic(auto, using(crate::proofs::FirstLemmas::first_dead, crate::proofs::FirstLemmas::first_taken))]
 #[cycle(following)]
-pub(crate) fn follow_repeated_text<'t>(
+pub(super) fn follow_repeated_text<'t>(
     captures: &mut Vec<Option<&'t str>>,
     failed: &mut Failed<'_, '_>,
     copies: Copies,

@@ -19,7 +19,7 @@ use urlpattern_syntax::tokenizer::before;
 ///
 /// The error is that memory ran out.
 #[cycle(following)]
-pub(crate) fn follow_shortest<'t>(
+pub(super) fn follow_shortest<'t>(
     captures: &mut Vec<Option<&'t str>>,
     failed: &mut Failed<'_, '_>,
     end: char,
@@ -49,7 +49,7 @@ pub(crate) fn follow_shortest<'t>(
 ///
 /// The error is that memory ran out.
 #[cycle(following)]
-pub(crate) fn follow_longest<'t>(
+pub(super) fn follow_longest<'t>(
     captures: &mut Vec<Option<&'t str>>,
     failed: &mut Failed<'_, '_>,
     steps: &[Step],
@@ -83,8 +83,9 @@ pub(crate) fn follow_longest<'t>(
 /// capture is added.
 ///
 /// The error is that memory ran out.
+#[tactic(auto, using(crate::proofs::FirstLemmas::first_dead, crate::proofs::FirstLemmas::first_taken))]
 #[cycle(following)]
-pub(crate) fn follow_run<'t>(
+pub(super) fn follow_run<'t>(
     captures: &mut Vec<Option<&'t str>>,
     failed: &mut Failed<'_, '_>,
     run: Run,

@@ -17,8 +17,9 @@ use urlpattern_core::error::OutOfMemory;
 /// Whether the steps, of which the first is before segments, take the text whole. Where they do, what they capture is added.
 ///
 /// The error is that memory ran out.
+#[tactic(auto, using(crate::proofs::FirstLemmas::first_dead, crate::proofs::FirstLemmas::first_taken))]
 #[cycle(following)]
-pub(crate) fn follow_segmented<'t>(
+pub(super) fn follow_segmented<'t>(
     captures: &mut Vec<Option<&'t str>>,
     failed: &mut Failed<'_, '_>,
     segments: Segments,

@@ -1,34 +1,31 @@
-mod Copies
-mod Runs
-mod Segments
+mod CopyAnswers
+mod RunAnswers
+mod SegmentAnswers
 use Rattle.std.proofs.Common.{◌≡◌, ◌∷◌, ◌++◌, [], Some, None, true, length, drop, refl, sym, ap, ◌∙◌, subst, arith, rules}
 use Rattle.std.proofs.lemmas.List.{length-drop, nil_from_length}
 use Rattle.std.specs.Str.{chars, IsUtf8}
 use Rattle.urlpattern_syntax.proofs.TextLemmas.{chars-empty, chars-some}
 use Rattle.urlpattern_syntax.specs.Text.{line_feed}
 use Rattle.urlpattern_engine.specs.declared.step.Step.{Step}
-use Rattle.urlpattern_engine.specs.declared.step.Step.TheVariants.{Literal, Segment, Anything, Maybe}
+use Rattle.urlpattern_engine.specs.declared.step.Step.TheVariants.{Literal, Segment, Anything, Maybe, Longest, Copies, Segments}
 use Rattle.urlpattern_engine.specs.Failed.{EndsWith}
 use Rattle.urlpattern_engine.specs.Steps.{captured, up_to_first, walk, StopAt}
 use Rattle.urlpattern_engine.specs.Taken.{AreAdded, Extends}
 use Rattle.urlpattern_engine.proofs.FailedLemmas.{ends_drop, ends_longer, ends_same, place_within}
-use Rattle.urlpattern_engine.proofs.FollowLemmas.{plus, adds_none, end_adds, extends_more, later_adds, later_extends, literal_passed, maybe_dead, plus_captured, plus_maybe}
+use Rattle.urlpattern_engine.proofs.FollowLemmas.{plus, adds_none, end_adds, extends_more, later_adds, later_extends, literal_passed, maybe_missed, plus_captured, plus_maybe}
 use Rattle.urlpattern_engine.proofs.RunLemmas.{both_ends, longest_ends, shortest_ends, shortest_none}
 use Rattle.urlpattern_engine.proofs.StepLemmas.{stop-gives}
-use Rattle.urlpattern_engine.proofs.walk.+following.Answers.Runs as runs
-use Rattle.urlpattern_engine.proofs.walk.+following.Answers.Copies as copies
-use Rattle.urlpattern_engine.proofs.walk.+following.Answers.Segments as segments
+use Rattle.urlpattern_engine.proofs.FirstLemmas.{others_place}
+use Rattle.urlpattern_engine.proofs.walk.+following.Answers.RunAnswers as runs
+use Rattle.urlpattern_engine.proofs.walk.+following.Answers.CopyAnswers as copies
+use Rattle.urlpattern_engine.proofs.walk.+following.Answers.SegmentAnswers as segments
 use Rattle.urlpattern_engine.proofs.walk.+following.Goals as goal
 
 -- ---- a group that may be missing
 
 pub follow_maybe-follow-requires : goal.follow_maybe-follow-requires
 follow_maybe-follow-requires n c =
-    let text = chars c.args.text.now in (
-      search rules,
-      place_within c.args.failed.now c.args.failed.now c.args.steps.now c.args.others.now text text refl c.requires.1.1.0
-          (Maybe c.args.group ∷ [], c.requires.1.1.1) (ends_same text),
-    )
+    (search rules, others_place (Maybe c.args.group) c.args.steps.now c.args.others.now c.requires.1.1.1 c.args.failed.now (chars c.args.text.now) c.requires.1.1.0)
 
 pub follow_maybe-follow_on-requires : goal.follow_maybe-follow_on-requires
 follow_maybe-follow_on-requires n c =
@@ -60,31 +57,14 @@ follow_maybe-returns-then-branch-2-clause-adds n c =
 
 pub follow_maybe-insert-requires-clause-dead : goal.follow_maybe-insert-requires-clause-dead
 follow_maybe-insert-requires-clause-dead n c =
-    let old = c.args.captures.now.items in
-    let more = c.add_missing.new.captures.items in
-    let new = c.follow_on.new.captures.items in
-    let text = chars c.args.text.now in
-    let others = c.args.others.now in
-    let left = c.pass.result.now in
-    let none : walk others text ≡ None =
-    adds_none old c.follow.new.captures.items _ (walk others text) c.if-branch.false c.in_ok-follow.ensures.adds in
-    let also : walk left text ≡ None =
-    adds_none more new _ (walk left text) c.if-branch-2.false c.in_ok-follow_on.ensures.adds in
-    maybe_dead c.args.group c.args.steps.now others left text c.requires.1.1.1 c.pass.ensures none also
+    maybe_missed c.args.group c.args.steps.now c.args.others.now c.pass.result.now (chars c.args.text.now) c.args.captures.now.items c.follow.new.captures.items c.add_missing.new.captures.items
+    c.follow_on.new.captures.items _ _ c.requires.1.1.1 c.pass.ensures c.if-branch.false c.in_ok-follow.ensures.adds c.if-branch-2.false c.in_ok-follow_on.ensures.adds
 
 pub follow_maybe-returns-clause-adds : goal.follow_maybe-returns-clause-adds
 follow_maybe-returns-clause-adds n c =
-    let old = c.args.captures.now.items in
-    let more = c.add_missing.new.captures.items in
-    let new = c.follow_on.new.captures.items in
-    let text = chars c.args.text.now in
-    let others = c.args.others.now in
-    let left = c.pass.result.now in
-    let none : walk others text ≡ None =
-    adds_none old c.follow.new.captures.items _ (walk others text) c.if-branch.false c.in_ok-follow.ensures.adds in
-    let also : walk left text ≡ None =
-    adds_none more new _ (walk left text) c.if-branch-2.false c.in_ok-follow_on.ensures.adds in
-    sym (ap (plus old) (maybe_dead c.args.group c.args.steps.now others left text c.requires.1.1.1 c.pass.ensures none also))
+    sym (ap (plus c.args.captures.now.items)
+    (maybe_missed c.args.group c.args.steps.now c.args.others.now c.pass.result.now (chars c.args.text.now) c.args.captures.now.items c.follow.new.captures.items c.add_missing.new.captures.items
+    c.follow_on.new.captures.items _ _ c.requires.1.1.1 c.pass.ensures c.if-branch.false c.in_ok-follow.ensures.adds c.if-branch-2.false c.in_ok-follow_on.ensures.adds))
 
 -- ---- the steps one after the other
 
@@ -250,22 +230,14 @@ pub runs::follow_shortest-returns-clause-adds : goal.runs::follow_shortest-retur
 runs::follow_shortest-returns-clause-adds = runs.follow_shortest-returns-clause-adds
 
 pub runs::follow_run-follow_longest_run-requires : goal.runs::follow_run-follow_longest_run-requires
-runs::follow_run-follow_longest_run-requires = runs.follow_run-follow_longest_run-requires
-
-pub runs::follow_run-returns-then-branch-clause-adds : goal.runs::follow_run-returns-then-branch-clause-adds
-runs::follow_run-returns-then-branch-clause-adds = runs.follow_run-returns-then-branch-clause-adds
-
-pub runs::follow_run-insert-requires-clause-dead : goal.runs::follow_run-insert-requires-clause-dead
-runs::follow_run-insert-requires-clause-dead = runs.follow_run-insert-requires-clause-dead
-
-pub runs::follow_run-returns-clause-adds : goal.runs::follow_run-returns-clause-adds
-runs::follow_run-returns-clause-adds = runs.follow_run-returns-clause-adds
+runs::follow_run-follow_longest_run-requires n c =
+    (search rules, others_place (Longest c.args.run) c.args.steps.now c.args.others.now c.requires.1.1.1 c.args.failed.now (chars c.args.text.now) c.requires.1.1.0)
 
 pub runs::follow_longest_run-loop-shorter-init : goal.runs::follow_longest_run-loop-shorter-init
 runs::follow_longest_run-loop-shorter-init = runs.follow_longest_run-loop-shorter-init
 
 pub runs::follow_longest_run-after_front-rest-requires : goal.runs::follow_longest_run-after_front-rest-requires
-runs::follow_longest_run-after_front-rest-requires = runs.follow_longest_run-after_front-rest-requires
+runs::follow_longest_run-after_front-rest-requires n c = let so_far = c.loop-shorter.invariant.so_far in (so_far.0, so_far.1, so_far.2)
 
 pub runs::follow_longest_run-follow_captured-requires : goal.runs::follow_longest_run-follow_captured-requires
 runs::follow_longest_run-follow_captured-requires = runs.follow_longest_run-follow_captured-requires
@@ -288,16 +260,8 @@ runs::follow_longest_run-returns-else-run-clause-adds = runs.follow_longest_run-
 -- ---- copies of a text
 
 pub copies::follow_repeated_text-follow_copies-requires : goal.copies::follow_repeated_text-follow_copies-requires
-copies::follow_repeated_text-follow_copies-requires = copies.follow_repeated_text-follow_copies-requires
-
-pub copies::follow_repeated_text-returns-then-branch-clause-adds : goal.copies::follow_repeated_text-returns-then-branch-clause-adds
-copies::follow_repeated_text-returns-then-branch-clause-adds = copies.follow_repeated_text-returns-then-branch-clause-adds
-
-pub copies::follow_repeated_text-insert-requires-clause-dead : goal.copies::follow_repeated_text-insert-requires-clause-dead
-copies::follow_repeated_text-insert-requires-clause-dead = copies.follow_repeated_text-insert-requires-clause-dead
-
-pub copies::follow_repeated_text-returns-clause-adds : goal.copies::follow_repeated_text-returns-clause-adds
-copies::follow_repeated_text-returns-clause-adds = copies.follow_repeated_text-returns-clause-adds
+copies::follow_repeated_text-follow_copies-requires n c =
+    (search rules, others_place (Copies c.args.copies) c.args.steps.now c.args.others.now c.requires.1.1.1 c.args.failed.now (chars c.args.text.now) c.requires.1.1.0)
 
 pub copies::follow_copies-follow_any_copies-requires : goal.copies::follow_copies-follow_any_copies-requires
 copies::follow_copies-follow_any_copies-requires = copies.follow_copies-follow_any_copies-requires
@@ -318,7 +282,7 @@ pub copies::follow_any_copies-loop-shorter-init : goal.copies::follow_any_copies
 copies::follow_any_copies-loop-shorter-init = copies.follow_any_copies-loop-shorter-init
 
 pub copies::follow_any_copies-after_front-requires : goal.copies::follow_any_copies-after_front-requires
-copies::follow_any_copies-after_front-requires = copies.follow_any_copies-after_front-requires
+copies::follow_any_copies-after_front-requires n c = let so_far = c.loop-shorter.invariant.so_far in (so_far.0, so_far.1, so_far.2)
 
 pub copies::follow_any_copies-follow-requires : goal.copies::follow_any_copies-follow-requires
 copies::follow_any_copies-follow-requires = copies.follow_any_copies-follow-requires
@@ -335,16 +299,8 @@ copies::follow_any_copies-loop-shorter-preserved = copies.follow_any_copies-loop
 -- ---- segments
 
 pub segments::follow_segmented-follow_segments-requires : goal.segments::follow_segmented-follow_segments-requires
-segments::follow_segmented-follow_segments-requires = segments.follow_segmented-follow_segments-requires
-
-pub segments::follow_segmented-returns-then-branch-clause-adds : goal.segments::follow_segmented-returns-then-branch-clause-adds
-segments::follow_segmented-returns-then-branch-clause-adds = segments.follow_segmented-returns-then-branch-clause-adds
-
-pub segments::follow_segmented-insert-requires-clause-dead : goal.segments::follow_segmented-insert-requires-clause-dead
-segments::follow_segmented-insert-requires-clause-dead = segments.follow_segmented-insert-requires-clause-dead
-
-pub segments::follow_segmented-returns-clause-adds : goal.segments::follow_segmented-returns-clause-adds
-segments::follow_segmented-returns-clause-adds = segments.follow_segmented-returns-clause-adds
+segments::follow_segmented-follow_segments-requires n c =
+    (search rules, others_place (Segments c.args.segments) c.args.steps.now c.args.others.now c.requires.1.1.1 c.args.failed.now (chars c.args.text.now) c.requires.1.1.0)
 
 pub segments::follow_segments-end_of_segments-requires : goal.segments::follow_segments-end_of_segments-requires
 segments::follow_segments-end_of_segments-requires = segments.follow_segments-end_of_segments-requires

@@ -1,7 +1,7 @@
 -- The answers for runs of characters.
 use Rattle.std.proofs.Common.{◌≡◌, ◌∷◌, ◌++◌, [], None, length, refl, sym, ap, ◌∙◌, subst, append_assoc, rules, ne_eqb}
 use Rattle.std.proofs.lemmas.List.{append_cancel_left}
-use Rattle.std.proofs.lemmas.Str.{chars-append, IsUtf8-append, IsUtf8-encode}
+use Rattle.std.proofs.lemmas.Str.{chars-append, IsUtf8-encode}
 use Rattle.std.specs.Char.{encode_utf8}
 use Rattle.std.specs.Option.{option_or}
 use Rattle.std.specs.Str.{chars, IsUtf8}
@@ -12,10 +12,10 @@ use Rattle.urlpattern_engine.specs.Failed.{HasEnded}
 use Rattle.urlpattern_engine.specs.Steps.{Gives, captured, longest, shortest, up_to_first, walk}
 use Rattle.urlpattern_engine.proofs.FailedLemmas.{ends_same, place_within}
 use Rattle.urlpattern_engine.proofs.FallingLemmas.{falling, falling-found, front_shrinks}
-use Rattle.urlpattern_engine.proofs.FollowLemmas.{plus, adds_none, bytes_join, chars_end, front_grows, last_passed, later_adds, longest_dead, longest_taken, shortest_passed, taken_adds}
+use Rattle.urlpattern_engine.proofs.FollowLemmas.{plus, adds_none, bytes_join, front_grows, last_passed, later_adds, longest_dead, longest_taken, shortest_passed, taken_adds, front_shortened, longest_missed}
 use Rattle.urlpattern_engine.proofs.LongestLemmas.{at_least, at_least_some, falling_empty, falling_none, front_some, longest_run_falling}
 use Rattle.urlpattern_engine.proofs.RunLemmas.{both_ends, lacks_less, longest_ended, longest_shorter, shortest_ended}
-use Rattle.urlpattern_engine.proofs.FirstLemmas.{others_place, first_dead, first_taken}
+use Rattle.urlpattern_engine.proofs.FirstLemmas.{rest_place}
 use Rattle.urlpattern_engine.proofs.walk.+following.Goals as goal
 
 pub follow_longest-loop-failed-init : goal.runs::follow_longest-loop-failed-init
@@ -32,13 +32,11 @@ follow_longest-loop-failed-init n c =
 
 pub follow_longest-follow_captured-requires : goal.runs::follow_longest-follow_captured-requires
 follow_longest-follow_captured-requires n c =
-    let text = c.args.text.now in
     let front = c.loop-failed.front.now in
-    let rest = c.after_front-rest.result.now in
     let utf8 : IsUtf8 front = search rules in (
       search rules,
-      place_within c.args.failed.now c.loop-failed.failed c.args.steps.now c.args.others.now (chars text) (chars rest) c.loop-failed.invariant.whole c.requires.1.1.0
-          (Anything ∷ [], c.requires.1.1.1) (chars_end text front rest utf8 c.after_front-rest.ensures),
+      rest_place c.args.failed.now c.loop-failed.failed c.args.steps.now c.args.others.now c.args.text.now front c.after_front-rest.result.now c.loop-failed.invariant.whole c.requires.1.1.0
+          (Anything ∷ [], c.requires.1.1.1) utf8 c.after_front-rest.ensures,
     )
 
 pub follow_longest-returns-then-branch-clause-adds : goal.runs::follow_longest-returns-then-branch-clause-adds
@@ -58,40 +56,30 @@ follow_longest-returns-then-branch-clause-adds n c =
 
 pub follow_longest-insert-requires-clause-place : goal.runs::follow_longest-insert-requires-clause-place
 follow_longest-insert-requires-clause-place n c =
-    let text = c.args.text.now in
     let front = c.loop-failed.front.now in
-    let rest = c.after_front-rest.result.now in
     let utf8 : IsUtf8 front = search rules in
-    place_within c.args.failed.now c.follow_captured.new.failed c.args.steps.now c.args.steps.now (chars text) (chars rest)
-    (c.follow_captured.ensures.whole ∙ c.loop-failed.invariant.whole) c.requires.1.1.0
-    (ends_same c.args.steps.now) (chars_end text front rest utf8 c.after_front-rest.ensures)
+    rest_place c.args.failed.now c.follow_captured.new.failed c.args.steps.now c.args.steps.now c.args.text.now front c.after_front-rest.result.now
+    (c.follow_captured.ensures.whole ∙ c.loop-failed.invariant.whole) c.requires.1.1.0 (ends_same c.args.steps.now) utf8 c.after_front-rest.ensures
 
 pub follow_longest-insert-requires-clause-dead : goal.runs::follow_longest-insert-requires-clause-dead
 follow_longest-insert-requires-clause-dead n c =
     let front = c.loop-failed.front.now in
     let rest = c.after_front-rest.result.now in
-    let gives : Gives = captured (walk c.args.others.now) in
     let so_far = c.loop-failed.invariant.so_far in
-    let same : rest ≡ so_far.0 = append_cancel_left front rest so_far.0 (sym c.after_front-rest.ensures ∙ so_far.2) in
-    let none : gives (chars front) (chars rest) ≡ None =
-    adds_none c.loop-failed.captures.items c.follow_captured.new.captures.items _ (gives (chars front) (chars rest)) c.if-branch.false c.in_ok-follow_captured.ensures.adds in
-    let no_longer : longest line_feed gives (chars front) (chars rest) ≡ gives (chars front) (chars rest) = rw same so_far.4 in
-    longest_dead c.args.steps.now c.args.others.now c.requires.1.1.1 (chars front) (chars rest) no_longer none
+    longest_dead c.args.steps.now c.args.others.now c.requires.1.1.1 (chars front) (chars rest)
+    (longest_missed c.args.others.now c.args.text.now front rest so_far.0 c.loop-failed.captures.items c.follow_captured.new.captures.items _ c.after_front-rest.ensures so_far.2 so_far.4
+    c.if-branch.false c.in_ok-follow_captured.ensures.adds)
 
 pub follow_longest-returns-in_default-clause-adds : goal.runs::follow_longest-returns-in_default-clause-adds
 follow_longest-returns-in_default-clause-adds n c =
-    let text = c.args.text.now in
     let front = c.loop-failed.front.now in
     let rest = c.after_front-rest.result.now in
-    let gives : Gives = captured (walk c.args.others.now) in
     let so_far = c.loop-failed.invariant.so_far in
-    let same : rest ≡ so_far.0 = append_cancel_left front rest so_far.0 (sym c.after_front-rest.ensures ∙ so_far.2) in
-    let none : gives (chars front) (chars rest) ≡ None =
-    adds_none c.loop-failed.captures.items c.follow_captured.new.captures.items _ (gives (chars front) (chars rest)) c.if-branch.false c.in_ok-follow_captured.ensures.adds in
-    let no_longer : longest line_feed gives (chars front) (chars rest) ≡ gives (chars front) (chars rest) = rw same so_far.4 in
-    let whole : text ≡ rest = c.after_front-rest.ensures ∙ ap (λ f. f ++ rest) c.in_default.ensures.empty in
+    let none = longest_missed c.args.others.now c.args.text.now front rest so_far.0 c.loop-failed.captures.items c.follow_captured.new.captures.items _ c.after_front-rest.ensures so_far.2 so_far.4
+    c.if-branch.false c.in_ok-follow_captured.ensures.adds in
+    let whole : c.args.text.now ≡ rest = c.after_front-rest.ensures ∙ ap (λ f. f ++ rest) c.in_default.ensures.empty in
     sym (ap (plus c.args.captures.now.items)
-    (ap (λ t. walk c.args.steps.now (chars t)) whole ∙ longest_dead c.args.steps.now c.args.others.now c.requires.1.1.1 (chars front) (chars rest) no_longer none))
+    (ap (λ t. walk c.args.steps.now (chars t)) whole ∙ longest_dead c.args.steps.now c.args.others.now c.requires.1.1.1 (chars front) (chars rest) none))
 
 pub follow_longest-loop-failed-preserved : goal.runs::follow_longest-loop-failed-preserved
 follow_longest-loop-failed-preserved n c =
@@ -100,25 +88,23 @@ follow_longest-loop-failed-preserved n c =
     let rest = c.after_front-rest.result.now in
     let gives : Gives = captured (walk c.args.others.now) in
     let so_far = c.loop-failed.invariant.so_far in
-    let same : rest ≡ so_far.0 = append_cancel_left front rest so_far.0 (sym c.after_front-rest.ensures ∙ so_far.2) in
-    let none : gives (chars front) (chars rest) ≡ None =
-    adds_none c.loop-failed.captures.items c.follow_captured.new.captures.items _ (gives (chars front) (chars rest)) c.if-branch.false c.in_ok-follow_captured.ensures.adds in
-    let no_longer : longest line_feed gives (chars front) (chars rest) ≡ gives (chars front) (chars rest) = rw same so_far.4 in
+    let none = longest_missed c.args.others.now c.args.text.now front rest so_far.0 c.loop-failed.captures.items c.follow_captured.new.captures.items _ c.after_front-rest.ensures so_far.2 so_far.4
+    c.if-branch.false c.in_ok-follow_captured.ensures.adds in
     let last = c.in-Some.ensures.cut in
     let utf8 : IsUtf8 shorter = search rules in
-    let further : IsUtf8 (encode_utf8 last.0) = IsUtf8-encode last.0 last.1 in
     let after : IsUtf8 rest = search rules in
-    let passed = last_passed front shorter rest last.0 utf8 after last.1 further last.2 in
+    let passed = last_passed front shorter rest last.0 utf8 after last.1 (IsUtf8-encode last.0 last.1) last.2 in
     let less = lacks_less line_feed (chars shorter) last.0 (subst (λ f. up_to_first line_feed f ≡ f) passed.0 so_far.3) in
+    let cut = front_shortened c.args.text.now front shorter rest last.0 last.1 after c.after_front-rest.ensures last.2 in
     record {
       is_text = search rules;
       so_far = (
         encode_utf8 last.0 ++ rest,
-        IsUtf8-append (encode_utf8 last.0) rest further after,
-        c.after_front-rest.ensures ∙ ap (λ f. f ++ rest) last.2 ∙ append_assoc shorter (encode_utf8 last.0) rest,
+        cut.0,
+        cut.1,
         less.0,
         subst (λ r. longest line_feed gives (chars shorter) r ≡ gives (chars shorter) r) (sym passed.1)
-            (longest_shorter line_feed gives (chars shorter) last.0 (chars rest) less.1 (ap (λ f. longest line_feed gives f (chars rest)) (sym passed.0) ∙ no_longer ∙ none)),
+            (longest_shorter line_feed gives (chars shorter) last.0 (chars rest) less.1 (ap (λ f. longest line_feed gives f (chars rest)) (sym passed.0) ∙ none)),
       );
       same = c.in_ok-follow_captured.ensures.same c.if-branch.false ∙ c.loop-failed.invariant.same;
       whole = c.insert.ensures ∙ c.follow_captured.ensures.whole ∙ c.loop-failed.invariant.whole;
@@ -201,23 +187,6 @@ follow_shortest-returns-clause-adds n c =
     let ended : HasEnded c.args.end (Segment c.args.end ∷ c.args.others.now) rest = subst (λ s. HasEnded c.args.end s rest) c.requires.1.1.1 c.in_default.ensures.none in
     sym (ap (plus c.args.captures.now.items) (so_far.2 ∙ shortest_ended c.args.end (walk c.args.others.now) so_far.0 rest ended))
 
-pub follow_run-follow_longest_run-requires : goal.runs::follow_run-follow_longest_run-requires
-follow_run-follow_longest_run-requires n c =
-    (search rules, others_place (Longest c.args.run) c.args.steps.now c.args.others.now c.requires.1.1.1 c.args.failed.now (chars c.args.text.now) c.requires.1.1.0)
-
-pub follow_run-returns-then-branch-clause-adds : goal.runs::follow_run-returns-then-branch-clause-adds
-follow_run-returns-then-branch-clause-adds n c =
-    first_taken (Longest c.args.run) c.args.steps.now c.args.others.now c.requires.1.1.1 (chars c.args.text.now) c.args.captures.now.items c.follow_longest_run.new.captures.items _ c.in_ok-follow_longest_run.ensures.adds c.if-branch.true
-
-pub follow_run-insert-requires-clause-dead : goal.runs::follow_run-insert-requires-clause-dead
-follow_run-insert-requires-clause-dead n c =
-    first_dead (Longest c.args.run) c.args.steps.now c.args.others.now c.requires.1.1.1 (chars c.args.text.now) c.args.captures.now.items c.follow_longest_run.new.captures.items _ c.in_ok-follow_longest_run.ensures.adds c.if-branch.false
-
-pub follow_run-returns-clause-adds : goal.runs::follow_run-returns-clause-adds
-follow_run-returns-clause-adds n c =
-    sym (ap (plus c.args.captures.now.items)
-    (first_dead (Longest c.args.run) c.args.steps.now c.args.others.now c.requires.1.1.1 (chars c.args.text.now) c.args.captures.now.items c.follow_longest_run.new.captures.items _ c.in_ok-follow_longest_run.ensures.adds c.if-branch.false))
-
 pub follow_longest_run-loop-shorter-init : goal.runs::follow_longest_run-loop-shorter-init
 follow_longest_run-loop-shorter-init n c =
     let run = c.args.run in
@@ -241,18 +210,13 @@ follow_longest_run-loop-shorter-init n c =
       whole = refl;
     }
 
-pub follow_longest_run-after_front-rest-requires : goal.runs::follow_longest_run-after_front-rest-requires
-follow_longest_run-after_front-rest-requires n c = let so_far = c.loop-shorter.invariant.so_far in (so_far.0, so_far.1, so_far.2)
-
 pub follow_longest_run-follow_captured-requires : goal.runs::follow_longest_run-follow_captured-requires
 follow_longest_run-follow_captured-requires n c =
-    let text = c.args.text.now in
     let front = c.loop-shorter.front.now in
-    let rest = c.after_front-rest.result.now in
     let utf8 : IsUtf8 front = search rules in (
       search rules,
-      place_within c.args.failed.now c.loop-shorter.failed c.args.steps.now c.args.steps.now (chars text) (chars rest) c.loop-shorter.invariant.whole c.requires.1.1
-          (ends_same c.args.steps.now) (chars_end text front rest utf8 c.after_front-rest.ensures),
+      rest_place c.args.failed.now c.loop-shorter.failed c.args.steps.now c.args.steps.now c.args.text.now front c.after_front-rest.result.now c.loop-shorter.invariant.whole c.requires.1.1
+          (ends_same c.args.steps.now) utf8 c.after_front-rest.ensures,
     )
 
 pub follow_longest_run-follow_captured-requires-then-run : goal.runs::follow_longest_run-follow_captured-requires-then-run
@@ -295,12 +259,13 @@ follow_longest_run-loop-shorter-preserved n c =
     let some = front_some front shorter last.0 utf8 last.1 last.2 in
     let none : gives (chars front) (chars left) ≡ None =
     adds_none c.loop-shorter.captures.items new _ (gives (chars front) (chars left)) c.if-branch.false c.in_ok-follow_captured.ensures.adds in
+    let cut = front_shortened c.args.text.now front shorter so_far.0 last.0 last.1 so_far.1 so_far.2 last.2 in
     record {
       is_text = search rules;
       so_far = (
         encode_utf8 last.0 ++ so_far.0,
-        IsUtf8-append (encode_utf8 last.0) so_far.0 further so_far.1,
-        so_far.2 ∙ ap (λ f. f ++ so_far.0) last.2 ∙ append_assoc shorter (encode_utf8 last.0) so_far.0,
+        cut.0,
+        cut.1,
         so_far.3 ∙ front_shrinks (at_least may_be_empty gives) front shorter so_far.0 last.0 utf8 so_far.1 last.1 further last.2
             (at_least_some may_be_empty gives (chars front) (chars so_far.0) some ∙ ap (λ r. gives (chars front) (chars r)) (sym rest) ∙ none),
       );

@@ -8,27 +8,10 @@ use Rattle.urlpattern_engine.specs.Failed.{EndsWith}
 use Rattle.urlpattern_engine.specs.Steps.{literal_text, walk_copies, Gives, after_text, any_rounds, copies_of, literals, repeated, some_rounds, walk}
 use Rattle.urlpattern_engine.proofs.CopyLemmas.{after-other, copies_fewer, copies_after, copies_step, copy_shrinks, fewer-found, no_copy_left}
 use Rattle.urlpattern_engine.proofs.FailedLemmas.{ends_drop, ends_same, place_within}
-use Rattle.urlpattern_engine.proofs.FollowLemmas.{plus, adds_none, bytes_join, chars_end, later_adds, taken_adds}
+use Rattle.urlpattern_engine.proofs.FollowLemmas.{plus, adds_none, bytes_join, later_adds, taken_adds}
 use Rattle.urlpattern_engine.proofs.Tried.{Next}
-use Rattle.urlpattern_engine.proofs.FirstLemmas.{others_place, first_dead, first_taken}
+use Rattle.urlpattern_engine.proofs.FirstLemmas.{rest_place}
 use Rattle.urlpattern_engine.proofs.walk.+following.Goals as goal
-
-pub follow_repeated_text-follow_copies-requires : goal.copies::follow_repeated_text-follow_copies-requires
-follow_repeated_text-follow_copies-requires n c =
-    (search rules, others_place (Copies c.args.copies) c.args.steps.now c.args.others.now c.requires.1.1.1 c.args.failed.now (chars c.args.text.now) c.requires.1.1.0)
-
-pub follow_repeated_text-returns-then-branch-clause-adds : goal.copies::follow_repeated_text-returns-then-branch-clause-adds
-follow_repeated_text-returns-then-branch-clause-adds n c =
-    first_taken (Copies c.args.copies) c.args.steps.now c.args.others.now c.requires.1.1.1 (chars c.args.text.now) c.args.captures.now.items c.follow_copies.new.captures.items _ c.in_ok-follow_copies.ensures.adds c.if-branch.true
-
-pub follow_repeated_text-insert-requires-clause-dead : goal.copies::follow_repeated_text-insert-requires-clause-dead
-follow_repeated_text-insert-requires-clause-dead n c =
-    first_dead (Copies c.args.copies) c.args.steps.now c.args.others.now c.requires.1.1.1 (chars c.args.text.now) c.args.captures.now.items c.follow_copies.new.captures.items _ c.in_ok-follow_copies.ensures.adds c.if-branch.false
-
-pub follow_repeated_text-returns-clause-adds : goal.copies::follow_repeated_text-returns-clause-adds
-follow_repeated_text-returns-clause-adds n c =
-    sym (ap (plus c.args.captures.now.items)
-    (first_dead (Copies c.args.copies) c.args.steps.now c.args.others.now c.requires.1.1.1 (chars c.args.text.now) c.args.captures.now.items c.follow_copies.new.captures.items _ c.in_ok-follow_copies.ensures.adds c.if-branch.false))
 
 pub follow_copies-follow_any_copies-requires : goal.copies::follow_copies-follow_any_copies-requires
 follow_copies-follow_any_copies-requires n c =
@@ -120,18 +103,13 @@ follow_any_copies-loop-shorter-init n c =
       whole = refl;
     }
 
-pub follow_any_copies-after_front-requires : goal.copies::follow_any_copies-after_front-requires
-follow_any_copies-after_front-requires n c = let so_far = c.loop-shorter.invariant.so_far in (so_far.0, so_far.1, so_far.2)
-
 pub follow_any_copies-follow-requires : goal.copies::follow_any_copies-follow-requires
 follow_any_copies-follow-requires n c =
-    let text = c.args.text.now in
     let front = c.loop-shorter.front.now in
-    let rest = c.after_front.result.now in
     let utf8 : IsUtf8 front = search rules in (
       search rules,
-      place_within c.args.failed.now c.loop-shorter.failed c.args.others.now c.args.others.now (chars text) (chars rest) c.loop-shorter.invariant.whole c.requires.1.1
-          (ends_same c.args.others.now) (chars_end text front rest utf8 c.after_front.ensures),
+      rest_place c.args.failed.now c.loop-shorter.failed c.args.others.now c.args.others.now c.args.text.now front c.after_front.result.now c.loop-shorter.invariant.whole c.requires.1.1
+          (ends_same c.args.others.now) utf8 c.after_front.ensures,
     )
 
 pub follow_any_copies-returns-then-branch-clause-adds : goal.copies::follow_any_copies-returns-then-branch-clause-adds

@@ -1,7 +1,7 @@
 -- The answers for segments with a text between each two.
-use Rattle.std.proofs.Common.{◌≡◌, ◌∷◌, ◌++◌, [], Some, None, length, refl, sym, ap, ◌∙◌, subst, append-nil, append_assoc, arith, rules}
-use Rattle.std.proofs.lemmas.List.{length-drop, append_cancel_left}
-use Rattle.std.proofs.lemmas.Str.{IsUtf8-append, IsUtf8-encode}
+use Rattle.std.proofs.Common.{◌≡◌, ◌∷◌, ◌++◌, [], Some, None, length, refl, sym, ap, ◌∙◌, subst, append-nil, arith, rules}
+use Rattle.std.proofs.lemmas.List.{length-drop}
+use Rattle.std.proofs.lemmas.Str.{IsUtf8-encode}
 use Rattle.std.specs.Char.{encode_utf8}
 use Rattle.std.specs.Str.{chars, IsUtf8}
 use Rattle.urlpattern_syntax.proofs.TextLemmas.{chars-empty}
@@ -9,29 +9,12 @@ use Rattle.urlpattern_engine.specs.declared.step.Step.TheVariants.{Segments}
 use Rattle.urlpattern_engine.specs.Failed.{EndsWith}
 use Rattle.urlpattern_engine.specs.Steps.{Gives, captured, literals, segmented, single_run, walk}
 use Rattle.urlpattern_engine.specs.Taken.{IsCutFor}
-use Rattle.urlpattern_engine.proofs.EndLemmas.{IsTable, begins, place_cuts, same_fronts, segments_step, table_begun, table_next}
+use Rattle.urlpattern_engine.proofs.EndLemmas.{IsTable, begins, same_fronts, segments_step, table_begun, table_next, place_ends}
 use Rattle.urlpattern_engine.proofs.FailedLemmas.{ends_drop, ends_same, place_within}
-use Rattle.urlpattern_engine.proofs.FollowLemmas.{plus, chars_end, later_adds}
+use Rattle.urlpattern_engine.proofs.FollowLemmas.{plus, later_adds, front_shortened}
 use Rattle.urlpattern_engine.proofs.Tried.{Next}
-use Rattle.urlpattern_engine.proofs.FirstLemmas.{others_place, first_dead, first_taken}
+use Rattle.urlpattern_engine.proofs.FirstLemmas.{rest_place}
 use Rattle.urlpattern_engine.proofs.walk.+following.Goals as goal
-
-pub follow_segmented-follow_segments-requires : goal.segments::follow_segmented-follow_segments-requires
-follow_segmented-follow_segments-requires n c =
-    (search rules, others_place (Segments c.args.segments) c.args.steps.now c.args.others.now c.requires.1.1.1 c.args.failed.now (chars c.args.text.now) c.requires.1.1.0)
-
-pub follow_segmented-returns-then-branch-clause-adds : goal.segments::follow_segmented-returns-then-branch-clause-adds
-follow_segmented-returns-then-branch-clause-adds n c =
-    first_taken (Segments c.args.segments) c.args.steps.now c.args.others.now c.requires.1.1.1 (chars c.args.text.now) c.args.captures.now.items c.follow_segments.new.captures.items _ c.in_ok-follow_segments.ensures.adds c.if-branch.true
-
-pub follow_segmented-insert-requires-clause-dead : goal.segments::follow_segmented-insert-requires-clause-dead
-follow_segmented-insert-requires-clause-dead n c =
-    first_dead (Segments c.args.segments) c.args.steps.now c.args.others.now c.requires.1.1.1 (chars c.args.text.now) c.args.captures.now.items c.follow_segments.new.captures.items _ c.in_ok-follow_segments.ensures.adds c.if-branch.false
-
-pub follow_segmented-returns-clause-adds : goal.segments::follow_segmented-returns-clause-adds
-follow_segmented-returns-clause-adds n c =
-    sym (ap (plus c.args.captures.now.items)
-    (first_dead (Segments c.args.segments) c.args.steps.now c.args.others.now c.requires.1.1.1 (chars c.args.text.now) c.args.captures.now.items c.follow_segments.new.captures.items _ c.in_ok-follow_segments.ensures.adds c.if-branch.false))
 
 pub follow_segments-end_of_segments-requires : goal.segments::follow_segments-end_of_segments-requires
 follow_segments-end_of_segments-requires n c =
@@ -45,24 +28,20 @@ follow_segments-end_of_segments-requires n c =
 pub follow_segments-follow_captured-requires : goal.segments::follow_segments-follow_captured-requires
 follow_segments-follow_captured-requires n c =
     let steps = c.args.steps.now in
-    let text = c.args.text.now in
     let front = c.split_at_seam.result.0.now in
-    let rest = c.split_at_seam.result.1.now in
     let utf8 : IsUtf8 front = search rules in (
       omega (arith, ap length c.pass-others.ensures, length-drop c.args.segments.separator.others c.args.steps.now),
-      place_within c.args.failed.now c.end_of_segments.new.failed steps c.pass-others.result.now (chars text) (chars rest) c.end_of_segments.ensures.whole c.requires.1.1
-          (subst (EndsWith steps) (sym c.pass-others.ensures) (ends_drop c.args.segments.separator.others steps)) (chars_end text front rest utf8 c.split_at_seam.ensures.cut),
+      rest_place c.args.failed.now c.end_of_segments.new.failed steps c.pass-others.result.now c.args.text.now front c.split_at_seam.result.1.now c.end_of_segments.ensures.whole c.requires.1.1
+          (subst (EndsWith steps) (sym c.pass-others.ensures) (ends_drop c.args.segments.separator.others steps)) utf8 c.split_at_seam.ensures.cut,
     )
 
 pub end_of_segments-end_here-requires : goal.segments::end_of_segments-end_here-requires
 end_of_segments-end_here-requires n c =
-    let text = c.args.text.now in
     let front = c.loop-begun.front.now in
-    let rest = c.after_front-rest.result.now in
     let utf8 : IsUtf8 front = search rules in (
       search rules,
-      place_within c.args.failed.now c.loop-begun.failed c.args.others.now c.args.others.now (chars text) (chars rest) c.loop-begun.invariant.whole c.requires.1.1
-          (ends_same c.args.others.now) (chars_end text front rest utf8 c.after_front-rest.ensures),
+      rest_place c.args.failed.now c.loop-begun.failed c.args.others.now c.args.others.now c.args.text.now front c.after_front-rest.result.now c.loop-begun.invariant.whole c.requires.1.1
+          (ends_same c.args.others.now) utf8 c.after_front-rest.ensures,
     )
 
 pub follow_segments-returns-in-Some-clause-adds : goal.segments::follow_segments-returns-in-Some-clause-adds
@@ -127,18 +106,13 @@ end_of_segments-returns-in_default-clause-cut n c =
     let front = c.loop-begun.front.now in
     let rest = c.after_front-rest.result.now in
     let so_far = c.loop-begun.invariant.so_far in
-    let same : rest ≡ so_far.0 = append_cancel_left front rest so_far.0 (sym c.after_front-rest.ensures ∙ so_far.2) in
     let utf8 : IsUtf8 front = search rules in
-    let further : IsUtf8 rest = subst IsUtf8 (sym same) so_far.1 in
-    let is : IsTable first literal is_greedy end (captured next) text (chars front) (chars rest) c.deref.result.now c.loop-begun.later =
-    subst (λ t. IsTable first literal is_greedy end (captured next) text (chars front) (chars rest) t c.loop-begun.later) (sym c.deref.ensures.value)
-    (subst (λ r. IsTable first literal is_greedy end (captured next) text (chars front) (chars r) c.loop-begun.begun.items c.loop-begun.later) (sym same) so_far.3) in
-    let cuts = place_cuts first literal is_greedy end next text front rest c.deref.result.now c.loop-begun.later c.begun_after-next.result c.in_ok-stopping.stopping c.goes_on-onward.result
-    c.ends-beginning.result.0 c.ends-beginning.result.1 (length front) utf8 further c.after_front-rest.ensures refl is c.begun_after-next.ensures.there c.begun_after-next.ensures.other c.in_ok-stopping.ensures.end
-    c.goes_on-onward.ensures c.ends-beginning.ensures.beginning c.ends-beginning.ensures.either in
+    let ends = place_ends first literal is_greedy end next text front rest so_far.0 c.deref.result.now c.loop-begun.begun.items c.loop-begun.later c.begun_after-next.result c.in_ok-stopping.stopping
+    c.goes_on-onward.result c.ends-beginning.result.0 c.ends-beginning.result.1 utf8 so_far.1 c.after_front-rest.ensures so_far.2 so_far.3 c.deref.ensures.value
+    c.begun_after-next.ensures.there c.begun_after-next.ensures.other c.in_ok-stopping.ensures.end c.goes_on-onward.ensures c.ends-beginning.ensures.beginning c.ends-beginning.ensures.either in
     let whole : rest ≡ text = sym (c.after_front-rest.ensures ∙ ap (λ f. f ++ rest) c.in_default.ensures.empty) in
     subst (λ f. IsCutFor (captured next) text c.ends-beginning.result.0 (begins first literal is_greedy end (captured next) f (chars text))) (chars-empty front (ap length c.in_default.ensures.empty))
-    (subst (λ r. IsCutFor (captured next) text c.ends-beginning.result.0 (begins first literal is_greedy end (captured next) (chars front) (chars r))) whole cuts.0)
+    (subst (λ r. IsCutFor (captured next) text c.ends-beginning.result.0 (begins first literal is_greedy end (captured next) (chars front) (chars r))) whole ends.1)
 
 pub end_of_segments-loop-begun-preserved : goal.segments::end_of_segments-loop-begun-preserved
 end_of_segments-loop-begun-preserved n c =
@@ -151,27 +125,23 @@ end_of_segments-loop-begun-preserved n c =
     let front = c.loop-begun.front.now in
     let rest = c.after_front-rest.result.now in
     let so_far = c.loop-begun.invariant.so_far in
-    let same : rest ≡ so_far.0 = append_cancel_left front rest so_far.0 (sym c.after_front-rest.ensures ∙ so_far.2) in
     let utf8 : IsUtf8 front = search rules in
-    let further : IsUtf8 rest = subst IsUtf8 (sym same) so_far.1 in
-    let is : IsTable first literal is_greedy end (captured next) text (chars front) (chars rest) c.deref.result.now c.loop-begun.later =
-    subst (λ t. IsTable first literal is_greedy end (captured next) text (chars front) (chars rest) t c.loop-begun.later) (sym c.deref.ensures.value)
-    (subst (λ r. IsTable first literal is_greedy end (captured next) text (chars front) (chars r) c.loop-begun.begun.items c.loop-begun.later) (sym same) so_far.3) in
-    let cuts = place_cuts first literal is_greedy end next text front rest c.deref.result.now c.loop-begun.later c.begun_after-next.result c.in_ok-stopping.stopping c.goes_on-onward.result
-    c.ends-beginning.result.0 c.ends-beginning.result.1 (length front) utf8 further c.after_front-rest.ensures refl is c.begun_after-next.ensures.there c.begun_after-next.ensures.other c.in_ok-stopping.ensures.end
-    c.goes_on-onward.ensures c.ends-beginning.ensures.beginning c.ends-beginning.ensures.either in
+    let ends = place_ends first literal is_greedy end next text front rest so_far.0 c.deref.result.now c.loop-begun.begun.items c.loop-begun.later c.begun_after-next.result c.in_ok-stopping.stopping
+    c.goes_on-onward.result c.ends-beginning.result.0 c.ends-beginning.result.1 utf8 so_far.1 c.after_front-rest.ensures so_far.2 so_far.3 c.deref.ensures.value
+    c.begun_after-next.ensures.there c.begun_after-next.ensures.other c.in_ok-stopping.ensures.end c.goes_on-onward.ensures c.ends-beginning.ensures.beginning c.ends-beginning.ensures.either in
     let shorter = c.in-Some.shorter.now in
     let last = c.in-Some.ensures.cut in
     let front_utf8 : IsUtf8 shorter = search rules in
-    let one : IsUtf8 (encode_utf8 last.0) = IsUtf8-encode last.0 last.1 in
+    let further : IsUtf8 rest = search rules in
+    let cut = front_shortened text front shorter rest last.0 last.1 further c.after_front-rest.ensures last.2 in
     record {
       is_text = search rules;
       so_far = (
         encode_utf8 last.0 ++ rest,
-        IsUtf8-append (encode_utf8 last.0) rest one further,
-        c.after_front-rest.ensures ∙ ap (λ f. f ++ rest) last.2 ∙ append_assoc shorter (encode_utf8 last.0) rest,
+        cut.0,
+        cut.1,
         table_next first literal is_greedy end (captured next) text front shorter rest last.0 c.deref.result.now c.push.new.self.items c.loop-begun.later c.ends-beginning.result.0 c.ends-beginning.result.1
-            front_utf8 further last.1 one last.2 (c.in_ok-push.ensures.items ∙ ap (λ t. t ++ c.ends-beginning.result.0 ∷ []) (sym c.deref.ensures.value)) is cuts.0 cuts.1,
+            front_utf8 further last.1 (IsUtf8-encode last.0 last.1) last.2 (c.in_ok-push.ensures.items ∙ ap (λ t. t ++ c.ends-beginning.result.0 ∷ []) (sym c.deref.ensures.value)) ends.0 ends.1 ends.2,
       );
       whole = c.in_ok-stopping.ensures.whole ∙ c.loop-begun.invariant.whole;
     }
