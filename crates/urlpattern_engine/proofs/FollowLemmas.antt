@@ -88,11 +88,17 @@ pub literal_passed : (c : ℕ) (others : List Step) (rest remaining : List ℕ) 
 literal_passed c others rest remaining e = ap (walk (Literal c ∷ others)) e ∙ ap (λ b. cond b (walk others remaining) None) (eq-eqb c c refl)
 
 -- the end of the steps
-pub end_adds : (now : Kept) (rest : List ℕ) (is_empty : Bool) → (is_empty ≡ true → rest ≡ []) → (is_empty ≡ false → ¬ (rest ≡ [])) → AreAdded now now is_empty (walk [] rest)
+end_adds : (now : Kept) (rest : List ℕ) (is_empty : Bool) → (is_empty ≡ true → rest ≡ []) → (is_empty ≡ false → ¬ (rest ≡ [])) → AreAdded now now is_empty (walk [] rest)
 end_adds now [] true full some = ap Some (sym (append-nil (map capture_view now)))
 end_adds now (c ∷ rest) true full some = let e : (c ∷ rest) ≡ [] = full refl in cc
 end_adds now [] false full some = absurd (some refl refl)
 end_adds now (c ∷ rest) false full some = refl
+
+-- the same where no step is left
+pub end_taken : (now : Kept) (left : List Step) (rest : List ℕ) (is_empty is_taken : Bool) → left ≡ [] → (is_empty ≡ true → rest ≡ []) → (is_empty ≡ false → ¬ (rest ≡ [])) → is_empty ≡ is_taken
+    → AreAdded now now is_taken (walk left rest)
+end_taken now left rest is_empty is_taken none full some same =
+    subst (λ b. AreAdded now now b (walk [] rest)) same (end_adds now rest is_empty full some) ∙ sym (ap (λ l. plus now (walk l rest)) none)
 
 -- ---- the shortest front
 

@@ -10,8 +10,8 @@ use Rattle.urlpattern_laws.specs.Dialect.{AreItems, Character, IsCharacter, Item
 use Rattle.urlpattern_engine.specs.declared.step.Stretch.{Stretch}
 use Rattle.urlpattern_engine.specs.declared.step.Step.{Step}
 use Rattle.urlpattern_engine.specs.declared.step.Step.TheVariants.{Literal, Segments}
-use Rattle.urlpattern_engine.specs.Reading.{AreCharacters, AreLiterals, AreSegments, BeginsWithCaptured, EndsSegments, characters_text, literal_steps, BeginsWithCharacter, IsRunOf, ClosesSegments, MakeUp}
-use Rattle.urlpattern_engine.proofs.FrontLemmas.{ByItself, IsEscapedAt, apart, character_kind, run_step, run_step_is}
+use Rattle.urlpattern_engine.specs.Reading.{AreCharacters, AreLiterals, AreSegments, BeginsWithCaptured, EndsSegments, characters_text, literal_steps, BeginsWithCharacter, IsRunOf, IsRunStep, ClosesSegments, MakeUp, last_text}
+use Rattle.urlpattern_engine.proofs.FrontLemmas.{ReadsRun, ByItself, IsEscapedAt, apart, character_kind, run_step, run_step_is}
 use Rattle.urlpattern_engine.proofs.SegmentLemmas.{in_order, literal_steps-plain}
 use Rattle.urlpattern_engine.proofs.GroupLemmas.{take_rest, drop-one}
 
@@ -159,5 +159,13 @@ steps_between old items now first end is_greedy characters own f place same (c, 
 
 -- the run of the last segment
 pub last_run : (end : ℕ) (is_greedy : Bool) (items : Items) (text inner rest : List ℕ) → AreItems items → IsRunOf end is_greedy items
-    → text ≡ codes "(?:" ++ (items_text items ++ (codes "))*)" ++ rest)) → text ≡ codes "(?:" ++ inner → BeginsWithCaptured inner (run_step end is_greedy) (codes "))*)" ++ rest)
+    → text ≡ last_text items rest → text ≡ codes "(?:" ++ inner → BeginsWithCaptured inner (run_step end is_greedy) (codes "))*)" ++ rest)
 last_run end is_greedy items text inner rest are is e f = (items, are, (run_step_is end is_greedy items is).1, cc)
+
+-- that run is read, and what follows it
+pub last_read : (end : ℕ) (is_greedy : Bool) (items : Items) (text inner rest : List ℕ) (single : Step) (behind : List ℕ) → AreItems items → IsRunOf end is_greedy items → text ≡ last_text items rest
+    → text ≡ codes "(?:" ++ inner → ReadsRun inner single behind → IsRunStep end is_greedy single × (behind ≡ codes "))*)" ++ rest)
+last_read end is_greedy items text inner rest single behind are is e f reads =
+    let step = (run_step_is end is_greedy items is).0 in
+    let same = reads end is_greedy (run_step end is_greedy) (codes "))*)" ++ rest) step (last_run end is_greedy items text inner rest are is e f) in
+    (subst (IsRunStep end is_greedy) (sym same.0) step, same.1)

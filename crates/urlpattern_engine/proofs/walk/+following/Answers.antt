@@ -12,7 +12,7 @@ use Rattle.urlpattern_engine.specs.Failed.{EndsWith}
 use Rattle.urlpattern_engine.specs.Steps.{captured, up_to_first, walk, StopAt}
 use Rattle.urlpattern_engine.specs.Taken.{AreAdded, Extends}
 use Rattle.urlpattern_engine.proofs.FailedLemmas.{ends_drop, ends_longer, ends_same, place_within}
-use Rattle.urlpattern_engine.proofs.FollowLemmas.{plus, adds_none, end_adds, extends_more, later_adds, later_extends, literal_passed, maybe_missed, plus_captured, plus_maybe}
+use Rattle.urlpattern_engine.proofs.FollowLemmas.{plus, adds_none, extends_more, later_adds, later_extends, literal_passed, maybe_missed, plus_captured, plus_maybe, end_taken}
 use Rattle.urlpattern_engine.proofs.RunLemmas.{both_ends, longest_ends, shortest_ends, shortest_none}
 use Rattle.urlpattern_engine.proofs.StepLemmas.{stop-gives}
 use Rattle.urlpattern_engine.proofs.FirstLemmas.{others_place}
@@ -150,13 +150,11 @@ follow_on-loop-step-preserved n c =
 
 pub follow_on-returns-clause-adds : goal.follow_on-returns-clause-adds
 follow_on-returns-clause-adds n c =
-    let now = c.loop-step.captures.items in
     let rest = c.loop-step.rest.now in
-    let none : c.loop-step.left.now ≡ [] = nil_from_length c.loop-step.left.now (search rules) in
     let utf8 : IsUtf8 rest = search rules in
-    end_adds now (chars rest) c.is_empty-2.result
-    (λ e. chars-empty rest (search rules)) (λ e. chars-some rest utf8 (search rules))
-    ∙ sym (c.loop-step.invariant.so_far ∙ ap (λ l. plus now (walk l (chars rest))) none)
+    end_taken c.loop-step.captures.items c.loop-step.left.now (chars rest) c.is_empty-2.result c.is_empty-2.result (nil_from_length c.loop-step.left.now (search rules)) (λ e. chars-empty rest (search rules))
+    (λ e. chars-some rest utf8 (search rules)) refl
+    ∙ sym c.loop-step.invariant.so_far
 
 pub follow_on-returns-in-Longest-clause-adds : goal.follow_on-returns-in-Longest-clause-adds
 follow_on-returns-in-Longest-clause-adds n c =
