@@ -249,6 +249,27 @@ place_cuts c literal is_greedy end next text front rest table later following st
       either_cut c literal is_greedy end (captured next) text (chars front) (chars rest) forward stopping both went stopped two,
     )
 
+-- the same with the table of the place, by the table that is kept and what is left
+pub place_ends : (c : ℕ) (literal : List ℕ) (is_greedy : Bool) (end : ℕ) (next : Next) (text front rest left : List ℕ) (table kept : List (Option ℕ)) (later following stopping forward beginning both : Option ℕ)
+    → IsUtf8 front → IsUtf8 left → text ≡ front ++ rest → text ≡ front ++ left
+    → IsTable c literal is_greedy end (captured next) text (chars front) (chars left) kept later → table ≡ kept
+    → ((behind : List ℕ) → chars rest ≡ (c ∷ literal) ++ behind → length table ≡ length (chars rest) → following ≡ get_or table (length behind) None)
+    → (((behind : List ℕ) → ¬ (chars rest ≡ (c ∷ literal) ++ behind)) → following ≡ None)
+    → IsEndHere following (length front) (next (chars rest)) stopping
+    → forward ≡ going_on end later (chars rest)
+    → beginning ≡ cond is_greedy (option_or forward stopping) forward
+    → both ≡ cond is_greedy (option_or forward stopping) (option_or stopping forward)
+    → IsTable c literal is_greedy end (captured next) text (chars front) (chars rest) table later
+    × IsCutFor (captured next) text beginning (begins c literal is_greedy end (captured next) (chars front) (chars rest))
+    × IsCutFor (captured next) text both (either c literal is_greedy end (captured next) (chars front) (chars rest))
+place_ends c literal is_greedy end next text front rest left table kept later following stopping forward beginning both u v e f is same there other stop onwards one two =
+    let behind : rest ≡ left = append_cancel_left front rest left (sym e ∙ f) in
+    let placed : IsTable c literal is_greedy end (captured next) text (chars front) (chars rest) table later =
+    subst (λ t. IsTable c literal is_greedy end (captured next) text (chars front) (chars rest) t later) (sym same)
+    (subst (λ r. IsTable c literal is_greedy end (captured next) text (chars front) (chars r) kept later) (sym behind) is) in
+    let cuts = place_cuts c literal is_greedy end next text front rest table later following stopping forward beginning both (length front) u (subst IsUtf8 (sym behind) v) e refl placed there other stop onwards one two in
+    (placed, cuts.0, cuts.1)
+
 -- ---- one place
 
 pub end_next : (next : Option ℕ) (here : ℕ) (found : Option Captures) → is_some next ≡ true → IsEndHere next here found next

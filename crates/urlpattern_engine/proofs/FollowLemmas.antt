@@ -1,7 +1,7 @@
 -- What is added to captures, step by step.
-use Rattle.std.proofs.Common.{◌≡◌, ℕ, zero, suc, List, [], ◌∷◌, ◌++◌, map, drop, eq-eqb, replicate, Option, Some, None, option_map, Result, Ok, Err, Bool, true, false, cond, ◌==◌, refl, sym, ap, ap₂, ◌∙◌, append-nil, append_assoc}
-use Rattle.std.proofs.lemmas.List.{map-append, append_cancel_right}
-use Rattle.std.proofs.lemmas.Str.{chars-append, chars_past_char, encodes-append, encodes-chars, IsUtf8-append}
+use Rattle.std.proofs.Common.{◌≡◌, ℕ, zero, suc, List, [], ◌∷◌, ◌++◌, map, drop, eq-eqb, replicate, Option, Some, None, option_map, Result, Ok, Err, Bool, true, false, cond, ◌==◌, refl, sym, ap, ap₂, ◌∙◌, subst, append-nil, append_assoc}
+use Rattle.std.proofs.lemmas.List.{map-append, append_cancel_left, append_cancel_right}
+use Rattle.std.proofs.lemmas.Str.{chars-append, chars_past_char, encodes-append, encodes-chars, IsUtf8-append, IsUtf8-encode}
 use Rattle.std.specs.Borrow.{Bor}
 use Rattle.std.specs.Char.{IsScalar, encode_utf8}
 use Rattle.std.specs.Option.{option_or}
@@ -15,7 +15,7 @@ use Rattle.urlpattern_engine.specs.declared.step.Step.{Step}
 use Rattle.urlpattern_engine.specs.declared.step.Step.TheVariants.{Anything, Literal, Maybe}
 use Rattle.urlpattern_engine.specs.Failed.{EndsWith}
 use Rattle.urlpattern_engine.specs.Steps.{Gives, captured, longest, shortest, up_to_first, walk}
-use Rattle.urlpattern_engine.specs.Taken.{Adds, Extends, Kept}
+use Rattle.urlpattern_engine.specs.Taken.{AreAdded, Extends, Kept}
 use Rattle.urlpattern_engine.proofs.RunLemmas.{longest_found, longest_no_more}
 use Rattle.urlpattern_engine.proofs.StepLemmas.{maybe_missing}
 use Rattle.urlpattern_syntax.specs.Text.{line_feed}
@@ -26,17 +26,28 @@ plus old found = option_map (λ others. map capture_view old ++ others) found
 
 -- ---- what was added
 
-pub adds_none : (old new : Kept) (found : Option Captures) → Adds old new false found → found ≡ None
-adds_none old new None e = refl
-adds_none old new (Some x) e = cc
+none_added : (old new : Kept) (found : Option Captures) → AreAdded old new false found → found ≡ None
+none_added old new None e = refl
+none_added old new (Some x) e = cc
 
-pub adds_some : (old new : Kept) (found : Option Captures) → Adds old new true found → (x : Captures) × (found ≡ Some x)
+pub adds_none : (old new : Kept) (is_taken : Bool) (found : Option Captures) → is_taken ≡ false → AreAdded old new is_taken found → found ≡ None
+adds_none old new is_taken found missed adds = none_added old new found (subst (λ b. AreAdded old new b found) missed adds)
+
+pub adds_some : (old new : Kept) (found : Option Captures) → AreAdded old new true found → (x : Captures) × (found ≡ Some x)
 adds_some old new None e = cc
 adds_some old new (Some x) e = (x, refl)
 
+-- what a part adds to what was kept is what the whole does, where the whole is what the part is
+pub taken_adds : (old now new : Kept) (is_taken : Bool) (part whole : Option Captures) → now ≡ old → is_taken ≡ true → AreAdded now new is_taken part
+    → ((found : Captures) → part ≡ Some found → whole ≡ Some found) → AreAdded old new true whole
+taken_adds old now new is_taken part whole same taken adds leads =
+    let added : AreAdded old new true part = subst (λ l. AreAdded l new true part) same (subst (λ b. AreAdded now new b part) taken adds) in
+    let found = adds_some old new part added in
+    added ∙ ap (plus old) (found.1 ∙ sym (leads found.0 found.1))
+
 -- what a call adds is what is added in all
 pub later_adds : {E : Type 0} (old now new : Kept) (whole part : Option Captures) (result : Result Bool E) → plus old whole ≡ plus now part
-    → IfOk result (λ is_taken. Adds now new is_taken part) → IfOk result (λ is_taken. Adds old new is_taken whole)
+    → IfOk result (λ is_taken. AreAdded now new is_taken part) → IfOk result (λ is_taken. AreAdded old new is_taken whole)
 later_adds old now new whole part (Ok is_taken) e adds = adds ∙ sym e
 later_adds old now new whole part (Err error) e adds = tt
 
@@ -77,11 +88,17 @@ pub literal_passed : (c : ℕ) (others : List Step) (rest remaining : List ℕ) 
 literal_passed c others rest remaining e = ap (walk (Literal c ∷ others)) e ∙ ap (λ b. cond b (walk others remaining) None) (eq-eqb c c refl)
 
 -- the end of the steps
-pub end_adds : (now : Kept) (rest : List ℕ) (is_empty : Bool) → (is_empty ≡ true → rest ≡ []) → (is_empty ≡ false → ¬ (rest ≡ [])) → Adds now now is_empty (walk [] rest)
+end_adds : (now : Kept) (rest : List ℕ) (is_empty : Bool) → (is_empty ≡ true → rest ≡ []) → (is_empty ≡ false → ¬ (rest ≡ [])) → AreAdded now now is_empty (walk [] rest)
 end_adds now [] true full some = ap Some (sym (append-nil (map capture_view now)))
 end_adds now (c ∷ rest) true full some = let e : (c ∷ rest) ≡ [] = full refl in cc
 end_adds now [] false full some = absurd (some refl refl)
 end_adds now (c ∷ rest) false full some = refl
+
+-- the same where no step is left
+pub end_taken : (now : Kept) (left : List Step) (rest : List ℕ) (is_empty is_taken : Bool) → left ≡ [] → (is_empty ≡ true → rest ≡ []) → (is_empty ≡ false → ¬ (rest ≡ [])) → is_empty ≡ is_taken
+    → AreAdded now now is_taken (walk left rest)
+end_taken now left rest is_empty is_taken none full some same =
+    subst (λ b. AreAdded now now b (walk [] rest)) same (end_adds now rest is_empty full some) ∙ sym (ap (λ l. plus now (walk l rest)) none)
 
 -- ---- the shortest front
 
@@ -113,11 +130,27 @@ last_passed front shorter rest c u v scalar w e = (
 pub chars_end : (text front rest : List ℕ) → IsUtf8 front → text ≡ front ++ rest → EndsWith (chars text) (chars rest)
 chars_end text front rest u e = (chars front, ap chars e ∙ chars-append front rest u)
 
+-- the last character of a front goes to the rest, by the bytes
+pub front_shortened : (text front shorter rest : List ℕ) (c : ℕ) → IsScalar c → IsUtf8 rest → text ≡ front ++ rest → front ≡ shorter ++ encode_utf8 c
+    → IsUtf8 (encode_utf8 c ++ rest) × (text ≡ shorter ++ (encode_utf8 c ++ rest))
+front_shortened text front shorter rest c scalar u e f =
+    (IsUtf8-append (encode_utf8 c) rest (IsUtf8-encode c scalar) u, e ∙ ap (λ l. l ++ rest) f ∙ append_assoc shorter (encode_utf8 c) rest)
+
+-- where no longer front leads on, and this one does not, none from this one on does
+pub longest_missed : (others : List Step) (text front rest left : List ℕ) (old new : Kept) (is_taken : Bool) → text ≡ front ++ rest → text ≡ front ++ left
+    → longest line_feed (captured (walk others)) (chars front) (chars left) ≡ captured (walk others) (chars front) (chars left)
+    → is_taken ≡ false → AreAdded old new is_taken (captured (walk others) (chars front) (chars rest))
+    → longest line_feed (captured (walk others)) (chars front) (chars rest) ≡ None
+longest_missed others text front rest left old new is_taken e f no_longer missed adds =
+    let gives : Gives = captured (walk others) in
+    let behind : rest ≡ left = append_cancel_left front rest left (sym e ∙ f) in
+    subst (λ r. longest line_feed gives (chars front) (chars r) ≡ gives (chars front) (chars r)) (sym behind) no_longer
+    ∙ adds_none old new is_taken (gives (chars front) (chars rest)) missed adds
+
 module _ (steps others : List Step) (first : steps ≡ Anything ∷ others) where
-  -- no front that is longer, nor this one, leads on
-  pub longest_dead : (front rest : List ℕ) → longest line_feed (captured (walk others)) front rest ≡ captured (walk others) front rest → captured (walk others) front rest ≡ None
-      → walk steps rest ≡ None
-  longest_dead front rest longest none = ap (λ s. walk s rest) first ∙ longest_no_more line_feed (walk others) front [] rest (longest ∙ none)
+  -- no front from this one on leads on
+  pub longest_dead : (front rest : List ℕ) → longest line_feed (captured (walk others)) front rest ≡ None → walk steps rest ≡ None
+  longest_dead front rest none = ap (λ s. walk s rest) first ∙ longest_no_more line_feed (walk others) front [] rest none
 
   -- this front is the longest that leads on
   pub longest_taken : (text front rest : List ℕ) (found : Captures) → text ≡ front ++ rest → up_to_first line_feed front ≡ front
@@ -127,8 +160,14 @@ module _ (steps others : List Step) (first : steps ≡ Anything ∷ others) wher
 
 -- ---- groups that may be missing
 
-pub maybe_dead : (group : Group) (steps others left : List Step) (text : List ℕ) → steps ≡ Maybe group ∷ others → left ≡ drop group.steps others → walk others text ≡ None → walk left text ≡ None
+maybe_dead : (group : Group) (steps others left : List Step) (text : List ℕ) → steps ≡ Maybe group ∷ others → left ≡ drop group.steps others → walk others text ≡ None → walk left text ≡ None
     → walk steps text ≡ None
 maybe_dead group steps others left text first passed none also =
     ap (λ s. walk s text) first ∙ maybe_missing group others text none
     ∙ ap (option_map (λ others. replicate group.captures None ++ others)) (ap (λ s. walk s text) (sym passed) ∙ also)
+
+-- a group that may be missing leads on neither with its steps nor without
+pub maybe_missed : (group : Group) (steps others left : List Step) (text : List ℕ) (old new more newer : Kept) (is_taken is_left : Bool) → steps ≡ Maybe group ∷ others → left ≡ drop group.steps others
+    → is_taken ≡ false → AreAdded old new is_taken (walk others text) → is_left ≡ false → AreAdded more newer is_left (walk left text) → walk steps text ≡ None
+maybe_missed group steps others left text old new more newer is_taken is_left first passed missed adds also adds_more =
+    maybe_dead group steps others left text first passed (adds_none old new is_taken (walk others text) missed adds) (adds_none more newer is_left (walk left text) also adds_more)

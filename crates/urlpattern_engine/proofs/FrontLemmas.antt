@@ -16,7 +16,7 @@ use Rattle.urlpattern_engine.specs.declared.step.Run.{Run}
 use Rattle.urlpattern_engine.specs.declared.step.Step.{Step}
 use Rattle.urlpattern_engine.specs.declared.step.Step.TheVariants.{Literal, Segment, Anything, Maybe, Longest, Copies, Segments}
 use Rattle.urlpattern_engine.specs.Steps.{capture_count}
-use Rattle.urlpattern_engine.specs.Reading.{BeginsWithCaptured, BeginsWithCharacter, BeginsWithToken, IsAllBut, IsRead, IsRunOf, IsRunStep, IsStepOf, IsUnquantified, MayBeEmpty, quantifier_of, times_text}
+use Rattle.urlpattern_engine.specs.Reading.{BeginsWithCaptured, BeginsWithCharacter, BeginsWithToken, IsAllBut, IsRead, IsRunOf, IsRunStep, IsStepOf, IsUnquantified, MayBeEmpty, RepeatsRuns, quantifier_of, times_text}
 use Rattle.urlpattern_engine.proofs.TokenLemmas.{captured_literal}
 
 -- ---- first characters
@@ -364,6 +364,17 @@ repeated_times step text rest repeated behind remaining left times e f g longest
     let same : remaining ≡ times_text repeated.times ++ rest = cc in
     times_one times repeated.times left rest (sym g ∙ same) longest
     (λ once. absurd (repeated_more repeated.is_greedy repeated.times repeated.may_be_empty repeated.may once))
+
+-- the step that is made of runs, and what follows how often they are taken
+pub repeated_made : (step : Step) (text rest inner : List ℕ) (single : Step) (behind remaining left : List ℕ) (times : Times) (made : Option Step) → BeginsWithCaptured (codes "(" ++ text) step rest → text ≡ codes "?:" ++ inner
+    → ReadsRun inner single behind → behind ≡ codes ")" ++ remaining → remaining ≡ times_text times ++ left → (times ≡ often.Once → IsUnquantified left) → RepeatsRuns single (quantifier_of times) made
+    → (made ≡ Some step) × (left ≡ rest)
+repeated_made step text rest inner single behind remaining left times made begins e reads f g longest repeats =
+    let repeated = captured_repeated step text rest begins in
+    let found = repeated_read step text rest inner repeated single behind e reads in
+    let read = repeated_times step text rest repeated behind remaining left times found.1 f g longest in
+    let may = subst (λ t. MayBeEmpty repeated.is_greedy (quantifier_of t) repeated.may_be_empty) (sym read.0) repeated.may in
+    (repeats repeated.end repeated.is_greedy repeated.may_be_empty found.0 may ∙ ap Some (sym repeated.same), read.1)
 
 -- how often does not begin with a bracket
 pub times_apart : (times : Times) (rest behind : List ℕ) → ¬ (times ≡ often.Once) → ¬ (times_text times ++ rest ≡ codes "(" ++ behind)

@@ -21,7 +21,7 @@ use Rattle.urlpattern_engine.specs.declared.step.Step.TheVariants.{Literal, Segm
 use Rattle.urlpattern_engine.specs.Reading.{AreCharacters, AreCopies, AreLiterals, BeginsWithToken, EndsSegments, IsGenerated, IsGroup, IsUnquantified, characters_text, literal_steps, times_text}
 use Rattle.urlpattern_engine.proofs.FrontLemmas.{apart, by_token, character_kind, ByItself, IsEscapedAt}
 use Rattle.urlpattern_engine.proofs.Generated.{AreInside, AreReadable, AreSingle, IsGroupAtom, IsSegmentGroup, IsStep, StandInside, tree_readable}
-use Rattle.urlpattern_engine.proofs.ReadingLemmas.{in_order_text, spelled_segments}
+use Rattle.urlpattern_engine.proofs.SegmentTextLemmas.{in_order_text, spelled_segments}
 use Rattle.urlpattern_engine.proofs.SegmentLemmas.{in_order}
 
 -- ---- what is left

@@ -5,9 +5,12 @@ pub mod FallingLemmas
 pub mod LongestLemmas
 pub mod Walks
 pub mod RepeatLemmas
+pub mod FirstLemmas
 pub mod FollowLemmas
 pub mod TokenLemmas
 pub mod FrontLemmas
+pub mod GroupLemmas
+pub mod SegmentTextLemmas
 pub mod ReadingLemmas
 pub mod FailedLemmas
 pub mod StepLemmas

@@ -3,6 +3,7 @@ use Rattle.std.proofs.Common.{◌≡◌, ℕ, ◌<◌, ◌⊎◌, inl, inr, List
 use Rattle.std.proofs.Math.ListN.{get_or-append}
 use Rattle.std.proofs.Math.Seq.{get_or-append_seam}
 use Rattle.std.proofs.lemmas.Bool.{false≢true}
+use Rattle.std.proofs.lemmas.List.{append_cancel_left}
 use Rattle.std.proofs.lemmas.Str.{chars-append, chars_past_char, IsUtf8-append}
 use Rattle.std.specs.Char.{IsScalar, encode_utf8}
 use Rattle.std.specs.Prelude.{is_some}
@@ -193,6 +194,26 @@ module _ (step : Step) (others : List Step) (text : List ℕ) where
       subst (λ n. IsPlaced (chars front) (chars rest) n run whole) (sym f)
       (subst (λ n. IsPlaced (chars front) (chars rest) (begun_of step next here forward) n whole) (sym g)
       (subst (λ n. IsPlaced (chars front) (chars rest) (begun_of step next here forward) (later_of step next here forward) n) (sym h) is))
+
+  -- the same with what is known so far, by what is kept and what is left
+  pub placed_now : (front rest left : List ℕ) (begun kept : List (Option ℕ)) (row after : List Bool) (literal : List Step) (stretch : Option Stretch) (count stop : ℕ) (later next here forward first run whole : Option ℕ)
+      → IsSingle step → IsUtf8 front → IsUtf8 left → text ≡ front ++ rest → text ≡ front ++ left
+      → IsSoFar (chars front) (chars left) kept row later → begun ≡ kept
+      → IsRow (chars text) (following step others) after
+      → stretch ≡ stretch_of step → literal ≡ take (own_count (stretch_of step)) others
+      → IsEntryAfter begun (option_map (λ (own : Stretch). own.first ∷ literals literal) stretch) (chars rest) next
+      → count ≡ length row → here ≡ cond (get_or after count false) (Some (length front)) None
+      → stop ≡ end_of step → forward ≡ going_on stop later (chars rest)
+      → first ≡ begun_of step next here forward → run ≡ later_of step next here forward → whole ≡ whole_of step next here forward
+      → IsSoFar (chars front) (chars rest) begun row later × IsPlaced (chars front) (chars rest) first run whole
+  placed_now front rest left begun kept row after literal stretch count stop later next here forward first run whole single u v e f so_far same is_after own literals_are entry len stops ends goes_on one two three =
+      let behind : rest ≡ left = append_cancel_left front rest left (sym e ∙ f) in
+      let is : IsSoFar (chars front) (chars rest) begun row later =
+      subst (λ b. IsSoFar (chars front) (chars rest) b row later) (sym same) (subst (λ r. IsSoFar (chars front) (chars r) kept row later) (sym behind) so_far) in (
+        is,
+        placed_at front rest begun row after literal stretch later next here forward first run whole single u (subst IsUtf8 (sym behind) v) e is is_after own literals_are entry
+            (stops ∙ ap (λ n. cond (get_or after n false) (Some (length front)) None) len) (goes_on ∙ ap (λ n. going_on n later (chars rest)) ends) one two three,
+      )
 
   taken_here : (front rest : List ℕ) (begun later whole : Option ℕ) → IsPlaced front rest begun later whole → Taken front rest (is_some whole)
   taken_here front rest begun later whole is =

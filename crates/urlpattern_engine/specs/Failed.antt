@@ -1,5 +1,6 @@
 -- Places in a match from which no way leads on, one bit for each.
 use Rattle.std.specs.Prelude.{◌≡◌, ℕ, ◌+◌, ◌*◌, ◌/◌, ◌%◌, List, [], ◌⊎◌, ◌++◌, length, None, slice_index}
+use Rattle.std.specs.Str.{chars, IsUtf8}
 use Rattle.std.specs.Int.{bit_at}
 use Rattle.urlpattern_engine.specs.declared.step.Step.{Step}
 use Rattle.urlpattern_engine.specs.Steps.{up_to_first, walk}
@@ -34,3 +35,8 @@ AreDead whole bits = (steps : List Step) (text : List ℕ) → IsPlace whole ste
 -- a run without `end`, the first of the steps, ends here, or does not lead on from here
 abbrev pub HasEnded : (end : ℕ) → List Step → (text : List ℕ) → Type 0
 HasEnded end steps text = (up_to_first end text ≡ []) ⊎ (walk steps text ≡ None)
+
+-- the front of the text is a run without `end`, after which the run that is the first of the steps has ended
+abbrev pub IsFrontOfRun : (end : ℕ) → List Step → (text front : List ℕ) → Type 0
+IsFrontOfRun end steps text front =
+    (rest : List ℕ) × IsUtf8 rest × (text ≡ front ++ rest) × (up_to_first end (chars front) ≡ chars front) × HasEnded end steps (chars rest)

@@ -1,15 +1,18 @@
 -- Which steps the text of an expression is read as.
-use Rattle.std.specs.Prelude.{◌≡◌, ◌≢◌, ◌⊎◌, ℕ, Bool, true, false, length, List, [], ◌∷◌, ◌++◌, codes, All, Option, IsSomeAnd}
+use Rattle.std.specs.Prelude.{◌≡◌, ◌≢◌, ◌⊎◌, ℕ, Bool, true, false, length, List, [], ◌∷◌, ◌++◌, take, drop, codes, All, Option, Some, IsSomeAnd}
 use Rattle.std.specs.Borrow.{Bor}
+use Rattle.std.specs.Global.{Global}
+use Rattle.std.specs.declared.vec.Vec.{Vec}
 use Rattle.std.specs.Str.{chars}
 use Rattle.urlpattern_engine.specs.declared.tokens.Times.{Times}
 use Rattle.urlpattern_engine.specs.declared.tokens.Times.TheVariants as times
 use Rattle.urlpattern_engine.specs.declared.tokens.Token.{Token}
 use Rattle.urlpattern_engine.specs.declared.tokens.Token.TheVariants.{Open, Close, Step as One, MaybeStep, FirstSegment}
 use Rattle.urlpattern_engine.specs.declared.step.Step.{Step}
+use Rattle.urlpattern_engine.specs.declared.step.Stretch.{Stretch}
 use Rattle.urlpattern_engine.specs.declared.step.Step.TheVariants.{Literal, Segment, Anything, Maybe, Longest, Copies, Segments}
 use Rattle.urlpattern_engine.specs.Steps.{capture_count, walk}
-use Rattle.urlpattern_laws.specs.Dialect.{AnyBut, AreItems, Atom, Captured, Character, Dot, Grouped, IsAtom, IsCharacter, IsClassCharacter, IsTreeOf, Item, Items, LazyOneOrMore, Nothing, OneOrMore, Quantifier, ZeroOrMore, atom_text, character_of, character_text, items_text, quantifier_text}
+use Rattle.urlpattern_laws.specs.Dialect.{AllowsGroups, AnyBut, AreItems, Atom, Captured, Character, Dot, Grouped, IsAtom, IsCharacter, IsClassCharacter, IsTreeOf, Item, Items, LazyOneOrMore, Nothing, OneOrMore, Quantifier, ZeroOrMore, atom_text, character_of, character_text, group_count, items_text, quantifier_text}
 use Rattle.urlpattern_laws.specs.Dialect as dialect
 use Rattle.urlpattern_laws.specs.Ways.{first_way}
 use Rattle.urlpattern_syntax.specs.declared.parser.PartType.TheVariants.{Regexp}
@@ -28,6 +31,10 @@ BeginsWithCharacter Is text c rest =
 -- this is what was read at the front of a text, and the rest follows
 abbrev pub IsRead : {A : Type 0} → Option (A × Bor (List ℕ)) → A → (rest : List ℕ) → Type 0
 IsRead read it rest = IsSomeAnd read (λ found. (found.0 ≡ it) × (chars found.1.now ≡ rest))
+
+-- this is left of a text, by what was read
+abbrev pub IsLeft : Option (Bor (List ℕ)) → (rest : List ℕ) → Type 0
+IsLeft read rest = IsSomeAnd read (λ remaining. chars remaining.now ≡ rest)
 
 -- the text does not begin with a quantifier
 abbrev pub IsUnquantified : List ℕ → Type 0
@@ -78,6 +85,26 @@ abbrev pub BeginsWithCaptured : (text : List ℕ) → Step → (rest : List ℕ)
 BeginsWithCaptured text step rest =
     (items : Items) × AreItems items × IsStepOf step (Captured items) × (text ≡ items_text items ++ rest)
 
+-- whatever a group captures at the front of the text is read
+abbrev pub ReadsCaptured : (text : List ℕ) → Option (Step × Bor (List ℕ)) → Type 0
+ReadsCaptured text read = (step : Step) (rest : List ℕ) → BeginsWithCaptured text step rest → IsRead read step rest
+
+-- whatever run stands at the front of the text is read
+abbrev pub ReadsRuns : (text : List ℕ) → Option (Step × Bor (List ℕ)) → Type 0
+ReadsRuns text read =
+    (end : ℕ) (is_greedy : Bool) (step : Step) (rest : List ℕ) → IsRunStep end is_greedy step → BeginsWithCaptured text step rest → IsRead read step rest
+
+-- the step stands for a group of what the run stands for, taken so often
+abbrev pub IsRepeatOf : (run : Step) → Quantifier → (step : Step) → Type 0
+IsRepeatOf run quantifier step =
+    (items : Items) → IsStepOf run (Captured items) → AllowsGroups quantifier (group_count items) × IsStepOf step (Captured (Item (Grouped items) quantifier Nothing))
+
+-- whichever run it is, the step for such a group is made
+abbrev pub RepeatsRuns : (run : Step) → Quantifier → (made : Option Step) → Type 0
+RepeatsRuns run quantifier made =
+    (end : ℕ) (is_greedy may_be_empty : Bool) → IsRunStep end is_greedy run → MayBeEmpty is_greedy quantifier may_be_empty
+    → made ≡ Some (Longest (record { end = end; may_be_empty = may_be_empty }))
+
 -- how often a group is taken, and how that is written
 abbrev pub quantifier_of : Times → Quantifier
 quantifier_of times.Once = dialect.Once
@@ -104,12 +131,25 @@ IsToken (MaybeStep step) text = (front : List ℕ) × (capture_count (step ∷ [
 abbrev pub BeginsWithToken : (text : List ℕ) → Token → (rest : List ℕ) → Type 0
 BeginsWithToken text token rest = (front : List ℕ) × IsToken token front × (text ≡ front ++ rest)
 
+-- whatever token stands at the front of the text is read, where no quantifier follows
+abbrev pub ReadsTokens : (text : List ℕ) → Option (Token × Bor (List ℕ)) → Type 0
+ReadsTokens text read = (token : Token) (rest : List ℕ) → BeginsWithToken text token rest → IsUnquantified rest → IsRead read token rest
+
+-- whatever first segment stands at the front of the text is read
+abbrev pub ReadsFirstSegments : (text : List ℕ) → Option (Token × Bor (List ℕ)) → Type 0
+ReadsFirstSegments text read =
+    (end : ℕ) (is_greedy : Bool) (rest : List ℕ) → BeginsWithToken text (FirstSegment end is_greedy) rest → IsRead read (FirstSegment end is_greedy) rest
+
 -- ---- groups
 
 abbrev pub AreLiterals : List Step → Type 0
 AreLiterals [] = Unit {0}
 AreLiterals (Literal c ∷ steps) = AreLiterals steps
 AreLiterals (step ∷ steps) = ⊥
+
+-- the steps are literal, and make up the text
+abbrev pub MakeUp : List Step → Stretch → Type 0
+MakeUp steps text = (others : List Step) × (steps ≡ Literal text.first ∷ others) × AreLiterals others × (text.others ≡ length others)
 
 -- copies of the text that is made up of the steps
 abbrev pub AreCopies : (may_be_missing : Bool) → (own group : List Step) → Type 0
@@ -127,6 +167,10 @@ IsSomeGroup times.OneOrMore own group = AreCopies false own group
 -- the same where there may be none: then the group has none
 abbrev pub IsGroup : Times → (own group : List Step) → Type 0
 IsGroup times own group = ((own ≡ []) × (group ≡ [])) ⊎ IsSomeGroup times own group
+
+-- the steps from the first on became such a group of them
+abbrev pub AreGrouped : (Is : (own group : List Step) → Type 0) → (first : ℕ) → (old new : Vec Step Global) → Type 0
+AreGrouped Is first old new = (group : List Step) × Is (drop first old.items) group × (new.items ≡ take first old.items ++ group)
 
 -- ---- segments
 
@@ -149,11 +193,28 @@ AreSegments end is_greedy characters own =
     (c : ℕ) × (others : List Step) × (literal_steps characters ≡ Literal c ∷ others)
     × (own ≡ Segments (record { separator = record { first = c; others = length others }; end = end; is_greedy = is_greedy }) ∷ others)
 
+-- the run that is the last, the closing brackets, and the rest
+abbrev pub last_text : Items → (rest : List ℕ) → List ℕ
+last_text items rest = codes "(?:" ++ (items_text items ++ (codes "))*)" ++ rest))
+
+-- the text begins with the last run of segments and what closes these, and the rest follows
+abbrev pub ClosesSegments : (end : ℕ) → (is_greedy : Bool) → (text rest : List ℕ) → Type 0
+ClosesSegments end is_greedy text rest = (items : Items) × AreItems items × IsRunOf end is_greedy items × (text ≡ last_text items rest)
+
+-- wherever the text does, that rest is left
+abbrev pub ReadsLast : (end : ℕ) → (is_greedy : Bool) → (text : List ℕ) → Option (Bor (List ℕ)) → Type 0
+ReadsLast end is_greedy text read =
+    (items : Items) (rest : List ℕ) → AreItems items → IsRunOf end is_greedy items → text ≡ last_text items rest → IsLeft read rest
+
 -- the text ends such a group with these steps: the characters between two runs, a run and the closing brackets; and the rest follows
 abbrev pub EndsSegments : (end : ℕ) → (is_greedy : Bool) → (own : List Step) → (text rest : List ℕ) → Type 0
 EndsSegments end is_greedy own text rest =
     (characters : List Character) × (items : Items) × AreCharacters characters × AreItems items × IsRunOf end is_greedy items × AreSegments end is_greedy characters own
-    × (text ≡ characters_text characters ++ (codes "(?:" ++ (items_text items ++ (codes "))*)" ++ rest))))
+    × (text ≡ characters_text characters ++ last_text items rest)
+
+-- the steps of segments that the text ends were added to others
+abbrev pub AddsSegments : (end : ℕ) → (is_greedy : Bool) → (old new : Vec Step Global) → (text rest : List ℕ) → Type 0
+AddsSegments end is_greedy old new text rest = (own : List Step) × EndsSegments end is_greedy own text rest × (new.items ≡ old.items ++ own)
 
 -- ---- expressions
 

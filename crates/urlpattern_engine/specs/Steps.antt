@@ -85,6 +85,10 @@ literals [] = []
 literals (Literal c ∷ steps) = c ∷ literals steps
 literals (step ∷ steps) = literals steps
 
+-- the first character and those of the literal steps
+abbrev pub literal_text : (first : ℕ) → (literal : List Step) → List ℕ
+literal_text first literal = first ∷ literals literal
+
 -- so many copies of a text
 abbrev pub copies_of : ℕ → List ℕ → List ℕ
 copies_of zero text = []
@@ -92,7 +96,7 @@ copies_of (suc n) text = text ++ copies_of n text
 
 -- the text that is made up of these steps
 abbrev pub stretch_text : Stretch → List Step → List ℕ
-stretch_text stretch steps = stretch.first ∷ literals (take stretch.others steps)
+stretch_text stretch steps = literal_text stretch.first (take stretch.others steps)
 
 -- ---- steps
 
@@ -119,6 +123,10 @@ walk_after zero (Segments segments ∷ steps) text =
 
 abbrev pub walk : List Step → List ℕ → Option Captures
 walk steps text = walk_after zero steps text
+
+-- what the other steps capture after as many copies as lead on, of the first character and those of the literal steps
+abbrev pub walk_copies : (first : ℕ) → (literal others : List Step) → List ℕ → Option Captures
+walk_copies first literal others text = any_rounds (after_text (literal_text first literal)) (λ front rest. walk others rest) [] text
 
 -- how many of the steps capture
 abbrev pub capture_count : List Step → ℕ

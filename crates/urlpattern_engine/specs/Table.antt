@@ -85,10 +85,14 @@ IsEntryAfter entries (Some characters) text entry =
 
 -- ---- rows
 
+-- whether a row has the end of the text with so many characters
+abbrev pub has : List Bool → ℕ → Bool
+has row n = get_or row n false
+
 -- for each end of the text, by how many characters it has, whether the steps take it
 pub record IsRow (text : List ℕ) (steps : List Step) (row : List Bool) : Type 0 where
   pub long : length text < length row
-  pub bits : (end : List ℕ) → EndsWith text end → get_or row (length end) false ≡ is_some (walk steps end)
+  pub bits : (end : List ℕ) → EndsWith text end → has row (length end) ≡ is_some (walk steps end)
 
 -- the row for so many steps
 abbrev pub row_at : List (Vec Bool Global) → ℕ → List Bool

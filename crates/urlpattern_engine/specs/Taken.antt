@@ -1,16 +1,30 @@
 -- What a clause sees of captures that are added to others.
 use Rattle.std.specs.Prelude.{◌≡◌, Bool, List, [], ◌∷◌, ◌++◌, ℕ, ◌==◌, length, map, Option, Some, None, option_map, if◌then◌else◌}
 use Rattle.std.specs.Borrow.{Bor}
+use Rattle.std.specs.Global.{Global}
+use Rattle.std.specs.declared.vec.Vec.{Vec}
 use Rattle.std.specs.Str.{chars, IsUtf8}
 use Rattle.urlpattern_core.specs.Captured.{capture_view}
 use Rattle.urlpattern_laws.specs.PartMeaning.{Captures}
-use Rattle.urlpattern_engine.specs.Steps.{Gives}
+use Rattle.urlpattern_engine.specs.declared.step.Segments.{Segments}
+use Rattle.urlpattern_engine.specs.declared.step.Step.{Step}
+use Rattle.urlpattern_engine.specs.Steps.{Gives, captured, literal_text, segmented, single_run, walk}
 
 -- Where a text is cut, by the bytes before it, so that its parts give what is found. None: nothing is found.
 abbrev pub IsCutFor : Gives → (text : List ℕ) → Option ℕ → (found : Option Captures) → Type 0
 IsCutFor gives text None found = found ≡ None
 IsCutFor gives text (Some n) found =
     (front rest : List ℕ) × IsUtf8 front × IsUtf8 rest × (text ≡ front ++ rest) × (length front ≡ n) × (found ≡ gives (chars front) (chars rest)) × ¬ (found ≡ None)
+
+-- where segments end that are the first that the other steps lead on from; the text between two is that of the literal steps
+abbrev pub IsEndOfSegments : Segments → (literal others : List Step) → (text : List ℕ) → (end : Option ℕ) → Type 0
+IsEndOfSegments segments literal others text end =
+    IsCutFor (captured (walk others)) text end
+    (segmented (literal_text segments.separator.first literal) (single_run segments.is_greedy segments.end) (captured (walk others)) [] (chars text))
+
+-- the front is the text without its last n characters
+abbrev pub IsWithoutLast : (n : ℕ) → (text front : List ℕ) → Type 0
+IsWithoutLast n text front = (end : List ℕ) × IsUtf8 end × (text ≡ front ++ end) × (length (chars end) ≡ n)
 
 -- where a run may end: where the segments after it end, or else here, where the steps take what follows
 abbrev pub IsEndHere : (next : Option ℕ) → (here : ℕ) → (found : Option Captures) → (end : Option ℕ) → Type 0
@@ -36,5 +50,18 @@ abbrev pub Extends : (old new : Kept) → Type 0
 Extends old new = (added : Kept) × (new ≡ old ++ added)
 
 -- the captures were added exactly where there are some
-abbrev pub Adds : (old new : Kept) → (is_taken : Bool) → Option Captures → Type 0
-Adds old new is_taken captures = (if is_taken then Some (map capture_view new) else None) ≡ option_map (λ others. map capture_view old ++ others) captures
+abbrev pub AreAdded : (old new : Kept) → (is_taken : Bool) → Option Captures → Type 0
+AreAdded old new is_taken captures = (if is_taken then Some (map capture_view new) else None) ≡ option_map (λ others. map capture_view old ++ others) captures
+
+-- captures as a vector keeps them
+abbrev pub KeptVec : Type 0
+KeptVec = Vec (Option (Bor (List ℕ))) Global
+
+-- the same of vectors
+abbrev pub Adds : (old new : KeptVec) → (is_taken : Bool) → Option Captures → Type 0
+Adds old new is_taken captures = AreAdded old.items new.items is_taken captures
+
+-- the steps that are left capture of the rest what the steps do of the text, with what was captured before each
+abbrev pub LeavesWalk : (old new : KeptVec) → (steps : List Step) → (text : List ℕ) → (left : List Step) → (rest : List ℕ) → Type 0
+LeavesWalk old new steps text left rest =
+    with_captures old.items (walk steps (chars text)) ≡ with_captures new.items (walk left (chars rest))

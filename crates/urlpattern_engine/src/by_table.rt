@@ -6,7 +6,7 @@ ghost use Rattle.urlpattern_core.specs.Captured.{captures_view};
 ghost use Rattle.urlpattern_engine.specs.Failed.{EndsWith};
 ghost use Rattle.urlpattern_engine.specs.Steps.{walk};
 ghost use Rattle.urlpattern_engine.specs.Table.{following, row_at, IsCapture, IsRow, IsSingle};
-ghost use Rattle.urlpattern_engine.specs.Taken.{with_captures};
+ghost use Rattle.urlpattern_engine.specs.Taken.{LeavesWalk};
 
 use crate::fronts::{following, front_of, is_capture};
 use crate::repeats::pass;
@@ -73,8 +73,7 @@ fn choose_group<'s>(
     text: &str,
 ) -> Result<&'s [Step], OutOfMemory>
     requires { IsRow (chars text.now) others.now (row_at rows.now (length others.now)) }
-    ensures chosen { IfOk result (λ left. with_captures captures.old.items (walk (Step.Maybe group ∷ others.now) (chars text.now))
-        ≡ with_captures captures.new.items (walk left.now (chars text.now))) }
+    ensures chosen { IfOk result (λ left. LeavesWalk captures.old captures.new (Step.Maybe group ∷ others.now) text.now left.now text.now) }
     ensures end { IfOk result (λ left. EndsWith others.now left.now) }
 {
     if is_taken(rows, others, text) {
@@ -100,8 +99,7 @@ fn take_front<'t>(
 ) -> Result<Option<&'t str>, OutOfMemory>
     requires single { IsSingle step }
     requires row { IsRow (chars text.now) (following step others.now) row.now }
-    ensures taken { IfOk result (λ left. IfSome left (λ rest. with_captures captures.old.items (walk (step ∷ others.now) (chars text.now))
-        ≡ with_captures captures.new.items (walk (following step others.now) (chars rest.now)))) }
+    ensures taken { IfOk result (λ left. IfSome left (λ rest. LeavesWalk captures.old captures.new (step ∷ others.now) text.now (following step others.now) rest.now)) }
     ensures none { IfOk result (λ left. IfNone left (walk (step ∷ others.now) (chars text.now) ≡ None)) }
     ensures end { IfOk result (λ left. IfSome left (λ rest. EndsWith (chars text.now) (chars rest.now))) }
 {

@@ -1,10 +1,10 @@
 //! The front of a text that a step takes, found from the end of the text to its front.
 
-ghost use Rattle.std.specs.Prelude.{◌≡◌, ◌∷◌, ◌++◌, ℕ, List, Bool, Option, Some, None, false, length, get_or, option_map, take, IfOk, if◌then◌else◌};
+ghost use Rattle.std.specs.Prelude.{◌≡◌, ◌∷◌, ◌++◌, ℕ, List, Bool, Option, Some, None, length, option_map, take, IfOk, if◌then◌else◌};
 ghost use Rattle.std.specs.Option.{option_or};
 ghost use Rattle.std.specs.Str.{chars};
 ghost use Rattle.urlpattern_engine.specs.Steps.{literals, walk};
-ghost use Rattle.urlpattern_engine.specs.Table.{begun_of, end_of, following, given, later_of, own_count, stretch_of, whole_of, IsCapture, IsEntryAfter, IsRow, IsSingle};
+ghost use Rattle.urlpattern_engine.specs.Table.{begun_of, end_of, following, given, has, later_of, own_count, stretch_of, whole_of, IsCapture, IsEntryAfter, IsRow, IsSingle};
 ghost use Rattle.urlpattern_engine.specs.Taken.{going_on, IsCutFor};
 
 use crate::repeats::{begun_after, first_steps, goes_on, pass};
@@ -144,14 +144,14 @@ fn entry_after(
 
 /// The end here, where the row has the rest.
 fn end_here(row: &[bool], rest: usize, here: usize) -> Option<usize>
-    ensures { result ≡ (if get_or row.now rest false then Some here else None) }
+    ensures { result ≡ (if has row.now rest then Some here else None) }
 {
     if has(row, rest) { Some(here) } else { None }
 }
 
 /// Whether the row has the end of a text with so many characters.
 pub(crate) fn has(row: &[bool], count: usize) -> bool
-    ensures { result ≡ get_or row.now count false }
+    ensures { result ≡ has row.now count }
 {
     match row.get(count) {
         Some(is_taken) => *is_taken,

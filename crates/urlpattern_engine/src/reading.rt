@@ -1,10 +1,9 @@
 //! Reads the text of an expression as steps.
 
-ghost use Rattle.std.specs.Prelude.{◌≡◌, ◌↔◌, ◌∷◌, ◌++◌, ℕ, ◌<◌, ◌≤◌, List, length, take, drop, codes, IfNone, IfOk, IfSome, IsSomeAnd, IsTrue};
+ghost use Rattle.std.specs.Prelude.{◌≡◌, ◌↔◌, ◌∷◌, ℕ, ◌<◌, ◌≤◌, List, length, drop, codes, IfNone, IfOk, IfSome, IsTrue};
 ghost use Rattle.std.specs.Str.{chars};
-ghost use Rattle.urlpattern_engine.specs.Reading.{AreCopies, AreLiterals, AreStepsOf, EndsSegments, IsGenerated, IsGroup, IsRunOf};
+ghost use Rattle.urlpattern_engine.specs.Reading.{AddsSegments, AreCopies, AreGrouped, AreLiterals, AreStepsOf, ClosesSegments, EndsSegments, IsGenerated, IsGroup, IsLeft, MakeUp, ReadsLast};
 ghost use Rattle.urlpattern_engine.specs.Steps.{capture_count};
-ghost use Rattle.urlpattern_laws.specs.Dialect.{AreItems, items_text, Items};
 
 use crate::step::{Copies, Group, Segments, Step, Stretch};
 use crate::texts::after;
@@ -64,8 +63,7 @@ pub(crate) fn read_steps(alloc: Global, regexp: &str) -> Result<Option<Vec<Step>
 /// group.
 fn close_group(steps: &mut Vec<Step>, first: usize, times: Times) -> Result<bool, AllocError>
     requires { first ≤ length steps.old.items }
-    ensures group { IfOk result (λ is_group. IsTrue is_group →
-        (group : List Step) × IsGroup times (drop first steps.old.items) group × (steps.new.items ≡ take first steps.old.items ++ group)) }
+    ensures group { IfOk result (λ is_group. IsTrue is_group → AreGrouped (IsGroup times) first steps.old steps.new) }
     ensures any { IfOk result (λ is_group. (group : List Step) → IsGroup times (drop first steps.old.items) group → IsTrue is_group) }
 {
     if steps.len() == first {
@@ -86,7 +84,7 @@ fn close_group(steps: &mut Vec<Step>, first: usize, times: Times) -> Result<bool
 /// Makes the steps from the first on copies of the text that is made up of them. Whether there is such a text.
 fn close_copies(steps: &mut Vec<Step>, first: usize, may_be_missing: bool) -> bool
     requires { first ≤ length steps.old.items }
-    ensures group { IsTrue result → (group : List Step) × AreCopies may_be_missing (drop first steps.old.items) group × (steps.new.items ≡ take first steps.old.items ++ group) }
+    ensures group { IsTrue result → AreGrouped (AreCopies may_be_missing) first steps.old steps.new }
     ensures any { (group : List Step) → AreCopies may_be_missing (drop first steps.old.items) group → IsTrue result }
 {
     let Some(text) = stretch_of(&steps[first..]) else {
@@ -101,7 +99,7 @@ fn close_copies(steps: &mut Vec<Step>, first: usize, may_be_missing: bool) -> bo
 
 /// The text that is made up of the steps, where each of them is literal and there is one at least.
 fn stretch_of(steps: &[Step]) -> Option<Stretch>
-    ensures text { IfSome result (λ text. (others : List Step) × (steps.now ≡ Step.Literal text.first ∷ others) × AreLiterals others × (text.others ≡ length others)) }
+    ensures text { IfSome result (λ text. MakeUp steps.now text) }
     ensures other { IfNone result ((first : ℕ) (others : List Step) → steps.now ≡ Step.Literal first ∷ others → ¬ AreLiterals others) }
 {
     match steps {
@@ -170,9 +168,8 @@ fn read_segments<'a>(
     is_greedy: bool,
     text: &'a str,
 ) -> Result<Option<&'a str>, AllocError>
-    ensures read { IfOk result (λ read. IfSome read (λ rest. (own : List Step) × EndsSegments end is_greedy own (chars text.now) (chars rest.now) × (steps.new.items ≡ steps.old.items ++ own))) }
-    ensures reads { IfOk result (λ read. (own : List Step) (rest : List ℕ) →
-        EndsSegments end is_greedy own (chars text.now) rest → IsSomeAnd read (λ remaining. chars remaining.now ≡ rest)) }
+    ensures read { IfOk result (λ read. IfSome read (λ rest. AddsSegments end is_greedy steps.old steps.new (chars text.now) (chars rest.now))) }
+    ensures reads { IfOk result (λ read. (own : List Step) (rest : List ℕ) → EndsSegments end is_greedy own (chars text.now) rest → IsLeft read rest) }
     ensures len { IfOk result (λ read. IfSome read (λ rest. length rest.now < length text.now)) }
 {
     let first = steps.len();
@@ -197,10 +194,8 @@ fn read_segments<'a>(
 
 /// What follows a run of this kind in brackets, where these close the segments.
 fn read_last_segment(text: &str, end: char, is_greedy: bool) -> Option<&str>
-    ensures cut { IfSome result (λ rest. (items : Items) × AreItems items × IsRunOf end is_greedy items
-        × (chars text.now ≡ codes "(?:" ++ (items_text items ++ (codes "))*)" ++ chars rest.now)))) }
-    ensures reads { (items : Items) (rest : List ℕ) → AreItems items → IsRunOf end is_greedy items →
-        chars text.now ≡ codes "(?:" ++ (items_text items ++ (codes "))*)" ++ rest)) → IsSomeAnd result (λ remaining. chars remaining.now ≡ rest) }
+    ensures cut { IfSome result (λ rest. ClosesSegments end is_greedy (chars text.now) (chars rest.now)) }
+    ensures reads { ReadsLast end is_greedy (chars text.now) result }
     ensures len { IfSome result (λ rest. length rest.now < length text.now) }
 {
     let (single, rest) = read_run(after_open(text)?)?;

@@ -1,10 +1,10 @@
 //! Texts that are repeated, by the steps that they are made up of.
 
-ghost use Rattle.std.specs.Prelude.{◌≡◌, ◌≢◌, ◌∷◌, ◌++◌, ℕ, suc, ◌<◌, List, length, None, IfNone, IfSome, drop, get_or, take, if◌then◌else◌};
+ghost use Rattle.std.specs.Prelude.{◌≡◌, ◌≢◌, ◌++◌, ℕ, suc, ◌<◌, List, length, None, IfNone, IfSome, drop, get_or, take, if◌then◌else◌};
 ghost use Rattle.std.specs.Option.{option_or};
-ghost use Rattle.std.specs.Str.{chars, IsUtf8};
-ghost use Rattle.urlpattern_engine.specs.Steps.{copies_of, literals};
-ghost use Rattle.urlpattern_engine.specs.Taken.{going_on};
+ghost use Rattle.std.specs.Str.{chars};
+ghost use Rattle.urlpattern_engine.specs.Steps.{copies_of, literal_text, literals};
+ghost use Rattle.urlpattern_engine.specs.Taken.{going_on, IsWithoutLast};
 
 use crate::step::Step;
 use crate::texts::{after, split_first, without_last};
@@ -25,8 +25,8 @@ pub(crate) fn first_steps(steps: &[Step], count: usize) -> &[Step]
 
 /// What follows a text in another that begins with it: the first character and those of the literal steps.
 pub(crate) fn after_literals<'t>(text: &'t str, first: char, literal: &[Step]) -> Option<&'t str>
-    ensures cut { IfSome result (λ rest. chars text.now ≡ first ∷ literals literal.now ++ chars rest.now) }
-    ensures other { IfNone result ((rest : List ℕ) → chars text.now ≢ first ∷ literals literal.now ++ rest) }
+    ensures cut { IfSome result (λ rest. chars text.now ≡ literal_text first literal.now ++ chars rest.now) }
+    ensures other { IfNone result ((rest : List ℕ) → chars text.now ≢ literal_text first literal.now ++ rest) }
     ensures len { IfSome result (λ rest. length rest.now < length text.now) }
 {
     let mut rest = after(text, first)?;
@@ -45,8 +45,8 @@ pub(crate) fn after_literals<'t>(text: &'t str, first: char, literal: &[Step]) -
 
 /// What follows all copies of a text at the front of another: of the first character and those of the literal steps.
 pub(crate) fn skip_copies<'t>(text: &'t str, first: char, literal: &[Step]) -> &'t str
-    ensures front { (n : ℕ) × (chars text.now ≡ copies_of n (first ∷ literals literal.now) ++ chars result.now) }
-    ensures all { (rest : List ℕ) → chars result.now ≢ first ∷ literals literal.now ++ rest }
+    ensures front { (n : ℕ) × (chars text.now ≡ copies_of n (literal_text first literal.now) ++ chars result.now) }
+    ensures all { (rest : List ℕ) → chars result.now ≢ literal_text first literal.now ++ rest }
 {
     let mut rest = text;
     while let Some(remaining) = after_literals(rest, first, literal) {
@@ -58,7 +58,7 @@ pub(crate) fn skip_copies<'t>(text: &'t str, first: char, literal: &[Step]) -> &
 /// A text without its last characters, one and as many as there are literal steps. `None`: it has not so many.
 pub(crate) fn without_copy<'t>(text: &'t str, literal: &[Step]) -> Option<&'t str>
     ensures few { IfNone result (length (chars text.now) < suc (length (literals literal.now))) }
-    ensures cut { IfSome result (λ front. (end : List ℕ) × IsUtf8 end × (text.now ≡ front.now ++ end) × (length (chars end) ≡ suc (length (literals literal.now)))) }
+    ensures cut { IfSome result (λ front. IsWithoutLast (suc (length (literals literal.now))) text.now front.now) }
     ensures len { IfSome result (λ front. length front.now < length text.now) }
 {
     let Some(mut front) = without_last(text) else {
@@ -100,9 +100,9 @@ pub(crate) fn begun_after(
     literal: &[Step],
     text: &str,
 ) -> Option<usize>
-    ensures there { (rest : List ℕ) → chars text.now ≡ first ∷ literals literal.now ++ rest → length table.now ≡ length (chars text.now)
+    ensures there { (rest : List ℕ) → chars text.now ≡ literal_text first literal.now ++ rest → length table.now ≡ length (chars text.now)
         → result ≡ get_or table.now (length rest) None }
-    ensures other { ((rest : List ℕ) → chars text.now ≢ first ∷ literals literal.now ++ rest) → result ≡ None }
+    ensures other { ((rest : List ℕ) → chars text.now ≢ literal_text first literal.now ++ rest) → result ≡ None }
 {
     after_literals(text, first, literal)?;
     let index = table

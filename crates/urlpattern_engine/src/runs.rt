@@ -1,9 +1,9 @@
 //! Runs of characters in a match.
 
-ghost use Rattle.std.specs.Prelude.{◌≡◌, ◌≢◌, ◌∷◌, ◌++◌, [], ◌⊎◌, ℕ, ◌<◌, List, length, None, IfNone, IfSome, IsTrue};
-ghost use Rattle.std.specs.Str.{chars, IsUtf8};
-ghost use Rattle.urlpattern_engine.specs.Failed.{HasEnded, IsPlace};
-ghost use Rattle.urlpattern_engine.specs.Steps.{up_to_first, walk, StopAt};
+ghost use Rattle.std.specs.Prelude.{◌≡◌, ◌≢◌, ◌∷◌, ◌<◌, List, length, None, IfNone, IfSome, IsTrue};
+ghost use Rattle.std.specs.Str.{chars};
+ghost use Rattle.urlpattern_engine.specs.Failed.{HasEnded, IsFrontOfRun, IsPlace};
+ghost use Rattle.urlpattern_engine.specs.Steps.{walk, StopAt};
 ghost use Rattle.urlpattern_syntax.specs.Text.{line_feed};
 
 use crate::failed::Failed;
@@ -44,8 +44,7 @@ pub(crate) fn next_of_run<'t>(
 /// failed.
 pub(crate) fn longest_front<'t>(failed: &Failed<'_, '_>, steps: &[Step], text: &'t str) -> &'t str
     requires { IsPlace failed.now steps.now (chars text.now) }
-    ensures { (rest : List ℕ) × IsUtf8 rest × (text.now ≡ result.now ++ rest) × (up_to_first line_feed (chars result.now) ≡ chars result.now)
-        × HasEnded line_feed steps.now (chars rest) }
+    ensures { IsFrontOfRun line_feed steps.now text.now result.now }
 {
     let mut rest = text;
     while let Some((_, remaining)) = next_of_run(failed, '\n', steps, rest) {

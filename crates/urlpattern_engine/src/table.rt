@@ -1,9 +1,9 @@
 //! Which ends of a text the ends of the steps take: a row for each end of the steps.
 
-ghost use Rattle.std.specs.Prelude.{◌≡◌, ◌∷◌, ◌||◌, ℕ, ◌<◌, [], List, length, get_or, false, is_some, IfOk};
+ghost use Rattle.std.specs.Prelude.{◌≡◌, ◌∷◌, ◌||◌, ℕ, ◌<◌, [], List, length, is_some, IfOk};
 ghost use Rattle.std.specs.Str.{chars};
 ghost use Rattle.urlpattern_engine.specs.Steps.{walk};
-ghost use Rattle.urlpattern_engine.specs.Table.{row_at, AreRows, IsRow};
+ghost use Rattle.urlpattern_engine.specs.Table.{has, row_at, AreRows, IsRow};
 
 use crate::fronts::{following, front_of, has};
 use crate::repeats::pass;
@@ -83,7 +83,7 @@ fn row_of(
 /// The error is that memory ran out.
 fn either(alloc: Global, one: &[bool], other: &[bool]) -> Result<Vec<bool>, OutOfMemory>
     ensures len { IfOk result (λ row. length row.items ≡ length one.now) }
-    ensures bits { IfOk result (λ row. (n : ℕ) → n < length one.now → get_or row.items n false ≡ get_or one.now n false || get_or other.now n false) }
+    ensures bits { IfOk result (λ row. (n : ℕ) → n < length one.now → has row.items n ≡ has one.now n || has other.now n) }
 {
     let mut row = Vec::with_capacity(alloc, one.len())?;
     for n in 0..one.len() {
@@ -94,7 +94,7 @@ fn either(alloc: Global, one: &[bool], other: &[bool]) -> Result<Vec<bool>, OutO
 
 /// Whether one of two rows has the end of a text with so many characters.
 fn is_in_either(one: &[bool], other: &[bool], count: usize) -> bool
-    ensures { result ≡ get_or one.now count false || get_or other.now count false }
+    ensures { result ≡ has one.now count || has other.now count }
 {
     has(one, count) || has(other, count)
 }

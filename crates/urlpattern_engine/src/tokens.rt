@@ -2,8 +2,8 @@
 
 ghost use Rattle.std.specs.Prelude.{◌≡◌, ◌≢◌, ◌∷◌, ◌++◌, ℕ, ◌<◌, ◌≤◌, Bool, List, length, codes, IfNone, IfSome, IsSomeAnd, IsTrue};
 ghost use Rattle.std.specs.Str.{chars};
-ghost use Rattle.urlpattern_engine.specs.Reading.{BeginsWithCaptured, BeginsWithCharacter, BeginsWithToken, IsRead, IsRunOf, IsRunStep, IsStepOf, IsUnquantified, MayBeEmpty, quantifier_of, times_text};
-ghost use Rattle.urlpattern_laws.specs.Dialect.{AllowsGroups, Captured, group_count, Grouped, IsCharacter, IsClassCharacter, Item, Items, Nothing};
+ghost use Rattle.urlpattern_engine.specs.Reading.{BeginsWithCaptured, BeginsWithCharacter, BeginsWithToken, IsRead, IsRepeatOf, IsRunOf, IsRunStep, IsStepOf, IsUnquantified, MayBeEmpty, ReadsCaptured, ReadsFirstSegments, ReadsRuns, ReadsTokens, RepeatsRuns, quantifier_of, times_text};
+ghost use Rattle.urlpattern_laws.specs.Dialect.{Captured, IsCharacter, IsClassCharacter, Items};
 ghost use Rattle.urlpattern_syntax.specs.RegexpText.{regexp_marks};
 ghost use Rattle.urlpattern_syntax.specs.Text.{is_among};
 
@@ -41,8 +41,7 @@ pub(crate) enum Times {
 /// The token at the front of the text, and what follows it.
 pub(crate) fn read_token(text: &str) -> Option<(Token, &str)>
     ensures token { IfSome result (λ read. BeginsWithToken (chars text.now) read.0 (chars read.1.now)) }
-    ensures reads { (token : Token) (rest : List ℕ) →
-        BeginsWithToken (chars text.now) token rest → IsUnquantified rest → IsRead result token rest }
+    ensures reads { ReadsTokens (chars text.now) result }
     ensures len { IfSome result (λ read. length read.1.now < length text.now) }
 {
     if let Some(rest) = after(text, ')') {
@@ -73,8 +72,7 @@ fn read_times(text: &str) -> (Times, &str)
 /// The token that begins with an opening bracket, and what follows it. The text is what follows the bracket.
 fn read_bracket(text: &str) -> Option<(Token, &str)>
     ensures token { IfSome result (λ read. BeginsWithToken (codes "(" ++ chars text.now) read.0 (chars read.1.now)) }
-    ensures reads { (token : Token) (rest : List ℕ) →
-        BeginsWithToken (codes "(" ++ chars text.now) token rest → IsUnquantified rest → IsRead result token rest }
+    ensures reads { ReadsTokens (codes "(" ++ chars text.now) result }
     ensures len { IfSome result (λ read. length read.1.now < length text.now) }
 {
     if let Some(rest) = after(text, '?') {
@@ -94,8 +92,7 @@ fn read_bracket(text: &str) -> Option<(Token, &str)>
 /// The token for the first of segments, and what follows it. The text is what follows the opening bracket.
 fn read_first_segment(text: &str) -> Option<(Token, &str)>
     ensures token { IfSome result (λ read. BeginsWithToken (codes "(" ++ chars text.now) read.0 (chars read.1.now)) }
-    ensures reads { (end : ℕ) (is_greedy : Bool) (rest : List ℕ) →
-        BeginsWithToken (codes "(" ++ chars text.now) (Token.FirstSegment end is_greedy) rest → IsRead result (Token.FirstSegment end is_greedy) rest }
+    ensures reads { ReadsFirstSegments (codes "(" ++ chars text.now) result }
     ensures other { (step : Step) (rest : List ℕ) → BeginsWithCaptured (chars text.now) step rest → result ≡ None }
     ensures len { IfSome result (λ read. length read.1.now < length text.now) }
 {
@@ -126,7 +123,7 @@ pub(crate) fn after_segments(text: &str) -> Option<&str>
 /// The step for what brackets capture, and what follows it.
 fn read_captured(text: &str) -> Option<(Step, &str)>
     ensures step { IfSome result (λ read. BeginsWithCaptured (chars text.now) read.0 (chars read.1.now)) }
-    ensures reads { (step : Step) (rest : List ℕ) → BeginsWithCaptured (chars text.now) step rest → IsRead result step rest }
+    ensures reads { ReadsCaptured (chars text.now) result }
     ensures len { IfSome result (λ read. length read.1.now < length text.now) }
 {
     match after(text, '(') {
@@ -139,7 +136,7 @@ fn read_captured(text: &str) -> Option<(Step, &str)>
 /// bracket.
 fn read_repeated_run(text: &str) -> Option<(Step, &str)>
     ensures step { IfSome result (λ read. BeginsWithCaptured (codes "(" ++ chars text.now) read.0 (chars read.1.now)) }
-    ensures reads { (step : Step) (rest : List ℕ) → BeginsWithCaptured (codes "(" ++ chars text.now) step rest → IsRead result step rest }
+    ensures reads { ReadsCaptured (codes "(" ++ chars text.now) result }
     ensures len { IfSome result (λ read. length read.1.now < length text.now) }
 {
     let (single, rest) = read_run(after(after(text, '?')?, ':')?)?;
@@ -149,11 +146,8 @@ fn read_repeated_run(text: &str) -> Option<(Step, &str)>
 
 /// The step for runs one after the other, so often, which are one run.
 fn repeated_run(run: Step, times: Times) -> Option<Step>
-    ensures step { IfSome result (λ step. (items : Items) → IsStepOf run (Captured items)
-        → AllowsGroups (quantifier_of times) (group_count items) × IsStepOf step (Captured (Item (Grouped items) (quantifier_of times) Nothing))) }
-    ensures reads { (end : ℕ) (is_greedy may_be_empty : Bool) →
-        IsRunStep end is_greedy run → MayBeEmpty is_greedy (quantifier_of times) may_be_empty →
-        result ≡ Some (Step.Longest (record { end = end; may_be_empty = may_be_empty })) }
+    ensures step { IfSome result (λ step. IsRepeatOf run (quantifier_of times) step) }
+    ensures reads { RepeatsRuns run (quantifier_of times) result }
 {
     let (end, is_greedy) = run_of(run)?;
     let may_be_empty = may_be_empty(is_greedy, times)?;
@@ -188,8 +182,7 @@ fn may_be_empty(is_greedy: bool, times: Times) -> Option<bool>
 /// The step for a run of characters, and what follows it.
 pub(crate) fn read_run(text: &str) -> Option<(Step, &str)>
     ensures step { IfSome result (λ read. BeginsWithCaptured (chars text.now) read.0 (chars read.1.now)) }
-    ensures reads { (end : ℕ) (is_greedy : Bool) (step : Step) (rest : List ℕ) → IsRunStep end is_greedy step →
-        BeginsWithCaptured (chars text.now) step rest → IsRead result step rest }
+    ensures reads { ReadsRuns (chars text.now) result }
     ensures len { IfSome result (λ read. length read.1.now < length text.now) }
 {
     match after(text, '.') {
@@ -201,8 +194,7 @@ pub(crate) fn read_run(text: &str) -> Option<(Step, &str)>
 /// The step for a dot and its quantifier, and what follows that. The text is what follows the dot.
 fn read_repeated_dot(text: &str) -> Option<(Step, &str)>
     ensures step { IfSome result (λ read. BeginsWithCaptured (codes "." ++ chars text.now) read.0 (chars read.1.now)) }
-    ensures reads { (end : ℕ) (is_greedy : Bool) (step : Step) (rest : List ℕ) → IsRunStep end is_greedy step →
-        BeginsWithCaptured (codes "." ++ chars text.now) step rest → IsRead result step rest }
+    ensures reads { ReadsRuns (codes "." ++ chars text.now) result }
     ensures len { IfSome result (λ read. length read.1.now < length text.now) }
 {
     match after(text, '*') {
@@ -214,8 +206,7 @@ fn read_repeated_dot(text: &str) -> Option<(Step, &str)>
 /// The step for a class and its quantifier, and what follows that. The text is what follows the two marks of the class.
 fn read_repeated_class(text: &str) -> Option<(Step, &str)>
     ensures step { IfSome result (λ read. BeginsWithCaptured (codes "[^" ++ chars text.now) read.0 (chars read.1.now)) }
-    ensures reads { (end : ℕ) (is_greedy : Bool) (step : Step) (rest : List ℕ) → IsRunStep end is_greedy step →
-        BeginsWithCaptured (codes "[^" ++ chars text.now) step rest → IsRead result step rest }
+    ensures reads { ReadsRuns (codes "[^" ++ chars text.now) result }
     ensures len { IfSome result (λ read. length read.1.now < length text.now) }
 {
     let (c, rest) = read_class_character(text)?;

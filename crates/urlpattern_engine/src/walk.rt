@@ -1,23 +1,27 @@
 //! Matches a text by steps.
 
-ghost use Rattle.std.specs.Prelude.{◌≡◌, ◌∷◌, ◌++◌, [], List, false, replicate, Bool, None, IfOk, OnOk};
+ghost use Rattle.std.specs.Prelude.{◌≡◌, ◌∷◌, ◌++◌, List, false, replicate, Bool, None, IfOk, OnOk};
 ghost use Rattle.std.specs.Str.{chars};
 ghost use Rattle.urlpattern_core.specs.Captured.{captures_view};
 ghost use Rattle.urlpattern_engine.specs.Failed.{IsPlace};
-ghost use Rattle.urlpattern_engine.specs.Steps.{after_text, any_rounds, captured, literals, segmented, single_run, walk};
-ghost use Rattle.urlpattern_engine.specs.Taken.{Adds, Extends, IsCutFor, IsEndHere};
+ghost use Rattle.urlpattern_engine.specs.Steps.{captured, walk};
+ghost use Rattle.urlpattern_engine.specs.Taken.{Adds, Extends};
+
+mod copies;
+mod runs;
+mod segments;
 
 use crate::choices::Remembered;
 use crate::failed::Failed;
-use crate::repeats::{
-    after_literals, begun_after, ends, first_steps, goes_on, pass, skip_copies, without_copy,
-};
-use crate::runs::{has_one_end, longest_front, next_of_run, remember_run};
-use crate::step::{Copies, Group, Run, Segments, Step};
-use crate::texts::{after, after_front, split_at_first, split_at_seam, without_last};
+use crate::repeats::pass;
+use crate::runs::has_one_end;
+use crate::step::{Group, Step};
+use crate::texts::{after, split_at_first};
+use copies::follow_repeated_text;
+use runs::{follow_longest, follow_run, follow_shortest};
+use segments::follow_segmented;
 use std::alloc::Global;
 use urlpattern_core::error::OutOfMemory;
-use urlpattern_syntax::tokenizer::before;
 
 /// What the steps capture of a text that they take whole. `None`: they do not take it whole.
 ///
@@ -52,8 +56,8 @@ fn follow<'t>(
     text: &'t str,
 ) -> Result<bool, OutOfMemory>
     requires { IsPlace failed.old steps.now (chars text.now) }
-    ensures adds { IfOk result (λ is_taken. Adds captures.old.items captures.new.items is_taken (walk steps.now (chars text.now))) }
-    ensures same { IfOk result (λ is_taken. is_taken ≡ false → captures.new.items ≡ captures.old.items) }
+    ensures adds { IfOk result (λ taken. Adds captures.old captures.new taken (walk steps.now (chars text.now))) }
+    ensures same { IfOk result (λ taken. taken ≡ false → captures.new.items ≡ captures.old.items) }
     ensures whole { failed.new ≡ failed.old }
 {
     let count = captures.len();
@@ -75,8 +79,8 @@ fn follow_on<'t>(
     text: &'t str,
 ) -> Result<bool, OutOfMemory>
     requires { IsPlace failed.old steps.now (chars text.now) }
-    ensures adds { IfOk result (λ is_taken. Adds captures.old.items captures.new.items is_taken (walk steps.now (chars text.now))) }
-    ensures more { IfOk result (λ is_taken. is_taken ≡ false → Extends captures.old.items captures.new.items) }
+    ensures adds { IfOk result (λ taken. Adds captures.old captures.new taken (walk steps.now (chars text.now))) }
+    ensures more { IfOk result (λ taken. taken ≡ false → Extends captures.old.items captures.new.items) }
     ensures whole { failed.new ≡ failed.old }
 {
     let mut left = steps;
@@ -143,8 +147,8 @@ fn follow_maybe<'t>(
 ) -> Result<bool, OutOfMemory>
     requires place { IsPlace failed.old steps.now (chars text.now) }
     requires first { steps.now ≡ Step.Maybe group ∷ others.now }
-    ensures adds { IfOk result (λ is_taken. Adds captures.old.items captures.new.items is_taken (walk steps.now (chars text.now))) }
-    ensures more { IfOk result (λ is_taken. is_taken ≡ false → Extends captures.old.items captures.new.items) }
+    ensures adds { IfOk result (λ taken. Adds captures.old captures.new taken (walk steps.now (chars text.now))) }
+    ensures more { IfOk result (λ taken. taken ≡ false → Extends captures.old.items captures.new.items) }
     ensures whole { failed.new ≡ failed.old }
 {
     if failed.contains(steps, text) {
@@ -161,71 +165,6 @@ fn follow_maybe<'t>(
     Ok(false)
 }
 
-/// Whether the steps take the text whole: the first a front without this character, not empty, the shortest first. Where they do,
-/// what they capture is added.
-///
-/// The error is that memory ran out.
-#[cycle(following)]
-fn follow_shortest<'t>(
-    captures: &mut Vec<Option<&'t str>>,
-    failed: &mut Failed<'_, '_>,
-    end: char,
-    steps: &[Step],
-    others: &[Step],
-    text: &'t str,
-) -> Result<bool, OutOfMemory>
-    requires place { IsPlace failed.old steps.now (chars text.now) }
-    requires first { steps.now ≡ Step.Segment end ∷ others.now }
-    ensures adds { IfOk result (λ is_taken. Adds captures.old.items captures.new.items is_taken (walk steps.now (chars text.now))) }
-    ensures same { IfOk result (λ is_taken. is_taken ≡ false → captures.new.items ≡ captures.old.items) }
-    ensures whole { failed.new ≡ failed.old }
-{
-    let mut rest = text;
-    while let Some((_, remaining)) = next_of_run(failed, end, steps, rest) {
-        rest = remaining;
-        if follow_captured(captures, failed, before(text, rest), others, rest)? {
-            return Ok(true);
-        }
-    }
-    remember_run(failed, end, steps, text);
-    Ok(false)
-}
-
-/// Whether the steps take the text whole: the first a front without a line feed, the longest first. Where they do, what they
-/// capture is added.
-///
-/// The error is that memory ran out.
-#[cycle(following)]
-fn follow_longest<'t>(
-    captures: &mut Vec<Option<&'t str>>,
-    failed: &mut Failed<'_, '_>,
-    steps: &[Step],
-    others: &[Step],
-    text: &'t str,
-) -> Result<bool, OutOfMemory>
-    requires place { IsPlace failed.old steps.now (chars text.now) }
-    requires first { steps.now ≡ Step.Anything ∷ others.now }
-    ensures adds { IfOk result (λ is_taken. Adds captures.old.items captures.new.items is_taken (walk steps.now (chars text.now))) }
-    ensures same { IfOk result (λ is_taken. is_taken ≡ false → captures.new.items ≡ captures.old.items) }
-    ensures whole { failed.new ≡ failed.old }
-{
-    if failed.contains(steps, text) {
-        return Ok(false);
-    }
-    let mut front = longest_front(failed, steps, text);
-    loop {
-        let rest = after_front(text, front);
-        if follow_captured(captures, failed, front, others, rest)? {
-            return Ok(true);
-        }
-        failed.insert(steps, rest);
-        let Some(shorter) = without_last(front) else {
-            return Ok(false);
-        };
-        front = shorter;
-    }
-}
-
 /// Whether the steps take the rest of a text whole. Where they do, the front and what they capture are added.
 ///
 /// The error is that memory ran out.
@@ -238,8 +177,8 @@ fn follow_captured<'t>(
     rest: &'t str,
 ) -> Result<bool, OutOfMemory>
     requires { IsPlace failed.old steps.now (chars rest.now) }
-    ensures adds { IfOk result (λ is_taken. Adds captures.old.items captures.new.items is_taken (captured (walk steps.now) (chars front.now) (chars rest.now))) }
-    ensures same { IfOk result (λ is_taken. is_taken ≡ false → captures.new.items ≡ captures.old.items) }
+    ensures adds { IfOk result (λ taken. Adds captures.old captures.new taken (captured (walk steps.now) (chars front.now) (chars rest.now))) }
+    ensures same { IfOk result (λ taken. taken ≡ false → captures.new.items ≡ captures.old.items) }
     ensures whole { failed.new ≡ failed.old }
 {
     captures.push(Some(front))?;
@@ -248,276 +187,6 @@ fn follow_captured<'t>(
     }
     captures.pop();
     Ok(false)
-}
-
-/// Whether the steps, of which the first is a run that is as long as it may be, take the text whole. Where they do, what they
-/// capture is added.
-///
-/// The error is that memory ran out.
-#[cycle(following)]
-fn follow_run<'t>(
-    captures: &mut Vec<Option<&'t str>>,
-    failed: &mut Failed<'_, '_>,
-    run: Run,
-    steps: &[Step],
-    others: &[Step],
-    text: &'t str,
-) -> Result<bool, OutOfMemory>
-    requires place { IsPlace failed.old steps.now (chars text.now) }
-    requires first { steps.now ≡ Step.Longest run ∷ others.now }
-    ensures adds { IfOk result (λ is_taken. Adds captures.old.items captures.new.items is_taken (walk steps.now (chars text.now))) }
-    ensures same { IfOk result (λ is_taken. is_taken ≡ false → captures.new.items ≡ captures.old.items) }
-    ensures whole { failed.new ≡ failed.old }
-{
-    if failed.contains(steps, text) {
-        return Ok(false);
-    }
-    if follow_longest_run(captures, failed, run, others, text)? {
-        return Ok(true);
-    }
-    failed.insert(steps, text);
-    Ok(false)
-}
-
-/// Whether the steps take what follows a run of characters, the longest first. Where they do, the run and what they capture are
-/// added.
-///
-/// The error is that memory ran out.
-#[cycle(following)]
-fn follow_longest_run<'t>(
-    captures: &mut Vec<Option<&'t str>>,
-    failed: &mut Failed<'_, '_>,
-    run: Run,
-    steps: &[Step],
-    text: &'t str,
-) -> Result<bool, OutOfMemory>
-    requires { IsPlace failed.old steps.now (chars text.now) }
-    ensures adds { IfOk result (λ is_taken. Adds captures.old.items captures.new.items is_taken (walk (Step.Longest run ∷ steps.now) (chars text.now))) }
-    ensures same { IfOk result (λ is_taken. is_taken ≡ false → captures.new.items ≡ captures.old.items) }
-    ensures whole { failed.new ≡ failed.old }
-{
-    let (mut front, _) = split_at_first(text, run.end);
-    while let Some(shorter) = without_last(front) {
-        let rest = after_front(text, front);
-        if follow_captured(captures, failed, front, steps, rest)? {
-            return Ok(true);
-        }
-        front = shorter;
-    }
-    if run.may_be_empty {
-        follow_captured(captures, failed, front, steps, text)
-    } else {
-        Ok(false)
-    }
-}
-
-/// Whether the steps, of which the first is before a text that is repeated, take the text whole. Where they do, what they capture
-/// is added.
-///
-/// The error is that memory ran out.
-#[cycle(following)]
-fn follow_repeated_text<'t>(
-    captures: &mut Vec<Option<&'t str>>,
-    failed: &mut Failed<'_, '_>,
-    copies: Copies,
-    steps: &[Step],
-    others: &[Step],
-    text: &'t str,
-) -> Result<bool, OutOfMemory>
-    requires place { IsPlace failed.old steps.now (chars text.now) }
-    requires first { steps.now ≡ Step.Copies copies ∷ others.now }
-    ensures adds { IfOk result (λ is_taken. Adds captures.old.items captures.new.items is_taken (walk steps.now (chars text.now))) }
-    ensures same { IfOk result (λ is_taken. is_taken ≡ false → captures.new.items ≡ captures.old.items) }
-    ensures whole { failed.new ≡ failed.old }
-{
-    if failed.contains(steps, text) {
-        return Ok(false);
-    }
-    if follow_copies(captures, failed, copies, others, text)? {
-        return Ok(true);
-    }
-    failed.insert(steps, text);
-    Ok(false)
-}
-
-/// Whether the steps that follow take what follows copies of a text, the most first. Where they do, what they capture is added.
-///
-/// The error is that memory ran out.
-#[cycle(following)]
-fn follow_copies<'t>(
-    captures: &mut Vec<Option<&'t str>>,
-    failed: &mut Failed<'_, '_>,
-    copies: Copies,
-    steps: &[Step],
-    text: &'t str,
-) -> Result<bool, OutOfMemory>
-    requires { IsPlace failed.old steps.now (chars text.now) }
-    ensures adds { IfOk result (λ is_taken. Adds captures.old.items captures.new.items is_taken (walk (Step.Copies copies ∷ steps.now) (chars text.now))) }
-    ensures same { IfOk result (λ is_taken. is_taken ≡ false → captures.new.items ≡ captures.old.items) }
-    ensures whole { failed.new ≡ failed.old }
-{
-    let first = copies.text.first;
-    let literal = first_steps(steps, copies.text.others);
-    let others = pass(steps, copies.text.others);
-    if copies.may_be_missing {
-        return follow_any_copies(captures, failed, first, literal, others, text);
-    }
-    match after_literals(text, first, literal) {
-        Some(rest) => follow_any_copies(captures, failed, first, literal, others, rest),
-        None => Ok(false),
-    }
-}
-
-/// Whether the other steps take what follows any number of copies of a text, the most first. Where they do, what they capture is
-/// added. The text is the first character and those of the literal steps.
-///
-/// The error is that memory ran out.
-#[cycle(following)]
-fn follow_any_copies<'t>(
-    captures: &mut Vec<Option<&'t str>>,
-    failed: &mut Failed<'_, '_>,
-    first: char,
-    literal: &[Step],
-    others: &[Step],
-    text: &'t str,
-) -> Result<bool, OutOfMemory>
-    requires { IsPlace failed.old others.now (chars text.now) }
-    ensures adds { IfOk result (λ is_taken. Adds captures.old.items captures.new.items is_taken
-        (any_rounds (after_text (first ∷ literals literal.now)) (λ front rest. walk others.now rest) [] (chars text.now))) }
-    ensures same { IfOk result (λ is_taken. is_taken ≡ false → captures.new.items ≡ captures.old.items) }
-    ensures whole { failed.new ≡ failed.old }
-{
-    let rest = skip_copies(text, first, literal);
-    let mut front = before(text, rest);
-    loop {
-        if follow(captures, failed, others, after_front(text, front))? {
-            return Ok(true);
-        }
-        let Some(shorter) = without_copy(front, literal) else {
-            return Ok(false);
-        };
-        front = shorter;
-    }
-}
-
-/// Whether the steps, of which the first is before segments, take the text whole. Where they do, what they capture is added.
-///
-/// The error is that memory ran out.
-#[cycle(following)]
-fn follow_segmented<'t>(
-    captures: &mut Vec<Option<&'t str>>,
-    failed: &mut Failed<'_, '_>,
-    segments: Segments,
-    steps: &[Step],
-    others: &[Step],
-    text: &'t str,
-) -> Result<bool, OutOfMemory>
-    requires place { IsPlace failed.old steps.now (chars text.now) }
-    requires first { steps.now ≡ Step.Segments segments ∷ others.now }
-    ensures adds { IfOk result (λ is_taken. Adds captures.old.items captures.new.items is_taken (walk steps.now (chars text.now))) }
-    ensures same { IfOk result (λ is_taken. is_taken ≡ false → captures.new.items ≡ captures.old.items) }
-    ensures whole { failed.new ≡ failed.old }
-{
-    if failed.contains(steps, text) {
-        return Ok(false);
-    }
-    if follow_segments(captures, failed, segments, others, text)? {
-        return Ok(true);
-    }
-    failed.insert(steps, text);
-    Ok(false)
-}
-
-/// Whether the steps that follow take what follows segments, by the order in which these are tried. Where they do, the segments and
-/// what they capture are added.
-///
-/// The error is that memory ran out.
-#[cycle(following)]
-fn follow_segments<'t>(
-    captures: &mut Vec<Option<&'t str>>,
-    failed: &mut Failed<'_, '_>,
-    segments: Segments,
-    steps: &[Step],
-    text: &'t str,
-) -> Result<bool, OutOfMemory>
-    requires { IsPlace failed.old steps.now (chars text.now) }
-    ensures adds { IfOk result (λ is_taken. Adds captures.old.items captures.new.items is_taken (walk (Step.Segments segments ∷ steps.now) (chars text.now))) }
-    ensures same { IfOk result (λ is_taken. is_taken ≡ false → captures.new.items ≡ captures.old.items) }
-    ensures whole { failed.new ≡ failed.old }
-{
-    let literal = first_steps(steps, segments.separator.others);
-    let others = pass(steps, segments.separator.others);
-    let alloc = *captures.allocator();
-    match end_of_segments(alloc, failed, segments, literal, others, text)? {
-        Some(count) => {
-            let (front, rest) = split_at_seam(text, count);
-            follow_captured(captures, failed, front, others, rest)
-        }
-        None => Ok(false),
-    }
-}
-
-/// Where the segments at the front of a text end that are the first that the other steps lead on from, by the bytes before. `None`:
-/// there are none. The text between two segments is made up of the first character and the literal steps.
-///
-/// The error is that memory ran out.
-#[cycle(following)]
-fn end_of_segments(
-    alloc: Global,
-    failed: &mut Failed<'_, '_>,
-    segments: Segments,
-    literal: &[Step],
-    others: &[Step],
-    text: &str,
-) -> Result<Option<usize>, OutOfMemory>
-    requires { IsPlace failed.old others.now (chars text.now) }
-    ensures cut { IfOk result (λ end. IsCutFor (captured (walk others.now)) text.now end
-        (segmented (segments.separator.first ∷ literals literal.now) (single_run segments.is_greedy segments.end) (captured (walk others.now)) [] (chars text.now))) }
-    ensures whole { failed.new ≡ failed.old }
-{
-    let mut begun = Vec::with_capacity(alloc, text.len())?;
-    let mut later = None;
-    let mut front = text;
-    loop {
-        let rest = after_front(text, front);
-        let next = begun_after(&begun, segments.separator.first, literal, rest);
-        let stopping = end_here(alloc, failed, others, next, front.len(), rest)?;
-        let onward = goes_on(rest, segments.end, later);
-        let (beginning, either) = ends(segments.is_greedy, onward, stopping);
-        let Some(shorter) = without_last(front) else {
-            return Ok(beginning);
-        };
-        begun.push(beginning)?;
-        later = either;
-        front = shorter;
-    }
-}
-
-/// Where segments end of which a run may end here: where those after it end, or else here, where the steps take the rest.
-///
-/// The error is that memory ran out.
-#[cycle(following)]
-fn end_here(
-    alloc: Global,
-    failed: &mut Failed<'_, '_>,
-    steps: &[Step],
-    next: Option<usize>,
-    here: usize,
-    rest: &str,
-) -> Result<Option<usize>, OutOfMemory>
-    requires { IsPlace failed.old steps.now (chars rest.now) }
-    ensures end { IfOk result (λ end. IsEndHere next here (walk steps.now (chars rest.now)) end) }
-    ensures whole { failed.new ≡ failed.old }
-{
-    if next.is_some() {
-        return Ok(next);
-    }
-    let mut captures = Vec::new(alloc);
-    if follow(&mut captures, failed, steps, rest)? {
-        Ok(Some(here))
-    } else {
-        Ok(None)
-    }
 }
 
 /// Adds so many captures that are missing.

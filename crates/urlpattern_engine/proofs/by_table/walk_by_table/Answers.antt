@@ -1,4 +1,4 @@
-use Rattle.std.proofs.Common.{rules, ◌≡◌, ◌∷◌, [], List, length, sym, ap, ◌∙◌, subst}
+use Rattle.std.proofs.Common.{rules, true, false, ◌≡◌, ◌∷◌, [], List, length, sym, ap, ◌∙◌, subst}
 use Rattle.std.proofs.lemmas.List.{nil_from_length}
 use Rattle.std.specs.Prelude.{IfSome}
 use Rattle.std.specs.Str.{chars, IsUtf8}
@@ -7,9 +7,9 @@ use Rattle.urlpattern_engine.specs.declared.step.Step.{Step}
 use Rattle.urlpattern_engine.specs.Failed.{EndsWith}
 use Rattle.urlpattern_engine.specs.Steps.{walk}
 use Rattle.urlpattern_engine.specs.Table.{IsRow, following, row_at}
-use Rattle.urlpattern_engine.specs.Taken.{Adds, with_captures}
+use Rattle.urlpattern_engine.specs.Taken.{with_captures}
 use Rattle.urlpattern_engine.proofs.FailedLemmas.{ends_drop, ends_longer}
-use Rattle.urlpattern_engine.proofs.FollowLemmas.{end_adds}
+use Rattle.urlpattern_engine.proofs.FollowLemmas.{end_taken}
 use Rattle.urlpattern_engine.proofs.TableLemmas.{row_within}
 use Rattle.urlpattern_engine.proofs.by_table.walk_by_table.Goals as goal
 
@@ -69,22 +69,16 @@ loop-step-preserved c =
 
 pub returns-then-is_empty : goal.returns-then-is_empty
 returns-then-is_empty c =
-    let now = c.loop-step.captures.items in
     let rest = c.loop-step.rest.now in
-    let none : c.loop-step.left.now ≡ [] = nil_from_length c.loop-step.left.now (search rules) in
     let utf8 : IsUtf8 rest = search rules in
-    let adds : Adds now now c.is_empty.result (walk [] (chars rest)) =
-    end_adds now (chars rest) c.is_empty.result (λ e. chars-empty rest (search rules)) (λ e. chars-some rest utf8 (search rules)) in
-    subst (λ b. Adds now now b (walk [] (chars rest))) c.if-is_empty.true adds
-    ∙ sym (c.loop-step.invariant.so_far ∙ ap (λ l. with_captures now (walk l (chars rest))) none)
+    end_taken c.loop-step.captures.items c.loop-step.left.now (chars rest) c.is_empty.result true (nil_from_length c.loop-step.left.now (search rules)) (λ e. chars-empty rest (search rules))
+    (λ e. chars-some rest utf8 (search rules)) c.if-is_empty.true
+    ∙ sym c.loop-step.invariant.so_far
 
 pub returns : goal.returns
 returns c =
-    let now = c.loop-step.captures.items in
     let rest = c.loop-step.rest.now in
-    let none : c.loop-step.left.now ≡ [] = nil_from_length c.loop-step.left.now (search rules) in
     let utf8 : IsUtf8 rest = search rules in
-    let adds : Adds now now c.is_empty.result (walk [] (chars rest)) =
-    end_adds now (chars rest) c.is_empty.result (λ e. chars-empty rest (search rules)) (λ e. chars-some rest utf8 (search rules)) in
-    subst (λ b. Adds now now b (walk [] (chars rest))) c.if-is_empty.false adds
-    ∙ sym (c.loop-step.invariant.so_far ∙ ap (λ l. with_captures now (walk l (chars rest))) none)
+    end_taken c.loop-step.captures.items c.loop-step.left.now (chars rest) c.is_empty.result false (nil_from_length c.loop-step.left.now (search rules)) (λ e. chars-empty rest (search rules))
+    (λ e. chars-some rest utf8 (search rules)) c.if-is_empty.false
+    ∙ sym c.loop-step.invariant.so_far

@@ -1,4 +1,4 @@
-use Rattle.urlpattern_engine.proofs.ReadingLemmas.{copies_set}
+use Rattle.urlpattern_engine.proofs.GroupLemmas.{copies_set}
 use Rattle.urlpattern_engine.proofs.reading.close_copies.Goals as goal
 
 pub returns-clause-group : goal.returns-clause-group

@@ -3,7 +3,7 @@ use Rattle.std.proofs.lemmas.List.{take-append-drop}
 use Rattle.urlpattern_engine.specs.declared.step.Step.TheVariants.{Maybe}
 use Rattle.urlpattern_engine.specs.Reading.{IsGroup, IsSomeGroup}
 use Rattle.urlpattern_engine.specs.Steps.{capture_count}
-use Rattle.urlpattern_engine.proofs.ReadingLemmas.{inserted, some_group}
+use Rattle.urlpattern_engine.proofs.GroupLemmas.{inserted, some_group}
 use Rattle.urlpattern_engine.proofs.reading.close_group.Goals as goal
 
 pub returns-in-Once-clause-group : goal.returns-in-Once-clause-group

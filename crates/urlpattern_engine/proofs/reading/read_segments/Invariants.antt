@@ -4,7 +4,7 @@ use denote.Shadow.{shadow}
 use Rattle.std.specs.Str.{chars}
 use Rattle.urlpattern_laws.specs.Dialect.{Character}
 use Rattle.urlpattern_engine.specs.Reading.{AreCharacters, characters_text, literal_steps}
-use Rattle.urlpattern_engine.proofs.ReadingLemmas.{AreLeft}
+use Rattle.urlpattern_engine.proofs.SegmentTextLemmas.{AreLeft}
 use Rattle.urlpattern_engine.proofs.reading.read_segments.Given as goal
 
 abbrev pub invariant-loop-c : goal.invariant-loop-c

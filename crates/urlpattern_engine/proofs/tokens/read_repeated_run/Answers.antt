@@ -1,8 +1,7 @@
-use Rattle.std.proofs.Common.{◌≡◌, ◌++◌, Some, codes, sym, ◌∙◌, subst}
+use Rattle.std.proofs.Common.{◌≡◌, ◌++◌, Some, None, codes}
 use Rattle.std.specs.Str.{chars}
-use Rattle.urlpattern_engine.specs.declared.step.Step.TheVariants.{Longest}
-use Rattle.urlpattern_engine.specs.Reading.{BeginsWithCaptured, MayBeEmpty, quantifier_of, times_text}
-use Rattle.urlpattern_engine.proofs.FrontLemmas.{ReadsRun, captured_repeated, repeated_read, repeated_run_in, repeated_times}
+use Rattle.urlpattern_engine.specs.Reading.{BeginsWithCaptured, times_text}
+use Rattle.urlpattern_engine.proofs.FrontLemmas.{ReadsRun, captured_repeated, repeated_read, repeated_run_in, repeated_made}
 use Rattle.urlpattern_engine.proofs.TokenLemmas.{repeated_run}
 use Rattle.urlpattern_engine.proofs.tokens.read_repeated_run.Goals as goal
 
@@ -43,13 +42,10 @@ returns-in_err-repeated_run-clause-reads c = λ step rest begins.
     let asked = c.in_ok-after.ensures.cut in
     let colon = c.in_ok-after-2.ensures.cut in
     let cut : text ≡ codes "?:" ++ inner = cc in
-    let repeated = captured_repeated step text rest begins in
     let reads : ReadsRun inner c.in_ok-single.single behind = rw (c.in_ok-single.single-is, c.in_ok-single.rest-is) c.in_ok-single.ensures.reads in
-    let found = repeated_read step text rest inner repeated c.in_ok-single.single behind cut reads in
-    let read = repeated_times step text rest repeated behind (chars c.in_ok-after-3.field-0.now) (chars c.read_times-times.result.1.now) c.read_times-times.result.0 found.1 c.in_ok-after-3.ensures.cut
-    c.read_times-times.ensures.times c.read_times-times.ensures.longest in
-    let may = subst (λ t. MayBeEmpty repeated.is_greedy (quantifier_of t) repeated.may_be_empty) (sym read.0) repeated.may in
-    cc (c.in_err-repeated_run.ensures.reads repeated.end repeated.is_greedy repeated.may_be_empty found.0 may)
+    let read = repeated_made step text rest inner c.in_ok-single.single behind (chars c.in_ok-after-3.field-0.now) (chars c.read_times-times.result.1.now) c.read_times-times.result.0 None begins cut reads
+    c.in_ok-after-3.ensures.cut c.read_times-times.ensures.times c.read_times-times.ensures.longest c.in_err-repeated_run.ensures.reads in
+    cc read.0
 
 pub returns-clause-reads : goal.returns-clause-reads
 returns-clause-reads c = λ step rest begins.
@@ -59,13 +55,9 @@ returns-clause-reads c = λ step rest begins.
     let asked = c.in_ok-after.ensures.cut in
     let colon = c.in_ok-after-2.ensures.cut in
     let cut : text ≡ codes "?:" ++ inner = cc in
-    let repeated = captured_repeated step text rest begins in
     let reads : ReadsRun inner c.in_ok-single.single behind = rw (c.in_ok-single.single-is, c.in_ok-single.rest-is) c.in_ok-single.ensures.reads in
-    let found = repeated_read step text rest inner repeated c.in_ok-single.single behind cut reads in
-    let read = repeated_times step text rest repeated behind (chars c.in_ok-after-3.field-0.now) (chars c.read_times-times.result.1.now) c.read_times-times.result.0 found.1 c.in_ok-after-3.ensures.cut
-    c.read_times-times.ensures.times c.read_times-times.ensures.longest in
-    let may = subst (λ t. MayBeEmpty repeated.is_greedy (quantifier_of t) repeated.may_be_empty) (sym read.0) repeated.may in
-    let made : Some c.in_ok-repeated_run.field-0 ≡ Some (Longest (record { end = repeated.end; may_be_empty = repeated.may_be_empty })) =
-    c.in_ok-repeated_run.ensures.reads repeated.end repeated.is_greedy repeated.may_be_empty found.0 may in
-    let same : c.in_ok-repeated_run.field-0 ≡ Longest (record { end = repeated.end; may_be_empty = repeated.may_be_empty }) = cc in
-    (same ∙ sym repeated.same, read.1)
+    let read = repeated_made step text rest inner c.in_ok-single.single behind (chars c.in_ok-after-3.field-0.now) (chars c.read_times-times.result.1.now) c.read_times-times.result.0 (Some c.in_ok-repeated_run.field-0) begins cut reads
+    c.in_ok-after-3.ensures.cut c.read_times-times.ensures.times c.read_times-times.ensures.longest c.in_ok-repeated_run.ensures.reads in
+    let made : Some c.in_ok-repeated_run.field-0 ≡ Some step = read.0 in
+    let same : c.in_ok-repeated_run.field-0 ≡ step = cc in
+    (same, read.1)

@@ -25,11 +25,11 @@ decreases-follow_captured l = 10 * length l.steps.now + 2
 abbrev pub decreases-follow_maybe : goal.decreases-follow_maybe
 decreases-follow_maybe l = 10 * length l.others.now + 3
 
-abbrev pub decreases-follow_shortest : goal.decreases-follow_shortest
-decreases-follow_shortest l = 10 * length l.others.now + 3
+abbrev pub decreases-runs::follow_shortest : goal.decreases-runs::follow_shortest
+decreases-runs::follow_shortest l = 10 * length l.others.now + 3
 
-abbrev pub decreases-follow_longest : goal.decreases-follow_longest
-decreases-follow_longest l = 10 * length l.others.now + 3
+abbrev pub decreases-runs::follow_longest : goal.decreases-runs::follow_longest
+decreases-runs::follow_longest l = 10 * length l.others.now + 3
 
 abbrev pub invariant-follow_on-loop-step : goal.invariant-follow_on-loop-step
 invariant-follow_on-loop-step l = record {
@@ -45,8 +45,8 @@ invariant-follow_on-loop-step l = record {
 abbrev pub decreases-follow_on-loop-step : goal.decreases-follow_on-loop-step
 decreases-follow_on-loop-step l = length l.left
 
-abbrev pub invariant-follow_shortest-loop-remaining : goal.invariant-follow_shortest-loop-remaining
-invariant-follow_shortest-loop-remaining l = record {
+abbrev pub invariant-runs::follow_shortest-loop-remaining : goal.invariant-runs::follow_shortest-loop-remaining
+invariant-runs::follow_shortest-loop-remaining l = record {
   is_text : shadow (Utf8 l.rest);
   so_far : (front : List ℕ) × (chars l.text ≡ front ++ chars l.rest)
       × (walk l.steps (chars l.text) ≡ shortest l.end (captured (walk l.others)) front (chars l.rest));
@@ -54,11 +54,11 @@ invariant-follow_shortest-loop-remaining l = record {
   whole : l.failed ≡ l.fn.failed;
 }
 
-abbrev pub decreases-follow_shortest-loop-remaining : goal.decreases-follow_shortest-loop-remaining
-decreases-follow_shortest-loop-remaining l = length l.rest
+abbrev pub decreases-runs::follow_shortest-loop-remaining : goal.decreases-runs::follow_shortest-loop-remaining
+decreases-runs::follow_shortest-loop-remaining l = length l.rest
 
-abbrev pub invariant-follow_longest-loop-failed : goal.invariant-follow_longest-loop-failed
-invariant-follow_longest-loop-failed l = record {
+abbrev pub invariant-runs::follow_longest-loop-failed : goal.invariant-runs::follow_longest-loop-failed
+invariant-runs::follow_longest-loop-failed l = record {
   is_text : shadow (Utf8 l.front);
   so_far : (rest : List ℕ) × IsUtf8 rest × (l.text ≡ l.front ++ rest) × (up_to_first line_feed (chars l.front) ≡ chars l.front)
       × (longest line_feed (captured (walk l.others)) (chars l.front) (chars rest) ≡ captured (walk l.others) (chars l.front) (chars rest));
@@ -66,17 +66,17 @@ invariant-follow_longest-loop-failed l = record {
   whole : l.failed ≡ l.fn.failed;
 }
 
-abbrev pub decreases-follow_longest-loop-failed : goal.decreases-follow_longest-loop-failed
-decreases-follow_longest-loop-failed l = length l.front
+abbrev pub decreases-runs::follow_longest-loop-failed : goal.decreases-runs::follow_longest-loop-failed
+decreases-runs::follow_longest-loop-failed l = length l.front
 
-abbrev pub decreases-follow_any_copies : goal.decreases-follow_any_copies
-decreases-follow_any_copies l = 10 * length l.others.now + 2
+abbrev pub decreases-copies::follow_any_copies : goal.decreases-copies::follow_any_copies
+decreases-copies::follow_any_copies l = 10 * length l.others.now + 2
 
-abbrev pub decreases-follow_copies : goal.decreases-follow_copies
-decreases-follow_copies l = 10 * length l.steps.now + 3
+abbrev pub decreases-copies::follow_copies : goal.decreases-copies::follow_copies
+decreases-copies::follow_copies l = 10 * length l.steps.now + 3
 
-abbrev pub invariant-follow_any_copies-loop-shorter : goal.invariant-follow_any_copies-loop-shorter
-invariant-follow_any_copies-loop-shorter l = record {
+abbrev pub invariant-copies::follow_any_copies-loop-shorter : goal.invariant-copies::follow_any_copies-loop-shorter
+invariant-copies::follow_any_copies-loop-shorter l = record {
   is_text : shadow (Utf8 l.front);
   so_far : (rest : List ℕ) × IsUtf8 rest × (l.text ≡ l.front ++ rest)
       × (n : ℕ) × (chars l.front ≡ copies_of n (l.fn.first ∷ literals l.literal))
@@ -85,14 +85,14 @@ invariant-follow_any_copies-loop-shorter l = record {
   whole : l.failed ≡ l.fn.failed;
 }
 
-abbrev pub decreases-follow_any_copies-loop-shorter : goal.decreases-follow_any_copies-loop-shorter
-decreases-follow_any_copies-loop-shorter l = length l.front
+abbrev pub decreases-copies::follow_any_copies-loop-shorter : goal.decreases-copies::follow_any_copies-loop-shorter
+decreases-copies::follow_any_copies-loop-shorter l = length l.front
 
-abbrev pub decreases-follow_longest_run : goal.decreases-follow_longest_run
-decreases-follow_longest_run l = 10 * length l.steps.now + 3
+abbrev pub decreases-runs::follow_longest_run : goal.decreases-runs::follow_longest_run
+decreases-runs::follow_longest_run l = 10 * length l.steps.now + 3
 
-abbrev pub invariant-follow_longest_run-loop-shorter : goal.invariant-follow_longest_run-loop-shorter
-invariant-follow_longest_run-loop-shorter l = record {
+abbrev pub invariant-runs::follow_longest_run-loop-shorter : goal.invariant-runs::follow_longest_run-loop-shorter
+invariant-runs::follow_longest_run-loop-shorter l = record {
   is_text : shadow (Utf8 l.front);
   so_far : (rest : List ℕ) × IsUtf8 rest × (l.text ≡ l.front ++ rest)
       × (longest_run l.run.may_be_empty l.run.end (captured (walk l.steps)) [] (chars l.text) ≡ falling (at_least l.run.may_be_empty (captured (walk l.steps))) [] (chars l.front) (chars rest));
@@ -100,34 +100,34 @@ invariant-follow_longest_run-loop-shorter l = record {
   whole : l.failed ≡ l.fn.failed;
 }
 
-abbrev pub decreases-follow_longest_run-loop-shorter : goal.decreases-follow_longest_run-loop-shorter
-decreases-follow_longest_run-loop-shorter l = length l.front
+abbrev pub decreases-runs::follow_longest_run-loop-shorter : goal.decreases-runs::follow_longest_run-loop-shorter
+decreases-runs::follow_longest_run-loop-shorter l = length l.front
 
-abbrev pub decreases-follow_run : goal.decreases-follow_run
-decreases-follow_run l = 10 * length l.others.now + 4
+abbrev pub decreases-runs::follow_run : goal.decreases-runs::follow_run
+decreases-runs::follow_run l = 10 * length l.others.now + 4
 
-abbrev pub decreases-follow_repeated_text : goal.decreases-follow_repeated_text
-decreases-follow_repeated_text l = 10 * length l.others.now + 4
+abbrev pub decreases-copies::follow_repeated_text : goal.decreases-copies::follow_repeated_text
+decreases-copies::follow_repeated_text l = 10 * length l.others.now + 4
 
-abbrev pub decreases-end_here : goal.decreases-end_here
-decreases-end_here l = 10 * length l.steps.now + 2
+abbrev pub decreases-segments::end_here : goal.decreases-segments::end_here
+decreases-segments::end_here l = 10 * length l.steps.now + 2
 
-abbrev pub decreases-end_of_segments : goal.decreases-end_of_segments
-decreases-end_of_segments l = 10 * length l.others.now + 3
+abbrev pub decreases-segments::end_of_segments : goal.decreases-segments::end_of_segments
+decreases-segments::end_of_segments l = 10 * length l.others.now + 3
 
-abbrev pub decreases-follow_segments : goal.decreases-follow_segments
-decreases-follow_segments l = 10 * length l.steps.now + 4
+abbrev pub decreases-segments::follow_segments : goal.decreases-segments::follow_segments
+decreases-segments::follow_segments l = 10 * length l.steps.now + 4
 
-abbrev pub invariant-end_of_segments-loop-begun : goal.invariant-end_of_segments-loop-begun
-invariant-end_of_segments-loop-begun l = record {
+abbrev pub invariant-segments::end_of_segments-loop-begun : goal.invariant-segments::end_of_segments-loop-begun
+invariant-segments::end_of_segments-loop-begun l = record {
   is_text : shadow (Utf8 l.front);
   so_far : (rest : List ℕ) × IsUtf8 rest × (l.text ≡ l.front ++ rest)
       × IsTable l.segments.separator.first (literals l.literal) l.segments.is_greedy l.segments.end (captured (walk l.others)) l.text (chars l.front) (chars rest) l.begun.items l.later;
   whole : l.failed ≡ l.fn.failed;
 }
 
-abbrev pub decreases-end_of_segments-loop-begun : goal.decreases-end_of_segments-loop-begun
-decreases-end_of_segments-loop-begun l = length l.front
+abbrev pub decreases-segments::end_of_segments-loop-begun : goal.decreases-segments::end_of_segments-loop-begun
+decreases-segments::end_of_segments-loop-begun l = length l.front
 
-abbrev pub decreases-follow_segmented : goal.decreases-follow_segmented
-decreases-follow_segmented l = 10 * length l.others.now + 5
+abbrev pub decreases-segments::follow_segmented : goal.decreases-segments::follow_segmented
+decreases-segments::follow_segmented l = 10 * length l.others.now + 5

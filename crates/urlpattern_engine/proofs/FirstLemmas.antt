@@ -1,0 +1,27 @@
+-- The places that are left of a match, and the first of the steps.
+use Rattle.std.proofs.Common.{◌≡◌, ℕ, List, [], ◌∷◌, ◌++◌, Bool, true, false, None, refl, sym, ap, ◌∙◌, subst}
+use Rattle.std.specs.Str.{chars, IsUtf8}
+use Rattle.urlpattern_engine.specs.declared.step.Step.{Step}
+use Rattle.urlpattern_engine.specs.Failed.{EndsWith, IsPlace, Whole}
+use Rattle.urlpattern_engine.specs.Steps.{walk}
+use Rattle.urlpattern_engine.specs.Taken.{AreAdded, Kept}
+use Rattle.urlpattern_engine.proofs.FailedLemmas.{ends_same, place_within}
+use Rattle.urlpattern_engine.proofs.FollowLemmas.{plus, adds_none, chars_end}
+
+-- what stands behind a front may be left too
+pub rest_place : (whole now : Whole) (steps others : List Step) (text front rest : List ℕ) → now ≡ whole → IsPlace whole steps (chars text) → EndsWith steps others → IsUtf8 front → text ≡ front ++ rest
+    → IsPlace now others (chars rest)
+rest_place whole now steps others text front rest same place end u e = place_within whole now steps others (chars text) (chars rest) same place end (chars_end text front rest u e)
+
+module _ (step : Step) (steps others : List Step) (first : steps ≡ step ∷ others) where
+  -- the others and the same text may be left too
+  pub others_place : (whole : Whole) (text : List ℕ) → IsPlace whole steps text → IsPlace whole others text
+  others_place whole text place = place_within whole whole steps others text text refl place (step ∷ [], first) (ends_same text)
+
+  -- the steps take no text that the first and the others do not
+  pub first_dead : (text : List ℕ) (old new : Kept) (is_taken : Bool) → AreAdded old new is_taken (walk (step ∷ others) text) → is_taken ≡ false → walk steps text ≡ None
+  first_dead text old new is_taken adds missed = ap (λ l. walk l text) first ∙ adds_none old new is_taken (walk (step ∷ others) text) missed adds
+
+  -- what the first and the others capture is what the steps do
+  pub first_taken : (text : List ℕ) (old new : Kept) (is_taken : Bool) → AreAdded old new is_taken (walk (step ∷ others) text) → is_taken ≡ true → AreAdded old new true (walk steps text)
+  first_taken text old new is_taken adds taken = subst (λ b. AreAdded old new b (walk (step ∷ others) text)) taken adds ∙ ap (λ l. plus old (walk l text)) (sym first)
