@@ -1,5 +1,5 @@
 -- What the program answers to its words, and what it refuses. Words and texts are bytes.
-use Rattle.std.specs.Prelude.{◌≡◌, ◌≢◌, ◌↔◌, ◌⊎◌, All, ◌++◌, ℕ, Bool, false, if◌then◌else◌, List, [], ◌∷◌, length, map, max, codes, bytes_eq, Option, None, Some, Result, Ok, Err, String, string_bytes, encode_utf8_all, slice_get, take, IsSome}
+use Rattle.std.specs.Prelude.{◌≡◌, ◌≢◌, ◌↔◌, ◌⊎◌, All, ◌++◌, ℕ, Bool, false, if◌then◌else◌, List, [], ◌∷◌, length, map, max, codes, bytes_eq, Option, None, Some, Result, Ok, Err, String, string_bytes, encode_utf8_all, slice_get, take, IsSome, MatchOption}
 use Rattle.std.specs.Ordering.{on}
 use Rattle.std.specs.Cmp.Lexicographic.{slice_cmp}
 use Rattle.std.specs.List.{AllZip, Contains, flat_map}
@@ -7,9 +7,13 @@ use Rattle.std.specs.List.Sorted.{IsStrictlySortedBy}
 use Rattle.std.specs.Ordering.{nat_cmp}
 use Rattle.std.specs.Str.{chars}
 use Rattle.std.specs.declared.alloc.Global.{Global}
+use Rattle.std.specs.Io.KnownBytes.{Appends}
+use Rattle.url.specs.declared.Url.{Url}
 use Rattle.url.specs.Parts.{Parts}
 use Rattle.urlpat_commands.specs.declared.command.Failure.{Failure}
 use Rattle.urlpat_commands.specs.declared.command.Failure.TheVariants as failures
+use Rattle.urlpat_commands.specs.declared.command.Printed.{Printed}
+use Rattle.urlpat_commands.specs.declared.command.TheConstants.{DONE, NO_MATCH}
 use Rattle.urlpat_commands.specs.Kinds.{IsKind, IsNamed}
 use Rattle.urlpat_commands.specs.Report.{component_lines, first_line, group_line}
 use Rattle.urlpattern.specs.Compiled.{Compiles}
@@ -299,3 +303,23 @@ IsFailure (command ∷ words) failure =
     ⊎ ((command ≡ codes "match") × IsMatchFailure words failure)
     ⊎ ((command ≡ codes "first") × IsFirstFailure words failure)
     ⊎ (¬ IsCommand command × (failure ≡ failures.Usage))
+
+-- ---- what the program does
+
+-- what is printed answers the words, with this status
+abbrev pub Prints : (words : List (List ℕ)) → (status : ℕ) → (old new : Option (List ℕ)) → Type 0
+Prints words status old new = (text : List ℕ) × IsAnswer words text status × Appends old new text
+
+-- the words have an answer, which is not printed or only in part
+abbrev pub HasAnswer : (words : List (List ℕ)) → Type 0
+HasAnswer words = (text : List ℕ) × (status : ℕ) × IsAnswer words text status
+
+-- the words have none, and this is so
+abbrev pub FailsWhere : (words : List (List ℕ)) → (IsSo : Type 0) → Type 0
+FailsWhere words IsSo = (failure : Failure) × IsFailure words failure × IsSo
+
+-- what is printed are the lines that were found, or that there are none
+abbrev pub IsPrintedOf : Option (String Global) → Printed → Type 0
+IsPrintedOf lines printed =
+    MatchOption lines ((string_bytes printed.text ≡ codes "no match\n") × (printed.status ≡ NO_MATCH))
+        (λ text. (printed.text ≡ text) × (printed.status ≡ DONE))

@@ -1,8 +1,7 @@
 //! The commands of the program: what its words ask for, and what it prints.
 
-ghost use Rattle.std.specs.Io.KnownBytes.{Appends};
-ghost use Rattle.std.specs.Prelude.{◌≡◌, ◌≢◌, ◌⊎◌, ℕ, List, codes, map, string_bytes, IfErr, IfOk, IfSome, MatchOption, OnOk, Ok, None};
-ghost use Rattle.urlpat_commands.specs.Answers.{FailsComponent, IsAnswer, IsComponentAnswer, IsComponentFailure, IsComponentText, IsCopy, IsFailure, IsFirstAnswer, IsFirstFailure, IsMatchAnswer, IsMatchFailure, words_view};
+ghost use Rattle.std.specs.Prelude.{◌≡◌, ◌≢◌, ◌⊎◌, map, string_bytes, IfErr, IfOk, IfSome, OnOk, Ok, None};
+ghost use Rattle.urlpat_commands.specs.Answers.{FailsComponent, FailsWhere, HasAnswer, IsAnswer, IsComponentAnswer, IsComponentFailure, IsComponentText, IsCopy, IsFailure, IsPrintedOf, Prints, IsFirstAnswer, IsFirstFailure, IsMatchAnswer, IsMatchFailure, words_view};
 ghost use Rattle.urlpat_commands.specs.Kinds.{IsKind, IsNamed};
 ghost use Rattle.urlpat_commands.specs.Report.{component_lines, failure_lines};
 ghost use Rattle.urlpat_commands.specs.declared.command.Failure.{Failure};
@@ -79,11 +78,9 @@ pub fn run<Out: Write, Err: Write>(
     err: &mut Err,
 ) -> u8
     ensures status { (result ≡ DONE) ⊎ (result ≡ NO_MATCH) ⊎ (result ≡ FAILED) }
-    ensures answers { result ≢ FAILED → (text : List ℕ) × IsAnswer (words_view words.now) text result
-        × Appends (Out.contents out.old) (Out.contents out.new) text }
+    ensures answers { result ≢ FAILED → Prints (words_view words.now) result (Out.contents out.old) (Out.contents out.new) }
     ensures quiet { result ≢ FAILED → err.new ≡ err.old }
-    ensures fails { result ≡ FAILED → ((failure : Failure) × IsFailure (words_view words.now) failure × (out.new ≡ out.old))
-        ⊎ ((text : List ℕ) × (status : ℕ) × IsAnswer (words_view words.now) text status) }
+    ensures fails { result ≡ FAILED → FailsWhere (words_view words.now) (out.new ≡ out.old) ⊎ HasAnswer (words_view words.now) }
 {
     match answer(alloc, words) {
         Ok(answer) => match out.write_all(answer.text.as_bytes()) {
@@ -171,8 +168,7 @@ fn first_answer(alloc: Global, words: &[String]) -> Result<Printed, Failure>
 
 /// The lines of a match, or that there is none.
 fn answer_of(alloc: Global, lines: Option<String>) -> Result<Printed, AllocError>
-    ensures { IfOk result (λ answer. MatchOption lines ((string_bytes answer.text ≡ codes "no match\n") × (answer.status ≡ NO_MATCH))
-        (λ text. (answer.text ≡ text) × (answer.status ≡ DONE))) }
+    ensures { IfOk result (IsPrintedOf lines) }
 {
     match lines {
         Some(text) => Ok(Printed { text, status: DONE }),

@@ -1,7 +1,7 @@
 //! The command `match`: what the groups of a pattern capture of a URL.
 
 ghost use Rattle.std.specs.Map.{keys_of};
-ghost use Rattle.std.specs.Prelude.{◌≡◌, ◌++◌, ℕ, List, map, option_copied, string_bytes, IfErr, IfOk, MatchOption, OnOk};
+ghost use Rattle.std.specs.Prelude.{◌≡◌, ◌++◌, ℕ, List, map, option_copied, string_bytes, IfErr, IfOk, OnOk};
 ghost use Rattle.std.specs.Str.{chars};
 ghost use Rattle.urlpat_commands.specs.Answers.{AreGroupLines, AreLines, AreNames, FindsMatch, FindsMatchBy, FindsUrl, GetsLines, IsPatternOf, RefusesPatternOf, base_of, capture_of, components_of};
 ghost use Rattle.urlpat_commands.specs.Report.{group_line};

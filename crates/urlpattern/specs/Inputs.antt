@@ -1,6 +1,6 @@
 -- The inputs of a browser: what a pattern is constructed from, and what it is matched against, after the URLPattern
 -- Standard, sections "Constructor", and "Matching", at "match".
-use Rattle.std.specs.Prelude.{◌≡◌, ⊤, ℕ, List, length, max, Option, None, Some, Ok, String, option_map, string_bytes}
+use Rattle.std.specs.Prelude.{◌≡◌, ⊤, ℕ, List, length, max, Option, None, Some, Ok, String, option_map, string_bytes, MatchOption}
 use Rattle.std.specs.Cow.{cow_str_bytes}
 use Rattle.std.specs.Str.{chars}
 use Rattle.std.specs.declared.alloc.Global.{Global}
@@ -97,3 +97,15 @@ abbrev pub IsNoInputOf : StringOrInit → (base : Option (List ℕ)) → Type 0
 IsNoInputOf (inputs.String text) base = IsRefusedByUrl (parsed_text base (cow_str_bytes text)) (max (length (cow_str_bytes text)) (text_bytes base))
 IsNoInputOf (inputs.Init plain) None = IsRefusedByUrl (parsed_base (plain_base plain)) (text_bytes (plain_base plain))
 IsNoInputOf (inputs.Init plain) (Some base) = ⊥
+
+-- what is found to match against, with the input again; None where it is no such input
+abbrev pub FindsInput : StringOrInit → (base : Option (List ℕ)) → Option (UrlPatternMatchInput × (StringOrInit × Option (String Global))) → Type 0
+FindsInput input base found = MatchOption found (IsNoInputOf input base) (IsFound input base)
+
+-- the error of a base URL beside an init
+abbrev pub RefusesSecondBase : StringOrInit → (base : Option (List ℕ)) → ErrorView → Type 0
+RefusesSecondBase input base error = (error ≡ views.BaseUrlWithInit) × HasInitAndBase input base
+
+-- the bytes of the longer text of the two
+abbrev pub longer_bytes : (base : Option (List ℕ)) → (text : List ℕ) → ℕ
+longer_bytes base text = max (length text) (text_bytes base)

@@ -34,7 +34,7 @@ pub use Rattle.urlpattern_syntax.specs.Tokens
 pub use Rattle.urlpattern_syntax.specs.declared.parser.RegexSyntax
 pub use Rattle.urlpattern_pattern.specs.Captures
 pub use Rattle.urlpattern_pattern.specs.Compiled
-pub use Rattle.urlpattern_pattern.specs.Eight
+pub use Rattle.urlpattern_syntax.specs.Eight
 pub use Rattle.urlpattern_pattern.specs.FirstMatch
 pub use Rattle.urlpattern_pattern.specs.FromString
 pub use Rattle.urlpattern_pattern.specs.Match

@@ -1,13 +1,12 @@
 //! What a pattern is constructed from, and what it is matched against.
-ghost use Rattle.std.specs.Prelude.{◌≡◌, None, Ok, Some, length, max, option_copied, option_map, string_bytes, IfErr, IfOk, MatchOption};
+ghost use Rattle.std.specs.Prelude.{◌≡◌, None, Ok, Some, length, max, option_copied, option_map, string_bytes, IfErr, IfOk};
 ghost use Rattle.std.specs.Str.{chars};
 ghost use Rattle.url.specs.Parser as url_spec;
 ghost use Rattle.urlpattern_init.specs.Inheritance.{values_view};
-ghost use Rattle.urlpattern.specs.Inputs.{HasInitAndBase, IsConstructedFrom, IsFound, IsInitOf, IsInitOfString, IsNoInputOf, RefusesInput, RefusesText, parsed_base, parsed_text, plain_base, plain_values, text_bytes};
+ghost use Rattle.urlpattern.specs.Inputs.{FindsInput, IsConstructedFrom, IsInitOf, IsInitOfString, RefusesInput, RefusesSecondBase, longer_bytes, RefusesText, parsed_base, parsed_text, plain_base, plain_values, text_bytes};
 ghost use Rattle.urlpattern_canonical.specs.Canonical.{Tells};
 ghost use Rattle.urlpattern_inputs.specs.declared.input.StringOrInit.TheVariants as plain_inputs;
 ghost use Rattle.urlpattern_syntax.specs.declared.error.Error.TheVariants as errors;
-ghost use Rattle.urlpattern_syntax.specs.Errors.{ErrorView as views};
 ghost use Rattle.urlpattern_syntax.specs.Parsing.{name_view};
 ghost use Rattle.urlpattern_syntax.specs.Errors.{MemoryOr};
 ghost use Rattle.urlpattern_syntax.specs.Text.{text_of};
@@ -76,8 +75,8 @@ pub fn process_match_input<'a>(
     input: StringOrInit<'a>,
     base_url: Option<&str>,
 ) -> Result<Option<(UrlPatternMatchInput, Inputs<'a>)>, Error>
-    ensures found { IfOk result (λ found. MatchOption found (IsNoInputOf input.entry (option_copied base_url.entry)) (IsFound input.entry (option_copied base_url.entry))) }
-    ensures refused { IfErr result (MemoryOr (λ error. (error ≡ views.BaseUrlWithInit) × HasInitAndBase input.entry (option_copied base_url.entry))) }
+    ensures found { IfOk result (FindsInput input.entry (option_copied base_url.entry)) }
+    ensures refused { IfErr result (MemoryOr (RefusesSecondBase input.entry (option_copied base_url.entry))) }
 {
     match input {
         StringOrInit::String(text) => match_text(alloc, text, base_url),
@@ -96,8 +95,7 @@ fn match_text<'a>(
     text: CowStr<'a>,
     base_url: Option<&str>,
 ) -> Result<Option<(UrlPatternMatchInput, Inputs<'a>)>, Error>
-    ensures found { IfOk result (λ found. MatchOption found (IsNoInputOf (plain_inputs.String text.entry) (option_copied base_url.entry))
-        (IsFound (plain_inputs.String text.entry) (option_copied base_url.entry))) }
+    ensures found { IfOk result (FindsInput (plain_inputs.String text.entry) (option_copied base_url.entry)) }
     ensures memory { IfErr result (λ error. error ≡ errors.OutOfMemory) }
 {
     match parse_text(alloc, text.as_str(), base_url) {
@@ -118,7 +116,7 @@ fn match_init<'a>(
     alloc: Global,
     init: UrlPatternInit,
 ) -> Result<Option<(UrlPatternMatchInput, Inputs<'a>)>, Error>
-    ensures found { IfOk result (λ found. MatchOption found (IsNoInputOf (plain_inputs.Init init) None) (IsFound (plain_inputs.Init init) None)) }
+    ensures found { IfOk result (FindsInput (plain_inputs.Init init) None) }
     ensures memory { IfErr result (λ error. error ≡ errors.OutOfMemory) }
 {
     match parse_base(alloc, borrowed(&init.base_url)) {
@@ -198,7 +196,8 @@ fn owned(alloc: Global, text: Option<&str>) -> Result<Option<String>, Error>
 /// The error is the refusal of `url`, or that memory ran out.
 fn parse_text(alloc: Global, text: &str, base_url: Option<&str>) -> Result<Url, Error>
     ensures ok { IfOk result (λ url. parsed_text (option_copied base_url.entry) text.now ≡ Ok url) }
-    ensures err { IfErr result (MemoryOr (Tells (parsed_text (option_copied base_url.entry) text.now) (max (length text.now) (text_bytes (option_copied base_url.entry))))) }
+    ensures err { IfErr result (MemoryOr (Tells (parsed_text (option_copied base_url.entry) text.now)
+        (longer_bytes (option_copied base_url.entry) text.now))) }
 {
     match base_url {
         Some(base) => {
