@@ -10,7 +10,7 @@ use Rattle.url.specs.Parts.{Parts, cannot_be_a_base}
 use Rattle.urlpattern_canonical.proofs.CanonicalLemmas.{answers-more, dummy_is_parsed, memory_alone}
 use Rattle.urlpattern_canonical.specs.Canonical.{IsAnswer, Tells, bytes_asked, dummy_url, processed_base, processed_pathname}
 use Rattle.std.proofs.lemmas.List.Elements.{All-head, All-tail}
-use Rattle.urlpattern_syntax.proofs.EightLemmas.{at-each, same_values}
+use Rattle.urlpattern_syntax.proofs.EightLemmas.{at-each, by_name, same_values}
 use Rattle.urlpattern_syntax.proofs.StringTexts.{text-nil}
 use Rattle.urlpattern_syntax.proofs.TextLemmas.{byte_len-chars}
 use Rattle.urlpattern_syntax.specs.declared.error.Error.{Error}
@@ -129,26 +129,16 @@ protocol-alone mode values base protocol = protocol-given mode values base proto
 
 -- another protocol leaves the other values as they are
 pub kept : {A : Type 0} (first : A) (values : Eight A) (name : ComponentName) → name ≢ Protocol → at (record values { protocol = first }) name ≡ at values name
-kept first values Protocol other = absurd (other refl)
-kept first values Username other = refl
-kept first values Password other = refl
-kept first values Hostname other = refl
-kept first values Port other = refl
-kept first values Pathname other = refl
-kept first values Search other = refl
-kept first values Hash other = refl
+kept first values =
+    by_name (λ name. name ≢ Protocol → at (record values { protocol = first }) name ≡ at values name)
+        (λ other. absurd (other refl)) (λ _. refl) (λ _. refl) (λ _. refl) (λ _. refl) (λ _. refl) (λ _. refl) (λ _. refl)
 
 -- what is known of the components behind the protocol is known of all
 module _ (mode : ProcessType) (values : Values) (base : Option Parts) (protocol : Option (List ℕ)) (e : processed_value mode values base None Protocol ≡ Ok protocol) where
   pub or_protocol : (P : ComponentName → Type 0) → P Protocol → ((name : ComponentName) → name ≢ Protocol → P name) → (name : ComponentName) → P name
-  or_protocol P first others Protocol = first
-  or_protocol P first others Username = others Username (λ same. absurd cc)
-  or_protocol P first others Password = others Password (λ same. absurd cc)
-  or_protocol P first others Hostname = others Hostname (λ same. absurd cc)
-  or_protocol P first others Port = others Port (λ same. absurd cc)
-  or_protocol P first others Pathname = others Pathname (λ same. absurd cc)
-  or_protocol P first others Search = others Search (λ same. absurd cc)
-  or_protocol P first others Hash = others Hash (λ same. absurd cc)
+  or_protocol P first others =
+      by_name P first (others Username (λ _. absurd cc)) (others Password (λ _. absurd cc)) (others Hostname (λ _. absurd cc))
+          (others Port (λ _. absurd cc)) (others Pathname (λ _. absurd cc)) (others Search (λ _. absurd cc)) (others Hash (λ _. absurd cc))
 
   pub has_value : (name : ComponentName) (value : Option (List ℕ)) → (name ≢ Protocol → processed_value mode values base protocol name ≡ Ok value)
       → HasValue (processed_value mode values base protocol) name
@@ -194,35 +184,33 @@ all_bytes mode values base =
     fold max (protocol_bytes (processed_value mode values base None Protocol)) (map (given_bytes mode values base) components)
 
 given-all : (mode : ProcessType) (values : Values) (base : Option Parts) (component : ComponentName)
-    → max 0 (given_bytes mode values base component) ≤ all_bytes mode values base
+    → given_bytes mode values base component ≤ all_bytes mode values base
 unfolding all_bytes
-given-all mode values base Protocol = omega arith
-given-all mode values base Username = omega arith
-given-all mode values base Password = omega arith
-given-all mode values base Hostname = omega arith
-given-all mode values base Port = omega arith
-given-all mode values base Pathname = omega arith
-given-all mode values base Search = omega arith
-given-all mode values base Hash = omega arith
+given-all mode values base =
+    by_name (λ component. given_bytes mode values base component ≤ all_bytes mode values base)
+        (omega arith) (omega arith) (omega arith) (omega arith) (omega arith) (omega arith) (omega arith) (omega arith)
+
+protocol-all : (mode : ProcessType) (values : Values) (base : Option Parts)
+    → protocol_bytes (processed_value mode values base None Protocol) ≤ all_bytes mode values base
+unfolding all_bytes
+protocol-all mode values base = omega arith
 
 under-all : (mode : ProcessType) (values : Values) (base : Option Parts) (component : ComponentName) (protocol : Option (List ℕ))
     → processed_value mode values base None Protocol ≡ Ok protocol
     → max (bytes_of protocol) (given_bytes mode values base component) ≤ all_bytes mode values base
-unfolding all_bytes
-under-all mode values base Protocol protocol e = rw e (omega arith)
-under-all mode values base Username protocol e = rw e (omega arith)
-under-all mode values base Password protocol e = rw e (omega arith)
-under-all mode values base Hostname protocol e = rw e (omega arith)
-under-all mode values base Port protocol e = rw e (omega arith)
-under-all mode values base Pathname protocol e = rw e (omega arith)
-under-all mode values base Search protocol e = rw e (omega arith)
-under-all mode values base Hash protocol e = rw e (omega arith)
+under-all mode values base component protocol e =
+    let given = given-all mode values base component in
+    let first : bytes_of protocol ≤ all_bytes mode values base
+    = subst (λ (found : Parsed (Option (List ℕ))). protocol_bytes found ≤ all_bytes mode values base) e (protocol-all mode values base)
+    in
+    omega arith
 
 pub given-le : (mode : ProcessType) (values : Values) (base : Option Parts) (component : ComponentName)
     → bytes_asked mode (max 0 (given_bytes mode values base component)) ≤ asked_bytes mode values base
 unfolding asked_bytes all_bytes
 given-le mode values base component =
-    asked-mono mode (max 0 (given_bytes mode values base component)) (all_bytes mode values base) (given-all mode values base component)
+    asked-mono mode (max 0 (given_bytes mode values base component)) (all_bytes mode values base)
+    (let given = given-all mode values base component in omega arith)
 
 pub asked-le : (mode : ProcessType) (values : Values) (base : Option Parts) (component : ComponentName) (protocol : Option (List ℕ))
     → processed_value mode values base None Protocol ≡ Ok protocol
@@ -234,14 +222,9 @@ asked-le mode values base component protocol e =
 -- ---- a pattern is never refused
 
 pattern-text : (protocol : Option (List ℕ)) (component : ComponentName) (text : List ℕ) → (value : List ℕ) × (processed_text Pattern protocol component text ≡ Ok value)
-pattern-text protocol Protocol text = (_, refl)
-pattern-text protocol Username text = (_, refl)
-pattern-text protocol Password text = (_, refl)
-pattern-text protocol Hostname text = (_, refl)
-pattern-text protocol Port text = (_, refl)
-pattern-text protocol Pathname text = (_, refl)
-pattern-text protocol Search text = (_, refl)
-pattern-text protocol Hash text = (_, refl)
+pattern-text protocol component text =
+    by_name (λ name. (value : List ℕ) × (processed_text Pattern protocol name text ≡ Ok value))
+        (_, refl) (_, refl) (_, refl) (_, refl) (_, refl) (_, refl) (_, refl) (_, refl) component
 
 pattern-given : (values : Values) (base : Option Parts) (protocol : Option (List ℕ)) (component : ComponentName) (given : Option (List ℕ))
     → (value : Option (List ℕ)) × (value_given Pattern values base protocol component given ≡ Ok value)

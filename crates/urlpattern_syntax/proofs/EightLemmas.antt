@@ -2,7 +2,7 @@
 use Rattle.std.proofs.Common.{◌≡◌, ℕ, List, [], ◌∷◌, ◌++◌, refl, subst, sym}
 use Rattle.std.proofs.lemmas.List.Elements.{All-cons, All-nil}
 use Rattle.std.specs.List.{AllByRecursion}
-use Rattle.std.specs.Prelude.{All, Result, Ok, Err, IfErr}
+use Rattle.std.specs.Prelude.{All, Result, Ok, Err, IfErr, IfOk}
 use Rattle.std.specs.Result.{IsErrAnd}
 use Rattle.urlpattern_syntax.specs.declared.eight.ComponentName.{ComponentName}
 use Rattle.urlpattern_syntax.specs.declared.eight.ComponentName.TheVariants.{Protocol, Username, Password, Hostname, Port, Pathname, Search, Hash}
@@ -36,12 +36,31 @@ same_values values others same = λ i. record {
   hash = same Hash i;
 }
 
+-- what is known of each component is known of all
+pub by_name : (P : ComponentName → Type 0) → P Protocol → P Username → P Password → P Hostname → P Port → P Pathname → P Search → P Hash
+    → (name : ComponentName) → P name
+by_name P a b c d e f g h Protocol = a
+by_name P a b c d e f g h Username = b
+by_name P a b c d e f g h Password = c
+by_name P a b c d e f g h Hostname = d
+by_name P a b c d e f g h Port = e
+by_name P a b c d e f g h Pathname = f
+by_name P a b c d e f g h Search = g
+by_name P a b c d e f g h Hash = h
+
 pub at-each : {A : Type 0} (value : ComponentName → A) (name : ComponentName) → at (each value) name ≡ value name
-at-each value Protocol = refl
-at-each value Username = refl
-at-each value Password = refl
-at-each value Hostname = refl
-at-each value Port = refl
-at-each value Pathname = refl
-at-each value Search = refl
-at-each value Hash = refl
+at-each value = by_name (λ name. at (each value) name ≡ value name) refl refl refl refl refl refl refl refl
+
+-- what follows of each value follows of all, where all were made
+pub all_ok : {A E : Type 0} (result : Result (Eight A) E) (Answers : ComponentName → Result A E → Type 0) (P : ComponentName → A → Type 0)
+    → IfOk result (λ values. (name : ComponentName) → Answers name (Ok (at values name)))
+    → ((name : ComponentName) (value : A) → Answers name (Ok value) → P name value)
+    → IfOk result (λ values. (name : ComponentName) → P name (at values name))
+all_ok (Ok values) Answers P answered follows = λ name. follows name (at values name) (answered name)
+all_ok (Err error) Answers P answered follows = tt
+
+-- what follows of each error follows of the first
+pub first_err : {A T E : Type 0} (result : Result T E) (Answers : ComponentName → Result A E → Type 0) (Q : E → Type 0)
+    → IfErr result (IsFirstError Answers) → ((name : ComponentName) (error : E) → Answers name (Err error) → Q error) → IfErr result Q
+first_err (Ok value) Answers Q first follows = tt
+first_err (Err error) Answers Q first follows = follows first.2 error first.5

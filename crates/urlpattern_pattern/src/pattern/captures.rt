@@ -127,7 +127,13 @@ impl<'a> UrlPatternCaptures<'a> {
         ensures groups { IfOk result (λ groups. (name : Name) → AreGroupsOf (at groups name) (captures_view self.now name)) }
         ensures memory { IfErr result (λ error. error ≡ errors.OutOfMemory) }
     {
-        Eight::try_from_fn(|name| self.groups_of(alloc, name))
+        let groups = |name: ComponentName| -> Result<Groups, Error>
+            ensures groups { IfOk result (λ groups. AreGroupsOf groups (captures_view self.entry.now name)) }
+            ensures memory { IfErr result (λ error. error ≡ errors.OutOfMemory) }
+        {
+            self.groups_of(alloc, name)
+        };
+        Eight::try_from_fn(groups)
     }
 
     /// Copies of what the groups of a component capture, by name.

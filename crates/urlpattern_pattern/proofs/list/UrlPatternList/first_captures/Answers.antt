@@ -10,5 +10,5 @@ use Rattle.urlpattern_pattern.proofs.list.UrlPatternList.first_captures.Goals as
 
 pub returns-clause-first : goal.returns-clause-first
 returns-clause-first g c =
-    first-of_texts g.R.RegExp.answer (patterns_view c.args.self.now) (Url c.args.url.now) (λ (found : UrlPatternCaptures). captures_view found) (borrowed_texts c.of_url.result) c.first.result
-    (ap Ok (sym c.of_url.ensures)) c.first.ensures.first
+    first-of_texts g.R.RegExp.answer (patterns_view c.args.self.now) (Url c.args.url.now) (λ (found : UrlPatternCaptures). captures_view found) (borrowed_texts c.url_texts.result) c.first.result
+    (ap Ok (sym c.url_texts.ensures)) c.first.ensures.first

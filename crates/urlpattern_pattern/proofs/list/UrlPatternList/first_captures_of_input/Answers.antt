@@ -7,4 +7,4 @@ use Rattle.urlpattern_syntax.specs.Eight.{Texts}
 pub returns-clause-first : goal.returns-clause-first
 returns-clause-first g c =
     subst (λ (texts : Texts). IfOk c.first.result (λ found. IsFirstMatchOf g.R.RegExp.answer (patterns_view c.args.self.now) texts (first_captures_view found)))
-    c.of_input.ensures c.first.ensures.first
+    c.input_texts.ensures c.first.ensures.first

@@ -11,4 +11,4 @@ use Rattle.urlpattern_pattern.proofs.pattern.UrlPattern.captures.Goals as goal
 pub returns-clause-matched : goal.returns-clause-matched
 returns-clause-matched g c =
     found-of_texts g.R.RegExp.answer (pattern_view c.args.self.now) (λ (found : UrlPatternCaptures). captures_view found) (Url c.args.url.now)
-    (borrowed_texts c.of_url.result) c.captures_of_texts.result (ap Ok (sym c.of_url.ensures)) c.captures_of_texts.ensures.matched
+    (borrowed_texts c.url_texts.result) c.captures_of_texts.result (ap Ok (sym c.url_texts.ensures)) c.captures_of_texts.ensures.matched

@@ -11,4 +11,4 @@ returns-clause-matched g c =
     let answer = g.R.RegExp.answer in
     let pattern = pattern_view c.args.self.now in
     subst (λ (texts : Texts). IfOk c.captures_of_texts.result (λ found. MatchOption found (IsRefused answer pattern texts) (λ captures. IsMatchOf answer pattern texts (captures_view captures))))
-    c.of_input.ensures c.captures_of_texts.ensures.matched
+    c.input_texts.ensures c.captures_of_texts.ensures.matched

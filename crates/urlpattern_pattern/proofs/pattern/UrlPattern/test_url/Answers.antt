@@ -8,5 +8,5 @@ use Rattle.urlpattern_pattern.proofs.pattern.UrlPattern.test_url.Goals as goal
 
 pub returns-clause-matched : goal.returns-clause-matched
 returns-clause-matched g c =
-    test-of_texts g.R.RegExp.answer (pattern_view c.args.self.now) (Url c.args.url.now) (borrowed_texts c.of_url.result) c.is_matched.result
-    (ap Ok (sym c.of_url.ensures)) c.is_matched.ensures.matched
+    test-of_texts g.R.RegExp.answer (pattern_view c.args.self.now) (Url c.args.url.now) (borrowed_texts c.url_texts.result) c.is_matched.result
+    (ap Ok (sym c.url_texts.ensures)) c.is_matched.ensures.matched

@@ -1,6 +1,15 @@
-use Rattle.urlpattern_pattern.proofs.Each.{each}
+use Rattle.urlpattern_pattern.specs.Captures.{captures_view}
+use Rattle.urlpattern_pattern.specs.Matching.{AreGroupsOf}
+use Rattle.urlpattern_syntax.proofs.EightLemmas.{all_ok, first_err}
+use Rattle.urlpattern_syntax.specs.declared.error.Error.TheVariants as errors
+use Rattle.std.proofs.Common.{◌≡◌}
 use Rattle.urlpattern_pattern.proofs.pattern.captures.UrlPatternCaptures.to_groups.Goals as goal
 
 pub returns-clause-groups : goal.returns-clause-groups
 returns-clause-groups c =
-    each _ c.in_ok-groups_of.ensures.groups c.in_ok-groups_of-2.ensures.groups c.in_ok-groups_of-3.ensures.groups c.in_ok-groups_of-4.ensures.groups c.in_ok-groups_of-5.ensures.groups c.in_ok-groups_of-6.ensures.groups c.in_ok-groups_of-7.ensures.groups c.in_ok-groups_of-8.ensures.groups
+    all_ok c.try_from_fn.result _ (λ name groups. AreGroupsOf groups (captures_view c.args.self.now name)) c.try_from_fn.ensures.ok
+        (λ name groups answered. answered.1.groups)
+
+pub returns-clause-memory : goal.returns-clause-memory
+returns-clause-memory c =
+    first_err c.try_from_fn.result _ (λ error. error ≡ errors.OutOfMemory) c.try_from_fn.ensures.err (λ name error answered. answered.1.memory)
