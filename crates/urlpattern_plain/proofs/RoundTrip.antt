@@ -5,10 +5,11 @@ use Rattle.std.specs.Char.{IsScalar}
 use Rattle.serde_json.specs.Data.{Data, string}
 use Rattle.serde_json.specs.Find.{get}
 use Rattle.serde_json.specs.View.{items_of}
-use Rattle.urlpattern_inputs.specs.Trees.{flag_read, found_read, member_read, optional_read, text_read}
+use Rattle.urlpattern_inputs.specs.Trees.{flag_read, found_read, member_read, optional_read, read_each, text_read}
 use Rattle.urlpattern_plain.specs.Json.{capture_read, character_read, component_read, component_tree, filter_tree, inner_read, matcher_read, matcher_tree, only, pattern_read, pattern_tree, texts_of_items, texts_read}
 use Rattle.urlpattern_plain.specs.Values.{ComponentView, HasFilter, HasFilters, InnerView, MatcherView, PatternView, literal, regexp, single_capture}
 use Rattle.urlpattern_inputs.proofs.EachLemmas.{read_each-all}
+use Rattle.urlpattern_plain.proofs.PatternLemmas.{pattern_from}
 use Rattle.urlpattern_syntax.proofs.StringTexts.{chars-encode}
 use Rattle.urlpattern_syntax.specs.Eight.{at, name_text}
 use Rattle.urlpattern_syntax.specs.declared.eight.ComponentName.{ComponentName}
@@ -72,14 +73,7 @@ component_again component h = component_from (component_tree component) componen
 
 -- ---- patterns
 
-pattern_from : (tree : Data) (pattern : PatternView)
-    → ((name : ComponentName) → member_read component_read (name_text name) tree ≡ Some (at pattern.components name))
-    → flag_read (codes "hasRegexpGroups") tree ≡ Some pattern.has_regexp_groups
-    → pattern_read tree ≡ Some pattern
-unfolding pattern_read
-pattern_from tree pattern of_components of_groups =
-    rw (of_groups, read_each-all (λ name. member_read component_read (name_text name) tree) pattern.components of_components) refl
-
+-- the component of a pattern is found by its name
 member_again : (pattern : PatternView) (name : ComponentName) → get (name_text name) (pattern_tree pattern) ≡ Some (component_tree (at pattern.components name))
 member_again pattern Protocol = refl
 member_again pattern name = refl
@@ -87,5 +81,5 @@ member_again pattern name = refl
 pub pattern_again : (pattern : PatternView) → HasFilters pattern → pattern_read (pattern_tree pattern) ≡ Some pattern
 pattern_again pattern h =
     pattern_from (pattern_tree pattern) pattern
-    (λ name. rw (member_again pattern name) (component_again (at pattern.components name) (h name)))
+    (read_each-all (λ name. member_read component_read (name_text name) (pattern_tree pattern)) pattern.components (λ name. rw (member_again pattern name) (component_again (at pattern.components name) (h name))))
     refl

@@ -1,13 +1,12 @@
 //! A whole pattern as plain data.
 
-ghost use Rattle.std.specs.Prelude.{◌≡◌, IfErr, IfOk, OnOk, option_map};
-ghost use Rattle.serde_json.specs.Data.{put as with_member};
-ghost use Rattle.serde_json.specs.View.{members_view, view};
+ghost use Rattle.std.specs.Prelude.{◌≡◌, IfErr, IfOk, OnOk, Some, option_map};
+ghost use Rattle.serde_json.specs.View.{view};
 ghost use Rattle.urlpattern_plain.specs.Json.{component_read, component_tree, matcher_read, pattern_read, pattern_tree};
 ghost use Rattle.urlpattern_core.specs.Compiling as compiled;
 ghost use Rattle.urlpattern_plain.specs.Plain.{plain_component};
 ghost use Rattle.urlpattern_inputs.specs.Steps.{Gives};
-ghost use Rattle.urlpattern_inputs.specs.Trees.{member_read};
+ghost use Rattle.urlpattern_inputs.specs.Trees.{Gain, member_read};
 ghost use Rattle.urlpattern_plain.specs.Values.{component_by, component_patterns, component_view, matcher_view, pattern_view};
 ghost use Rattle.urlpattern_syntax.specs.Eight.{at};
 ghost use Rattle.urlpattern_syntax.specs.declared.error.Error.TheVariants as errors;
@@ -214,8 +213,7 @@ fn put_component(
     name: &str,
     component: &UrlPatternComponent,
 ) -> Result<(), AllocError>
-    ensures { OnOk result (members_view members.new.entries
-        ≡ with_member name.now (component_tree (component_view component.now)) (members_view members.old.entries)) }
+    ensures { OnOk result (Gain members.old.entries members.new.entries name.now (Some (component_tree (component_view component.now)))) }
 {
     serde_json::put(members, alloc, name, component.tree(alloc)?)
 }
