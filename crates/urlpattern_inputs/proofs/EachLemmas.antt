@@ -8,7 +8,7 @@ use Rattle.urlpattern_inputs.specs.declared.reading.Unread.{Unread}
 use Rattle.urlpattern_inputs.specs.declared.reading.Unread.TheVariants.{OutOfMemory, Shape}
 use Rattle.urlpattern_syntax.specs.Eight.{at, each}
 use Rattle.urlpattern_syntax.specs.declared.eight.ComponentName.{ComponentName}
-use Rattle.urlpattern_syntax.specs.declared.eight.ComponentName.TheVariants.{Protocol, Username, Password, Hostname, Port, Pathname, Search, Hash}
+use Rattle.urlpattern_syntax.specs.declared.eight.ComponentName.TheVariants.{Protocol}
 use Rattle.urlpattern_syntax.specs.declared.eight.Eight.{Eight}
 
 -- a function sees the same of each component
@@ -30,22 +30,14 @@ pub nothing : {A B : Type 0} (found : Option A) (next : A → Option B) → ((va
 nothing None next none = refl
 nothing (Some value) next none = none value
 
+nothing_here : {A B : Type 0} (found : Option A) (next : A → Option B) → found ≡ None → (found >>= next) ≡ None
+nothing_here found next none = rw none refl
+
 -- one component has no value
 pub read_each-none : {A : Type 0} (read : ComponentName → Option A) (name : ComponentName) → read name ≡ None → read_each read ≡ None
 unfolding read_each
 read_each-none read Protocol e = rw e refl
-read_each-none read Username e = nothing (read Protocol) _ (λ _. rw e refl)
-read_each-none read Password e = nothing (read Protocol) _ (λ _. nothing (read Username) _ (λ _. rw e refl))
-read_each-none read Hostname e = nothing (read Protocol) _ (λ _. nothing (read Username) _ (λ _. nothing (read Password) _ (λ _. rw e refl)))
-read_each-none read Port e = nothing (read Protocol) _ (λ _. nothing (read Username) _ (λ _. nothing (read Password) _ (λ _. nothing (read Hostname) _ (λ _. rw e refl))))
-read_each-none read Pathname e =
-    nothing (read Protocol) _ (λ _. nothing (read Username) _ (λ _. nothing (read Password) _ (λ _. nothing (read Hostname) _ (λ _. nothing (read Port) _ (λ _. rw e refl)))))
-read_each-none read Search e =
-    nothing (read Protocol) _ (λ _. nothing (read Username) _ (λ _. nothing (read Password) _ (λ _. nothing (read Hostname) _ (λ _. nothing (read Port) _
-    (λ _. nothing (read Pathname) _ (λ _. rw e refl))))))
-read_each-none read Hash e =
-    nothing (read Protocol) _ (λ _. nothing (read Username) _ (λ _. nothing (read Password) _ (λ _. nothing (read Hostname) _ (λ _. nothing (read Port) _
-    (λ _. nothing (read Pathname) _ (λ _. nothing (read Search) _ (λ _. rw e refl)))))))
+read_each-none read name e = search (nothing_here, nothing) depth 20
 
 -- one component's value is not read, for this reason
 pub read_each-fails : {A : Type 0} (read : ComponentName → Option A) (reason : Unread) (name : ComponentName) → Fails reason (read name) → Fails reason (read_each read)

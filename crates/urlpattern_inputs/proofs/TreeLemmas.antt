@@ -1,7 +1,5 @@
 -- What is found in an object by its keys.
-use Rattle.std.proofs.Common.{◌≡◌, ◌<◌, ◌+◌, ℕ, Bool, true, false, cond, true≢false, List, [], ◌∷◌, ◌++◌, Option, None, Some, add-one, bytes_eq, get_or, length, map, refl, sym, take, ap, ◌∙◌, option_map}
-use Rattle.std.proofs.Math.Seq.{take-suc}
-use Rattle.std.proofs.lemmas.List.{map_push}
+use Rattle.std.proofs.Common.{◌≡◌, ℕ, Bool, true, false, cond, true≢false, List, [], ◌∷◌, Option, None, Some, bytes_eq, map, refl, sym, ap, ◌∙◌, option_map}
 use Rattle.std.proofs.lemmas.Slice.Eq.{bytes_eq-Decides}
 use Rattle.serde_json.proofs.Views.{get_member-put, get_member-put_other}
 use Rattle.serde_json.specs.Data.{Data, Members, no_members, put, string}
@@ -51,19 +49,6 @@ optional_string (Some text) = refl
 
 -- ---- a member for each component
 
-all_with-push : (front : List (List ℕ × Option Data)) (last : List ℕ × Option Data) (before : Members) → all_with before (front ++ last ∷ []) ≡ with (all_with before front) last
-all_with-push [] last before = refl
-all_with-push (named ∷ rest) last before = all_with-push rest last (with before named)
-
 -- the members of the components so far
 abbrev pub with_each : (ComponentName → Option Data) → List ComponentName → Members
 with_each tree names = all_with no_members (map (λ name. (name_text name, tree name)) names)
-
--- the member of one more component
-pub with_each-next : (tree : ComponentName → Option Data) (names : List ComponentName) (i : ℕ) (name : ComponentName) → i < length names → name ≡ get_or names i name
-    → with_each tree (take (i + 1) names) ≡ with (with_each tree (take i names)) (name_text name, tree name)
-with_each-next tree names i name lt is =
-    let one : take (i + 1) names ≡ take i names ++ name ∷ [] =
-        rw add-one (take-suc names i name lt ∙ ap (λ (n : ComponentName). take i names ++ n ∷ []) (sym is)) in
-    rw one (ap (all_with no_members) (map_push (λ n. (name_text n, tree n)) (take i names) name)
-      ∙ all_with-push (map (λ n. (name_text n, tree n)) (take i names)) (name_text name, tree name) no_members)

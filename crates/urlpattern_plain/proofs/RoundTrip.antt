@@ -5,7 +5,7 @@ use Rattle.std.specs.Char.{IsScalar}
 use Rattle.serde_json.specs.Data.{Data, string}
 use Rattle.serde_json.specs.Find.{get}
 use Rattle.serde_json.specs.View.{items_of}
-use Rattle.urlpattern_inputs.specs.Trees.{flag_read, found_read, member_read, optional_read, read_each, text_read}
+use Rattle.urlpattern_inputs.specs.Trees.{flag_read, found_read, member_read, optional_read, text_read}
 use Rattle.urlpattern_plain.specs.Json.{capture_read, character_read, component_read, component_tree, filter_tree, inner_read, matcher_read, matcher_tree, only, pattern_read, pattern_tree, texts_of_items, texts_read}
 use Rattle.urlpattern_plain.specs.Values.{ComponentView, HasFilter, HasFilters, InnerView, MatcherView, PatternView, literal, regexp, single_capture}
 use Rattle.urlpattern_inputs.proofs.EachLemmas.{read_each-all}

@@ -3,7 +3,7 @@ use Rattle.serde_json.specs.Find.{as_str}
 use Rattle.serde_json.specs.View.{view}
 use Rattle.urlpattern_inputs.specs.InputJson.{init_read}
 use Rattle.urlpattern_inputs.specs.InputValues.{init_view}
-use Rattle.urlpattern_inputs.specs.Trees.{optional_read, read_each}
+use Rattle.urlpattern_inputs.specs.Trees.{optional_read}
 use Rattle.urlpattern_inputs.proofs.EachLemmas.{passed_on, read_each-fails, read_each-seen}
 use Rattle.urlpattern_inputs.proofs.ReadingLemmas.{init_fails, init_from}
 use Rattle.urlpattern_syntax.specs.Eight.{at, each, name_text}
@@ -23,5 +23,5 @@ returns c =
     let text_of = λ (name : ComponentName). optional_read as_str (name_text name) (view c.args.value.now) in
     init_from (view c.args.value.now) (init_view c.from_eight.result) (sym c.is_object.ensures ∙ c.if-not-is_object.false)
     (read_each-seen (option_map string_bytes) text_of c.in_ok-texts.texts (λ name. let read = c.in_ok-texts.ensures.ok name in search rules)
-      ∙ ap (λ texts. Some (each (λ name. option_map string_bytes (at texts name)))) (sym c.from_eight.ensures.texts))
+    ∙ ap (λ texts. Some (each (λ name. option_map string_bytes (at texts name)))) (sym c.from_eight.ensures.texts))
     (c.in_ok-base_url.ensures ∙ ap (λ text. Some (option_map string_bytes text)) (sym c.from_eight.ensures.base_url))

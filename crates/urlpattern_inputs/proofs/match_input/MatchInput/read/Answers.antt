@@ -1,4 +1,4 @@
-use Rattle.std.proofs.Common.{sym, ap, refl, rules, Some, string_bytes, ◌∙◌}
+use Rattle.std.proofs.Common.{sym, ap, rules, Some, string_bytes, ◌∙◌}
 use Rattle.serde_json.specs.View.{view}
 use Rattle.urlpattern_inputs.specs.InputValues.{match_input_view}
 use Rattle.urlpattern_inputs.specs.Trees.{read_each, text_read}

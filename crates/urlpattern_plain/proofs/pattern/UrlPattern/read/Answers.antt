@@ -1,6 +1,6 @@
 use Rattle.std.proofs.Common.{sym, ap, rules, Some, ◌∙◌}
 use Rattle.serde_json.specs.View.{view}
-use Rattle.urlpattern_inputs.specs.Trees.{member_read, read_each}
+use Rattle.urlpattern_inputs.specs.Trees.{member_read}
 use Rattle.urlpattern_inputs.proofs.EachLemmas.{passed_on, read_each-fails, read_each-seen}
 use Rattle.urlpattern_plain.specs.Json.{component_read, pattern_read}
 use Rattle.urlpattern_plain.specs.Values.{component_view, pattern_view}
@@ -22,5 +22,5 @@ returns c =
     let component_of = λ (name : ComponentName). member_read component_read (name_text name) (view c.args.value.now) in
     pattern_from (view c.args.value.now) (pattern_view c.from_eight.result)
     (read_each-seen component_view component_of c.in_ok-components.components (λ name. let read = c.in_ok-components.ensures.ok name in search rules)
-      ∙ ap (λ components. Some (each (λ name. component_view (at components name)))) (sym c.from_eight.ensures.components))
+    ∙ ap (λ components. Some (each (λ name. component_view (at components name)))) (sym c.from_eight.ensures.components))
     (c.in_ok-has_regexp_groups.ensures ∙ ap (λ flag. Some flag) (sym c.from_eight.ensures.groups))
