@@ -40,11 +40,13 @@ read_each-none read Protocol e = rw e refl
 read_each-none read name e = search (nothing_here, nothing) depth 20
 
 -- one component's value is not read, for this reason
-pub read_each-fails : {A : Type 0} (read : ComponentName → Option A) (reason : Unread) (name : ComponentName) → Fails reason (read name) → Fails reason (read_each read)
+pub read_each-fails : {A : Type 0} (read : ComponentName → Option A) (reason : Unread) (name : ComponentName)
+    → Fails reason (read name) → Fails reason (read_each read)
 read_each-fails read Shape name none = read_each-none read name none
 read_each-fails read OutOfMemory name fails = tt
 
 -- the reason is passed on
-pub passed_on : {A T : Type 0} (seen : T → A) (result : Result T Unread) (reason : Unread) (read : Option A) → IsErrAnd result (λ passed. passed ≡ reason) → Fails reason read → Gives seen result read
+pub passed_on : {A T : Type 0} (seen : T → A) (result : Result T Unread) (reason : Unread) (read : Option A)
+    → IsErrAnd result (λ passed. passed ≡ reason) → Fails reason read → Gives seen result read
 passed_on seen (Ok value) reason read same fails = absurd same
 passed_on seen (Err passed) reason read same fails = subst (λ (why : Unread). Fails why read) (sym same) fails

@@ -51,7 +51,8 @@ init_from tree values of_object =
     init_among tree there.0 values there.1
 
 -- a component's text is not read, for this reason
-pub init_fails : (tree : Data) (reason : Unread) → Fails reason (read_each (λ name. optional_read as_str (name_text name) tree)) → Fails reason (init_read tree)
+pub init_fails : (tree : Data) (reason : Unread)
+    → Fails reason (read_each (λ name. optional_read as_str (name_text name) tree)) → Fails reason (init_read tree)
 unfolding init_read
 init_fails tree Shape none = rw none (nothing (as_object tree) (λ members. None) (λ members. refl))
 init_fails tree OutOfMemory fails = tt

@@ -38,7 +38,9 @@ text_again : (name : List ℕ) (values : InitView) (text : Option (List ℕ)) �
 text_again name values text e =
     ap (found_read as_str) (get_member-all_with name (listed_init values) no_members ∙ e ∙ newer-none (option_map string text)) ∙ optional_string text
 
-last_of-name : (values : InitView) (name : ComponentName) → last_of (name_text name) (listed_init values) None ≡ newer (option_map string (at values.texts name)) None
+-- the last tree at a component's name is that of its text
+last_of-name : (values : InitView) (name : ComponentName)
+    → last_of (name_text name) (listed_init values) None ≡ newer (option_map string (at values.texts name)) None
 last_of-name values Protocol = refl
 last_of-name values name = refl
 

@@ -24,6 +24,7 @@ given_texts init = record {
   hash = init.hash;
 }
 
+-- An init: the text of each component, where it is given, and the base URL.
 pub record InitView : Type 0 where
   pub texts : Eight (Option (List ℕ))
   pub base_url : Option (List ℕ)
@@ -61,5 +62,6 @@ matched_texts input = record {
 abbrev pub match_input_view : MatchInput → Eight (List ℕ)
 match_input_view input = each (λ name. string_bytes (at (matched_texts input) name))
 
+-- eight empty texts
 abbrev pub empty_match_input : Eight (List ℕ)
 empty_match_input = each (λ name. [])

@@ -18,7 +18,8 @@ unfolding pattern_read
 pattern_from tree pattern of_components of_groups = rw (of_groups, of_components) refl
 
 -- a component is not read, for this reason
-pub pattern_fails : (tree : Data) (reason : Unread) → Fails reason (read_each (λ name. member_read component_read (name_text name) tree)) → Fails reason (pattern_read tree)
+pub pattern_fails : (tree : Data) (reason : Unread)
+    → Fails reason (read_each (λ name. member_read component_read (name_text name) tree)) → Fails reason (pattern_read tree)
 unfolding pattern_read
 pattern_fails tree Shape none = rw none (nothing (flag_read (codes "hasRegexpGroups") tree) (λ flag. None) (λ flag. refl))
 pattern_fails tree OutOfMemory fails = tt

@@ -74,7 +74,8 @@ component_again component h = component_from (component_tree component) componen
 -- ---- patterns
 
 -- the component of a pattern is found by its name
-member_again : (pattern : PatternView) (name : ComponentName) → get (name_text name) (pattern_tree pattern) ≡ Some (component_tree (at pattern.components name))
+member_again : (pattern : PatternView) (name : ComponentName)
+    → get (name_text name) (pattern_tree pattern) ≡ Some (component_tree (at pattern.components name))
 member_again pattern Protocol = refl
 member_again pattern name = refl
 

@@ -72,6 +72,7 @@ component_patterns pattern = record {
   hash = pattern.hash;
 }
 
+-- A pattern: its components, and whether one of them has a custom regular expression.
 pub record PatternView : Type 0 where
   pub components : Eight ComponentView
   pub has_regexp_groups : Bool
