@@ -10,13 +10,15 @@ use Rattle.urlpattern_syntax.specs.Eight.{components}
 -- the plain value of a pattern: that of each component, and whether one has a regular expression of its own
 abbrev pub plain_pattern : {E : Type 0} → (text_made_of : E → List ℕ) → PatternView E → plain.PatternView
 plain_pattern text_made_of pattern = record {
-  protocol = plain_component text_made_of (pattern Protocol);
-  username = plain_component text_made_of (pattern Username);
-  password = plain_component text_made_of (pattern Password);
-  hostname = plain_component text_made_of (pattern Hostname);
-  port = plain_component text_made_of (pattern Port);
-  pathname = plain_component text_made_of (pattern Pathname);
-  search = plain_component text_made_of (pattern Search);
-  hash = plain_component text_made_of (pattern Hash);
+  components = record {
+    protocol = plain_component text_made_of (pattern Protocol);
+    username = plain_component text_made_of (pattern Username);
+    password = plain_component text_made_of (pattern Password);
+    hostname = plain_component text_made_of (pattern Hostname);
+    port = plain_component text_made_of (pattern Port);
+    pathname = plain_component text_made_of (pattern Pathname);
+    search = plain_component text_made_of (pattern Search);
+    hash = plain_component text_made_of (pattern Hash);
+  };
   has_regexp_groups = list_any (λ component. (pattern component).has_regexp_group) components;
 }

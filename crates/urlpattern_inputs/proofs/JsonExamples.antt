@@ -2,10 +2,11 @@
 use Rattle.std.proofs.Common.{◌≡◌, None, Some, true, codes, refl}
 use Rattle.serde_json.specs.Data.{array, boolean, member, no_items, no_members, null, object}
 use Rattle.urlpattern_inputs.specs.InputJson.{init_read, init_tree, options_read}
+use Rattle.urlpattern_syntax.specs.Eight.{each}
 use Rattle.urlpattern_syntax.specs.declared.parser.RegexSyntax.TheVariants.{Rust}
 
 -- nothing given, nothing written
-no_init : init_tree (record { base_url = None; hash = None; search = None; pathname = None; port = None; hostname = None; password = None; username = None; protocol = None }) ≡ object no_members
+no_init : init_tree (record { texts = each (λ name. None); base_url = None }) ≡ object no_members
 no_init = refl
 
 -- an array stands for no init

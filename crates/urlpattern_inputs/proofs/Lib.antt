@@ -1,4 +1,5 @@
 pub mod JsonExamples
 pub mod TreeLemmas
+pub mod EachLemmas
 pub mod ReadingLemmas
 pub mod RoundTrip

@@ -5,7 +5,12 @@ use Rattle.serde_json.specs.Data.{Data, null, boolean, number, string, array, ob
 use Rattle.serde_json.specs.Find.{as_object, as_str}
 use Rattle.urlpattern_inputs.specs.InputJson.{init_read, input_read}
 use Rattle.urlpattern_inputs.specs.InputValues.{InitView, of_init, of_text}
-use Rattle.urlpattern_inputs.specs.Trees.{optional_read}
+use Rattle.urlpattern_inputs.specs.Steps.{Fails}
+use Rattle.urlpattern_inputs.specs.Trees.{optional_read, read_each}
+use Rattle.urlpattern_inputs.specs.declared.reading.Unread.{Unread}
+use Rattle.urlpattern_inputs.specs.declared.reading.Unread.TheVariants.{OutOfMemory, Shape}
+use Rattle.urlpattern_inputs.proofs.EachLemmas.{nothing}
+use Rattle.urlpattern_syntax.specs.Eight.{name_text}
 
 -- a tree that is no text is an init or nothing
 pub input_read-init : (tree : Data) → as_str tree ≡ None → input_read tree ≡ option_map of_init (init_read tree)
@@ -31,31 +36,23 @@ is_there None e = absurd (false≢true e)
 is_there (Some members) e = (members, refl)
 
 init_among : (tree : Data) (members : Members) (values : InitView) → as_object tree ≡ Some members
-    → optional_read as_str (codes "protocol") tree ≡ Some values.protocol
-    → optional_read as_str (codes "username") tree ≡ Some values.username
-    → optional_read as_str (codes "password") tree ≡ Some values.password
-    → optional_read as_str (codes "hostname") tree ≡ Some values.hostname
-    → optional_read as_str (codes "port") tree ≡ Some values.port
-    → optional_read as_str (codes "pathname") tree ≡ Some values.pathname
-    → optional_read as_str (codes "search") tree ≡ Some values.search
-    → optional_read as_str (codes "hash") tree ≡ Some values.hash
+    → read_each (λ name. optional_read as_str (name_text name) tree) ≡ Some values.texts
     → optional_read as_str (codes "baseURL") tree ≡ Some values.base_url
     → init_read tree ≡ Some values
 unfolding init_read
-init_among tree inside values of_object of_protocol of_username of_password of_hostname of_port of_pathname of_search of_hash of_base_url =
-    rw (of_object, of_protocol, of_username, of_password, of_hostname, of_port, of_pathname, of_search, of_hash, of_base_url) refl
+init_among tree inside values of_object of_texts of_base_url = rw (of_object, of_texts, of_base_url) refl
 
 pub init_from : (tree : Data) (values : InitView) → is_some (as_object tree) ≡ true
-    → optional_read as_str (codes "protocol") tree ≡ Some values.protocol
-    → optional_read as_str (codes "username") tree ≡ Some values.username
-    → optional_read as_str (codes "password") tree ≡ Some values.password
-    → optional_read as_str (codes "hostname") tree ≡ Some values.hostname
-    → optional_read as_str (codes "port") tree ≡ Some values.port
-    → optional_read as_str (codes "pathname") tree ≡ Some values.pathname
-    → optional_read as_str (codes "search") tree ≡ Some values.search
-    → optional_read as_str (codes "hash") tree ≡ Some values.hash
+    → read_each (λ name. optional_read as_str (name_text name) tree) ≡ Some values.texts
     → optional_read as_str (codes "baseURL") tree ≡ Some values.base_url
     → init_read tree ≡ Some values
 init_from tree values of_object =
     let there = is_there (as_object tree) of_object in
     init_among tree there.0 values there.1
+
+-- a component's text is not read, for this reason
+pub init_fails : (tree : Data) (reason : Unread)
+    → Fails reason (read_each (λ name. optional_read as_str (name_text name) tree)) → Fails reason (init_read tree)
+unfolding init_read
+init_fails tree Shape none = rw none (nothing (as_object tree) (λ members. None) (λ members. refl))
+init_fails tree OutOfMemory fails = tt

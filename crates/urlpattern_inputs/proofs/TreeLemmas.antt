@@ -1,10 +1,12 @@
 -- What is found in an object by its keys.
-use Rattle.std.proofs.Common.{◌≡◌, ℕ, Bool, true, false, cond, true≢false, List, [], ◌∷◌, Option, None, Some, bytes_eq, refl, sym, ap, ◌∙◌, option_map}
+use Rattle.std.proofs.Common.{◌≡◌, ℕ, Bool, true, false, cond, true≢false, List, [], ◌∷◌, Option, None, Some, bytes_eq, map, refl, sym, ap, ◌∙◌, option_map}
 use Rattle.std.proofs.lemmas.Slice.Eq.{bytes_eq-Decides}
 use Rattle.serde_json.proofs.Views.{get_member-put, get_member-put_other}
-use Rattle.serde_json.specs.Data.{Data, Members, put, string}
+use Rattle.serde_json.specs.Data.{Data, Members, no_members, put, string}
 use Rattle.serde_json.specs.Find.{as_str, get_member}
 use Rattle.urlpattern_inputs.specs.Trees.{all_with, found_read, with}
+use Rattle.urlpattern_syntax.specs.Eight.{name_text}
+use Rattle.urlpattern_syntax.specs.declared.eight.ComponentName.{ComponentName}
 
 abbrev pub newer : Option Data → Option Data → Option Data
 newer None before = before
@@ -44,3 +46,9 @@ get_member-all_with name (named ∷ rest) before =
 pub optional_string : (text : Option (List ℕ)) → found_read as_str (option_map string text) ≡ Some text
 optional_string None = refl
 optional_string (Some text) = refl
+
+-- ---- a member for each component
+
+-- the members of the components so far
+abbrev pub with_each : (ComponentName → Option Data) → List ComponentName → Members
+with_each tree names = all_with no_members (map (λ name. (name_text name, tree name)) names)

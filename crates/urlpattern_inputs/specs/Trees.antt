@@ -1,7 +1,14 @@
 -- JSON trees member by member: how objects are written, and how a member is read.
-use Rattle.std.specs.Prelude.{ℕ, Bool, if◌then◌else◌, List, [], ◌∷◌, Option, None, Some, is_some, option_map}
+use Rattle.std.specs.Prelude.{◌≡◌, ℕ, Bool, if◌then◌else◌, List, [], ◌∷◌, Option, None, Some, String, is_some, map, option_map}
+use Rattle.std.specs.declared.alloc.Global.{Global}
 use Rattle.serde_json.specs.Data.{Data, object, Members, no_members, put}
 use Rattle.serde_json.specs.Find.{as_bool, as_null, as_str, get}
+use Rattle.serde_json.specs.View.{members_view}
+use Rattle.serde_json.specs.declared.value.Value.{Value}
+use Rattle.urlpattern_syntax.specs.Eight.{components, name_text}
+use Rattle.urlpattern_syntax.specs.declared.eight.ComponentName.{ComponentName}
+use Rattle.urlpattern_syntax.specs.declared.eight.ComponentName.TheVariants.{Protocol, Username, Password, Hostname, Port, Pathname, Search, Hash}
+use Rattle.urlpattern_syntax.specs.declared.eight.Eight.{Eight}
 
 -- ---- what is written
 
@@ -14,9 +21,25 @@ abbrev pub all_with : Members → List (List ℕ × Option Data) → Members
 all_with members [] = members
 all_with members (named ∷ rest) = all_with (with members named) rest
 
+-- an object's entries gain the trees at these names, where there are any
+abbrev pub GainAll : (before after : List (String Global × Value)) → List (List ℕ × Option Data) → Type 0
+GainAll before after named = members_view after ≡ all_with (members_view before) named
+
+-- an object's entries gain the tree at this name, if there is one
+abbrev pub Gain : (before after : List (String Global × Value)) → (name : List ℕ) → Option Data → Type 0
+Gain before after name tree = GainAll before after ((name, tree) ∷ [])
+
 -- the object with a member for each name that has a tree
 abbrev pub object_of : List (List ℕ × Option Data) → Data
 object_of named = object (all_with no_members named)
+
+-- each component's name, with its tree
+abbrev pub each_member : (ComponentName → Option Data) → List (List ℕ × Option Data)
+each_member tree = map (λ name. (name_text name, tree name)) components
+
+-- the value's tree is read as this value
+abbrev pub IsReadBack : {A : Type 0} → (tree : A → Data) → (read : Data → Option A) → A → Type 0
+IsReadBack tree read value = read (tree value) ≡ Some value
 
 -- ---- what is read
 
@@ -44,3 +67,16 @@ found_read read (Some tree) = if is_some (as_null tree) then Some None else opti
 -- a member of this name that may be missing
 abbrev pub optional_read : {A : Type 0} → (Data → Option A) → List ℕ → Data → Option (Option A)
 optional_read read name tree = found_read read (get name tree)
+
+-- a value for each component, where each has one
+unfoldable pub read_each : {A : Type 0} → (ComponentName → Option A) → Option (Eight A)
+read_each read = do
+  protocol ← read Protocol
+  username ← read Username
+  password ← read Password
+  hostname ← read Hostname
+  port ← read Port
+  pathname ← read Pathname
+  search ← read Search
+  hash ← read Hash
+  Some (record { protocol = protocol; username = username; password = password; hostname = hostname; port = port; pathname = pathname; search = search; hash = hash })

@@ -1,11 +1,12 @@
 //! The patterns of a URL's components as a caller gives them.
 
-ghost use Rattle.std.specs.Prelude.{◌≡◌, IfErr, IfOk, option_map};
+ghost use Rattle.std.specs.Prelude.{◌≡◌, IfErr, IfOk, option_map, string_bytes};
 ghost use Rattle.serde_json.specs.Data.{object};
 ghost use Rattle.serde_json.specs.View.{members_view, view};
 ghost use Rattle.urlpattern_inputs.specs.InputJson.{init_read, init_tree};
 ghost use Rattle.urlpattern_inputs.specs.Steps.{Gives};
-ghost use Rattle.urlpattern_inputs.specs.InputValues.{init_view};
+ghost use Rattle.urlpattern_inputs.specs.InputValues.{given_texts, init_view};
+ghost use Rattle.urlpattern_syntax.specs.Eight.{at};
 ghost use Rattle.urlpattern_syntax.specs.declared.error.Error.TheVariants as errors;
 
 use crate::reading::{Unread, optional_text_field, told};
@@ -14,6 +15,7 @@ use serde::{Deserialize, Serialize};
 use serde_json::{Map, Value};
 use std::alloc::{AllocError, Global};
 use urlpattern_syntax::Error;
+use urlpattern_syntax::eight::{ComponentName, Eight};
 
 /// The patterns of a URL's components, or its texts, and the text of a base URL. What is not given is None.
 ///
@@ -64,14 +66,9 @@ impl UrlPatternInit {
         ensures { IfOk result (λ members. object (members_view members.entries) ≡ init_tree (init_view self.now)) }
     {
         let mut members = Map::new(alloc);
-        put_optional(&mut members, alloc, "protocol", &self.protocol)?;
-        put_optional(&mut members, alloc, "username", &self.username)?;
-        put_optional(&mut members, alloc, "password", &self.password)?;
-        put_optional(&mut members, alloc, "hostname", &self.hostname)?;
-        put_optional(&mut members, alloc, "port", &self.port)?;
-        put_optional(&mut members, alloc, "pathname", &self.pathname)?;
-        put_optional(&mut members, alloc, "search", &self.search)?;
-        put_optional(&mut members, alloc, "hash", &self.hash)?;
+        for name in ComponentName::all() {
+            put_optional(&mut members, alloc, name.as_str(), self.get(*name))?;
+        }
         put_optional(&mut members, alloc, "baseURL", &self.base_url)?;
         Ok(members)
     }
@@ -94,16 +91,42 @@ impl UrlPatternInit {
         if !value.is_object() {
             return Err(Unread::Shape);
         }
-        Ok(Self {
-            protocol: optional_text_field(alloc, value, "protocol")?,
-            username: optional_text_field(alloc, value, "username")?,
-            password: optional_text_field(alloc, value, "password")?,
-            hostname: optional_text_field(alloc, value, "hostname")?,
-            port: optional_text_field(alloc, value, "port")?,
-            pathname: optional_text_field(alloc, value, "pathname")?,
-            search: optional_text_field(alloc, value, "search")?,
-            hash: optional_text_field(alloc, value, "hash")?,
-            base_url: optional_text_field(alloc, value, "baseURL")?,
-        })
+        let texts = Eight::try_from_fn(|name| optional_text_field(alloc, value, name.as_str()))?;
+        let base_url = optional_text_field(alloc, value, "baseURL")?;
+        Ok(Self::from_eight(texts, base_url))
+    }
+
+    /// The init of these texts.
+    fn from_eight(texts: Eight<Option<String>>, base_url: Option<String>) -> Self
+        ensures texts { given_texts result ≡ texts }
+        ensures base_url { result.base_url ≡ base_url }
+    {
+        Self {
+            protocol: texts.protocol,
+            username: texts.username,
+            password: texts.password,
+            hostname: texts.hostname,
+            port: texts.port,
+            pathname: texts.pathname,
+            search: texts.search,
+            hash: texts.hash,
+            base_url,
+        }
+    }
+
+    /// The text of a component, if it is given.
+    fn get(&self, name: ComponentName) -> &Option<String>
+        ensures { option_map string_bytes result.now ≡ at (init_view self.now).texts name }
+    {
+        match name {
+            ComponentName::Protocol => &self.protocol,
+            ComponentName::Username => &self.username,
+            ComponentName::Password => &self.password,
+            ComponentName::Hostname => &self.hostname,
+            ComponentName::Port => &self.port,
+            ComponentName::Pathname => &self.pathname,
+            ComponentName::Search => &self.search,
+            ComponentName::Hash => &self.hash,
+        }
     }
 }

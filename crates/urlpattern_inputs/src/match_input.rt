@@ -3,7 +3,8 @@ ghost use Rattle.std.specs.Prelude.{◌≡◌, IfErr, IfOk, option_map};
 ghost use Rattle.serde_json.specs.View.{view};
 ghost use Rattle.urlpattern_inputs.specs.InputJson.{match_input_read, match_input_tree};
 ghost use Rattle.urlpattern_inputs.specs.Steps.{Gives};
-ghost use Rattle.urlpattern_inputs.specs.InputValues.{empty_match_input, match_input_view};
+ghost use Rattle.urlpattern_inputs.specs.InputValues.{empty_match_input, match_input_view, matched_texts};
+ghost use Rattle.urlpattern_syntax.specs.Eight.{at};
 ghost use Rattle.urlpattern_syntax.specs.declared.error.Error.TheVariants as errors;
 
 use crate::reading::{Unread, text_field, told};
@@ -12,6 +13,7 @@ use serde::{Deserialize, Serialize};
 use serde_json::{Map, Value};
 use std::alloc::{AllocError, Global};
 use urlpattern_syntax::Error;
+use urlpattern_syntax::eight::{ComponentName, Eight};
 
 /// The texts of the components that a pattern is matched against.
 #[derive(Debug, Clone, PartialEq, Eq, Drop, Serialize, Deserialize)]
@@ -39,16 +41,7 @@ impl MatchInput {
     pub fn default(alloc: Global) -> Self
         ensures { match_input_view result ≡ empty_match_input }
     {
-        Self {
-            protocol: String::new(alloc),
-            username: String::new(alloc),
-            password: String::new(alloc),
-            hostname: String::new(alloc),
-            port: String::new(alloc),
-            pathname: String::new(alloc),
-            search: String::new(alloc),
-            hash: String::new(alloc),
-        }
+        Self::from_eight(Eight::from_fn(|_| String::new(alloc)))
     }
 
     /// The JSON of the input: an object with a key for each text.
@@ -65,14 +58,9 @@ impl MatchInput {
         ensures { IfOk result (λ tree. view tree ≡ match_input_tree (match_input_view self.now)) }
     {
         let mut members = Map::new(alloc);
-        put_text(&mut members, alloc, "protocol", &self.protocol)?;
-        put_text(&mut members, alloc, "username", &self.username)?;
-        put_text(&mut members, alloc, "password", &self.password)?;
-        put_text(&mut members, alloc, "hostname", &self.hostname)?;
-        put_text(&mut members, alloc, "port", &self.port)?;
-        put_text(&mut members, alloc, "pathname", &self.pathname)?;
-        put_text(&mut members, alloc, "search", &self.search)?;
-        put_text(&mut members, alloc, "hash", &self.hash)?;
+        for name in ComponentName::all() {
+            put_text(&mut members, alloc, name.as_str(), self.get(*name))?;
+        }
         Ok(Value::Object(members))
     }
 
@@ -87,19 +75,42 @@ impl MatchInput {
         told(Self::read(alloc, value))
     }
 
-    #[tactic(auto, unfolding(crate::specs::InputJson::match_input_read))]
     fn read(alloc: Global, value: &Value) -> Result<Self, Unread>
         ensures { Gives match_input_view result (match_input_read (view value.now)) }
     {
-        Ok(Self {
-            protocol: text_field(alloc, value, "protocol")?,
-            username: text_field(alloc, value, "username")?,
-            password: text_field(alloc, value, "password")?,
-            hostname: text_field(alloc, value, "hostname")?,
-            port: text_field(alloc, value, "port")?,
-            pathname: text_field(alloc, value, "pathname")?,
-            search: text_field(alloc, value, "search")?,
-            hash: text_field(alloc, value, "hash")?,
-        })
+        let texts = Eight::try_from_fn(|name| text_field(alloc, value, name.as_str()))?;
+        Ok(Self::from_eight(texts))
+    }
+
+    /// The input of these texts.
+    fn from_eight(texts: Eight<String>) -> Self
+        ensures { matched_texts result ≡ texts }
+    {
+        Self {
+            protocol: texts.protocol,
+            username: texts.username,
+            password: texts.password,
+            hostname: texts.hostname,
+            port: texts.port,
+            pathname: texts.pathname,
+            search: texts.search,
+            hash: texts.hash,
+        }
+    }
+
+    /// The text of a component.
+    fn get(&self, name: ComponentName) -> &str
+        ensures { result.now ≡ at (match_input_view self.now) name }
+    {
+        match name {
+            ComponentName::Protocol => &self.protocol,
+            ComponentName::Username => &self.username,
+            ComponentName::Password => &self.password,
+            ComponentName::Hostname => &self.hostname,
+            ComponentName::Port => &self.port,
+            ComponentName::Pathname => &self.pathname,
+            ComponentName::Search => &self.search,
+            ComponentName::Hash => &self.hash,
+        }
     }
 }

@@ -1,8 +1,7 @@
 //! The steps of writing plain values as JSON.
-ghost use Rattle.std.specs.Prelude.{◌≡◌, OnOk, option_map, string_bytes};
-ghost use Rattle.serde_json.specs.Data.{put as with_member, string};
-ghost use Rattle.serde_json.specs.View.{members_view};
-ghost use Rattle.urlpattern_inputs.specs.Trees.{with};
+ghost use Rattle.std.specs.Prelude.{OnOk, Some, option_map, string_bytes};
+ghost use Rattle.serde_json.specs.Data.{string};
+ghost use Rattle.urlpattern_inputs.specs.Trees.{Gain};
 
 use serde_json::{Map, Value};
 use std::alloc::{AllocError, Global};
@@ -14,8 +13,7 @@ pub fn put_text(
     name: &str,
     text: &str,
 ) -> Result<(), AllocError>
-    ensures { OnOk result (members_view members.new.entries
-        ≡ with_member name.now (string text.now) (members_view members.old.entries)) }
+    ensures { OnOk result (Gain members.old.entries members.new.entries name.now (Some (string text.now))) }
 {
     serde_json::put(members, alloc, name, Value::try_from_str(alloc, text)?)
 }
@@ -27,8 +25,7 @@ pub(crate) fn put_optional(
     name: &str,
     text: &Option<String>,
 ) -> Result<(), AllocError>
-    ensures { OnOk result (members_view members.new.entries
-        ≡ with (members_view members.old.entries) (name.now, option_map string (option_map string_bytes text.now))) }
+    ensures { OnOk result (Gain members.old.entries members.new.entries name.now (option_map string (option_map string_bytes text.now))) }
 {
     match text {
         Some(text) => put_text(members, alloc, name, text),

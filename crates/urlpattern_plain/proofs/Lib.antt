@@ -1,3 +1,4 @@
 pub mod JsonExamples
 pub mod ReadingLemmas
+pub mod PatternLemmas
 pub mod RoundTrip

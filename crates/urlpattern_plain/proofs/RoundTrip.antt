@@ -3,11 +3,17 @@ use Rattle.std.proofs.Common.{◌≡◌, ℕ, Bool, List, [], ◌∷◌, Option,
 use Rattle.std.specs.Prelude.{IfSome}
 use Rattle.std.specs.Char.{IsScalar}
 use Rattle.serde_json.specs.Data.{Data, string}
+use Rattle.serde_json.specs.Find.{get}
 use Rattle.serde_json.specs.View.{items_of}
 use Rattle.urlpattern_inputs.specs.Trees.{flag_read, found_read, member_read, optional_read, text_read}
 use Rattle.urlpattern_plain.specs.Json.{capture_read, character_read, component_read, component_tree, filter_tree, inner_read, matcher_read, matcher_tree, only, pattern_read, pattern_tree, texts_of_items, texts_read}
 use Rattle.urlpattern_plain.specs.Values.{ComponentView, HasFilter, HasFilters, InnerView, MatcherView, PatternView, literal, regexp, single_capture}
+use Rattle.urlpattern_inputs.proofs.EachLemmas.{read_each-all}
+use Rattle.urlpattern_plain.proofs.PatternLemmas.{pattern_from}
 use Rattle.urlpattern_syntax.proofs.StringTexts.{chars-encode}
+use Rattle.urlpattern_syntax.specs.Eight.{at, name_text}
+use Rattle.urlpattern_syntax.specs.declared.eight.ComponentName.{ComponentName}
+use Rattle.urlpattern_syntax.specs.declared.eight.ComponentName.TheVariants.{Protocol}
 
 -- ---- matchers
 
@@ -67,30 +73,14 @@ component_again component h = component_from (component_tree component) componen
 
 -- ---- patterns
 
-pattern_from : (tree : Data) (pattern : PatternView)
-    → member_read component_read (codes "protocol") tree ≡ Some pattern.protocol
-    → member_read component_read (codes "username") tree ≡ Some pattern.username
-    → member_read component_read (codes "password") tree ≡ Some pattern.password
-    → member_read component_read (codes "hostname") tree ≡ Some pattern.hostname
-    → member_read component_read (codes "port") tree ≡ Some pattern.port
-    → member_read component_read (codes "pathname") tree ≡ Some pattern.pathname
-    → member_read component_read (codes "search") tree ≡ Some pattern.search
-    → member_read component_read (codes "hash") tree ≡ Some pattern.hash
-    → flag_read (codes "hasRegexpGroups") tree ≡ Some pattern.has_regexp_groups
-    → pattern_read tree ≡ Some pattern
-unfolding pattern_read
-pattern_from tree pattern of_protocol of_username of_password of_hostname of_port of_pathname of_search of_hash of_groups =
-    rw (of_groups, of_protocol, of_username, of_password, of_hostname, of_port, of_pathname, of_search, of_hash) refl
+-- the component of a pattern is found by its name
+member_again : (pattern : PatternView) (name : ComponentName)
+    → get (name_text name) (pattern_tree pattern) ≡ Some (component_tree (at pattern.components name))
+member_again pattern Protocol = refl
+member_again pattern name = refl
 
 pub pattern_again : (pattern : PatternView) → HasFilters pattern → pattern_read (pattern_tree pattern) ≡ Some pattern
 pattern_again pattern h =
     pattern_from (pattern_tree pattern) pattern
-    (component_again pattern.protocol h.protocol)
-    (component_again pattern.username h.username)
-    (component_again pattern.password h.password)
-    (component_again pattern.hostname h.hostname)
-    (component_again pattern.port h.port)
-    (component_again pattern.pathname h.pathname)
-    (component_again pattern.search h.search)
-    (component_again pattern.hash h.hash)
+    (read_each-all (λ name. member_read component_read (name_text name) (pattern_tree pattern)) pattern.components (λ name. rw (member_again pattern name) (component_again (at pattern.components name) (h name))))
     refl

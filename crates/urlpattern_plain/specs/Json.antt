@@ -1,11 +1,12 @@
 -- The JSON of compiled patterns: the tree that stands for each plain value, and which trees are read as which value.
-use Rattle.std.specs.Prelude.{ℕ, if◌then◌else◌, List, [], ◌∷◌, Option, None, Some, option_map, map, codes, encode_utf8}
+use Rattle.std.specs.Prelude.{ℕ, if◌then◌else◌, List, [], ◌∷◌, ◌++◌, Option, None, Some, option_map, map, codes, encode_utf8}
 use Rattle.std.specs.Str.{bytes_eq, chars}
 use Rattle.serde_json.specs.Data.{Data, null, boolean, string, array, Items, no_items, item}
 use Rattle.serde_json.specs.Find.{as_array, as_str}
 use Rattle.serde_json.specs.View.{items_of}
-use Rattle.urlpattern_inputs.specs.Trees.{◌>>=◌, flag_read, member_read, object_of, optional_read, text_read}
+use Rattle.urlpattern_inputs.specs.Trees.{◌>>=◌, each_member, flag_read, member_read, object_of, optional_read, read_each, text_read}
 use Rattle.urlpattern_plain.specs.Values.{ComponentView, InnerView, MatcherView, PatternView, literal, single_capture, regexp}
+use Rattle.urlpattern_syntax.specs.Eight.{at, name_text}
 
 -- ---- the trees
 
@@ -46,16 +47,8 @@ component_tree component = object_of (
 
 abbrev pub pattern_tree : PatternView → Data
 pattern_tree pattern = object_of (
-    (codes "protocol", Some (component_tree pattern.protocol))
-    ∷ (codes "username", Some (component_tree pattern.username))
-    ∷ (codes "password", Some (component_tree pattern.password))
-    ∷ (codes "hostname", Some (component_tree pattern.hostname))
-    ∷ (codes "port", Some (component_tree pattern.port))
-    ∷ (codes "pathname", Some (component_tree pattern.pathname))
-    ∷ (codes "search", Some (component_tree pattern.search))
-    ∷ (codes "hash", Some (component_tree pattern.hash))
-    ∷ (codes "hasRegexpGroups", Some (boolean pattern.has_regexp_groups))
-    ∷ [])
+    each_member (λ name. Some (component_tree (at pattern.components name)))
+    ++ (codes "hasRegexpGroups", Some (boolean pattern.has_regexp_groups)) ∷ [])
 
 -- ---- what is read
 
@@ -114,12 +107,5 @@ component_read tree = do
 unfoldable pub pattern_read : Data → Option PatternView
 pattern_read tree = do
   has_regexp_groups ← flag_read (codes "hasRegexpGroups") tree
-  protocol ← member_read component_read (codes "protocol") tree
-  username ← member_read component_read (codes "username") tree
-  password ← member_read component_read (codes "password") tree
-  hostname ← member_read component_read (codes "hostname") tree
-  port ← member_read component_read (codes "port") tree
-  pathname ← member_read component_read (codes "pathname") tree
-  search ← member_read component_read (codes "search") tree
-  hash ← member_read component_read (codes "hash") tree
-  Some (record { protocol = protocol; username = username; password = password; hostname = hostname; port = port; pathname = pathname; search = search; hash = hash; has_regexp_groups = has_regexp_groups })
+  components ← read_each (λ name. member_read component_read (name_text name) tree)
+  Some (record { components = components; has_regexp_groups = has_regexp_groups })

@@ -7,6 +7,9 @@ use Rattle.urlpattern_plain.specs.declared.matcher.InnerMatcher.TheVariants as m
 use Rattle.urlpattern_plain.specs.declared.matcher.Matcher.{Matcher}
 use Rattle.urlpattern_plain.specs.declared.pattern.UrlPattern.{UrlPattern}
 use Rattle.urlpattern_plain.specs.declared.pattern.UrlPatternComponent.{UrlPatternComponent}
+use Rattle.urlpattern_syntax.specs.Eight.{at, each}
+use Rattle.urlpattern_syntax.specs.declared.eight.ComponentName.{ComponentName}
+use Rattle.urlpattern_syntax.specs.declared.eight.Eight.{Eight}
 
 -- ---- what a pattern is
 
@@ -56,27 +59,27 @@ component_by seen component = record {
 abbrev pub component_view : UrlPatternComponent → ComponentView
 component_view component = component_by string_bytes component
 
+-- the pattern of each component
+abbrev pub component_patterns : UrlPattern → Eight UrlPatternComponent
+component_patterns pattern = record {
+  protocol = pattern.protocol;
+  username = pattern.username;
+  password = pattern.password;
+  hostname = pattern.hostname;
+  port = pattern.port;
+  pathname = pattern.pathname;
+  search = pattern.search;
+  hash = pattern.hash;
+}
+
+-- A pattern: its components, and whether one of them has a custom regular expression.
 pub record PatternView : Type 0 where
-  pub protocol : ComponentView
-  pub username : ComponentView
-  pub password : ComponentView
-  pub hostname : ComponentView
-  pub port : ComponentView
-  pub pathname : ComponentView
-  pub search : ComponentView
-  pub hash : ComponentView
+  pub components : Eight ComponentView
   pub has_regexp_groups : Bool
 
 abbrev pub pattern_by : (String Global → List ℕ) → UrlPattern → PatternView
 pattern_by seen pattern = record {
-  protocol = component_by seen pattern.protocol;
-  username = component_by seen pattern.username;
-  password = component_by seen pattern.password;
-  hostname = component_by seen pattern.hostname;
-  port = component_by seen pattern.port;
-  pathname = component_by seen pattern.pathname;
-  search = component_by seen pattern.search;
-  hash = component_by seen pattern.hash;
+  components = each (λ name. component_by seen (at (component_patterns pattern) name));
   has_regexp_groups = pattern.has_regexp_groups;
 }
 
@@ -92,12 +95,5 @@ HasFilter (single_capture filter allow_empty) = IfSome filter IsScalar
 HasFilter (regexp bytes) = ⊤
 
 -- each filter is a character
-pub record HasFilters (pattern : PatternView) : Type 0 where
-  pub protocol : HasFilter pattern.protocol.matcher.inner
-  pub username : HasFilter pattern.username.matcher.inner
-  pub password : HasFilter pattern.password.matcher.inner
-  pub hostname : HasFilter pattern.hostname.matcher.inner
-  pub port : HasFilter pattern.port.matcher.inner
-  pub pathname : HasFilter pattern.pathname.matcher.inner
-  pub search : HasFilter pattern.search.matcher.inner
-  pub hash : HasFilter pattern.hash.matcher.inner
+abbrev pub HasFilters : PatternView → Type 0
+HasFilters pattern = (name : ComponentName) → HasFilter (at pattern.components name).matcher.inner

@@ -1,11 +1,11 @@
 //! What a component is matched with, as plain data.
 
 ghost use Rattle.std.specs.Prelude.{◌≡◌, IfErr, IfOk, OnOk, option_map};
-ghost use Rattle.serde_json.specs.View.{members_view, view};
+ghost use Rattle.serde_json.specs.View.{view};
 ghost use Rattle.urlpattern_plain.specs.Json.{capture_read, inner_members, inner_read, matcher_read, matcher_tree};
 ghost use Rattle.urlpattern_core.specs.Matchers as compiled;
 ghost use Rattle.urlpattern_inputs.specs.Steps.{Gives};
-ghost use Rattle.urlpattern_inputs.specs.Trees.{all_with};
+ghost use Rattle.urlpattern_inputs.specs.Trees.{GainAll};
 ghost use Rattle.urlpattern_plain.specs.Plain.{engine_text, plain_inner, plain_matcher};
 ghost use Rattle.urlpattern_plain.specs.Values.{inner_by, inner_view, matcher_by, matcher_view};
 ghost use Rattle.urlpattern_syntax.specs.declared.error.Error.TheVariants as errors;
@@ -149,8 +149,7 @@ impl InnerMatcher {
 
     /// Puts the kind, and the keys that go with it, into an object.
     fn put_members(&self, members: &mut Map<String, Value>, alloc: Global) -> Result<(), AllocError>
-        ensures { OnOk result (members_view members.new.entries
-            ≡ all_with (members_view members.old.entries) (inner_members (inner_view self.now))) }
+        ensures { OnOk result (GainAll members.old.entries members.new.entries (inner_members (inner_view self.now))) }
     {
         match self {
             InnerMatcher::Literal { literal } => {

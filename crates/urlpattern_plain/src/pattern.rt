@@ -1,14 +1,14 @@
 //! A whole pattern as plain data.
 
-ghost use Rattle.std.specs.Prelude.{◌≡◌, IfErr, IfOk, OnOk, option_map};
-ghost use Rattle.serde_json.specs.Data.{put as with_member};
-ghost use Rattle.serde_json.specs.View.{members_view, view};
+ghost use Rattle.std.specs.Prelude.{◌≡◌, IfErr, IfOk, OnOk, Some, option_map};
+ghost use Rattle.serde_json.specs.View.{view};
 ghost use Rattle.urlpattern_plain.specs.Json.{component_read, component_tree, matcher_read, pattern_read, pattern_tree};
 ghost use Rattle.urlpattern_core.specs.Compiling as compiled;
 ghost use Rattle.urlpattern_plain.specs.Plain.{plain_component};
 ghost use Rattle.urlpattern_inputs.specs.Steps.{Gives};
-ghost use Rattle.urlpattern_inputs.specs.Trees.{member_read};
-ghost use Rattle.urlpattern_plain.specs.Values.{component_by, component_view, matcher_view, pattern_view};
+ghost use Rattle.urlpattern_inputs.specs.Trees.{Gain, member_read};
+ghost use Rattle.urlpattern_plain.specs.Values.{component_by, component_patterns, component_view, matcher_view, pattern_view};
+ghost use Rattle.urlpattern_syntax.specs.Eight.{at};
 ghost use Rattle.urlpattern_syntax.specs.declared.error.Error.TheVariants as errors;
 ghost use Rattle.urlpattern_syntax.specs.Text.{text_of};
 
@@ -23,6 +23,7 @@ use urlpattern_core::component::Component;
 use urlpattern_core::regexp::RegExp;
 use urlpattern_inputs::reading::{Unread, flag_field, member, text_field, told};
 use urlpattern_inputs::writing::put_text;
+use urlpattern_syntax::eight::{ComponentName, Eight};
 
 /// A pattern for each of a URL's components.
 #[derive(Debug, Clone, PartialEq, Eq, Drop, Serialize, Deserialize)]
@@ -77,14 +78,9 @@ impl UrlPattern {
         ensures { IfOk result (λ tree. view tree ≡ pattern_tree (pattern_view self.now)) }
     {
         let mut members = Map::new(alloc);
-        put_component(&mut members, alloc, "protocol", &self.protocol)?;
-        put_component(&mut members, alloc, "username", &self.username)?;
-        put_component(&mut members, alloc, "password", &self.password)?;
-        put_component(&mut members, alloc, "hostname", &self.hostname)?;
-        put_component(&mut members, alloc, "port", &self.port)?;
-        put_component(&mut members, alloc, "pathname", &self.pathname)?;
-        put_component(&mut members, alloc, "search", &self.search)?;
-        put_component(&mut members, alloc, "hash", &self.hash)?;
+        for name in ComponentName::all() {
+            put_component(&mut members, alloc, name.as_str(), self.get(*name))?;
+        }
         let has_regexp_groups = Value::Bool(self.has_regexp_groups);
         serde_json::put(&mut members, alloc, "hasRegexpGroups", has_regexp_groups)?;
         Ok(Value::Object(members))
@@ -106,17 +102,42 @@ impl UrlPattern {
         ensures { Gives pattern_view result (pattern_read (view value.now)) }
     {
         let has_regexp_groups = flag_field(value, "hasRegexpGroups")?;
-        Ok(Self {
-            protocol: component_field(alloc, value, "protocol")?,
-            username: component_field(alloc, value, "username")?,
-            password: component_field(alloc, value, "password")?,
-            hostname: component_field(alloc, value, "hostname")?,
-            port: component_field(alloc, value, "port")?,
-            pathname: component_field(alloc, value, "pathname")?,
-            search: component_field(alloc, value, "search")?,
-            hash: component_field(alloc, value, "hash")?,
+        let components = Eight::try_from_fn(|name| component_field(alloc, value, name.as_str()))?;
+        Ok(Self::from_eight(components, has_regexp_groups))
+    }
+
+    /// The pattern of these components.
+    fn from_eight(components: Eight<UrlPatternComponent>, has_regexp_groups: bool) -> Self
+        ensures components { component_patterns result ≡ components }
+        ensures groups { result.has_regexp_groups ≡ has_regexp_groups }
+    {
+        Self {
+            protocol: components.protocol,
+            username: components.username,
+            password: components.password,
+            hostname: components.hostname,
+            port: components.port,
+            pathname: components.pathname,
+            search: components.search,
+            hash: components.hash,
             has_regexp_groups,
-        })
+        }
+    }
+
+    /// The pattern of a component.
+    fn get(&self, name: ComponentName) -> &UrlPatternComponent
+        ensures { component_view result.now ≡ at (pattern_view self.now).components name }
+    {
+        match name {
+            ComponentName::Protocol => &self.protocol,
+            ComponentName::Username => &self.username,
+            ComponentName::Password => &self.password,
+            ComponentName::Hostname => &self.hostname,
+            ComponentName::Port => &self.port,
+            ComponentName::Pathname => &self.pathname,
+            ComponentName::Search => &self.search,
+            ComponentName::Hash => &self.hash,
+        }
     }
 }
 
@@ -192,8 +213,7 @@ fn put_component(
     name: &str,
     component: &UrlPatternComponent,
 ) -> Result<(), AllocError>
-    ensures { OnOk result (members_view members.new.entries
-        ≡ with_member name.now (component_tree (component_view component.now)) (members_view members.old.entries)) }
+    ensures { OnOk result (Gain members.old.entries members.new.entries name.now (Some (component_tree (component_view component.now)))) }
 {
     serde_json::put(members, alloc, name, component.tree(alloc)?)
 }
