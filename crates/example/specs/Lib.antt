@@ -1,2 +1,3 @@
 pub mod Captured
 pub mod FirstRule
+pub mod Same

@@ -1,9 +1,9 @@
 //! A pattern that is printed and read again, as one that is kept in a file.
 
-ghost use Rattle.std.specs.Prelude.{◌≡◌, ◌↔◌, ℕ, List, map, string_bytes, IfErr, IfOk, MatchResult};
+ghost use Rattle.example.specs.Same.{MeanTheSame};
+ghost use Rattle.std.specs.Prelude.{◌≡◌, string_bytes, IfErr, IfOk, MatchResult};
 ghost use Rattle.urlpattern.specs.Options.{options_view};
-ghost use Rattle.urlpattern.specs.PartMeaning.{Captures, PartsMean};
-ghost use Rattle.urlpattern.specs.Parts.{part_view};
+ghost use Rattle.urlpattern.specs.Parts.{parts_view};
 ghost use Rattle.urlpattern.specs.Printing.{joined};
 ghost use Rattle.urlpattern.specs.RoundTrip.{IsPrintable};
 
@@ -25,12 +25,10 @@ pub fn printed_and_read(
     parts: &[Part],
     options: &Options,
 ) -> Result<Vec<Part>, Error>
-    ensures same { IsPrintable (options_view options.now) (map part_view parts.now) →
-        IfOk result (λ again. map part_view again.items ≡ joined (map part_view parts.now)) }
-    ensures meaning { IsPrintable (options_view options.now) (map part_view parts.now) →
-        IfOk result (λ again. (text : List ℕ) (captures : Captures) →
-        PartsMean (options_view options.now) (map part_view again.items) text captures ↔ PartsMean (options_view options.now) (map part_view parts.now) text captures) }
-    ensures memory { IsPrintable (options_view options.now) (map part_view parts.now) → IfErr result (λ error. error ≡ Error.OutOfMemory) }
+    ensures same { IsPrintable (options_view options.now) (parts_view parts.now) → IfOk result (λ again. parts_view again.items ≡ joined (parts_view parts.now)) }
+    ensures meaning { IsPrintable (options_view options.now) (parts_view parts.now) →
+        IfOk result (λ again. MeanTheSame (options_view options.now) (parts_view again.items) (parts_view parts.now)) }
+    ensures memory { IsPrintable (options_view options.now) (parts_view parts.now) → IfErr result (λ error. error ≡ Error.OutOfMemory) }
 {
     joining_keeps_meaning();
     let unchanged = |text: &str| -> Result<String, Error>

@@ -1,9 +1,8 @@
 //! A router: what a URL under `/users/:id` names.
 
-ghost use Rattle.example.specs.Captured.{IsCaptured};
-ghost use Rattle.std.specs.Prelude.{◌≡◌, ◌⊎◌, IfErr, IfNone, IfOk, IfSome};
+ghost use Rattle.example.specs.Captured.{NamesNone, NamesUser};
+ghost use Rattle.std.specs.Prelude.{◌≡◌, IfErr, IfNone, IfOk, IfSome, Some};
 ghost use Rattle.std.specs.Str.{chars};
-ghost use Rattle.urlpattern.specs.Match.{HasNoMatch};
 ghost use Rattle.urlpattern.specs.Patterns.{pattern_view};
 
 use std::alloc::Global;
@@ -26,10 +25,8 @@ pub fn user<'a, R: RegExp>(
     users: &'a UrlPattern<R>,
     url: &'a Url,
 ) -> Result<Option<&'a str>, Error>
-    ensures some { IfOk result (λ found. IfSome found (λ id.
-        IsCaptured R.answer (pattern_view users.now) (UrlPatternMatchInput.Url url.now) ComponentName.Pathname (chars ID.now) (Some (chars id.now)))) }
-    ensures none { IfOk result (λ found. IfNone found (HasNoMatch R.answer (pattern_view users.now) (UrlPatternMatchInput.Url url.now)
-        ⊎ IsCaptured R.answer (pattern_view users.now) (UrlPatternMatchInput.Url url.now) ComponentName.Pathname (chars ID.now) None)) }
+    ensures some { IfOk result (λ found. IfSome found (λ id. NamesUser R.answer (pattern_view users.now) url.now (Some (chars id.now)))) }
+    ensures none { IfOk result (λ found. IfNone found (NamesNone R.answer (pattern_view users.now) url.now)) }
     ensures memory { IfErr result (λ error. error ≡ Error.OutOfMemory) }
 {
     let Some(found) = users.captures(alloc, url)? else {

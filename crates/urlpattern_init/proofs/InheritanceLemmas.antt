@@ -137,8 +137,8 @@ kept first values =
 module _ (mode : ProcessType) (values : Values) (base : Option Parts) (protocol : Option (List ℕ)) (e : processed_value mode values base None Protocol ≡ Ok protocol) where
   pub or_protocol : (P : ComponentName → Type 0) → P Protocol → ((name : ComponentName) → name ≢ Protocol → P name) → (name : ComponentName) → P name
   or_protocol P first others =
-      by_name P first (others Username (λ _. absurd cc)) (others Password (λ _. absurd cc)) (others Hostname (λ _. absurd cc))
-          (others Port (λ _. absurd cc)) (others Pathname (λ _. absurd cc)) (others Search (λ _. absurd cc)) (others Hash (λ _. absurd cc))
+      by_name P first (others Username (λ same. absurd cc)) (others Password (λ same. absurd cc)) (others Hostname (λ same. absurd cc))
+          (others Port (λ same. absurd cc)) (others Pathname (λ same. absurd cc)) (others Search (λ same. absurd cc)) (others Hash (λ same. absurd cc))
 
   pub has_value : (name : ComponentName) (value : Option (List ℕ)) → (name ≢ Protocol → processed_value mode values base protocol name ≡ Ok value)
       → HasValue (processed_value mode values base protocol) name

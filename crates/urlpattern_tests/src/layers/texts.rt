@@ -1,7 +1,7 @@
 //! The texts of components where memory may run out: the regular expression, the names and the printed pattern.
 
-use crate::long_texts::push_copies;
-use crate::parts::parts_of;
+use super::long_texts::push_copies;
+use super::parts::parts_of;
 use std::alloc::Global;
 use std::process::Abort;
 use urlpattern_core::Error;

@@ -1,6 +1,6 @@
 //! The engine for patterns beside `regex::Regex`, on expressions that components are made of.
 
-use crate::long_texts::push_copies;
+use super::long_texts::push_copies;
 use regex::Regex;
 use std::alloc::{AllocError, Global};
 use std::test::Fail;

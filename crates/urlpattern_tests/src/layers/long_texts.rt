@@ -1,6 +1,6 @@
 //! Long and deeply nested patterns, which end well within the time that a test has.
 
-use crate::parts::parts_of;
+use super::parts::parts_of;
 use std::alloc::{AllocError, Global};
 use std::test::Fail;
 use urlpattern_core::Error;

@@ -1,6 +1,7 @@
 //! Engines of regular expressions that answer what no engine should, or refuse each text.
 
 use crate::inits::init_of;
+use crate::kept_text::Wanting;
 use crate::matches::expect_groups;
 use std::alloc::Global;
 use std::test::Fail;
@@ -154,56 +155,6 @@ type Refusing = Failing<true>;
 
 /// An engine that finds no memory for any text.
 type Starved = Failing<false>;
-
-/// A regular expression that finds no memory when it is asked.
-#[derive(Debug, Drop)]
-pub struct Wanting {
-    text: String,
-}
-
-impl RegExp for Wanting {
-    ghost use Rattle.std.specs.Prelude.{◌≡◌, None};
-    ghost use Rattle.urlpattern.specs.RegexSyntax.TheVariants.{Rust};
-    ghost use Rattle.urlpattern.specs.Text.{text_of};
-
-    ghost syntax_of = { Rust };
-
-    ghost IsMade = { λ wanting regexp flags. text_of wanting.text ≡ regexp };
-
-    ghost MayRefuse = { λ regexp flags force_eval. ⊥ };
-
-    ghost answer = { λ wanting text. None };
-
-    ghost text_made_of = { λ wanting. text_of wanting.text };
-
-    fn syntax() -> RegexSyntax {
-        RegexSyntax::Rust
-    }
-
-    fn parse(
-        alloc: Global,
-        pattern: &str,
-        _flags: &str,
-        _force_eval: bool,
-    ) -> Result<Wanting, RegExpError> {
-        match String::from_str(alloc, pattern) {
-            Ok(text) => Ok(Wanting { text }),
-            Err(_) => Err(RegExpError::OutOfMemory),
-        }
-    }
-
-    fn matches<'a>(
-        &self,
-        _alloc: Global,
-        _text: &'a str,
-    ) -> Result<Option<Vec<Option<&'a str>>>, OutOfMemory> {
-        Err(OutOfMemory)
-    }
-
-    fn pattern_string(&self) -> &str {
-        self.text.as_str()
-    }
-}
 
 /// A matcher that asks an engine about what stands before `b`.
 fn matcher_of<R: RegExp>(alloc: Global) -> Result<Matcher<R>, Error> {

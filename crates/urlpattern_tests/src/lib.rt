@@ -1,6 +1,6 @@
-//! Examples of whole patterns and what they are built of, beside the recorded cases that `bench` replays: JSON, plain
-//! data, inputs that are handed back, components put together by hand, engines that answer what none should, lists of
-//! patterns, ignored case, long strings, what `urlpat` prints, and calls for which memory may run out. It holds tests alone.
+//! Tests of what no recorded case that `bench` replays can say: JSON, plain data, inputs that are handed back, components put
+//! together by hand, engines that answer what none should, lists of patterns, ignored case, long strings, what `urlpat` prints,
+//! the layers below whole patterns, and calls for which memory may run out. It holds tests alone.
 #![tactic(auto)]
 
 #[cfg(test)]
@@ -25,6 +25,10 @@ mod inits;
 mod inputs;
 #[cfg(test)]
 mod json;
+#[cfg(test)]
+mod kept_text;
+#[cfg(test)]
+mod layers;
 #[cfg(test)]
 mod lists;
 #[cfg(test)]

@@ -1,6 +1,6 @@
 //! The normal form of a list of parts.
 
-use crate::parts::parts_of;
+use super::parts::parts_of;
 use std::alloc::Global;
 use std::process::Abort;
 use std::test::Fail;
