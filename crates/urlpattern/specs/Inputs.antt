@@ -16,13 +16,13 @@ use Rattle.urlpattern_core.specs.Engines.{IsRegexOf, regex_answer}
 use Rattle.urlpattern_inputs.specs.declared.init.UrlPatternInit.{UrlPatternInit as PlainInit}
 use Rattle.urlpattern_inputs.specs.declared.input.StringOrInit.{StringOrInit}
 use Rattle.urlpattern_inputs.specs.declared.input.StringOrInit.TheVariants as inputs
-use Rattle.urlpattern_inputs.specs.InputValues.{input_view}
+use Rattle.urlpattern_inputs.specs.InputValues.{given_texts, input_view}
 pub use Rattle.urlpattern_pattern.specs.FromString.{RefusesText, parsed_base, text_bytes}
 use Rattle.urlpattern_pattern.specs.FromString.{IsInitOfText}
 use Rattle.urlpattern_syntax.specs.Errors.{ErrorView}
 use Rattle.urlpattern_syntax.specs.Errors.{ErrorView as views}
 use Rattle.urlpattern_syntax.specs.Text.{text_of}
-use Rattle.urlpattern_syntax.specs.Eight.{Values}
+use Rattle.urlpattern_syntax.specs.Eight.{Values, at, each}
 
 -- ---- URLs: texts are their bytes
 
@@ -32,17 +32,9 @@ parsed_text base text = and_then (parsed_base base) (λ url. parse_url url text)
 
 -- ---- inits
 
+-- the texts that a plain init gives
 abbrev pub plain_values : PlainInit → Values
-plain_values init = record {
-  protocol = option_map text_of init.protocol;
-  username = option_map text_of init.username;
-  password = option_map text_of init.password;
-  hostname = option_map text_of init.hostname;
-  port = option_map text_of init.port;
-  pathname = option_map text_of init.pathname;
-  search = option_map text_of init.search;
-  hash = option_map text_of init.hash;
-}
+plain_values init = each (λ name. option_map text_of (at (given_texts init) name))
 
 abbrev pub plain_base : PlainInit → Option (List ℕ)
 plain_base init = option_map string_bytes init.base_url

@@ -151,22 +151,6 @@ or-first first second tested e is = is ∙ ap (λ test. test || second) (sym is 
 pub or-second : (first second tested later : Bool) → tested ≡ first → tested ≡ false → later ≡ second → later ≡ (first || second)
 or-second first second tested later e none is = is ∙ ap (λ test. test || second) (sym none ∙ e)
 
--- ---- a pattern, component by component
-
-pub each_component : {E : Type 0} (P : Names → ComponentView E → Type 0) (pattern : UrlPattern E)
-    → P Protocol (component_view pattern.protocol) → P Username (component_view pattern.username) → P Password (component_view pattern.password)
-    → P Hostname (component_view pattern.hostname) → P Port (component_view pattern.port) → P Pathname (component_view pattern.pathname)
-    → P Search (component_view pattern.search) → P Hash (component_view pattern.hash)
-    → (component : Names) → P component (pattern_view pattern component)
-each_component P pattern protocol username password hostname port pathname search hash Protocol = protocol
-each_component P pattern protocol username password hostname port pathname search hash Username = username
-each_component P pattern protocol username password hostname port pathname search hash Password = password
-each_component P pattern protocol username password hostname port pathname search hash Hostname = hostname
-each_component P pattern protocol username password hostname port pathname search hash Port = port
-each_component P pattern protocol username password hostname port pathname search hash Pathname = pathname
-each_component P pattern protocol username password hostname port pathname search hash Search = search
-each_component P pattern protocol username password hostname port pathname search hash Hash = hash
-
 -- ---- the pattern behind its protocol
 
 pub are_compiled : {E : Type 0} (IsFrom : Compiles E) (answer : E → List ℕ → Option Captures) (asked : UrlPatternOptions) (values : Values) (hierarchical : Bool)

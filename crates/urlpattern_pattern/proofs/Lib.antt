@@ -1,5 +1,5 @@
 pub mod MatchInputLemmas
-pub mod Each
+pub mod Results
 pub mod GroupLemmas
 pub mod ListLemmas
 pub mod MatchExamples

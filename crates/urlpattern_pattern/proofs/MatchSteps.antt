@@ -8,7 +8,7 @@ use Rattle.std.specs.declared.alloc.Global.{Global}
 use Rattle.urlpattern_syntax.specs.declared.eight.ComponentName.{ComponentName}
 use Rattle.urlpattern_init.specs.declared.init.UrlPatternMatchInput.{UrlPatternMatchInput}
 use Rattle.urlpattern_syntax.specs.declared.eight.Eight.{Eight}
-use Rattle.urlpattern_pattern.proofs.Each.{each}
+use Rattle.urlpattern_syntax.proofs.EightLemmas.{by_name}
 use Rattle.urlpattern_pattern.specs.Matching.{borrowed_texts, results_of}
 use Rattle.urlpattern_pattern.specs.Match.{AreMatched, HasMatch, HasNoMatch, IsMatch, IsMatchOf, IsRefused, IsSameResult, ResultView, group_in}
 use Rattle.urlpattern_pattern.specs.MatchInput.{input_texts}
@@ -72,7 +72,7 @@ input-same answer pattern input match result same (texts, e, is_match) = (texts,
 
 -- texts that are lent, and the text of one component
 pub text-at : (texts : Eight (Bor (List ℕ))) (name : ComponentName) → at (borrowed_texts texts) name ≡ chars (at texts name).now
-text-at texts = each (λ name. at (borrowed_texts texts) name ≡ chars (at texts name).now) refl refl refl refl refl refl refl refl
+text-at texts = by_name (λ name. at (borrowed_texts texts) name ≡ chars (at texts name).now) refl refl refl refl refl refl refl refl
 
 -- texts beside copies of the groups of a match of them are its results
 pub match-of_groups : {E S : Type 0} (answer : E → List ℕ → Option Captures) (pattern : PatternView E) (texts : Texts) (match : ComponentName → ResultView) (groups : Eight (HashMap (String Global) (Option (String Global)) S)) →

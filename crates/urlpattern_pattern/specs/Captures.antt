@@ -1,10 +1,14 @@
 -- A match that is borrowed from the pattern and from what it matches, as a result.
-use Rattle.std.specs.Prelude.{ℕ, List, map, zip, Option}
+use Rattle.std.specs.Prelude.{◌≡◌, ℕ, List, map, zip, Option, Result, String, IfErr, IfOk}
+use Rattle.std.specs.HashMap.{HashMap}
 use Rattle.std.specs.Str.{chars}
+use Rattle.std.specs.declared.alloc.Global.{Global}
 use Rattle.urlpattern_syntax.specs.declared.eight.ComponentName.{ComponentName}
 use Rattle.urlpattern_pattern.specs.declared.pattern.captures.UrlPatternCaptures.{UrlPatternCaptures}
-use Rattle.urlpattern_pattern.specs.Matching.{captures_of}
+use Rattle.urlpattern_pattern.specs.Matching.{AreGroupsOf, captures_of}
 use Rattle.urlpattern_pattern.specs.Match.{ResultView, group_of}
+use Rattle.urlpattern_syntax.specs.declared.error.Error.{Error}
+use Rattle.urlpattern_syntax.specs.declared.error.Error.TheVariants as errors
 use Rattle.urlpattern_syntax.specs.Text.{text_of}
 use Rattle.urlpattern_syntax.specs.Eight.{at}
 
@@ -22,3 +26,8 @@ captures_view found component = record {
   input = chars (at found.texts component).now;
   group = group_of (names_view found component) (captures_of (at found.captures component));
 }
+
+-- the groups of a component are copied to a map, or memory ran out
+pub record IsGroupsAnswer {S : Type 0} (found : UrlPatternCaptures) (component : ComponentName) (result : Result (HashMap (String Global) (Option (String Global)) S) Error) : Type 0 where
+  pub groups : IfOk result (λ groups. AreGroupsOf groups (captures_view found component))
+  pub memory : IfErr result (λ error. error ≡ errors.OutOfMemory)

@@ -6,7 +6,7 @@ ghost use Rattle.std.specs.Str.{chars};
 ghost use Rattle.urlpattern_core.specs.Captured.{capture_view};
 ghost use Rattle.urlpattern_core.specs.Looks.{look_answer, IsAsking};
 ghost use Rattle.urlpattern_syntax.specs.declared.eight.ComponentName.{ComponentName as Name};
-ghost use Rattle.urlpattern_pattern.specs.Captures.{captures_view, groups_view};
+ghost use Rattle.urlpattern_pattern.specs.Captures.{IsGroupsAnswer, captures_view, groups_view};
 ghost use Rattle.urlpattern_pattern.specs.Matching.{AreGroupsOf, captures_of, texts_of, HasNoGroups, IsWithoutGroups};
 ghost use Rattle.urlpattern_pattern.specs.Match.{component_result_view, group_of, result_view, IsSameResult};
 ghost use Rattle.urlpattern_syntax.specs.Text.{text_of};
@@ -128,8 +128,7 @@ impl<'a> UrlPatternCaptures<'a> {
         ensures memory { IfErr result (λ error. error ≡ errors.OutOfMemory) }
     {
         let groups = |name: ComponentName| -> Result<Groups, Error>
-            ensures groups { IfOk result (λ groups. AreGroupsOf groups (captures_view self.entry.now name)) }
-            ensures memory { IfErr result (λ error. error ≡ errors.OutOfMemory) }
+            ensures { IsGroupsAnswer self.entry.now name result }
         {
             self.groups_of(alloc, name)
         };

@@ -4,7 +4,7 @@ use Rattle.std.proofs.lemmas.Option.{slice_get_read}
 use Rattle.std.specs.Prelude.{All, Contains, Some}
 use Rattle.urlpattern_index.specs.Keys.{address_keys}
 use Rattle.urlpattern_index.specs.Listed.{IsAmong}
-use Rattle.urlpattern_pattern.proofs.Each.{if_err}
+use Rattle.urlpattern_pattern.proofs.Results.{if_err}
 use Rattle.urlpattern_pattern.proofs.ListLemmas.{first-views, one_asks-views, refused-views}
 use Rattle.urlpattern_pattern.proofs.PlaceLemmas.{candidate_within, passed_over}
 use Rattle.urlpattern_pattern.specs.Captures.{captures_view}

@@ -1,5 +1,6 @@
 use Rattle.urlpattern_syntax.specs.declared.eight.ComponentName.TheVariants.{Protocol, Username, Password, Hostname, Port, Pathname, Search, Hash}
-use Rattle.urlpattern_pattern.proofs.Each.{each, if_none}
+use Rattle.urlpattern_pattern.proofs.Results.{if_none}
+use Rattle.urlpattern_syntax.proofs.EightLemmas.{by_name}
 use Rattle.urlpattern_pattern.proofs.pattern.UrlPattern.look.Goals as goal
 
 pub returns-in_err-look-clause-none : goal.returns-in_err-look-clause-none
@@ -28,8 +29,8 @@ returns-in_err-look-8-clause-none g c = if_none _ c.from_residual-in_err-look-8.
 
 pub returns-clause-some : goal.returns-clause-some
 returns-clause-some g c =
-    each _ c.in_ok-look-3.ensures.answer c.in_ok-look-7.ensures.answer c.in_ok-look-8.ensures.answer c.in_ok-look-2.ensures.answer c.in_ok-look-4.ensures.answer c.in_ok-look.ensures.answer c.in_ok-look-5.ensures.answer c.in_ok-look-6.ensures.answer
+    by_name _ c.in_ok-look-3.ensures.answer c.in_ok-look-7.ensures.answer c.in_ok-look-8.ensures.answer c.in_ok-look-2.ensures.answer c.in_ok-look-4.ensures.answer c.in_ok-look.ensures.answer c.in_ok-look-5.ensures.answer c.in_ok-look-6.ensures.answer
 
 pub returns-clause-asked : goal.returns-clause-asked
 returns-clause-asked g c =
-    each _ c.in_ok-look-3.ensures.asked c.in_ok-look-7.ensures.asked c.in_ok-look-8.ensures.asked c.in_ok-look-2.ensures.asked c.in_ok-look-4.ensures.asked c.in_ok-look.ensures.asked c.in_ok-look-5.ensures.asked c.in_ok-look-6.ensures.asked
+    by_name _ c.in_ok-look-3.ensures.asked c.in_ok-look-7.ensures.asked c.in_ok-look-8.ensures.asked c.in_ok-look-2.ensures.asked c.in_ok-look-4.ensures.asked c.in_ok-look.ensures.asked c.in_ok-look-5.ensures.asked c.in_ok-look-6.ensures.asked

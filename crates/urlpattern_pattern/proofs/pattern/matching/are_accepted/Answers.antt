@@ -1,6 +1,7 @@
 use Rattle.urlpattern_syntax.specs.declared.eight.ComponentName.TheVariants.{Protocol, Username, Password, Hostname, Port, Pathname, Search, Hash}
 use Rattle.urlpattern_pattern.specs.Matching.{ShowsMatch, ShowsNoMatch}
-use Rattle.urlpattern_pattern.proofs.Each.{each, err-leads, if_err}
+use Rattle.urlpattern_pattern.proofs.Results.{err-leads, if_err}
+use Rattle.urlpattern_syntax.proofs.EightLemmas.{by_name}
 use Rattle.urlpattern_pattern.proofs.MatchSteps.{said_false, said_true, tells-both}
 use Rattle.urlpattern_pattern.proofs.pattern.matching.are_accepted.Goals as goal
 use Rattle.urlpattern_syntax.specs.Eight.{at}
@@ -51,7 +52,7 @@ returns-clause-accepted g c =
     let port = said_true (ShowsMatch answer looks.port) (ShowsNoMatch answer looks.port) _ c.if-not-branch-5.false c.in_ok-is_accepted-5.ensures.accepted in
     let pathname = said_true (ShowsMatch answer looks.pathname) (ShowsNoMatch answer looks.pathname) _ c.if-not-branch-6.false c.in_ok-is_accepted-6.ensures.accepted in
     let search = said_true (ShowsMatch answer looks.search) (ShowsNoMatch answer looks.search) _ c.if-not-branch-7.false c.in_ok-is_accepted-7.ensures.accepted in
-    tells-both _ _ _ _ c.is_accepted-8.result (λ hash. each (λ name. ShowsMatch answer (at looks name)) protocol username password hostname port pathname search hash) (λ none. (Hash, none))
+    tells-both _ _ _ _ c.is_accepted-8.result (λ hash. by_name (λ name. ShowsMatch answer (at looks name)) protocol username password hostname port pathname search hash) (λ none. (Hash, none))
     c.is_accepted-8.ensures.accepted
 
 pub returns-in_err-is_accepted-clause-asked : goal.returns-in_err-is_accepted-clause-asked

@@ -1,7 +1,7 @@
 use Rattle.urlpattern_syntax.specs.declared.eight.ComponentName.TheVariants.{Protocol, Username, Password, Hostname, Port, Pathname, Search, Hash}
 use Rattle.std.proofs.Common.{sym, ◌∙◌, ap, option_map}
 use Rattle.urlpattern_pattern.specs.Matching.{captures_of}
-use Rattle.urlpattern_pattern.proofs.Each.{if_err}
+use Rattle.urlpattern_pattern.proofs.Results.{if_err}
 use Rattle.urlpattern_pattern.proofs.pattern.matching.captures_of_looks.Goals as goal
 
 pub returns-in_default-clause-none : goal.returns-in_default-clause-none

@@ -1,7 +1,8 @@
 use Rattle.std.proofs.Common.{inl, inr}
 use Rattle.std.proofs.lemmas.Result.{err_from_is_err_and}
-use Rattle.urlpattern_pattern.proofs.CompiledLemmas.{each_component, memory_or-map}
-use Rattle.urlpattern_pattern.specs.Compiled.{FirstRefused, IsComponentCompiled, IsComponentRefused, behind_pathname, behind_protocol}
+use Rattle.urlpattern_pattern.proofs.CompiledLemmas.{memory_or-map}
+use Rattle.urlpattern_syntax.proofs.EightLemmas.{by_name}
+use Rattle.urlpattern_pattern.specs.Compiled.{FirstRefused, IsComponentRefused, behind_pathname, behind_protocol}
 use Rattle.urlpattern_init.specs.Inheritance.{values_view}
 use Rattle.urlpattern_syntax.specs.declared.eight.ComponentName.TheVariants.{Hostname, Pathname}
 use Rattle.urlpattern_core.specs.Compiling.{IsCompiledFrom, component_view}
@@ -45,18 +46,6 @@ returns-in_err-others-clause-refused g c =
 
 pub returns-clause-compiled : goal.returns-clause-compiled
 returns-clause-compiled g c =
-    each_component
-    (λ component compiled. IsComponentCompiled (IsCompiledFrom g.R.RegExp.IsMade g.R.RegExp.MayRefuse g.R.RegExp.syntax_of)
-    c.args.self.now.options.now (values_view c.args.self.now.values.now) c.args.hierarchical component compiled)
-    (record {
-      protocol = c.args.protocol;
-      username = c.in_ok-others.others.username;
-      password = c.in_ok-others.others.password;
-      hostname = c.in_ok-hostname.hostname;
-      port = c.in_ok-others.others.port;
-      pathname = c.in_ok-pathname.pathname;
-      search = c.in_ok-others.others.search;
-      hash = c.in_ok-others.others.hash;
-    })
+    by_name _
     c.requires c.in_ok-others.ensures.username c.in_ok-others.ensures.password c.in_ok-hostname.ensures.compiled c.in_ok-others.ensures.port
     c.in_ok-pathname.ensures.compiled c.in_ok-others.ensures.search c.in_ok-others.ensures.hash
