@@ -20,5 +20,6 @@ pub mod GroupsRefused
 pub mod TreeDepths
 pub mod Bytes
 pub mod RegexWays
+pub mod FirstMatchers
 pub mod RegexMatchers
 pub mod PartDepths

@@ -1,0 +1,29 @@
+-- Matchers of engines whose values answer the first way of the tree of the text that they were made of.
+use Rattle.std.proofs.Common.{◌≡◌, ℕ, List, Option, false}
+use Rattle.std.specs.Prelude.{⊤}
+use Rattle.urlpattern_core.specs.FirstWays.{AnswerAlike, AnswersFirstWays}
+use Rattle.urlpattern_core.specs.Generated.{AreGenerated}
+use Rattle.urlpattern_laws.specs.FirstAnswers.{AnswersFirst, AnswersFirstInMiddle, TookText}
+use Rattle.urlpattern_laws.specs.Matching.{IsMadeOf, MatcherView}
+use Rattle.urlpattern_laws.specs.PartMeaning.{Captures}
+use Rattle.urlpattern_syntax.specs.Options.{OptionsView}
+use Rattle.urlpattern_syntax.specs.Parts.{PartView}
+use Rattle.urlpattern_syntax.specs.RegexpText.{regexp_text}
+use Rattle.urlpattern_laws.proofs.FirstAnswers.{first_agrees, first_one, matcher_first, of_made}
+
+pub made_first : {E : Type 0} (answer : E → List ℕ → Option Captures) (IsMade : E → (regexp flags : List ℕ) → Type 0) (MayRefuse : (regexp flags : List ℕ) → Type 0) →
+    ((value : E) (regexp flags : List ℕ) → IsMade value regexp flags → AnswersFirst regexp (answer value)) →
+    (options : OptionsView) (flags : List ℕ) (parts : List PartView) (matcher : MatcherView E) → IsMadeOf IsMade MayRefuse options flags parts matcher →
+    AreGenerated parts → options.ignore_case ≡ false → TookText (λ value. ⊤) matcher.inner → AnswersFirstWays answer options parts matcher
+made_first answer IsMade MayRefuse values_first options flags parts matcher made generated case_kept took text result no_feed scalars answers =
+    let firsts : AnswersFirstInMiddle answer options parts matcher.inner =
+    of_made (λ value middle. AnswersFirst (regexp_text options middle) (answer value)) (λ value. ⊤) IsMade MayRefuse options flags parts matcher
+    made generated took (λ value middle plain of took. values_first value (regexp_text options middle) flags of) in
+    let first = matcher_first answer IsMade MayRefuse options flags parts matcher text result made generated case_kept no_feed scalars firsts answers in
+    (first, first_agrees options parts text result generated first)
+
+-- what two matchers of the same parts answer is the same then
+pub first_alike : {E : Type 0} (answer : E → List ℕ → Option Captures) (options : OptionsView) (parts : List PartView) (matcher another : MatcherView E) →
+    AnswersFirstWays answer options parts matcher → AnswersFirstWays answer options parts another → AnswerAlike answer matcher another
+first_alike answer options parts matcher another firsts others text result other no_feed scalars answers replies =
+    first_one options parts text result other (firsts text result no_feed scalars answers).0 (others text other no_feed scalars replies).0
