@@ -1,9 +1,9 @@
 -- A `Regex` that was made of the text of a tree answers the first way.
-use Rattle.std.proofs.Common.{◌≡◌, ℕ, suc, ◌+◌, ◌-◌, ◌*◌, ◌^◌, ◌≤◌, List, [], ◌++◌, map, length, replicate, Option, Some, None, IsSomeAnd, is_some, option_map, true, true≢false, refl, sym, ap, ◌∙◌, subst, codes, arith}
+use Rattle.std.proofs.Common.{◌≡◌, ℕ, suc, ◌+◌, ◌-◌, ◌*◌, ◌^◌, ◌≤◌, List, ◌++◌, map, length, replicate, Option, Some, None, IsSomeAnd, is_some, option_map, true, true≢false, refl, sym, ap, ◌∙◌, subst, codes, arith}
 use Rattle.std.proofs.lemmas.List.{length-replicate}
 use Rattle.std.proofs.lemmas.Str.{IsUtf8-string_bytes, scalars-chars}
 use Rattle.std.specs.List.{range_with_len}
-use Rattle.std.specs.Prelude.{◌≢◌, IsTrue}
+use Rattle.std.specs.Prelude.{IsTrue}
 use Rattle.std.specs.Str.{all_scalars}
 use lib.Utf8.{scalars, encodes}
 use Rattle.regex_hir.specs.Find.{Match, find_str, slot_of}

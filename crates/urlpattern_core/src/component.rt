@@ -2,12 +2,12 @@
 //!
 //! <https://urlpattern.spec.whatwg.org/#component>
 
-ghost use Rattle.std.specs.Prelude.{◌≡◌, length, map, not, IfOk, IfErr};
+ghost use Rattle.std.specs.Prelude.{◌≡◌, ◌&&◌, length, map, not, IfOk, IfErr};
 ghost use Rattle.urlpattern_core.specs.Generated.{HasGeneratedMeaning, HaveCaptures};
 ghost use Rattle.urlpattern_syntax.specs.declared.error.Error.TheVariants as errors;
 ghost use Rattle.urlpattern_syntax.specs.Options.{options_view};
 ghost use Rattle.urlpattern_syntax.specs.Parts.{parts_view};
-ghost use Rattle.urlpattern_syntax.specs.RegexpText.{group_names, is_fixed_text, regexp_text};
+ghost use Rattle.urlpattern_syntax.specs.RegexpText.{group_names, is_empty, is_fixed_text, regexp_text};
 ghost use Rattle.urlpattern_syntax.specs.Text.{text_of};
 
 mod compile;
@@ -86,4 +86,11 @@ fn is_group(part: &Part) -> bool
     ensures { result ≡ not (is_fixed_text part.now.kind) }
 {
     part.kind != PartType::FixedText
+}
+
+/// Whether the part has neither prefix nor suffix.
+fn is_bare(part: &Part) -> bool
+    ensures { result ≡ (is_empty (text_of part.now.prefix) && is_empty (text_of part.now.suffix)) }
+{
+    part.prefix.is_empty() && part.suffix.is_empty()
 }

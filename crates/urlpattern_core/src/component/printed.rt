@@ -14,6 +14,7 @@ ghost use Rattle.urlpattern_syntax.specs.Parts.{part_view, parts_view};
 ghost use Rattle.urlpattern_syntax.specs.RegexpText.{is_empty};
 ghost use Rattle.urlpattern_syntax.specs.Text.{begins_with, is_name_part, text_of};
 
+use super::is_bare;
 use super::regexp_text::Captured;
 use crate::error::Error;
 use crate::parser::{FULL_WILDCARD_REGEXP_VALUE, Options, Part, PartModifier, PartType};
@@ -238,13 +239,6 @@ fn goes_on(part: &Part) -> bool
             PartType::FixedText => begins_with_name_part(&part.value),
             _ => !has_custom_name(part),
         }
-}
-
-/// Whether the part has neither prefix nor suffix.
-fn is_bare(part: &Part) -> bool
-    ensures { result ≡ (is_empty (text_of part.now.prefix) && is_empty (text_of part.now.suffix)) }
-{
-    part.prefix.is_empty() && part.suffix.is_empty()
 }
 
 /// Whether the part would take the end of a fixed text before it as its prefix.

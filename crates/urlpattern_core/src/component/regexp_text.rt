@@ -11,6 +11,7 @@ ghost use Rattle.urlpattern_syntax.specs.RegexpText.{captured, grouped, part_reg
 ghost use Rattle.urlpattern_syntax.specs.Text.{text_of};
 ghost use Rattle.urlpattern_syntax.specs.Writing.{escaped_text};
 
+use super::is_bare;
 use crate::error::Error;
 use crate::parser::{FULL_WILDCARD_REGEXP_VALUE, Options, Part, PartModifier, PartType};
 use std::alloc::Global;
@@ -92,9 +93,7 @@ impl Writable for PartRegexp<'_> {
     fn write_to<W: Writer>(&self, writer: &mut W) {
         match self.part.kind {
             PartType::FixedText => self.write_fixed(writer),
-            _ if self.part.prefix.is_empty() && self.part.suffix.is_empty() => {
-                self.write_bare(writer);
-            }
+            _ if is_bare(self.part) => self.write_bare(writer),
             _ => self.write_affixed(writer),
         }
     }
