@@ -1,15 +1,33 @@
--- Matchers of engines whose values answer the first way of the tree of the text that they were made of.
-use Rattle.std.proofs.Common.{◌≡◌, ℕ, List, Option, false}
+-- Engines whose values answer the first way of the tree of the text that they were made of, and matchers that ask them.
+use Rattle.std.proofs.Common.{◌≡◌, ℕ, List, Option, false, sym}
 use Rattle.std.specs.Prelude.{⊤}
 use Rattle.urlpattern_core.specs.FirstWays.{AnswerAlike, AnswersFirstWays}
 use Rattle.urlpattern_core.specs.Generated.{AreGenerated}
+use Rattle.urlpattern_laws.specs.Dialect.{Follows, IsTreeOf, Items}
 use Rattle.urlpattern_laws.specs.FirstAnswers.{AnswersFirst, AnswersFirstInMiddle, TookText}
 use Rattle.urlpattern_laws.specs.Matching.{IsMadeOf, MatcherView}
 use Rattle.urlpattern_laws.specs.PartMeaning.{Captures}
 use Rattle.urlpattern_syntax.specs.Options.{OptionsView}
 use Rattle.urlpattern_syntax.specs.Parts.{PartView}
 use Rattle.urlpattern_syntax.specs.RegexpText.{regexp_text}
+use Rattle.urlpattern_laws.proofs.DialectUnique.{only_tree}
+use Rattle.urlpattern_laws.proofs.FirstWay.{meant_or_none}
+use Rattle.urlpattern_laws.proofs.OneMeaning.{is_tree_of}
+use Rattle.urlpattern_laws.proofs.PartTrees.{tree_of}
 use Rattle.urlpattern_laws.proofs.FirstAnswers.{first_agrees, first_one, matcher_first, of_made}
+
+-- such a value follows its text
+pub first_follows : (regexp : List ℕ) (answer : List ℕ → Option Captures) → AnswersFirst regexp answer → (tree : Items) → IsTreeOf regexp tree → Follows regexp answer
+first_follows regexp answer first tree is = record {
+  tree = tree;
+  is_tree = only_tree regexp tree is;
+  answers = λ text scalars. meant_or_none tree is.1 text (answer text) (sym (first tree text is scalars));
+}
+
+-- what is true of each text of the dialect is true of what is generated of parts
+pub of_generated : (Is : List ℕ → Type 0) → ((regexp : List ℕ) (tree : Items) → IsTreeOf regexp tree → Is regexp) → (options : OptionsView) (parts : List PartView) →
+    AreGenerated parts → Is (regexp_text options parts)
+of_generated Is each options parts generated = each (regexp_text options parts) (tree_of options parts) (is_tree_of options parts generated)
 
 pub made_first : {E : Type 0} (answer : E → List ℕ → Option Captures) (IsMade : E → (regexp flags : List ℕ) → Type 0) (MayRefuse : (regexp flags : List ℕ) → Type 0) →
     ((value : E) (regexp flags : List ℕ) → IsMade value regexp flags → AnswersFirst regexp (answer value)) →

@@ -1,4 +1,5 @@
 pub mod CompileLemmas
+pub mod FirstMatchers
 pub mod EngineLemmas
 pub mod FoldedEnds
 pub mod PrintedTexts
@@ -20,6 +21,5 @@ pub mod GroupsRefused
 pub mod TreeDepths
 pub mod Bytes
 pub mod RegexWays
-pub mod FirstMatchers
 pub mod RegexMatchers
 pub mod PartDepths

@@ -4,16 +4,11 @@ use Rattle.std.specs.Prelude.{⊤}
 use Rattle.regex.specs.declared.string.regex.Regex.{Regex}
 use Rattle.urlpattern_core.specs.Engines.{IsRegexOf, IsTakenByRegex, regex_answer}
 use Rattle.urlpattern_core.specs.FirstWays.{AnswerAlike, AnswersFirstWays}
-use Rattle.urlpattern_laws.specs.FirstAnswers.{AnswersFirst}
 use Rattle.urlpattern_laws.specs.Matching.{MatcherView}
 use Rattle.urlpattern_syntax.specs.Options.{OptionsView}
 use Rattle.urlpattern_syntax.specs.Parts.{PartView}
 use Rattle.urlpattern_core.proofs.FirstMatchers.{first_alike, made_first}
-use Rattle.urlpattern_core.proofs.RegexWays.{regex_answers_first}
-
--- a value that was made of a text answers the first way of its tree
-pub answers_first_of : (regexp : List ℕ) (regex : Regex) → IsRegexOf regexp regex → AnswersFirst regexp (regex_answer regex)
-answers_first_of regexp regex made = λ tree text is scalars. regex_answers_first regexp tree regex text is made scalars
+use Rattle.urlpattern_core.proofs.RegexWays.{answers_first_of}
 
 pub taken_first : (options : OptionsView) (flags : List ℕ) (parts : List PartView) (matcher : MatcherView Regex) →
     IsTakenByRegex options flags parts matcher → AnswersFirstWays regex_answer options parts matcher
