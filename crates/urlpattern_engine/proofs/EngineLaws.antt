@@ -5,14 +5,13 @@ use Rattle.std.specs.Str.{all_scalars}
 use Rattle.regex.specs.declared.string.regex.Regex.{Regex}
 use Rattle.urlpattern_core.specs.Engines.{IsRegexOf, regex_answer}
 use Rattle.urlpattern_core.specs.FirstWays.{AnswerAlike, AnswersFirstWays}
-use Rattle.urlpattern_core.proofs.FirstMatchers.{first_alike, made_first}
+use Rattle.urlpattern_core.proofs.FirstMatchers.{first_alike, first_follows, made_first}
 use Rattle.urlpattern_core.proofs.RegexWays.{regex_answers_first}
 use Rattle.urlpattern_laws.specs.Dialect.{Follows, IsTreeOf, Items}
 use Rattle.urlpattern_laws.specs.FirstAnswers.{AnswersFirst, TookText}
 use Rattle.urlpattern_laws.specs.Matching.{IsEngineOf, MatcherView}
 use Rattle.urlpattern_laws.specs.Ways.{first_way}
-use Rattle.urlpattern_laws.proofs.DialectUnique.{only_tree, trees_are_one}
-use Rattle.urlpattern_laws.proofs.FirstWay.{meant_or_none}
+use Rattle.urlpattern_laws.proofs.DialectUnique.{trees_are_one}
 use Rattle.urlpattern_core.specs.Compiling.{ComponentView, IsComponentOf, MayRefuseAsked, engine_flags, has_regexp, is_asked_again}
 use Rattle.urlpattern_syntax.specs.declared.parser.PartType.TheVariants.{Regexp}
 use Rattle.urlpattern_syntax.specs.declared.parser.RegexSyntax.{RegexSyntax}
@@ -39,12 +38,12 @@ pub pattern_regexp_first : (regexp : List ℕ) (tree : Items) (value : PatternRe
 unfolding pattern_answer
 pattern_regexp_first regexp tree value text is made fine = expression_first regexp tree value.expression text is made.of_text fine
 
+-- a value that was made of a text answers the first way of its tree, and so it follows the text
+pub answers_first_of : (regexp : List ℕ) (value : PatternRegexp) → IsPatternRegexpOf regexp value → AnswersFirst regexp (pattern_answer value)
+answers_first_of regexp value made = λ tree text is fine. pattern_regexp_first regexp tree value text is made fine
+
 pub pattern_regexp_follows : (regexp : List ℕ) (tree : Items) (value : PatternRegexp) → IsTreeOf regexp tree → IsPatternRegexpOf regexp value → Follows regexp (pattern_answer value)
-pattern_regexp_follows regexp tree value is made = record {
-  tree = tree;
-  is_tree = only_tree regexp tree is;
-  answers = λ text fine. meant_or_none tree is.1 text (pattern_answer value text) (sym (pattern_regexp_first regexp tree value text is made fine));
-}
+pattern_regexp_follows regexp tree value is made = first_follows regexp (pattern_answer value) (answers_first_of regexp value made) tree is
 
 expression_same : (regexp : List ℕ) (expression : Expression) (regex : Regex) (text : List ℕ) → IsExpressionOf regexp expression → IsRegexOf regexp regex → IsTrue (all_scalars text)
     → expression_answer expression text ≡ regex_answer regex text
@@ -78,10 +77,6 @@ component_takes syntax options parts component is plain = (
   engine_taken (is_asked_again syntax (has_regexp parts)) options (engine_flags options) parts component.regexp plain is.has_engine,
   matcher_takes options (engine_flags options) parts component.matcher is.has_matcher plain,
 )
-
--- a value that was made of a text answers the first way of its tree
-pub answers_first_of : (regexp : List ℕ) (value : PatternRegexp) → IsPatternRegexpOf regexp value → AnswersFirst regexp (pattern_answer value)
-answers_first_of regexp value made = λ tree text is fine. pattern_regexp_first regexp tree value text is made fine
 
 pub taken_first : (options : OptionsView) (flags : List ℕ) (parts : List PartView) (matcher : MatcherView PatternRegexp) →
     IsTakenByPatternRegexp options flags parts matcher → AnswersFirstWays pattern_answer options parts matcher
