@@ -1,7 +1,7 @@
 -- Engines whose values answer the first way of the tree of the text that they were made of, and matchers that ask them.
 use Rattle.std.proofs.Common.{◌≡◌, ℕ, List, Option, false, sym}
 use Rattle.std.specs.Prelude.{⊤}
-use Rattle.urlpattern_core.specs.FirstWays.{AnswerAlike, AnswersFirstWays}
+use Rattle.urlpattern_core.specs.FirstWays.{AllAnswerAlike, AnswersFirstWays, EachAnswersFirst}
 use Rattle.urlpattern_core.specs.Generated.{AreGenerated}
 use Rattle.urlpattern_laws.specs.Dialect.{Follows, IsTreeOf, Items}
 use Rattle.urlpattern_laws.specs.FirstAnswers.{AnswersFirst, AnswersFirstInMiddle, TookText}
@@ -41,7 +41,7 @@ made_first answer IsMade MayRefuse values_first options flags parts matcher made
     (first, first_agrees options parts text result generated first)
 
 -- what two matchers of the same parts answer is the same then
-pub first_alike : {E : Type 0} (answer : E → List ℕ → Option Captures) (options : OptionsView) (parts : List PartView) (matcher another : MatcherView E) →
-    AnswersFirstWays answer options parts matcher → AnswersFirstWays answer options parts another → AnswerAlike answer matcher another
-first_alike answer options parts matcher another firsts others text result other no_feed scalars answers replies =
-    first_one options parts text result other (firsts text result no_feed scalars answers).0 (others text other no_feed scalars replies).0
+pub first_alike : {E : Type 0} (IsTaken : OptionsView → (flags : List ℕ) → List PartView → MatcherView E → Type 0) (answer : E → List ℕ → Option Captures) →
+    EachAnswersFirst IsTaken answer → AllAnswerAlike IsTaken answer
+first_alike IsTaken answer firsts options flags parts matcher another taken also text result other no_feed scalars answers replies =
+    first_one options parts text result other (firsts options flags parts matcher taken text result no_feed scalars answers).0 (firsts options flags parts another also text other no_feed scalars replies).0

@@ -102,26 +102,6 @@ last_of_four true b c d first second answer e f t g = let h : second ≡ true = 
 last_of_four false true c d first second answer e f t g = let h : second ≡ true = f ∙ ap (λ x. x || c) e in absurd (cc (h, t))
 last_of_four false false true d first second answer e f t g = let h : second ≡ true = f ∙ ap (λ x. x || true) e in absurd (cc (h, t))
 
-pub last_of_three : (a b c first answer : Bool) → first ≡ a && b → first ≡ true → answer ≡ c → answer ≡ a && b && c
-last_of_three true true c first answer e t g = g
-last_of_three true false c first answer e t g = absurd (cc (e, t))
-last_of_three false b c first answer e t g = absurd (cc (e, t))
-
-pub last_two_of_four : (a b c d first answer : Bool) → first ≡ a && b → first ≡ true → answer ≡ c && d → answer ≡ a && b && c && d
-last_two_of_four true true c d first answer e t g = g
-last_two_of_four true false c d first answer e t g = absurd (cc (e, t))
-last_two_of_four false b c d first answer e t g = absurd (cc (e, t))
-
-pub failed_of_three : (a b c first answer : Bool) → first ≡ a && b → first ≡ false → answer ≡ first → answer ≡ a && b && c
-failed_of_three true true c first answer e t g = absurd (cc (e, t))
-failed_of_three true false c first answer e t g = g ∙ t
-failed_of_three false b c first answer e t g = g ∙ t
-
-pub failed_of_four : (a b c d first answer : Bool) → first ≡ a && b → first ≡ false → answer ≡ first → answer ≡ a && b && c && d
-failed_of_four true true c d first answer e t g = absurd (cc (e, t))
-failed_of_four true false c d first answer e t g = g ∙ t
-failed_of_four false b c d first answer e t g = g ∙ t
-
 -- ---- neighbours
 
 -- the first of the parts behind

@@ -1,7 +1,7 @@
 -- What a value of the crate `regex` is made of, and what it answers.
-use Rattle.std.specs.Prelude.{◌≡◌, ⊤, false, ℕ, ◌-◌, List, map, length, Option, option_map, encode_utf8_all, slice_range}
+use Rattle.std.specs.Prelude.{◌≡◌, ⊤, false, ℕ, ◌-◌, ◌^◌, ◌<◌, IsTrue, List, map, length, Option, option_map, encode_utf8_all, slice_range}
 use Rattle.std.specs.List.{range_with_len}
-use Rattle.std.specs.Str.{chars}
+use Rattle.std.specs.Str.{all_scalars, chars}
 use Rattle.regex.specs.Patterns.{default_config, find_str}
 use Rattle.regex.specs.Strings.{IsReadFromSource, captures_haystack, captures_names, captures_span, regex_config, regex_names, regex_pattern, regex_source}
 use Rattle.regex.specs.Writes.{group_of}
@@ -11,7 +11,7 @@ use Rattle.regex_syntax.specs.Verdict.{Refuses, default_config as default_syntax
 use Rattle.regex_syntax.specs.declared.error.ErrorKind.{ErrorKind}
 use Rattle.regex_syntax.specs.declared.error.ErrorKind.TheVariants.{OutOfMemory}
 use Rattle.urlpattern_core.specs.Generated.{AreGenerated}
-use Rattle.urlpattern_laws.specs.Dialect.{Follows}
+use Rattle.urlpattern_laws.specs.Dialect.{Follows, IsTreeOf, Items, group_count}
 use Rattle.urlpattern_laws.specs.FirstAnswers.{TookText}
 use Rattle.urlpattern_laws.specs.Matching.{IsMadeOf, MatcherView}
 use Rattle.urlpattern_laws.specs.PartMeaning.{Captures}
@@ -50,6 +50,10 @@ regex_answer regex text =
 -- each value that was made of the text follows it
 abbrev pub RegexFollows : (regexp : List ℕ) → Type 0
 RegexFollows regexp = (regex : Regex) → IsRegexOf regexp regex → Follows regexp (regex_answer regex)
+
+-- a text of characters whose tree has fewer groups than the grammar counts
+abbrev pub HasFewGroups : (regexp : List ℕ) → Type 0
+HasFewGroups regexp = IsTrue (all_scalars regexp) × ((tree : Items) × IsTreeOf regexp tree × (group_count tree < 2 ^ 32 - 1))
 
 -- the grammar refuses the text only as memory ran out
 abbrev pub IsRefusedForMemory : (regexp : List ℕ) → Type 0

@@ -20,3 +20,15 @@ abbrev pub AnswerAlike : {E : Type 0} → (answer : E → List ℕ → Option Ca
 AnswerAlike answer matcher another =
     (text : List ℕ) (result other : Option Captures) → IsTrue (lacks line_feed text) → IsTrue (all_scalars text) →
     Answers answer matcher text result → Answers answer another text other → result ≡ other
+
+-- each matcher of which `IsTaken` is true, with options, flags and parts, answers so
+abbrev pub EachAnswersFirst : {E : Type 0} → (IsTaken : OptionsView → (flags : List ℕ) → List PartView → MatcherView E → Type 0) → (answer : E → List ℕ → Option Captures) → Type 0
+EachAnswersFirst {E} IsTaken answer =
+    (options : OptionsView) (flags : List ℕ) (parts : List PartView) (matcher : MatcherView E) →
+    IsTaken options flags parts matcher → AnswersFirstWays answer options parts matcher
+
+-- and two such matchers of the same parts answer the same
+abbrev pub AllAnswerAlike : {E : Type 0} → (IsTaken : OptionsView → (flags : List ℕ) → List PartView → MatcherView E → Type 0) → (answer : E → List ℕ → Option Captures) → Type 0
+AllAnswerAlike {E} IsTaken answer =
+    (options : OptionsView) (flags : List ℕ) (parts : List PartView) (matcher another : MatcherView E) →
+    IsTaken options flags parts matcher → IsTaken options flags parts another → AnswerAlike answer matcher another

@@ -3,15 +3,13 @@
 //!
 //! Each function here does nothing; what it promises is a theorem.
 
-ghost use Rattle.std.specs.Prelude.{ℕ, ◌-◌, ◌^◌, ◌<◌, List, IsTrue};
-ghost use Rattle.std.specs.Str.{all_scalars};
+ghost use Rattle.std.specs.Prelude.{ℕ, List};
 ghost use Rattle.regex.specs.declared.string.regex.Regex.{Regex};
-ghost use Rattle.urlpattern_core.specs.Engines.{IsRefusedForMemory, IsRegexOf, IsTakenByRegex, RegexFollows, regex_answer};
-ghost use Rattle.urlpattern_core.specs.FirstWays.{AnswerAlike, AnswersFirstWays};
+ghost use Rattle.urlpattern_core.specs.Engines.{HasFewGroups, IsRefusedForMemory, IsRegexOf, IsTakenByRegex, RegexFollows, regex_answer};
+ghost use Rattle.urlpattern_core.specs.FirstWays.{AllAnswerAlike, EachAnswersFirst};
 ghost use Rattle.urlpattern_core.specs.Generated.{AreGenerated};
-ghost use Rattle.urlpattern_laws.specs.Dialect.{IsTreeOf, Items, group_count};
+ghost use Rattle.urlpattern_laws.specs.Dialect.{IsTreeOf, Items};
 ghost use Rattle.urlpattern_laws.specs.FirstAnswers.{AnswersFirst};
-ghost use Rattle.urlpattern_laws.specs.Matching.{MatcherView};
 ghost use Rattle.urlpattern_syntax.specs.Options.{OptionsView};
 ghost use Rattle.urlpattern_syntax.specs.Parts.{PartView};
 ghost use Rattle.urlpattern_syntax.specs.RegexpText.{regexp_text};
@@ -40,17 +38,13 @@ pub fn regex_answers_the_first_way()
 /// it took the text where it was needed: a meaning of the parts, or None where they have none. Another matcher of the same
 /// parts answers nothing else.
 pub fn matchers_by_regex_answer_the_first_way()
-    ensures first { (options : OptionsView) (flags : List ℕ) (parts : List PartView) (matcher : MatcherView Regex) →
-        IsTakenByRegex options flags parts matcher → AnswersFirstWays regex_answer options parts matcher }
-    ensures one { (options : OptionsView) (flags : List ℕ) (parts : List PartView) (matcher another : MatcherView Regex) →
-        IsTakenByRegex options flags parts matcher → IsTakenByRegex options flags parts another →
-        AnswerAlike regex_answer matcher another }
+    ensures first { EachAnswersFirst IsTakenByRegex regex_answer }
+    ensures one { AllAnswerAlike IsTakenByRegex regex_answer }
 {}
 
 /// `regex` does not refuse the regular expression of parts for its syntax, where none is custom and they have fewer groups
 /// than it counts: an error that its grammar allows says that memory ran out. How large a pattern may be is not said.
 pub fn regex_refuses_no_generated_syntax()
-    ensures { (options : OptionsView) (parts : List PartView) (tree : Items) →
-        let regexp = regexp_text options parts in
-        AreGenerated parts → IsTreeOf regexp tree → IsTrue (all_scalars regexp) → group_count tree < 2 ^ 32 - 1 → IsRefusedForMemory regexp }
+    ensures { (options : OptionsView) (parts : List PartView) → AreGenerated parts →
+        HasFewGroups (regexp_text options parts) → IsRefusedForMemory (regexp_text options parts) }
 {}

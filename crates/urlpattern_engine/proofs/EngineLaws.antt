@@ -4,7 +4,7 @@ use Rattle.std.specs.Prelude.{◌≢◌, ⊤, All, IsOk, IsTrue, Ok, Err, Result
 use Rattle.std.specs.Str.{all_scalars}
 use Rattle.regex.specs.declared.string.regex.Regex.{Regex}
 use Rattle.urlpattern_core.specs.Engines.{IsRegexOf, regex_answer}
-use Rattle.urlpattern_core.specs.FirstWays.{AnswerAlike, AnswersFirstWays}
+use Rattle.urlpattern_core.specs.FirstWays.{AllAnswerAlike, EachAnswersFirst}
 use Rattle.urlpattern_core.proofs.FirstMatchers.{first_alike, first_follows, made_first}
 use Rattle.urlpattern_core.proofs.RegexWays.{regex_answers_first}
 use Rattle.urlpattern_laws.specs.Dialect.{Follows, IsTreeOf, Items}
@@ -78,13 +78,10 @@ component_takes syntax options parts component is plain = (
   matcher_takes options (engine_flags options) parts component.matcher is.has_matcher plain,
 )
 
-pub taken_first : (options : OptionsView) (flags : List ℕ) (parts : List PartView) (matcher : MatcherView PatternRegexp) →
-    IsTakenByPatternRegexp options flags parts matcher → AnswersFirstWays pattern_answer options parts matcher
+pub taken_first : EachAnswersFirst IsTakenByPatternRegexp pattern_answer
 taken_first options flags parts matcher taken =
     made_first pattern_answer (λ value regexp flags. IsPatternRegexpOf regexp value) (λ regexp flags. ¬ IsGenerated regexp) (λ value regexp flags made. answers_first_of regexp value made)
     options flags parts matcher taken.is_made taken.generated taken.case_kept (matcher_takes options flags parts matcher taken.is_made taken.generated)
 
-pub taken_one : (options : OptionsView) (flags : List ℕ) (parts : List PartView) (matcher another : MatcherView PatternRegexp) →
-    IsTakenByPatternRegexp options flags parts matcher → IsTakenByPatternRegexp options flags parts another → AnswerAlike pattern_answer matcher another
-taken_one options flags parts matcher another taken also =
-    first_alike pattern_answer options parts matcher another (taken_first options flags parts matcher taken) (taken_first options flags parts another also)
+pub taken_one : AllAnswerAlike IsTakenByPatternRegexp pattern_answer
+taken_one = first_alike IsTakenByPatternRegexp pattern_answer taken_first

@@ -6,7 +6,7 @@ ghost use Rattle.std.specs.Prelude.{◌≡◌, ⊤, ℕ, List, IsOk, IsTrue};
 ghost use Rattle.std.specs.Str.{all_scalars};
 ghost use Rattle.regex.specs.declared.string.regex.Regex.{Regex};
 ghost use Rattle.urlpattern_core.specs.Engines.{regex_answer, IsRegexOf};
-ghost use Rattle.urlpattern_core.specs.FirstWays.{AnswerAlike, AnswersFirstWays};
+ghost use Rattle.urlpattern_core.specs.FirstWays.{AllAnswerAlike, EachAnswersFirst};
 ghost use Rattle.urlpattern_core.specs.Generated.{AreGenerated};
 ghost use Rattle.urlpattern_engine.specs.declared.pattern_regexp.PatternRegexp.{PatternRegexp};
 ghost use Rattle.urlpattern_engine.specs.Engine.{pattern_answer, IsMadeByPatternRegexp, IsPatternRegexpOf, IsTakenByPatternRegexp};
@@ -53,9 +53,6 @@ pub fn pattern_regexps_take_each_generated_text()
 /// A matcher that the engine made answers the first way of the tree of the parts, without any premise on the engine: a meaning of
 /// the parts, or None where they have none. Another matcher of the same parts answers nothing else.
 pub fn matchers_by_pattern_regexp_answer_the_first_way()
-    ensures first { (options : OptionsView) (flags : List ℕ) (parts : List PartView) (matcher : MatcherView PatternRegexp) →
-        IsTakenByPatternRegexp options flags parts matcher → AnswersFirstWays pattern_answer options parts matcher }
-    ensures one { (options : OptionsView) (flags : List ℕ) (parts : List PartView) (matcher another : MatcherView PatternRegexp) →
-        IsTakenByPatternRegexp options flags parts matcher → IsTakenByPatternRegexp options flags parts another →
-        AnswerAlike pattern_answer matcher another }
+    ensures first { EachAnswersFirst IsTakenByPatternRegexp pattern_answer }
+    ensures one { AllAnswerAlike IsTakenByPatternRegexp pattern_answer }
 {}

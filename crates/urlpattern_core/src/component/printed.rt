@@ -2,16 +2,16 @@
 //!
 //! <https://urlpattern.spec.whatwg.org/#converting-part-lists-to-pattern-strings>
 
-ghost use Rattle.std.specs.Prelude.{◌≡◌, ◌&&◌, false, not, bytes_eq, IfOk, IfErr};
+ghost use Rattle.std.specs.Prelude.{◌≡◌, ◌&&◌, false, not, IfOk, IfErr};
 ghost use Rattle.std.specs.Str.{chars};
-ghost use Rattle.urlpattern_core.specs.Neighbours.{neighbour};
+ghost use Rattle.urlpattern_core.specs.Neighbours.{ends_with_prefix, neighbour};
 ghost use Rattle.urlpattern_core.specs.NormalForms.{ReadsBackIfKept};
 ghost use Rattle.urlpattern_core.specs.PartTexts.{group_part};
-ghost use Rattle.urlpattern_laws.specs.Printing.{goes_on, has_custom_name, has_other_prefix, in_braces, is_asterisk, is_name_alone, last_of, needs_braces, printed, printed_fixed, printed_match, printed_name, printed_part, printed_suffix, takes_before, takes_next, admits_asterisk};
+ghost use Rattle.urlpattern_laws.specs.Printing.{goes_on, has_custom_name, has_other_prefix, in_braces, is_asterisk, is_name_alone, needs_braces, printed, printed_fixed, printed_match, printed_name, printed_part, printed_suffix, takes_before, takes_next, admits_asterisk};
 ghost use Rattle.urlpattern_syntax.specs.declared.error.Error.TheVariants as errors;
 ghost use Rattle.urlpattern_syntax.specs.Options.{options_view};
 ghost use Rattle.urlpattern_syntax.specs.Parts.{part_view, parts_view};
-ghost use Rattle.urlpattern_syntax.specs.RegexpText.{is_empty};
+ghost use Rattle.urlpattern_syntax.specs.RegexpText.{is_fixed_text};
 ghost use Rattle.urlpattern_syntax.specs.Text.{begins_with, is_name_part, text_of};
 
 use super::is_bare;
@@ -246,18 +246,21 @@ fn takes_before(options: &Options, previous: Option<&Part>, part: &Part) -> bool
     ensures { result ≡ takes_before (options_view options.now) (neighbour previous.entry) (part_view part.now) }
 {
     match previous {
-        Some(previous) => {
-            part.prefix.is_empty()
-                && previous.kind == PartType::FixedText
-                && ends_with_prefix(options, &previous.value)
-        }
+        Some(previous) => part.prefix.is_empty() && leaves_prefix(options, previous),
         None => false,
     }
 }
 
+/// Whether the part is a fixed text that ends with the prefix code point.
+fn leaves_prefix(options: &Options, part: &Part) -> bool
+    ensures { result ≡ (is_fixed_text part.now.kind && ends_with_prefix (options_view options.now) (text_of part.now.value)) }
+{
+    part.kind == PartType::FixedText && ends_with_prefix(options, &part.value)
+}
+
 /// Whether the last character of the text is the prefix code point.
 fn ends_with_prefix(options: &Options, text: &str) -> bool
-    ensures { result ≡ (not (is_empty (chars text.now)) && bytes_eq (last_of (chars text.now)) (text_of options.now.prefix_code_point)) }
+    ensures { result ≡ ends_with_prefix (options_view options.now) (chars text.now) }
 {
     let Some(last) = text.chars().next_back() else {
         return false;
