@@ -14,22 +14,17 @@ use lib.Utf8.{scalars}
 use Rattle.urlpattern_core.proofs.TreesRead.{re_of, same_whole, tree_is_read}
 use Rattle.urlpattern_laws.specs.Dialect.{Quantifier, quantifier_text, Items, Nothing, Item, Atom, Literal, Dot, AnyBut, Captured, Grouped, items_text, atom_text, group_count, atom_group_count, AreItems, IsAtom}
 use Rattle.urlpattern_core.proofs.AtomsRead.{full}
-use Rattle.urlpattern_core.proofs.ItemsRead.{place, Free, repeated_as, begins_no, free_lazy, opens_item, item_splits, free_items, part, opens_captured, opens_grouped, atom_length, atom-read}
+use Rattle.urlpattern_core.proofs.ItemsRead.{place, Free, repeated_as, opens_item, item_splits, free_items, part, opens_as, opens_captured, opens_grouped, atom_length, atom-read}
 use Rattle.urlpattern_core.proofs.TreeTextsRead.{whole, first_line, leaf_passes}
 
-opens_refused : (g : ℕ) (t : Text) → Free t → 2 ^ 32 ≤ g → opening (place g (40 ∷ t)) ≡ None
-unfolding opening capture first skip
-opens_refused g t free large =
+uncounted : (g : ℕ) (t : Text) → 2 ^ 32 ≤ g → capture (place g (40 ∷ t)) None t ≡ None
+unfolding capture
+uncounted g t large =
     let none : Option (List ℕ) = None in
-    rw (
-      opening,
-      begins_no (80 ∷ 60 ∷ []) t free,
-      begins_no (60 ∷ []) t free,
-      free_lazy t free,
-      capture,
-      length-replicate g none,
-      le-ltb g (2 ^ 32) large,
-    )
+    rw (capture, length-replicate g none, le-ltb g (2 ^ 32) large)
+
+opens_refused : (g : ℕ) (t : Text) → Free t → 2 ^ 32 ≤ g → opening (place g (40 ∷ t)) ≡ None
+opens_refused g t free large = opens_as g t free ∙ uncounted g t large
 
 group_refused : (g : ℕ) (t : Text) (m n : ℕ) → m ≡ suc n → join_after cat_all [] (items n (place g t)) ≡ None → group_inside m (place g t) ≡ None
 group_refused g t m n e none =

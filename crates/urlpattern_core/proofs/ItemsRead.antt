@@ -133,20 +133,21 @@ abbrev mutual
   part g (Captured items) = level (group g) (alone_in (parts (suc g) items))
   part g (Grouped items) = level (λ re. re) (alone_in (parts g items))
 
-pub opens_captured : (g : ℕ) (t : Text) → Free t → g < 2 ^ 32 → opening (place g (40 ∷ t)) ≡ Some (opens (group g), place (suc g) t)
-unfolding opening capture first skip
-opens_captured g t free small =
+-- brackets that capture are read as such
+pub opens_as : (g : ℕ) (t : Text) → Free t → opening (place g (40 ∷ t)) ≡ capture (place g (40 ∷ t)) None t
+unfolding opening first skip
+opens_as g t free = rw (opening, begins_no (80 ∷ 60 ∷ []) t free, begins_no (60 ∷ []) t free, free_lazy t free)
+
+counted : (g : ℕ) (t : Text) → g < 2 ^ 32 → capture (place g (40 ∷ t)) None t ≡ Some (opens (group g), place (suc g) t)
+unfolding capture
+counted g t small =
     let none : Option (List ℕ) = None in
     let next : g + 1 ≡ suc g = omega arith in
-    rw (
-      opening,
-      begins_no (80 ∷ 60 ∷ []) t free,
-      begins_no (60 ∷ []) t free,
-      free_lazy t free,
-      capture,
-      length-replicate g none,
-      lt-ltb g (2 ^ 32) small,
-    ) (ap (λ (names : Names). Some (opens (group g), record { config = default_config; names = names; text = t })) (replicate_more g none ∙ ap (λ k. replicate k none) next))
+    rw (capture, length-replicate g none, lt-ltb g (2 ^ 32) small)
+    (ap (λ (names : Names). Some (opens (group g), record { config = default_config; names = names; text = t })) (replicate_more g none ∙ ap (λ k. replicate k none) next))
+
+pub opens_captured : (g : ℕ) (t : Text) → Free t → g < 2 ^ 32 → opening (place g (40 ∷ t)) ≡ Some (opens (group g), place (suc g) t)
+opens_captured g t free small = opens_as g t free ∙ counted g t small
 
 pub opens_grouped : (g : ℕ) (t : Text) → opening (place g (40 ∷ 63 ∷ 58 ∷ t)) ≡ Some (opens (λ re. re), place g t)
 unfolding opening set_flags first skip

@@ -1,4 +1,5 @@
 pub mod CompileLemmas
+pub mod FirstMatchers
 pub mod EngineLemmas
 pub mod FoldedEnds
 pub mod PrintedTexts

@@ -31,12 +31,10 @@ matched-by answer matcher text middle inner test e is_inner h = (
 )
 
 -- it is not matched, where the test fails
-pub not_matched-by : {E : Type 0} (answer : E → List ℕ → Option Captures) (matcher : MatcherView E) (text middle : List ℕ) (inner : InnerView E) (test : Bool) →
-    HasMiddle matcher text middle → matcher.inner ≡ inner → test ≡ false →
-    (IsTrue test ↔ ((captures : Captures) × Accepts answer matcher.ignore_case inner middle captures)) →
-    (captures : Captures) → ¬ Matches answer matcher text captures
-not_matched-by answer matcher text middle inner test e is_inner fails h captures matches =
-    let t : test ≡ true = (matched-by answer matcher text middle inner test e is_inner h).1 (captures, matches) in
+pub not_matched-by : {E : Type 0} (answer : E → List ℕ → Option Captures) (matcher : MatcherView E) (text : List ℕ) (test : Bool) →
+    (IsTrue test ↔ IsMatched answer matcher text) → test ≡ false → (captures : Captures) → ¬ Matches answer matcher text captures
+not_matched-by answer matcher text test tells fails captures matches =
+    let t : test ≡ true = tells.1 (captures, matches) in
     let never : ⊥ = cc in never
 
 -- ---- whether a text may be captured
@@ -66,6 +64,18 @@ pub accepts-single : {E : Type 0} (answer : E → List ℕ → Option Captures) 
     IsTrue test ↔ ((captures : Captures) × Accepts answer ignore_case (SingleCapture filter allow_empty) middle captures)
 accepts-single answer ignore_case filter allow_empty middle test h =
     (λ t. let (full, passes) = h.0 t in (Some middle ∷ [], (full, passes, refl)), λ (captures, (full, passes, one)). h.1 (full, passes))
+
+-- a text is matched by a literal, or by one capture, where its middle passes
+pub matched-literal : {E : Type 0} (answer : E → List ℕ → Option Captures) (matcher : MatcherView E) (text middle literal : List ℕ) (test : Bool) →
+    HasMiddle matcher text middle → matcher.inner ≡ Literal literal → (IsTrue test ↔ IsSame matcher.ignore_case middle literal) → IsTrue test ↔ IsMatched answer matcher text
+matched-literal answer matcher text middle literal test cut is_inner h =
+    matched-by answer matcher text middle (Literal literal) test cut is_inner (accepts-literal answer matcher.ignore_case literal middle test h)
+
+pub matched-single : {E : Type 0} (answer : E → List ℕ → Option Captures) (matcher : MatcherView E) (text middle : List ℕ) (filter : Option ℕ) (allow_empty : Bool) (test : Bool) →
+    HasMiddle matcher text middle → matcher.inner ≡ SingleCapture filter allow_empty → (IsTrue test ↔ (MayBeEmpty allow_empty middle × PassesFilter matcher.ignore_case filter middle)) →
+    IsTrue test ↔ IsMatched answer matcher text
+matched-single answer matcher text middle filter allow_empty test cut is_inner h =
+    matched-by answer matcher text middle (SingleCapture filter allow_empty) test cut is_inner (accepts-single answer matcher.ignore_case filter allow_empty middle test h)
 
 pub accepts-engine : {E : Type 0} (answer : E → List ℕ → Option Captures) (ignore_case : Bool) (engine : E) (middle : List ℕ) (found : Option Captures) →
     found ≡ answer engine middle →

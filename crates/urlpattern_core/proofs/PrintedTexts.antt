@@ -14,7 +14,7 @@ use Rattle.std.specs.Str.{chars, IsUtf8}
 use Rattle.std.specs.declared.alloc.Global.{Global}
 use Rattle.urlpattern_core.proofs.RegexpTexts.{not-fixed}
 use Rattle.urlpattern_core.specs.Neighbours.{neighbour}
-use Rattle.urlpattern_laws.specs.Printing.{escaped_pattern, first_part, in_braces, is_asterisk, last_of, needs_braces, printed_fixed, printed_group, printed_match, printed_name, printed_part, printed_suffix}
+use Rattle.urlpattern_laws.specs.Printing.{escaped_pattern, first_part, in_braces, is_asterisk, last_of, needs_braces, printed_fixed, printed_group, printed_match, printed_after, printed_name, printed_part, printed_suffix}
 use Rattle.urlpattern_syntax.proofs.StringTexts.{chars-encode}
 use Rattle.urlpattern_syntax.proofs.TextLemmas.{bytes_same, chars-some}
 use Rattle.urlpattern_syntax.specs.declared.parser.Part.{Part}
@@ -102,26 +102,6 @@ last_of_four true b c d first second answer e f t g = let h : second ≡ true = 
 last_of_four false true c d first second answer e f t g = let h : second ≡ true = f ∙ ap (λ x. x || c) e in absurd (cc (h, t))
 last_of_four false false true d first second answer e f t g = let h : second ≡ true = f ∙ ap (λ x. x || true) e in absurd (cc (h, t))
 
-pub last_of_three : (a b c first answer : Bool) → first ≡ a && b → first ≡ true → answer ≡ c → answer ≡ a && b && c
-last_of_three true true c first answer e t g = g
-last_of_three true false c first answer e t g = absurd (cc (e, t))
-last_of_three false b c first answer e t g = absurd (cc (e, t))
-
-pub last_two_of_four : (a b c d first answer : Bool) → first ≡ a && b → first ≡ true → answer ≡ c && d → answer ≡ a && b && c && d
-last_two_of_four true true c d first answer e t g = g
-last_two_of_four true false c d first answer e t g = absurd (cc (e, t))
-last_two_of_four false b c d first answer e t g = absurd (cc (e, t))
-
-pub failed_of_three : (a b c first answer : Bool) → first ≡ a && b → first ≡ false → answer ≡ first → answer ≡ a && b && c
-failed_of_three true true c first answer e t g = absurd (cc (e, t))
-failed_of_three true false c first answer e t g = g ∙ t
-failed_of_three false b c first answer e t g = g ∙ t
-
-pub failed_of_four : (a b c d first answer : Bool) → first ≡ a && b → first ≡ false → answer ≡ first → answer ≡ a && b && c && d
-failed_of_four true true c d first answer e t g = absurd (cc (e, t))
-failed_of_four true false c d first answer e t g = g ∙ t
-failed_of_four false b c d first answer e t g = g ∙ t
-
 -- ---- neighbours
 
 -- the first of the parts behind
@@ -131,7 +111,20 @@ first_neighbour None (part ∷ parts) e = absurd (cc e)
 first_neighbour (Some first) [] e = absurd (cc e)
 first_neighbour (Some first) (part ∷ parts) e = ap (λ found. option_map part_view found) e
 
+-- what is written behind a part's own text, where the list is cut behind that part
+pub printed-cut : (options : OptionsView) (previous : Option PartView) (part : Part) (after rest : List Part) (next : Option (Bor Part)) (front : List ℕ) {whole : List ℕ}
+    → option_copied next ≡ slice_get after 0 → rest ≡ part ∷ after → front ++ printed_after options previous (map part_view rest) ≡ whole
+    → front ++ (printed_part options previous (part_view part) (neighbour next) ++ printed_after options (Some (part_view part)) (map part_view after)) ≡ whole
+printed-cut options previous part after rest next front is_next cut is_whole =
+    ap (λ found. front ++ (printed_part options previous (part_view part) found ++ printed_after options (Some (part_view part)) (map part_view after))) (first_neighbour next after is_next)
+    ∙ ap (λ list. front ++ printed_after options previous (map part_view list)) (sym cut)
+    ∙ is_whole
+
 -- ---- the texts of parts, by those of their pieces
+
+-- a piece that was escaped by its bytes
+pub escaped-by : {text bytes own : List ℕ} → text ≡ escaped_pattern (chars bytes) → bytes ≡ own → text ≡ escaped_pattern (chars own)
+escaped-by e same = e ∙ ap (λ bytes. escaped_pattern (chars bytes)) same
 
 pub fixed-as : (part : PartView) (braces : Bool) (value modifier : List ℕ) → braces ≡ not (is_unmodified part.modifier) → value ≡ escaped_pattern part.value → modifier ≡ modifier_text part.modifier
     → in_braces braces value ++ modifier ≡ printed_fixed part

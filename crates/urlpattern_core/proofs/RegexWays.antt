@@ -1,9 +1,9 @@
 -- A `Regex` that was made of the text of a tree answers the first way.
-use Rattle.std.proofs.Common.{◌≡◌, ℕ, suc, ◌+◌, ◌-◌, ◌*◌, ◌^◌, ◌≤◌, List, [], ◌++◌, map, length, replicate, Option, Some, None, IsSomeAnd, is_some, option_map, true, true≢false, refl, sym, ap, ◌∙◌, subst, codes, arith}
+use Rattle.std.proofs.Common.{◌≡◌, ℕ, suc, ◌+◌, ◌-◌, ◌*◌, ◌^◌, ◌≤◌, List, ◌++◌, map, length, replicate, Option, Some, None, IsSomeAnd, is_some, option_map, true, true≢false, refl, sym, ap, ◌∙◌, subst, codes, arith}
 use Rattle.std.proofs.lemmas.List.{length-replicate}
 use Rattle.std.proofs.lemmas.Str.{IsUtf8-string_bytes, scalars-chars}
 use Rattle.std.specs.List.{range_with_len}
-use Rattle.std.specs.Prelude.{◌≢◌, IsTrue}
+use Rattle.std.specs.Prelude.{IsTrue}
 use Rattle.std.specs.Str.{all_scalars}
 use lib.Utf8.{scalars, encodes}
 use Rattle.regex_hir.specs.Find.{Match, find_str, slot_of}
@@ -16,9 +16,9 @@ use Rattle.regex.specs.Writes.{both}
 use Rattle.regex.proofs.ForCallers.{alike_as_written, names_as_written, found_alike, is_match_alike}
 use Rattle.urlpattern_core.specs.Engines.{IsRegexOf, regex_answer}
 use Rattle.urlpattern_laws.specs.Dialect.{Follows, IsTreeOf, Items, items_text, group_count, AreItems}
+use Rattle.urlpattern_laws.specs.FirstAnswers.{AnswersFirst}
 use Rattle.urlpattern_laws.specs.Ways.{first_way}
-use Rattle.urlpattern_laws.proofs.DialectUnique.{only_tree}
-use Rattle.urlpattern_laws.proofs.FirstWay.{meant_or_none}
+use Rattle.urlpattern_core.proofs.FirstMatchers.{first_follows}
 use Rattle.urlpattern_core.proofs.Bytes.{bytes_below}
 use Rattle.urlpattern_core.proofs.TreeSearch.{texts_from, found_is_first}
 use Rattle.urlpattern_core.proofs.GroupSlots.{text_at}
@@ -94,9 +94,9 @@ pub regex_answers_first : (regexp : List ℕ) (tree : Items) (regex : Regex) (te
 regex_answers_first regexp tree regex text is made scalars =
     answers_first tree is.1 regex (subst (λ t. IsRegexOf t regex) is.0 made) text scalars
 
+-- a value that was made of a text answers the first way of its tree, and so it follows the text
+pub answers_first_of : (regexp : List ℕ) (regex : Regex) → IsRegexOf regexp regex → AnswersFirst regexp (regex_answer regex)
+answers_first_of regexp regex made = λ tree text is scalars. regex_answers_first regexp tree regex text is made scalars
+
 pub regex_follows : (regexp : List ℕ) (tree : Items) (regex : Regex) → IsTreeOf regexp tree → IsRegexOf regexp regex → Follows regexp (regex_answer regex)
-regex_follows regexp tree regex is made = record {
-  tree = tree;
-  is_tree = only_tree regexp tree is;
-  answers = λ text scalars. meant_or_none tree is.1 text (regex_answer regex text) (sym (regex_answers_first regexp tree regex text is made scalars));
-}
+regex_follows regexp tree regex is made = first_follows regexp (regex_answer regex) (answers_first_of regexp regex made) tree is

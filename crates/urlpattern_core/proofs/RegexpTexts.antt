@@ -38,10 +38,10 @@ pub part_regexp-fixed : (options : OptionsView) (part : PartView) → part.kind 
 unfolding part_regexp
 part_regexp-fixed options part e = rw e
 
-pub part_regexp-bare : (options : OptionsView) (part : PartView) → (part.kind ≡ FixedText → ⊥) → is_empty part.prefix ≡ true → is_empty part.suffix ≡ true
+pub part_regexp-bare : (options : OptionsView) (part : PartView) → (part.kind ≡ FixedText → ⊥) → is_empty part.prefix && is_empty part.suffix ≡ true
     → part_regexp options part ≡ bare_regexp part.modifier (matched_by options part.kind part.value)
 unfolding part_regexp
-part_regexp-bare options part other p s = rw (not-fixed part.kind other) (rw p (rw s))
+part_regexp-bare options part other e = rw (not-fixed part.kind other) (rw e)
 
 pub part_regexp-affixed : (options : OptionsView) (part : PartView) → (part.kind ≡ FixedText → ⊥) → is_empty part.prefix && is_empty part.suffix ≡ false
     → part_regexp options part ≡ affixed_regexp part.modifier (escaped_regexp options part.prefix) (matched_by options part.kind part.value) (escaped_regexp options part.suffix)

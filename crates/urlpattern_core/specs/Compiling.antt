@@ -6,16 +6,17 @@ use Rattle.std.specs.Str.{chars}
 use Rattle.urlpattern_core.specs.declared.component.Component.{Component}
 use Rattle.urlpattern_core.specs.declared.regexp.RegExp.{Ghosts as Engine}
 use Rattle.urlpattern_core.specs.Matchers.{engine_view, matcher_view}
-use Rattle.urlpattern_laws.specs.Matching.{IsEngineOf, IsMadeOf, MatcherView}
+use Rattle.urlpattern_laws.specs.Matching.{AnswersByMeaning, IsEngineOf, IsMadeByEngine, IsMadeOf, MatcherView}
 use Rattle.urlpattern_laws.specs.Printing.{printed}
+use Rattle.urlpattern_syntax.specs.declared.error.Error.{Error}
 use Rattle.urlpattern_syntax.specs.declared.parser.PartType.{PartType}
 use Rattle.urlpattern_syntax.specs.declared.parser.PartType.TheVariants.{Regexp}
 use Rattle.urlpattern_syntax.specs.declared.parser.RegexSyntax.{RegexSyntax}
 use Rattle.urlpattern_syntax.specs.declared.parser.RegexSyntax.TheVariants.{EcmaScript, Rust}
-use Rattle.urlpattern_syntax.specs.Errors.{ErrorView}
+use Rattle.urlpattern_syntax.specs.Errors.{ErrorView, MemoryOr}
 use Rattle.urlpattern_syntax.specs.Options.{OptionsView}
 use Rattle.urlpattern_syntax.specs.Parts.{PartView}
-use Rattle.urlpattern_syntax.specs.Reading.{Encoding, Reads}
+use Rattle.urlpattern_syntax.specs.Reading.{Encoding, Reads, Refuses}
 use Rattle.urlpattern_syntax.specs.RegexpText.{group_names, regexp_text}
 use Rattle.urlpattern_syntax.specs.Text.{text_of}
 
@@ -79,6 +80,10 @@ abbrev pub IsCompiledFrom : {E : Type 0} → (IsMade : E → (regexp flags : Lis
 IsCompiledFrom IsMade MayRefuse syntax text options encoding component =
     (parts : List PartView) × Reads text options encoding parts × IsComponentOf IsMade MayRefuse syntax options parts component
 
+-- the error is one with which the text is refused, or that memory ran out
+abbrev pub FailsToRead : (text : List ℕ) → OptionsView → Encoding → Error → Type 0
+FailsToRead text options encoding error = MemoryOr (Refuses text options encoding) error
+
 -- ---- what a type of engines means, as one
 
 -- a component of these parts
@@ -92,3 +97,21 @@ IsCompiledBy engine = IsCompiledFrom engine.IsMade engine.MayRefuse engine.synta
 -- a matcher of these parts
 abbrev pub IsMatcherBy : {E : Type 0} → Engine E → OptionsView → (flags : List ℕ) → List PartView → MatcherView E → Type 0
 IsMatcherBy engine = IsMadeOf engine.IsMade (MayRefuseAtFirst engine.MayRefuse)
+
+-- a matcher that leaves these parts to an engine, between two texts
+abbrev pub IsAskingMatcherBy : {E : Type 0} → Engine E → OptionsView → (flags prefix : List ℕ) → List PartView → (suffix : List ℕ) → MatcherView E → Type 0
+IsAskingMatcherBy engine options flags = IsMadeByEngine (IsEngineOf engine.IsMade (MayRefuseAtFirst engine.MayRefuse) flags) options
+
+-- what an engine makes of a regular expression with this `force_eval`
+abbrev pub IsEngineBy : {E : Type 0} → Engine E → (force_eval : Bool) → (flags regexp : List ℕ) → Result E ErrorView → Type 0
+IsEngineBy engine force_eval = IsEngineOf engine.IsMade (λ regexp flags. engine.MayRefuse regexp flags force_eval)
+
+-- what an engine makes of the regular expression of a whole component, where it may be asked again
+abbrev pub IsAskedEngineBy : {E : Type 0} → Engine E → (has_regexp_group : Bool) → (flags regexp : List ℕ) → Result E ErrorView → Type 0
+IsAskedEngineBy engine has_regexp_group =
+    IsEngineOf engine.IsMade (MayRefuseAsked engine.MayRefuse (is_asked_again engine.syntax_of has_regexp_group))
+
+-- whatever parts the component is of, its matcher answers what they mean
+abbrev pub AnswersByItsParts : {E : Type 0} → Engine E → OptionsView → ComponentView E → Type 0
+AnswersByItsParts engine options component =
+    (parts : List PartView) → IsComponentBy engine options parts component → AnswersByMeaning engine.answer options parts component.matcher

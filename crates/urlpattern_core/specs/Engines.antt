@@ -1,15 +1,20 @@
 -- What a value of the crate `regex` is made of, and what it answers.
-use Rattle.std.specs.Prelude.{◌≡◌, ◌≢◌, ⊤, false, All, ℕ, ◌-◌, List, map, length, Option, option_map, encode_utf8_all, slice_range}
+use Rattle.std.specs.Prelude.{◌≡◌, ⊤, false, ℕ, ◌-◌, ◌^◌, ◌<◌, IsTrue, List, map, length, Option, option_map, encode_utf8_all, slice_range}
 use Rattle.std.specs.List.{range_with_len}
-use Rattle.std.specs.Str.{chars}
+use Rattle.std.specs.Str.{all_scalars, chars}
 use Rattle.regex.specs.Patterns.{default_config, find_str}
-use Rattle.regex.specs.Strings.{IsReadFromSource, regex_config, regex_names, regex_pattern, regex_source}
+use Rattle.regex.specs.Strings.{IsReadFromSource, captures_haystack, captures_names, captures_span, regex_config, regex_names, regex_pattern, regex_source}
 use Rattle.regex.specs.Writes.{group_of}
+use Rattle.regex.specs.declared.string.captures.Captures.{Captures as RegexCaptures}
 use Rattle.regex.specs.declared.string.regex.Regex.{Regex}
+use Rattle.regex_syntax.specs.Verdict.{Refuses, default_config as default_syntax}
+use Rattle.regex_syntax.specs.declared.error.ErrorKind.{ErrorKind}
+use Rattle.regex_syntax.specs.declared.error.ErrorKind.TheVariants.{OutOfMemory}
+use Rattle.urlpattern_core.specs.Generated.{AreGenerated}
+use Rattle.urlpattern_laws.specs.Dialect.{Follows, IsTreeOf, Items, group_count}
 use Rattle.urlpattern_laws.specs.FirstAnswers.{TookText}
 use Rattle.urlpattern_laws.specs.Matching.{IsMadeOf, MatcherView}
 use Rattle.urlpattern_laws.specs.PartMeaning.{Captures}
-use Rattle.urlpattern_syntax.specs.declared.parser.PartType.TheVariants.{Regexp}
 use Rattle.urlpattern_syntax.specs.Options.{OptionsView}
 use Rattle.urlpattern_syntax.specs.Parts.{PartView}
 
@@ -31,12 +36,28 @@ text_between bytes span = chars (slice_range bytes span.0 span.1)
 abbrev pub group_texts : (bytes : List ℕ) → (count : ℕ) → (span_of : ℕ → Option (ℕ × ℕ)) → Captures
 group_texts bytes count span_of = map (λ n. option_map (text_between bytes) (span_of n)) (range_with_len 1 count)
 
+-- what the groups of a match that was found span
+abbrev pub found_texts : RegexCaptures → Captures
+found_texts found = group_texts (captures_haystack found) (length (captures_names found) - 1) (captures_span found)
+
 -- what the groups of the first match in the text span, without group 0, which is the match; None without a match
 unfoldable pub regex_answer : Regex → List ℕ → Option Captures
 regex_answer regex text =
     let bytes = encode_utf8_all text in
     let count = length (regex_names regex) - 1 in
     option_map (λ found. group_texts bytes count (group_of found)) (find_str (regex_pattern regex) bytes 0)
+
+-- each value that was made of the text follows it
+abbrev pub RegexFollows : (regexp : List ℕ) → Type 0
+RegexFollows regexp = (regex : Regex) → IsRegexOf regexp regex → Follows regexp (regex_answer regex)
+
+-- a text of characters whose tree has fewer groups than the grammar counts
+abbrev pub HasFewGroups : (regexp : List ℕ) → Type 0
+HasFewGroups regexp = IsTrue (all_scalars regexp) × ((tree : Items) × IsTreeOf regexp tree × (group_count tree < 2 ^ 32 - 1))
+
+-- the grammar refuses the text only as memory ran out
+abbrev pub IsRefusedForMemory : (regexp : List ℕ) → Type 0
+IsRefusedForMemory regexp = (kind : ErrorKind) → Refuses default_syntax (encode_utf8_all regexp) kind → kind ≡ OutOfMemory
 
 -- the matcher is made of the parts by `regex::Regex`, which takes no notice of flags and may refuse any text
 abbrev pub IsMadeByRegex : OptionsView → (flags : List ℕ) → List PartView → MatcherView Regex → Type 0
@@ -45,6 +66,6 @@ IsMadeByRegex options flags parts matcher = IsMadeOf (λ regex regexp flags. IsR
 -- it is such a matcher, of parts of which none is custom, case is kept, and `regex` took the text where it was needed
 pub record IsTakenByRegex (options : OptionsView) (flags : List ℕ) (parts : List PartView) (matcher : MatcherView Regex) : Type 0 where
   pub is_made : IsMadeByRegex options flags parts matcher
-  pub generated : All (λ part. part.kind ≢ Regexp) parts
+  pub generated : AreGenerated parts
   pub case_kept : options.ignore_case ≡ false
   pub took : TookText (λ regex. ⊤) matcher.inner

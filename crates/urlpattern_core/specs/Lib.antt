@@ -1,6 +1,10 @@
 pub mod Captured
 pub mod Compiling
 pub mod Engines
+pub mod FirstWays
+pub mod Generated
 pub mod Looks
 pub mod Matchers
 pub mod Neighbours
+pub mod NormalForms
+pub mod PartTexts

@@ -1,5 +1,5 @@
 -- Matchers: what a clause sees of them.
-use Rattle.std.specs.Prelude.{◌≡◌, ℕ, Bool, true, false, List, Option, Some, None, Result, Ok, Err, option_to_list, ◌++◌}
+use Rattle.std.specs.Prelude.{◌≡◌, ℕ, Bool, true, false, List, [], Option, Some, None, Result, Ok, Err, option_to_list, ◌++◌, IfOk}
 use Rattle.urlpattern_core.specs.declared.matcher.InnerMatcher.{InnerMatcher}
 use Rattle.urlpattern_core.specs.declared.matcher.InnerMatcher.TheVariants as inners
 use Rattle.urlpattern_core.specs.declared.matcher.Matcher.{Matcher}
@@ -32,7 +32,15 @@ matcher_view matcher = record {
   ignore_case = matcher.ignore_case;
 }
 
+-- where a matcher is the result, this holds of it
+abbrev pub IfMatcher : {E : Type 0} → Result (Matcher E) Error → (MatcherView E → Type 0) → Type 0
+IfMatcher result Holds = IfOk result (λ matcher. Holds (matcher_view matcher))
+
 -- ---- words of private contracts
+
+-- a matcher of this text alone
+abbrev pub literal_view : {E : Type 0} → (ignore_case : Bool) → (literal : List ℕ) → MatcherView E
+literal_view ignore_case literal = record { prefix = []; suffix = []; inner = Literal literal; ignore_case = ignore_case }
 
 -- the texts of plain fixed parts that go off the ends of the parts, and the parts between them
 abbrev pub PeelsTo : List PartView → (prefix : List ℕ) → List PartView → (suffix : List ℕ) → Type 0

@@ -1,9 +1,16 @@
 -- The part before or behind another in a list: what a clause sees of it.
 use denote.Ref.{Bor}
-use Rattle.std.specs.Prelude.{Option, option_map}
+use Rattle.std.specs.Prelude.{◌&&◌, Bool, bytes_eq, ℕ, List, not, Option, option_map}
 use Rattle.urlpattern_syntax.specs.declared.parser.Part.{Part}
+use Rattle.urlpattern_laws.specs.Printing.{last_of}
+use Rattle.urlpattern_syntax.specs.Options.{OptionsView}
 use Rattle.urlpattern_syntax.specs.Parts.{PartView, part_view}
+use Rattle.urlpattern_syntax.specs.RegexpText.{is_empty}
 
 -- the part there, if there is one
 abbrev pub neighbour : Option (Bor Part) → Option PartView
 neighbour part = option_map (λ there. part_view there.now) part
+
+-- the last character of the text is the prefix code point
+abbrev pub ends_with_prefix : OptionsView → List ℕ → Bool
+ends_with_prefix options text = not (is_empty text) && bytes_eq (last_of text) options.prefix

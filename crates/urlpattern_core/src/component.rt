@@ -2,14 +2,12 @@
 //!
 //! <https://urlpattern.spec.whatwg.org/#component>
 
-ghost use Rattle.std.specs.Prelude.{◌≡◌, ◌≢◌, ℕ, List, length, map, not, All, IfOk, IfErr};
-ghost use Rattle.urlpattern_laws.specs.Dialect.{HasMeaningOf};
-ghost use Rattle.urlpattern_laws.specs.PartMeaning.{Captures, PartsMean};
+ghost use Rattle.std.specs.Prelude.{◌≡◌, ◌&&◌, length, map, not, IfOk, IfErr};
+ghost use Rattle.urlpattern_core.specs.Generated.{HasGeneratedMeaning, HaveCaptures};
 ghost use Rattle.urlpattern_syntax.specs.declared.error.Error.TheVariants as errors;
-ghost use Rattle.urlpattern_syntax.specs.declared.parser.PartType.TheVariants.{Regexp};
 ghost use Rattle.urlpattern_syntax.specs.Options.{options_view};
-ghost use Rattle.urlpattern_syntax.specs.Parts.{part_view};
-ghost use Rattle.urlpattern_syntax.specs.RegexpText.{group_names, is_fixed_text, regexp_text};
+ghost use Rattle.urlpattern_syntax.specs.Parts.{parts_view};
+ghost use Rattle.urlpattern_syntax.specs.RegexpText.{group_names, is_empty, is_fixed_text, regexp_text};
 ghost use Rattle.urlpattern_syntax.specs.Text.{text_of};
 
 mod compile;
@@ -57,10 +55,10 @@ pub fn generate_regular_expression_and_name_list(
     part_list: &[Part],
     options: &Options,
 ) -> Result<(String, Vec<String>), Error>
-    ensures text { IfOk result (λ found. text_of found.0 ≡ regexp_text (options_view options.now) (map part_view part_list.now)) }
-    ensures names { IfOk result (λ found. map (λ name. text_of name) found.1.items ≡ group_names (map part_view part_list.now)) }
-    ensures meaning { IfOk result (λ found. All (λ part. part.kind ≢ Regexp) (map part_view part_list.now) → HasMeaningOf (text_of found.0) (options_view options.now) (map part_view part_list.now)) }
-    ensures captures { IfOk result (λ found. (text : List ℕ) (captures : Captures) → PartsMean (options_view options.now) (map part_view part_list.now) text captures → length captures ≡ length found.1.items) }
+    ensures text { IfOk result (λ found. text_of found.0 ≡ regexp_text (options_view options.now) (parts_view part_list.now)) }
+    ensures names { IfOk result (λ found. map (λ name. text_of name) found.1.items ≡ group_names (parts_view part_list.now)) }
+    ensures meaning { IfOk result (λ found. HasGeneratedMeaning (text_of found.0) (options_view options.now) (parts_view part_list.now)) }
+    ensures captures { IfOk result (λ found. HaveCaptures (options_view options.now) (parts_view part_list.now) (length found.1.items)) }
     ensures memory { IfErr result (λ error. error ≡ errors.OutOfMemory) }
 {
     let text = generate_regular_expression(alloc, part_list, options)?;
@@ -70,7 +68,7 @@ pub fn generate_regular_expression_and_name_list(
 
 /// The names of the groups of a list of parts, in their order.
 fn generate_name_list(alloc: Global, part_list: &[Part]) -> Result<Vec<String>, Error>
-    ensures names { IfOk result (λ found. map (λ name. text_of name) found.items ≡ group_names (map part_view part_list.now)) }
+    ensures names { IfOk result (λ found. map (λ name. text_of name) found.items ≡ group_names (parts_view part_list.now)) }
     ensures memory { IfErr result (λ error. error ≡ errors.OutOfMemory) }
 {
     let count = part_list.iter().filter(|part| is_group(part)).count();
@@ -88,4 +86,11 @@ fn is_group(part: &Part) -> bool
     ensures { result ≡ not (is_fixed_text part.now.kind) }
 {
     part.kind != PartType::FixedText
+}
+
+/// Whether the part has neither prefix nor suffix.
+fn is_bare(part: &Part) -> bool
+    ensures { result ≡ (is_empty (text_of part.now.prefix) && is_empty (text_of part.now.suffix)) }
+{
+    part.prefix.is_empty() && part.suffix.is_empty()
 }

@@ -3,23 +3,16 @@
 //!
 //! Each function here does nothing; what it promises is a theorem.
 
-ghost use Rattle.std.specs.Prelude.{◌≡◌, ◌≢◌, ℕ, ◌-◌, ◌^◌, ◌<◌, List, All, IsTrue, Option, encode_utf8_all};
-ghost use Rattle.std.specs.Str.{all_scalars};
+ghost use Rattle.std.specs.Prelude.{ℕ, List};
 ghost use Rattle.regex.specs.declared.string.regex.Regex.{Regex};
-ghost use Rattle.regex_syntax.specs.Verdict.{default_config, Refuses};
-ghost use Rattle.regex_syntax.specs.declared.error.ErrorKind.{ErrorKind};
-ghost use Rattle.regex_syntax.specs.declared.error.ErrorKind.TheVariants.{OutOfMemory};
-ghost use Rattle.urlpattern_core.specs.Engines.{regex_answer, IsRegexOf, IsTakenByRegex};
-ghost use Rattle.urlpattern_laws.specs.Dialect.{Follows, IsTreeOf, Items, group_count};
-ghost use Rattle.urlpattern_laws.specs.FirstAnswers.{IsFirstOf};
-ghost use Rattle.urlpattern_laws.specs.Matching.{Agrees, Answers, MatcherView};
-ghost use Rattle.urlpattern_laws.specs.PartMeaning.{Captures};
-ghost use Rattle.urlpattern_laws.specs.Ways.{first_way};
-ghost use Rattle.urlpattern_syntax.specs.declared.parser.PartType.TheVariants.{Regexp};
+ghost use Rattle.urlpattern_core.specs.Engines.{HasFewGroups, IsRefusedForMemory, IsRegexOf, IsTakenByRegex, RegexFollows, regex_answer};
+ghost use Rattle.urlpattern_core.specs.FirstWays.{AllAnswerAlike, EachAnswersFirst};
+ghost use Rattle.urlpattern_core.specs.Generated.{AreGenerated};
+ghost use Rattle.urlpattern_laws.specs.Dialect.{IsTreeOf, Items};
+ghost use Rattle.urlpattern_laws.specs.FirstAnswers.{AnswersFirst};
 ghost use Rattle.urlpattern_syntax.specs.Options.{OptionsView};
 ghost use Rattle.urlpattern_syntax.specs.Parts.{PartView};
 ghost use Rattle.urlpattern_syntax.specs.RegexpText.{regexp_text};
-ghost use Rattle.urlpattern_syntax.specs.Text.{lacks, line_feed};
 
 pub use urlpattern_laws::laws::{
     captures_are_as_many_as_names, copies_are_one_capture, dialect_trees_are_one,
@@ -36,36 +29,22 @@ pub use urlpattern_laws::laws::{
 /// it follows that text; and for each list of parts, none of them custom, it follows their regular expression, in both
 /// syntaxes.
 pub fn regex_answers_the_first_way()
-    ensures first { (regexp : List ℕ) (tree : Items) (regex : Regex) (text : List ℕ) →
-        IsTreeOf regexp tree → IsRegexOf regexp regex → IsTrue (all_scalars text) →
-        regex_answer regex text ≡ first_way tree text }
-    ensures follows { (regexp : List ℕ) (tree : Items) (regex : Regex) →
-        IsTreeOf regexp tree → IsRegexOf regexp regex → Follows regexp (regex_answer regex) }
-    ensures generated { (options : OptionsView) (parts : List PartView) (regex : Regex) →
-        All (λ part. part.kind ≢ Regexp) parts →
-        IsRegexOf (regexp_text options parts) regex → Follows (regexp_text options parts) (regex_answer regex) }
+    ensures first { (regexp : List ℕ) (regex : Regex) → IsRegexOf regexp regex → AnswersFirst regexp (regex_answer regex) }
+    ensures follows { (regexp : List ℕ) (tree : Items) → IsTreeOf regexp tree → RegexFollows regexp }
+    ensures generated { (options : OptionsView) (parts : List PartView) → AreGenerated parts → RegexFollows (regexp_text options parts) }
 {}
 
 /// A matcher that `regex::Regex` made answers the first way of the tree of the parts, without a premise on the engine but that
 /// it took the text where it was needed: a meaning of the parts, or None where they have none. Another matcher of the same
 /// parts answers nothing else.
 pub fn matchers_by_regex_answer_the_first_way()
-    ensures first { (options : OptionsView) (flags : List ℕ) (parts : List PartView) (matcher : MatcherView Regex)
-        (text : List ℕ) (result : Option Captures) →
-        IsTakenByRegex options flags parts matcher → IsTrue (lacks line_feed text) → IsTrue (all_scalars text) →
-        Answers regex_answer matcher text result → IsFirstOf options parts text result × Agrees options parts text result }
-    ensures one { (options : OptionsView) (flags : List ℕ) (parts : List PartView) (matcher another : MatcherView Regex)
-        (text : List ℕ) (result other : Option Captures) →
-        IsTakenByRegex options flags parts matcher → IsTakenByRegex options flags parts another →
-        IsTrue (lacks line_feed text) → IsTrue (all_scalars text) →
-        Answers regex_answer matcher text result → Answers regex_answer another text other → result ≡ other }
+    ensures first { EachAnswersFirst IsTakenByRegex regex_answer }
+    ensures one { AllAnswerAlike IsTakenByRegex regex_answer }
 {}
 
 /// `regex` does not refuse the regular expression of parts for its syntax, where none is custom and they have fewer groups
 /// than it counts: an error that its grammar allows says that memory ran out. How large a pattern may be is not said.
 pub fn regex_refuses_no_generated_syntax()
-    ensures { (options : OptionsView) (parts : List PartView) (tree : Items) (kind : ErrorKind) →
-        All (λ part. part.kind ≢ Regexp) parts → IsTreeOf (regexp_text options parts) tree →
-        IsTrue (all_scalars (regexp_text options parts)) → group_count tree < 2 ^ 32 - 1 →
-        Refuses default_config (encode_utf8_all (regexp_text options parts)) kind → kind ≡ OutOfMemory }
+    ensures { (options : OptionsView) (parts : List PartView) → AreGenerated parts →
+        HasFewGroups (regexp_text options parts) → IsRefusedForMemory (regexp_text options parts) }
 {}

@@ -1,18 +1,17 @@
 -- A value of the engine answers the first way, and what `regex::Regex` answers.
-use Rattle.std.proofs.Common.{◌≡◌, ℕ, Bool, List, Option, refl, sym, ap, ◌∙◌, inl, inr}
+use Rattle.std.proofs.Common.{◌≡◌, ℕ, Bool, List, refl, sym, ap, ◌∙◌, inl, inr}
 use Rattle.std.specs.Prelude.{◌≢◌, ⊤, All, IsOk, IsTrue, Ok, Err, Result}
 use Rattle.std.specs.Str.{all_scalars}
 use Rattle.regex.specs.declared.string.regex.Regex.{Regex}
 use Rattle.urlpattern_core.specs.Engines.{IsRegexOf, regex_answer}
+use Rattle.urlpattern_core.specs.FirstWays.{AllAnswerAlike, EachAnswersFirst}
+use Rattle.urlpattern_core.proofs.FirstMatchers.{first_alike, first_follows, made_first}
 use Rattle.urlpattern_core.proofs.RegexWays.{regex_answers_first}
 use Rattle.urlpattern_laws.specs.Dialect.{Follows, IsTreeOf, Items}
-use Rattle.urlpattern_laws.specs.FirstAnswers.{AnswersFirst, AnswersFirstInMiddle, IsFirstOf, TookText}
-use Rattle.urlpattern_laws.specs.Matching.{Agrees, Answers, IsEngineOf, MatcherView}
-use Rattle.urlpattern_laws.specs.PartMeaning.{Captures}
+use Rattle.urlpattern_laws.specs.FirstAnswers.{AnswersFirst, TookText}
+use Rattle.urlpattern_laws.specs.Matching.{IsEngineOf, MatcherView}
 use Rattle.urlpattern_laws.specs.Ways.{first_way}
-use Rattle.urlpattern_laws.proofs.DialectUnique.{only_tree, trees_are_one}
-use Rattle.urlpattern_laws.proofs.FirstAnswers.{first_agrees, first_one, matcher_first, of_made}
-use Rattle.urlpattern_laws.proofs.FirstWay.{meant_or_none}
+use Rattle.urlpattern_laws.proofs.DialectUnique.{trees_are_one}
 use Rattle.urlpattern_core.specs.Compiling.{ComponentView, IsComponentOf, MayRefuseAsked, engine_flags, has_regexp, is_asked_again}
 use Rattle.urlpattern_syntax.specs.declared.parser.PartType.TheVariants.{Regexp}
 use Rattle.urlpattern_syntax.specs.declared.parser.RegexSyntax.{RegexSyntax}
@@ -20,7 +19,6 @@ use Rattle.urlpattern_syntax.specs.Errors.{ErrorView}
 use Rattle.urlpattern_syntax.specs.Options.{OptionsView}
 use Rattle.urlpattern_syntax.specs.Parts.{PartView}
 use Rattle.urlpattern_syntax.specs.RegexpText.{regexp_text}
-use Rattle.urlpattern_syntax.specs.Text.{lacks, line_feed}
 use Rattle.urlpattern_engine.specs.declared.pattern_regexp.Expression.{Expression}
 use Rattle.urlpattern_engine.specs.declared.pattern_regexp.Expression.TheVariants.{Own, Other}
 use Rattle.urlpattern_engine.specs.declared.pattern_regexp.PatternRegexp.{PatternRegexp}
@@ -40,12 +38,12 @@ pub pattern_regexp_first : (regexp : List ℕ) (tree : Items) (value : PatternRe
 unfolding pattern_answer
 pattern_regexp_first regexp tree value text is made fine = expression_first regexp tree value.expression text is made.of_text fine
 
+-- a value that was made of a text answers the first way of its tree, and so it follows the text
+pub answers_first_of : (regexp : List ℕ) (value : PatternRegexp) → IsPatternRegexpOf regexp value → AnswersFirst regexp (pattern_answer value)
+answers_first_of regexp value made = λ tree text is fine. pattern_regexp_first regexp tree value text is made fine
+
 pub pattern_regexp_follows : (regexp : List ℕ) (tree : Items) (value : PatternRegexp) → IsTreeOf regexp tree → IsPatternRegexpOf regexp value → Follows regexp (pattern_answer value)
-pattern_regexp_follows regexp tree value is made = record {
-  tree = tree;
-  is_tree = only_tree regexp tree is;
-  answers = λ text fine. meant_or_none tree is.1 text (pattern_answer value text) (sym (pattern_regexp_first regexp tree value text is made fine));
-}
+pattern_regexp_follows regexp tree value is made = first_follows regexp (pattern_answer value) (answers_first_of regexp value made) tree is
 
 expression_same : (regexp : List ℕ) (expression : Expression) (regex : Regex) (text : List ℕ) → IsExpressionOf regexp expression → IsRegexOf regexp regex → IsTrue (all_scalars text)
     → expression_answer expression text ≡ regex_answer regex text
@@ -80,30 +78,10 @@ component_takes syntax options parts component is plain = (
   matcher_takes options (engine_flags options) parts component.matcher is.has_matcher plain,
 )
 
-answers_first_of : (regexp : List ℕ) (value : PatternRegexp) → IsPatternRegexpOf regexp value → AnswersFirst regexp (pattern_answer value)
-answers_first_of regexp value made = λ tree text is fine. pattern_regexp_first regexp tree value text is made fine
+pub taken_first : EachAnswersFirst IsTakenByPatternRegexp pattern_answer
+taken_first options flags parts matcher taken =
+    made_first pattern_answer (λ value regexp flags. IsPatternRegexpOf regexp value) (λ regexp flags. ¬ IsGenerated regexp) (λ value regexp flags made. answers_first_of regexp value made)
+    options flags parts matcher taken.is_made taken.generated taken.case_kept (matcher_takes options flags parts matcher taken.is_made taken.generated)
 
-taken_first : (options : OptionsView) (flags : List ℕ) (parts : List PartView) (matcher : MatcherView PatternRegexp) (text : List ℕ) (result : Option Captures) →
-    IsTakenByPatternRegexp options flags parts matcher → IsTrue (lacks line_feed text) → IsTrue (all_scalars text) → Answers pattern_answer matcher text result → IsFirstOf options parts text result
-taken_first options flags parts matcher text result taken no_feed fine answers =
-    let took = matcher_takes options flags parts matcher taken.is_made taken.generated in
-    let firsts : AnswersFirstInMiddle pattern_answer options parts matcher.inner =
-    of_made (λ value middle. AnswersFirst (regexp_text options middle) (pattern_answer value)) (λ value. ⊤) (λ value regexp flags. IsPatternRegexpOf regexp value) (λ regexp flags. ¬ IsGenerated regexp) options flags parts matcher
-    taken.is_made taken.generated took (λ value middle plain made took. answers_first_of (regexp_text options middle) value made) in
-    matcher_first pattern_answer (λ value regexp flags. IsPatternRegexpOf regexp value) (λ regexp flags. ¬ IsGenerated regexp) options flags parts matcher text result
-    taken.is_made taken.generated taken.case_kept no_feed fine firsts answers
-
-pub taken_means : (options : OptionsView) (flags : List ℕ) (parts : List PartView) (matcher : MatcherView PatternRegexp) (text : List ℕ) (result : Option Captures) →
-    IsTakenByPatternRegexp options flags parts matcher → IsTrue (lacks line_feed text) → IsTrue (all_scalars text) → Answers pattern_answer matcher text result →
-    IsFirstOf options parts text result × Agrees options parts text result
-taken_means options flags parts matcher text result taken no_feed fine answers =
-    let first = taken_first options flags parts matcher text result taken no_feed fine answers in
-    (first, first_agrees options parts text result taken.generated first)
-
-pub taken_one : (options : OptionsView) (flags : List ℕ) (parts : List PartView) (matcher another : MatcherView PatternRegexp) (text : List ℕ) (result other : Option Captures) →
-    IsTakenByPatternRegexp options flags parts matcher → IsTakenByPatternRegexp options flags parts another → IsTrue (lacks line_feed text) → IsTrue (all_scalars text) →
-    Answers pattern_answer matcher text result → Answers pattern_answer another text other → result ≡ other
-taken_one options flags parts matcher another text result other taken also no_feed fine answers replies =
-    first_one options parts text result other
-    (taken_first options flags parts matcher text result taken no_feed fine answers)
-    (taken_first options flags parts another text other also no_feed fine replies)
+pub taken_one : AllAnswerAlike IsTakenByPatternRegexp pattern_answer
+taken_one = first_alike IsTakenByPatternRegexp pattern_answer taken_first

@@ -75,7 +75,7 @@ module _ (asked : UrlPatternOptions) (values : Values) (pattern : PatternView Re
         parts = parts;
         captures = captures;
         reads = reads;
-        is_first = taken_first options (engine_flags options) parts (pattern component).matcher text (Some captures) (taken parts is_component) premises.no_line_feed premises.characters answers;
+        is_first = (taken_first options (engine_flags options) parts (pattern component).matcher (taken parts is_component) text (Some captures) premises.no_line_feed premises.characters answers).0;
         is_result = subst (λ (names : List (List ℕ)). IsResultOf names captures text result) is_component.has_names is_result;
       }
 

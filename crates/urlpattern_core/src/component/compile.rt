@@ -1,16 +1,13 @@
 //! The component of a pattern text.
 
-ghost use Rattle.std.specs.Prelude.{◌≡◌, List, map, IfErr, IfOk};
-ghost use Rattle.std.specs.Fn.{FnReturnsAt};
+ghost use Rattle.std.specs.Prelude.{◌≡◌, IfErr, IfOk};
 ghost use Rattle.std.specs.Str.{chars};
-ghost use Rattle.urlpattern_core.specs.Compiling.{IsCompiledBy, IsComponentOf, MayRefuseAsked, component_view, engine_flags, has_regexp, is_asked_again, pattern_text};
-ghost use Rattle.urlpattern_core.specs.Matchers.{engine_view, matcher_view};
-ghost use Rattle.urlpattern_laws.specs.Matching.{AnswersByMeaning, IsEngineOf};
+ghost use Rattle.urlpattern_core.specs.Compiling.{AnswersByItsParts, FailsToRead, IsAskedEngineBy, IsCompiledBy, IsComponentBy, component_view, engine_flags, has_regexp, pattern_text};
+ghost use Rattle.urlpattern_core.specs.Matchers.{engine_view};
 ghost use Rattle.urlpattern_syntax.specs.declared.error.Error.TheVariants as errors;
 ghost use Rattle.urlpattern_syntax.specs.Options.{options_view};
-ghost use Rattle.urlpattern_syntax.specs.Errors.{MemoryOr};
-ghost use Rattle.urlpattern_syntax.specs.Parts.{PartView, part_view};
-ghost use Rattle.urlpattern_syntax.specs.Reading.{Refuses, encoding_by, encoding_of};
+ghost use Rattle.urlpattern_syntax.specs.Parts.{parts_view};
+ghost use Rattle.urlpattern_syntax.specs.Reading.{encoding_by};
 
 use super::matchers::{ask_engine, generate_matcher_knowing};
 use super::printed::generate_pattern_string;
@@ -43,11 +40,8 @@ impl<R: RegExp> Component<R> {
         requires { F.IsAlwaysCallable encoding_callback }
         ensures compiled { IfOk result (λ component. IsCompiledBy R.RegExp (pattern_text pattern.entry) (options_view options)
             (encoding_by F.Fn encoding_callback) (component_view component)) }
-        ensures means { IfOk result (λ component. (parts : List PartView) →
-            IsComponentOf R.IsMade R.MayRefuse R.syntax_of (options_view options) parts (component_view component) →
-            AnswersByMeaning R.answer (options_view options) parts (matcher_view component.matcher)) }
-        ensures refuses { IfErr result (MemoryOr (Refuses (pattern_text pattern.entry) (options_view options)
-            (encoding_of (FnReturnsAt F.Fn encoding_callback)))) }
+        ensures means { IfOk result (λ component. AnswersByItsParts R.RegExp (options_view options) (component_view component)) }
+        ensures refuses { IfErr result (FailsToRead (pattern_text pattern.entry) (options_view options) (encoding_by F.Fn encoding_callback)) }
     {
         let pattern = pattern.unwrap_or("*");
         let part_list = parse_pattern_string(alloc, pattern, &options, encoding_callback)?;
@@ -56,7 +50,7 @@ impl<R: RegExp> Component<R> {
 
     /// The component of a list of parts.
     fn from_parts(alloc: Global, part_list: &[Part], options: &Options) -> Result<Self, Error>
-        ensures made { IfOk result (λ component. IsComponentOf R.IsMade R.MayRefuse R.syntax_of (options_view options.now) (map part_view part_list.now) (component_view component)) }
+        ensures made { IfOk result (λ made. IsComponentBy R.RegExp (options_view options.now) (parts_view part_list.now) (component_view made)) }
         ensures memory { IfErr result (λ error. error ≡ errors.OutOfMemory) }
     {
         let flags = engine_flags(options);
@@ -83,7 +77,7 @@ fn engine_flags(options: &Options) -> &'static str
 
 /// Whether a custom regular expression is among the parts.
 fn has_regexp(part_list: &[Part]) -> bool
-    ensures { result ≡ has_regexp (map part_view part_list.now) }
+    ensures { result ≡ has_regexp (parts_view part_list.now) }
 {
     part_list
         .iter()
@@ -98,7 +92,7 @@ fn engine_of<R: RegExp>(
     flags: &str,
     has_regexp_group: bool,
 ) -> Result<Result<R, Error>, Error>
-    ensures made { IfOk result (λ engine. IsEngineOf R.IsMade (MayRefuseAsked R.MayRefuse (is_asked_again R.syntax_of has_regexp_group)) (chars flags.now) (chars regexp.now) (engine_view engine)) }
+    ensures made { IfOk result (λ engine. IsAskedEngineBy R.RegExp has_regexp_group (chars flags.now) (chars regexp.now) (engine_view engine)) }
     ensures memory { IfErr result (λ error. error ≡ errors.OutOfMemory) }
 {
     let engine: Result<R, Error> = ask_engine(alloc, regexp, flags, false)?;

@@ -1,13 +1,13 @@
 //! The matcher of a list of parts.
 
-ghost use Rattle.std.specs.Prelude.{◌≡◌, false, [], ◌++◌, map, IfErr, IfOk, IfSome};
+ghost use Rattle.std.specs.Prelude.{◌≡◌, false, ◌++◌, IfErr, IfOk, IfSome};
 ghost use Rattle.std.specs.Str.{chars};
-ghost use Rattle.urlpattern_core.specs.Compiling.{MayRefuseAtFirst};
-ghost use Rattle.urlpattern_core.specs.Matchers.{PeelsBack, PeelsFront, PeelsTo, capture_of, engine_view, matcher_view};
-ghost use Rattle.urlpattern_laws.specs.Matching.{AnswersByMeaning, IsEngineOf, IsMadeByEngine, IsMadeOf, Literal, single_capture};
+ghost use Rattle.urlpattern_core.specs.Compiling.{IsAskingMatcherBy, IsEngineBy, IsMatcherBy};
+ghost use Rattle.urlpattern_core.specs.Matchers.{IfMatcher, PeelsBack, PeelsFront, PeelsTo, capture_of, engine_view, literal_view};
+ghost use Rattle.urlpattern_laws.specs.Matching.{AnswersByMeaning, single_capture};
 ghost use Rattle.urlpattern_syntax.specs.declared.error.Error.TheVariants as errors;
 ghost use Rattle.urlpattern_syntax.specs.Options.{options_view};
-ghost use Rattle.urlpattern_syntax.specs.Parts.{part_view};
+ghost use Rattle.urlpattern_syntax.specs.Parts.{part_view, parts_view};
 ghost use Rattle.urlpattern_syntax.specs.RegexpText.{is_plain, regexp_text};
 ghost use Rattle.urlpattern_syntax.specs.Text.{text_of};
 
@@ -31,9 +31,8 @@ pub fn generate_matcher<R: RegExp>(
     options: &Options,
     flags: &str,
 ) -> Result<Matcher<R>, Error>
-    ensures made { IfOk result (λ matcher. IsMadeOf R.IsMade (MayRefuseAtFirst R.MayRefuse) (options_view options.now) (chars flags.now)
-        (map part_view part_list.now) (matcher_view matcher)) }
-    ensures means { IfOk result (λ matcher. AnswersByMeaning R.answer (options_view options.now) (map part_view part_list.now) (matcher_view matcher)) }
+    ensures made { IfMatcher result (IsMatcherBy R.RegExp (options_view options.now) (chars flags.now) (parts_view part_list.now)) }
+    ensures means { IfMatcher result (AnswersByMeaning R.answer (options_view options.now) (parts_view part_list.now)) }
     ensures memory { IfErr result (λ error. error ≡ errors.OutOfMemory) }
 {
     generate_matcher_knowing(alloc, part_list, options, flags, None)
@@ -47,9 +46,8 @@ pub(crate) fn generate_matcher_knowing<R: RegExp>(
     flags: &str,
     whole: Option<&str>,
 ) -> Result<Matcher<R>, Error>
-    requires { IfSome whole (λ text. chars text.now ≡ regexp_text (options_view options.now) (map part_view part_list.now)) }
-    ensures made { IfOk result (λ matcher. IsMadeOf R.IsMade (MayRefuseAtFirst R.MayRefuse) (options_view options.now) (chars flags.now)
-        (map part_view part_list.now) (matcher_view matcher)) }
+    requires { IfSome whole (λ text. chars text.now ≡ regexp_text (options_view options.now) (parts_view part_list.now)) }
+    ensures made { IfMatcher result (IsMatcherBy R.RegExp (options_view options.now) (chars flags.now) (parts_view part_list.now)) }
     ensures memory { IfErr result (λ error. error ≡ errors.OutOfMemory) }
 {
     let (prefix, middle, suffix) = peel(part_list);
@@ -72,7 +70,7 @@ pub(crate) fn generate_matcher_knowing<R: RegExp>(
 
 /// The plain fixed texts at the two ends of a list of parts, or empty texts, and the parts between them.
 fn peel(part_list: &[Part]) -> (&str, &[Part], &str)
-    ensures { PeelsTo (map part_view part_list.now) (chars result.0.now) (map part_view result.1.now) (chars result.2.now) }
+    ensures { PeelsTo (parts_view part_list.now) (chars result.0.now) (parts_view result.1.now) (chars result.2.now) }
 {
     let (prefix, rest) = peel_front(part_list);
     let (middle, suffix) = peel_back(rest);
@@ -81,7 +79,7 @@ fn peel(part_list: &[Part]) -> (&str, &[Part], &str)
 
 /// The plain fixed text that a list of parts begins with, or an empty text, and the other parts.
 fn peel_front(part_list: &[Part]) -> (&str, &[Part])
-    ensures { PeelsFront (map part_view part_list.now) (chars result.0.now) (map part_view result.1.now) }
+    ensures { PeelsFront (parts_view part_list.now) (chars result.0.now) (parts_view result.1.now) }
 {
     match part_list.split_first() {
         Some((first, rest)) if is_plain(first) => (&first.value, rest),
@@ -91,7 +89,7 @@ fn peel_front(part_list: &[Part]) -> (&str, &[Part])
 
 /// The plain fixed text that a list of parts ends with, or an empty text, and the other parts before it.
 fn peel_back(part_list: &[Part]) -> (&[Part], &str)
-    ensures { PeelsBack (map part_view part_list.now) (map part_view result.0.now) (chars result.1.now) }
+    ensures { PeelsBack (parts_view part_list.now) (parts_view result.0.now) (chars result.1.now) }
 {
     match part_list.split_last() {
         Some((last, middle)) if is_plain(last) => (middle, &last.value),
@@ -128,8 +126,7 @@ fn literal_matcher<R>(
     suffix: &str,
     options: &Options,
 ) -> Result<Matcher<R>, Error>
-    ensures made { IfOk result (λ matcher. matcher_view matcher
-        ≡ record { prefix = []; suffix = []; inner = Literal (chars prefix.now ++ chars suffix.now); ignore_case = options.now.ignore_case }) }
+    ensures made { IfMatcher result (λ made. made ≡ literal_view options.now.ignore_case (chars prefix.now ++ chars suffix.now)) }
     ensures memory { IfErr result (λ error. error ≡ errors.OutOfMemory) }
 {
     Ok(Matcher {
@@ -152,7 +149,7 @@ fn capture_matcher<R>(
     filter: Option<char>,
     allow_empty: bool,
 ) -> Result<Matcher<R>, Error>
-    ensures made { IfOk result (λ matcher. matcher_view matcher
+    ensures made { IfMatcher result (λ made. made
         ≡ single_capture (options_view options.now) (chars prefix.now) (part_view part.now) (chars suffix.now) filter allow_empty) }
     ensures memory { IfErr result (λ error. error ≡ errors.OutOfMemory) }
 {
@@ -178,9 +175,9 @@ fn engine_matcher<R: RegExp>(
     flags: &str,
     known: Option<&str>,
 ) -> Result<Matcher<R>, Error>
-    requires { IfSome known (λ text. chars text.now ≡ regexp_text (options_view options.now) (map part_view middle.now)) }
-    ensures made { IfOk result (λ matcher. IsMadeByEngine (IsEngineOf R.IsMade (MayRefuseAtFirst R.MayRefuse) (chars flags.now)) (options_view options.now)
-        (chars prefix.now) (map part_view middle.now) (chars suffix.now) (matcher_view matcher)) }
+    requires { IfSome known (λ text. chars text.now ≡ regexp_text (options_view options.now) (parts_view middle.now)) }
+    ensures made { IfMatcher result (IsAskingMatcherBy R.RegExp (options_view options.now) (chars flags.now)
+        (chars prefix.now) (parts_view middle.now) (chars suffix.now)) }
     ensures memory { IfErr result (λ error. error ≡ errors.OutOfMemory) }
 {
     let regexp = match known {
@@ -207,7 +204,7 @@ pub(crate) fn ask_engine<R: RegExp>(
     flags: &str,
     force_eval: bool,
 ) -> Result<Result<R, Error>, Error>
-    ensures made { IfOk result (λ engine. IsEngineOf R.IsMade (λ regexp flags. R.MayRefuse regexp flags force_eval) (chars flags.now) (chars regexp.now) (engine_view engine)) }
+    ensures made { IfOk result (λ engine. IsEngineBy R.RegExp force_eval (chars flags.now) (chars regexp.now) (engine_view engine)) }
     ensures memory { IfErr result (λ error. error ≡ errors.OutOfMemory) }
 {
     match R::parse(alloc, regexp, flags, force_eval) {

@@ -1,13 +1,10 @@
 //! The normal form of a list of parts.
 
-ghost use Rattle.std.specs.Fn.{FnReturnsAt};
-ghost use Rattle.std.specs.Prelude.{◌≡◌, map, IfErr, IfOk};
-ghost use Rattle.urlpattern_laws.specs.Printing.{encoded_texts, joined, printed};
-ghost use Rattle.urlpattern_laws.specs.RoundTrip.{FailsText, IsPrintable, KeepsAnswered};
-ghost use Rattle.urlpattern_syntax.specs.Errors.{MemoryOr};
+ghost use Rattle.std.specs.Prelude.{IfErr, IfOk};
+ghost use Rattle.urlpattern_core.specs.NormalForms.{FailsIfPrintable, IsJoinedIfKept, IsReadFrom, RefusesPrinted};
 ghost use Rattle.urlpattern_syntax.specs.Options.{options_view};
-ghost use Rattle.urlpattern_syntax.specs.Parts.{part_view};
-ghost use Rattle.urlpattern_syntax.specs.Reading.{Reads, Refuses, encoding_of};
+ghost use Rattle.urlpattern_syntax.specs.Parts.{parts_view};
+ghost use Rattle.urlpattern_syntax.specs.Reading.{encoding_by};
 
 use super::printed::generate_pattern_string;
 use crate::error::Error;
@@ -27,16 +24,10 @@ pub fn normalize_part_list<F: Fn(&str) -> Result<String, Error> + Drop>(
     encoding_callback: F,
 ) -> Result<Vec<Part>, Error>
     requires { F.IsAlwaysCallable encoding_callback }
-    ensures same { let parts = map part_view part_list.now in
-        IsPrintable (options_view options.now) parts → KeepsAnswered (encoding_of (FnReturnsAt F.Fn encoding_callback)) parts →
-        IfOk result (λ normal. map part_view normal.items ≡ joined parts) }
-    ensures fails { let parts = map part_view part_list.now in
-        IsPrintable (options_view options.now) parts →
-        IfErr result (MemoryOr (FailsText (encoding_of (FnReturnsAt F.Fn encoding_callback)) (encoded_texts (joined parts)))) }
-    ensures reads { let text = printed (options_view options.now) (map part_view part_list.now) in
-        IfOk result (λ normal. Reads text (options_view options.now) (encoding_of (FnReturnsAt F.Fn encoding_callback)) (map part_view normal.items)) }
-    ensures refuses { let text = printed (options_view options.now) (map part_view part_list.now) in
-        IfErr result (MemoryOr (Refuses text (options_view options.now) (encoding_of (FnReturnsAt F.Fn encoding_callback)))) }
+    ensures same { IfOk result (IsJoinedIfKept (options_view options.now) (encoding_by F.Fn encoding_callback) (parts_view part_list.now)) }
+    ensures fails { IfErr result (FailsIfPrintable (options_view options.now) (encoding_by F.Fn encoding_callback) (parts_view part_list.now)) }
+    ensures reads { IfOk result (IsReadFrom (options_view options.now) (encoding_by F.Fn encoding_callback) (parts_view part_list.now)) }
+    ensures refuses { IfErr result (RefusesPrinted (options_view options.now) (encoding_by F.Fn encoding_callback) (parts_view part_list.now)) }
 {
     let text = generate_pattern_string(alloc, part_list, options)?;
     parse_pattern_string(alloc, &text, options, encoding_callback)

@@ -2,18 +2,19 @@
 //!
 //! <https://urlpattern.spec.whatwg.org/#converting-part-lists-to-pattern-strings>
 
-ghost use Rattle.std.specs.Prelude.{◌≡◌, ◌&&◌, false, not, map, bytes_eq, IfOk, IfErr};
+ghost use Rattle.std.specs.Prelude.{◌≡◌, ◌&&◌, false, not, IfOk, IfErr};
 ghost use Rattle.std.specs.Str.{chars};
-ghost use Rattle.urlpattern_core.specs.Neighbours.{neighbour};
-ghost use Rattle.urlpattern_laws.specs.Laws.{Answered, listed};
-ghost use Rattle.urlpattern_laws.specs.RoundTrip.{IsPrintable, ReadsBack};
-ghost use Rattle.urlpattern_laws.specs.Printing.{Keeps, goes_on, has_custom_name, has_other_prefix, in_braces, is_asterisk, is_name_alone, last_of, needs_braces, printed, printed_fixed, printed_group, printed_match, printed_name, printed_part, printed_suffix, takes_before, takes_next, admits_asterisk};
+ghost use Rattle.urlpattern_core.specs.Neighbours.{ends_with_prefix, neighbour};
+ghost use Rattle.urlpattern_core.specs.NormalForms.{ReadsBackIfKept};
+ghost use Rattle.urlpattern_core.specs.PartTexts.{group_part};
+ghost use Rattle.urlpattern_laws.specs.Printing.{goes_on, has_custom_name, has_other_prefix, in_braces, is_asterisk, is_name_alone, needs_braces, printed, printed_fixed, printed_match, printed_name, printed_part, printed_suffix, takes_before, takes_next, admits_asterisk};
 ghost use Rattle.urlpattern_syntax.specs.declared.error.Error.TheVariants as errors;
 ghost use Rattle.urlpattern_syntax.specs.Options.{options_view};
-ghost use Rattle.urlpattern_syntax.specs.Parts.{part_view};
-ghost use Rattle.urlpattern_syntax.specs.RegexpText.{is_empty};
+ghost use Rattle.urlpattern_syntax.specs.Parts.{part_view, parts_view};
+ghost use Rattle.urlpattern_syntax.specs.RegexpText.{is_fixed_text};
 ghost use Rattle.urlpattern_syntax.specs.Text.{begins_with, is_name_part, text_of};
 
+use super::is_bare;
 use super::regexp_text::Captured;
 use crate::error::Error;
 use crate::parser::{FULL_WILDCARD_REGEXP_VALUE, Options, Part, PartModifier, PartType};
@@ -35,9 +36,8 @@ pub fn generate_pattern_string(
     part_list: &[Part],
     options: &Options,
 ) -> Result<String, Error>
-    ensures text { IfOk result (λ text. text_of text ≡ printed (options_view options.now) (map part_view part_list.now)) }
-    ensures reads_back { IfOk result (λ text. (answers : Answered) → IsPrintable (options_view options.now) (map part_view part_list.now) →
-        Keeps (listed answers) (map part_view part_list.now) → ReadsBack (text_of text) (options_view options.now) (listed answers) (map part_view part_list.now)) }
+    ensures text { IfOk result (λ text. text_of text ≡ printed (options_view options.now) (parts_view part_list.now)) }
+    ensures reads_back { IfOk result (λ text. ReadsBackIfKept (text_of text) (options_view options.now) (parts_view part_list.now)) }
     ensures memory { IfErr result (λ error. error ≡ errors.OutOfMemory) }
 {
     written(alloc, &PrintedText { part_list, options })
@@ -51,7 +51,7 @@ struct PrintedText<'a> {
 }
 
 impl Writable for PrintedText<'_> {
-    ghost text = { λ list. printed (options_view list.options.now) (map part_view list.part_list.now) };
+    ghost text = { λ list. printed (options_view list.options.now) (parts_view list.part_list.now) };
 
     fn write_to<W: Writer>(&self, writer: &mut W) {
         let options = self.options;
@@ -108,8 +108,8 @@ impl PrintedPart<'_> {
 
     /// Writes a part that is no fixed text, between braces or not.
     fn write_group<W: Writer>(&self, writer: &mut W, braces: bool)
-        requires { W.Fits writer.old (printed_group (options_view self.now.options.now) (neighbour self.now.previous) (part_view self.now.part.now) braces) }
-        ensures { W.Writes writer.old (printed_group (options_view self.now.options.now) (neighbour self.now.previous) (part_view self.now.part.now) braces) writer.new }
+        requires { W.Fits writer.old (group_part self.now braces) }
+        ensures { W.Writes writer.old (group_part self.now braces) writer.new }
     {
         let part = self.part;
         let matched = Matched {
@@ -241,30 +241,26 @@ fn goes_on(part: &Part) -> bool
         }
 }
 
-/// Whether the part has neither prefix nor suffix.
-fn is_bare(part: &Part) -> bool
-    ensures { result ≡ (is_empty (text_of part.now.prefix) && is_empty (text_of part.now.suffix)) }
-{
-    part.prefix.is_empty() && part.suffix.is_empty()
-}
-
 /// Whether the part would take the end of a fixed text before it as its prefix.
 fn takes_before(options: &Options, previous: Option<&Part>, part: &Part) -> bool
     ensures { result ≡ takes_before (options_view options.now) (neighbour previous.entry) (part_view part.now) }
 {
     match previous {
-        Some(previous) => {
-            part.prefix.is_empty()
-                && previous.kind == PartType::FixedText
-                && ends_with_prefix(options, &previous.value)
-        }
+        Some(previous) => part.prefix.is_empty() && leaves_prefix(options, previous),
         None => false,
     }
 }
 
+/// Whether the part is a fixed text that ends with the prefix code point.
+fn leaves_prefix(options: &Options, part: &Part) -> bool
+    ensures { result ≡ (is_fixed_text part.now.kind && ends_with_prefix (options_view options.now) (text_of part.now.value)) }
+{
+    part.kind == PartType::FixedText && ends_with_prefix(options, &part.value)
+}
+
 /// Whether the last character of the text is the prefix code point.
 fn ends_with_prefix(options: &Options, text: &str) -> bool
-    ensures { result ≡ (not (is_empty (chars text.now)) && bytes_eq (last_of (chars text.now)) (text_of options.now.prefix_code_point)) }
+    ensures { result ≡ ends_with_prefix (options_view options.now) (chars text.now) }
 {
     let Some(last) = text.chars().next_back() else {
         return false;

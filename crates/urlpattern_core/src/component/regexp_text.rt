@@ -2,14 +2,16 @@
 //!
 //! <https://urlpattern.spec.whatwg.org/#generate-a-regular-expression-and-name-list>
 
-ghost use Rattle.std.specs.Prelude.{◌≡◌, ◌++◌, map, IfErr, IfOk};
+ghost use Rattle.std.specs.Prelude.{◌≡◌, ◌++◌, IfErr, IfOk};
+ghost use Rattle.urlpattern_core.specs.PartTexts.{affixed_part, bare_part, escaped_prefix, escaped_suffix, escaped_value, fixed_part, matched_text};
 ghost use Rattle.urlpattern_syntax.specs.declared.error.Error.TheVariants as errors;
 ghost use Rattle.urlpattern_syntax.specs.Options.{options_view};
-ghost use Rattle.urlpattern_syntax.specs.Parts.{part_view};
-ghost use Rattle.urlpattern_syntax.specs.RegexpText.{affixed_regexp, bare_regexp, captured, escaped_regexp, fixed_regexp, grouped, matched_by, part_regexp, regexp_text, repeated_regexp};
+ghost use Rattle.urlpattern_syntax.specs.Parts.{part_view, parts_view};
+ghost use Rattle.urlpattern_syntax.specs.RegexpText.{captured, grouped, part_regexp, regexp_text, repeated_regexp};
 ghost use Rattle.urlpattern_syntax.specs.Text.{text_of};
 ghost use Rattle.urlpattern_syntax.specs.Writing.{escaped_text};
 
+use super::is_bare;
 use crate::error::Error;
 use crate::parser::{FULL_WILDCARD_REGEXP_VALUE, Options, Part, PartModifier, PartType};
 use std::alloc::Global;
@@ -24,7 +26,7 @@ pub(super) fn generate_regular_expression(
     part_list: &[Part],
     options: &Options,
 ) -> Result<String, Error>
-    ensures text { IfOk result (λ text. text_of text ≡ regexp_text (options_view options.now) (map part_view part_list.now)) }
+    ensures text { IfOk result (λ text. text_of text ≡ regexp_text (options_view options.now) (parts_view part_list.now)) }
     ensures memory { IfErr result (λ error. error ≡ errors.OutOfMemory) }
 {
     written(alloc, &RegexpText { part_list, options })
@@ -66,7 +68,7 @@ struct RegexpText<'a> {
 }
 
 impl Writable for RegexpText<'_> {
-    ghost text = { λ list. regexp_text (options_view list.options.now) (map part_view list.part_list.now) };
+    ghost text = { λ list. regexp_text (options_view list.options.now) (parts_view list.part_list.now) };
 
     fn write_to<W: Writer>(&self, writer: &mut W) {
         writer.write_char('^');
@@ -91,9 +93,7 @@ impl Writable for PartRegexp<'_> {
     fn write_to<W: Writer>(&self, writer: &mut W) {
         match self.part.kind {
             PartType::FixedText => self.write_fixed(writer),
-            _ if self.part.prefix.is_empty() && self.part.suffix.is_empty() => {
-                self.write_bare(writer);
-            }
+            _ if is_bare(self.part) => self.write_bare(writer),
             _ => self.write_affixed(writer),
         }
     }
@@ -102,29 +102,29 @@ impl Writable for PartRegexp<'_> {
 impl<'a> PartRegexp<'a> {
     /// The value of a fixed text.
     fn value(&self) -> Escaped<'a>
-        ensures { escaped_text result ≡ escaped_regexp (options_view self.now.options.now) (text_of self.now.part.now.value) }
+        ensures { escaped_text result ≡ escaped_value self.now }
     {
         Escaped::regexp(&self.part.value, self.options)
     }
 
     /// The prefix of a group.
     fn prefix(&self) -> Escaped<'a>
-        ensures { escaped_text result ≡ escaped_regexp (options_view self.now.options.now) (text_of self.now.part.now.prefix) }
+        ensures { escaped_text result ≡ escaped_prefix self.now }
     {
         Escaped::regexp(&self.part.prefix, self.options)
     }
 
     /// The suffix of a group.
     fn suffix(&self) -> Escaped<'a>
-        ensures { escaped_text result ≡ escaped_regexp (options_view self.now.options.now) (text_of self.now.part.now.suffix) }
+        ensures { escaped_text result ≡ escaped_suffix self.now }
     {
         Escaped::regexp(&self.part.suffix, self.options)
     }
 
     /// Writes a fixed text, in brackets if it has a modifier.
     fn write_fixed<W: Writer>(&self, writer: &mut W)
-        requires { W.Fits writer.old (fixed_regexp self.now.part.now.modifier (escaped_regexp (options_view self.now.options.now) (text_of self.now.part.now.value))) }
-        ensures { W.Writes writer.old (fixed_regexp self.now.part.now.modifier (escaped_regexp (options_view self.now.options.now) (text_of self.now.part.now.value))) writer.new }
+        requires { W.Fits writer.old (fixed_part self.now) }
+        ensures { W.Writes writer.old (fixed_part self.now) writer.new }
     {
         match self.part.modifier {
             PartModifier::None => self.value().write_to(writer),
@@ -134,8 +134,8 @@ impl<'a> PartRegexp<'a> {
 
     /// Writes a group that has neither prefix nor suffix.
     fn write_bare<W: Writer>(&self, writer: &mut W)
-        requires { W.Fits writer.old (bare_regexp self.now.part.now.modifier (matched_by (options_view self.now.options.now) self.now.part.now.kind (text_of self.now.part.now.value))) }
-        ensures { W.Writes writer.old (bare_regexp self.now.part.now.modifier (matched_by (options_view self.now.options.now) self.now.part.now.kind (text_of self.now.part.now.value))) writer.new }
+        requires { W.Fits writer.old (bare_part self.now) }
+        ensures { W.Writes writer.old (bare_part self.now) writer.new }
     {
         let modifier = self.part.modifier.as_str();
         match self.part.modifier {
@@ -150,8 +150,8 @@ impl<'a> PartRegexp<'a> {
 
     /// Writes a group that has a prefix or a suffix.
     fn write_affixed<W: Writer>(&self, writer: &mut W)
-        requires { W.Fits writer.old (affixed_regexp self.now.part.now.modifier (escaped_regexp (options_view self.now.options.now) (text_of self.now.part.now.prefix)) (matched_by (options_view self.now.options.now) self.now.part.now.kind (text_of self.now.part.now.value)) (escaped_regexp (options_view self.now.options.now) (text_of self.now.part.now.suffix))) }
-        ensures { W.Writes writer.old (affixed_regexp self.now.part.now.modifier (escaped_regexp (options_view self.now.options.now) (text_of self.now.part.now.prefix)) (matched_by (options_view self.now.options.now) self.now.part.now.kind (text_of self.now.part.now.value)) (escaped_regexp (options_view self.now.options.now) (text_of self.now.part.now.suffix))) writer.new }
+        requires { W.Fits writer.old (affixed_part self.now) }
+        ensures { W.Writes writer.old (affixed_part self.now) writer.new }
     {
         match self.part.modifier {
             PartModifier::None => Single(*self).write_to(writer),
@@ -167,7 +167,7 @@ impl<'a> PartRegexp<'a> {
 struct Matched<'a>(PartRegexp<'a>);
 
 impl Writable for Matched<'_> {
-    ghost text = { λ matched. matched_by (options_view matched.0.options.now) matched.0.part.now.kind (text_of matched.0.part.now.value) };
+    ghost text = { λ matched. matched_text matched.0 };
 
     fn write_to<W: Writer>(&self, writer: &mut W) {
         match self.0.part.kind {
@@ -184,7 +184,7 @@ impl Writable for Matched<'_> {
 struct Single<'a>(PartRegexp<'a>);
 
 impl Writable for Single<'_> {
-    ghost text = { λ single. grouped (escaped_regexp (options_view single.0.options.now) (text_of single.0.part.now.prefix) ++ captured (matched_by (options_view single.0.options.now) single.0.part.now.kind (text_of single.0.part.now.value)) ++ escaped_regexp (options_view single.0.options.now) (text_of single.0.part.now.suffix)) };
+    ghost text = { λ single. grouped (escaped_prefix single.0 ++ captured (matched_text single.0) ++ escaped_suffix single.0) };
 
     fn write_to<W: Writer>(&self, writer: &mut W) {
         let matched = Captured(Matched(self.0));
@@ -197,7 +197,7 @@ impl Writable for Single<'_> {
 struct Repeated<'a>(PartRegexp<'a>);
 
 impl Writable for Repeated<'_> {
-    ghost text = { λ repeated. repeated_regexp (escaped_regexp (options_view repeated.0.options.now) (text_of repeated.0.part.now.prefix)) (matched_by (options_view repeated.0.options.now) repeated.0.part.now.kind (text_of repeated.0.part.now.value)) (escaped_regexp (options_view repeated.0.options.now) (text_of repeated.0.part.now.suffix)) };
+    ghost text = { λ repeated. repeated_regexp (escaped_prefix repeated.0) (matched_text repeated.0) (escaped_suffix repeated.0) };
 
     fn write_to<W: Writer>(&self, writer: &mut W) {
         let (prefix, suffix) = (self.0.prefix(), self.0.suffix());

@@ -1,9 +1,9 @@
 //! What the groups of a match by the crate `regex` capture.
 
-ghost use Rattle.std.specs.Prelude.{◌≡◌, ◌-◌, map, length, option_map, IfOk};
-ghost use Rattle.regex.specs.Strings.{captures_haystack, captures_names, captures_span};
+ghost use Rattle.std.specs.Prelude.{◌≡◌, map, option_map, IfOk};
+ghost use Rattle.regex.specs.Strings.{captures_haystack, captures_span};
 ghost use Rattle.urlpattern_core.specs.Captured.{capture_view};
-ghost use Rattle.urlpattern_core.specs.Engines.{group_texts, text_between};
+ghost use Rattle.urlpattern_core.specs.Engines.{found_texts, text_between};
 
 use crate::error::OutOfMemory;
 use regex::Captures;
@@ -16,7 +16,7 @@ pub(super) fn groups<'h>(
     alloc: Global,
     captures: &Captures<'_, 'h>,
 ) -> Result<Vec<Option<&'h str>>, OutOfMemory>
-    ensures { IfOk result (λ groups. map capture_view groups.items ≡ group_texts (captures_haystack captures.now) (length (captures_names captures.now) - 1) (captures_span captures.now)) }
+    ensures { IfOk result (λ groups. map capture_view groups.items ≡ found_texts captures.now) }
 {
     let count = captures.len();
     let mut groups = Vec::with_capacity(alloc, count.saturating_sub(1))?;

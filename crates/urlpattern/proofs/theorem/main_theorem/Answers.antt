@@ -2,8 +2,8 @@ use Rattle.std.proofs.Common.{refl}
 use Rattle.urlpattern_core.specs.Compiling.{MayRefuseAtFirst}
 use Rattle.urlpattern_laws.proofs.CallbackLaws.{outcome_one}
 use Rattle.urlpattern_laws.proofs.CaptureCount.{captures_counted}
-use Rattle.urlpattern_core.proofs.RegexMatchers.{taken_means}
-use Rattle.urlpattern_engine.proofs.EngineLaws.{taken_means as taken_by_pattern_regexp_means}
+use Rattle.urlpattern_core.proofs.RegexMatchers.{taken_first}
+use Rattle.urlpattern_engine.proofs.EngineLaws.{taken_first as taken_by_pattern_regexp_first}
 use Rattle.urlpattern_laws.proofs.FirstAnswers.{first_one, matcher_first}
 use Rattle.urlpattern_laws.proofs.MatcherMeaning.{matcher_means}
 use Rattle.urlpattern_laws.proofs.OutcomesExist.{outcome_listed}
@@ -38,10 +38,10 @@ pub returns-clause-one_answer : goal.returns-clause-one_answer
 returns-clause-one_answer g c = first_one
 
 pub returns-clause-default_engine : goal.returns-clause-default_engine
-returns-clause-default_engine g c = taken_means
+returns-clause-default_engine g c = λ options flags parts matcher text result taken. taken_first options flags parts matcher taken text result
 
 pub returns-clause-pattern_engine : goal.returns-clause-pattern_engine
-returns-clause-pattern_engine g c = taken_by_pattern_regexp_means
+returns-clause-pattern_engine g c = λ options flags parts matcher text result taken. taken_by_pattern_regexp_first options flags parts matcher taken text result
 
 pub returns-clause-reads_back : goal.returns-clause-reads_back
 returns-clause-reads_back g c = λ text options first answers parts read keeps.

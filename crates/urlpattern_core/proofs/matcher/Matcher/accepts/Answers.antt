@@ -6,7 +6,7 @@ use Rattle.urlpattern_laws.specs.Matching.{RegExp}
 use Rattle.urlpattern_syntax.specs.Text.{text_of}
 use Rattle.urlpattern_core.specs.Captured.{captures_view}
 use Rattle.urlpattern_core.specs.Matchers.{engine_view, inner_view, matcher_view}
-use Rattle.urlpattern_core.proofs.MatcherAnswers.{accepts-engine, accepts-literal, accepts-single, is_some-map, matched-by, not_matched-without}
+use Rattle.urlpattern_core.proofs.MatcherAnswers.{accepts-engine, is_some-map, matched-by, matched-literal, matched-single, not_matched-without}
 use Rattle.urlpattern_core.proofs.matcher.Matcher.accepts.Goals as goal
 
 pub returns-in_default-clause-answer : goal.returns-in_default-clause-answer
@@ -17,17 +17,13 @@ returns-in_default-clause-answer g c = (
 
 pub returns-in-Literal-clause-answer : goal.returns-in-Literal-clause-answer
 returns-in-Literal-clause-answer g c =
-    let matcher = matcher_view c.args.self.now in
-    let middle = chars c.in-Some.middle.now in
-    matched-by g.R.RegExp.answer matcher (chars c.args.input.now) middle _ c.is_same.result c.in-Some.ensures.some (ap inner_view c.in-Literal.is)
-    (accepts-literal g.R.RegExp.answer matcher.ignore_case (text_of c.in-Literal.literal) middle c.is_same.result (rw c.deref.ensures at c.is_same.ensures))
+    matched-literal g.R.RegExp.answer (matcher_view c.args.self.now) (chars c.args.input.now) (chars c.in-Some.middle.now) (text_of c.in-Literal.literal) c.is_same.result
+    c.in-Some.ensures.some (ap inner_view c.in-Literal.is) (rw c.deref.ensures at c.is_same.ensures)
 
 pub returns-in-SingleCapture-clause-answer : goal.returns-in-SingleCapture-clause-answer
 returns-in-SingleCapture-clause-answer g c =
-    let matcher = matcher_view c.args.self.now in
-    let middle = chars c.in-Some.middle.now in
-    matched-by g.R.RegExp.answer matcher (chars c.args.input.now) middle _ c.is_captured.result c.in-Some.ensures.some (ap inner_view c.in-SingleCapture.is)
-    (accepts-single g.R.RegExp.answer matcher.ignore_case c.in-SingleCapture.filter c.in-SingleCapture.allow_empty middle c.is_captured.result c.is_captured.ensures)
+    matched-single g.R.RegExp.answer (matcher_view c.args.self.now) (chars c.args.input.now) (chars c.in-Some.middle.now) c.in-SingleCapture.filter c.in-SingleCapture.allow_empty c.is_captured.result
+    c.in-Some.ensures.some (ap inner_view c.in-SingleCapture.is) c.is_captured.ensures
 
 pub returns-in_ok-matches-in-Ok-clause-answer :
     goal.returns-in_ok-matches-in-Ok-clause-answer

@@ -4,7 +4,7 @@ use Rattle.std.specs.Str.{chars}
 use Rattle.urlpattern_laws.specs.Matching.{RegExp}
 use Rattle.urlpattern_syntax.specs.Text.{text_of}
 use Rattle.urlpattern_core.specs.Matchers.{engine_view, inner_view, matcher_view}
-use Rattle.urlpattern_core.proofs.MatcherAnswers.{accepts-literal, accepts-single, answers-engine, not_matched-by, not_matched-without}
+use Rattle.urlpattern_core.proofs.MatcherAnswers.{answers-engine, matched-literal, matched-single, not_matched-by, not_matched-without}
 use Rattle.urlpattern_core.proofs.matcher.Matcher.look.Goals as goal
 
 pub returns-in_err-middle-clause-answer : goal.returns-in_err-middle-clause-answer
@@ -13,17 +13,15 @@ returns-in_err-middle-clause-answer g c =
 
 pub returns-else-is_same-clause-answer : goal.returns-else-is_same-clause-answer
 returns-else-is_same-clause-answer g c =
-    let matcher = matcher_view c.args.self.now in
-    let middle = chars c.in_ok-middle.middle.now in
-    not_matched-by g.R.RegExp.answer matcher (chars c.args.input.now) middle _ c.is_same.result c.in_ok-middle.ensures.some (ap inner_view c.in-Literal.is) c.if-is_same.false
-    (accepts-literal g.R.RegExp.answer matcher.ignore_case (text_of c.in-Literal.literal) middle c.is_same.result (rw c.deref.ensures at c.is_same.ensures))
+    not_matched-by g.R.RegExp.answer (matcher_view c.args.self.now) (chars c.args.input.now) c.is_same.result
+    (matched-literal g.R.RegExp.answer (matcher_view c.args.self.now) (chars c.args.input.now) (chars c.in_ok-middle.middle.now) (text_of c.in-Literal.literal) c.is_same.result
+    c.in_ok-middle.ensures.some (ap inner_view c.in-Literal.is) (rw c.deref.ensures at c.is_same.ensures)) c.if-is_same.false
 
 pub returns-else-is_captured-clause-answer : goal.returns-else-is_captured-clause-answer
 returns-else-is_captured-clause-answer g c =
-    let matcher = matcher_view c.args.self.now in
-    let middle = chars c.in_ok-middle.middle.now in
-    not_matched-by g.R.RegExp.answer matcher (chars c.args.input.now) middle _ c.is_captured.result c.in_ok-middle.ensures.some (ap inner_view c.in-SingleCapture.is) c.if-is_captured.false
-    (accepts-single g.R.RegExp.answer matcher.ignore_case c.in-SingleCapture.filter c.in-SingleCapture.allow_empty middle c.is_captured.result c.is_captured.ensures)
+    not_matched-by g.R.RegExp.answer (matcher_view c.args.self.now) (chars c.args.input.now) c.is_captured.result
+    (matched-single g.R.RegExp.answer (matcher_view c.args.self.now) (chars c.args.input.now) (chars c.in_ok-middle.middle.now) c.in-SingleCapture.filter c.in-SingleCapture.allow_empty c.is_captured.result
+    c.in_ok-middle.ensures.some (ap inner_view c.in-SingleCapture.is) c.is_captured.ensures) c.if-is_captured.false
 
 pub returns-in-Ok-clause-answer : goal.returns-in-Ok-clause-answer
 returns-in-Ok-clause-answer g c =

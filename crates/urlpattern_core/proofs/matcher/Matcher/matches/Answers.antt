@@ -4,7 +4,7 @@ use Rattle.urlpattern_laws.specs.Matching.{CapturesOne, MayWantMemory, RegExp, S
 use Rattle.urlpattern_syntax.specs.Text.{text_of}
 use Rattle.urlpattern_core.specs.Captured.{captures_view}
 use Rattle.urlpattern_core.specs.Matchers.{engine_view, inner_view, matcher_view}
-use Rattle.urlpattern_core.proofs.MatcherAnswers.{accepts-literal, accepts-single, answers-engine, if_err, matched-by, not_matched-by, not_matched-without}
+use Rattle.urlpattern_core.proofs.MatcherAnswers.{answers-engine, if_err, matched-literal, matched-single, not_matched-by, not_matched-without}
 use Rattle.urlpattern_core.proofs.matcher.Matcher.matches.Goals as goal
 
 pub returns-in_default-clause-answer : goal.returns-in_default-clause-answer
@@ -17,24 +17,22 @@ returns-in_err-captures-in-SingleCapture-clause-asked g c =
     let matcher = matcher_view c.args.self.now in
     let middle = chars c.in-Some.middle.now in
     let is_inner : matcher.inner ≡ SingleCapture c.in-SingleCapture.filter c.in-SingleCapture.allow_empty = ap inner_view c.in-SingleCapture.is in
-    let matched = matched-by g.R.RegExp.answer matcher (chars c.args.input.now) middle _ c.is_captured.result c.in-Some.ensures.some is_inner
-    (accepts-single g.R.RegExp.answer matcher.ignore_case c.in-SingleCapture.filter c.in-SingleCapture.allow_empty middle c.is_captured.result c.is_captured.ensures) in
+    let matched = matched-single g.R.RegExp.answer matcher (chars c.args.input.now) middle c.in-SingleCapture.filter c.in-SingleCapture.allow_empty c.is_captured.result
+    c.in-Some.ensures.some is_inner c.is_captured.ensures in
     if_err (MayWantMemory g.R.RegExp.answer matcher (chars c.args.input.now)) c.from_residual.result
     (inr (subst CapturesOne (sym is_inner) tt, matched.0 c.if-is_captured.true))
 
 pub returns-else-is_same-clause-answer : goal.returns-else-is_same-clause-answer
 returns-else-is_same-clause-answer g c =
-    let matcher = matcher_view c.args.self.now in
-    let middle = chars c.in-Some.middle.now in
-    not_matched-by g.R.RegExp.answer matcher (chars c.args.input.now) middle _ c.is_same.result c.in-Some.ensures.some (ap inner_view c.in-Literal.is) c.if-is_same.false
-    (accepts-literal g.R.RegExp.answer matcher.ignore_case (text_of c.in-Literal.literal) middle c.is_same.result (rw c.deref.ensures at c.is_same.ensures))
+    not_matched-by g.R.RegExp.answer (matcher_view c.args.self.now) (chars c.args.input.now) c.is_same.result
+    (matched-literal g.R.RegExp.answer (matcher_view c.args.self.now) (chars c.args.input.now) (chars c.in-Some.middle.now) (text_of c.in-Literal.literal) c.is_same.result
+    c.in-Some.ensures.some (ap inner_view c.in-Literal.is) (rw c.deref.ensures at c.is_same.ensures)) c.if-is_same.false
 
 pub returns-else-is_captured-clause-answer : goal.returns-else-is_captured-clause-answer
 returns-else-is_captured-clause-answer g c =
-    let matcher = matcher_view c.args.self.now in
-    let middle = chars c.in-Some.middle.now in
-    not_matched-by g.R.RegExp.answer matcher (chars c.args.input.now) middle _ c.is_captured.result c.in-Some.ensures.some (ap inner_view c.in-SingleCapture.is) c.if-is_captured.false
-    (accepts-single g.R.RegExp.answer matcher.ignore_case c.in-SingleCapture.filter c.in-SingleCapture.allow_empty middle c.is_captured.result c.is_captured.ensures)
+    not_matched-by g.R.RegExp.answer (matcher_view c.args.self.now) (chars c.args.input.now) c.is_captured.result
+    (matched-single g.R.RegExp.answer (matcher_view c.args.self.now) (chars c.args.input.now) (chars c.in-Some.middle.now) c.in-SingleCapture.filter c.in-SingleCapture.allow_empty c.is_captured.result
+    c.in-Some.ensures.some (ap inner_view c.in-SingleCapture.is) c.is_captured.ensures) c.if-is_captured.false
 
 pub returns-in_ok-matches-in-Ok-clause-answer :
     goal.returns-in_ok-matches-in-Ok-clause-answer

@@ -1,7 +1,5 @@
 use Rattle.urlpattern_core.proofs.RegexpTexts.{fixed-modified}
-use Rattle.urlpattern_syntax.specs.Options.{options_view}
-use Rattle.urlpattern_syntax.specs.RegexpText.{escaped_regexp}
-use Rattle.urlpattern_syntax.specs.Text.{text_of}
+use Rattle.urlpattern_core.specs.PartTexts.{escaped_value}
 use Rattle.urlpattern_core.proofs.component.regexp_text.PartRegexp.write_fixed.Goals as goal
 
 pub write_to-requires : goal.write_to-requires
@@ -12,13 +10,9 @@ returns-in-None g c = rw (c.in-None.is, ← c.value.ensures) c.write_to.ensures
 
 pub write_to-requires-in_default : goal.write_to-requires-in_default
 write_to-requires-in_default g c =
-    let part = c.args.self.now.part.now in
-    let text = escaped_regexp (options_view c.args.self.now.options.now) (text_of part.value) in
-    let fits = rw (fixed-modified part.modifier text c.in_default.not-None) at c.requires in
+    let fits = rw (fixed-modified c.args.self.now.part.now.modifier (escaped_value c.args.self.now) c.in_default.not-None) at c.requires in
     rw (← c.value-in_default.ensures, ← c.as_str.ensures.text) at fits
 
 pub returns-in_default : goal.returns-in_default
 returns-in_default g c =
-    let part = c.args.self.now.part.now in
-    let text = escaped_regexp (options_view c.args.self.now.options.now) (text_of part.value) in
-    rw (fixed-modified part.modifier text c.in_default.not-None) (rw (c.value-in_default.ensures, c.as_str.ensures.text) at c.write_to-in_default.ensures)
+    rw (fixed-modified c.args.self.now.part.now.modifier (escaped_value c.args.self.now) c.in_default.not-None) (rw (c.value-in_default.ensures, c.as_str.ensures.text) at c.write_to-in_default.ensures)

@@ -1,6 +1,6 @@
 use Rattle.std.proofs.Common.{◌∙◌, sym}
 use Rattle.urlpattern_syntax.proofs.StringTexts.{is_empty-text}
-use Rattle.urlpattern_core.proofs.component.printed.is_bare.Goals as goal
+use Rattle.urlpattern_core.proofs.component.is_bare.Goals as goal
 
 pub returns-then-is_empty : goal.returns-then-is_empty
 returns-then-is_empty c =
