@@ -2,16 +2,14 @@
 //!
 //! <https://urlpattern.spec.whatwg.org/#constructor-string-parsing>
 
-ghost use Rattle.std.specs.Prelude.{◌≡◌, ◌↔◌, Any, IfErr, IfOk, MatchBool, Some, false, option_map, ℕ, ◌+◌, ◌-◌, ◌*◌, ◌^◌, ◌<◌, ◌≤◌, ◌∷◌, ◌&&◌, ◌||◌, ◌==◌, not, if◌then◌else◌, [], length, IsTrue, None};
+ghost use Rattle.std.specs.Prelude.{◌≡◌, ◌↔◌, IfErr, IfOk, MatchBool, Some, false, option_map, ℕ, ◌+◌, ◌-◌, ◌*◌, ◌^◌, ◌<◌, ◌≤◌, ◌∷◌, ◌&&◌, ◌||◌, ◌==◌, not, if◌then◌else◌, [], length, IsTrue, None};
 ghost use Rattle.std.specs.Str.{bytes_eq, chars};
-ghost use Rattle.urlpattern_core.specs.Compiling.{MayRefuseAtFirst};
 ghost use Rattle.urlpattern_init.specs.ConstructorString.{AreFewTurns, HasProtocolOrBase, RefusesString, SplitsInto};
 ghost use Rattle.urlpattern_init.specs.Inheritance.{values_view};
-ghost use Rattle.urlpattern_init.specs.SpecialProtocol.{AcceptsSpecialScheme, CanonicalizesProtocol, IsSpecialBy, RefusesProtocol};
+ghost use Rattle.urlpattern_init.specs.SpecialProtocol.{AcceptsAny, AcceptsSpecialScheme, CanonicalizesProtocol, IsSpecialTo, RefusesProtocol};
 ghost use Rattle.urlpattern_init.specs.Split.{AuthorityFrom, EndsAt, HashAt, HashFrom, HasProtocol, HostnameFrom, IsAbsoluteSplit, IsRelativeSplit, IsSplit, IsTextBetween, PathnameAt, PathnameFrom, PortAt, SearchAt, SearchFrom, UserinfoFrom, at, depth_before, depth_behind, ends_at, follows_modified, has_slashes, implied_pathname, is_at_sign, is_character, is_colon_sign, is_end, is_ending, is_open, is_hash_sign, is_search_sign, is_sign, is_slash_sign, takes_modifier};
-ghost use Rattle.urlpattern_init.specs.Splitting.{CanRead, HasRead, HasTurnForSlash, IsSource, NoAuthority, NoPathname, NoSearch, components_of, is_hostname, text_of_source, tokens_of};
+ghost use Rattle.urlpattern_init.specs.Splitting.{CanRead, HasRead, HasTurnForSlash, HasTurns, IsSource, NoAuthority, NoPathname, NoSearch, components_of, is_hostname, may_follow_hostname, may_follow_pathname, may_follow_port, may_follow_search, text_of_source, tokens_of};
 ghost use Rattle.urlpattern_core.specs.Matchers.{matcher_view};
-ghost use Rattle.urlpattern_laws.specs.Matching.{IsMatched};
 ghost use Rattle.urlpattern_syntax.specs.Parsing.{name_view};
 ghost use Rattle.urlpattern_syntax.specs.Errors.{MemoryOr};
 ghost use Rattle.urlpattern_syntax.specs.Text.{text_of};
@@ -360,7 +358,7 @@ impl<'t, 'a> Source<'t, 'a> {
     fn hash_at(&self, end: Place) -> Split<'a>
         requires source { IsSource self.now }
         requires reads { HasRead self.now end }
-        requires sign { IsTrue (is_hash_sign (tokens_of self.now) end.index || ends_at (tokens_of self.now) end.index) }
+        requires sign { IsTrue (may_follow_search (tokens_of self.now) end.index) }
         ensures split { HashAt (text_of_source self.now) (tokens_of self.now) end.index (components_of result) }
         ensures nothing { NoSearch (components_of result) }
         ensures turns { result.turns ≤ 2 * length self.now.tokens.now }
@@ -390,7 +388,7 @@ impl<'t, 'a> Source<'t, 'a> {
     fn search_at(&self, end: Place) -> Split<'a>
         requires source { IsSource self.now }
         requires reads { HasRead self.now end }
-        requires sign { IsTrue (is_search_sign (tokens_of self.now) end.index || is_hash_sign (tokens_of self.now) end.index || ends_at (tokens_of self.now) end.index) }
+        requires sign { IsTrue (may_follow_pathname (tokens_of self.now) end.index) }
         ensures split { SearchAt (text_of_source self.now) (tokens_of self.now) end.index (components_of result) }
         ensures nothing { NoPathname (components_of result) }
         ensures turns { result.turns ≤ 2 * length self.now.tokens.now }
@@ -426,8 +424,8 @@ impl<'t, 'a> Source<'t, 'a> {
     fn pathname_at(&self, end: Place, special: bool) -> Split<'a>
         requires source { IsSource self.now }
         requires reads { HasRead self.now end }
-        requires sign { IsTrue (is_slash_sign (tokens_of self.now) end.index || is_search_sign (tokens_of self.now) end.index || is_hash_sign (tokens_of self.now) end.index || ends_at (tokens_of self.now) end.index) }
-        requires slash { IsTrue (is_slash_sign (tokens_of self.now) end.index) → end.turns + (length self.now.tokens.now - end.index) ≤ 2 * length self.now.tokens.now }
+        requires sign { IsTrue (may_follow_port (tokens_of self.now) end.index) }
+        requires slash { IsTrue (is_slash_sign (tokens_of self.now) end.index) → HasTurns self.now end.index end.turns }
         ensures split { PathnameAt (text_of_source self.now) (tokens_of self.now) special end.index (components_of result) }
         ensures nothing { NoAuthority (components_of result) }
         ensures turns { result.turns ≤ 2 * length self.now.tokens.now }
@@ -448,7 +446,7 @@ impl<'t, 'a> Source<'t, 'a> {
     fn port_at(&self, end: Place, special: bool) -> Split<'a>
         requires source { IsSource self.now }
         requires reads { HasRead self.now end }
-        requires sign { IsTrue (is_colon_sign (tokens_of self.now) end.index || is_slash_sign (tokens_of self.now) end.index || is_search_sign (tokens_of self.now) end.index || is_hash_sign (tokens_of self.now) end.index || ends_at (tokens_of self.now) end.index) }
+        requires sign { IsTrue (may_follow_hostname (tokens_of self.now) end.index) }
         requires slash { HasTurnForSlash self.now end.index 0 end.turns }
         ensures split { PortAt (text_of_source self.now) (tokens_of self.now) special end.index (components_of result) }
         ensures turns { result.turns ≤ 2 * length self.now.tokens.now }
@@ -604,8 +602,7 @@ impl UrlPatternInit {
         pattern: &str,
         base_url: Option<Url>,
     ) -> Result<UrlPatternInit, Error>
-        ensures split { IfOk result (λ init. SplitsInto (IsSpecialBy R.IsMade (MayRefuseAtFirst R.MayRefuse) R.answer)
-            (chars pattern.now) (values_view init)) }
+        ensures split { IfOk result (λ init. SplitsInto (IsSpecialTo R.RegExp) (chars pattern.now) (values_view init)) }
         ensures base { IfOk result (λ init. init.base_url ≡ base_url) }
         ensures complete { IfOk result HasProtocolOrBase }
         ensures refused { IfErr result (MemoryOr (RefusesString (chars pattern.now) base_url)) }
@@ -620,8 +617,7 @@ impl UrlPatternInit {
         pattern: &str,
         base_url: Option<Url>,
     ) -> Result<(UrlPatternInit, usize), Error>
-        ensures split { IfOk result (λ found. SplitsInto (IsSpecialBy R.IsMade (MayRefuseAtFirst R.MayRefuse) R.answer)
-            (chars pattern.now) (values_view found.0)) }
+        ensures split { IfOk result (λ found. SplitsInto (IsSpecialTo R.RegExp) (chars pattern.now) (values_view found.0)) }
         ensures turns { IfOk result (λ found. AreFewTurns (chars pattern.now) found.1) }
         ensures base { IfOk result (λ found. found.0.base_url ≡ base_url) }
         ensures complete { IfOk result (λ found. HasProtocolOrBase found.0) }
@@ -647,8 +643,7 @@ impl<'t, 'a> Source<'t, 'a> {
     /// The error is that of the protocol's pattern, or that memory ran out.
     fn split<R: RegExp>(&self, alloc: Global) -> Result<Split<'a>, Error>
         requires { IsSource self.now }
-        ensures split { IfOk result (λ split. IsSplit (IsSpecialBy R.IsMade (MayRefuseAtFirst R.MayRefuse) R.answer)
-            (text_of_source self.now) (tokens_of self.now) (components_of split)) }
+        ensures split { IfOk result (λ split. IsSplit (IsSpecialTo R.RegExp) (text_of_source self.now) (tokens_of self.now) (components_of split)) }
         ensures turns { IfOk result (λ split. split.turns ≤ 2 * length self.now.tokens.now) }
         ensures refused { IfErr result (MemoryOr (λ error. HasProtocol (text_of_source self.now) (λ protocol. RefusesProtocol protocol error))) }
     {
@@ -686,7 +681,7 @@ fn owned(alloc: Global, text: Option<&str>) -> Result<Option<String>, Error>
 ///
 /// <https://urlpattern.spec.whatwg.org/#compute-protocol-matches-a-special-scheme-flag>
 fn is_special_protocol<R: RegExp>(alloc: Global, protocol: &str) -> Result<bool, Error>
-    ensures special { IfOk result (IsSpecialBy R.IsMade (MayRefuseAtFirst R.MayRefuse) R.answer (chars protocol.now)) }
+    ensures special { IfOk result (IsSpecialTo R.RegExp (chars protocol.now)) }
     ensures refused { IfErr result (MemoryOr (RefusesProtocol (chars protocol.now))) }
 {
     let options = Options::default(alloc);
@@ -718,9 +713,8 @@ fn accepts_any<R: RegExp>(
     matcher: &Matcher<R>,
     texts: &[&str],
 ) -> Result<bool, Error>
-    ensures answer { IfOk result (λ accepted. MatchBool accepted
-        (Any (λ text. IsMatched R.answer (matcher_view matcher.now) (chars text.now)) texts.now)
-        (¬ Any (λ text. IsMatched R.answer (matcher_view matcher.now) (chars text.now)) texts.now)) }
+    ensures answer { let Accepts = AcceptsAny R.answer matcher.now texts.now in
+        IfOk result (λ found. MatchBool found Accepts (¬ Accepts)) }
     ensures memory { IfErr result (λ error. error ≡ errors.OutOfMemory) }
 {
     for text in texts {
