@@ -9,8 +9,8 @@ use Rattle.std.specs.Prelude.{codes, IsSomeAnd, IsTrue, is_some, option_map, sli
 use Rattle.std.specs.Str.{bytes_eq}
 use Rattle.urlpattern_init.specs.Split.{EndsAt, IsSplit, LacksProtocol, at, depth_before, depth_behind, ends_at, is_at_sign, is_balanced, is_character, is_colon_sign, is_end, is_ending, is_hash_sign, is_open, is_search_sign, is_seen, is_sign, is_slash_sign, may_end}
 use Rattle.urlpattern_init.specs.Splitting.{IsClosed, may_follow_port}
-use Rattle.urlpattern_init.specs.declared.constructor_parser.Section.{Section}
-use Rattle.urlpattern_init.specs.declared.constructor_parser.Section.TheVariants.{Authority, Password, Port, Protocol, Username}
+use Rattle.urlpattern_init.specs.declared.constructor_parser.sections.Section.{Section}
+use Rattle.urlpattern_init.specs.declared.constructor_parser.sections.Section.TheVariants.{Authority, Password, Port, Protocol, Username}
 use Rattle.urlpattern_init.proofs.TokenPlaces.{at_view}
 use Rattle.urlpattern_init.proofs.SeenLemmas.{depth_here, depth_more}
 use Rattle.urlpattern_syntax.specs.Tokens.{AreLenientTokens, TokenView}

@@ -2,11 +2,11 @@
 use Rattle.std.specs.Prelude.{◌≡◌, ℕ, ◌+◌, ◌-◌, ◌*◌, ◌<◌, ◌≤◌, ◌||◌, Bool, true, false, List, length, None, IsTrue}
 use Rattle.std.specs.Str.{chars}
 use Rattle.urlpattern_init.specs.Split.{ends_at, is_colon_sign, is_hash_sign, is_search_sign, is_seen, is_slash_sign}
-use Rattle.urlpattern_init.specs.declared.constructor_parser.Place.{Place}
-use Rattle.urlpattern_init.specs.declared.constructor_parser.Section.{Section}
-use Rattle.urlpattern_init.specs.declared.constructor_parser.Section.TheVariants.{Hostname}
-use Rattle.urlpattern_init.specs.declared.constructor_parser.Source.{Source}
-use Rattle.urlpattern_init.specs.declared.constructor_parser.Split.{Split}
+use Rattle.urlpattern_init.specs.declared.constructor_parser.sections.Place.{Place}
+use Rattle.urlpattern_init.specs.declared.constructor_parser.sections.Section.{Section}
+use Rattle.urlpattern_init.specs.declared.constructor_parser.sections.Section.TheVariants.{Hostname}
+use Rattle.urlpattern_init.specs.declared.constructor_parser.tokens.Source.{Source}
+use Rattle.urlpattern_init.specs.declared.constructor_parser.components.Split.{Split}
 use Rattle.urlpattern_syntax.specs.Parsing.{name_view, views}
 use Rattle.urlpattern_syntax.specs.Tokens.{AreLenientTokens, TokenView}
 use Rattle.urlpattern_syntax.specs.Eight.{Values}
