@@ -188,35 +188,41 @@ pub answers-asked : (mode : ProcessType) (asked : Parsed (List ℕ)) (few many :
 answers-asked mode asked few many result more answer =
     answers-more asked (bytes_asked mode few) (bytes_asked mode many) result (asked-mono mode few many more) answer
 
+-- so is an answer about so many bytes one about a text and what it is under, which have no fewer
+pub answers-under : (mode : ProcessType) (asked : Parsed (List ℕ)) (text under : List ℕ) (few : ℕ) (result : Result (String Global) Error)
+    → IsUtf8 text → few ≤ max (length under) (length text) → IsAnswer asked (bytes_asked mode few) result
+    → IsAnswer asked (bytes_asked mode (max (length under) (byte_len (chars text)))) result
+answers-under mode asked text under few result utf8 more =
+    let size = byte_len-chars text utf8 in
+    answers-asked mode asked few (max (length under) (byte_len (chars text))) result (omega arith)
+
 -- the bytes of the longest text
 all_bytes : ProcessType → Values → Option Parts → ℕ
 all_bytes mode values base =
     fold max (protocol_bytes (processed_value mode values base None Protocol)) (map (given_bytes mode values base) components)
 
+longest : (first : ℕ) (bytes : ComponentName → ℕ) (component : ComponentName) → max first (bytes component) ≤ fold max first (map bytes components)
+longest first bytes Protocol = omega arith
+longest first bytes Username = omega arith
+longest first bytes Password = omega arith
+longest first bytes Hostname = omega arith
+longest first bytes Port = omega arith
+longest first bytes Pathname = omega arith
+longest first bytes Search = omega arith
+longest first bytes Hash = omega arith
+
 given-all : (mode : ProcessType) (values : Values) (base : Option Parts) (component : ComponentName)
     → max 0 (given_bytes mode values base component) ≤ all_bytes mode values base
 unfolding all_bytes
-given-all mode values base Protocol = omega arith
-given-all mode values base Username = omega arith
-given-all mode values base Password = omega arith
-given-all mode values base Hostname = omega arith
-given-all mode values base Port = omega arith
-given-all mode values base Pathname = omega arith
-given-all mode values base Search = omega arith
-given-all mode values base Hash = omega arith
+given-all mode values base component =
+    let most = longest (protocol_bytes (processed_value mode values base None Protocol)) (given_bytes mode values base) component in
+    omega arith
 
 under-all : (mode : ProcessType) (values : Values) (base : Option Parts) (component : ComponentName) (protocol : Option (List ℕ))
     → processed_value mode values base None Protocol ≡ Ok protocol
     → max (bytes_of protocol) (given_bytes mode values base component) ≤ all_bytes mode values base
 unfolding all_bytes
-under-all mode values base Protocol protocol e = rw e (omega arith)
-under-all mode values base Username protocol e = rw e (omega arith)
-under-all mode values base Password protocol e = rw e (omega arith)
-under-all mode values base Hostname protocol e = rw e (omega arith)
-under-all mode values base Port protocol e = rw e (omega arith)
-under-all mode values base Pathname protocol e = rw e (omega arith)
-under-all mode values base Search protocol e = rw e (omega arith)
-under-all mode values base Hash protocol e = rw e (omega arith)
+under-all mode values base component protocol e = rw e (longest (bytes_of protocol) (given_bytes mode values base) component)
 
 pub given-le : (mode : ProcessType) (values : Values) (base : Option Parts) (component : ComponentName)
     → bytes_asked mode (max 0 (given_bytes mode values base component)) ≤ asked_bytes mode values base

@@ -281,7 +281,7 @@ no_slash_in_sight tokens from depth end other closed ends is_end behind seen sla
     or_second false false c d h = absurd (false≢true h)
 
 -- the first colon that is seen is found again
-pub colon_again : (tokens : List TokenView) (first second : ℕ) → IsClosed tokens → EndsAt Protocol tokens 0 0 first → IsTrue (is_colon_sign tokens first) → EndsAt Protocol tokens 0 0 second → second ≡ first
+colon_again : (tokens : List TokenView) (first second : ℕ) → IsClosed tokens → EndsAt Protocol tokens 0 0 first → IsTrue (is_colon_sign tokens first) → EndsAt Protocol tokens 0 0 second → second ≡ first
 colon_again tokens first second closed ends colon again =
     let seen = sign_is_seen (codes ":") Protocol tokens 0 0 first ends colon in
     let le = ends_by Protocol tokens 0 0 second first again (omega arith) (and_from (is_seen tokens 0 0 first) (is_colon_sign tokens first) seen colon) in
@@ -289,6 +289,14 @@ colon_again tokens first second closed ends colon again =
       | inl may ↦ let ge = ends_by Protocol tokens 0 0 first second ends (omega arith) may in omega arith
       | inr is_end ↦ let last = closed.last second again.within is_end in let within = ends.within in omega arith
     ]
+
+-- so is it from the depth that was reached there
+pub colon_found : (tokens : List TokenView) (first depth second : ℕ) → IsClosed tokens → EndsAt Protocol tokens 0 0 first → IsTrue (is_colon_sign tokens first)
+    → depth ≡ depth_before tokens 0 0 first → EndsAt Protocol tokens 0 depth second → (second ≡ first) × EndsAt Protocol tokens 0 0 second
+colon_found tokens first depth second closed ends colon reached again =
+    let level = depth_at_end Protocol tokens 0 0 first ends (sign_not_end (codes ":") tokens first colon) in
+    let from_start : EndsAt Protocol tokens 0 0 second = rw (reached, level) at again in
+    (colon_again tokens first second closed ends colon from_start, from_start)
 
 -- ---- the whole string
 

@@ -1,6 +1,7 @@
 -- Words of the private contracts of the splitting of a constructor string. No public contract cites them.
-use Rattle.std.specs.Prelude.{◌≡◌, ℕ, ◌+◌, ◌-◌, ◌*◌, ◌<◌, ◌≤◌, ◌||◌, Bool, true, false, List, length, None, IsTrue}
+use Rattle.std.specs.Prelude.{◌≡◌, ℕ, ◌+◌, ◌-◌, ◌*◌, ◌<◌, ◌≤◌, ◌||◌, Bool, true, false, List, length, None, Option, Result, String, option_map, IfErr, IfOk, IsTrue}
 use Rattle.std.specs.Str.{chars}
+use Rattle.std.specs.declared.alloc.Global.{Global}
 use Rattle.urlpattern_init.specs.Split.{ends_at, is_colon_sign, is_hash_sign, is_search_sign, is_seen, is_slash_sign}
 use Rattle.urlpattern_init.specs.declared.constructor_parser.sections.Place.{Place}
 use Rattle.urlpattern_init.specs.declared.constructor_parser.sections.Section.{Section}
@@ -9,7 +10,10 @@ use Rattle.urlpattern_init.specs.declared.constructor_parser.tokens.Source.{Sour
 use Rattle.urlpattern_init.specs.declared.constructor_parser.components.Split.{Split}
 use Rattle.urlpattern_syntax.specs.Parsing.{name_view, views}
 use Rattle.urlpattern_syntax.specs.Tokens.{AreLenientTokens, TokenView}
-use Rattle.urlpattern_syntax.specs.Eight.{Values}
+use Rattle.urlpattern_syntax.specs.declared.error.Error.{Error}
+use Rattle.urlpattern_syntax.specs.declared.error.Error.TheVariants as errors
+use Rattle.urlpattern_syntax.specs.Eight.{Values, at, each}
+use Rattle.urlpattern_syntax.specs.Text.{text_of}
 
 -- the text of a source, and its tokens
 abbrev pub text_of_source : Source → List ℕ
@@ -20,16 +24,12 @@ tokens_of source = views source.tokens.now
 
 -- the components that were found
 abbrev pub components_of : Split → Values
-components_of split = record {
-  protocol = name_view split.protocol;
-  username = name_view split.username;
-  password = name_view split.password;
-  hostname = name_view split.hostname;
-  port = name_view split.port;
-  pathname = name_view split.pathname;
-  search = name_view split.search;
-  hash = name_view split.hash;
-}
+components_of split = each (λ name. name_view (at split.values name))
+
+-- a text of one's own with this view, or that memory ran out
+pub record IsOwned (component : Option (List ℕ)) (result : Result (Option (String Global)) Error) : Type 0 where
+  pub ok : IfOk result (λ owned. option_map text_of owned ≡ component)
+  pub memory : IfErr result (λ error. error ≡ errors.OutOfMemory)
 
 -- The tokens are those of the text.
 abbrev pub IsSource : Source → Type 0

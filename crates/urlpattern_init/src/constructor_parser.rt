@@ -66,7 +66,7 @@ impl UrlPatternInit {
             tokens: &tokens,
         };
         let split = source.split::<R>(alloc)?;
-        if split.protocol.is_none() && base_url.is_none() {
+        if split.values.protocol.is_none() && base_url.is_none() {
             return Err(Error::BaseUrlRequired);
         }
         let init = split.to_init(alloc, base_url)?;

@@ -1,11 +1,11 @@
 //! The components that are found in a constructor string.
-ghost use Rattle.std.specs.Prelude.{◌≡◌, IfErr, IfOk, Some, option_map, ◌+◌, ◌*◌, ◌<◌, ◌≤◌, length, IsTrue, None};
+ghost use Rattle.std.specs.Prelude.{◌≡◌, IfErr, IfOk, Some, ◌+◌, ◌*◌, ◌<◌, ◌≤◌, length, IsTrue, None};
 ghost use Rattle.std.specs.Str.{chars};
 ghost use Rattle.urlpattern_init.specs.Inheritance.{values_view};
 ghost use Rattle.urlpattern_init.specs.Split.{AuthorityFrom, EndsAt, HashAt, HashFrom, HostnameFrom, IsAbsoluteSplit, IsRelativeSplit, IsTextBetween, PathnameAt, PathnameFrom, PortAt, SearchAt, SearchFrom, UserinfoFrom, depth_before, ends_at, implied_pathname, is_at_sign, is_colon_sign, is_slash_sign};
-ghost use Rattle.urlpattern_init.specs.Splitting.{CanRead, HasRead, HasTurnForSlash, HasTurns, IsSource, NoAuthority, NoPathname, NoSearch, components_of, may_follow_hostname, may_follow_pathname, may_follow_port, may_follow_search, text_of_source, tokens_of};
+ghost use Rattle.urlpattern_init.specs.Splitting.{CanRead, HasRead, HasTurnForSlash, HasTurns, IsOwned, IsSource, NoAuthority, NoPathname, NoSearch, components_of, may_follow_hostname, may_follow_pathname, may_follow_port, may_follow_search, text_of_source, tokens_of};
 ghost use Rattle.urlpattern_syntax.specs.Parsing.{name_view};
-ghost use Rattle.urlpattern_syntax.specs.Text.{text_of};
+ghost use Rattle.urlpattern_syntax.specs.Eight.{at};
 ghost use Rattle.urlpattern_syntax.specs.declared.error.Error.TheVariants as errors;
 
 use super::sections::{Place, Section};
@@ -14,18 +14,12 @@ use crate::init::UrlPatternInit;
 use std::alloc::Global;
 use url::Url;
 use urlpattern_core::Error;
+use urlpattern_syntax::eight::{ComponentName, Eight};
 
 /// The components that were found, and how many looks at a token that took.
-#[derive(Clone, Copy)]
+#[derive(Drop)]
 pub(super) struct Split<'a> {
-    pub(super) protocol: Option<&'a str>,
-    pub(super) username: Option<&'a str>,
-    pub(super) password: Option<&'a str>,
-    pub(super) hostname: Option<&'a str>,
-    pub(super) port: Option<&'a str>,
-    pub(super) pathname: Option<&'a str>,
-    pub(super) search: Option<&'a str>,
-    pub(super) hash: Option<&'a str>,
+    pub(super) values: Eight<Option<&'a str>>,
     pub(super) turns: usize,
 }
 
@@ -42,17 +36,13 @@ impl<'a> Split<'a> {
         ensures base { IfOk result (λ init. init.base_url ≡ base_url) }
         ensures memory { IfErr result (λ error. error ≡ errors.OutOfMemory) }
     {
-        Ok(UrlPatternInit {
-            protocol: owned(alloc, self.protocol)?,
-            username: owned(alloc, self.username)?,
-            password: owned(alloc, self.password)?,
-            hostname: owned(alloc, self.hostname)?,
-            port: owned(alloc, self.port)?,
-            pathname: owned(alloc, self.pathname)?,
-            search: owned(alloc, self.search)?,
-            hash: owned(alloc, self.hash)?,
-            base_url,
-        })
+        let value = |name: ComponentName| -> Result<Option<String>, Error>
+            ensures { IsOwned (at (components_of self.entry.now) name) result }
+        { owned(alloc, *self.values.get(name)) };
+        let values = Eight::try_from_fn(value)?;
+        let mut init = UrlPatternInit::of_values(values);
+        init.base_url = base_url;
+        Ok(init)
     }
 
     /// No component.
@@ -61,24 +51,19 @@ impl<'a> Split<'a> {
         ensures hash { (components_of result).hash ≡ None }
         ensures turns { result.turns ≡ turns }
     {
+        let none = |_name: ComponentName| -> Option<&str>
+            ensures { result ≡ None }
+        { None };
         Split {
+            values: Eight::from_fn(none),
             turns,
-            hash: None,
-            search: None,
-            pathname: None,
-            port: None,
-            hostname: None,
-            password: None,
-            username: None,
-            protocol: None,
         }
     }
 }
 
 /// A text of one's own, if there is one.
 fn owned(alloc: Global, text: Option<&str>) -> Result<Option<String>, Error>
-    ensures ok { IfOk result (λ owned. option_map text_of owned ≡ name_view text.entry) }
-    ensures memory { IfErr result (λ error. error ≡ errors.OutOfMemory) }
+    ensures { IsOwned (name_view text.entry) result }
 {
     match text {
         Some(text) => Ok(Some(String::from_str(alloc, text)?)),
@@ -98,25 +83,21 @@ impl<'t, 'a> Source<'t, 'a> {
         ensures protocol { (components_of result).protocol ≡ Some (chars protocol.now) }
         ensures turns { result.turns ≤ 2 * length self.now.tokens.now }
     {
-        let protocol = Some(protocol);
         if self.has_slashes(colon.index) {
-            return Split {
-                protocol,
-                ..self.authority_from(colon.behind(3), special)
-            };
+            let Split { mut values, turns } = self.authority_from(colon.behind(3), special);
+            values.protocol = Some(protocol);
+            return Split { values, turns };
         }
         if special {
-            return Split {
-                protocol,
-                ..self.authority_from(colon.behind(1), special)
-            };
+            let Split { mut values, turns } = self.authority_from(colon.behind(1), special);
+            values.protocol = Some(protocol);
+            return Split { values, turns };
         }
-        Split {
-            protocol,
-            hostname: Some(""),
-            port: Some(""),
-            ..self.pathname_from(colon.behind(1))
-        }
+        let Split { mut values, turns } = self.pathname_from(colon.behind(1));
+        values.protocol = Some(protocol);
+        values.hostname = Some("");
+        values.port = Some("");
+        Split { values, turns }
     }
 
     /// The components of a text in which no protocol was found, read up to its end.
@@ -160,11 +141,10 @@ impl<'t, 'a> Source<'t, 'a> {
             index: from.index,
             ..end
         };
-        Split {
-            username: None,
-            password: None,
-            ..self.hostname_from(back, special)
-        }
+        let Split { mut values, turns } = self.hostname_from(back, special);
+        values.username = None;
+        values.password = None;
+        Split { values, turns }
     }
 
     /// The username and the password, which begin at a place, where the hostname follows the sign `until`, and what
@@ -182,19 +162,18 @@ impl<'t, 'a> Source<'t, 'a> {
         let end = self.end_of(Section::Username, from);
         let username = Some(self.text_between(from.index, end.index));
         if !self.is_sign(end.index, b':') {
-            return Split {
-                username,
-                password: None,
-                ..self.hostname_from(end.behind(1), special)
-            };
+            let Split { mut values, turns } = self.hostname_from(end.behind(1), special);
+            values.username = username;
+            values.password = None;
+            return Split { values, turns };
         }
         let password_from = end.behind(1);
         let password_end = self.end_of(Section::Password, password_from);
-        Split {
-            username,
-            password: Some(self.text_between(password_from.index, password_end.index)),
-            ..self.hostname_from(password_end.behind(1), special)
-        }
+        let password = Some(self.text_between(password_from.index, password_end.index));
+        let Split { mut values, turns } = self.hostname_from(password_end.behind(1), special);
+        values.username = username;
+        values.password = password;
+        Split { values, turns }
     }
 
     /// The hostname, which begins at a place, and what stands behind it.
@@ -206,10 +185,9 @@ impl<'t, 'a> Source<'t, 'a> {
         ensures turns { result.turns ≤ 2 * length self.now.tokens.now }
     {
         let end = self.end_of(Section::Hostname, from);
-        Split {
-            hostname: Some(self.text_between(from.index, end.index)),
-            ..self.port_at(end, special)
-        }
+        let Split { mut values, turns } = self.port_at(end, special);
+        values.hostname = Some(self.text_between(from.index, end.index));
+        Split { values, turns }
     }
 
     /// The port, if a colon stands at a place, and what stands behind it.
@@ -224,15 +202,13 @@ impl<'t, 'a> Source<'t, 'a> {
         if self.is_sign(end.index, b':') {
             let from = end.behind(1);
             let end = self.end_of(Section::Port, from);
-            return Split {
-                port: Some(self.text_between(from.index, end.index)),
-                ..self.pathname_at(end, special)
-            };
+            let Split { mut values, turns } = self.pathname_at(end, special);
+            values.port = Some(self.text_between(from.index, end.index));
+            return Split { values, turns };
         }
-        Split {
-            port: Some(""),
-            ..self.pathname_at(end, special)
-        }
+        let Split { mut values, turns } = self.pathname_at(end, special);
+        values.port = Some("");
+        Split { values, turns }
     }
 
     /// What stands behind the hostname and the port: the pathname, if it begins at a place, the search and the hash.
@@ -249,10 +225,9 @@ impl<'t, 'a> Source<'t, 'a> {
             return self.pathname_from(end.behind(0));
         }
         if self.is_search_sign(end.index) || self.is_sign(end.index, b'#') {
-            return Split {
-                pathname: Some(implied_pathname(special)),
-                ..self.search_at(end)
-            };
+            let Split { mut values, turns } = self.search_at(end);
+            values.pathname = Some(implied_pathname(special));
+            return Split { values, turns };
         }
         Split::nothing(end.turns)
     }
@@ -266,10 +241,9 @@ impl<'t, 'a> Source<'t, 'a> {
         ensures turns { result.turns ≤ 2 * length self.now.tokens.now }
     {
         let end = self.end_of(Section::Pathname, from);
-        Split {
-            pathname: Some(self.text_between(from.index, end.index)),
-            ..self.search_at(end)
-        }
+        let Split { mut values, turns } = self.search_at(end);
+        values.pathname = Some(self.text_between(from.index, end.index));
+        Split { values, turns }
     }
 
     /// The search and the hash, if they begin behind the token at a place.
@@ -285,10 +259,9 @@ impl<'t, 'a> Source<'t, 'a> {
             return self.search_from(end.behind(1));
         }
         if self.is_sign(end.index, b'#') {
-            return Split {
-                search: Some(""),
-                ..self.hash_from(end.behind(1))
-            };
+            let Split { mut values, turns } = self.hash_from(end.behind(1));
+            values.search = Some("");
+            return Split { values, turns };
         }
         Split::nothing(end.turns)
     }
@@ -302,10 +275,9 @@ impl<'t, 'a> Source<'t, 'a> {
         ensures turns { result.turns ≤ 2 * length self.now.tokens.now }
     {
         let end = self.end_of(Section::Search, from);
-        Split {
-            search: Some(self.text_between(from.index, end.index)),
-            ..self.hash_at(end)
-        }
+        let Split { mut values, turns } = self.hash_at(end);
+        values.search = Some(self.text_between(from.index, end.index));
+        Split { values, turns }
     }
 
     /// The hash, if it begins behind the token at a place.
@@ -332,10 +304,9 @@ impl<'t, 'a> Source<'t, 'a> {
         ensures turns { result.turns ≤ 2 * length self.now.tokens.now }
     {
         let end = self.end_of(Section::Hash, from);
-        Split {
-            hash: Some(self.text_between(from.index, end.index)),
-            ..Split::nothing(end.turns)
-        }
+        let Split { mut values, turns } = Split::nothing(end.turns);
+        values.hash = Some(self.text_between(from.index, end.index));
+        Split { values, turns }
     }
 }
 

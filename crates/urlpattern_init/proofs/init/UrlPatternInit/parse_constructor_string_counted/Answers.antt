@@ -21,7 +21,7 @@ returns-then-is_none-2-clause-refused g c =
     let are_tokens = subst (λ (tokens : List Token). AreLenientTokens (chars c.args.pattern.now) (map token_view tokens)) (sym c.deref.ensures.value) c.in_ok-tokens.ensures.tokens in
     inr (inr (
       lacks_protocol _ (chars c.args.pattern.now) (map token_view c.deref.result.now) (components_of c.in_ok-split.split) are_tokens c.in_ok-split.ensures.split
-          (λ P some. missing_is_none (λ (text : Bor (List ℕ)). chars text.now) c.in_ok-split.split.protocol P (c.is_none.ensures ∙ ap not c.if-is_none.true) some),
+          (λ P some. missing_is_none (λ (text : Bor (List ℕ)). chars text.now) c.in_ok-split.split.values.protocol P (c.is_none.ensures ∙ ap not c.if-is_none.true) some),
       none_of c.args.base_url (c.is_none-then-is_none.ensures ∙ ap not c.if-is_none-2.true),
       refl,
     ))

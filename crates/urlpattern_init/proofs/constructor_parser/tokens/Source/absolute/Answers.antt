@@ -12,11 +12,11 @@ returns-then-has_slashes-clause-split c = record {
   is_colon_there = c.requires.sign;
   protocol_ends = c.requires.ends;
   protocol = c.requires.protocol;
-  behind = inl (sym c.has_slashes.ensures ∙ c.if-has_slashes.true, rw c.behind.ensures.index at c.authority_from.ensures.split);
+  behind = inl (sym c.has_slashes.ensures ∙ c.if-has_slashes.true, rw c.behind.ensures.index at c.authority_from-turns.ensures.split);
 }
 
-pub authority_from-requires-then-special-clause-within : goal.authority_from-requires-then-special-clause-within
-authority_from-requires-then-special-clause-within c =
+pub authority_from-turns-requires-then-special-clause-within : goal.authority_from-turns-requires-then-special-clause-within
+authority_from-turns-requires-then-special-clause-within c =
     let goes = sign_goes_on (codes ":") (tokens_of c.args.self.now) c.args.colon.index (source_closed c.args.self.now c.requires.source) c.requires.sign in
     let size = tokens_len c.args.self.now in
     omega (arith, goes, c.behind-then-special.ensures.index)
@@ -30,12 +30,12 @@ returns-then-special-clause-split c =
       protocol = c.requires.protocol;
       behind = inr (inl (
         and_from (not (has_slashes (tokens_of c.args.self.now) c.args.colon.index)) c.args.special no_slashes c.if-special.true,
-        rw c.behind-then-special.ensures.index at c.authority_from-then-special.ensures.split,
+        rw c.behind-then-special.ensures.index at c.authority_from-turns-then-special.ensures.split,
       ));
     }
 
-pub pathname_from-requires-clause-reads : goal.pathname_from-requires-clause-reads
-pathname_from-requires-clause-reads c =
+pub pathname_from-turns-requires-clause-reads : goal.pathname_from-turns-requires-clause-reads
+pathname_from-turns-requires-clause-reads c =
     let goes = sign_goes_on (codes ":") (tokens_of c.args.self.now) c.args.colon.index (source_closed c.args.self.now c.requires.source) c.requires.sign in
     let size = tokens_len c.args.self.now in
     record {
@@ -53,10 +53,10 @@ returns-clause-split c =
       protocol = c.requires.protocol;
       behind = inr (inr (
         and_from (not (has_slashes (tokens_of c.args.self.now) c.args.colon.index)) (not c.args.special) no_slashes (ap not c.if-special.false),
-        c.pathname_from.ensures.nothing.1,
-        c.pathname_from.ensures.nothing.2,
+        c.pathname_from-turns.ensures.nothing.1,
+        c.pathname_from-turns.ensures.nothing.2,
         ap Some chars-nil,
         ap Some chars-nil,
-        rw (c.behind-2.ensures.index, c.behind-2.ensures.depth) at c.pathname_from.ensures.split,
+        rw (c.behind-2.ensures.index, c.behind-2.ensures.depth) at c.pathname_from-turns.ensures.split,
       ));
     }

@@ -7,8 +7,8 @@ use Rattle.urlpattern_init.proofs.SplitLemmas.{no_slash_in_sight}
 use Rattle.urlpattern_init.proofs.TextBetween.{source_closed, tokens_len}
 use Rattle.urlpattern_init.proofs.constructor_parser.tokens.Source.authority_from.Goals as goal
 
-pub hostname_from-requires-clause-slash : goal.hostname_from-requires-clause-slash
-hostname_from-requires-clause-slash c other behind seen slash =
+pub hostname_from-turns-requires-clause-slash : goal.hostname_from-turns-requires-clause-slash
+hostname_from-turns-requires-clause-slash c other behind seen slash =
     let tokens = tokens_of c.args.self.now in
     let closed = source_closed c.args.self.now c.requires.source in
     let size = tokens_len c.args.self.now in

@@ -5,8 +5,8 @@ use Rattle.urlpattern_init.proofs.SplitLemmas.{slash_seen_before}
 use Rattle.urlpattern_init.proofs.TextBetween.{source_closed, tokens_len}
 use Rattle.urlpattern_init.proofs.constructor_parser.tokens.Source.hostname_from.Goals as goal
 
-pub port_at-requires-clause-slash : goal.port_at-requires-clause-slash
-port_at-requires-clause-slash c other behind seen slash =
+pub port_at-turns-requires-clause-slash : goal.port_at-turns-requires-clause-slash
+port_at-turns-requires-clause-slash c other behind seen slash =
     let tokens = tokens_of c.args.self.now in
     let size = tokens_len c.args.self.now in
     let closed = source_closed c.args.self.now c.requires.source in

@@ -17,5 +17,5 @@ returns-then-is_search_sign-clause-split c =
         | then-is_search_sign-via-else-is_search_sign+then-is_sign-2 w ↦ or_right _ _ (sym w.is_sign-else-is_search_sign.ensures ∙ w.if-is_sign-2.true)
       ],
       ap Some c.implied_pathname.ensures,
-      c.search_at.ensures.split,
+      c.search_at-turns.ensures.split,
     ))

@@ -7,11 +7,11 @@ use Rattle.urlpattern_init.proofs.SplitLemmas.{port_sign, slash_is_seen, slash_s
 use Rattle.urlpattern_init.proofs.TextBetween.{tokens_len}
 use Rattle.urlpattern_init.proofs.constructor_parser.tokens.Source.port_at.Goals as goal
 
-pub pathname_at-requires-clause-sign : goal.pathname_at-requires-clause-sign
-pathname_at-requires-clause-sign c = port_sign (tokens_of c.args.self.now) _ _ _ c.end_of-end.ensures.ends
+pub pathname_at-turns-requires-clause-sign : goal.pathname_at-turns-requires-clause-sign
+pathname_at-turns-requires-clause-sign c = port_sign (tokens_of c.args.self.now) _ _ _ c.end_of-end.ensures.ends
 
-pub pathname_at-requires-clause-slash : goal.pathname_at-requires-clause-slash
-pathname_at-requires-clause-slash c slash =
+pub pathname_at-turns-requires-clause-slash : goal.pathname_at-turns-requires-clause-slash
+pathname_at-turns-requires-clause-slash c slash =
     let tokens = tokens_of c.args.self.now in
     let ends = rw (c.behind-from.ensures.index, c.behind-from.ensures.depth) at c.end_of-end.ensures.ends in
     let size = tokens_len c.args.self.now in
@@ -22,4 +22,4 @@ pathname_at-requires-clause-slash c slash =
 
 pub returns-clause-split : goal.returns-clause-split
 returns-clause-split c =
-    inr ((λ h. both_ways _ (sym c.is_sign.ensures ∙ c.if-is_sign.false) h), ap Some chars-nil, c.pathname_at-2.ensures.split)
+    inr ((λ h. both_ways _ (sym c.is_sign.ensures ∙ c.if-is_sign.false) h), ap Some chars-nil, c.pathname_at-turns-2.ensures.split)

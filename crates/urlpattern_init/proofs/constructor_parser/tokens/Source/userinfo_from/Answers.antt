@@ -9,8 +9,8 @@ use Rattle.urlpattern_init.proofs.constructor_parser.tokens.Source.userinfo_from
 
 -- ---- no colon: the username ends at the sign of the hostname
 
-pub hostname_from-requires-clause-slash : goal.hostname_from-requires-clause-slash
-hostname_from-requires-clause-slash c other behind seen slash =
+pub hostname_from-turns-requires-clause-slash : goal.hostname_from-turns-requires-clause-slash
+hostname_from-turns-requires-clause-slash c other behind seen slash =
     let tokens = tokens_of c.args.self.now in
     let closed = source_closed c.args.self.now c.requires.source in
     let username : EndsAt Username tokens c.args.from.index 0 c.end_of-end.result.index = rw c.requires.level at c.end_of-end.ensures.ends in
@@ -34,7 +34,7 @@ returns-then-not-is_sign-clause-hostname c =
     let username : EndsAt Username tokens c.args.from.index 0 c.end_of-end.result.index = rw c.requires.level at c.end_of-end.ensures.ends in
     let alone = username_alone tokens c.args.from.index c.args.until c.end_of-end.result.index closed c.requires.ends c.requires.sign username (λ colon. both_ways _ (sym c.is_sign.ensures ∙ c.if-not-is_sign.true) colon) in
     let there : c.behind.result.index ≡ c.args.until + 1 = omega (arith, alone, c.behind.ensures.index) in
-    rw (there, c.behind.ensures.depth) at c.hostname_from.ensures.split
+    rw (there, c.behind.ensures.depth) at c.hostname_from-turns.ensures.split
 
 -- ---- a colon: the password lies behind it
 
@@ -44,8 +44,8 @@ end_of-password_end-requires-clause-within c =
     let size = tokens_len c.args.self.now in
     omega (arith, goes, c.behind-password_from.ensures.index)
 
-pub hostname_from-requires-2-clause-reads : goal.hostname_from-requires-2-clause-reads
-hostname_from-requires-2-clause-reads c =
+pub hostname_from-turns-requires-2-clause-reads : goal.hostname_from-turns-requires-2-clause-reads
+hostname_from-turns-requires-2-clause-reads c =
     let tokens = tokens_of c.args.self.now in
     let closed = source_closed c.args.self.now c.requires.source in
     let username : EndsAt Username tokens c.args.from.index 0 c.end_of-end.result.index = rw c.requires.level at c.end_of-end.ensures.ends in
@@ -59,8 +59,8 @@ hostname_from-requires-2-clause-reads c =
       turns = omega (arith, found.0, found.1, goes, c.behind-2.ensures.index, c.behind-2.ensures.turns, c.end_of-password_end.ensures.turns, c.behind-password_from.ensures.index, c.behind-password_from.ensures.turns, c.end_of-end.ensures.turns, c.requires.turns);
     }
 
-pub hostname_from-requires-2-clause-slash : goal.hostname_from-requires-2-clause-slash
-hostname_from-requires-2-clause-slash c other behind seen slash =
+pub hostname_from-turns-requires-2-clause-slash : goal.hostname_from-turns-requires-2-clause-slash
+hostname_from-turns-requires-2-clause-slash c other behind seen slash =
     let tokens = tokens_of c.args.self.now in
     let closed = source_closed c.args.self.now c.requires.source in
     let username : EndsAt Username tokens c.args.from.index 0 c.end_of-end.result.index = rw c.requires.level at c.end_of-end.ensures.ends in
@@ -88,4 +88,4 @@ returns-clause-hostname c =
     let password : EndsAt Password tokens (c.end_of-end.result.index + 1) 0 c.end_of-password_end.result.index = rw (c.behind-password_from.ensures.index, c.behind-password_from.ensures.depth) at c.end_of-password_end.ensures.ends in
     let found = password_ends tokens c.args.from.index c.args.until c.end_of-end.result.index c.end_of-password_end.result.index closed c.requires.ends c.requires.sign username (sym c.is_sign.ensures ∙ c.if-not-is_sign.false) password in
     let there : c.behind-2.result.index ≡ c.args.until + 1 = omega (arith, found.1, c.behind-2.ensures.index) in
-    rw (there, c.behind-2.ensures.depth) at c.hostname_from-2.ensures.split
+    rw (there, c.behind-2.ensures.depth) at c.hostname_from-turns-2.ensures.split
