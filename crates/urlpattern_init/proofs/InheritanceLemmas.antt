@@ -196,6 +196,12 @@ answers-under mode asked text under few result utf8 more =
     let size = byte_len-chars text utf8 in
     answers-asked mode asked few (max (length under) (byte_len (chars text))) result (omega arith)
 
+-- an answer about a text of its own bytes alone
+pub answers-own : (mode : ProcessType) (asked : Parsed (List ℕ)) (text under : List ℕ) (result : Result (String Global) Error)
+    → IsUtf8 text → IsAnswer asked (bytes_asked mode (length text)) result
+    → IsAnswer asked (bytes_asked mode (max (length under) (byte_len (chars text)))) result
+answers-own mode asked text under result utf8 answer = answers-under mode asked text under (length text) result utf8 (omega arith) answer
+
 -- the bytes of the longest text
 all_bytes : ProcessType → Values → Option Parts → ℕ
 all_bytes mode values base =
