@@ -178,39 +178,48 @@ pub answers-asked : (mode : ProcessType) (asked : Parsed (List ℕ)) (few many :
 answers-asked mode asked few many result more answer =
     answers-more asked (bytes_asked mode few) (bytes_asked mode many) result (asked-mono mode few many more) answer
 
+-- so is an answer about so many bytes one about a text and what it is under, which have no fewer
+pub answers-under : (mode : ProcessType) (asked : Parsed (List ℕ)) (text under : List ℕ) (few : ℕ) (result : Result (String Global) Error)
+    → IsUtf8 text → few ≤ max (length under) (length text) → IsAnswer asked (bytes_asked mode few) result
+    → IsAnswer asked (bytes_asked mode (max (length under) (byte_len (chars text)))) result
+answers-under mode asked text under few result utf8 more =
+    let size = byte_len-chars text utf8 in
+    answers-asked mode asked few (max (length under) (byte_len (chars text))) result (omega arith)
+
+-- an answer about a text of its own bytes alone
+pub answers-own : (mode : ProcessType) (asked : Parsed (List ℕ)) (text under : List ℕ) (result : Result (String Global) Error)
+    → IsUtf8 text → IsAnswer asked (bytes_asked mode (length text)) result
+    → IsAnswer asked (bytes_asked mode (max (length under) (byte_len (chars text)))) result
+answers-own mode asked text under result utf8 answer = answers-under mode asked text under (length text) result utf8 (omega arith) answer
+
 -- the bytes of the longest text
 all_bytes : ProcessType → Values → Option Parts → ℕ
 all_bytes mode values base =
     fold max (protocol_bytes (processed_value mode values base None Protocol)) (map (given_bytes mode values base) components)
 
-given-all : (mode : ProcessType) (values : Values) (base : Option Parts) (component : ComponentName)
-    → given_bytes mode values base component ≤ all_bytes mode values base
-unfolding all_bytes
-given-all mode values base =
-    by_name (λ component. given_bytes mode values base component ≤ all_bytes mode values base)
+longest : (first : ℕ) (bytes : ComponentName → ℕ) (component : ComponentName) → max first (bytes component) ≤ fold max first (map bytes components)
+longest first bytes =
+    by_name (λ component. max first (bytes component) ≤ fold max first (map bytes components))
         (omega arith) (omega arith) (omega arith) (omega arith) (omega arith) (omega arith) (omega arith) (omega arith)
 
-protocol-all : (mode : ProcessType) (values : Values) (base : Option Parts)
-    → protocol_bytes (processed_value mode values base None Protocol) ≤ all_bytes mode values base
+given-all : (mode : ProcessType) (values : Values) (base : Option Parts) (component : ComponentName)
+    → max 0 (given_bytes mode values base component) ≤ all_bytes mode values base
 unfolding all_bytes
-protocol-all mode values base = omega arith
+given-all mode values base component =
+    let most = longest (protocol_bytes (processed_value mode values base None Protocol)) (given_bytes mode values base) component in
+    omega arith
 
 under-all : (mode : ProcessType) (values : Values) (base : Option Parts) (component : ComponentName) (protocol : Option (List ℕ))
     → processed_value mode values base None Protocol ≡ Ok protocol
     → max (bytes_of protocol) (given_bytes mode values base component) ≤ all_bytes mode values base
-under-all mode values base component protocol e =
-    let given = given-all mode values base component in
-    let first : bytes_of protocol ≤ all_bytes mode values base
-    = subst (λ (found : Parsed (Option (List ℕ))). protocol_bytes found ≤ all_bytes mode values base) e (protocol-all mode values base)
-    in
-    omega arith
+unfolding all_bytes
+under-all mode values base component protocol e = rw e (longest (bytes_of protocol) (given_bytes mode values base) component)
 
 pub given-le : (mode : ProcessType) (values : Values) (base : Option Parts) (component : ComponentName)
     → bytes_asked mode (max 0 (given_bytes mode values base component)) ≤ asked_bytes mode values base
 unfolding asked_bytes all_bytes
 given-le mode values base component =
-    asked-mono mode (max 0 (given_bytes mode values base component)) (all_bytes mode values base)
-    (let given = given-all mode values base component in omega arith)
+    asked-mono mode (max 0 (given_bytes mode values base component)) (all_bytes mode values base) (given-all mode values base component)
 
 pub asked-le : (mode : ProcessType) (values : Values) (base : Option Parts) (component : ComponentName) (protocol : Option (List ℕ))
     → processed_value mode values base None Protocol ≡ Ok protocol

@@ -8,8 +8,8 @@ use Rattle.std.specs.List.{count_by, fold, range_with_len, sum_by}
 use Rattle.std.specs.Prelude.{codes, IsTrue, slice_get, slice_range}
 use Rattle.urlpattern_init.specs.Split.{EndsAt, at, count_seen, depth_before, depth_behind, is_balanced, is_end, is_ending, is_open, is_seen, is_sign, may_end}
 use Rattle.urlpattern_init.specs.Splitting.{is_hostname}
-use Rattle.urlpattern_init.specs.declared.constructor_parser.Section.{Section}
-use Rattle.urlpattern_init.specs.declared.constructor_parser.Section.TheVariants.{Protocol, Authority, Username, Password, Hostname, Port, Pathname, Search, Hash}
+use Rattle.urlpattern_init.specs.declared.constructor_parser.sections.Section.{Section}
+use Rattle.urlpattern_init.specs.declared.constructor_parser.sections.Section.TheVariants.{Protocol, Authority, Username, Password, Hostname, Port, Pathname, Search, Hash}
 use Rattle.urlpattern_init.proofs.TokenPlaces.{at_view}
 use Rattle.urlpattern_syntax.specs.Tokens.{TokenView}
 use Rattle.urlpattern_syntax.specs.declared.tokenizer.TokenType.{TokenType}

@@ -4,8 +4,8 @@ use Rattle.std.proofs.lemmas.Bool.{and_parts, both_ways, cases_eq, false≢true,
 use Rattle.std.specs.Char.{encode_utf8}
 use Rattle.std.specs.Prelude.{codes, IsTrue, IsSomeAnd, slice_get}
 use Rattle.urlpattern_init.specs.Split.{EndsAt, IsAbsoluteSplit, IsRelativeSplit, IsTextBetween, ends_at, may_end}
-use Rattle.urlpattern_init.specs.declared.constructor_parser.Section.{Section}
-use Rattle.urlpattern_init.specs.declared.constructor_parser.Section.TheVariants.{Protocol, Authority, Username, Hostname, Port, Pathname, Search}
+use Rattle.urlpattern_init.specs.declared.constructor_parser.sections.Section.{Section}
+use Rattle.urlpattern_init.specs.declared.constructor_parser.sections.Section.TheVariants.{Protocol, Authority, Username, Hostname, Port, Pathname, Search}
 use Rattle.urlpattern_syntax.specs.declared.tokenizer.TokenType.{TokenType}
 use Rattle.urlpattern_syntax.specs.declared.tokenizer.TokenType.TheVariants.{Char, End, EscapedChar, InvalidChar, Open, OtherModifier}
 use Rattle.urlpattern_syntax.specs.Text.{byte_len}

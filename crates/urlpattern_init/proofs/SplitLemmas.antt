@@ -8,9 +8,9 @@ use Rattle.std.specs.List.{fold}
 use Rattle.std.specs.Prelude.{codes, IsSomeAnd, IsTrue, is_some, option_map, slice_get, slice_range}
 use Rattle.std.specs.Str.{bytes_eq}
 use Rattle.urlpattern_init.specs.Split.{EndsAt, IsSplit, LacksProtocol, at, depth_before, depth_behind, ends_at, is_at_sign, is_balanced, is_character, is_colon_sign, is_end, is_ending, is_hash_sign, is_open, is_search_sign, is_seen, is_sign, is_slash_sign, may_end}
-use Rattle.urlpattern_init.specs.Splitting.{IsClosed}
-use Rattle.urlpattern_init.specs.declared.constructor_parser.Section.{Section}
-use Rattle.urlpattern_init.specs.declared.constructor_parser.Section.TheVariants.{Authority, Password, Port, Protocol, Username}
+use Rattle.urlpattern_init.specs.Splitting.{IsClosed, may_follow_port}
+use Rattle.urlpattern_init.specs.declared.constructor_parser.sections.Section.{Section}
+use Rattle.urlpattern_init.specs.declared.constructor_parser.sections.Section.TheVariants.{Authority, Password, Port, Protocol, Username}
 use Rattle.urlpattern_init.proofs.TokenPlaces.{at_view}
 use Rattle.urlpattern_init.proofs.SeenLemmas.{depth_here, depth_more}
 use Rattle.urlpattern_syntax.specs.Tokens.{AreLenientTokens, TokenView}
@@ -150,7 +150,7 @@ slash_is_seen section tokens from depth end ends slash =
     ]
 
 -- the sign with which a port ends
-pub port_sign : (tokens : List TokenView) (from depth place : ℕ) → EndsAt Port tokens from depth place → IsTrue (is_slash_sign tokens place || is_search_sign tokens place || is_hash_sign tokens place || ends_at tokens place)
+pub port_sign : (tokens : List TokenView) (from depth place : ℕ) → EndsAt Port tokens from depth place → IsTrue (may_follow_port tokens place)
 port_sign tokens from depth place ends =
     elim (stops_cases Port tokens from depth place ends) [
       | inl may ↦ or_regroup (is_slash_sign tokens place) (is_search_sign tokens place) (is_hash_sign tokens place) (ends_at tokens place) (may_end_parts Port tokens from depth place may).1
@@ -281,7 +281,7 @@ no_slash_in_sight tokens from depth end other closed ends is_end behind seen sla
     or_second false false c d h = absurd (false≢true h)
 
 -- the first colon that is seen is found again
-pub colon_again : (tokens : List TokenView) (first second : ℕ) → IsClosed tokens → EndsAt Protocol tokens 0 0 first → IsTrue (is_colon_sign tokens first) → EndsAt Protocol tokens 0 0 second → second ≡ first
+colon_again : (tokens : List TokenView) (first second : ℕ) → IsClosed tokens → EndsAt Protocol tokens 0 0 first → IsTrue (is_colon_sign tokens first) → EndsAt Protocol tokens 0 0 second → second ≡ first
 colon_again tokens first second closed ends colon again =
     let seen = sign_is_seen (codes ":") Protocol tokens 0 0 first ends colon in
     let le = ends_by Protocol tokens 0 0 second first again (omega arith) (and_from (is_seen tokens 0 0 first) (is_colon_sign tokens first) seen colon) in
@@ -289,6 +289,14 @@ colon_again tokens first second closed ends colon again =
       | inl may ↦ let ge = ends_by Protocol tokens 0 0 first second ends (omega arith) may in omega arith
       | inr is_end ↦ let last = closed.last second again.within is_end in let within = ends.within in omega arith
     ]
+
+-- so is it from the depth that was reached there
+pub colon_found : (tokens : List TokenView) (first depth second : ℕ) → IsClosed tokens → EndsAt Protocol tokens 0 0 first → IsTrue (is_colon_sign tokens first)
+    → depth ≡ depth_before tokens 0 0 first → EndsAt Protocol tokens 0 depth second → (second ≡ first) × EndsAt Protocol tokens 0 0 second
+colon_found tokens first depth second closed ends colon reached again =
+    let level = depth_at_end Protocol tokens 0 0 first ends (sign_not_end (codes ":") tokens first colon) in
+    let from_start : EndsAt Protocol tokens 0 0 second = rw (reached, level) at again in
+    (colon_again tokens first second closed ends colon from_start, from_start)
 
 -- ---- the whole string
 

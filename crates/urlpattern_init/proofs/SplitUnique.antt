@@ -9,8 +9,8 @@ use Rattle.urlpattern_init.specs.ConstructorString.{SplitsAs, SplitsInto}
 use Rattle.urlpattern_init.specs.Split.{AuthorityFrom, EndsAt, HasProtocol, HashAt, HashFrom, HostnameFrom, IsAbsoluteSplit, IsRelativeSplit, IsSplit, IsTextBetween, PathnameAt, PathnameFrom, PortAt, SearchAt, SearchFrom, Takes, UserinfoFrom}
 use Rattle.urlpattern_init.specs.Split.{at, ends_at, has_slashes, is_at_sign, is_character, is_colon_sign, is_end, is_hash_sign, is_search_sign, is_sign, is_slash_sign, follows_modified, depth_before}
 use Rattle.urlpattern_init.specs.Splitting.{IsClosed}
-use Rattle.urlpattern_init.specs.declared.constructor_parser.Section.{Section}
-use Rattle.urlpattern_init.specs.declared.constructor_parser.Section.TheVariants.{Authority, Hostname, Pathname, Port, Protocol, Search, Username}
+use Rattle.urlpattern_init.specs.declared.constructor_parser.sections.Section.{Section}
+use Rattle.urlpattern_init.specs.declared.constructor_parser.sections.Section.TheVariants.{Authority, Hostname, Pathname, Port, Protocol, Search, Username}
 use Rattle.urlpattern_init.proofs.SplitLemmas.{found_at, sign_not_end, stops_cases}
 use Rattle.urlpattern_init.proofs.TextBetween.{IsLenient, are_closed, lenient_not_end}
 use Rattle.urlpattern_init.proofs.TokenPlaces.{at_view}

@@ -1,9 +1,14 @@
 -- Whether the protocol of a constructor string is special, after the URLPattern Standard, section "Compute protocol
 -- matches a special scheme flag".
 use Rattle.std.specs.Prelude.{ℕ, ◌↔◌, Bool, List, Any, IsTrue, Option, Result, String, codes, length}
+use Rattle.std.specs.Borrow.{Bor}
 use Rattle.std.specs.Str.{chars}
 use Rattle.std.specs.declared.alloc.Global.{Global}
 use Rattle.urlpattern_canonical.specs.Canonical.{IsAnswer, canonical_protocol, special_schemes}
+use Rattle.urlpattern_core.specs.Matchers.{matcher_view}
+use Rattle.urlpattern_core.specs.declared.matcher.Matcher.{Matcher}
+use Rattle.urlpattern_core.specs.declared.regexp.RegExp.{Ghosts as Engine}
+use Rattle.urlpattern_core.specs.Compiling.{MayRefuseAtFirst}
 use Rattle.urlpattern_laws.specs.Matching.{IsMadeOf, IsMatched, MatcherView}
 use Rattle.urlpattern_laws.specs.PartMeaning.{Captures}
 use Rattle.urlpattern_syntax.specs.declared.error.Error.{Error}
@@ -19,6 +24,10 @@ CanonicalizesProtocol bytes returned = IsAnswer (canonical_protocol (chars bytes
 abbrev pub protocol_encoding : Encoding
 protocol_encoding = encoding_of CanonicalizesProtocol
 
+-- the matcher accepts one of these texts, where engines' values answer in this way
+abbrev pub AcceptsAny : {E : Type 0} → (answer : E → List ℕ → Option Captures) → Matcher E → List (Bor (List ℕ)) → Type 0
+AcceptsAny answer matcher texts = Any (λ text. IsMatched answer (matcher_view matcher) (chars text.now)) texts
+
 -- the matcher accepts one of the special schemes, where engines' values answer in this way
 abbrev pub AcceptsSpecialScheme : {E : Type 0} → (answer : E → List ℕ → Option Captures) → MatcherView E → Type 0
 AcceptsSpecialScheme answer matcher = Any (λ scheme. IsMatched answer matcher scheme.0) special_schemes
@@ -31,6 +40,10 @@ pub record IsSpecialBy {E : Type 0} (IsMade : E → (regexp flags : List ℕ) �
   pub reads : Reads protocol default_options protocol_encoding parts
   pub is_made : IsMadeOf IsMade MayRefuse default_options (codes "u") parts matcher
   pub tells : IsTrue special ↔ AcceptsSpecialScheme answer matcher
+
+-- the answer on a protocol by a type of engines
+abbrev pub IsSpecialTo : {E : Type 0} → Engine E → (protocol : List ℕ) → (special : Bool) → Type 0
+IsSpecialTo engine = IsSpecialBy engine.IsMade (MayRefuseAtFirst engine.MayRefuse) engine.answer
 
 -- the pattern of a protocol is refused with this error
 abbrev pub RefusesProtocol : List ℕ → ErrorView → Type 0

@@ -3,8 +3,8 @@ use Rattle.std.specs.Prelude.{◌≡◌, ℕ, zero, suc, ◌+◌, ◌-◌, ◌<�
 use Rattle.std.specs.List.{count_by, fold, range_with_len}
 use Rattle.std.specs.Option.{option_map_or}
 use Rattle.std.specs.Str.{bytes_eq}
-use Rattle.urlpattern_init.specs.declared.constructor_parser.Section.{Section}
-use Rattle.urlpattern_init.specs.declared.constructor_parser.Section.TheVariants.{Protocol, Authority, Username, Password, Hostname, Port, Pathname, Search, Hash}
+use Rattle.urlpattern_init.specs.declared.constructor_parser.sections.Section.{Section}
+use Rattle.urlpattern_init.specs.declared.constructor_parser.sections.Section.TheVariants.{Protocol, Authority, Username, Password, Hostname, Port, Pathname, Search, Hash}
 use Rattle.urlpattern_syntax.specs.declared.tokenizer.TokenType.{TokenType}
 use Rattle.urlpattern_syntax.specs.declared.tokenizer.TokenType.TheVariants.{Asterisk, Char, Close, End, EscapedChar, InvalidChar, Name, Open, Regexp}
 use Rattle.urlpattern_syntax.specs.Text.{byte_len}

@@ -1,15 +1,19 @@
 -- Words of the private contracts of the splitting of a constructor string. No public contract cites them.
-use Rattle.std.specs.Prelude.{◌≡◌, ℕ, ◌+◌, ◌-◌, ◌*◌, ◌<◌, ◌≤◌, Bool, true, false, List, length, None, IsTrue}
+use Rattle.std.specs.Prelude.{◌≡◌, ℕ, ◌+◌, ◌-◌, ◌*◌, ◌<◌, ◌≤◌, ◌||◌, Bool, true, false, List, length, None, Option, Result, String, option_map, IfErr, IfOk, IsTrue}
 use Rattle.std.specs.Str.{chars}
-use Rattle.urlpattern_init.specs.Split.{ends_at, is_seen, is_slash_sign}
-use Rattle.urlpattern_init.specs.declared.constructor_parser.Place.{Place}
-use Rattle.urlpattern_init.specs.declared.constructor_parser.Section.{Section}
-use Rattle.urlpattern_init.specs.declared.constructor_parser.Section.TheVariants.{Hostname}
-use Rattle.urlpattern_init.specs.declared.constructor_parser.Source.{Source}
-use Rattle.urlpattern_init.specs.declared.constructor_parser.Split.{Split}
+use Rattle.std.specs.declared.alloc.Global.{Global}
+use Rattle.urlpattern_init.specs.Split.{ends_at, is_colon_sign, is_hash_sign, is_search_sign, is_seen, is_slash_sign}
+use Rattle.urlpattern_init.specs.declared.constructor_parser.sections.Place.{Place}
+use Rattle.urlpattern_init.specs.declared.constructor_parser.sections.Section.{Section}
+use Rattle.urlpattern_init.specs.declared.constructor_parser.sections.Section.TheVariants.{Hostname}
+use Rattle.urlpattern_init.specs.declared.constructor_parser.tokens.Source.{Source}
+use Rattle.urlpattern_init.specs.declared.constructor_parser.components.Split.{Split}
 use Rattle.urlpattern_syntax.specs.Parsing.{name_view, views}
 use Rattle.urlpattern_syntax.specs.Tokens.{AreLenientTokens, TokenView}
-use Rattle.urlpattern_syntax.specs.Eight.{Values}
+use Rattle.urlpattern_syntax.specs.declared.error.Error.{Error}
+use Rattle.urlpattern_syntax.specs.declared.error.Error.TheVariants as errors
+use Rattle.urlpattern_syntax.specs.Eight.{Values, at, each}
+use Rattle.urlpattern_syntax.specs.Text.{text_of}
 
 -- the text of a source, and its tokens
 abbrev pub text_of_source : Source → List ℕ
@@ -20,26 +24,48 @@ tokens_of source = views source.tokens.now
 
 -- the components that were found
 abbrev pub components_of : Split → Values
-components_of split = record {
-  protocol = name_view split.protocol;
-  username = name_view split.username;
-  password = name_view split.password;
-  hostname = name_view split.hostname;
-  port = name_view split.port;
-  pathname = name_view split.pathname;
-  search = name_view split.search;
-  hash = name_view split.hash;
-}
+components_of split = each (λ name. name_view (at split.values name))
+
+-- a text of one's own with this view, or that memory ran out
+pub record IsOwned (component : Option (List ℕ)) (result : Result (Option (String Global)) Error) : Type 0 where
+  pub ok : IfOk result (λ owned. option_map text_of owned ≡ component)
+  pub memory : IfErr result (λ error. error ≡ errors.OutOfMemory)
 
 -- The tokens are those of the text.
 abbrev pub IsSource : Source → Type 0
 IsSource source = AreLenientTokens (text_of_source source) (tokens_of source)
 
+-- ---- what may stand where a component is over
+
+-- behind a search: the sign of the hash, or End
+abbrev pub may_follow_search : List TokenView → ℕ → Bool
+may_follow_search tokens place = is_hash_sign tokens place || ends_at tokens place
+
+-- behind a pathname: the sign of the search or of the hash, or End
+abbrev pub may_follow_pathname : List TokenView → ℕ → Bool
+may_follow_pathname tokens place = is_search_sign tokens place || is_hash_sign tokens place || ends_at tokens place
+
+-- behind a port: the slash of a pathname, or what may follow a pathname
+abbrev pub may_follow_port : List TokenView → ℕ → Bool
+may_follow_port tokens place =
+    is_slash_sign tokens place || is_search_sign tokens place || is_hash_sign tokens place || ends_at tokens place
+
+-- behind a hostname: the colon of a port, or what may follow a port
+abbrev pub may_follow_hostname : List TokenView → ℕ → Bool
+may_follow_hostname tokens place =
+    is_colon_sign tokens place || is_slash_sign tokens place || is_search_sign tokens place || is_hash_sign tokens place || ends_at tokens place
+
+-- ---- turns
+
+-- so many turns, and a look at each token from the index on, keep within twice the number of tokens
+abbrev pub HasTurns : Source → (index turns : ℕ) → Type 0
+HasTurns source index turns = turns + (length source.tokens.now - index) ≤ 2 * length source.tokens.now
+
 -- Reading may go on at the place, and a look at each token from there on keeps within twice the number of tokens.
 pub record CanRead (source : Source) (place : Place) : Type 0 where
   pub within : place.index < length source.tokens.now
   pub shallow : place.depth ≤ length source.tokens.now
-  pub turns : place.turns + (length source.tokens.now - place.index) ≤ 2 * length source.tokens.now
+  pub turns : HasTurns source place.index place.turns
 
 -- The same where the token at the place was looked at.
 pub record HasRead (source : Source) (place : Place) : Type 0 where
@@ -50,7 +76,7 @@ pub record HasRead (source : Source) (place : Place) : Type 0 where
 abbrev pub HasTurnForSlash : Source → (index depth turns : ℕ) → Type 0
 HasTurnForSlash source index depth turns =
     (other : ℕ) → index ≤ other → IsTrue (is_seen (tokens_of source) index depth other) → IsTrue (is_slash_sign (tokens_of source) other)
-    → turns + (length source.tokens.now - index) ≤ 2 * length source.tokens.now
+    → HasTurns source index turns
 
 -- the section in which square brackets are counted
 abbrev pub is_hostname : Section → Bool

@@ -3,9 +3,8 @@
 //! Each function here does nothing; what it promises is a theorem.
 
 ghost use Rattle.std.specs.Prelude.{◌≡◌, ◌⊎◌, ℕ, Bool, true, false, List};
-ghost use Rattle.urlpattern_core.specs.Compiling.{MayRefuseAtFirst};
 ghost use Rattle.urlpattern_init.specs.ConstructorString.{SplitsAs, SplitsInto};
-ghost use Rattle.urlpattern_init.specs.SpecialProtocol.{IsSpecialBy};
+ghost use Rattle.urlpattern_init.specs.SpecialProtocol.{IsSpecialTo};
 ghost use Rattle.urlpattern_init.specs.Split.{HasProtocol};
 ghost use Rattle.urlpattern_syntax.specs.Eight.{Values};
 
@@ -17,7 +16,7 @@ pub fn splits_are_one<R: RegExp>()
     ensures exist { (text : List ℕ) (special : Bool) → (components : Values) × SplitsAs text special components }
     ensures given { (text : List ℕ) (special : Bool) (components others : Values) → SplitsAs text special components → SplitsAs text special others → components ≡ others }
     ensures computed { (text : List ℕ) (components others : Values) →
-        let IsSpecial = IsSpecialBy R.IsMade (MayRefuseAtFirst R.MayRefuse) R.answer in
+        let IsSpecial = IsSpecialTo R.RegExp in
         SplitsInto IsSpecial text components → SplitsInto IsSpecial text others →
         (components ≡ others) ⊎ HasProtocol text (λ protocol. IsSpecial protocol true × IsSpecial protocol false) }
 {}

@@ -2,7 +2,7 @@ use Rattle.std.proofs.Common.{Bor, List, ℕ, map, not, refl, sym, ap, ◌∙◌
 use Rattle.std.proofs.lemmas.List.{length-map}
 use Rattle.std.proofs.lemmas.Result.{err_from_is_err_and}
 use Rattle.std.specs.Str.{chars}
-use Rattle.urlpattern_init.specs.SpecialProtocol.{IsSpecialBy}
+use Rattle.urlpattern_init.specs.SpecialProtocol.{IsSpecialTo}
 use Rattle.urlpattern_init.specs.Split.{IsSplit}
 use Rattle.urlpattern_init.specs.Splitting.{components_of}
 use Rattle.urlpattern_init.proofs.SplitLemmas.{lacks_protocol, missing_is_none, none_of}
@@ -21,7 +21,7 @@ returns-then-is_none-2-clause-refused g c =
     let are_tokens = subst (λ (tokens : List Token). AreLenientTokens (chars c.args.pattern.now) (map token_view tokens)) (sym c.deref.ensures.value) c.in_ok-tokens.ensures.tokens in
     inr (inr (
       lacks_protocol _ (chars c.args.pattern.now) (map token_view c.deref.result.now) (components_of c.in_ok-split.split) are_tokens c.in_ok-split.ensures.split
-          (λ P some. missing_is_none (λ (text : Bor (List ℕ)). chars text.now) c.in_ok-split.split.protocol P (c.is_none.ensures ∙ ap not c.if-is_none.true) some),
+          (λ P some. missing_is_none (λ (text : Bor (List ℕ)). chars text.now) c.in_ok-split.split.values.protocol P (c.is_none.ensures ∙ ap not c.if-is_none.true) some),
       none_of c.args.base_url (c.is_none-then-is_none.ensures ∙ ap not c.if-is_none-2.true),
       refl,
     ))
@@ -31,7 +31,7 @@ returns-clause-split g c =
     let are_tokens = subst (λ (tokens : List Token). AreLenientTokens (chars c.args.pattern.now) (map token_view tokens)) (sym c.deref.ensures.value) c.in_ok-tokens.ensures.tokens in (
       map token_view c.deref.result.now,
       are_tokens,
-      subst (IsSplit (IsSpecialBy g.R.RegExp.IsMade _ g.R.RegExp.answer) (chars c.args.pattern.now) (map token_view c.deref.result.now)) (sym c.in_ok-init.ensures.components) c.in_ok-split.ensures.split,
+      subst (IsSplit (IsSpecialTo g.R.RegExp) (chars c.args.pattern.now) (map token_view c.deref.result.now)) (sym c.in_ok-init.ensures.components) c.in_ok-split.ensures.split,
     )
 
 pub returns-clause-turns : goal.returns-clause-turns

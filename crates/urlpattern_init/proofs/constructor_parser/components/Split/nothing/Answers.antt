@@ -1,0 +1,14 @@
+use Rattle.std.proofs.Common.{◌≡◌, None, ap}
+use Rattle.urlpattern_syntax.specs.declared.eight.ComponentName.{ComponentName}
+use Rattle.urlpattern_syntax.specs.declared.eight.ComponentName.TheVariants.{Protocol, Username, Password, Hostname, Port, Pathname, Search, Hash}
+use Rattle.urlpattern_syntax.specs.Eight.{at}
+use Rattle.urlpattern_syntax.specs.Parsing.{name_view}
+use Rattle.urlpattern_init.proofs.constructor_parser.components.Split.nothing.Goals as goal
+
+pub returns-clause-nothing : goal.returns-clause-nothing
+returns-clause-nothing c =
+    let none : (name : ComponentName) → name_view (at c.from_fn.result name) ≡ None = λ name. ap name_view (c.from_fn.ensures name).1 in
+    (((none Protocol, none Username, none Password, none Hostname, none Port), none Pathname), none Search)
+
+pub returns-clause-hash : goal.returns-clause-hash
+returns-clause-hash c = ap name_view (c.from_fn.ensures Hash).1

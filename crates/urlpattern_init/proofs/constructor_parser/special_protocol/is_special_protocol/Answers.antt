@@ -1,0 +1,27 @@
+use Rattle.std.proofs.Common.{map, rules, ap, inl, inr}
+use Rattle.std.proofs.lemmas.Result.{err_from_is_err_and}
+use Rattle.std.specs.Str.{chars}
+use Rattle.urlpattern_core.specs.Matchers.{matcher_view}
+use Rattle.urlpattern_syntax.specs.Options.{options_view}
+use Rattle.urlpattern_syntax.specs.Parts.{part_view}
+use Rattle.urlpattern_init.specs.SpecialProtocol.{protocol_encoding}
+use Rattle.urlpattern_laws.proofs.Encodings.{reads_weaker, refuses_weaker}
+use Rattle.urlpattern_init.proofs.SchemeLemmas.{chars_flags, special_from}
+use Rattle.urlpattern_init.proofs.constructor_parser.special_protocol.is_special_protocol.Goals as goal
+
+pub returns-clause-special : goal.returns-clause-special
+returns-clause-special g c =
+    special_from g.R.RegExp.IsMade _ g.R.RegExp.answer (chars c.args.protocol.now) _ (options_view c.default-options.result)
+    (map part_view c.in_ok-part_list.part_list.items) (map part_view c.deref.result.now) (matcher_view c.in_ok-matcher.matcher) c.accepts_special_scheme.result
+    c.default-options.ensures chars_flags (ap (map part_view) c.deref.ensures.value)
+    (reads_weaker _ protocol_encoding (λ text answer h. (h.0, search rules, h.2)) _ _ _ c.in_ok-part_list.ensures.reads)
+    c.in_ok-matcher.ensures.made c.accepts_special_scheme.ensures.answer
+
+pub returns-in_err-part_list-clause-refused : goal.returns-in_err-part_list-clause-refused
+returns-in_err-part_list-clause-refused g c =
+    let p = err_from_is_err_and c.from_residual.result c.from_residual.ensures.1 in
+    rw (p.1, p.2)
+    (elim c.in_err-part_list.ensures.refuses [
+      | inl memory ↦ inl memory
+      | inr refused ↦ inr (rw (← c.default-options.ensures) (refuses_weaker _ protocol_encoding (λ text answer h. (h.0, search rules, h.2)) _ _ _ refused))
+    ])

@@ -1,0 +1,318 @@
+//! The components that are found in a constructor string.
+ghost use Rattle.std.specs.Prelude.{◌≡◌, IfErr, IfOk, Some, ◌+◌, ◌*◌, ◌<◌, ◌≤◌, length, IsTrue, None};
+ghost use Rattle.std.specs.Str.{chars};
+ghost use Rattle.urlpattern_init.specs.Inheritance.{values_view};
+ghost use Rattle.urlpattern_init.specs.Split.{AuthorityFrom, EndsAt, HashAt, HashFrom, HostnameFrom, IsAbsoluteSplit, IsRelativeSplit, IsTextBetween, PathnameAt, PathnameFrom, PortAt, SearchAt, SearchFrom, UserinfoFrom, depth_before, ends_at, implied_pathname, is_at_sign, is_colon_sign, is_slash_sign};
+ghost use Rattle.urlpattern_init.specs.Splitting.{CanRead, HasRead, HasTurnForSlash, HasTurns, IsOwned, IsSource, NoAuthority, NoPathname, NoSearch, components_of, may_follow_hostname, may_follow_pathname, may_follow_port, may_follow_search, text_of_source, tokens_of};
+ghost use Rattle.urlpattern_syntax.specs.Parsing.{name_view};
+ghost use Rattle.urlpattern_syntax.specs.Eight.{at};
+ghost use Rattle.urlpattern_syntax.specs.declared.error.Error.TheVariants as errors;
+
+use super::sections::{Place, Section};
+use super::tokens::Source;
+use crate::init::UrlPatternInit;
+use std::alloc::Global;
+use url::Url;
+use urlpattern_core::Error;
+use urlpattern_syntax::eight::{ComponentName, Eight};
+
+/// The components that were found, and how many looks at a token that took.
+#[derive(Drop)]
+pub(super) struct Split<'a> {
+    pub(super) values: Eight<Option<&'a str>>,
+    pub(super) turns: usize,
+}
+
+impl<'a> Split<'a> {
+    /// An init with these components and a base URL.
+    ///
+    /// The error is that memory ran out.
+    pub(super) fn to_init(
+        &self,
+        alloc: Global,
+        base_url: Option<Url>,
+    ) -> Result<UrlPatternInit, Error>
+        ensures components { IfOk result (λ init. values_view init ≡ components_of self.now) }
+        ensures base { IfOk result (λ init. init.base_url ≡ base_url) }
+        ensures memory { IfErr result (λ error. error ≡ errors.OutOfMemory) }
+    {
+        let value = |name: ComponentName| -> Result<Option<String>, Error>
+            ensures { IsOwned (at (components_of self.entry.now) name) result }
+        { owned(alloc, *self.values.get(name)) };
+        let values = Eight::try_from_fn(value)?;
+        let mut init = UrlPatternInit::of_values(values);
+        init.base_url = base_url;
+        Ok(init)
+    }
+
+    /// No component.
+    fn nothing(turns: usize) -> Split<'a>
+        ensures nothing { NoSearch (components_of result) }
+        ensures hash { (components_of result).hash ≡ None }
+        ensures turns { result.turns ≡ turns }
+    {
+        let none = |_name: ComponentName| -> Option<&str>
+            ensures { result ≡ None }
+        { None };
+        Split {
+            values: Eight::from_fn(none),
+            turns,
+        }
+    }
+}
+
+/// A text of one's own, if there is one.
+fn owned(alloc: Global, text: Option<&str>) -> Result<Option<String>, Error>
+    ensures { IsOwned (name_view text.entry) result }
+{
+    match text {
+        Some(text) => Ok(Some(String::from_str(alloc, text)?)),
+        None => Ok(None),
+    }
+}
+
+impl<'t, 'a> Source<'t, 'a> {
+    /// The components of a text with a protocol, which ends at a colon.
+    pub(super) fn absolute(&self, colon: Place, protocol: &'a str, special: bool) -> Split<'a>
+        requires source { IsSource self.now }
+        requires protocol { IsTextBetween (text_of_source self.now) (tokens_of self.now) 0 colon.index (chars protocol.now) }
+        requires ends { EndsAt Section.Protocol (tokens_of self.now) 0 0 colon.index }
+        requires sign { IsTrue (is_colon_sign (tokens_of self.now) colon.index) }
+        requires turns { colon.turns ≤ 2 * (colon.index + 1) }
+        ensures split { IsAbsoluteSplit (text_of_source self.now) (tokens_of self.now) special colon.index (components_of result) }
+        ensures protocol { (components_of result).protocol ≡ Some (chars protocol.now) }
+        ensures turns { result.turns ≤ 2 * length self.now.tokens.now }
+    {
+        if self.has_slashes(colon.index) {
+            let Split { mut values, turns } = self.authority_from(colon.behind(3), special);
+            values.protocol = Some(protocol);
+            return Split { values, turns };
+        }
+        if special {
+            let Split { mut values, turns } = self.authority_from(colon.behind(1), special);
+            values.protocol = Some(protocol);
+            return Split { values, turns };
+        }
+        let Split { mut values, turns } = self.pathname_from(colon.behind(1));
+        values.protocol = Some(protocol);
+        values.hostname = Some("");
+        values.port = Some("");
+        Split { values, turns }
+    }
+
+    /// The components of a text in which no protocol was found, read up to its end.
+    pub(super) fn relative(&self, end: Place) -> Split<'a>
+        requires source { IsSource self.now }
+        requires ends { EndsAt Section.Protocol (tokens_of self.now) 0 0 end.index }
+        requires end { IsTrue (ends_at (tokens_of self.now) end.index) }
+        requires depth { end.depth ≡ depth_before (tokens_of self.now) 0 0 end.index }
+        requires shallow { end.depth ≤ end.index }
+        requires turns { end.turns ≤ length self.now.tokens.now }
+        ensures split { IsRelativeSplit (text_of_source self.now) (tokens_of self.now) (components_of result) }
+        ensures turns { result.turns ≤ 2 * length self.now.tokens.now }
+    {
+        if self.is_sign(0, b'#') {
+            return self.hash_from(Place { index: 1, ..end });
+        }
+        if self.is_search_sign(0) {
+            return self.search_from(Place { index: 1, ..end });
+        }
+        self.pathname_from(Place { index: 0, ..end })
+    }
+
+    /// The authority, which begins at a place, and what stands behind it.
+    fn authority_from(&self, from: Place, special: bool) -> Split<'a>
+        requires source { IsSource self.now }
+        requires within { from.index < length self.now.tokens.now }
+        requires level { from.depth ≡ 0 }
+        requires turns { from.turns ≤ 2 * from.index }
+        ensures split { AuthorityFrom (text_of_source self.now) (tokens_of self.now) special from.index (components_of result) }
+        ensures turns { result.turns ≤ 2 * length self.now.tokens.now }
+    {
+        let end = self.end_of(Section::Authority, from);
+        if self.is_sign(end.index, b'@') {
+            let back = Place {
+                turns: end.turns,
+                ..from
+            };
+            return self.userinfo_from(back, end.index, special);
+        }
+        let back = Place {
+            index: from.index,
+            ..end
+        };
+        let Split { mut values, turns } = self.hostname_from(back, special);
+        values.username = None;
+        values.password = None;
+        Split { values, turns }
+    }
+
+    /// The username and the password, which begin at a place, where the hostname follows the sign `until`, and what
+    /// stands behind them.
+    fn userinfo_from(&self, from: Place, until: usize, special: bool) -> Split<'a>
+        requires source { IsSource self.now }
+        requires ends { EndsAt Section.Authority (tokens_of self.now) from.index 0 until }
+        requires sign { IsTrue (is_at_sign (tokens_of self.now) until) }
+        requires level { from.depth ≡ 0 }
+        requires turns { from.turns ≤ from.index + until + 1 }
+        ensures userinfo { UserinfoFrom (text_of_source self.now) (tokens_of self.now) from.index until (components_of result) }
+        ensures hostname { HostnameFrom (text_of_source self.now) (tokens_of self.now) special (until + 1) 0 (components_of result) }
+        ensures turns { result.turns ≤ 2 * length self.now.tokens.now }
+    {
+        let end = self.end_of(Section::Username, from);
+        let username = Some(self.text_between(from.index, end.index));
+        if !self.is_sign(end.index, b':') {
+            let Split { mut values, turns } = self.hostname_from(end.behind(1), special);
+            values.username = username;
+            values.password = None;
+            return Split { values, turns };
+        }
+        let password_from = end.behind(1);
+        let password_end = self.end_of(Section::Password, password_from);
+        let password = Some(self.text_between(password_from.index, password_end.index));
+        let Split { mut values, turns } = self.hostname_from(password_end.behind(1), special);
+        values.username = username;
+        values.password = password;
+        Split { values, turns }
+    }
+
+    /// The hostname, which begins at a place, and what stands behind it.
+    fn hostname_from(&self, from: Place, special: bool) -> Split<'a>
+        requires source { IsSource self.now }
+        requires reads { CanRead self.now from }
+        requires slash { HasTurnForSlash self.now from.index from.depth (from.turns + 1) }
+        ensures split { HostnameFrom (text_of_source self.now) (tokens_of self.now) special from.index from.depth (components_of result) }
+        ensures turns { result.turns ≤ 2 * length self.now.tokens.now }
+    {
+        let end = self.end_of(Section::Hostname, from);
+        let Split { mut values, turns } = self.port_at(end, special);
+        values.hostname = Some(self.text_between(from.index, end.index));
+        Split { values, turns }
+    }
+
+    /// The port, if a colon stands at a place, and what stands behind it.
+    fn port_at(&self, end: Place, special: bool) -> Split<'a>
+        requires source { IsSource self.now }
+        requires reads { HasRead self.now end }
+        requires sign { IsTrue (may_follow_hostname (tokens_of self.now) end.index) }
+        requires slash { HasTurnForSlash self.now end.index 0 end.turns }
+        ensures split { PortAt (text_of_source self.now) (tokens_of self.now) special end.index (components_of result) }
+        ensures turns { result.turns ≤ 2 * length self.now.tokens.now }
+    {
+        if self.is_sign(end.index, b':') {
+            let from = end.behind(1);
+            let end = self.end_of(Section::Port, from);
+            let Split { mut values, turns } = self.pathname_at(end, special);
+            values.port = Some(self.text_between(from.index, end.index));
+            return Split { values, turns };
+        }
+        let Split { mut values, turns } = self.pathname_at(end, special);
+        values.port = Some("");
+        Split { values, turns }
+    }
+
+    /// What stands behind the hostname and the port: the pathname, if it begins at a place, the search and the hash.
+    fn pathname_at(&self, end: Place, special: bool) -> Split<'a>
+        requires source { IsSource self.now }
+        requires reads { HasRead self.now end }
+        requires sign { IsTrue (may_follow_port (tokens_of self.now) end.index) }
+        requires slash { IsTrue (is_slash_sign (tokens_of self.now) end.index) → HasTurns self.now end.index end.turns }
+        ensures split { PathnameAt (text_of_source self.now) (tokens_of self.now) special end.index (components_of result) }
+        ensures nothing { NoAuthority (components_of result) }
+        ensures turns { result.turns ≤ 2 * length self.now.tokens.now }
+    {
+        if self.is_sign(end.index, b'/') {
+            return self.pathname_from(end.behind(0));
+        }
+        if self.is_search_sign(end.index) || self.is_sign(end.index, b'#') {
+            let Split { mut values, turns } = self.search_at(end);
+            values.pathname = Some(implied_pathname(special));
+            return Split { values, turns };
+        }
+        Split::nothing(end.turns)
+    }
+
+    /// The pathname, which begins at a place, the search and the hash.
+    fn pathname_from(&self, from: Place) -> Split<'a>
+        requires source { IsSource self.now }
+        requires reads { CanRead self.now from }
+        ensures split { PathnameFrom (text_of_source self.now) (tokens_of self.now) from.index from.depth (components_of result) }
+        ensures nothing { NoAuthority (components_of result) }
+        ensures turns { result.turns ≤ 2 * length self.now.tokens.now }
+    {
+        let end = self.end_of(Section::Pathname, from);
+        let Split { mut values, turns } = self.search_at(end);
+        values.pathname = Some(self.text_between(from.index, end.index));
+        Split { values, turns }
+    }
+
+    /// The search and the hash, if they begin behind the token at a place.
+    fn search_at(&self, end: Place) -> Split<'a>
+        requires source { IsSource self.now }
+        requires reads { HasRead self.now end }
+        requires sign { IsTrue (may_follow_pathname (tokens_of self.now) end.index) }
+        ensures split { SearchAt (text_of_source self.now) (tokens_of self.now) end.index (components_of result) }
+        ensures nothing { NoPathname (components_of result) }
+        ensures turns { result.turns ≤ 2 * length self.now.tokens.now }
+    {
+        if self.is_search_sign(end.index) {
+            return self.search_from(end.behind(1));
+        }
+        if self.is_sign(end.index, b'#') {
+            let Split { mut values, turns } = self.hash_from(end.behind(1));
+            values.search = Some("");
+            return Split { values, turns };
+        }
+        Split::nothing(end.turns)
+    }
+
+    /// The search, which begins at a place, and the hash.
+    fn search_from(&self, from: Place) -> Split<'a>
+        requires source { IsSource self.now }
+        requires reads { CanRead self.now from }
+        ensures split { SearchFrom (text_of_source self.now) (tokens_of self.now) from.index from.depth (components_of result) }
+        ensures nothing { NoPathname (components_of result) }
+        ensures turns { result.turns ≤ 2 * length self.now.tokens.now }
+    {
+        let end = self.end_of(Section::Search, from);
+        let Split { mut values, turns } = self.hash_at(end);
+        values.search = Some(self.text_between(from.index, end.index));
+        Split { values, turns }
+    }
+
+    /// The hash, if it begins behind the token at a place.
+    fn hash_at(&self, end: Place) -> Split<'a>
+        requires source { IsSource self.now }
+        requires reads { HasRead self.now end }
+        requires sign { IsTrue (may_follow_search (tokens_of self.now) end.index) }
+        ensures split { HashAt (text_of_source self.now) (tokens_of self.now) end.index (components_of result) }
+        ensures nothing { NoSearch (components_of result) }
+        ensures turns { result.turns ≤ 2 * length self.now.tokens.now }
+    {
+        if self.is_sign(end.index, b'#') {
+            return self.hash_from(end.behind(1));
+        }
+        Split::nothing(end.turns)
+    }
+
+    /// The hash, which begins at a place.
+    fn hash_from(&self, from: Place) -> Split<'a>
+        requires source { IsSource self.now }
+        requires reads { CanRead self.now from }
+        ensures split { HashFrom (text_of_source self.now) (tokens_of self.now) from.index (components_of result) }
+        ensures nothing { NoSearch (components_of result) }
+        ensures turns { result.turns ≤ 2 * length self.now.tokens.now }
+    {
+        let end = self.end_of(Section::Hash, from);
+        let Split { mut values, turns } = Split::nothing(end.turns);
+        values.hash = Some(self.text_between(from.index, end.index));
+        Split { values, turns }
+    }
+}
+
+/// The pathname where a search or a hash begins without one.
+fn implied_pathname(special: bool) -> &'static str
+    ensures { chars result.now ≡ implied_pathname special }
+{
+    if special { "/" } else { "" }
+}

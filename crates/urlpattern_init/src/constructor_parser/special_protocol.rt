@@ -1,0 +1,65 @@
+//! Whether a protocol is special.
+ghost use Rattle.std.specs.Prelude.{◌≡◌, ◌↔◌, IfErr, IfOk, MatchBool, IsTrue};
+ghost use Rattle.std.specs.Str.{chars};
+ghost use Rattle.urlpattern_init.specs.SpecialProtocol.{AcceptsAny, AcceptsSpecialScheme, CanonicalizesProtocol, IsSpecialTo, RefusesProtocol};
+ghost use Rattle.urlpattern_core.specs.Matchers.{matcher_view};
+ghost use Rattle.urlpattern_syntax.specs.Errors.{MemoryOr};
+ghost use Rattle.urlpattern_syntax.specs.declared.error.Error.TheVariants as errors;
+
+use std::alloc::Global;
+use urlpattern_canonical::canonicalize_and_process::canonicalize_protocol;
+use urlpattern_core::Error;
+use urlpattern_core::component::generate_matcher;
+use urlpattern_core::matcher::Matcher;
+use urlpattern_core::parser::{Options, parse_pattern_string};
+use urlpattern_core::regexp::RegExp;
+
+/// Whether a protocol that is given as a pattern is special: its matcher accepts a special scheme.
+///
+/// The error is that the pattern is refused, or that memory ran out.
+///
+/// <https://urlpattern.spec.whatwg.org/#compute-protocol-matches-a-special-scheme-flag>
+pub(super) fn is_special_protocol<R: RegExp>(alloc: Global, protocol: &str) -> Result<bool, Error>
+    ensures special { IfOk result (IsSpecialTo R.RegExp (chars protocol.now)) }
+    ensures refused { IfErr result (MemoryOr (RefusesProtocol (chars protocol.now))) }
+{
+    let options = Options::default(alloc);
+    let canonicalize = |text: &str| -> Result<String, Error>
+        ensures { CanonicalizesProtocol text.now result }
+    { canonicalize_protocol(alloc, text) };
+    let part_list = parse_pattern_string(alloc, protocol, &options, canonicalize)?;
+    let matcher = generate_matcher::<R>(alloc, &part_list, &options, "u")?;
+    accepts_special_scheme(alloc, &matcher)
+}
+
+/// Whether a matcher accepts a special scheme.
+///
+/// The error is that memory ran out.
+pub fn accepts_special_scheme<R: RegExp>(alloc: Global, matcher: &Matcher<R>) -> Result<bool, Error>
+    ensures answer { IfOk result (λ accepted. IsTrue accepted ↔ AcceptsSpecialScheme R.answer (matcher_view matcher.now)) }
+    ensures memory { IfErr result (λ error. error ≡ errors.OutOfMemory) }
+{
+    accepts_any(
+        alloc,
+        matcher,
+        &["http", "https", "ws", "wss", "ftp", "file"],
+    )
+}
+
+/// Whether a matcher accepts one of some texts.
+fn accepts_any<R: RegExp>(
+    alloc: Global,
+    matcher: &Matcher<R>,
+    texts: &[&str],
+) -> Result<bool, Error>
+    ensures answer { let Accepts = AcceptsAny R.answer matcher.now texts.now in
+        IfOk result (λ found. MatchBool found Accepts (¬ Accepts)) }
+    ensures memory { IfErr result (λ error. error ≡ errors.OutOfMemory) }
+{
+    for text in texts {
+        if matcher.accepts(alloc, text)? {
+            return Ok(true);
+        }
+    }
+    Ok(false)
+}
