@@ -1,5 +1,5 @@
 -- The text of a tree with more groups than the crate `regex` counts is not read.
-use Rattle.std.proofs.Common.{◌≡◌, ℕ, suc, ◌+◌, ◌-◌, ◌*◌, ◌^◌, ◌≤◌, ◌<◌, List, [], ◌∷◌, ◌++◌, length, replicate, Option, Some, None, true, refl, sym, ap, ◌∙◌, subst, arith, append_assoc, length-append, le-ltb, ⊎_elim, ◌⊎◌, codes}
+use Rattle.std.proofs.Common.{◌≡◌, ℕ, suc, ◌+◌, ◌-◌, ◌*◌, ◌^◌, ◌≤◌, ◌<◌, List, [], ◌∷◌, ◌++◌, length, replicate, Option, Some, None, true, refl, sym, ap, ◌∙◌, subst, arith, append_assoc, le-ltb, ⊎_elim, ◌⊎◌, codes}
 use Rattle.std.proofs.lemmas.Option.{none-some, same_Some}
 use Rattle.std.proofs.lemmas.List.{length-replicate}
 use Rattle.regex_hir.specs.Meaning.{cat_all, alt_all}
@@ -14,7 +14,7 @@ use lib.Utf8.{scalars}
 use Rattle.urlpattern_core.proofs.TreesRead.{re_of, same_whole, tree_is_read}
 use Rattle.urlpattern_laws.specs.Dialect.{Quantifier, quantifier_text, Items, Nothing, Item, Atom, Literal, Dot, AnyBut, Captured, Grouped, items_text, atom_text, group_count, atom_group_count, AreItems, IsAtom}
 use Rattle.urlpattern_core.proofs.AtomsRead.{full}
-use Rattle.urlpattern_core.proofs.ItemsRead.{place, Free, repeated_as, opens_item, item_splits, free_items, part, opens_as, opens_captured, opens_grouped, atom_length, atom-read}
+use Rattle.urlpattern_core.proofs.ItemsRead.{place, Free, repeated_as, opens_item, item_length, item_splits, free_items, part, opens_as, opens_captured, opens_grouped, atom_length, atom-read}
 use Rattle.urlpattern_core.proofs.TreeTextsRead.{whole, first_line, leaf_passes}
 
 uncounted : (g : ℕ) (t : Text) → 2 ^ 32 ≤ g → capture (place g (40 ∷ t)) None t ≡ None
@@ -46,8 +46,7 @@ mutual
       let text = atom_text a ++ (quantifier_text q ++ more) in
       let split : items_text (Item a q tree) ++ rest ≡ text = item_splits a q tree rest in
       let fuel : 2 * length text < n = subst (λ t. 2 * length t < n) split le in
-      let long : length text ≡ length (atom_text a) + (length (quantifier_text q) + length more) =
-      length-append (atom_text a) (quantifier_text q ++ more) ∙ ap (λ l. length (atom_text a) + l) (length-append (quantifier_text q) more) in
+      let long = item_length a q more in
       let free_more = free_items tree h.2 rest free in
       ap (λ t. join_after cat_all earlier (items n (place g t))) split
       ∙ branch_goes n (n - 1) earlier (place g text) text (omega arith) refl (opens_item a h.0 (quantifier_text q ++ more)).1

@@ -102,6 +102,9 @@ opens_item (AnyBut character) h more = (refl, rw (full 91 (94 ∷ (character_tex
 opens_item (Captured items) h more = (refl, rw (full 40 ((items_text items ++ 41 ∷ []) ++ more)))
 opens_item (Grouped items) h more = (refl, rw (full 40 (63 ∷ 58 ∷ (items_text items ++ 41 ∷ []) ++ more)))
 
+pub item_length : (a : Atom) (q : Quantifier) (more : Text) → length (atom_text a ++ (quantifier_text q ++ more)) ≡ length (atom_text a) + (length (quantifier_text q) + length more)
+item_length a q more = length-append (atom_text a) (quantifier_text q ++ more) ∙ ap (λ l. length (atom_text a) + l) (length-append (quantifier_text q) more)
+
 pub item_splits : (atom : Atom) (q : Quantifier) (items : Items) (rest : Text)
     → items_text (Item atom q items) ++ rest ≡ atom_text atom ++ (quantifier_text q ++ (items_text items ++ rest))
 item_splits atom q items rest =
@@ -229,8 +232,7 @@ mutual
       let text = atom_text a ++ (quantifier_text q ++ more) in
       let split : items_text (Item a q tree) ++ rest ≡ text = item_splits a q tree rest in
       let fuel : 2 * length text < n = subst (λ t. 2 * length t < n) split le in
-      let long : length text ≡ length (atom_text a) + (length (quantifier_text q) + length more) =
-      length-append (atom_text a) (quantifier_text q ++ more) ∙ ap (λ l. length (atom_text a) + l) (length-append (quantifier_text q) more) in
+      let long = item_length a q more in
       let one = atom-read a h.0 g (omega arith) q more (free_items tree h.2 rest free) (n - 1) (omega arith) in
       goes_on a q tree g rest n earlier
       (ap (λ t. join_after cat_all earlier (items n (place g t))) split

@@ -1,5 +1,5 @@
 -- Lemmas on the texts of printed patterns.
-use Rattle.std.proofs.Common.{◌≡◌, ℕ, Bool, true, false, not, ◌&&◌, ◌||◌, ◌==◌, List, [], ◌∷◌, ◌++◌, length, take, Option, Some, None, String, refl, sym, ap, subst, ◌∙◌, bytes_eq, map, arith}
+use Rattle.std.proofs.Common.{◌≡◌, ℕ, Bool, true, false, not, ◌&&◌, ◌==◌, List, [], ◌∷◌, ◌++◌, length, take, Option, Some, None, String, refl, sym, ap, subst, ◌∙◌, bytes_eq, map, arith}
 use denote.Ref.{Bor}
 use Rattle.std.proofs.lemmas.Slice.Eq.{bytes_eq-Decides}
 use Rattle.std.proofs.Math.Dec.{eqb}
@@ -87,20 +87,6 @@ bytes_eq-text one other =
     same_from_decides (bytes_eq (text_of one) (text_of other)) (bytes_eq (string_bytes one) (string_bytes other))
     ((λ e. bytes_same (string_bytes one) (string_bytes other) u v (chars_decide.0 e)), (λ e. chars_decide.1 (ap chars e)))
     bytes_decide
-
--- ---- tests one after another
-
-pub found_of_four : (a b c d first second answer : Bool) → first ≡ a || b → second ≡ first || c → second ≡ true → answer ≡ second → answer ≡ a || b || c || d
-found_of_four true b c d first second answer e f t g = g ∙ t
-found_of_four false true c d first second answer e f t g = g ∙ t
-found_of_four false false true d first second answer e f t g = g ∙ t
-found_of_four false false false d first second answer e f t g = absurd (cc (e, f, t))
-
-pub last_of_four : (a b c d first second answer : Bool) → first ≡ a || b → second ≡ first || c → second ≡ false → answer ≡ d → answer ≡ a || b || c || d
-last_of_four false false false d first second answer e f t g = g
-last_of_four true b c d first second answer e f t g = let h : second ≡ true = f ∙ ap (λ x. x || c) e in absurd (cc (h, t))
-last_of_four false true c d first second answer e f t g = let h : second ≡ true = f ∙ ap (λ x. x || c) e in absurd (cc (h, t))
-last_of_four false false true d first second answer e f t g = let h : second ≡ true = f ∙ ap (λ x. x || true) e in absurd (cc (h, t))
 
 -- ---- neighbours
 

@@ -2,12 +2,12 @@
 //!
 //! <https://urlpattern.spec.whatwg.org/#converting-part-lists-to-pattern-strings>
 
-ghost use Rattle.std.specs.Prelude.{◌≡◌, ◌&&◌, false, not, IfOk, IfErr};
+ghost use Rattle.std.specs.Prelude.{◌≡◌, ◌&&◌, ◌||◌, false, not, IfOk, IfErr};
 ghost use Rattle.std.specs.Str.{chars};
 ghost use Rattle.urlpattern_core.specs.Neighbours.{ends_with_prefix, neighbour};
 ghost use Rattle.urlpattern_core.specs.NormalForms.{ReadsBackIfKept};
 ghost use Rattle.urlpattern_core.specs.PartTexts.{group_part};
-ghost use Rattle.urlpattern_laws.specs.Printing.{goes_on, has_custom_name, has_other_prefix, in_braces, is_asterisk, is_name_alone, needs_braces, printed, printed_fixed, printed_match, printed_name, printed_part, printed_suffix, takes_before, takes_next, admits_asterisk};
+ghost use Rattle.urlpattern_laws.specs.Printing.{goes_on, has_custom_name, has_other_prefix, has_suffix, in_braces, is_asterisk, is_name_alone, needs_braces, printed, printed_fixed, printed_match, printed_name, printed_part, printed_suffix, takes_before, takes_next, admits_asterisk};
 ghost use Rattle.urlpattern_syntax.specs.declared.error.Error.TheVariants as errors;
 ghost use Rattle.urlpattern_syntax.specs.Options.{options_view};
 ghost use Rattle.urlpattern_syntax.specs.Parts.{part_view, parts_view};
@@ -207,10 +207,14 @@ fn needs_grouping(
 ) -> bool
     ensures { result ≡ needs_braces (options_view options.now) (neighbour previous.entry) (part_view part.now) (neighbour next.entry) }
 {
-    !part.suffix.is_empty()
-        || has_other_prefix(options, part)
-        || takes_next(part, next)
-        || takes_before(options, previous, part)
+    has_other_ends(options, part) || takes_next(part, next) || takes_before(options, previous, part)
+}
+
+/// Whether the part has a suffix, or a prefix that is not the prefix code point.
+fn has_other_ends(options: &Options, part: &Part) -> bool
+    ensures { result ≡ (has_suffix (part_view part.now) || has_other_prefix (options_view options.now) (part_view part.now)) }
+{
+    !part.suffix.is_empty() || has_other_prefix(options, part)
 }
 
 /// Whether the part has a prefix that is not the prefix code point.
