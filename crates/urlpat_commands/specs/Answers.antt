@@ -18,6 +18,7 @@ use Rattle.urlpat_commands.specs.Kinds.{IsKind, IsNamed}
 use Rattle.urlpat_commands.specs.Report.{component_lines, first_line, group_line}
 use Rattle.urlpattern.specs.Compiled.{Compiles}
 use Rattle.urlpattern.specs.Compiling.{IsCompiledFrom}
+use Rattle.urlpattern.specs.Eight.{components, name_text}
 use Rattle.urlpattern.specs.Dialect.{HasMeaningOf}
 use Rattle.urlpattern.specs.Errors.{ErrorView}
 use Rattle.urlpattern.specs.Canonical.{IsRefusedByUrl}
@@ -39,7 +40,6 @@ use Rattle.urlpattern_engine.specs.Engine.{IsPatternRegexpOf, pattern_answer}
 use Rattle.urlpattern_engine.specs.Reading.{IsGenerated}
 use Rattle.urlpattern_engine.specs.declared.pattern_regexp.PatternRegexp.{PatternRegexp}
 use Rattle.urlpattern_syntax.specs.declared.eight.ComponentName.{ComponentName}
-use Rattle.urlpattern_syntax.specs.declared.eight.ComponentName.TheVariants.{Protocol, Username, Password, Hostname, Port, Pathname, Search, Hash}
 use Rattle.urlpattern_init.specs.declared.init.UrlPatternMatchInput.TheVariants as match_inputs
 use Rattle.urlpattern_inputs.specs.declared.options.UrlPatternOptions.{UrlPatternOptions}
 use Rattle.urlpattern_syntax.specs.declared.error.Error.{Error}
@@ -138,17 +138,9 @@ AreLines (component ∷ rest) text =
 abbrev pub GetsLines : (AreSuch : List ℕ → Type 0) → (old new : String Global) → Type 0
 GetsLines AreSuch old new = (lines : List ℕ) × (string_bytes new ≡ string_bytes old ++ lines) × AreSuch lines
 
+-- the components by their names
 abbrev pub components_of : (ComponentName → ResultView) → List (List ℕ × ResultView)
-components_of result =
-    (codes "protocol", result Protocol)
-    ∷ (codes "username", result Username)
-    ∷ (codes "password", result Password)
-    ∷ (codes "hostname", result Hostname)
-    ∷ (codes "port", result Port)
-    ∷ (codes "pathname", result Pathname)
-    ∷ (codes "search", result Search)
-    ∷ (codes "hash", result Hash)
-    ∷ []
+components_of result = map (λ name. (name_text name, result name)) components
 
 -- the input is this URL, under the base URL
 abbrev pub IsUrlOf : (input : List ℕ) → (base : Option (List ℕ)) → (url : Parts) → Type 0
@@ -322,4 +314,4 @@ FailsWhere words IsSo = (failure : Failure) × IsFailure words failure × IsSo
 abbrev pub IsPrintedOf : Option (String Global) → Printed → Type 0
 IsPrintedOf lines printed =
     MatchOption lines ((string_bytes printed.text ≡ codes "no match\n") × (printed.status ≡ NO_MATCH))
-        (λ text. (printed.text ≡ text) × (printed.status ≡ DONE))
+    (λ text. (printed.text ≡ text) × (printed.status ≡ DONE))

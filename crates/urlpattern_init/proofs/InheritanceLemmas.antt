@@ -131,14 +131,14 @@ protocol-alone mode values base protocol = protocol-given mode values base proto
 pub kept : {A : Type 0} (first : A) (values : Eight A) (name : ComponentName) → name ≢ Protocol → at (record values { protocol = first }) name ≡ at values name
 kept first values =
     by_name (λ name. name ≢ Protocol → at (record values { protocol = first }) name ≡ at values name)
-        (λ other. absurd (other refl)) (λ _. refl) (λ _. refl) (λ _. refl) (λ _. refl) (λ _. refl) (λ _. refl) (λ _. refl)
+    (λ other. absurd (other refl)) (λ _. refl) (λ _. refl) (λ _. refl) (λ _. refl) (λ _. refl) (λ _. refl) (λ _. refl)
 
 -- what is known of the components behind the protocol is known of all
 module _ (mode : ProcessType) (values : Values) (base : Option Parts) (protocol : Option (List ℕ)) (e : processed_value mode values base None Protocol ≡ Ok protocol) where
   pub or_protocol : (P : ComponentName → Type 0) → P Protocol → ((name : ComponentName) → name ≢ Protocol → P name) → (name : ComponentName) → P name
   or_protocol P first others =
       by_name P first (others Username (λ same. absurd cc)) (others Password (λ same. absurd cc)) (others Hostname (λ same. absurd cc))
-          (others Port (λ same. absurd cc)) (others Pathname (λ same. absurd cc)) (others Search (λ same. absurd cc)) (others Hash (λ same. absurd cc))
+      (others Port (λ same. absurd cc)) (others Pathname (λ same. absurd cc)) (others Search (λ same. absurd cc)) (others Hash (λ same. absurd cc))
 
   pub has_value : (name : ComponentName) (value : Option (List ℕ)) → (name ≢ Protocol → processed_value mode values base protocol name ≡ Ok value)
       → HasValue (processed_value mode values base protocol) name
@@ -200,7 +200,7 @@ all_bytes mode values base =
 longest : (first : ℕ) (bytes : ComponentName → ℕ) (component : ComponentName) → max first (bytes component) ≤ fold max first (map bytes components)
 longest first bytes =
     by_name (λ component. max first (bytes component) ≤ fold max first (map bytes components))
-        (omega arith) (omega arith) (omega arith) (omega arith) (omega arith) (omega arith) (omega arith) (omega arith)
+    (omega arith) (omega arith) (omega arith) (omega arith) (omega arith) (omega arith) (omega arith) (omega arith)
 
 given-all : (mode : ProcessType) (values : Values) (base : Option Parts) (component : ComponentName)
     → max 0 (given_bytes mode values base component) ≤ all_bytes mode values base
@@ -233,7 +233,7 @@ asked-le mode values base component protocol e =
 pattern-text : (protocol : Option (List ℕ)) (component : ComponentName) (text : List ℕ) → (value : List ℕ) × (processed_text Pattern protocol component text ≡ Ok value)
 pattern-text protocol component text =
     by_name (λ name. (value : List ℕ) × (processed_text Pattern protocol name text ≡ Ok value))
-        (_, refl) (_, refl) (_, refl) (_, refl) (_, refl) (_, refl) (_, refl) (_, refl) component
+    (_, refl) (_, refl) (_, refl) (_, refl) (_, refl) (_, refl) (_, refl) (_, refl) component
 
 pattern-given : (values : Values) (base : Option Parts) (protocol : Option (List ℕ)) (component : ComponentName) (given : Option (List ℕ))
     → (value : Option (List ℕ)) × (value_given Pattern values base protocol component given ≡ Ok value)

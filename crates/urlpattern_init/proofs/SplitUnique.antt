@@ -137,16 +137,7 @@ abbrev SameAuthority : Values → Values → Type 0
 SameAuthority c d = SameUserinfo c d × SameHostname c d
 
 same_components : (c d : Values) → c.protocol ≡ d.protocol → SameAuthority c d → c ≡ d
-same_components c d protocol same = λ i. record {
-  protocol = protocol i;
-  username = same.0.0 i;
-  password = same.0.1 i;
-  hostname = same.1.0 i;
-  port = same.1.1.0 i;
-  pathname = same.1.1.1.0 i;
-  search = same.1.1.1.1.0 i;
-  hash = same.1.1.1.1.1 i;
-}
+same_components c d protocol same = λ i. record { protocol = protocol i; username = same.0.0 i; password = same.0.1 i; hostname = same.1.0 i; port = same.1.1.0 i; pathname = same.1.1.1.0 i; search = same.1.1.1.1.0 i; hash = same.1.1.1.1.1 i }
 
 module _ (text : List ℕ) (tokens : List TokenView) (are_tokens : AreLenientTokens text tokens) where
   closed : IsClosed tokens

@@ -1,9 +1,10 @@
 -- The values of an init, and what it inherits from its base URL, after the URLPattern Standard, section "Processing", at
 -- "process a URLPatternInit".
-use Rattle.std.specs.Prelude.{ℕ, Bool, true, false, ◌&&◌, ◌||◌, ◌==◌, fold, max, List, [], ◌∷◌, ◌++◌, map, Option, Some, None, is_none, option_map, unwrap_or, Ok, Err, if◌then◌else◌}
+use Rattle.std.specs.Prelude.{ℕ, Bool, true, false, ◌&&◌, ◌||◌, ◌==◌, fold, max, List, [], ◌∷◌, ◌++◌, map, Option, Some, None, is_none, option_map, unwrap_or, Ok, Err, if◌then◌else◌, String}
 use Rattle.std.specs.List.{list_all, list_any}
 use Rattle.std.specs.Option.{option_or}
 use Rattle.std.specs.Str.{chars}
+use Rattle.std.specs.declared.alloc.Global.{Global}
 use Rattle.url.specs.declared.error.ParseError.{ParseError}
 use Rattle.url.specs.declared.slicing.Position.TheVariants.{BeforePort, AfterPort}
 use Rattle.url.specs.Ascii.{backslash, slash}
@@ -16,21 +17,17 @@ use Rattle.urlpattern_init.specs.declared.init.UrlPatternInit.{UrlPatternInit}
 use Rattle.urlpattern_canonical.specs.Canonical.{bytes_asked, left_brace, processed_base, processed_hash, processed_hostname, processed_password, processed_pathname, processed_port, processed_protocol, processed_search, processed_username, without_first}
 use Rattle.urlpattern_canonical.specs.declared.canonicalize_and_process.ProcessType.{ProcessType}
 use Rattle.urlpattern_canonical.specs.declared.canonicalize_and_process.ProcessType.TheVariants.{Pattern, Url}
+use Rattle.urlpattern_syntax.specs.declared.eight.Eight.{Eight}
 use Rattle.urlpattern_syntax.specs.Eight.{Texts, Values, at, components, each}
 use Rattle.urlpattern_syntax.specs.Text.{begins_with, byte_len, text_of}
 
--- the texts that an init gives
+-- what an init has for each component
+abbrev pub given_texts : UrlPatternInit → Eight (Option (String Global))
+given_texts init = record { protocol = init.protocol; username = init.username; password = init.password; hostname = init.hostname; port = init.port; pathname = init.pathname; search = init.search; hash = init.hash }
+
+-- the texts that it gives
 abbrev pub values_view : UrlPatternInit → Values
-values_view init = record {
-  protocol = option_map text_of init.protocol;
-  username = option_map text_of init.username;
-  password = option_map text_of init.password;
-  hostname = option_map text_of init.hostname;
-  port = option_map text_of init.port;
-  pathname = option_map text_of init.pathname;
-  search = option_map text_of init.search;
-  hash = option_map text_of init.hash;
-}
+values_view init = each (λ name. option_map text_of (at (given_texts init) name))
 
 -- ---- the table
 

@@ -13,16 +13,7 @@ use Rattle.urlpattern_syntax.specs.declared.eight.Eight.{Eight}
 
 -- what an init has for each component
 abbrev pub given_texts : UrlPatternInit → Eight (Option (String Global))
-given_texts init = record {
-  protocol = init.protocol;
-  username = init.username;
-  password = init.password;
-  hostname = init.hostname;
-  port = init.port;
-  pathname = init.pathname;
-  search = init.search;
-  hash = init.hash;
-}
+given_texts init = record { protocol = init.protocol; username = init.username; password = init.password; hostname = init.hostname; port = init.port; pathname = init.pathname; search = init.search; hash = init.hash }
 
 -- An init: the text of each component, where it is given, and the base URL.
 pub record InitView : Type 0 where
@@ -48,16 +39,7 @@ input_view (inputs.Init values) = of_init (init_view values)
 
 -- the text of each component
 abbrev pub matched_texts : MatchInput → Eight (String Global)
-matched_texts input = record {
-  protocol = input.protocol;
-  username = input.username;
-  password = input.password;
-  hostname = input.hostname;
-  port = input.port;
-  pathname = input.pathname;
-  search = input.search;
-  hash = input.hash;
-}
+matched_texts input = record { protocol = input.protocol; username = input.username; password = input.password; hostname = input.hostname; port = input.port; pathname = input.pathname; search = input.search; hash = input.hash }
 
 abbrev pub match_input_view : MatchInput → Eight (List ℕ)
 match_input_view input = each (λ name. string_bytes (at (matched_texts input) name))

@@ -5,7 +5,7 @@ use Rattle.std.specs.HashMap.{HashMap, get_by}
 use Rattle.std.specs.Map.{lookup}
 use Rattle.std.specs.declared.alloc.Global.{Global}
 use Rattle.urlpattern_syntax.specs.declared.eight.ComponentName.{ComponentName}
-use Rattle.urlpattern_syntax.specs.declared.eight.ComponentName.TheVariants.{Protocol, Username, Password, Hostname, Port, Pathname, Search, Hash}
+use Rattle.urlpattern_syntax.specs.declared.eight.Eight.{Eight}
 use Rattle.urlpattern_init.specs.declared.init.UrlPatternMatchInput.{UrlPatternMatchInput}
 use Rattle.urlpattern_pattern.specs.declared.pattern.result.UrlPatternComponentResult.{UrlPatternComponentResult}
 use Rattle.urlpattern_pattern.specs.declared.pattern.result.UrlPatternResult.{UrlPatternResult}
@@ -38,16 +38,13 @@ pub record ResultView : Type 0 where
 abbrev pub component_result_view : UrlPatternComponentResult → ResultView
 component_result_view result = record { input = text_of result.input; group = group_in result.groups }
 
--- A `UrlPatternResult`: the results of its components.
+-- the results of a `UrlPatternResult`
+abbrev pub result_components : UrlPatternResult → Eight UrlPatternComponentResult
+result_components result = record { protocol = result.protocol; username = result.username; password = result.password; hostname = result.hostname; port = result.port; pathname = result.pathname; search = result.search; hash = result.hash }
+
+-- the same, each as it is seen
 abbrev pub result_view : UrlPatternResult → ComponentName → ResultView
-result_view result Protocol = component_result_view result.protocol
-result_view result Username = component_result_view result.username
-result_view result Password = component_result_view result.password
-result_view result Hostname = component_result_view result.hostname
-result_view result Port = component_result_view result.port
-result_view result Pathname = component_result_view result.pathname
-result_view result Search = component_result_view result.search
-result_view result Hash = component_result_view result.hash
+result_view result name = component_result_view (at (result_components result) name)
 
 -- The result of a component with groups of these names, which capture this of the text.
 pub record IsResultOf (names : List (List ℕ)) (captures : Captures) (text : List ℕ) (result : ResultView) : Type 0 where

@@ -61,16 +61,7 @@ component_view component = component_by string_bytes component
 
 -- the pattern of each component
 abbrev pub component_patterns : UrlPattern → Eight UrlPatternComponent
-component_patterns pattern = record {
-  protocol = pattern.protocol;
-  username = pattern.username;
-  password = pattern.password;
-  hostname = pattern.hostname;
-  port = pattern.port;
-  pathname = pattern.pathname;
-  search = pattern.search;
-  hash = pattern.hash;
-}
+component_patterns pattern = record { protocol = pattern.protocol; username = pattern.username; password = pattern.password; hostname = pattern.hostname; port = pattern.port; pathname = pattern.pathname; search = pattern.search; hash = pattern.hash }
 
 -- A pattern: its components, and whether one of them has a custom regular expression.
 pub record PatternView : Type 0 where

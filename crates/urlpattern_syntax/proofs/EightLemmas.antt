@@ -25,16 +25,7 @@ passed_on {T} {A} Answers (Err passed) error before after name same split earlie
 
 -- two that have the same value for each component are the same
 pub same_values : {A : Type 0} (values others : Eight A) → ((name : ComponentName) → at values name ≡ at others name) → values ≡ others
-same_values values others same = λ i. record {
-  protocol = same Protocol i;
-  username = same Username i;
-  password = same Password i;
-  hostname = same Hostname i;
-  port = same Port i;
-  pathname = same Pathname i;
-  search = same Search i;
-  hash = same Hash i;
-}
+same_values values others same = λ i. record { protocol = same Protocol i; username = same Username i; password = same Password i; hostname = same Hostname i; port = same Port i; pathname = same Pathname i; search = same Search i; hash = same Hash i }
 
 -- what is known of each component is known of all
 pub by_name : (P : ComponentName → Type 0) → P Protocol → P Username → P Password → P Hostname → P Port → P Pathname → P Search → P Hash

@@ -32,16 +32,7 @@ at values Hash = values.hash
 
 -- a value for each component
 abbrev pub each : {A : Type 0} → (ComponentName → A) → Eight A
-each value = record {
-  protocol = value Protocol;
-  username = value Username;
-  password = value Password;
-  hostname = value Hostname;
-  port = value Port;
-  pathname = value Pathname;
-  search = value Search;
-  hash = value Hash;
-}
+each value = record { protocol = value Protocol; username = value Username; password = value Password; hostname = value Hostname; port = value Port; pathname = value Pathname; search = value Search; hash = value Hash }
 
 -- the texts of the components
 abbrev pub Texts : Type 0

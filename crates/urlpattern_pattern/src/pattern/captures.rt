@@ -129,9 +129,7 @@ impl<'a> UrlPatternCaptures<'a> {
     {
         let groups = |name: ComponentName| -> Result<Groups, Error>
             ensures { IsGroupsAnswer self.entry.now name result }
-        {
-            self.groups_of(alloc, name)
-        };
+        { self.groups_of(alloc, name) };
         Eight::try_from_fn(groups)
     }
 

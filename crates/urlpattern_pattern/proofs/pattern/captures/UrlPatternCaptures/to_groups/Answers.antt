@@ -9,9 +9,9 @@ use Rattle.urlpattern_pattern.proofs.pattern.captures.UrlPatternCaptures.to_grou
 pub returns-clause-groups : goal.returns-clause-groups
 returns-clause-groups c =
     all_ok c.try_from_fn.result (λ name result. ComponentName × IsGroupsAnswer c.args.self.now name result)
-        (λ name groups. AreGroupsOf groups (captures_view c.args.self.now name)) c.try_from_fn.ensures.ok (λ name groups answered. answered.1.groups)
+    (λ name groups. AreGroupsOf groups (captures_view c.args.self.now name)) c.try_from_fn.ensures.ok (λ name groups answered. answered.1.groups)
 
 pub returns-clause-memory : goal.returns-clause-memory
 returns-clause-memory c =
     first_err c.try_from_fn.result (λ name result. ComponentName × IsGroupsAnswer c.args.self.now name result)
-        (λ error. error ≡ errors.OutOfMemory) c.try_from_fn.ensures.err (λ name error answered. answered.1.memory)
+    (λ error. error ≡ errors.OutOfMemory) c.try_from_fn.ensures.err (λ name error answered. answered.1.memory)
