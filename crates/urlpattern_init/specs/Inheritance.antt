@@ -23,7 +23,7 @@ use Rattle.urlpattern_syntax.specs.Text.{begins_with, byte_len, text_of}
 
 -- what an init has for each component
 abbrev pub given_texts : UrlPatternInit → Eight (Option (String Global))
-given_texts init = record { protocol = init.protocol; username = init.username; password = init.password; hostname = init.hostname; port = init.port; pathname = init.pathname; search = init.search; hash = init.hash }
+given_texts given = record { protocol = given.protocol; username = given.username; password = given.password; hostname = given.hostname; port = given.port; pathname = given.pathname; search = given.search; hash = given.hash }
 
 -- the texts that it gives
 abbrev pub values_view : UrlPatternInit → Values

@@ -13,7 +13,7 @@ use Rattle.urlpattern_syntax.specs.declared.eight.Eight.{Eight}
 
 -- what an init has for each component
 abbrev pub given_texts : UrlPatternInit → Eight (Option (String Global))
-given_texts init = record { protocol = init.protocol; username = init.username; password = init.password; hostname = init.hostname; port = init.port; pathname = init.pathname; search = init.search; hash = init.hash }
+given_texts given = record { protocol = given.protocol; username = given.username; password = given.password; hostname = given.hostname; port = given.port; pathname = given.pathname; search = given.search; hash = given.hash }
 
 -- An init: the text of each component, where it is given, and the base URL.
 pub record InitView : Type 0 where

@@ -7,8 +7,8 @@ use Rattle.urlpattern_init.proofs.constructor_parser.components.Split.nothing.Go
 
 pub returns-clause-nothing : goal.returns-clause-nothing
 returns-clause-nothing c =
-    let none : (name : ComponentName) → name_view (at c.from_fn.result name) ≡ None = λ name. ap name_view (c.from_fn.ensures name).1 in
-    (((none Protocol, none Username, none Password, none Hostname, none Port), none Pathname), none Search)
+    let lacks : (name : ComponentName) → name_view (at c.from_fn.result name) ≡ None = λ name. ap name_view (c.from_fn.ensures name).1 in
+    (((lacks Protocol, lacks Username, lacks Password, lacks Hostname, lacks Port), lacks Pathname), lacks Search)
 
 pub returns-clause-hash : goal.returns-clause-hash
 returns-clause-hash c = ap name_view (c.from_fn.ensures Hash).1
