@@ -13,9 +13,9 @@ pub mod theorem;
 pub use urlpattern_canonical::canonicalize_and_process;
 pub use urlpattern_core::{Error, RegexSyntax, component, error, matcher, parser, tokenizer};
 pub use urlpattern_init::{UrlPatternInit, UrlPatternMatchInput};
-pub use urlpattern_syntax::eight::ComponentName;
 pub use urlpattern_inputs::UrlPatternOptions;
 pub use urlpattern_pattern::{
     UrlPattern, UrlPatternCaptures, UrlPatternComponentResult, UrlPatternGroups, UrlPatternList,
     UrlPatternResult,
 };
+pub use urlpattern_syntax::eight::ComponentName;

@@ -19,7 +19,7 @@ use crate::regexp::RegExp;
 ///   regular expression that it was given.
 /// - `answers`: of several captures it answers those of the first way of the parts' tree (`first_way`), which prefers an earlier
 ///   choice to a later one, if an engine that it asks answers so of the regular expression that it was given.
-/// - `one_answer`: the first way is one answer, so that no other result is a match.
+/// - `one_answer`: two results that are the first way are equal.
 /// - `default_engine`: a matcher that `regex::Regex` made answers the first way, and this is what the parts mean or None where
 ///   they mean nothing, without a premise on the engine but that it took the regular expression where it was needed.
 /// - `pattern_engine`: the same of a matcher that `PatternRegexp` made, without any premise on the engine.

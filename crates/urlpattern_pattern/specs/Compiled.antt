@@ -181,8 +181,8 @@ RefusesPattern IsFrom answer init asked error =
 -- ---- by an engine
 
 -- the init is compiled to this pattern
-abbrev pub IsPatternOf : {E : Type 0} → Engine E → UrlPatternInit → UrlPatternOptions → PatternView E → Type 0
-IsPatternOf engine = IsCompiled (IsCompiledBy engine) engine.answer
+abbrev pub IsPatternOfInit : {E : Type 0} → Engine E → UrlPatternInit → UrlPatternOptions → PatternView E → Type 0
+IsPatternOfInit engine = IsCompiled (IsCompiledBy engine) engine.answer
 
 -- it is refused with this error
 abbrev pub RefusesInit : {E : Type 0} → Engine E → UrlPatternInit → UrlPatternOptions → ErrorView → Type 0

@@ -1,6 +1,6 @@
 //! Patterns for browsers: compiled, and as plain data.
 ghost use Rattle.std.specs.Prelude.{◌≡◌, IfErr, IfOk};
-ghost use Rattle.urlpattern_pattern.specs.Compiled.{IsPatternOf, RefusesInit};
+ghost use Rattle.urlpattern_pattern.specs.Compiled.{IsPatternOfInit, RefusesInit};
 ghost use Rattle.urlpattern_pattern.specs.Patterns.{PatternView, pattern_view};
 ghost use Rattle.urlpattern.specs.Quirks.{plain_pattern};
 ghost use Rattle.urlpattern_plain.specs.Values.{pattern_by};
@@ -25,7 +25,7 @@ pub fn parse_pattern<R: RegExp>(
     options: UrlPatternOptions,
 ) -> Result<UrlPattern, Error>
     ensures parsed { IfOk result (λ plain. (compiled : PatternView R)
-        × IsPatternOf R.RegExp init options compiled
+        × IsPatternOfInit R.RegExp init options compiled
         × (pattern_by text_of plain ≡ plain_pattern R.text_made_of compiled)) }
     ensures refused { IfErr result (MemoryOr (RefusesInit R.RegExp init options)) }
 {
@@ -41,7 +41,7 @@ pub fn parse_pattern_as_lib<R: RegExp>(
     init: UrlPatternInit,
     options: UrlPatternOptions,
 ) -> Result<pattern::UrlPattern<R>, Error>
-    ensures compiled { IfOk result (λ pattern. IsPatternOf R.RegExp init options (pattern_view pattern)) }
+    ensures compiled { IfOk result (λ pattern. IsPatternOfInit R.RegExp init options (pattern_view pattern)) }
     ensures refused { IfErr result (MemoryOr (RefusesInit R.RegExp init options)) }
 {
     pattern::UrlPattern::parse(alloc, init, options)

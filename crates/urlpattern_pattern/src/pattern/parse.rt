@@ -5,7 +5,7 @@ ghost use Rattle.std.specs.Str.{chars};
 ghost use Rattle.urlpattern_canonical.specs.Canonical.{IsAnswer};
 ghost use Rattle.urlpattern_core.specs.Compiling.{IsCompiledBy, component_view, pattern_text};
 ghost use Rattle.urlpattern_init.specs.Inheritance.{values_view};
-ghost use Rattle.urlpattern_pattern.specs.Compiled.{HasEngine, HasHierarchicalPath, IsPatternOf, RefusesInit, behind_pathname, behind_protocol, canonical_in_hostname, has_default_port, is_ipv6_pattern, is_mark, is_same, pattern_of, pattern_values, without_default_port};
+ghost use Rattle.urlpattern_pattern.specs.Compiled.{HasEngine, HasHierarchicalPath, IsPatternOfInit, RefusesInit, behind_pathname, behind_protocol, canonical_in_hostname, has_default_port, is_ipv6_pattern, is_mark, is_same, pattern_of, pattern_values, without_default_port};
 ghost use Rattle.urlpattern_pattern.specs.Compilers.{AreRefused, ComeTo, CompilesComponent, RefusesComponent, RefusesFirstOf, RefusesFrom, component_manner};
 ghost use Rattle.urlpattern_pattern.specs.Patterns.{pattern_view};
 ghost use Rattle.urlpattern_syntax.specs.declared.eight.ComponentName.{ComponentName};
@@ -41,7 +41,7 @@ impl<R: RegExp> UrlPattern<R> {
         init: UrlPatternInit,
         options: UrlPatternOptions,
     ) -> Result<Self, Error>
-        ensures compiled { IfOk result (λ pattern. IsPatternOf R.RegExp init options (pattern_view pattern)) }
+        ensures compiled { IfOk result (λ pattern. IsPatternOfInit R.RegExp init options (pattern_view pattern)) }
         ensures refused { IfErr result (MemoryOr (RefusesInit R.RegExp init options)) }
     {
         let values = pattern_values(alloc, &init);
