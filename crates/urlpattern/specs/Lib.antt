@@ -2,7 +2,10 @@ pub mod EcmaRegexps
 pub use Rattle.urlpattern_core.specs.Captured
 pub use Rattle.urlpattern_core.specs.Compiling
 pub use Rattle.urlpattern_core.specs.Engines
+pub use Rattle.urlpattern_core.specs.FirstWays
+pub use Rattle.urlpattern_core.specs.Generated
 pub use Rattle.urlpattern_core.specs.Matchers
+pub use Rattle.urlpattern_core.specs.NormalForms
 pub use Rattle.urlpattern_canonical.specs.Canonical
 pub use Rattle.urlpattern_init.specs.ConstructorString
 pub use Rattle.urlpattern_init.specs.Inheritance

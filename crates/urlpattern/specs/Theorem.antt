@@ -1,32 +1,27 @@
 -- The sentences of the main theorem. Where one speaks of an encoding, it is any list of texts with their answers.
-use Rattle.std.specs.Prelude.{◌≡◌, ◌≢◌, ◌↔◌, ◌⊎◌, ℕ, false, List, All, length, Option, Result, IsTrue}
+use Rattle.std.specs.Prelude.{◌≡◌, ◌↔◌, ◌⊎◌, ℕ, false, List, length, Option, IsTrue}
 use Rattle.std.specs.Str.{all_scalars}
-use Rattle.regex.specs.declared.string.regex.Regex.{Regex}
 use Rattle.urlpattern_core.specs.Engines.{IsTakenByRegex, regex_answer}
+use Rattle.urlpattern_core.specs.FirstWays.{EachAnswersFirst}
+use Rattle.urlpattern_core.specs.Generated.{AreGenerated}
 use Rattle.urlpattern_engine.specs.Engine.{IsTakenByPatternRegexp, pattern_answer}
-use Rattle.urlpattern_engine.specs.declared.pattern_regexp.PatternRegexp.{PatternRegexp}
 use Rattle.urlpattern_init.specs.declared.init.UrlPatternMatchInput.{UrlPatternMatchInput}
 use Rattle.urlpattern_syntax.specs.declared.eight.ComponentName.{ComponentName}
 use Rattle.urlpattern_laws.specs.Dialect.{IsOnlyTreeOf, IsTreeOf, Items, Means}
 use Rattle.urlpattern_laws.specs.FirstAnswers.{AnswersFirstInMiddle, IsFirstOf}
 use Rattle.urlpattern_laws.specs.Laws.{Answered, AnswersOnce, HasOutcome, HasSomeOutcome, LacksAnswer, Outcome, listed}
-use Rattle.urlpattern_laws.specs.Matching.{Agrees, Answers, AnswersByMeaning, IsMadeOf, MatcherView}
+use Rattle.urlpattern_laws.specs.Matching.{Answers, AnswersByMeaning, IsMadeOf, MatcherView}
 use Rattle.urlpattern_laws.specs.PartMeaning.{Captures, PartsMean}
 use Rattle.urlpattern_laws.specs.Printing.{Keeps, joined, printed}
 use Rattle.urlpattern_laws.specs.RoundTrip.{WereRead}
 use Rattle.urlpattern_pattern.specs.Match.{HasMatch, HasNoMatch, IsLongInput, IsMatch, ResultView}
 use Rattle.urlpattern_pattern.specs.Patterns.{PatternView}
-use Rattle.urlpattern_syntax.specs.declared.parser.PartType.TheVariants.{Regexp}
 use Rattle.urlpattern_syntax.specs.Errors.{ErrorView}
 use Rattle.urlpattern_syntax.specs.Options.{OptionsView}
 use Rattle.urlpattern_syntax.specs.Parts.{PartView}
 use Rattle.urlpattern_syntax.specs.Reading.{Reads, Refuses}
 use Rattle.urlpattern_syntax.specs.RegexpText.{group_names, regexp_text}
 use Rattle.urlpattern_syntax.specs.Text.{lacks, line_feed}
-
--- none of the parts is a custom regular expression
-abbrev pub AreGenerated : List PartView → Type 0
-AreGenerated parts = All (λ part. part.kind ≢ Regexp) parts
 
 -- A text has an outcome, parts or an error, or else it asks the encoding about a text to which that has no answer. It has one
 -- outcome at most where the encoding has one answer at most to each text.
@@ -68,17 +63,11 @@ MatchersAnswerTheFirstWay {E} IsMade MayRefuse answer =
 
 -- One that `regex::Regex` made does so by itself, if `regex` took the text where it was needed, and this is what the parts mean.
 abbrev pub DefaultEngineAnswersTheFirstWay : Type 0
-DefaultEngineAnswersTheFirstWay =
-    (options : OptionsView) (flags : List ℕ) (parts : List PartView) (matcher : MatcherView Regex) (text : List ℕ) (result : Option Captures) →
-    IsTakenByRegex options flags parts matcher → IsTrue (lacks line_feed text) → IsTrue (all_scalars text) →
-    Answers regex_answer matcher text result → IsFirstOf options parts text result × Agrees options parts text result
+DefaultEngineAnswersTheFirstWay = EachAnswersFirst IsTakenByRegex regex_answer
 
 -- One that `PatternRegexp` made does so too, without any premise on that.
 abbrev pub PatternEngineAnswersTheFirstWay : Type 0
-PatternEngineAnswersTheFirstWay =
-    (options : OptionsView) (flags : List ℕ) (parts : List PartView) (matcher : MatcherView PatternRegexp) (text : List ℕ) (result : Option Captures) →
-    IsTakenByPatternRegexp options flags parts matcher → IsTrue (lacks line_feed text) → IsTrue (all_scalars text) →
-    Answers pattern_answer matcher text result → IsFirstOf options parts text result × Agrees options parts text result
+PatternEngineAnswersTheFirstWay = EachAnswersFirst IsTakenByPatternRegexp pattern_answer
 
 -- There is one such answer.
 abbrev pub FirstWayIsOne : Type 0

@@ -2,16 +2,8 @@
 //!
 //! Each function here does nothing; what it promises is a theorem.
 
-ghost use Rattle.std.specs.Prelude.{ℕ, List, IsTrue, Option};
-ghost use Rattle.std.specs.Str.{all_scalars};
-ghost use Rattle.urlpattern.specs.declared.quirks.ecma_regexp.EcmaRegexp.{EcmaRegexp};
 ghost use Rattle.urlpattern.specs.EcmaRegexps.{IsKeptByEcma, ecma_regexp_answer};
-ghost use Rattle.urlpattern_laws.specs.FirstAnswers.{IsFirstOf};
-ghost use Rattle.urlpattern_laws.specs.Matching.{Agrees, Answers, MatcherView};
-ghost use Rattle.urlpattern_laws.specs.PartMeaning.{Captures};
-ghost use Rattle.urlpattern_syntax.specs.Options.{OptionsView};
-ghost use Rattle.urlpattern_syntax.specs.Parts.{PartView};
-ghost use Rattle.urlpattern_syntax.specs.Text.{lacks, line_feed};
+ghost use Rattle.urlpattern_core.specs.FirstWays.{EachAnswersFirst};
 
 pub use urlpattern_core::laws::{
     captures_are_as_many_as_names, copies_are_one_capture, dialect_trees_are_one,
@@ -37,8 +29,5 @@ pub use urlpattern_plain::laws::reading_undoes_writing;
 /// A matcher that `EcmaRegexp` made answers the first way of the tree of the parts, which is a meaning of them, or None where
 /// they have none, if a value of `regex` is kept where an engine is needed.
 pub fn matchers_by_ecma_regexp_answer_the_first_way()
-    ensures { (options : OptionsView) (flags : List ℕ) (parts : List PartView) (matcher : MatcherView EcmaRegexp)
-        (text : List ℕ) (result : Option Captures) →
-        IsKeptByEcma options flags parts matcher → IsTrue (lacks line_feed text) → IsTrue (all_scalars text) →
-        Answers ecma_regexp_answer matcher text result → IsFirstOf options parts text result × Agrees options parts text result }
+    ensures { EachAnswersFirst IsKeptByEcma ecma_regexp_answer }
 {}

@@ -38,10 +38,10 @@ pub returns-clause-one_answer : goal.returns-clause-one_answer
 returns-clause-one_answer g c = first_one
 
 pub returns-clause-default_engine : goal.returns-clause-default_engine
-returns-clause-default_engine g c = λ options flags parts matcher text result taken. taken_first options flags parts matcher taken text result
+returns-clause-default_engine g c = taken_first
 
 pub returns-clause-pattern_engine : goal.returns-clause-pattern_engine
-returns-clause-pattern_engine g c = λ options flags parts matcher text result taken. taken_by_pattern_regexp_first options flags parts matcher taken text result
+returns-clause-pattern_engine g c = taken_by_pattern_regexp_first
 
 pub returns-clause-reads_back : goal.returns-clause-reads_back
 returns-clause-reads_back g c = λ text options first answers parts read keeps.
