@@ -1,12 +1,13 @@
 -- Lemmas on what the program answers.
-use Rattle.std.proofs.Common.{◌≡◌, ℕ, ◌<◌, ◌≤◌, codes, get_or, inl, inr, Bool, false, List, [], ◌∷◌, ◌++◌, map, length, drop, refl, ap, ap₂, ◌∙◌, sym, subst, arith, append_assoc}
+use Rattle.std.proofs.Common.{◌≡◌, ℕ, ◌<◌, ◌≤◌, codes, get_or, inl, inr, Bool, false, List, [], ◌∷◌, ◌++◌, map, length, drop, refl, ap, ap₂, ◌∙◌, sym, subst, arith, append_assoc, append-nil}
 use Rattle.std.proofs.lemmas.Str.{encodes-chars, IsUtf8-string_bytes}
 use Rattle.std.specs.Prelude.{MatchOption, Option, None, Some, String, string_bytes, encode_utf8_all}
 use Rattle.std.specs.declared.alloc.Global.{Global}
-use Rattle.urlpat_commands.specs.Answers.{IsFirstAnswer, IsFirstText, IsMatchAnswer, IsMatchFailure, IsMatchText, IsMatchTextBy, RefusesPatternOf, TellsMatch, base_of, IsPatternOf, IsUnmatched, IsUnmatchedBy, IsUnmatchedByEach, default_pattern_options, words_view}
+use Rattle.urlpat_commands.specs.Answers.{AreGroupLines, AreLines, IsFirstAnswer, IsFirstText, IsMatchAnswer, IsMatchFailure, IsMatchText, IsMatchTextBy, RefusesPatternOf, TellsMatch, base_of, IsPatternOf, IsUnmatched, IsUnmatchedBy, IsUnmatchedByEach, default_pattern_options, words_view}
 use Rattle.urlpat_commands.specs.declared.command.Failure.TheVariants as failures
 use Rattle.urlpat_commands.specs.declared.command.Printed.{Printed}
 use Rattle.urlpattern.specs.Errors.{MemoryOr}
+use Rattle.urlpattern.specs.Match.{ResultView}
 use Rattle.urlpattern.specs.Patterns.{PatternView}
 use Rattle.urlpattern.specs.Text.{text_of}
 use Rattle.urlpattern_engine.specs.declared.pattern_regexp.PatternRegexp.{PatternRegexp}
@@ -20,6 +21,18 @@ use Rattle.urlpattern_syntax.specs.declared.parser.RegexSyntax.TheVariants.{Rust
 -- the whole goes on behind a text that has grown
 pub behind : (was now whole lines rest : List ℕ) → now ≡ was ++ lines → whole ≡ now ++ rest → whole ≡ was ++ (lines ++ rest)
 behind was now whole lines rest grown goes = goes ∙ ap (λ text. text ++ rest) grown ∙ append_assoc was lines rest
+
+-- the lines of one more component go behind those of the others
+pub lines-behind : (components : List (List ℕ × ResultView)) (component : List ℕ × ResultView) (lines more : List ℕ)
+    → AreLines components lines → AreGroupLines component.0 component.1 more → AreLines (components ++ component ∷ []) (lines ++ more)
+lines-behind [] component lines more none last = (more, [], ap (λ text. text ++ more) none ∙ sym (append-nil more), last, refl)
+lines-behind (first ∷ components) component lines more (own, others, split, group, rest) last = (
+  own,
+  others ++ more,
+  ap (λ text. text ++ more) split ∙ append_assoc own others more,
+  group,
+  lines-behind components component others more rest last,
+)
 
 -- the bytes of a string are those of its characters
 pub bytes_of_text : (string : String Global) (text : List ℕ) → text_of string ≡ text → string_bytes string ≡ encode_utf8_all text

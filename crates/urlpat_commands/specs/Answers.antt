@@ -138,9 +138,12 @@ AreLines (component ∷ rest) text =
 abbrev pub GetsLines : (AreSuch : List ℕ → Type 0) → (old new : String Global) → Type 0
 GetsLines AreSuch old new = (lines : List ℕ) × (string_bytes new ≡ string_bytes old ++ lines) × AreSuch lines
 
--- the components by their names
+-- these components by their names, and all
+abbrev pub named_results : (ComponentName → ResultView) → List ComponentName → List (List ℕ × ResultView)
+named_results result names = map (λ name. (name_text name, result name)) names
+
 abbrev pub components_of : (ComponentName → ResultView) → List (List ℕ × ResultView)
-components_of result = map (λ name. (name_text name, result name)) components
+components_of result = named_results result components
 
 -- the input is this URL, under the base URL
 abbrev pub IsUrlOf : (input : List ℕ) → (base : Option (List ℕ)) → (url : Parts) → Type 0

@@ -6,6 +6,7 @@ ghost use Rattle.std.specs.Str.{chars};
 ghost use Rattle.urlpat_commands.specs.Answers.{AreGroupLines, AreLines, AreNames, FindsMatch, FindsMatchBy, FindsUrl, GetsLines, IsPatternOf, RefusesPatternOf, base_of, capture_of, components_of};
 ghost use Rattle.urlpat_commands.specs.Report.{group_line};
 ghost use Rattle.urlpattern.specs.Captures.{captures_view, groups_view};
+ghost use Rattle.urlpattern.specs.Eight.{name_text};
 ghost use Rattle.urlpattern.specs.Errors.{MemoryOr};
 ghost use Rattle.urlpattern.specs.Patterns.{pattern_view};
 ghost use Rattle.urlpattern.specs.Text.{text_of};
@@ -116,14 +117,9 @@ pub fn push_match(
 ) -> Result<(), AllocError>
     ensures { OnOk result (GetsLines (AreLines (components_of (captures_view found.now))) text.old text.new) }
 {
-    push_groups(alloc, text, "protocol", found, ComponentName::Protocol)?;
-    push_groups(alloc, text, "username", found, ComponentName::Username)?;
-    push_groups(alloc, text, "password", found, ComponentName::Password)?;
-    push_groups(alloc, text, "hostname", found, ComponentName::Hostname)?;
-    push_groups(alloc, text, "port", found, ComponentName::Port)?;
-    push_groups(alloc, text, "pathname", found, ComponentName::Pathname)?;
-    push_groups(alloc, text, "search", found, ComponentName::Search)?;
-    push_groups(alloc, text, "hash", found, ComponentName::Hash)?;
+    for &name in ComponentName::all() {
+        push_groups(alloc, text, found, name)?;
+    }
     Ok(())
 }
 
@@ -131,15 +127,14 @@ pub fn push_match(
 fn push_groups(
     alloc: Global,
     text: &mut String,
-    component: &str,
     found: &UrlPatternCaptures<'_>,
     name: ComponentName,
 ) -> Result<(), AllocError>
-    ensures { OnOk result (GetsLines (AreGroupLines component.now (captures_view found.now name)) text.old text.new) }
+    ensures { OnOk result (GetsLines (AreGroupLines (name_text name) (captures_view found.now name)) text.old text.new) }
 {
     let groups = sorted_names(alloc, found, name)?;
     for group in &groups {
-        push_group(text, component, group, capture_of(found, name, group))?;
+        push_group(text, name.as_str(), group, capture_of(found, name, group))?;
     }
     Ok(())
 }

@@ -3,6 +3,7 @@ use Rattle.std.proofs.Common.{◌≡◌, ℕ, Bool, true, false, ◌<◌, List, 
 use Rattle.std.proofs.lemmas.Bool.{false≢true}
 use Rattle.std.proofs.lemmas.Str.Ascii.{IsAscii-cons, IsAscii-nil}
 use Rattle.std.specs.Prelude.{◌↔◌, IfErr, IfOk, IfSome, IsTrue, bytes_eq, not, option_copied, ◌&&◌, ◌||◌, slice_index, if◌then◌else◌}
+use Rattle.std.specs.Result.{IsErrAnd}
 use Rattle.std.specs.Str.{chars, IsAscii, IsUtf8}
 use Rattle.std.specs.declared.alloc.Global.{Global}
 use Rattle.std.proofs.lemmas.Str.{IsUtf8-string_bytes}
@@ -10,7 +11,7 @@ use Rattle.urlpattern_laws.proofs.Encodings.{Weakens, reads_weaker, refuses_weak
 use Rattle.urlpattern_pattern.specs.Compiled.{AreCompiled, Compiles, FirstRefused, HasEngine, HasHierarchicalPath, IsCompiled, IsComponentCompiled, IsRefusedFrom, RefusesPattern, RefusesValues, behind_protocol, has_default_port, is_ipv6_pattern, is_mark, is_same, pattern_values, without_default_port}
 use Rattle.urlpattern_pattern.specs.Patterns.{pattern_view}
 use Rattle.urlpattern_syntax.specs.declared.eight.ComponentName.{ComponentName as Names}
-use Rattle.urlpattern_syntax.specs.declared.eight.ComponentName.TheVariants.{Protocol, Username, Password, Hostname, Port, Pathname, Search, Hash}
+use Rattle.urlpattern_syntax.specs.declared.eight.ComponentName.TheVariants.{Protocol}
 use Rattle.urlpattern_init.specs.declared.init.UrlPatternInit.{UrlPatternInit}
 use Rattle.urlpattern_pattern.specs.declared.pattern.UrlPattern.{UrlPattern}
 use Rattle.urlpattern_inputs.specs.declared.options.UrlPatternOptions.{UrlPatternOptions}
@@ -88,6 +89,14 @@ there_and_empty (c ∷ text) tested e = ((λ is. absurd (false≢true (sym e ∙
 
 pub memory_or-map : (P Q : ErrorView → Type 0) (error : Error) → ((view : ErrorView) → P view → Q view) → MemoryOr P error → MemoryOr Q error
 memory_or-map P Q error step told = elim told [ inl memory ↦ inl memory | inr refused ↦ inr (step _ refused) ]
+
+-- a refusal that is passed on is a later one
+pub refused_later : {T : Type 0} (result : Result T Error) (error : Error) (Refuses Later : ErrorView → Type 0)
+    → IsErrAnd result (λ passed. passed ≡ error) → MemoryOr Refuses error → ((view : ErrorView) → Refuses view → Later view)
+    → IfErr result (MemoryOr Later)
+refused_later (Ok value) error Refuses Later same told later = tt
+refused_later (Err passed) error Refuses Later same told later =
+    subst (MemoryOr Later) (sym same) (memory_or-map Refuses Later error later told)
 
 -- ---- a component under an encoding that answers no less
 
