@@ -1,17 +1,22 @@
 -- Lemmas on what the program answers.
-use Rattle.std.proofs.Common.{◌≡◌, ℕ, ◌<◌, ◌≤◌, codes, get_or, inl, inr, Bool, false, List, [], ◌∷◌, ◌++◌, map, length, drop, refl, ap, ap₂, ◌∙◌, sym, subst, arith, append_assoc, append-nil}
+use Rattle.std.proofs.Common.{◌≡◌, ℕ, ◌<◌, ◌≤◌, codes, get_or, inl, inr, Bool, false, List, [], ◌∷◌, ◌++◌, map, length, drop, take, suc, ◌+◌, refl, ap, ap₂, ◌∙◌, sym, subst, arith, append_assoc, append-nil}
+use Rattle.std.proofs.Math.Seq.{take-suc}
+use Rattle.std.proofs.lemmas.List.{map-append}
 use Rattle.std.proofs.lemmas.Str.{encodes-chars, IsUtf8-string_bytes}
 use Rattle.std.specs.Prelude.{MatchOption, Option, None, Some, String, string_bytes, encode_utf8_all}
 use Rattle.std.specs.declared.alloc.Global.{Global}
-use Rattle.urlpat_commands.specs.Answers.{AreGroupLines, AreLines, IsFirstAnswer, IsFirstText, IsMatchAnswer, IsMatchFailure, IsMatchText, IsMatchTextBy, RefusesPatternOf, TellsMatch, base_of, IsPatternOf, IsUnmatched, IsUnmatchedBy, IsUnmatchedByEach, default_pattern_options, words_view}
+use Rattle.urlpat_commands.specs.Answers.{AreGroupLines, AreLines, named_results, IsFirstAnswer, IsFirstText, IsMatchAnswer, IsMatchFailure, IsMatchText, IsMatchTextBy, RefusesPatternOf, TellsMatch, base_of, IsPatternOf, IsUnmatched, IsUnmatchedBy, IsUnmatchedByEach, default_pattern_options, words_view}
 use Rattle.urlpat_commands.specs.declared.command.Failure.TheVariants as failures
 use Rattle.urlpat_commands.specs.declared.command.Printed.{Printed}
+use Rattle.urlpattern.specs.Eight.{name_text}
 use Rattle.urlpattern.specs.Errors.{MemoryOr}
 use Rattle.urlpattern.specs.Match.{ResultView}
 use Rattle.urlpattern.specs.Patterns.{PatternView}
 use Rattle.urlpattern.specs.Text.{text_of}
 use Rattle.urlpattern_engine.specs.declared.pattern_regexp.PatternRegexp.{PatternRegexp}
 use Rattle.urlpattern_inputs.specs.declared.options.UrlPatternOptions.{UrlPatternOptions}
+use Rattle.urlpattern_syntax.specs.declared.eight.ComponentName.{ComponentName}
+use Rattle.urlpattern_syntax.specs.declared.eight.ComponentName.TheVariants.{Protocol}
 use Rattle.urlpattern_syntax.specs.declared.error.Error.{Error}
 use Rattle.urlpattern_syntax.specs.declared.parser.RegexSyntax.{RegexSyntax}
 use Rattle.urlpattern_syntax.specs.declared.parser.RegexSyntax.TheVariants.{Rust}
@@ -33,6 +38,19 @@ lines-behind (first ∷ components) component lines more (own, others, split, gr
   group,
   lines-behind components component others more rest last,
 )
+
+-- so the lines of the next component go behind those of the components before it
+pub lines-next : (found : ComponentName → ResultView) (names : List ComponentName) (n : ℕ) (lines more : List ℕ) → n < length names
+    → AreLines (named_results found (take n names)) lines
+    → AreGroupLines (name_text (get_or names n Protocol)) (found (get_or names n Protocol)) more
+    → AreLines (named_results found (take (n + 1) names)) (lines ++ more)
+lines-next found names n lines more within are own =
+    let name = get_or names n Protocol in
+    let next : n + 1 ≡ suc n = omega arith in
+    let taken : take (n + 1) names ≡ take n names ++ name ∷ [] = ap (λ count. take count names) next ∙ take-suc names n Protocol within in
+    subst (λ components. AreLines components (lines ++ more))
+    (sym (ap (named_results found) taken ∙ map-append (λ other. (name_text other, found other)) (take n names) (name ∷ [])))
+    (lines-behind (named_results found (take n names)) (name_text name, found name) lines more are own)
 
 -- the bytes of a string are those of its characters
 pub bytes_of_text : (string : String Global) (text : List ℕ) → text_of string ≡ text → string_bytes string ≡ encode_utf8_all text

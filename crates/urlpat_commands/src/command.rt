@@ -1,5 +1,6 @@
 //! The commands of the program: what its words ask for, and what it prints.
 
+ghost use Rattle.std.specs.Io.KnownBytes.{Appends};
 ghost use Rattle.std.specs.Prelude.{◌≡◌, ◌≢◌, ◌⊎◌, map, string_bytes, IfErr, IfOk, IfSome, OnOk, Ok, None};
 ghost use Rattle.urlpat_commands.specs.Answers.{FailsComponent, FailsWhere, HasAnswer, IsAnswer, IsComponentAnswer, IsComponentFailure, IsComponentText, IsCopy, IsFailure, IsPrintedOf, Prints, IsFirstAnswer, IsFirstFailure, IsMatchAnswer, IsMatchFailure, words_view};
 ghost use Rattle.urlpat_commands.specs.Kinds.{IsKind, IsNamed};
