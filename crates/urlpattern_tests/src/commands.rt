@@ -138,13 +138,6 @@ fn stops_at_a_failed_write(rt: HostRuntime) -> Result<(), Fail> {
 }
 
 #[test]
-fn prints_a_component_without_names(rt: HostRuntime) -> Result<(), Fail> {
-    let printed = "names:\nregexp: ^(?:a)?b$\npattern: {a}?b\n";
-    expect_printed(&rt, rt.alloc(), &["component", "default", "{a}?b"], printed)?;
-    Ok(())
-}
-
-#[test]
 fn prints_the_groups_of_a_match(rt: HostRuntime) -> Result<(), Fail> {
     let printed = "username 0=\npassword 0=\npathname id=123\nsearch 0=\nhash 0=\n";
     expect_printed(
@@ -233,12 +226,18 @@ fn tells_why_a_pattern_or_its_base_is_refused(rt: HostRuntime) -> Result<(), Fai
 
 #[test]
 fn prints_a_component(rt: HostRuntime) -> Result<(), Fail> {
-    let printed = "names: id\nregexp: ^/users(?:/([^/]+?))$\npattern: /users/:id\n";
-    expect_printed(
-        &rt,
-        rt.alloc(),
-        &["component", "pathname", "/users/:id"],
-        printed,
-    )?;
+    let rows = [
+        (
+            ["component", "pathname", "/users/:id"],
+            "names: id\nregexp: ^/users(?:/([^/]+?))$\npattern: /users/:id\n",
+        ),
+        (
+            ["component", "default", "{a}?b"],
+            "names:\nregexp: ^(?:a)?b$\npattern: {a}?b\n",
+        ),
+    ];
+    for (line, printed) in rows {
+        expect_printed(&rt, rt.alloc(), &line, printed)?;
+    }
     Ok(())
 }

@@ -49,21 +49,11 @@ fn has_same_results<R: RegExp>(
     recorded: &Value,
 ) -> Result<bool, Fault> {
     case.are_results(recorded, |input, expected| {
-        has_same_result(case.alloc, patterns, input, expected)
+        let found = first_match(case.alloc, patterns, input)?;
+        let is_same = is_same_result(case.alloc, &found, expected);
+        drop(found);
+        Ok(is_same?)
     })
-}
-
-/// Whether the first match of an input is the recorded result.
-fn has_same_result<R: RegExp>(
-    alloc: Global,
-    patterns: &UrlPatternList<R>,
-    input: &Value,
-    expected: &Value,
-) -> Result<bool, Fault> {
-    let found = first_match(alloc, patterns, input)?;
-    let is_same = is_same_result(alloc, &found, expected);
-    drop(found);
-    Ok(is_same?)
 }
 
 /// The first match of an input that a question gives.

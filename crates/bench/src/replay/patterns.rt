@@ -55,20 +55,10 @@ fn has_same_results<R: RegExp>(
         return Ok(true);
     }
     case.are_results(recorded, |input, expected| {
-        has_same_result(case.alloc, pattern, input, expected)
+        let base = optional_text(input, "base");
+        let found = matched(case.alloc, pattern, given::input(case.alloc, input)?, base);
+        Ok(is_same_result(case.alloc, found, expected)?)
     })
-}
-
-/// Whether what comes of an input is the recorded result.
-fn has_same_result<R: RegExp>(
-    alloc: Global,
-    pattern: &UrlPattern<R>,
-    input: &Value,
-    expected: &Value,
-) -> Result<bool, Fault> {
-    let base = optional_text(input, "base");
-    let found = matched(alloc, pattern, given::input(alloc, input)?, base);
-    Ok(is_same_result(alloc, found, expected)?)
 }
 
 /// The match of an input, None where there is none.
