@@ -4,7 +4,6 @@
 #![tactic(auto)]
 
 mod chart;
-mod engines;
 mod questions;
 mod recorded;
 mod replay;

@@ -81,6 +81,19 @@ impl Operation {
             _ => return Err(Fault::NoCase),
         })
     }
+
+    /// Whether an engine answers. The question may name it.
+    pub fn asks_engine(self) -> bool {
+        matches!(
+            self,
+            Operation::Compile
+                | Operation::Engine
+                | Operation::Matches
+                | Operation::Pattern
+                | Operation::QuirksPattern
+                | Operation::FirstMatch
+        )
+    }
 }
 
 /// A recorded answer.

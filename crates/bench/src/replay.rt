@@ -12,10 +12,13 @@ mod plain;
 mod tokens;
 mod values;
 
-use crate::recorded::{Answer, Fault, Operation, field, is_set, text};
+use crate::recorded::{Answer, Fault, Operation, field, is_set, list, optional_text, text};
+use regex::Regex;
 use serde_json::Value;
 use std::alloc::{AllocError, Global};
 use urlpattern::Error;
+use urlpattern::quirks::EcmaRegexp;
+use urlpattern::regexp::{PatternRegexp, RegExp};
 
 /// What came of a case.
 #[derive(Drop)]
@@ -30,30 +33,107 @@ pub struct Outcome {
 
 /// Replays the case that a line holds. The answer of a case that is marked as wrong is one that the library may not give.
 pub fn replay(alloc: Global, line: &str) -> Result<Outcome, Fault> {
-    let case = Value::from_str(alloc, line)?;
-    let question = field(&case, "in")?;
-    let answer = Answer::of(&case)?;
+    let recorded = Value::from_str(alloc, line)?;
+    let question = field(&recorded, "in")?;
+    let answer = Answer::of(&recorded)?;
     let operation = Operation::named(text(question, "op")?)?;
-    let is_same = match operation {
-        Operation::Tokenize => tokens::is_same(alloc, question, answer),
-        Operation::Component => components::is_same(alloc, question, answer),
-        Operation::Compile => compiled::is_same(alloc, question, answer),
-        Operation::Engine => engines::is_same(alloc, question, answer),
-        Operation::Matches => matchers::is_same(alloc, question, answer),
-        Operation::HandMatcher => matchers::is_same_by_hand(alloc, question, answer),
-        Operation::Canonicalize => values::is_same_canonical(alloc, question, answer),
-        Operation::Process => values::is_same_processed(alloc, question, answer),
-        Operation::MatchInput => values::is_same_match_input(alloc, question, answer),
-        Operation::Constructor => constructors::is_same(alloc, question, answer),
-        Operation::Pattern => patterns::is_same(alloc, question, answer),
-        Operation::QuirksPattern => plain::is_same(alloc, question, answer),
-        Operation::FirstMatch => first_match::is_same(alloc, question, answer),
-    }?;
+    let case = Case {
+        alloc,
+        question,
+        answer,
+    };
+    let is_same = is_same(operation, &case)?;
     Ok(Outcome {
         operation,
         is_error: matches!(answer, Answer::Err(_)),
-        is_same: is_same != is_set(&case, "wrong"),
+        is_same: is_same != is_set(&recorded, "wrong"),
     })
+}
+
+/// A question, and the answer that was recorded.
+#[derive(Drop)]
+pub struct Case<'a> {
+    alloc: Global,
+    question: &'a Value,
+    answer: Answer<'a>,
+}
+
+impl Case<'_> {
+    /// Whether what is found is what was recorded: a value that a call says is so, or an error that prints the text.
+    fn is_answer<T: Drop, F: FnOnce(&T, &Value) -> Result<bool, Fault>>(
+        &self,
+        found: Result<T, Error>,
+        is_recorded: F,
+    ) -> Result<bool, Fault>
+        requires { F.IsAlwaysCallable is_recorded }
+    {
+        let is_answer = match (&found, self.answer) {
+            (Ok(found), Answer::Ok(recorded)) => is_recorded(found, recorded),
+            (Err(error), Answer::Err(text)) => prints(self.alloc, error, text).map_err(Fault::from),
+            _ => Ok(false),
+        };
+        drop(found);
+        is_answer
+    }
+
+    /// Whether each input of the question comes to the recorded result in its place.
+    fn are_results<F: Fn(&Value, &Value) -> Result<bool, Fault>>(
+        &self,
+        recorded: &Value,
+        is_result: F,
+    ) -> Result<bool, Fault>
+        requires { F.IsAlwaysCallable is_result }
+    {
+        let inputs = list(self.question, "inputs")?;
+        let Ok(results) = list(recorded, "results") else {
+            return Ok(false);
+        };
+        for (input, expected) in inputs.iter().zip(results) {
+            if !is_result(input, expected)? {
+                return Ok(false);
+            }
+        }
+        Ok(inputs.len() == results.len())
+    }
+}
+
+/// Whether the library answers a case as recorded, over each engine that the case is about.
+fn is_same(operation: Operation, case: &Case<'_>) -> Result<bool, Fault> {
+    if !operation.asks_engine() {
+        return is_same_over::<Regex>(operation, case);
+    }
+    match (operation, optional_text(case.question, "engine")) {
+        (_, Some("ecma")) => is_same_over::<EcmaRegexp>(operation, case),
+        (Operation::Matches, None) => Ok(
+            is_same_over_rust(operation, case)? && is_same_over::<EcmaRegexp>(operation, case)?,
+        ),
+        (_, Some("regex")) | (_, None) => is_same_over_rust(operation, case),
+        (_, Some(_)) => Err(Fault::NoCase),
+    }
+}
+
+/// Whether it does over both engines of the syntax of Rust.
+fn is_same_over_rust(operation: Operation, case: &Case<'_>) -> Result<bool, Fault> {
+    Ok(is_same_over::<Regex>(operation, case)? && is_same_over::<PatternRegexp>(operation, case)?)
+}
+
+/// Whether it does over this engine.
+fn is_same_over<R: RegExp>(operation: Operation, case: &Case<'_>) -> Result<bool, Fault> {
+    match operation {
+        Operation::Tokenize => tokens::is_same(case),
+        Operation::Component => components::is_same(case),
+        Operation::Compile => compiled::is_same::<R>(case),
+        Operation::Engine => engines::is_same::<R>(case),
+        Operation::Matches => matchers::is_same::<R>(case),
+        Operation::HandMatcher => matchers::is_same_by_hand(case),
+        Operation::Canonicalize => values::is_same_canonical(case),
+        Operation::Process => values::is_same_processed(case),
+        Operation::MatchInput => values::is_same_match_input(case),
+        Operation::Constructor => constructors::is_same(case),
+        Operation::Pattern => patterns::is_same::<R>(case),
+        Operation::QuirksPattern => plain::is_same::<R>(case),
+        Operation::FirstMatch => first_match::is_same::<R>(case),
+    }
 }
 
 /// Whether the error prints the text. An asterisk stands for any error of a URL.

@@ -57,6 +57,16 @@ fn expect_run(
     Ok(())
 }
 
+/// Runs the words, which succeeds, and compares what was written.
+fn expect_printed(
+    rt: &impl Abort,
+    alloc: Global,
+    line: &[&str],
+    printed: &str,
+) -> Result<(), AllocError> {
+    expect_run(rt, alloc, line, 0, printed, "")
+}
+
 #[test]
 fn tells_the_usage(rt: HostRuntime) -> Result<(), Fail> {
     let mut usage = String::from_str(
@@ -128,29 +138,13 @@ fn stops_at_a_failed_write(rt: HostRuntime) -> Result<(), Fail> {
 }
 
 #[test]
-fn prints_a_component_without_names(rt: HostRuntime) -> Result<(), Fail> {
-    let printed = "names:\nregexp: ^(?:a)?b$\npattern: {a}?b\n";
-    expect_run(
-        &rt,
-        rt.alloc(),
-        &["component", "default", "{a}?b"],
-        0,
-        printed,
-        "",
-    )?;
-    Ok(())
-}
-
-#[test]
 fn prints_the_groups_of_a_match(rt: HostRuntime) -> Result<(), Fail> {
     let printed = "username 0=\npassword 0=\npathname id=123\nsearch 0=\nhash 0=\n";
-    expect_run(
+    expect_printed(
         &rt,
         rt.alloc(),
         &["match", USERS, "-", "https://example.com/users/123"],
-        0,
         printed,
-        "",
     )?;
     Ok(())
 }
@@ -166,7 +160,7 @@ fn tells_a_group_that_took_no_part_from_an_empty_one(rt: HostRuntime) -> Result<
         let line = ["match", "https://example.com/a{/:x(b*)}?", "-", input];
         let mut printed = String::from_str(rt.alloc(), "username 0=\npassword 0=\n")?;
         writeln!(printed, "pathname {group}\nsearch 0=\nhash 0=")?;
-        expect_run(&rt, rt.alloc(), &line, 0, &printed, "")?;
+        expect_printed(&rt, rt.alloc(), &line, &printed)?;
     }
     Ok(())
 }
@@ -177,7 +171,7 @@ fn prints_the_first_match(rt: HostRuntime) -> Result<(), Fail> {
     let input = "https://example.com/a/b";
     let patterns = ["https://example.com/x", "https://example.com/a/:y"];
     let line = ["first", "-", input, patterns[0], patterns[1]];
-    expect_run(&rt, rt.alloc(), &line, 0, printed, "")?;
+    expect_printed(&rt, rt.alloc(), &line, printed)?;
     let line = [
         "first",
         "-",
@@ -232,14 +226,18 @@ fn tells_why_a_pattern_or_its_base_is_refused(rt: HostRuntime) -> Result<(), Fai
 
 #[test]
 fn prints_a_component(rt: HostRuntime) -> Result<(), Fail> {
-    let printed = "names: id\nregexp: ^/users(?:/([^/]+?))$\npattern: /users/:id\n";
-    expect_run(
-        &rt,
-        rt.alloc(),
-        &["component", "pathname", "/users/:id"],
-        0,
-        printed,
-        "",
-    )?;
+    let rows = [
+        (
+            ["component", "pathname", "/users/:id"],
+            "names: id\nregexp: ^/users(?:/([^/]+?))$\npattern: /users/:id\n",
+        ),
+        (
+            ["component", "default", "{a}?b"],
+            "names:\nregexp: ^(?:a)?b$\npattern: {a}?b\n",
+        ),
+    ];
+    for (line, printed) in rows {
+        expect_printed(&rt, rt.alloc(), &line, printed)?;
+    }
     Ok(())
 }

@@ -1,6 +1,6 @@
 //! Constructor strings: the base URL that is kept, long strings, and want of memory.
 
-use crate::inits::{base_of, texts_of, url_of};
+use crate::inits::{Texts, expect_init, url_of};
 use regex::Regex;
 use std::alloc::{AllocError, Global};
 use std::process::Abort;
@@ -8,9 +8,8 @@ use std::test::Fail;
 use urlpattern::tokenizer::{TokenizePolicy, tokenize};
 use urlpattern::{Error, UrlPatternInit};
 
-/// A constructor string, and its components in order: protocol, username, password, hostname, port, pathname, search and
-/// hash.
-type Row<'a> = (&'a str, [Option<&'a str>; 8]);
+/// A constructor string, and its components.
+type Row<'a> = (&'a str, Texts<'a>);
 
 /// The components of a constructor string, under a base URL or none, and how many looks at a token were taken.
 fn parse(
@@ -34,9 +33,7 @@ fn expect_components(
 ) -> Result<(), Error> {
     let (pattern, components) = row;
     let (init, _) = parse(alloc, pattern, base)?;
-    assert_eq!(rt; texts_of(&init), components, "at {pattern:?}");
-    assert_eq!(rt; base_of(&init), base, "at {pattern:?}");
-    Ok(())
+    expect_init(rt, alloc, &init, components, base)
 }
 
 /// Compares the number of lenient tokens of a constructor string, and of looks at them.

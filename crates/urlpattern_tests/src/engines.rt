@@ -10,9 +10,13 @@ use urlpattern::regexp::RegExp;
 /// A regular expression, a text that it matches, and what its groups capture.
 type Row<'a> = (&'a str, &'a str, &'a [Option<&'a str>]);
 
-/// Whether a text is refused at once.
-fn is_refused(alloc: Global, regexp: &str) -> Result<bool, RegExpError> {
-    match EcmaRegexp::parse(alloc, regexp, "u", true) {
+/// Whether an engine refuses a text because it is no regular expression.
+pub fn is_refused<R: RegExp>(
+    alloc: Global,
+    regexp: &str,
+    force_eval: bool,
+) -> Result<bool, RegExpError> {
+    match R::parse(alloc, regexp, "u", force_eval) {
         Ok(_) => Ok(false),
         Err(RegExpError::Pattern) => Ok(true),
         Err(error) => Err(error),
@@ -25,7 +29,7 @@ fn ecma_regexp_refuses_a_bad_text_only_when_asked(rt: HostRuntime) -> Result<(),
     let kept = EcmaRegexp::parse(alloc, "a(", "u", false)?;
     assert_eq!(rt; kept.pattern_string(), "a(");
     assert!(rt; kept.matches(alloc, "a(")?.is_none());
-    assert!(rt; is_refused(alloc, "a(")?);
+    assert!(rt; is_refused::<EcmaRegexp>(alloc, "a(", true)?);
     Ok(())
 }
 

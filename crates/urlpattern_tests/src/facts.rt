@@ -5,7 +5,8 @@ use std::process::Abort;
 use urlpattern::component::Component;
 use urlpattern::regexp::RegExp;
 use urlpattern::{
-    Error, UrlPattern, UrlPatternComponentResult, UrlPatternMatchInput, UrlPatternResult,
+    ComponentName, Error, UrlPattern, UrlPatternComponentResult, UrlPatternMatchInput,
+    UrlPatternResult,
 };
 
 /// What groups are expected to capture, by name.
@@ -22,8 +23,8 @@ pub enum Fact<'a> {
     Text(&'a str, &'a str),
     /// The regular expression of a component.
     Regexp(&'a str, &'a str),
-    /// Whether case is ignored in a component.
-    IgnoresCase(&'a str, bool),
+    /// The components in which case is ignored. It is ignored in no other.
+    IgnoresCase(&'a [&'a str]),
 }
 
 /// Compares a pattern with what is expected of it.
@@ -37,28 +38,23 @@ pub fn expect_facts<R: RegExp>(rt: &impl Abort, pattern: UrlPattern<R>, facts: &
 /// Compares a pattern with one fact.
 fn expect_fact<R: RegExp>(rt: &impl Abort, pattern: &UrlPattern<R>, fact: Fact<'_>) {
     match fact {
-        Fact::Text(name, text) => assert_eq!(rt; text_of(pattern, name), text, "of {name:?}"),
+        Fact::Text(name, text) => {
+            assert_eq!(rt;
+                component(pattern, name).pattern_string.as_str(),
+                text,
+                "of {name:?}"
+            );
+        }
         Fact::Regexp(name, text) => {
             assert_eq!(rt; regexp_of(component(pattern, name)), text, "of {name:?}");
         }
-        Fact::IgnoresCase(name, expected) => {
-            let ignore_case = component(pattern, name).matcher.ignore_case;
-            assert_eq!(rt; ignore_case, expected, "of {name:?}");
+        Fact::IgnoresCase(names) => {
+            for name in ComponentName::all() {
+                let name = name.as_str();
+                let ignore_case = component(pattern, name).matcher.ignore_case;
+                assert_eq!(rt; ignore_case, names.contains(&name), "of {name:?}");
+            }
         }
-    }
-}
-
-/// The pattern text of a component.
-fn text_of<'a, R: RegExp>(pattern: &'a UrlPattern<R>, name: &str) -> &'a str {
-    match name {
-        "protocol" => pattern.protocol(),
-        "username" => pattern.username(),
-        "password" => pattern.password(),
-        "hostname" => pattern.hostname(),
-        "port" => pattern.port(),
-        "pathname" => pattern.pathname(),
-        "search" => pattern.search(),
-        _ => pattern.hash(),
     }
 }
 

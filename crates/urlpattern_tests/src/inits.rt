@@ -1,8 +1,9 @@
 //! Inits and URLs, as the rows give them.
 
 use std::alloc::Global;
+use std::process::Abort;
 use url::{ParseError, Url};
-use urlpattern::{Error, UrlPatternInit, UrlPatternMatchInput};
+use urlpattern::{ComponentName, Error, UrlPatternInit, UrlPatternMatchInput};
 
 /// The texts of an init, by the names of its components.
 pub type Fields<'a> = &'a [(&'a str, &'a str)];
@@ -25,19 +26,24 @@ pub fn url_input(alloc: Global, text: &str) -> Result<UrlPatternMatchInput, Erro
 pub fn init_of(alloc: Global, fields: Fields<'_>) -> Result<UrlPatternInit, Error> {
     let mut init = UrlPatternInit::default();
     for (name, text) in fields {
-        let text = Some(String::from_str(alloc, text)?);
-        match *name {
-            "protocol" => init.protocol = text,
-            "username" => init.username = text,
-            "password" => init.password = text,
-            "hostname" => init.hostname = text,
-            "port" => init.port = text,
-            "pathname" => init.pathname = text,
-            "search" => init.search = text,
-            _ => init.hash = text,
-        }
+        set(&mut init, name, String::from_str(alloc, text)?);
     }
     Ok(init)
+}
+
+/// Sets the text of a component.
+fn set(init: &mut UrlPatternInit, name: &str, text: String) {
+    let text = Some(text);
+    match name {
+        "protocol" => init.protocol = text,
+        "username" => init.username = text,
+        "password" => init.password = text,
+        "hostname" => init.hostname = text,
+        "port" => init.port = text,
+        "pathname" => init.pathname = text,
+        "search" => init.search = text,
+        _ => init.hash = text,
+    }
 }
 
 /// An init with these texts and a base URL.
@@ -51,24 +57,26 @@ pub fn init_under(
     Ok(UrlPatternInit { base_url, ..init })
 }
 
-/// The texts of an init's eight components, in their order.
-pub fn texts_of(init: &UrlPatternInit) -> [Option<&str>; 8] {
-    [
-        init.protocol.as_deref(),
-        init.username.as_deref(),
-        init.password.as_deref(),
-        init.hostname.as_deref(),
-        init.port.as_deref(),
-        init.pathname.as_deref(),
-        init.search.as_deref(),
-        init.hash.as_deref(),
-    ]
-}
+/// The texts of an init's components, in their order: protocol, username, password, hostname, port, pathname, search and hash.
+pub type Texts<'a> = [Option<&'a str>; 8];
 
-/// The text of an init's base URL.
-pub fn base_of(init: &UrlPatternInit) -> Option<&str> {
-    match &init.base_url {
-        Some(url) => Some(url.as_str()),
-        None => None,
+/// Compares an init with these texts and this base URL, or none.
+pub fn expect_init(
+    rt: &impl Abort,
+    alloc: Global,
+    init: &UrlPatternInit,
+    texts: Texts<'_>,
+    base_url: Option<&str>,
+) -> Result<(), Error> {
+    let mut expected = UrlPatternInit::default();
+    for (name, text) in ComponentName::all().iter().zip(texts) {
+        if let Some(text) = text {
+            set(&mut expected, name.as_str(), String::from_str(alloc, text)?);
+        }
     }
+    if let Some(base_url) = base_url {
+        expected.base_url = Some(url_of(alloc, base_url)?);
+    }
+    assert_eq!(rt; *init, expected);
+    Ok(())
 }

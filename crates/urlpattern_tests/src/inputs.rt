@@ -1,6 +1,6 @@
 //! The inputs that a browser gives, and what is handed back of them.
 
-use crate::inits::{base_of, init_under, texts_of, url_input};
+use crate::inits::{Texts, expect_init, init_under, url_input};
 use std::alloc::Global;
 use std::borrow::CowStr;
 use std::process::Abort;
@@ -34,17 +34,15 @@ fn plain_init(
 }
 
 /// Compares the init that a constructor's input stands for: the texts of its components, and its base URL.
-fn expect_init(
+fn expect_processed(
     rt: &impl Abort,
     alloc: Global,
     input: StringOrInit<'_>,
     base_url: Option<&str>,
-    (texts, base): ([Option<&str>; 8], Option<&str>),
+    (texts, base): (Texts<'_>, Option<&str>),
 ) -> Result<(), Error> {
     let init = process_construct_pattern_input(alloc, input, base_url)?;
-    assert_eq!(rt; texts_of(&init), texts);
-    assert_eq!(rt; base_of(&init), base);
-    Ok(())
+    expect_init(rt, alloc, &init, texts, base)
 }
 
 #[test]
@@ -60,11 +58,11 @@ fn a_string_is_split_under_its_base(rt: HostRuntime) -> Result<(), Fail> {
         None,
         None,
     ];
-    expect_init(&rt, alloc, string(":caf\u{e9}://:foo"), None, (texts, None))?;
+    expect_processed(&rt, alloc, string(":caf\u{e9}://:foo"), None, (texts, None))?;
 
     let texts = [None, None, None, None, None, Some("/a"), None, None];
     let base_url = Some("https://example.com/b");
-    expect_init(&rt, alloc, string("/a"), base_url, (texts, base_url))?;
+    expect_processed(&rt, alloc, string("/a"), base_url, (texts, base_url))?;
     Ok(())
 }
 
@@ -101,7 +99,7 @@ fn an_init_has_its_own_base(rt: HostRuntime) -> Result<(), Fail> {
     let base_url = "https://example.com/b";
     let texts = [None, None, None, None, None, Some("a"), None, None];
     let input = plain_init(alloc, "a", Some(base_url))?;
-    expect_init(&rt, alloc, input, None, (texts, Some(base_url)))?;
+    expect_processed(&rt, alloc, input, None, (texts, Some(base_url)))?;
 
     let init = init_under(alloc, &[("pathname", "a")], base_url)?;
     let read = UrlPatternMatchInput::Init(init);

@@ -26,8 +26,6 @@ mod inputs;
 #[cfg(test)]
 mod json;
 #[cfg(test)]
-mod kept_text;
-#[cfg(test)]
 mod layers;
 #[cfg(test)]
 mod lists;
@@ -41,3 +39,5 @@ mod odd_engines;
 mod patterns;
 #[cfg(test)]
 mod plain_patterns;
+#[cfg(test)]
+mod stubborn;

@@ -1,7 +1,7 @@
 //! Lists of patterns: what they hold, which pattern is asked, and want of memory.
 
 use crate::inits::{init_of, url_input};
-use crate::kept_text::Wanting;
+use crate::stubborn::Wanting;
 use std::alloc::Global;
 use std::test::Fail;
 use urlpattern::quirks::parse_match_input;

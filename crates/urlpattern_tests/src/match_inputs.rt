@@ -1,36 +1,24 @@
 //! The texts of a match input: the default ones, copies of inits, and want of memory.
 
 use crate::inits::init_under;
+use serde_json::Value;
 use std::alloc::Global;
 use std::process::Abort;
 use std::test::Fail;
 use urlpattern::quirks::{MatchInput, parse_match_input};
-use urlpattern::{Error, UrlPatternInit, UrlPatternMatchInput};
+use urlpattern::{ComponentName, Error, UrlPatternInit, UrlPatternMatchInput};
 
-/// The eight texts, in the order of the components.
-fn texts_of(input: &MatchInput) -> [&str; 8] {
-    [
-        &input.protocol,
-        &input.username,
-        &input.password,
-        &input.hostname,
-        &input.port,
-        &input.pathname,
-        &input.search,
-        &input.hash,
-    ]
-}
-
-/// Compares the texts of an input.
+/// Compares the texts of an input, in the order of the components.
 fn expect_texts(
     rt: &impl Abort,
     alloc: Global,
-    input: UrlPatternMatchInput,
+    input: &MatchInput,
     expected: [&str; 8],
 ) -> Result<(), Error> {
-    match parse_match_input(alloc, input)? {
-        Some(found) => assert_eq!(rt; texts_of(&found), expected),
-        None => panic!(rt; "no input"),
+    let tree = input.to_json_value(alloc)?;
+    for (name, text) in ComponentName::all().iter().zip(expected) {
+        let found = tree.get(name.as_str()).and_then(Value::as_str);
+        assert_eq!(rt; found, Some(text));
     }
     Ok(())
 }
@@ -40,7 +28,10 @@ fn expect_joined(rt: &impl Abort, alloc: Global) -> Result<(), Error> {
     let base_url = "https://u:p@example.com:8080/a/b?q#f";
     let init = init_under(alloc, &[("pathname", "c")], base_url)?;
     let expected = ["https", "u", "p", "example.com", "8080", "/a/c", "", ""];
-    expect_texts(rt, alloc, UrlPatternMatchInput::Init(init), expected)
+    match parse_match_input(alloc, UrlPatternMatchInput::Init(init))? {
+        Some(found) => expect_texts(rt, alloc, &found, expected),
+        None => panic!(rt; "no input"),
+    }
 }
 
 /// Whether a copy of a value equals it, and not another value.
@@ -61,9 +52,10 @@ fn a_copy_of_an_init_equals_it(rt: HostRuntime) -> Result<(), Fail> {
 }
 
 #[test]
-fn the_default_texts_are_empty(rt: HostRuntime) {
+fn the_default_texts_are_empty(rt: HostRuntime) -> Result<(), Fail> {
     let texts = MatchInput::default(rt.alloc());
-    assert_eq!(rt; texts_of(&texts), ["", "", "", "", "", "", "", ""]);
+    expect_texts(&rt, rt.alloc(), &texts, [""; 8])?;
+    Ok(())
 }
 
 /// Holds whichever allocation is refused: `rt try --test --fail-alloc N` refuses one.

@@ -51,6 +51,17 @@ fn with_pathname<R: RegExp>(alloc: Global, pathname: Component<R>) -> Result<Url
     })
 }
 
+/// A pattern with this text for the path, and a URL as an input.
+fn with_path_and_url(
+    alloc: Global,
+    pathname: &str,
+    url: &str,
+) -> Result<(UrlPattern<Regex>, UrlPatternMatchInput), Error> {
+    let input = url_input(alloc, url)?;
+    let pattern = with_pathname(alloc, path_of::<Regex>(alloc, pathname)?)?;
+    Ok((pattern, input))
+}
+
 /// Compares what a pattern with this text for the path tells of a URL that it matches.
 fn expect_url(
     rt: &impl Abort,
@@ -59,8 +70,7 @@ fn expect_url(
     url: &str,
     told: &[Told<'_>],
 ) -> Result<(), Error> {
-    let input = url_input(alloc, url)?;
-    let pattern = with_pathname(alloc, path_of::<Regex>(alloc, pathname)?)?;
+    let (pattern, input) = with_path_and_url(alloc, pathname, url)?;
     expect_match(rt, alloc, pattern, input, told)
 }
 
@@ -167,8 +177,7 @@ fn a_pattern_is_matched_once(rt: HostRuntime) -> Result<(), Fail> {
 #[test]
 fn names_are_sorted(rt: HostRuntime) -> Result<(), Fail> {
     let alloc = rt.alloc();
-    let input = url_input(alloc, "https://example.com/1/2")?;
-    let pattern = with_pathname(alloc, path_of::<Regex>(alloc, "/:b/:a{/:c}?")?)?;
+    let (pattern, input) = with_path_and_url(alloc, "/:b/:a{/:c}?", "https://example.com/1/2")?;
     let groups = [("a", Some("2")), ("b", Some("1")), ("c", None)];
     expect_names(&rt, alloc, pattern, input, &groups, "d")?;
     Ok(())
@@ -216,8 +225,7 @@ fn an_init_is_not_matched(rt: HostRuntime) -> Result<(), Fail> {
 #[test]
 fn a_copy_of_a_result_equals_it(rt: HostRuntime) -> Result<(), Fail> {
     let alloc = rt.alloc();
-    let input = url_input(alloc, "https://example.com/a/b")?;
-    let pattern = with_pathname(alloc, path_of::<Regex>(alloc, "/a/:x{/:y}?")?)?;
+    let (pattern, input) = with_path_and_url(alloc, "/a/:x{/:y}?", "https://example.com/a/b")?;
     let groups = [("x", Some("b")), ("y", None)];
     expect_path(&rt, alloc, pattern, input, "/a/b", &groups)?;
     Ok(())

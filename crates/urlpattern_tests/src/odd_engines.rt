@@ -1,71 +1,15 @@
 //! Engines of regular expressions that answer what no engine should, or refuse each text.
 
 use crate::inits::init_of;
-use crate::kept_text::Wanting;
 use crate::matches::expect_groups;
+use crate::stubborn::{Captures, KeptText, Refusing, Starved, Stubborn, Wanting};
 use std::alloc::Global;
 use std::test::Fail;
 use urlpattern::component::generate_matcher;
-use urlpattern::error::{OutOfMemory, RegExpError};
 use urlpattern::matcher::{InnerMatcher, Matcher};
 use urlpattern::parser::{Options, parse_pattern_string};
 use urlpattern::regexp::RegExp;
-use urlpattern::{Error, RegexSyntax, UrlPattern, UrlPatternOptions};
-
-/// What an engine captures of each text.
-type Captures = &'static [Option<&'static str>];
-
-/// An engine that takes each text, and captures the same of all texts. These need be no slices of them.
-#[derive(Drop)]
-struct Stubborn {
-    text: String,
-    captures: Captures,
-}
-
-impl RegExp for Stubborn {
-    ghost use Rattle.std.specs.Prelude.{◌≡◌, map, Some};
-    ghost use Rattle.urlpattern.specs.Captured.{capture_view};
-    ghost use Rattle.urlpattern.specs.RegexSyntax.TheVariants.{Rust};
-    ghost use Rattle.urlpattern.specs.Text.{text_of};
-
-    ghost syntax_of = { Rust };
-
-    ghost IsMade = { λ engine regexp flags. text_of engine.text ≡ regexp };
-
-    ghost MayRefuse = { λ regexp flags force_eval. ⊥ };
-
-    ghost answer = { λ engine text. Some (map capture_view engine.captures.now) };
-
-    ghost text_made_of = { λ engine. text_of engine.text };
-
-    fn syntax() -> RegexSyntax {
-        RegexSyntax::Rust
-    }
-
-    fn parse(
-        alloc: Global,
-        pattern: &str,
-        _flags: &str,
-        _force_eval: bool,
-    ) -> Result<Stubborn, RegExpError> {
-        Ok(Stubborn {
-            text: String::from_str(alloc, pattern)?,
-            captures: &[],
-        })
-    }
-
-    fn matches<'a>(
-        &self,
-        alloc: Global,
-        _text: &'a str,
-    ) -> Result<Option<Vec<Option<&'a str>>>, OutOfMemory> {
-        Ok(Some(self.captures.to_vec(alloc)?))
-    }
-
-    fn pattern_string(&self) -> &str {
-        self.text.as_str()
-    }
-}
+use urlpattern::{Error, UrlPattern, UrlPatternOptions};
 
 #[test]
 fn captures_that_are_too_many_too_few_or_foreign(rt: HostRuntime) -> Result<(), Fail> {
@@ -86,75 +30,14 @@ fn captures_that_are_too_many_too_few_or_foreign(rt: HostRuntime) -> Result<(), 
         ),
     ];
     for (names, captures, groups) in rows {
-        let text = String::new(alloc);
-        expect_groups(
-            &rt,
-            alloc,
-            "/path",
-            names,
-            Stubborn { text, captures },
-            groups,
-        )?;
+        let engine: KeptText = Stubborn {
+            text: String::new(alloc),
+            captures: Some(captures),
+        };
+        expect_groups(&rt, alloc, "/path", names, engine, groups)?;
     }
     Ok(())
 }
-
-/// An engine that makes no value: each text is refused, or finds no memory.
-#[derive(Drop)]
-struct Failing<const HAS_MEMORY: bool> {
-    text: String,
-}
-
-impl<const HAS_MEMORY: bool> RegExp for Failing<HAS_MEMORY> {
-    ghost use Rattle.std.specs.Prelude.{⊤, None};
-    ghost use Rattle.urlpattern.specs.RegexSyntax.TheVariants.{Rust};
-    ghost use Rattle.urlpattern.specs.Text.{text_of};
-
-    ghost syntax_of = { Rust };
-
-    ghost IsMade = { λ engine regexp flags. ⊥ };
-
-    ghost MayRefuse = { λ regexp flags force_eval. ⊤ };
-
-    ghost answer = { λ engine text. None };
-
-    ghost text_made_of = { λ engine. text_of engine.text };
-
-    fn syntax() -> RegexSyntax {
-        RegexSyntax::Rust
-    }
-
-    fn parse(
-        _alloc: Global,
-        _pattern: &str,
-        _flags: &str,
-        _force_eval: bool,
-    ) -> Result<Failing<HAS_MEMORY>, RegExpError> {
-        if HAS_MEMORY {
-            Err(RegExpError::Pattern)
-        } else {
-            Err(RegExpError::OutOfMemory)
-        }
-    }
-
-    fn matches<'a>(
-        &self,
-        _alloc: Global,
-        _text: &'a str,
-    ) -> Result<Option<Vec<Option<&'a str>>>, OutOfMemory> {
-        Ok(None)
-    }
-
-    fn pattern_string(&self) -> &str {
-        self.text.as_str()
-    }
-}
-
-/// An engine that refuses each text.
-type Refusing = Failing<true>;
-
-/// An engine that finds no memory for any text.
-type Starved = Failing<false>;
 
 /// A matcher that asks an engine about what stands before `b`.
 fn matcher_of<R: RegExp>(alloc: Global) -> Result<Matcher<R>, Error> {

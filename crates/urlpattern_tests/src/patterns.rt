@@ -26,23 +26,16 @@ fn expect_built<R: RegExp>(
 
 #[test]
 fn case_is_ignored_behind_the_authority(rt: HostRuntime) -> Result<(), Fail> {
+    let facts = [
+        Fact::IgnoresCase(&["pathname", "search", "hash"]),
+        Fact::Regexp("pathname", "^\\/users(?:\\/([^\\/]+?))$"),
+    ];
     let alloc = rt.alloc();
+    let init = init_of(alloc, &[("pathname", "/users/:id")])?;
     let options = UrlPatternOptions {
         regex_syntax: RegexSyntax::EcmaScript,
         ignore_case: true,
     };
-    let facts = [
-        Fact::IgnoresCase("protocol", false),
-        Fact::IgnoresCase("username", false),
-        Fact::IgnoresCase("password", false),
-        Fact::IgnoresCase("hostname", false),
-        Fact::IgnoresCase("port", false),
-        Fact::IgnoresCase("pathname", true),
-        Fact::IgnoresCase("search", true),
-        Fact::IgnoresCase("hash", true),
-        Fact::Regexp("pathname", "^\\/users(?:\\/([^\\/]+?))$"),
-    ];
-    let init = init_of(alloc, &[("pathname", "/users/:id")])?;
     expect_built::<EcmaRegexp>(&rt, alloc, init, options, &facts)?;
     Ok(())
 }

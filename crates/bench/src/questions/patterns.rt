@@ -7,9 +7,7 @@ use regex::Regex;
 use std::alloc::Global;
 use std::borrow::CowStr;
 use url::Url;
-use urlpattern::quirks::{
-    EcmaRegexp, MatchInput, StringOrInit, parse_match_input, process_match_input,
-};
+use urlpattern::quirks::{EcmaRegexp, StringOrInit, parse_match_input, process_match_input};
 use urlpattern::regexp::{PatternRegexp, RegExp};
 use urlpattern::{
     Error, UrlPattern, UrlPatternCaptures, UrlPatternMatchInput, UrlPatternOptions,
@@ -114,7 +112,7 @@ fn is_found_alike<R: RegExp>(
         }
     }
     match parse_match_input(alloc, input)? {
-        Some(texts) => is_captured(alloc, pattern, &texts, found),
+        Some(texts) => is_copied(alloc, pattern.captures_of_input(alloc, &texts), found),
         None => Ok(found.is_none()),
     }
 }
@@ -131,16 +129,6 @@ fn is_url_found_alike<R: RegExp>(
             && is_match(pattern.exec_url(alloc, url), found)?
             && is_copied(alloc, pattern.captures(alloc, url), found)?,
     )
-}
-
-/// Whether the match of eight texts is this one.
-fn is_captured<R: RegExp>(
-    alloc: Global,
-    pattern: &UrlPattern<R>,
-    texts: &MatchInput,
-    found: &Found,
-) -> Result<bool, Error> {
-    is_copied(alloc, pattern.captures_of_input(alloc, texts), found)
 }
 
 /// Whether copies of what is borrowed are this match.

@@ -25,12 +25,8 @@ pub fn ask(maker: &mut Maker) -> Result<Outcome, Error> {
 /// An init.
 fn ask_init(maker: &mut Maker) -> Result<Outcome, Error> {
     let init = given::init(maker, true)?;
-    let is_same = match read_again(maker.alloc, init.to_json_value(maker.alloc)) {
-        Ok(tree) => is_read(UrlPatternInit::from_json_value(maker.alloc, &tree), &init),
-        Err(error) => Err(error),
-    };
-    drop(init);
-    Ok(same(is_same?))
+    let written = init.to_json_value(maker.alloc);
+    is_read_again(maker.alloc, init, written, UrlPatternInit::from_json_value)
 }
 
 /// A constructor string or an init.
@@ -50,9 +46,13 @@ fn ask_options(maker: &mut Maker) -> Result<Outcome, Error> {
         regex_syntax: given::syntax(maker),
         ignore_case: maker.is_one_in(2),
     };
-    let tree = read_again(maker.alloc, options.to_json_value(maker.alloc))?;
-    let found = UrlPatternOptions::from_json_value(maker.alloc, &tree);
-    Ok(same(is_read(found, &options)?))
+    let written = options.to_json_value(maker.alloc);
+    is_read_again(
+        maker.alloc,
+        options,
+        written,
+        UrlPatternOptions::from_json_value,
+    )
 }
 
 /// The eight texts of an input.
@@ -65,27 +65,20 @@ fn ask_texts(maker: &mut Maker) -> Result<Outcome, Error> {
     let Some(texts) = parse_match_input(maker.alloc, input)? else {
         return Ok(Outcome::Refused);
     };
-    let is_same = match read_again(maker.alloc, texts.to_json_value(maker.alloc)) {
-        Ok(tree) => is_read(MatchInput::from_json_value(maker.alloc, &tree), &texts),
-        Err(error) => Err(error),
-    };
-    drop(texts);
-    Ok(same(is_same?))
+    let written = texts.to_json_value(maker.alloc);
+    is_read_again(maker.alloc, texts, written, MatchInput::from_json_value)
 }
 
 /// A pattern as plain data.
 fn ask_pattern(maker: &mut Maker) -> Result<Outcome, Error> {
     let (pattern, _) = given::pattern(maker)?;
-    let found = plain_pattern(maker.alloc, pattern);
-    let outcome = match &found {
-        Ok(pattern) => match read_again(maker.alloc, pattern.to_json_value(maker.alloc)) {
-            Ok(tree) => is_read(UrlPattern::from_json_value(maker.alloc, &tree), pattern).map(same),
-            Err(error) => Err(error),
-        },
-        Err(error) => Outcome::of_error(error),
-    };
-    drop(found);
-    outcome
+    match plain_pattern(maker.alloc, pattern) {
+        Ok(pattern) => {
+            let written = pattern.to_json_value(maker.alloc);
+            is_read_again(maker.alloc, pattern, written, UrlPattern::from_json_value)
+        }
+        Err(error) => Outcome::of_error(&error),
+    }
 }
 
 /// The plain data of a pattern.
@@ -96,6 +89,23 @@ fn plain_pattern(alloc: Global, pattern: StringOrInit<'_>) -> Result<UrlPattern,
     };
     let init = process_construct_pattern_input(alloc, pattern, base)?;
     parse_pattern::<Regex>(alloc, init, UrlPatternOptions::default())
+}
+
+/// Whether a value is read again of the text of the tree that is written of it.
+fn is_read_again<T: PartialEq + Drop, F: FnOnce(Global, &Value) -> Result<Option<T>, Error>>(
+    alloc: Global,
+    value: T,
+    written: Result<Value, Error>,
+    read: F,
+) -> Result<Outcome, Error>
+    requires { F.IsAlwaysCallable read }
+{
+    let is_same = match read_again(alloc, written) {
+        Ok(tree) => is_read(read(alloc, &tree), &value),
+        Err(error) => Err(error),
+    };
+    drop(value);
+    Ok(same(is_same?))
 }
 
 /// The tree that the text of a tree is read as. Null where it is no JSON, of which no value is read.

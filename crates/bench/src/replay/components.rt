@@ -1,9 +1,8 @@
 //! Asks for the parts of a pattern and what is made of them.
 
+use super::Case;
 use super::matchers::is_matcher;
-use super::prints;
-use crate::engines::KeptText;
-use crate::recorded::{Answer, Fault, has_text, has_texts, list, optional_text, options_of, text};
+use crate::recorded::{Fault, has_text, has_texts, list, optional_text, options_of, text};
 use serde_json::Value;
 use std::alloc::Global;
 use url::ParseError;
@@ -13,6 +12,7 @@ use urlpattern::component::{
 };
 use urlpattern::matcher::Matcher;
 use urlpattern::parser::{Options, Part, PartModifier, PartType, parse_pattern_string};
+use urlpattern::quirks::EcmaRegexp;
 
 /// What becomes of each text of a pattern.
 #[derive(Clone, Copy, Drop)]
@@ -56,16 +56,20 @@ impl Callback {
 }
 
 /// Whether the parts of a pattern, and what is made of them, are the recorded ones.
-pub fn is_same(alloc: Global, question: &Value, answer: Answer<'_>) -> Result<bool, Fault> {
-    let options = options_of(alloc, question)?;
-    let callback = Callback::of(question)?;
-    let found = parts_of(alloc, text(question, "pattern")?, &options, callback);
-    Ok(match (found, answer) {
-        (Ok(parts), Answer::Ok(recorded)) => {
-            matches!(is_component(alloc, &parts, &options, recorded), Ok(true))
-        }
-        (Err(error), Answer::Err(text)) => prints(alloc, &error, text)?,
-        _ => false,
+pub fn is_same(case: &Case<'_>) -> Result<bool, Fault> {
+    let options = options_of(case.alloc, case.question)?;
+    let callback = Callback::of(case.question)?;
+    let found = parts_of(
+        case.alloc,
+        text(case.question, "pattern")?,
+        &options,
+        callback,
+    );
+    case.is_answer(found, |parts, recorded| {
+        Ok(matches!(
+            is_component(case.alloc, parts, &options, recorded),
+            Ok(true)
+        ))
     })
 }
 
@@ -89,7 +93,7 @@ fn is_component(
 ) -> Result<bool, Error> {
     let (regexp, names) = generate_regular_expression_and_name_list(alloc, parts, options)?;
     let pattern = generate_pattern_string(alloc, parts, options)?;
-    let matcher: Matcher<KeptText> = generate_matcher(alloc, parts, options, "u")?;
+    let matcher: Matcher<EcmaRegexp> = generate_matcher(alloc, parts, options, "u")?;
     Ok(
         are_parts(parts, recorded)
             && has_text(recorded, "regexp", &regexp)

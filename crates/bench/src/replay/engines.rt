@@ -1,35 +1,23 @@
 //! Asks an engine what was asked when a case was recorded.
 
+use super::Case;
 use crate::recorded::{Answer, Fault, has_text, is_set, list, text};
-use regex::Regex;
 use serde_json::Value;
 use std::alloc::Global;
 use urlpattern::error::RegExpError;
-use urlpattern::quirks::EcmaRegexp;
-use urlpattern::regexp::{PatternRegexp, RegExp};
-
-/// Whether an engine's answers are the recorded ones.
-pub fn is_same(alloc: Global, question: &Value, answer: Answer<'_>) -> Result<bool, Fault> {
-    match text(question, "engine")? {
-        "regex" => Ok(
-            is_same_over::<Regex>(alloc, question, answer)?
-                && is_same_over::<PatternRegexp>(alloc, question, answer)?,
-        ),
-        "ecma" => is_same_over::<EcmaRegexp>(alloc, question, answer),
-        _ => Err(Fault::NoCase),
-    }
-}
+use urlpattern::regexp::RegExp;
 
 /// Whether the answers of this engine are the recorded ones.
-fn is_same_over<R: RegExp>(
-    alloc: Global,
-    question: &Value,
-    answer: Answer<'_>,
-) -> Result<bool, Fault> {
-    let pattern = text(question, "pattern")?;
-    let found = R::parse(alloc, pattern, "u", is_set(question, "force_eval"));
-    let is_same = match (&found, answer) {
-        (Ok(engine), Answer::Ok(recorded)) => is_engine(alloc, engine, question, recorded),
+pub fn is_same<R: RegExp>(case: &Case<'_>) -> Result<bool, Fault> {
+    let pattern = text(case.question, "pattern")?;
+    let found = R::parse(
+        case.alloc,
+        pattern,
+        "u",
+        is_set(case.question, "force_eval"),
+    );
+    let is_same = match (&found, case.answer) {
+        (Ok(engine), Answer::Ok(recorded)) => is_engine(case, engine, recorded),
         (Err(RegExpError::Pattern), Answer::Err(text)) => Ok(text == "pattern"),
         _ => Ok(false),
     };
@@ -38,19 +26,14 @@ fn is_same_over<R: RegExp>(
 }
 
 /// Whether an engine has the recorded text, and answers the texts of a question as recorded.
-fn is_engine<R: RegExp>(
-    alloc: Global,
-    engine: &R,
-    question: &Value,
-    recorded: &Value,
-) -> Result<bool, Fault> {
-    let inputs = list(question, "inputs")?;
+fn is_engine<R: RegExp>(case: &Case<'_>, engine: &R, recorded: &Value) -> Result<bool, Fault> {
+    let inputs = list(case.question, "inputs")?;
     let Ok(matches) = list(recorded, "matches") else {
         return Ok(false);
     };
     Ok(
         has_text(recorded, "pattern_string", engine.pattern_string())
-            && are_answers(alloc, engine, inputs, matches),
+            && are_answers(case.alloc, engine, inputs, matches),
     )
 }
 

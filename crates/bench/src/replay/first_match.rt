@@ -1,42 +1,24 @@
 //! Builds the lists of patterns that were built when a case was recorded, and asks for the first match of the same inputs.
 
 use super::patterns::{are_same_components, built};
-use super::{given, prints};
-use crate::recorded::{Answer, Fault, list, optional_text};
-use regex::Regex;
+use super::{Case, given, prints};
+use crate::recorded::{Fault, list, optional_text};
 use serde_json::Value;
 use std::alloc::{AllocError, Global};
 use urlpattern::quirks::process_match_input;
-use urlpattern::regexp::{PatternRegexp, RegExp};
+use urlpattern::regexp::RegExp;
 use urlpattern::{Error, UrlPatternList, UrlPatternResult};
 
 /// What comes of an input: an index and its match, None where there is none.
 type First = Option<(usize, UrlPatternResult)>;
 
-/// Whether the first matches of the inputs in a list are what was recorded, over both engines.
-pub fn is_same(alloc: Global, question: &Value, answer: Answer<'_>) -> Result<bool, Fault> {
-    Ok(
-        is_same_over::<Regex>(alloc, question, answer)?
-            && is_same_over::<PatternRegexp>(alloc, question, answer)?,
+/// Whether the first matches of the inputs in a list over this engine are what was recorded.
+pub fn is_same<R: RegExp>(case: &Case<'_>) -> Result<bool, Fault> {
+    let found = built_list::<R>(case.alloc, case.question)?;
+    case.is_answer(
+        found,
+        |patterns, recorded| has_same_results(case, patterns, recorded),
     )
-}
-
-/// Whether they are, over one engine.
-fn is_same_over<R: RegExp>(
-    alloc: Global,
-    question: &Value,
-    answer: Answer<'_>,
-) -> Result<bool, Fault> {
-    let found = built_list::<R>(alloc, question)?;
-    let is_same = match (&found, answer) {
-        (Ok(patterns), Answer::Ok(recorded)) => has_same_results(
-            alloc, patterns, question, recorded,
-        ),
-        (Err(error), Answer::Err(text)) => prints(alloc, error, text).map_err(Fault::from),
-        _ => Ok(false),
-    };
-    drop(found);
-    is_same
 }
 
 /// The list of the patterns that a question gives, or why the first that is refused is so.
@@ -62,24 +44,16 @@ fn built_list<R: RegExp>(
 
 /// Whether what comes of each input of a question is the recorded result.
 fn has_same_results<R: RegExp>(
-    alloc: Global,
+    case: &Case<'_>,
     patterns: &UrlPatternList<R>,
-    question: &Value,
     recorded: &Value,
 ) -> Result<bool, Fault> {
-    let inputs = list(question, "inputs")?;
-    let Ok(results) = list(recorded, "results") else {
-        return Ok(false);
-    };
-    for (input, expected) in inputs.iter().zip(results) {
-        let found = first_match(alloc, patterns, input)?;
-        let is_same = is_same_result(alloc, &found, expected);
+    case.are_results(recorded, |input, expected| {
+        let found = first_match(case.alloc, patterns, input)?;
+        let is_same = is_same_result(case.alloc, &found, expected);
         drop(found);
-        if !is_same? {
-            return Ok(false);
-        }
-    }
-    Ok(inputs.len() == results.len())
+        Ok(is_same?)
+    })
 }
 
 /// The first match of an input that a question gives.

@@ -25,7 +25,7 @@ pub fn options(alloc: Global, question: &Value) -> Result<UrlPatternOptions, Fau
 }
 
 /// The value that was read. A question has one.
-fn read<T: Drop>(found: Result<Option<T>, Error>) -> Result<T, Fault> {
+pub fn read<T: Drop>(found: Result<Option<T>, Error>) -> Result<T, Fault> {
     match found {
         Ok(Some(value)) => Ok(value),
         Ok(None) => Err(Fault::NoCase),

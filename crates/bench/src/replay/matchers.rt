@@ -1,62 +1,43 @@
 //! Asks matchers what they were asked when a case was recorded.
 
+use super::Case;
 use super::components::{Callback, parts_of};
 use super::engines::are_captures;
-use super::prints;
-use crate::engines::KeptText;
 use crate::recorded::{
     Answer, Fault, character, field, has_text, is_set, list, optional_text, options_of, text,
 };
-use regex::Regex;
 use serde_json::Value;
 use std::alloc::{AllocError, Global};
 use urlpattern::component::generate_matcher;
 use urlpattern::matcher::{InnerMatcher, Matcher};
 use urlpattern::parser::Options;
 use urlpattern::quirks::EcmaRegexp;
-use urlpattern::regexp::{PatternRegexp, RegExp};
+use urlpattern::regexp::RegExp;
 use urlpattern::{Error, RegexSyntax};
 
-/// Whether the matcher of a pattern answers what was recorded, over each engine.
-pub fn is_same(alloc: Global, question: &Value, answer: Answer<'_>) -> Result<bool, Fault> {
-    Ok(
-        is_same_over::<Regex>(alloc, question, answer)?
-            && is_same_over::<PatternRegexp>(alloc, question, answer)?
-            && is_same_over::<EcmaRegexp>(alloc, question, answer)?,
-    )
-}
-
 /// Whether the matcher of a pattern over an engine answers what was recorded.
-fn is_same_over<R: RegExp>(
-    alloc: Global,
-    question: &Value,
-    answer: Answer<'_>,
-) -> Result<bool, Fault> {
-    let pattern = text(question, "pattern")?;
-    let options = options_of(alloc, question)?;
-    let found: Result<Matcher<R>, Error> = matcher_of(alloc, pattern, &options);
-    let is_same = match (&found, answer) {
-        (Ok(matcher), Answer::Ok(recorded)) => is_matcher_of(alloc, matcher, question, recorded),
-        (Err(error), Answer::Err(text)) => prints(alloc, error, text).map_err(Fault::from),
-        _ => Ok(false),
-    };
-    drop(found);
-    is_same
+pub fn is_same<R: RegExp>(case: &Case<'_>) -> Result<bool, Fault> {
+    let pattern = text(case.question, "pattern")?;
+    let options = options_of(case.alloc, case.question)?;
+    let found: Result<Matcher<R>, Error> = matcher_of(case.alloc, pattern, &options);
+    case.is_answer(
+        found,
+        |matcher, recorded| is_matcher_of(case, matcher, recorded),
+    )
 }
 
 /// Whether a matcher answers the texts of a question as recorded, and keeps an error where one was kept.
 fn is_matcher_of<R: RegExp>(
-    alloc: Global,
+    case: &Case<'_>,
     matcher: &Matcher<R>,
-    question: &Value,
     recorded: &Value,
 ) -> Result<bool, Fault> {
-    let inputs = list(question, "inputs")?;
+    let inputs = list(case.question, "inputs")?;
     let Ok(matches) = list(recorded, "matches") else {
         return Ok(false);
     };
     let is_refused = is_set(recorded, "refused") && refuses_unasked::<R>();
-    Ok(are_answers(alloc, matcher, inputs, matches) && keeps_error(matcher) == is_refused)
+    Ok(are_answers(case.alloc, matcher, inputs, matches) && keeps_error(matcher) == is_refused)
 }
 
 /// The matcher of a pattern.
@@ -81,19 +62,19 @@ fn refuses_unasked<R: RegExp>() -> bool {
 }
 
 /// Whether a matcher made by hand answers what was recorded.
-pub fn is_same_by_hand(alloc: Global, question: &Value, answer: Answer<'_>) -> Result<bool, Fault> {
-    let inputs = list(question, "inputs")?;
-    let Answer::Ok(Value::Array(recorded)) = answer else {
+pub fn is_same_by_hand(case: &Case<'_>) -> Result<bool, Fault> {
+    let inputs = list(case.question, "inputs")?;
+    let Answer::Ok(Value::Array(recorded)) = case.answer else {
         return Ok(false);
     };
-    let matcher = hand_matcher(alloc, question)?;
-    let is_same = are_answers(alloc, &matcher, inputs, recorded);
+    let matcher = hand_matcher(case.alloc, case.question)?;
+    let is_same = are_answers(case.alloc, &matcher, inputs, recorded);
     drop(matcher);
     Ok(is_same)
 }
 
 /// The matcher of the fields of a question.
-fn hand_matcher(alloc: Global, question: &Value) -> Result<Matcher<KeptText>, Fault> {
+fn hand_matcher(alloc: Global, question: &Value) -> Result<Matcher<EcmaRegexp>, Fault> {
     let prefix = String::from_str(alloc, text(question, "prefix")?)?;
     let suffix = String::from_str(alloc, text(question, "suffix")?)?;
     Ok(Matcher {
@@ -105,7 +86,7 @@ fn hand_matcher(alloc: Global, question: &Value) -> Result<Matcher<KeptText>, Fa
 }
 
 /// What such a matcher has between prefix and suffix.
-fn hand_inner(alloc: Global, question: &Value) -> Result<InnerMatcher<KeptText>, AllocError> {
+fn hand_inner(alloc: Global, question: &Value) -> Result<InnerMatcher<EcmaRegexp>, AllocError> {
     match optional_text(question, "literal") {
         Some(literal) => Ok(InnerMatcher::Literal {
             literal: String::from_str(alloc, literal)?,
@@ -147,7 +128,7 @@ fn answers<R: RegExp>(alloc: Global, matcher: &Matcher<R>, input: &str, expected
 }
 
 /// Whether a matcher is that of a recorded component.
-pub fn is_matcher(matcher: &Matcher<KeptText>, component: &Value) -> bool {
+pub fn is_matcher(matcher: &Matcher<EcmaRegexp>, component: &Value) -> bool {
     let Ok(recorded) = field(component, "matcher") else {
         return false;
     };
@@ -157,7 +138,7 @@ pub fn is_matcher(matcher: &Matcher<KeptText>, component: &Value) -> bool {
 }
 
 /// Whether what stands between prefix and suffix is that of a recorded matcher.
-fn is_inner(inner: &InnerMatcher<KeptText>, recorded: &Value) -> bool {
+fn is_inner(inner: &InnerMatcher<EcmaRegexp>, recorded: &Value) -> bool {
     match inner {
         InnerMatcher::Literal { literal } => {
             has_text(recorded, "kind", "literal") && has_text(recorded, "literal", literal)

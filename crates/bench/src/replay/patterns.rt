@@ -1,48 +1,24 @@
 //! Builds the patterns that were built when a case was recorded, and matches what was matched.
 
-use super::{given, prints};
-use crate::recorded::{Answer, Fault, has_text, is_set, list, optional_text};
-use regex::Regex;
+use super::{Case, given, prints};
+use crate::recorded::{Fault, has_text, is_set, optional_text};
 use serde_json::Value;
 use std::alloc::{AllocError, Global};
-use urlpattern::quirks::{
-    EcmaRegexp, StringOrInit, process_construct_pattern_input, process_match_input,
-};
-use urlpattern::regexp::{PatternRegexp, RegExp};
+use urlpattern::quirks::{StringOrInit, process_construct_pattern_input, process_match_input};
+use urlpattern::regexp::RegExp;
 use urlpattern::{
     Error, UrlPattern, UrlPatternComponentResult, UrlPatternOptions, UrlPatternResult,
 };
 
-/// Whether a pattern and what it answers to the inputs are what was recorded.
-pub fn is_same(alloc: Global, question: &Value, answer: Answer<'_>) -> Result<bool, Fault> {
-    match optional_text(question, "engine") {
-        Some("regex") | None => Ok(
-            is_same_over::<Regex>(alloc, question, answer)?
-                && is_same_over::<PatternRegexp>(alloc, question, answer)?,
-        ),
-        Some("ecma") => is_same_over::<EcmaRegexp>(alloc, question, answer),
-        Some(_) => Err(Fault::NoCase),
-    }
-}
-
-/// The same over one engine.
-fn is_same_over<R: RegExp>(
-    alloc: Global,
-    question: &Value,
-    answer: Answer<'_>,
-) -> Result<bool, Fault> {
-    let options = given::options(alloc, question)?;
-    let input = given::input(alloc, question)?;
-    let found = built::<R>(alloc, input, optional_text(question, "base"), options);
-    let is_same = match (&found, answer) {
-        (Ok(pattern), Answer::Ok(recorded)) if has_same_texts(pattern, recorded) => {
-            has_same_results(alloc, pattern, question, recorded)
-        }
-        (Err(error), Answer::Err(text)) => prints(alloc, error, text).map_err(Fault::from),
-        _ => Ok(false),
-    };
-    drop(found);
-    is_same
+/// Whether a pattern over this engine, and what it answers to the inputs, are what was recorded.
+pub fn is_same<R: RegExp>(case: &Case<'_>) -> Result<bool, Fault> {
+    let options = given::options(case.alloc, case.question)?;
+    let input = given::input(case.alloc, case.question)?;
+    let base = optional_text(case.question, "base");
+    let found = built::<R>(case.alloc, input, base, options);
+    case.is_answer(found, |pattern, recorded| {
+        Ok(has_same_texts(pattern, recorded) && has_same_results(case, pattern, recorded)?)
+    })
 }
 
 /// The pattern of what is given.
@@ -71,26 +47,18 @@ fn has_same_texts<R: RegExp>(pattern: &UrlPattern<R>, recorded: &Value) -> bool 
 
 /// Whether what comes of each input of a question is the recorded result.
 fn has_same_results<R: RegExp>(
-    alloc: Global,
+    case: &Case<'_>,
     pattern: &UrlPattern<R>,
-    question: &Value,
     recorded: &Value,
 ) -> Result<bool, Fault> {
-    if question.get("inputs").is_none() {
+    if case.question.get("inputs").is_none() {
         return Ok(true);
     }
-    let inputs = list(question, "inputs")?;
-    let Ok(results) = list(recorded, "results") else {
-        return Ok(false);
-    };
-    for (input, expected) in inputs.iter().zip(results) {
+    case.are_results(recorded, |input, expected| {
         let base = optional_text(input, "base");
-        let found = matched(alloc, pattern, given::input(alloc, input)?, base);
-        if !is_same_result(alloc, found, expected)? {
-            return Ok(false);
-        }
-    }
-    Ok(inputs.len() == results.len())
+        let found = matched(case.alloc, pattern, given::input(case.alloc, input)?, base);
+        Ok(is_same_result(case.alloc, found, expected)?)
+    })
 }
 
 /// The match of an input, None where there is none.

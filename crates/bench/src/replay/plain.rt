@@ -1,41 +1,20 @@
 //! Compiles patterns to plain data.
 
-use super::{given, prints};
-use crate::recorded::{Answer, Fault, optional_text};
-use regex::Regex;
+use super::{Case, given};
+use crate::recorded::{Fault, optional_text};
 use serde_json::Value;
 use std::alloc::Global;
-use urlpattern::quirks::{
-    EcmaRegexp, StringOrInit, parse_pattern, process_construct_pattern_input,
-};
+use urlpattern::quirks::{StringOrInit, parse_pattern, process_construct_pattern_input};
 use urlpattern::regexp::RegExp;
 use urlpattern::{Error, UrlPatternOptions};
 
-/// Whether the JSON of a pattern is the recorded one.
-pub fn is_same(alloc: Global, question: &Value, answer: Answer<'_>) -> Result<bool, Fault> {
-    match optional_text(question, "engine") {
-        Some("regex") | None => is_same_over::<Regex>(alloc, question, answer),
-        Some("ecma") => is_same_over::<EcmaRegexp>(alloc, question, answer),
-        Some(_) => Err(Fault::NoCase),
-    }
-}
-
-/// The same over one engine.
-fn is_same_over<R: RegExp>(
-    alloc: Global,
-    question: &Value,
-    answer: Answer<'_>,
-) -> Result<bool, Fault> {
-    let options = given::options(alloc, question)?;
-    let input = given::input(alloc, question)?;
-    let found = pattern::<R>(alloc, input, optional_text(question, "base"), options);
-    let is_same = match (&found, answer) {
-        (Ok(pattern), Answer::Ok(recorded)) => Ok(pattern == recorded),
-        (Err(error), Answer::Err(text)) => prints(alloc, error, text),
-        _ => Ok(false),
-    };
-    drop(found);
-    Ok(is_same?)
+/// Whether the JSON of a pattern over this engine is the recorded one.
+pub fn is_same<R: RegExp>(case: &Case<'_>) -> Result<bool, Fault> {
+    let options = given::options(case.alloc, case.question)?;
+    let input = given::input(case.alloc, case.question)?;
+    let base = optional_text(case.question, "base");
+    let found = pattern::<R>(case.alloc, input, base, options);
+    case.is_answer(found, |pattern, recorded| Ok(pattern == recorded))
 }
 
 /// The JSON of the pattern over an engine.

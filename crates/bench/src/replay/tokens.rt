@@ -1,25 +1,19 @@
 //! Asks for the tokens of a text.
 
-use super::prints;
-use crate::recorded::{Answer, Fault, optional_text, text};
+use super::Case;
+use crate::recorded::{Fault, optional_text, text};
 use serde_json::Value;
-use std::alloc::Global;
 use urlpattern::tokenizer::{Token, TokenizePolicy, tokenize};
 
 /// Whether the tokens of a text are the recorded ones.
-pub fn is_same(alloc: Global, question: &Value, answer: Answer<'_>) -> Result<bool, Fault> {
-    let policy = match optional_text(question, "policy") {
+pub fn is_same(case: &Case<'_>) -> Result<bool, Fault> {
+    let policy = match optional_text(case.question, "policy") {
         Some("strict") | None => TokenizePolicy::Strict,
         Some("lenient") => TokenizePolicy::Lenient,
         Some(_) => return Err(Fault::NoCase),
     };
-    Ok(
-        match (tokenize(alloc, text(question, "input")?, policy), answer) {
-            (Ok(tokens), Answer::Ok(recorded)) => are_tokens(&tokens, recorded),
-            (Err(error), Answer::Err(text)) => prints(alloc, &error, text)?,
-            _ => false,
-        },
-    )
+    let found = tokenize(case.alloc, text(case.question, "input")?, policy);
+    case.is_answer(found, |tokens, recorded| Ok(are_tokens(tokens, recorded)))
 }
 
 /// Whether the tokens are the recorded ones.

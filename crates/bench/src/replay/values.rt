@@ -1,7 +1,7 @@
 //! Replays what was asked of values: canonical ones, those of an init, and the texts of a match input.
 
-use super::{given, prints};
-use crate::recorded::{Answer, Fault, optional_text, options_of, text};
+use super::{Case, given};
+use crate::recorded::{Fault, optional_text, options_of, text};
 use serde_json::Value;
 use std::alloc::Global;
 use urlpattern::Error;
@@ -16,11 +16,8 @@ use urlpattern::canonicalize_and_process::{
 use urlpattern::quirks::{MatchInput, StringOrInit, parse_match_input, process_match_input};
 
 /// Whether a canonical value is the recorded one.
-pub fn is_same_canonical(
-    alloc: Global,
-    question: &Value,
-    answer: Answer<'_>,
-) -> Result<bool, Fault> {
+pub fn is_same_canonical(case: &Case<'_>) -> Result<bool, Fault> {
+    let (alloc, question) = (case.alloc, case.question);
     let value = text(question, "value")?;
     let protocol = optional_text(question, "protocol");
     let found = match text(question, "which")? {
@@ -36,15 +33,12 @@ pub fn is_same_canonical(
         "hash" => canonicalize_hash(alloc, value),
         _ => return Err(Fault::NoCase),
     };
-    is_same_text(alloc, &found, answer)
+    is_same_text(case, found)
 }
 
 /// Whether a value of an init, or an escaped text, is the recorded one.
-pub fn is_same_processed(
-    alloc: Global,
-    question: &Value,
-    answer: Answer<'_>,
-) -> Result<bool, Fault> {
+pub fn is_same_processed(case: &Case<'_>) -> Result<bool, Fault> {
+    let (alloc, question) = (case.alloc, case.question);
     let value = text(question, "value")?;
     let protocol = optional_text(question, "protocol");
     let options = options_of(alloc, question)?;
@@ -58,45 +52,34 @@ pub fn is_same_processed(
         "username" => process_username_init(alloc, value, &kind),
         "password" => process_password_init(alloc, value, &kind),
         "hostname" => process_hostname_init(alloc, value, &kind),
-        "port" => process_port_init(alloc, value, protocol, &kind),
-        "pathname" => process_pathname_init(alloc, value, protocol, &kind),
         "search" => process_search_init(alloc, value, &kind),
         "hash" => process_hash_init(alloc, value, &kind),
         "base_url" => process_base_url(alloc, value, &kind),
+        // These depend on the protocol.
+        "port" => process_port_init(alloc, value, protocol, &kind),
+        "pathname" => process_pathname_init(alloc, value, protocol, &kind),
         "escape_pattern_string" => escape_pattern_string(alloc, value),
         "escape_regexp_string" => options.escape_regexp_string(alloc, value),
         "segment_wildcard" => options.generate_segment_wildcard_regexp(alloc),
         _ => return Err(Fault::NoCase),
     };
-    is_same_text(alloc, &found, answer)
+    is_same_text(case, found)
 }
 
 /// Whether a text, or why there is none, is what was recorded.
-fn is_same_text(
-    alloc: Global,
-    found: &Result<String, Error>,
-    answer: Answer<'_>,
-) -> Result<bool, Fault> {
-    Ok(match (found, answer) {
-        (Ok(text), Answer::Ok(recorded)) => recorded.as_str() == Some(text.as_str()),
-        (Err(error), Answer::Err(text)) => prints(alloc, error, text)?,
-        _ => false,
+fn is_same_text(case: &Case<'_>, found: Result<String, Error>) -> Result<bool, Fault> {
+    case.is_answer(found, |text, recorded| {
+        Ok(recorded.as_str() == Some(text.as_str()))
     })
 }
 
 /// Whether the texts of a match input are the recorded ones: null where there is none.
-pub fn is_same_match_input(
-    alloc: Global,
-    question: &Value,
-    answer: Answer<'_>,
-) -> Result<bool, Fault> {
-    let input = given::input(alloc, question)?;
-    let found = match_input(alloc, input, optional_text(question, "base"));
-    Ok(match (found, answer) {
-        (Ok(Some(input)), Answer::Ok(recorded)) => is_match_input(alloc, &input, recorded)?,
-        (Ok(None), Answer::Ok(recorded)) => recorded.is_null(),
-        (Err(error), Answer::Err(text)) => prints(alloc, &error, text)?,
-        _ => false,
+pub fn is_same_match_input(case: &Case<'_>) -> Result<bool, Fault> {
+    let input = given::input(case.alloc, case.question)?;
+    let found = match_input(case.alloc, input, optional_text(case.question, "base"));
+    case.is_answer(found, |input, recorded| match input {
+        Some(input) => is_match_input(case.alloc, input, recorded),
+        None => Ok(recorded.is_null()),
     })
 }
 

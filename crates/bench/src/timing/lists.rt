@@ -153,20 +153,24 @@ fn time_list<R: AllocGlobal + Clock, O: Write>(
     out: &mut O,
 ) -> io::Result<()> {
     write!(out, "{size}\tfirst_match")?;
+    time_urls(rt, size, |url| Routes { list, url }, out)?;
+    write!(out, "{size}\tfirst_captures")?;
+    time_urls(rt, size, |url| Lent { list, url }, out)
+}
+
+/// Prints what a call takes for each URL that is looked for, to the end of the line.
+fn time_urls<T: Timed + Drop, F: Fn(Url) -> T, R: AllocGlobal + Clock, O: Write>(
+    rt: &R,
+    size: usize,
+    call: F,
+    out: &mut O,
+) -> io::Result<()>
+    requires { F.IsAlwaysCallable call }
+{
     for index in looked_for(size) {
         match url_of(rt.alloc(), index) {
             Ok(url) => {
-                let time = least(rt, rt.alloc(), &Routes { list, url })?;
-                write!(out, "\t{time}")?;
-            }
-            Err(error) => write!(out, "\t{error}")?,
-        }
-    }
-    write!(out, "\n{size}\tfirst_captures")?;
-    for index in looked_for(size) {
-        match url_of(rt.alloc(), index) {
-            Ok(url) => {
-                let time = least(rt, rt.alloc(), &Lent { list, url })?;
+                let time = least(rt, rt.alloc(), &call(url))?;
                 write!(out, "\t{time}")?;
             }
             Err(error) => write!(out, "\t{error}")?,

@@ -1,6 +1,7 @@
 //! The engine for patterns beside `regex::Regex`, on expressions that components are made of.
 
 use super::long_texts::push_copies;
+use crate::engines::is_refused;
 use regex::Regex;
 use std::alloc::{AllocError, Global};
 use std::test::Fail;
@@ -346,19 +347,11 @@ fn many_choices_in_a_very_long_text(rt: HostRuntime) -> Result<(), Fail> {
     Ok(())
 }
 
-/// Whether the engine refuses a text because it is no regular expression.
-fn is_refused(alloc: Global, regexp: &str) -> Result<bool, RegExpError> {
-    match PatternRegexp::parse(alloc, regexp, "u", false) {
-        Ok(_) => Ok(false),
-        Err(RegExpError::Pattern) => Ok(true),
-        Err(error) => Err(error),
-    }
-}
-
 #[test]
 fn what_is_no_expression_is_refused(rt: HostRuntime) -> Result<(), Fail> {
     for regexp in ["^(a[)$", "^($", "^a)$"] {
-        assert!(rt; is_refused(rt.alloc(), regexp)?, "{regexp}");
+        let is_refused = is_refused::<PatternRegexp>(rt.alloc(), regexp, false)?;
+        assert!(rt; is_refused, "{regexp}");
     }
     assert_eq!(rt; PatternRegexp::syntax(), RegexSyntax::Rust);
     Ok(())

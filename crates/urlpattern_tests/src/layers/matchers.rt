@@ -1,7 +1,7 @@
 //! Printed patterns and matchers where memory may run out.
 
 use super::parts::parts_of;
-use crate::kept_text::KeptText;
+use crate::stubborn::KeptText;
 use std::alloc::Global;
 use urlpattern_core::Error;
 use urlpattern_core::component::{generate_matcher, generate_pattern_string};
