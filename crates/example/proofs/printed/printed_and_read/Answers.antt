@@ -16,8 +16,8 @@ pub returns-clause-meaning : goal.returns-clause-meaning
 returns-clause-meaning c = λ printable.
     IfOk-weaker c.normalize_part_list.result _ _
     (λ again joined_if text captures.
-        rw (joined_if printable (λ text' other _ told. copied_same text' other told.0 (search rules) told.2))
-        (c.joining_keeps_meaning.ensures (options_view c.args.options.now) (parts_view c.args.parts.now) text captures))
+    rw (joined_if printable (λ text' other _ told. copied_same text' other told.0 (search rules) told.2))
+    (c.joining_keeps_meaning.ensures (options_view c.args.options.now) (parts_view c.args.parts.now) text captures))
     c.normalize_part_list.ensures.same
 
 pub returns-clause-memory : goal.returns-clause-memory
