@@ -9,7 +9,7 @@ use Rattle.urlpattern_laws.specs.PartMeaning.{Captures}
 use Rattle.urlpattern_engine.specs.declared.step.Copies.{Copies as Copied}
 use Rattle.urlpattern_engine.specs.declared.step.Step.{Step}
 use Rattle.urlpattern_engine.specs.declared.step.Step.TheVariants.{Copies}
-use Rattle.urlpattern_engine.specs.Steps.{Gives, after_text, any_rounds, copies_of, literals, repeated, rounds, some_rounds, walk, walk_after}
+use Rattle.urlpattern_engine.specs.Steps.{Gives, after_text, any_rounds, copies_of, literal_text, literals, repeated, rounds, some_rounds, walk, walk_after, walk_copies}
 use Rattle.urlpattern_engine.proofs.Rounds.{advances-after, any-unrolled, keeps-any, keeps-some}
 use Rattle.urlpattern_engine.proofs.StepLemmas.{walk_after-drop}
 use Rattle.urlpattern_engine.proofs.Tried.{Next, option_or-assoc}
@@ -144,3 +144,24 @@ copies_step copies steps literal others text e f =
         (λ front rest. walk_after copies.text.others steps rest) (λ front rest. walk others rest) [] text (λ before rest le. same before rest)
     by false = (keeps-some (after_text (copies.text.first ∷ literals literal)) (advances-after copies.text.first (literals literal))).same
         (λ front rest. walk_after copies.text.others steps rest) (λ front rest. walk others rest) [] text (λ before rest le. same before rest)
+
+-- the same by whether there may be none
+module _ (copies : Copied) (steps literal others : List Step) (text : List ℕ) (own : literal ≡ take copies.text.others steps) (passed : others ≡ drop copies.text.others steps) where
+  known : (b : Bool) → copies.may_be_missing ≡ b → walk (Copies copies ∷ steps) text ≡ repeated b (after_text (literal_text copies.text.first literal)) (λ front rest. walk others rest) [] text
+  known b is = copies_step copies steps literal others text own passed ∙ ap (λ o. repeated o (after_text (literal_text copies.text.first literal)) (λ front rest. walk others rest) [] text) is
+
+  pub copies_any : copies.may_be_missing ≡ true → walk (Copies copies ∷ steps) text ≡ walk_copies copies.text.first literal others text
+  copies_any is = known true is
+
+  -- the text goes on with one
+  pub copies_some : copies.may_be_missing ≡ false → (rest : List ℕ) → text ≡ literal_text copies.text.first literal ++ rest → walk (Copies copies ∷ steps) text ≡ walk_copies copies.text.first literal others rest
+  copies_some is rest cut =
+      known false is
+      ∙ ap (some_rounds (after_text (literal_text copies.text.first literal)) (λ front rest. walk others rest) []) cut
+      ∙ copies_after copies.text.first (literals literal) (walk others) rest
+
+  -- it does not
+  pub copies_none : copies.may_be_missing ≡ false → ((rest : List ℕ) → ¬ (text ≡ literal_text copies.text.first literal ++ rest)) → walk (Copies copies ∷ steps) text ≡ None
+  copies_none is other =
+      known false is
+      ∙ after-other (literal_text copies.text.first literal) text (any_rounds (after_text (literal_text copies.text.first literal)) (λ front rest. walk others rest)) [] other

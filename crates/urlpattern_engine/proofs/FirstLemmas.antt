@@ -17,11 +17,3 @@ module _ (step : Step) (steps others : List Step) (first : steps ≡ step ∷ ot
   -- the others and the same text may be left too
   pub others_place : (whole : Whole) (text : List ℕ) → IsPlace whole steps text → IsPlace whole others text
   others_place whole text place = place_within whole whole steps others text text refl place (step ∷ [], first) (ends_same text)
-
-  -- the steps take no text that the first and the others do not
-  pub first_dead : (text : List ℕ) (old new : Kept) (is_taken : Bool) → AreAdded old new is_taken (walk (step ∷ others) text) → is_taken ≡ false → walk steps text ≡ None
-  first_dead text old new is_taken adds missed = ap (λ l. walk l text) first ∙ adds_none old new is_taken (walk (step ∷ others) text) missed adds
-
-  -- what the first and the others capture is what the steps do
-  pub first_taken : (text : List ℕ) (old new : Kept) (is_taken : Bool) → AreAdded old new is_taken (walk (step ∷ others) text) → is_taken ≡ true → AreAdded old new true (walk steps text)
-  first_taken text old new is_taken adds taken = subst (λ b. AreAdded old new b (walk (step ∷ others) text)) taken adds ∙ ap (λ l. plus old (walk l text)) (sym first)

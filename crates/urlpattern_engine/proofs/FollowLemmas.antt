@@ -1,5 +1,5 @@
 -- What is added to captures, step by step.
-use Rattle.std.proofs.Common.{◌≡◌, ℕ, zero, suc, List, [], ◌∷◌, ◌++◌, map, drop, eq-eqb, replicate, Option, Some, None, option_map, Result, Ok, Err, Bool, true, false, cond, ◌==◌, refl, sym, ap, ap₂, ◌∙◌, subst, append-nil, append_assoc}
+use Rattle.std.proofs.Common.{◌≡◌, ℕ, zero, suc, List, [], ◌∷◌, ◌++◌, map, drop, eq-eqb, replicate, Option, Some, None, option_map, Result, Ok, Err, Bool, true, false, cond, ◌==◌, ne_eqb, refl, sym, ap, ap₂, ◌∙◌, subst, append-nil, append_assoc}
 use Rattle.std.proofs.lemmas.List.{map-append, append_cancel_left, append_cancel_right}
 use Rattle.std.proofs.lemmas.Str.{chars-append, chars_past_char, encodes-append, encodes-chars, IsUtf8-append, IsUtf8-encode}
 use Rattle.std.specs.Borrow.{Bor}
@@ -12,11 +12,11 @@ use Rattle.urlpattern_laws.specs.PartMeaning.{Captures}
 use Rattle.urlpattern_syntax.proofs.StringTexts.{chars-encode}
 use Rattle.urlpattern_engine.specs.declared.step.Group.{Group}
 use Rattle.urlpattern_engine.specs.declared.step.Step.{Step}
-use Rattle.urlpattern_engine.specs.declared.step.Step.TheVariants.{Anything, Literal, Maybe}
-use Rattle.urlpattern_engine.specs.Failed.{EndsWith}
+use Rattle.urlpattern_engine.specs.declared.step.Step.TheVariants.{Anything, Literal, Maybe, Segment}
+use Rattle.urlpattern_engine.specs.Failed.{EndsWith, HasEnded}
 use Rattle.urlpattern_engine.specs.Steps.{Gives, captured, longest, shortest, up_to_first, walk}
 use Rattle.urlpattern_engine.specs.Taken.{AreAdded, Extends, Kept}
-use Rattle.urlpattern_engine.proofs.RunLemmas.{longest_found, longest_no_more}
+use Rattle.urlpattern_engine.proofs.RunLemmas.{longest_found, longest_no_more, shortest_ended}
 use Rattle.urlpattern_engine.proofs.StepLemmas.{maybe_missing}
 use Rattle.urlpattern_syntax.specs.Text.{line_feed}
 
@@ -44,17 +44,6 @@ taken_adds old now new is_taken part whole same taken adds leads =
     let added : AreAdded old new true part = subst (λ l. AreAdded l new true part) same (subst (λ b. AreAdded now new b part) taken adds) in
     let found = adds_some old new part added in
     added ∙ ap (plus old) (found.1 ∙ sym (leads found.0 found.1))
-
--- what a call adds is what is added in all
-pub later_adds : {E : Type 0} (old now new : Kept) (whole part : Option Captures) (result : Result Bool E) → plus old whole ≡ plus now part
-    → IfOk result (λ is_taken. AreAdded now new is_taken part) → IfOk result (λ is_taken. AreAdded old new is_taken whole)
-later_adds old now new whole part (Ok is_taken) e adds = adds ∙ sym e
-later_adds old now new whole part (Err error) e adds = tt
-
-pub later_extends : {E : Type 0} (old now new : Kept) (result : Result Bool E) → Extends old now
-    → IfOk result (λ is_taken. is_taken ≡ false → new ≡ now) → IfOk result (λ is_taken. is_taken ≡ false → Extends old new)
-later_extends old now new (Ok is_taken) extends same = λ e. (extends.0, same e ∙ extends.1)
-later_extends old now new (Err error) extends same = tt
 
 pub extends_more : (old now more : Kept) → Extends old now → Extends old (now ++ more)
 extends_more old now more extends = (extends.0 ++ more, ap (λ l. l ++ more) extends.1 ∙ append_assoc old extends.0 more)
@@ -103,14 +92,30 @@ end_taken now left rest is_empty is_taken none full some same =
 -- ---- the shortest front
 
 -- a character is passed, and then there is a front that ends here
-pub shortest_passed : (end : ℕ) (gives : Gives) (front : List ℕ) (c : ℕ) (rest : List ℕ) → (c == end) ≡ false
+shortest_passed : (end : ℕ) (gives : Gives) (front : List ℕ) (c : ℕ) (rest : List ℕ) → (c == end) ≡ false
     → shortest end gives front (c ∷ rest) ≡ option_or (gives (front ++ c ∷ []) rest) (shortest end gives (front ++ c ∷ []) rest)
 shortest_passed end gives front c rest e = ap (λ b. cond b None (option_or (gives (front ++ c ∷ []) rest) (shortest end gives (front ++ c ∷ []) rest))) e
 
 -- what precedes the rest, with a character more
-pub front_grows : (text front before rest remaining : List ℕ) (c : ℕ) → text ≡ front ++ rest → rest ≡ c ∷ remaining → text ≡ before ++ remaining → before ≡ front ++ c ∷ []
+front_grows : (text front before rest remaining : List ℕ) (c : ℕ) → text ≡ front ++ rest → rest ≡ c ∷ remaining → text ≡ before ++ remaining → before ≡ front ++ c ∷ []
 front_grows text front before rest remaining c e f g =
     append_cancel_right before (front ++ c ∷ []) remaining (sym g ∙ e ∙ ap (λ r. front ++ r) f ∙ sym (append_assoc front (c ∷ []) remaining))
+
+-- the front with a character more
+pub run_passed : (front text rest : List ℕ) (c : ℕ) (remaining : List ℕ) → text ≡ front ++ rest → rest ≡ c ∷ remaining → text ≡ (front ++ c ∷ []) ++ remaining
+run_passed front text rest c remaining e f = e ∙ ap (λ r. front ++ r) f ∙ sym (append_assoc front (c ∷ []) remaining)
+
+-- a front with a character more is tried before those that are longer
+pub shortest_grown : (end : ℕ) (gives : Gives) (text front before rest remaining : List ℕ) (c : ℕ) → text ≡ front ++ rest → rest ≡ c ∷ remaining → ¬ (c ≡ end) → text ≡ before ++ remaining
+    → shortest end gives front rest ≡ option_or (gives before remaining) (shortest end gives (front ++ c ∷ []) remaining)
+shortest_grown end gives text front before rest remaining c e f other g =
+    ap (shortest end gives front) f
+    ∙ shortest_passed end gives front c remaining (ne_eqb c end other)
+    ∙ ap (λ b. option_or (gives b remaining) (shortest end gives (front ++ c ∷ []) remaining)) (sym (front_grows text front before rest remaining c e f g))
+
+-- where the run has ended, no longer front leads on
+pub run_ended : (end : ℕ) (steps others : List Step) (front rest : List ℕ) → steps ≡ Segment end ∷ others → HasEnded end steps rest → shortest end (captured (walk others)) front rest ≡ None
+run_ended end steps others front rest first ended = shortest_ended end (walk others) front rest (subst (λ s. HasEnded end s rest) first ended)
 
 -- ---- the longest front
 
@@ -157,17 +162,3 @@ module _ (steps others : List Step) (first : steps ≡ Anything ∷ others) wher
       → longest line_feed (captured (walk others)) front rest ≡ captured (walk others) front rest → captured (walk others) front rest ≡ Some found → walk steps text ≡ Some found
   longest_taken text front rest found cut lacks longest some =
       ap (λ s. walk s text) first ∙ ap (walk (Anything ∷ others)) cut ∙ longest_found line_feed (captured (walk others)) [] front rest found lacks (longest ∙ some)
-
--- ---- groups that may be missing
-
-maybe_dead : (group : Group) (steps others left : List Step) (text : List ℕ) → steps ≡ Maybe group ∷ others → left ≡ drop group.steps others → walk others text ≡ None → walk left text ≡ None
-    → walk steps text ≡ None
-maybe_dead group steps others left text first passed none also =
-    ap (λ s. walk s text) first ∙ maybe_missing group others text none
-    ∙ ap (option_map (λ others. replicate group.captures None ++ others)) (ap (λ s. walk s text) (sym passed) ∙ also)
-
--- a group that may be missing leads on neither with its steps nor without
-pub maybe_missed : (group : Group) (steps others left : List Step) (text : List ℕ) (old new more newer : Kept) (is_taken is_left : Bool) → steps ≡ Maybe group ∷ others → left ≡ drop group.steps others
-    → is_taken ≡ false → AreAdded old new is_taken (walk others text) → is_left ≡ false → AreAdded more newer is_left (walk left text) → walk steps text ≡ None
-maybe_missed group steps others left text old new more newer is_taken is_left first passed missed adds also adds_more =
-    maybe_dead group steps others left text first passed (adds_none old new is_taken (walk others text) missed adds) (adds_none more newer is_left (walk left text) also adds_more)

@@ -7,6 +7,7 @@ pub mod Walks
 pub mod RepeatLemmas
 pub mod FirstLemmas
 pub mod FollowLemmas
+pub mod AttemptLemmas
 pub mod TokenLemmas
 pub mod FrontLemmas
 pub mod GroupLemmas

@@ -1,5 +1,5 @@
 -- What a clause sees of captures that are added to others.
-use Rattle.std.specs.Prelude.{◌≡◌, Bool, List, [], ◌∷◌, ◌++◌, ℕ, ◌==◌, length, map, Option, Some, None, option_map, if◌then◌else◌}
+use Rattle.std.specs.Prelude.{◌≡◌, Bool, false, List, [], ◌∷◌, ◌++◌, ℕ, ◌==◌, length, map, Option, Some, None, option_map, if◌then◌else◌}
 use Rattle.std.specs.Borrow.{Bor}
 use Rattle.std.specs.Global.{Global}
 use Rattle.std.specs.declared.vec.Vec.{Vec}
@@ -8,6 +8,7 @@ use Rattle.urlpattern_core.specs.Captured.{capture_view}
 use Rattle.urlpattern_laws.specs.PartMeaning.{Captures}
 use Rattle.urlpattern_engine.specs.declared.step.Segments.{Segments}
 use Rattle.urlpattern_engine.specs.declared.step.Step.{Step}
+use Rattle.urlpattern_engine.specs.declared.walk.Attempt.{Attempt}
 use Rattle.urlpattern_engine.specs.Steps.{Gives, captured, literal_text, segmented, single_run, walk}
 
 -- Where a text is cut, by the bytes before it, so that its parts give what is found. None: nothing is found.
@@ -60,6 +61,23 @@ KeptVec = Vec (Option (Bor (List ℕ))) Global
 -- the same of vectors
 abbrev pub Adds : (old new : KeptVec) → (is_taken : Bool) → Option Captures → Type 0
 Adds old new is_taken captures = AreAdded old.items new.items is_taken captures
+
+-- nothing was captured, and the match is the same
+pub record Untouched (old new : Attempt) : Type 0 where
+  pub same : new.captures.items ≡ old.captures.items
+  pub whole : new.failed ≡ old.failed
+
+-- steps were followed: what they capture is added where they take the text, and nothing where they do not
+pub record Follows (old new : Attempt) (is_taken : Bool) (found : Option Captures) : Type 0 where
+  pub adds : Adds old.captures new.captures is_taken found
+  pub same : is_taken ≡ false → new.captures.items ≡ old.captures.items
+  pub whole : new.failed ≡ old.failed
+
+-- the same where some captures may be added though the steps do not take the text
+pub record FollowsOn (old new : Attempt) (is_taken : Bool) (found : Option Captures) : Type 0 where
+  pub adds : Adds old.captures new.captures is_taken found
+  pub more : is_taken ≡ false → Extends old.captures.items new.captures.items
+  pub whole : new.failed ≡ old.failed
 
 -- the steps that are left capture of the rest what the steps do of the text, with what was captured before each
 abbrev pub LeavesWalk : (old new : KeptVec) → (steps : List Step) → (text : List ℕ) → (left : List Step) → (rest : List ℕ) → Type 0

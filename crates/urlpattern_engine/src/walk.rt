@@ -1,11 +1,11 @@
 //! Matches a text by steps.
 
-ghost use Rattle.std.specs.Prelude.{◌≡◌, ◌∷◌, ◌++◌, List, false, replicate, Bool, None, IfOk, OnOk};
+ghost use Rattle.std.specs.Prelude.{◌≡◌, ◌∷◌, ◌++◌, List, replicate, None, IfOk, OnOk};
 ghost use Rattle.std.specs.Str.{chars};
 ghost use Rattle.urlpattern_core.specs.Captured.{captures_view};
 ghost use Rattle.urlpattern_engine.specs.Failed.{IsPlace};
 ghost use Rattle.urlpattern_engine.specs.Steps.{captured, walk};
-ghost use Rattle.urlpattern_engine.specs.Taken.{Adds, Extends};
+ghost use Rattle.urlpattern_engine.specs.Taken.{Follows, FollowsOn};
 
 mod copies;
 mod runs;
@@ -17,11 +17,17 @@ use crate::repeats::pass;
 use crate::runs::has_one_end;
 use crate::step::{Group, Step};
 use crate::texts::{after, split_at_first};
-use copies::follow_repeated_text;
-use runs::{follow_longest, follow_run, follow_shortest};
-use segments::follow_segmented;
 use std::alloc::Global;
 use urlpattern_core::error::OutOfMemory;
+
+/// A match by steps that is under way.
+#[derive(Drop)]
+struct Attempt<'s, 't> {
+    /// What was captured so far.
+    captures: Vec<Option<&'t str>>,
+    /// The places that failed.
+    failed: Failed<'s, 't>,
+}
 
 /// What the steps capture of a text that they take whole. `None`: they do not take it whole.
 ///
@@ -36,157 +42,181 @@ pub(crate) fn walk<'t>(
 ) -> Result<Option<Vec<Option<&'t str>>>, OutOfMemory>
     ensures { IfOk result (λ found. captures_view found ≡ walk steps.now (chars text.now)) }
 {
-    let mut captures = Vec::new(alloc);
-    let mut failed = Failed::new(alloc, steps, text, remembered.is_for(text))?;
-    if follow(&mut captures, &mut failed, steps, text)? {
-        Ok(Some(captures))
+    let failed = Failed::new(alloc, steps, text, remembered.is_for(text))?;
+    let mut attempt = Attempt {
+        captures: Vec::new(alloc),
+        failed,
+    };
+    if attempt.follow(steps, text)? {
+        Ok(Some(attempt.captures))
     } else {
         Ok(None)
     }
 }
 
-/// Whether the steps take the text whole. Where they do, what they capture is added.
-///
-/// The error is that memory ran out.
-#[cycle(following)]
-fn follow<'t>(
-    captures: &mut Vec<Option<&'t str>>,
-    failed: &mut Failed<'_, '_>,
-    steps: &[Step],
-    text: &'t str,
-) -> Result<bool, OutOfMemory>
-    requires { IsPlace failed.old steps.now (chars text.now) }
-    ensures adds { IfOk result (λ taken. Adds captures.old captures.new taken (walk steps.now (chars text.now))) }
-    ensures same { IfOk result (λ taken. taken ≡ false → captures.new.items ≡ captures.old.items) }
-    ensures whole { failed.new ≡ failed.old }
-{
-    let count = captures.len();
-    if follow_on(captures, failed, steps, text)? {
-        return Ok(true);
+impl<'t> Attempt<'_, 't> {
+    /// Whether the steps take the text whole. Where they do, what they capture is added.
+    ///
+    /// The error is that memory ran out.
+    #[cycle(following)]
+    fn follow(&mut self, steps: &[Step], text: &'t str) -> Result<bool, OutOfMemory>
+        requires { IsPlace self.old.failed steps.now (chars text.now) }
+        ensures { IfOk result (λ taken. Follows self.old self.new taken (walk steps.now (chars text.now))) }
+    {
+        let count = self.captures.len();
+        if self.follow_on(steps, text)? {
+            return Ok(true);
+        }
+        self.captures.truncate(count);
+        Ok(false)
     }
-    captures.truncate(count);
-    Ok(false)
-}
 
-/// Whether the steps take the text whole. What they capture is added, and where they do not, some of it.
-///
-/// The error is that memory ran out.
-#[cycle(following)]
-fn follow_on<'t>(
-    captures: &mut Vec<Option<&'t str>>,
-    failed: &mut Failed<'_, '_>,
-    steps: &[Step],
-    text: &'t str,
-) -> Result<bool, OutOfMemory>
-    requires { IsPlace failed.old steps.now (chars text.now) }
-    ensures adds { IfOk result (λ taken. Adds captures.old captures.new taken (walk steps.now (chars text.now))) }
-    ensures more { IfOk result (λ taken. taken ≡ false → Extends captures.old.items captures.new.items) }
-    ensures whole { failed.new ≡ failed.old }
-{
-    let mut left = steps;
-    let mut rest = text;
-    while let Some((step, others)) = left.split_first() {
-        match step {
-            Step::Literal(c) => {
-                let Some(remaining) = after(rest, *c) else {
-                    return Ok(false);
-                };
-                rest = remaining;
-                left = others;
-            }
-            Step::Segment(end) => {
-                if !has_one_end(failed, others, *end) {
-                    return follow_shortest(captures, failed, *end, left, others, rest);
+    /// Whether the steps take the text whole. What they capture is added, and where they do not, some of it.
+    ///
+    /// The error is that memory ran out.
+    #[cycle(following)]
+    fn follow_on(&mut self, steps: &[Step], text: &'t str) -> Result<bool, OutOfMemory>
+        requires { IsPlace self.old.failed steps.now (chars text.now) }
+        ensures { IfOk result (λ taken. FollowsOn self.old self.new taken (walk steps.now (chars text.now))) }
+    {
+        let mut left = steps;
+        let mut rest = text;
+        while let Some((step, others)) = left.split_first() {
+            match step {
+                Step::Literal(c) => {
+                    let Some(remaining) = after(rest, *c) else {
+                        return Ok(false);
+                    };
+                    rest = remaining;
+                    left = others;
                 }
-                let (front, remaining) = split_at_first(rest, *end);
-                if front.is_empty() {
-                    return Ok(false);
+                Step::Segment(end) if has_one_end(&self.failed, others, *end) => {
+                    let (front, remaining) = split_at_first(rest, *end);
+                    if front.is_empty() {
+                        return Ok(false);
+                    }
+                    self.captures.push(Some(front))?;
+                    rest = remaining;
+                    left = others;
                 }
-                captures.push(Some(front))?;
-                rest = remaining;
-                left = others;
-            }
-            Step::Anything => {
-                if !has_one_end(failed, others, '\n') {
-                    return follow_longest(captures, failed, left, others, rest);
+                Step::Anything if has_one_end(&self.failed, others, '\n') => {
+                    let (front, remaining) = split_at_first(rest, '\n');
+                    self.captures.push(Some(front))?;
+                    rest = remaining;
+                    left = others;
                 }
-                let (front, remaining) = split_at_first(rest, '\n');
-                captures.push(Some(front))?;
-                rest = remaining;
-                left = others;
-            }
-            Step::Maybe(group) => {
-                return follow_maybe(captures, failed, *group, left, others, rest);
-            }
-            Step::Longest(run) => {
-                return follow_run(captures, failed, *run, left, others, rest);
-            }
-            Step::Copies(copies) => {
-                return follow_repeated_text(captures, failed, *copies, left, others, rest);
-            }
-            Step::Segments(segments) => {
-                return follow_segmented(captures, failed, *segments, left, others, rest);
+                Step::Segment(_)
+                | Step::Anything
+                | Step::Maybe(_)
+                | Step::Longest(_)
+                | Step::Copies(_)
+                | Step::Segments(_) => {
+                    return self.follow_choice(*step, left, others, rest);
+                }
             }
         }
+        Ok(rest.is_empty())
     }
-    Ok(rest.is_empty())
-}
 
-/// Whether the steps, of which the first is before a group that may be missing, take the text whole. What they capture is added,
-/// and where they do not, some of it.
-///
-/// The error is that memory ran out.
-#[cycle(following)]
-fn follow_maybe<'t>(
-    captures: &mut Vec<Option<&'t str>>,
-    failed: &mut Failed<'_, '_>,
-    group: Group,
-    steps: &[Step],
-    others: &[Step],
-    text: &'t str,
-) -> Result<bool, OutOfMemory>
-    requires place { IsPlace failed.old steps.now (chars text.now) }
-    requires first { steps.now ≡ Step.Maybe group ∷ others.now }
-    ensures adds { IfOk result (λ taken. Adds captures.old captures.new taken (walk steps.now (chars text.now))) }
-    ensures more { IfOk result (λ taken. taken ≡ false → Extends captures.old.items captures.new.items) }
-    ensures whole { failed.new ≡ failed.old }
-{
-    if failed.contains(steps, text) {
-        return Ok(false);
+    /// Whether the steps take the text whole. What they capture is added, and where they do not, some of it.
+    ///
+    /// The first of the steps may take the text in several ways. Where none of them leads on, the place is remembered.
+    ///
+    /// The error is that memory ran out.
+    #[cycle(following)]
+    fn follow_choice(
+        &mut self,
+        step: Step,
+        steps: &[Step],
+        others: &[Step],
+        text: &'t str,
+    ) -> Result<bool, OutOfMemory>
+        requires place { IsPlace self.old.failed steps.now (chars text.now) }
+        requires first { steps.now ≡ step ∷ others.now }
+        ensures { IfOk result (λ taken. FollowsOn self.old self.new taken (walk steps.now (chars text.now))) }
+    {
+        if self.failed.contains(steps, text) {
+            return Ok(false);
+        }
+        if self.follow_first(step, steps, others, text)? {
+            return Ok(true);
+        }
+        self.failed.insert(steps, text);
+        Ok(false)
     }
-    if follow(captures, failed, others, text)? {
-        return Ok(true);
-    }
-    add_missing(captures, group.captures)?;
-    if follow_on(captures, failed, pass(others, group.steps), text)? {
-        return Ok(true);
-    }
-    failed.insert(steps, text);
-    Ok(false)
-}
 
-/// Whether the steps take the rest of a text whole. Where they do, the front and what they capture are added.
-///
-/// The error is that memory ran out.
-#[cycle(following)]
-fn follow_captured<'t>(
-    captures: &mut Vec<Option<&'t str>>,
-    failed: &mut Failed<'_, '_>,
-    front: &'t str,
-    steps: &[Step],
-    rest: &'t str,
-) -> Result<bool, OutOfMemory>
-    requires { IsPlace failed.old steps.now (chars rest.now) }
-    ensures adds { IfOk result (λ taken. Adds captures.old captures.new taken (captured (walk steps.now) (chars front.now) (chars rest.now))) }
-    ensures same { IfOk result (λ taken. taken ≡ false → captures.new.items ≡ captures.old.items) }
-    ensures whole { failed.new ≡ failed.old }
-{
-    captures.push(Some(front))?;
-    if follow(captures, failed, steps, rest)? {
-        return Ok(true);
+    /// Whether the steps take the text whole. What they capture is added, and where they do not, some of it.
+    ///
+    /// The ways in which the first of them may take the text are tried in turn.
+    ///
+    /// The error is that memory ran out.
+    #[cycle(following)]
+    fn follow_first(
+        &mut self,
+        step: Step,
+        steps: &[Step],
+        others: &[Step],
+        text: &'t str,
+    ) -> Result<bool, OutOfMemory>
+        requires place { IsPlace self.old.failed steps.now (chars text.now) }
+        requires first { steps.now ≡ step ∷ others.now }
+        ensures { IfOk result (λ taken. FollowsOn self.old self.new taken (walk steps.now (chars text.now))) }
+    {
+        match step {
+            Step::Literal(c) => match after(text, c) {
+                Some(rest) => self.follow(others, rest),
+                None => Ok(false),
+            },
+            Step::Segment(end) => self.follow_shortest(end, steps, others, text),
+            Step::Anything => self.follow_longest(steps, others, text),
+            Step::Maybe(group) => self.follow_maybe(group, others, text),
+            Step::Longest(run) => self.follow_longest_run(run, others, text),
+            Step::Copies(copies) => self.follow_copies(copies, others, text),
+            Step::Segments(segments) => self.follow_segments(segments, others, text),
+        }
     }
-    captures.pop();
-    Ok(false)
+
+    /// Whether the steps of a group that may be missing and those after it take the text whole, or those after it alone. What they
+    /// capture is added, and where they do not, some of it.
+    ///
+    /// The error is that memory ran out.
+    #[cycle(following)]
+    fn follow_maybe(
+        &mut self,
+        group: Group,
+        others: &[Step],
+        text: &'t str,
+    ) -> Result<bool, OutOfMemory>
+        requires { IsPlace self.old.failed others.now (chars text.now) }
+        ensures { IfOk result (λ taken. FollowsOn self.old self.new taken (walk (Step.Maybe group ∷ others.now) (chars text.now))) }
+    {
+        if self.follow(others, text)? {
+            return Ok(true);
+        }
+        add_missing(&mut self.captures, group.captures)?;
+        self.follow_on(pass(others, group.steps), text)
+    }
+
+    /// Whether the steps take the rest of a text whole. Where they do, the front and what they capture are added.
+    ///
+    /// The error is that memory ran out.
+    #[cycle(following)]
+    fn follow_captured(
+        &mut self,
+        front: &'t str,
+        steps: &[Step],
+        rest: &'t str,
+    ) -> Result<bool, OutOfMemory>
+        requires { IsPlace self.old.failed steps.now (chars rest.now) }
+        ensures { IfOk result (λ taken. Follows self.old self.new taken (captured (walk steps.now) (chars front.now) (chars rest.now))) }
+    {
+        self.captures.push(Some(front))?;
+        if self.follow(steps, rest)? {
+            return Ok(true);
+        }
+        self.captures.pop();
+        Ok(false)
+    }
 }
 
 /// Adds so many captures that are missing.

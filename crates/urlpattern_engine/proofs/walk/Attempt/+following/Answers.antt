@@ -1,0 +1,308 @@
+mod CopyAnswers
+mod RunAnswers
+mod SegmentAnswers
+use Rattle.std.proofs.Common.{◌≡◌, ℕ, ◌∷◌, ◌++◌, [], None, length, drop, refl, sym, ap, ◌∙◌, subst, arith, rules}
+use Rattle.std.proofs.lemmas.List.{length-drop, nil_from_length}
+use Rattle.std.proofs.lemmas.Str.{IsUtf8-encode}
+use Rattle.std.specs.Str.{chars, IsUtf8}
+use Rattle.urlpattern_syntax.proofs.TextLemmas.{chars-empty, chars-some}
+use Rattle.urlpattern_syntax.specs.Text.{line_feed}
+use Rattle.urlpattern_engine.specs.declared.step.Step.{Step}
+use Rattle.urlpattern_engine.specs.declared.step.Step.TheVariants.{Literal, Segment, Anything, Maybe}
+use Rattle.urlpattern_engine.specs.Steps.{Gives, captured, literals, up_to_first, walk, StopAt}
+use Rattle.urlpattern_engine.specs.Taken.{IsCutFor}
+use Rattle.urlpattern_engine.proofs.AttemptLemmas.{cut_sooner, cut_whole, leaves_captured, leaves_end, leaves_missed, leaves_passed, maybe_left, passed_ends, passed_shorter}
+use Rattle.urlpattern_engine.proofs.EndLemmas.{IsTable, begins, either, place_ends, table_next}
+use Rattle.urlpattern_engine.proofs.FailedLemmas.{ends_same, place_within}
+use Rattle.urlpattern_engine.proofs.FirstLemmas.{others_place}
+use Rattle.urlpattern_engine.proofs.FollowLemmas.{plus, literal_passed, end_taken}
+use Rattle.urlpattern_engine.proofs.RunLemmas.{both_ends, longest_ends, shortest_ends, shortest_none}
+use Rattle.urlpattern_engine.proofs.StepLemmas.{stop-gives}
+use Rattle.urlpattern_engine.proofs.walk.Attempt.+following.Answers.RunAnswers as runs
+use Rattle.urlpattern_engine.proofs.walk.Attempt.+following.Answers.CopyAnswers as copies
+use Rattle.urlpattern_engine.proofs.walk.Attempt.+following.Answers.SegmentAnswers as segments
+use Rattle.urlpattern_engine.proofs.walk.Attempt.+following.Goals as goal
+use Rattle.urlpattern_engine.proofs.walk.Attempt.+following.Goals.{end_of_segments-After-ends-beginning}
+
+-- ---- the first of the steps
+
+pub follow_first-follow-requires : goal.follow_first-follow-requires
+follow_first-follow-requires n c = (
+  search rules,
+  place_within c.args.self.now.failed c.args.self.now.failed c.args.steps.now c.args.others.now (chars c.args.text.now) (chars c.in-Some.rest.now) refl c.requires.1.1.0
+      (c.args.step ∷ [], c.requires.1.1.1) (c.in-Literal.c ∷ [], c.in-Some.ensures.cut),
+)
+
+pub follow_first-follow_maybe-requires : goal.follow_first-follow_maybe-requires
+follow_first-follow_maybe-requires n c = (search rules, others_place c.args.step c.args.steps.now c.args.others.now c.requires.1.1.1 c.args.self.now.failed (chars c.args.text.now) c.requires.1.1.0)
+
+pub follow_first-follow_longest_run-requires : goal.follow_first-follow_longest_run-requires
+follow_first-follow_longest_run-requires n c = (search rules, others_place c.args.step c.args.steps.now c.args.others.now c.requires.1.1.1 c.args.self.now.failed (chars c.args.text.now) c.requires.1.1.0)
+
+pub follow_first-follow_copies-requires : goal.follow_first-follow_copies-requires
+follow_first-follow_copies-requires n c = (search rules, others_place c.args.step c.args.steps.now c.args.others.now c.requires.1.1.1 c.args.self.now.failed (chars c.args.text.now) c.requires.1.1.0)
+
+pub follow_first-follow_segments-requires : goal.follow_first-follow_segments-requires
+follow_first-follow_segments-requires n c = (search rules, others_place c.args.step c.args.steps.now c.args.others.now c.requires.1.1.1 c.args.self.now.failed (chars c.args.text.now) c.requires.1.1.0)
+
+-- ---- a group that may be missing
+
+pub follow_maybe-follow_on-requires : goal.follow_maybe-follow_on-requires
+follow_maybe-follow_on-requires n c =
+    let others = c.args.others.now in
+    let text = chars c.args.text.now in (
+      omega (arith, passed_shorter c.args.group.steps others c.pass.result.now c.pass.ensures),
+      place_within c.args.self.now.failed _ others c.pass.result.now text text c.in_ok-follow.ensures.whole c.requires.1.1
+          (passed_ends c.args.group.steps others c.pass.result.now c.pass.ensures) (ends_same text),
+    )
+
+pub follow_maybe-returns : goal.follow_maybe-returns
+follow_maybe-returns n c =
+    maybe_left c.args.self.now c.follow.new.self _ c.follow_on.new.self c.args.group c.args.others.now c.pass.result.now (chars c.args.text.now) _ c.follow_on.result
+    c.if-branch.false c.in_ok-follow.ensures c.in_ok-add_missing.ensures refl c.pass.ensures c.follow_on.ensures
+
+-- ---- the steps one after the other
+
+pub follow_on-loop-step-preserved-in-Literal-1 : goal.follow_on-loop-step-preserved-in-Literal-1
+follow_on-loop-step-preserved-in-Literal-1 n c =
+    let rest = chars c.loop-step.rest.now in
+    let remaining = chars c.in-Some-after.remaining.now in
+    let others = c.in-Some.others.now in
+    let d = c.in-Literal.c in
+    let left : c.loop-step.left.now ≡ Literal d ∷ others = c.in-Some.ensures.cases.0 ∙ ap (λ (s : Step). s ∷ others) c.in-Literal.is in
+    record {
+      is_text = search rules;
+      shorter = omega (arith, c.in-Some.ensures.cases.1, c.loop-step.invariant.shorter);
+      leaves = leaves_passed _ _ _ _ _ _ c.loop-step.invariant.leaves c.loop-step.self (Literal d) others (d ∷ []) remaining left c.in-Some-after.ensures.cut
+          (ap (plus c.loop-step.self.captures.items) (literal_passed d others rest remaining c.in-Some-after.ensures.cut)) ([], search rules) refl;
+    }
+
+pub follow_on-returns-then-is_empty : goal.follow_on-returns-then-is_empty
+follow_on-returns-then-is_empty n c =
+    let rest = chars c.loop-step.rest.now in
+    let others = c.in-Some.others.now in
+    let end = c.in-Segment.end in
+    let left : c.loop-step.left.now ≡ Segment end ∷ others = c.in-Some.ensures.cases.0 ∙ ap (λ (s : Step). s ∷ others) c.in-Segment.is in
+    let stops : StopAt end others = c.has_one_end.ensures c.if-has_one_end.true in
+    let empty : length c.split_at_first.result.0.now ≡ 0 = search rules in
+    let front : up_to_first end rest ≡ [] = sym c.split_at_first.ensures.front ∙ chars-empty c.split_at_first.result.0.now empty in
+    leaves_missed _ _ _ _ _ _ c.loop-step.invariant.leaves (ap (λ l. walk l rest) left ∙ shortest_none end (captured (walk others)) (stop-gives end others stops) rest front)
+
+pub follow_on-loop-step-preserved-then-has_one_end : goal.follow_on-loop-step-preserved-then-has_one_end
+follow_on-loop-step-preserved-then-has_one_end n c =
+    let rest = chars c.loop-step.rest.now in
+    let remaining = chars c.split_at_first.result.1.now in
+    let others = c.in-Some.others.now in
+    let end = c.in-Segment.end in
+    let left : c.loop-step.left.now ≡ Segment end ∷ others = c.in-Some.ensures.cases.0 ∙ ap (λ (s : Step). s ∷ others) c.in-Segment.is in
+    let stops : StopAt end others = c.has_one_end.ensures c.if-has_one_end.true in
+    let run = c.split_at_first.result.0 in
+    let some : ¬ (length run.now ≡ 0) = search rules in
+    let utf8 : IsUtf8 run.now = search rules in
+    let front : ¬ (up_to_first end rest ≡ []) = λ e. chars-some run.now utf8 some (c.split_at_first.ensures.front ∙ e) in
+    record {
+      is_text = search rules;
+      shorter = omega (arith, c.in-Some.ensures.cases.1, c.loop-step.invariant.shorter);
+      leaves = leaves_captured _ _ _ _ _ _ c.loop-step.invariant.leaves _ (Segment end) others run remaining left
+          (rw (c.split_at_first.ensures.front, c.split_at_first.ensures.rest) (sym (both_ends end rest)))
+          (rw (c.split_at_first.ensures.front, c.split_at_first.ensures.rest) (shortest_ends end (captured (walk others)) (stop-gives end others stops) rest front))
+          c.in_ok-push-in-Segment.ensures.items refl;
+    }
+
+pub follow_on-loop-step-preserved : goal.follow_on-loop-step-preserved
+follow_on-loop-step-preserved n c =
+    let rest = chars c.loop-step.rest.now in
+    let others = c.in-Some.others.now in
+    let left : c.loop-step.left.now ≡ Anything ∷ others = c.in-Some.ensures.cases.0 ∙ ap (λ (s : Step). s ∷ others) c.in-Anything.is in
+    let stops : StopAt line_feed others = search rules in
+    let run = c.split_at_first-in-Anything.result.0 in
+    let remaining = chars c.split_at_first-in-Anything.result.1.now in
+    record {
+      is_text = search rules;
+      shorter = omega (arith, c.in-Some.ensures.cases.1, c.loop-step.invariant.shorter);
+      leaves = leaves_captured _ _ _ _ _ _ c.loop-step.invariant.leaves _ Anything others run remaining left
+          (rw (c.split_at_first-in-Anything.ensures.front, c.split_at_first-in-Anything.ensures.rest) (sym (both_ends line_feed rest)))
+          (rw (c.split_at_first-in-Anything.ensures.front, c.split_at_first-in-Anything.ensures.rest) (longest_ends line_feed (captured (walk others)) (stop-gives line_feed others stops) rest))
+          c.in_ok-push-in-Anything.ensures.items refl;
+    }
+
+pub follow_on-returns : goal.follow_on-returns
+follow_on-returns n c =
+    let rest = c.loop-step.rest.now in
+    let utf8 : IsUtf8 rest = search rules in
+    leaves_end _ _ _ _ _ _ c.loop-step.invariant.leaves c.is_empty-2.result (nil_from_length c.loop-step.left.now (search rules)) (λ e. chars-empty rest (search rules)) (λ e. chars-some rest utf8 (search rules))
+
+-- ---- where segments end
+
+-- what is known of a place once the calls have answered
+ends_placed : (n : ℕ) (c : end_of_segments-After-ends-beginning n)
+    → let first = c.args.segments.separator.first in
+    let literal = literals c.args.literal.now in
+    let is_greedy = c.args.segments.is_greedy in
+    let end = c.args.segments.end in
+    let gives : Gives = captured (walk c.args.others.now) in
+    let text = c.args.text.now in
+    let front = chars c.loop-begun.front.now in
+    let rest = chars c.after_front-rest.result.now in
+    IsTable first literal is_greedy end gives text front rest c.deref.result.now c.loop-begun.later
+    × IsCutFor gives text c.ends-beginning.result.0 (begins first literal is_greedy end gives front rest)
+    × IsCutFor gives text c.ends-beginning.result.1 (either first literal is_greedy end gives front rest)
+ends_placed n c =
+    let so_far = c.loop-begun.invariant.so_far in
+    let utf8 : IsUtf8 c.loop-begun.front.now = search rules in
+    place_ends c.args.segments.separator.first (literals c.args.literal.now) c.args.segments.is_greedy c.args.segments.end (walk c.args.others.now) c.args.text.now c.loop-begun.front.now
+    c.after_front-rest.result.now so_far.0 c.deref.result.now c.loop-begun.begun.items c.loop-begun.later c.begun_after-next.result c.in_ok-stopping.stopping
+    c.goes_on-onward.result c.ends-beginning.result.0 c.ends-beginning.result.1 utf8 so_far.1 c.after_front-rest.ensures so_far.2 so_far.3 c.deref.ensures.value
+    c.begun_after-next.ensures.there c.begun_after-next.ensures.other c.in_ok-stopping.ensures.end c.goes_on-onward.ensures c.ends-beginning.ensures.beginning c.ends-beginning.ensures.either
+
+pub end_of_segments-returns-in_default-clause-cut : goal.end_of_segments-returns-in_default-clause-cut
+end_of_segments-returns-in_default-clause-cut n c =
+    let gives : Gives = captured (walk c.args.others.now) in
+    let text = c.args.text.now in
+    cut_whole text c.loop-begun.front.now c.after_front-rest.result.now
+    (λ front rest. IsCutFor gives text c.ends-beginning.result.0 (begins c.args.segments.separator.first (literals c.args.literal.now) c.args.segments.is_greedy c.args.segments.end gives front rest))
+    c.after_front-rest.ensures c.in_default.ensures.empty (ends_placed n ((goal.at.end_of_segments-returns-in_default-clause-cut n c).After-ends-beginning)).1
+
+pub end_of_segments-loop-begun-preserved : goal.end_of_segments-loop-begun-preserved
+end_of_segments-loop-begun-preserved n c =
+    let front = c.loop-begun.front.now in
+    let rest = c.after_front-rest.result.now in
+    let shorter = c.in-Some.shorter.now in
+    let last = c.in-Some.ensures.cut in
+    let front_utf8 : IsUtf8 shorter = search rules in
+    let further : IsUtf8 rest = search rules in
+    let ends = ends_placed n ((goal.at.end_of_segments-loop-begun-preserved n c).After-ends-beginning) in
+    let before = c.loop-begun.invariant.before in
+    record {
+      is_text = search rules;
+      so_far = cut_sooner c.args.text.now front shorter rest last.0
+          (λ r. IsTable c.args.segments.separator.first (literals c.args.literal.now) c.args.segments.is_greedy c.args.segments.end (captured (walk c.args.others.now)) c.args.text.now (chars shorter) r c.push.new.self.items c.ends-beginning.result.1)
+          last.1 further c.after_front-rest.ensures last.2
+          (table_next c.args.segments.separator.first (literals c.args.literal.now) c.args.segments.is_greedy c.args.segments.end (captured (walk c.args.others.now)) c.args.text.now front shorter rest last.0
+          c.deref.result.now c.push.new.self.items c.loop-begun.later c.ends-beginning.result.0 c.ends-beginning.result.1
+          front_utf8 further last.1 (IsUtf8-encode last.0 last.1) last.2 (c.in_ok-push.ensures.items ∙ ap (λ t. t ++ c.ends-beginning.result.0 ∷ []) (sym c.deref.ensures.value)) ends.0 ends.1 ends.2);
+      before = record { same = c.in_ok-stopping.ensures.same.same ∙ before.same; whole = c.in_ok-stopping.ensures.same.whole ∙ before.whole };
+    }
+
+-- ---- runs
+
+pub follow_longest-loop-self-init : goal.follow_longest-loop-self-init
+follow_longest-loop-self-init = runs.follow_longest-loop-self-init
+
+pub follow_longest-follow_captured-requires : goal.follow_longest-follow_captured-requires
+follow_longest-follow_captured-requires = runs.follow_longest-follow_captured-requires
+
+pub follow_longest-returns-then-branch : goal.follow_longest-returns-then-branch
+follow_longest-returns-then-branch = runs.follow_longest-returns-then-branch
+
+pub follow_longest-insert-requires-clause-place : goal.follow_longest-insert-requires-clause-place
+follow_longest-insert-requires-clause-place = runs.follow_longest-insert-requires-clause-place
+
+pub follow_longest-insert-requires-clause-dead : goal.follow_longest-insert-requires-clause-dead
+follow_longest-insert-requires-clause-dead = runs.follow_longest-insert-requires-clause-dead
+
+pub follow_longest-returns-in_default : goal.follow_longest-returns-in_default
+follow_longest-returns-in_default = runs.follow_longest-returns-in_default
+
+pub follow_longest-loop-self-preserved : goal.follow_longest-loop-self-preserved
+follow_longest-loop-self-preserved = runs.follow_longest-loop-self-preserved
+
+pub follow_shortest-next_of_run-requires : goal.follow_shortest-next_of_run-requires
+follow_shortest-next_of_run-requires = runs.follow_shortest-next_of_run-requires
+
+pub follow_shortest-before-requires : goal.follow_shortest-before-requires
+follow_shortest-before-requires = runs.follow_shortest-before-requires
+
+pub follow_shortest-follow_captured-requires : goal.follow_shortest-follow_captured-requires
+follow_shortest-follow_captured-requires = runs.follow_shortest-follow_captured-requires
+
+pub follow_shortest-returns-then-branch : goal.follow_shortest-returns-then-branch
+follow_shortest-returns-then-branch = runs.follow_shortest-returns-then-branch
+
+pub follow_shortest-loop-remaining-preserved : goal.follow_shortest-loop-remaining-preserved
+follow_shortest-loop-remaining-preserved = runs.follow_shortest-loop-remaining-preserved
+
+pub follow_shortest-remember_run-requires-clause-dead : goal.follow_shortest-remember_run-requires-clause-dead
+follow_shortest-remember_run-requires-clause-dead = runs.follow_shortest-remember_run-requires-clause-dead
+
+pub follow_shortest-returns : goal.follow_shortest-returns
+follow_shortest-returns = runs.follow_shortest-returns
+
+pub follow_longest_run-loop-shorter-init : goal.follow_longest_run-loop-shorter-init
+follow_longest_run-loop-shorter-init = runs.follow_longest_run-loop-shorter-init
+
+pub follow_longest_run-after_front-rest-requires : goal.follow_longest_run-after_front-rest-requires
+follow_longest_run-after_front-rest-requires = runs.follow_longest_run-after_front-rest-requires
+
+pub follow_longest_run-follow_captured-requires : goal.follow_longest_run-follow_captured-requires
+follow_longest_run-follow_captured-requires = runs.follow_longest_run-follow_captured-requires
+
+pub follow_longest_run-returns-then-branch : goal.follow_longest_run-returns-then-branch
+follow_longest_run-returns-then-branch = runs.follow_longest_run-returns-then-branch
+
+pub follow_longest_run-loop-shorter-preserved : goal.follow_longest_run-loop-shorter-preserved
+follow_longest_run-loop-shorter-preserved = runs.follow_longest_run-loop-shorter-preserved
+
+pub follow_longest_run-follow_captured-requires-then-run : goal.follow_longest_run-follow_captured-requires-then-run
+follow_longest_run-follow_captured-requires-then-run = runs.follow_longest_run-follow_captured-requires-then-run
+
+pub follow_longest_run-returns-then-run : goal.follow_longest_run-returns-then-run
+follow_longest_run-returns-then-run = runs.follow_longest_run-returns-then-run
+
+pub follow_longest_run-returns-else-run : goal.follow_longest_run-returns-else-run
+follow_longest_run-returns-else-run = runs.follow_longest_run-returns-else-run
+
+-- ---- copies of a text
+
+pub follow_copies-follow_any_copies-requires : goal.follow_copies-follow_any_copies-requires
+follow_copies-follow_any_copies-requires = copies.follow_copies-follow_any_copies-requires
+
+pub follow_copies-follow_any_copies-requires-in-Some : goal.follow_copies-follow_any_copies-requires-in-Some
+follow_copies-follow_any_copies-requires-in-Some = copies.follow_copies-follow_any_copies-requires-in-Some
+
+pub follow_copies-returns-then-copies : goal.follow_copies-returns-then-copies
+follow_copies-returns-then-copies = copies.follow_copies-returns-then-copies
+
+pub follow_copies-returns-in-Some : goal.follow_copies-returns-in-Some
+follow_copies-returns-in-Some = copies.follow_copies-returns-in-Some
+
+pub follow_copies-returns-in-None : goal.follow_copies-returns-in-None
+follow_copies-returns-in-None = copies.follow_copies-returns-in-None
+
+pub follow_any_copies-loop-shorter-init : goal.follow_any_copies-loop-shorter-init
+follow_any_copies-loop-shorter-init = copies.follow_any_copies-loop-shorter-init
+
+pub follow_any_copies-after_front-requires : goal.follow_any_copies-after_front-requires
+follow_any_copies-after_front-requires = copies.follow_any_copies-after_front-requires
+
+pub follow_any_copies-follow-requires : goal.follow_any_copies-follow-requires
+follow_any_copies-follow-requires = copies.follow_any_copies-follow-requires
+
+pub follow_any_copies-returns-then-branch : goal.follow_any_copies-returns-then-branch
+follow_any_copies-returns-then-branch = copies.follow_any_copies-returns-then-branch
+
+pub follow_any_copies-returns-in_default : goal.follow_any_copies-returns-in_default
+follow_any_copies-returns-in_default = copies.follow_any_copies-returns-in_default
+
+pub follow_any_copies-loop-shorter-preserved : goal.follow_any_copies-loop-shorter-preserved
+follow_any_copies-loop-shorter-preserved = copies.follow_any_copies-loop-shorter-preserved
+
+-- ---- segments
+
+pub follow_segments-end_of_segments-requires : goal.follow_segments-end_of_segments-requires
+follow_segments-end_of_segments-requires = segments.follow_segments-end_of_segments-requires
+
+pub follow_segments-follow_captured-requires : goal.follow_segments-follow_captured-requires
+follow_segments-follow_captured-requires = segments.follow_segments-follow_captured-requires
+
+pub follow_segments-returns-in-Some : goal.follow_segments-returns-in-Some
+follow_segments-returns-in-Some = segments.follow_segments-returns-in-Some
+
+pub follow_segments-returns-in-None : goal.follow_segments-returns-in-None
+follow_segments-returns-in-None = segments.follow_segments-returns-in-None
+
+pub end_of_segments-end_here-requires : goal.end_of_segments-end_here-requires
+end_of_segments-end_here-requires = segments.end_of_segments-end_here-requires
+
+pub end_of_segments-loop-begun-init : goal.end_of_segments-loop-begun-init
+end_of_segments-loop-begun-init = segments.end_of_segments-loop-begun-init
