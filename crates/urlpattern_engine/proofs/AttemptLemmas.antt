@@ -14,7 +14,7 @@ use Rattle.urlpattern_engine.specs.declared.step.Group.{Group}
 use Rattle.urlpattern_engine.specs.declared.step.Step.{Step}
 use Rattle.urlpattern_engine.specs.declared.step.Step.TheVariants.{Maybe}
 use Rattle.urlpattern_engine.specs.declared.walk.Attempt.{Attempt}
-use Rattle.urlpattern_engine.specs.Failed.{EndsWith, IsPlace, Whole}
+use Rattle.urlpattern_engine.specs.Failed.{EndsWith, IsPlace}
 use Rattle.urlpattern_engine.specs.Steps.{captured, walk}
 use Rattle.urlpattern_engine.specs.Taken.{Extends, Follows, FollowsOn, Untouched, with_captures}
 use Rattle.urlpattern_engine.proofs.FailedLemmas.{ends_drop, place_within}

@@ -1,12 +1,10 @@
 -- The places that are left of a match, and the first of the steps.
-use Rattle.std.proofs.Common.{◌≡◌, ℕ, List, [], ◌∷◌, ◌++◌, Bool, true, false, None, refl, sym, ap, ◌∙◌, subst}
+use Rattle.std.proofs.Common.{◌≡◌, ℕ, List, [], ◌∷◌, ◌++◌, refl}
 use Rattle.std.specs.Str.{chars, IsUtf8}
 use Rattle.urlpattern_engine.specs.declared.step.Step.{Step}
 use Rattle.urlpattern_engine.specs.Failed.{EndsWith, IsPlace, Whole}
-use Rattle.urlpattern_engine.specs.Steps.{walk}
-use Rattle.urlpattern_engine.specs.Taken.{AreAdded, Kept}
 use Rattle.urlpattern_engine.proofs.FailedLemmas.{ends_same, place_within}
-use Rattle.urlpattern_engine.proofs.FollowLemmas.{plus, adds_none, chars_end}
+use Rattle.urlpattern_engine.proofs.FollowLemmas.{chars_end}
 
 -- what stands behind a front may be left too
 pub rest_place : (whole now : Whole) (steps others : List Step) (text front rest : List ℕ) → now ≡ whole → IsPlace whole steps (chars text) → EndsWith steps others → IsUtf8 front → text ≡ front ++ rest

@@ -29,6 +29,9 @@ struct Attempt<'s, 't> {
     failed: Failed<'s, 't>,
 }
 
+/// Whether steps take a text whole. The error is that memory ran out.
+type Taken = Result<bool, OutOfMemory>;
+
 /// What the steps capture of a text that they take whole. `None`: they do not take it whole.
 ///
 /// Where the places that failed are remembered, no choice is tried twice at one of them.
@@ -56,10 +59,8 @@ pub(crate) fn walk<'t>(
 
 impl<'t> Attempt<'_, 't> {
     /// Whether the steps take the text whole. Where they do, what they capture is added.
-    ///
-    /// The error is that memory ran out.
     #[cycle(following)]
-    fn follow(&mut self, steps: &[Step], text: &'t str) -> Result<bool, OutOfMemory>
+    fn follow(&mut self, steps: &[Step], text: &'t str) -> Taken
         requires { IsPlace self.old.failed steps.now (chars text.now) }
         ensures { IfOk result (λ taken. Follows self.old self.new taken (walk steps.now (chars text.now))) }
     {
@@ -73,9 +74,9 @@ impl<'t> Attempt<'_, 't> {
 
     /// Whether the steps take the text whole. What they capture is added, and where they do not, some of it.
     ///
-    /// The error is that memory ran out.
+    /// A place is remembered from which no way in which the first of the steps may take the text leads on.
     #[cycle(following)]
-    fn follow_on(&mut self, steps: &[Step], text: &'t str) -> Result<bool, OutOfMemory>
+    fn follow_on(&mut self, steps: &[Step], text: &'t str) -> Taken
         requires { IsPlace self.old.failed steps.now (chars text.now) }
         ensures { IfOk result (λ taken. FollowsOn self.old self.new taken (walk steps.now (chars text.now))) }
     {
@@ -105,13 +106,15 @@ impl<'t> Attempt<'_, 't> {
                     rest = remaining;
                     left = others;
                 }
-                Step::Segment(_)
-                | Step::Anything
-                | Step::Maybe(_)
-                | Step::Longest(_)
-                | Step::Copies(_)
-                | Step::Segments(_) => {
-                    return self.follow_choice(*step, left, others, rest);
+                _ => {
+                    if self.failed.contains(left, rest) {
+                        return Ok(false);
+                    }
+                    if self.follow_first(*step, left, others, rest)? {
+                        return Ok(true);
+                    }
+                    self.failed.insert(left, rest);
+                    return Ok(false);
                 }
             }
         }
@@ -120,44 +123,9 @@ impl<'t> Attempt<'_, 't> {
 
     /// Whether the steps take the text whole. What they capture is added, and where they do not, some of it.
     ///
-    /// The first of the steps may take the text in several ways. Where none of them leads on, the place is remembered.
-    ///
-    /// The error is that memory ran out.
-    #[cycle(following)]
-    fn follow_choice(
-        &mut self,
-        step: Step,
-        steps: &[Step],
-        others: &[Step],
-        text: &'t str,
-    ) -> Result<bool, OutOfMemory>
-        requires place { IsPlace self.old.failed steps.now (chars text.now) }
-        requires first { steps.now ≡ step ∷ others.now }
-        ensures { IfOk result (λ taken. FollowsOn self.old self.new taken (walk steps.now (chars text.now))) }
-    {
-        if self.failed.contains(steps, text) {
-            return Ok(false);
-        }
-        if self.follow_first(step, steps, others, text)? {
-            return Ok(true);
-        }
-        self.failed.insert(steps, text);
-        Ok(false)
-    }
-
-    /// Whether the steps take the text whole. What they capture is added, and where they do not, some of it.
-    ///
     /// The ways in which the first of them may take the text are tried in turn.
-    ///
-    /// The error is that memory ran out.
     #[cycle(following)]
-    fn follow_first(
-        &mut self,
-        step: Step,
-        steps: &[Step],
-        others: &[Step],
-        text: &'t str,
-    ) -> Result<bool, OutOfMemory>
+    fn follow_first(&mut self, step: Step, steps: &[Step], others: &[Step], text: &'t str) -> Taken
         requires place { IsPlace self.old.failed steps.now (chars text.now) }
         requires first { steps.now ≡ step ∷ others.now }
         ensures { IfOk result (λ taken. FollowsOn self.old self.new taken (walk steps.now (chars text.now))) }
@@ -178,15 +146,8 @@ impl<'t> Attempt<'_, 't> {
 
     /// Whether the steps of a group that may be missing and those after it take the text whole, or those after it alone. What they
     /// capture is added, and where they do not, some of it.
-    ///
-    /// The error is that memory ran out.
     #[cycle(following)]
-    fn follow_maybe(
-        &mut self,
-        group: Group,
-        others: &[Step],
-        text: &'t str,
-    ) -> Result<bool, OutOfMemory>
+    fn follow_maybe(&mut self, group: Group, others: &[Step], text: &'t str) -> Taken
         requires { IsPlace self.old.failed others.now (chars text.now) }
         ensures { IfOk result (λ taken. FollowsOn self.old self.new taken (walk (Step.Maybe group ∷ others.now) (chars text.now))) }
     {
@@ -198,15 +159,8 @@ impl<'t> Attempt<'_, 't> {
     }
 
     /// Whether the steps take the rest of a text whole. Where they do, the front and what they capture are added.
-    ///
-    /// The error is that memory ran out.
     #[cycle(following)]
-    fn follow_captured(
-        &mut self,
-        front: &'t str,
-        steps: &[Step],
-        rest: &'t str,
-    ) -> Result<bool, OutOfMemory>
+    fn follow_captured(&mut self, front: &'t str, steps: &[Step], rest: &'t str) -> Taken
         requires { IsPlace self.old.failed steps.now (chars rest.now) }
         ensures { IfOk result (λ taken. Follows self.old self.new taken (captured (walk steps.now) (chars front.now) (chars rest.now))) }
     {

@@ -9,21 +9,13 @@ ghost use Rattle.urlpattern_engine.specs.Taken.{Follows};
 use crate::repeats::{after_literals, first_steps, pass, skip_copies, without_copy};
 use crate::step::{Copies, Step};
 use crate::texts::after_front;
-use crate::walk::Attempt;
-use urlpattern_core::error::OutOfMemory;
+use crate::walk::{Attempt, Taken};
 use urlpattern_syntax::tokenizer::before;
 
 impl<'t> Attempt<'_, 't> {
     /// Whether the steps that follow take what follows copies of a text, the most first. Where they do, what they capture is added.
-    ///
-    /// The error is that memory ran out.
     #[cycle(following)]
-    pub(super) fn follow_copies(
-        &mut self,
-        copies: Copies,
-        steps: &[Step],
-        text: &'t str,
-    ) -> Result<bool, OutOfMemory>
+    pub(super) fn follow_copies(&mut self, copies: Copies, steps: &[Step], text: &'t str) -> Taken
         requires { IsPlace self.old.failed steps.now (chars text.now) }
         ensures { IfOk result (λ taken. Follows self.old self.new taken (walk (Step.Copies copies ∷ steps.now) (chars text.now))) }
     {
@@ -41,8 +33,6 @@ impl<'t> Attempt<'_, 't> {
 
     /// Whether the other steps take what follows any number of copies of a text, the most first. Where they do, what they capture
     /// is added. The text is the first character and those of the literal steps.
-    ///
-    /// The error is that memory ran out.
     #[cycle(following)]
     fn follow_any_copies(
         &mut self,
@@ -50,7 +40,7 @@ impl<'t> Attempt<'_, 't> {
         literal: &[Step],
         others: &[Step],
         text: &'t str,
-    ) -> Result<bool, OutOfMemory>
+    ) -> Taken
         requires { IsPlace self.old.failed others.now (chars text.now) }
         ensures { IfOk result (λ taken. Follows self.old self.new taken (walk_copies first literal.now others.now (chars text.now))) }
     {

@@ -9,15 +9,12 @@ ghost use Rattle.urlpattern_engine.specs.Taken.{Follows};
 use crate::runs::{longest_front, next_of_run, remember_run};
 use crate::step::{Run, Step};
 use crate::texts::{after_front, split_at_first, without_last};
-use crate::walk::Attempt;
-use urlpattern_core::error::OutOfMemory;
+use crate::walk::{Attempt, Taken};
 use urlpattern_syntax::tokenizer::before;
 
 impl<'t> Attempt<'_, 't> {
     /// Whether the steps take the text whole: the first a front without this character, not empty, the shortest first. Where they
     /// do, what they capture is added.
-    ///
-    /// The error is that memory ran out.
     #[cycle(following)]
     pub(super) fn follow_shortest(
         &mut self,
@@ -25,7 +22,7 @@ impl<'t> Attempt<'_, 't> {
         steps: &[Step],
         others: &[Step],
         text: &'t str,
-    ) -> Result<bool, OutOfMemory>
+    ) -> Taken
         requires place { IsPlace self.old.failed steps.now (chars text.now) }
         requires first { steps.now ≡ Step.Segment end ∷ others.now }
         ensures { IfOk result (λ taken. Follows self.old self.new taken (walk steps.now (chars text.now))) }
@@ -43,15 +40,8 @@ impl<'t> Attempt<'_, 't> {
 
     /// Whether the steps take the text whole: the first a front without a line feed, the longest first. Where they do, what they
     /// capture is added.
-    ///
-    /// The error is that memory ran out.
     #[cycle(following)]
-    pub(super) fn follow_longest(
-        &mut self,
-        steps: &[Step],
-        others: &[Step],
-        text: &'t str,
-    ) -> Result<bool, OutOfMemory>
+    pub(super) fn follow_longest(&mut self, steps: &[Step], others: &[Step], text: &'t str) -> Taken
         requires place { IsPlace self.old.failed steps.now (chars text.now) }
         requires first { steps.now ≡ Step.Anything ∷ others.now }
         ensures { IfOk result (λ taken. Follows self.old self.new taken (walk steps.now (chars text.now))) }
@@ -72,15 +62,8 @@ impl<'t> Attempt<'_, 't> {
 
     /// Whether the steps take what follows a run of characters, the longest first. Where they do, the run and what they capture
     /// are added.
-    ///
-    /// The error is that memory ran out.
     #[cycle(following)]
-    pub(super) fn follow_longest_run(
-        &mut self,
-        run: Run,
-        steps: &[Step],
-        text: &'t str,
-    ) -> Result<bool, OutOfMemory>
+    pub(super) fn follow_longest_run(&mut self, run: Run, steps: &[Step], text: &'t str) -> Taken
         requires { IsPlace self.old.failed steps.now (chars text.now) }
         ensures { IfOk result (λ taken. Follows self.old self.new taken (walk (Step.Longest run ∷ steps.now) (chars text.now))) }
     {

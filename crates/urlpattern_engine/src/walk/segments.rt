@@ -9,22 +9,20 @@ ghost use Rattle.urlpattern_engine.specs.Taken.{Follows, IsEndHere, IsEndOfSegme
 use crate::repeats::{begun_after, ends, first_steps, goes_on, pass};
 use crate::step::{Segments, Step};
 use crate::texts::{after_front, split_at_seam, without_last};
-use crate::walk::Attempt;
+use crate::walk::{Attempt, Taken};
 use std::mem;
 use urlpattern_core::error::OutOfMemory;
 
 impl<'t> Attempt<'_, 't> {
     /// Whether the steps that follow take what follows segments, by the order in which these are tried. Where they do, the segments
     /// and what they capture are added.
-    ///
-    /// The error is that memory ran out.
     #[cycle(following)]
     pub(super) fn follow_segments(
         &mut self,
         segments: Segments,
         steps: &[Step],
         text: &'t str,
-    ) -> Result<bool, OutOfMemory>
+    ) -> Taken
         requires { IsPlace self.old.failed steps.now (chars text.now) }
         ensures { IfOk result (λ taken. Follows self.old self.new taken (walk (Step.Segments segments ∷ steps.now) (chars text.now))) }
     {

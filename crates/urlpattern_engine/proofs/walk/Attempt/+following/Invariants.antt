@@ -54,9 +54,6 @@ decreases-follow_segments l = 10 * length l.steps.now + 4
 abbrev pub decreases-follow_first : goal.decreases-follow_first
 decreases-follow_first l = 10 * length l.others.now + 5
 
-abbrev pub decreases-follow_choice : goal.decreases-follow_choice
-decreases-follow_choice l = 10 * length l.others.now + 6
-
 -- ---- what holds in each loop
 
 abbrev pub invariant-follow_on-loop-step : goal.invariant-follow_on-loop-step

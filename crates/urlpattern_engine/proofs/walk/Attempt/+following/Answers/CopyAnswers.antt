@@ -13,14 +13,10 @@ use Rattle.urlpattern_engine.proofs.FirstLemmas.{rest_place}
 use Rattle.urlpattern_engine.proofs.walk.Attempt.+following.Goals as goal
 
 pub follow_copies-follow_any_copies-requires : goal.follow_copies-follow_any_copies-requires
-follow_copies-follow_any_copies-requires n c =
-    let count = c.args.copies.text.others in
-    let steps = c.args.steps.now in
-    let others = c.pass-others.result.now in
-    let text = chars c.args.text.now in (
-      omega (arith, passed_shorter count steps others c.pass-others.ensures),
-      place_within c.args.self.now.failed c.args.self.now.failed steps others text text refl c.requires.1.1 (passed_ends count steps others c.pass-others.ensures) (ends_same text),
-    )
+follow_copies-follow_any_copies-requires n c = (
+  omega (arith, passed_shorter c.args.copies.text.others c.args.steps.now c.pass-others.result.now c.pass-others.ensures),
+  search (rules, place_within, passed_ends, ends_same),
+)
 
 pub follow_copies-follow_any_copies-requires-in-Some : goal.follow_copies-follow_any_copies-requires-in-Some
 follow_copies-follow_any_copies-requires-in-Some n c =

@@ -1,5 +1,5 @@
 -- The answers for runs of characters.
-use Rattle.std.proofs.Common.{◌≡◌, ◌∷◌, ◌++◌, [], None, length, refl, sym, ap, ◌∙◌, subst, append_assoc, rules, ne_eqb}
+use Rattle.std.proofs.Common.{◌≡◌, ◌∷◌, ◌++◌, [], length, sym, ap, ◌∙◌, subst, rules}
 use Rattle.std.proofs.lemmas.List.{append_cancel_left}
 use Rattle.std.proofs.lemmas.Str.{chars-append, IsUtf8-encode}
 use Rattle.std.specs.Option.{option_or}

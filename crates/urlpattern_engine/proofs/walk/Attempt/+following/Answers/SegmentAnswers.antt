@@ -1,13 +1,11 @@
 -- The answers for segments with a text between each two.
-use Rattle.std.proofs.Common.{◌≡◌, ◌∷◌, ◌++◌, [], Some, None, refl, sym, ap, ◌∙◌, subst, arith, rules}
-use Rattle.std.proofs.lemmas.Str.{IsUtf8-encode}
+use Rattle.std.proofs.Common.{◌≡◌, ◌∷◌, [], Some, None, refl, sym, ap, ◌∙◌, subst, arith, rules}
 use Rattle.std.specs.Str.{chars, IsUtf8}
 use Rattle.urlpattern_engine.specs.Steps.{Gives, captured, literals, segmented, single_run, walk}
 use Rattle.urlpattern_engine.specs.Taken.{IsCutFor}
-use Rattle.urlpattern_engine.proofs.AttemptLemmas.{IsCut, cut_end, cut_sooner, cut_whole, follows_later, follows_missed, passed_ends, passed_shorter, untouched-same}
-use Rattle.urlpattern_engine.proofs.EndLemmas.{IsTable, begins, either, same_fronts, segments_step, table_begun, table_next, place_ends}
+use Rattle.urlpattern_engine.proofs.AttemptLemmas.{IsCut, cut_end, follows_later, follows_missed, passed_ends, passed_shorter, untouched-same}
+use Rattle.urlpattern_engine.proofs.EndLemmas.{IsTable, same_fronts, segments_step, table_begun}
 use Rattle.urlpattern_engine.proofs.FailedLemmas.{ends_same, place_within}
-use Rattle.urlpattern_engine.proofs.Tried.{Next}
 use Rattle.urlpattern_engine.proofs.FirstLemmas.{rest_place}
 use Rattle.urlpattern_engine.proofs.walk.Attempt.+following.Goals as goal
 
