@@ -1,7 +1,6 @@
 -- What an attempt has after steps were followed.
-use Rattle.std.proofs.Common.{◌≡◌, ℕ, ◌≤◌, List, [], ◌∷◌, ◌++◌, length, drop, replicate, Option, Some, None, Result, Ok, Err, Bool, true, false, refl, sym, ap, ◌∙◌, subst, append-nil, arith}
+use Rattle.std.proofs.Common.{◌≡◌, ℕ, List, [], ◌∷◌, ◌++◌, length, drop, replicate, Option, Some, None, Result, Ok, Err, Bool, true, false, refl, sym, ap, ◌∙◌, subst, append-nil}
 use Rattle.std.proofs.lemmas.Bool.{false≢true}
-use Rattle.std.proofs.lemmas.List.{length-drop}
 use denote.Text.{Utf8}
 use denote.Shadow.{shadow}
 use Rattle.std.specs.Borrow.{Bor}
@@ -14,10 +13,10 @@ use Rattle.urlpattern_engine.specs.declared.step.Group.{Group}
 use Rattle.urlpattern_engine.specs.declared.step.Step.{Step}
 use Rattle.urlpattern_engine.specs.declared.step.Step.TheVariants.{Maybe}
 use Rattle.urlpattern_engine.specs.declared.walk.Attempt.{Attempt}
-use Rattle.urlpattern_engine.specs.Failed.{EndsWith, IsPlace}
+use Rattle.urlpattern_engine.specs.Failed.{IsPlace}
 use Rattle.urlpattern_engine.specs.Steps.{captured, walk}
 use Rattle.urlpattern_engine.specs.Taken.{Extends, Follows, FollowsOn, Untouched, with_captures}
-use Rattle.urlpattern_engine.proofs.FailedLemmas.{ends_drop, place_within}
+use Rattle.urlpattern_engine.proofs.FailedLemmas.{place_within}
 use Rattle.urlpattern_engine.proofs.FollowLemmas.{plus, adds_none, end_taken, extends_more, front_shortened, plus_captured, plus_maybe, taken_adds}
 
 -- ---- what was captured
@@ -141,15 +140,6 @@ module _ (old now : Attempt) (steps left : List Step) (text rest : List ℕ) (le
     whole = follows.whole ∙ leaves.whole;
   }
   leaves_later new (Err error) follows = tt
-
--- ---- steps that were passed
-
-module _ (count : ℕ) (steps others : List Step) (passed : others ≡ drop count steps) where
-  pub passed_shorter : length others ≤ length steps
-  passed_shorter = omega (arith, ap length passed, length-drop count steps)
-
-  pub passed_ends : EndsWith steps others
-  passed_ends = subst (EndsWith steps) (sym passed) (ends_drop count steps)
 
 -- ---- a text that is cut
 

@@ -14,8 +14,8 @@ use Rattle.urlpattern_laws.specs.PartMeaning.{Captures}
 use Rattle.urlpattern_engine.specs.declared.step.Segments.{Segments as Segmented}
 use Rattle.urlpattern_engine.specs.declared.step.Step.{Step}
 use Rattle.urlpattern_engine.specs.declared.step.Step.TheVariants.{Segments}
-use Rattle.urlpattern_engine.specs.Steps.{Gives, after_separator, after_text, any_rounds, captured, literals, segmented, single_run, walk, walk_after}
-use Rattle.urlpattern_engine.specs.Taken.{IsCutFor, IsEndHere, going_on}
+use Rattle.urlpattern_engine.specs.Steps.{Gives, after_separator, after_text, any_rounds, captured, literal_text, literals, segmented, single_run, walk, walk_after}
+use Rattle.urlpattern_engine.specs.Taken.{IsCutFor, IsEndHere, IsEndOfSegments, going_on}
 use Rattle.urlpattern_engine.proofs.CopyLemmas.{after-found, after-other}
 use Rattle.urlpattern_engine.proofs.Rounds.{any-unrolled}
 use Rattle.urlpattern_engine.proofs.SegmentLemmas.{advances-separator, keeps-segmented}
@@ -300,6 +300,23 @@ pub same_fronts : (front rest front' rest' : List ℕ) → front ++ rest ≡ fro
 same_fronts front rest front' rest' e n =
     let fronts : front ≡ front' = sym (take-append_seam front rest) ∙ ap₂ take n e ∙ take-append_seam front' rest' in
     (fronts, append_cancel_left front rest rest' (e ∙ ap (λ f. f ++ rest') (sym fronts)))
+
+-- the steps of segments, by where these end
+module _ (segments : Segmented) (steps literal others : List Step) (text : List ℕ) (own : literal ≡ take segments.separator.others steps) (passed : others ≡ drop segments.separator.others steps) where
+  pub segments_some : (end : Option ℕ) (n : ℕ) (front rest : List ℕ) → IsEndOfSegments segments literal others text end → end ≡ Some n → text ≡ front ++ rest → length front ≡ n
+      → walk (Segments segments ∷ steps) (chars text) ≡ captured (walk others) (chars front) (chars rest)
+  segments_some end n front rest is some e count =
+      let found = segmented (literal_text segments.separator.first literal) (single_run segments.is_greedy segments.end) (captured (walk others)) [] (chars text) in
+      let cut : IsCutFor (captured (walk others)) text (Some n) found = subst (λ o. IsCutFor (captured (walk others)) text o found) some is in
+      let parts = same_fronts front rest cut.0 cut.1 (sym e ∙ cut.4) (count ∙ sym cut.5) in
+      segments_step segments steps literal others (chars text) own passed
+      ∙ cut.6 ∙ ap (λ f. captured (walk others) (chars f) (chars cut.1)) (sym parts.0) ∙ ap (λ r. captured (walk others) (chars front) (chars r)) (sym parts.1)
+
+  pub segments_none : (end : Option ℕ) → IsEndOfSegments segments literal others text end → end ≡ None → walk (Segments segments ∷ steps) (chars text) ≡ None
+  segments_none end is none =
+      let found = segmented (literal_text segments.separator.first literal) (single_run segments.is_greedy segments.end) (captured (walk others)) [] (chars text) in
+      let nothing : found ≡ None = subst (λ o. IsCutFor (captured (walk others)) text o found) none is in
+      segments_step segments steps literal others (chars text) own passed ∙ nothing
 
 -- the table at the character before
 pub table_next : (c : ℕ) (literal : List ℕ) (is_greedy : Bool) (end : ℕ) (gives : Gives) (text front shorter rest : List ℕ) (d : ℕ) (table more : List (Option ℕ)) (later beginning both : Option ℕ)

@@ -1,9 +1,10 @@
 -- The places that are left of a match, and the first of the steps.
-use Rattle.std.proofs.Common.{◌≡◌, ℕ, List, [], ◌∷◌, ◌++◌, refl}
+use Rattle.std.proofs.Common.{◌≡◌, ℕ, ◌≤◌, List, [], ◌∷◌, ◌++◌, length, drop, refl, sym, ap, subst, arith}
+use Rattle.std.proofs.lemmas.List.{length-drop}
 use Rattle.std.specs.Str.{chars, IsUtf8}
 use Rattle.urlpattern_engine.specs.declared.step.Step.{Step}
 use Rattle.urlpattern_engine.specs.Failed.{EndsWith, IsPlace, Whole}
-use Rattle.urlpattern_engine.proofs.FailedLemmas.{ends_same, place_within}
+use Rattle.urlpattern_engine.proofs.FailedLemmas.{ends_drop, ends_same, place_within}
 use Rattle.urlpattern_engine.proofs.FollowLemmas.{chars_end}
 
 -- what stands behind a front may be left too
@@ -15,3 +16,13 @@ module _ (step : Step) (steps others : List Step) (first : steps ≡ step ∷ ot
   -- the others and the same text may be left too
   pub others_place : (whole : Whole) (text : List ℕ) → IsPlace whole steps text → IsPlace whole others text
   others_place whole text place = place_within whole whole steps others text text refl place (step ∷ [], first) (ends_same text)
+
+module _ (count : ℕ) (steps others : List Step) (passed : others ≡ drop count steps) where
+  pub passed_shorter : length others ≤ length steps
+  passed_shorter = omega (arith, ap length passed, length-drop count steps)
+
+  pub passed_ends : EndsWith steps others
+  passed_ends = subst (EndsWith steps) (sym passed) (ends_drop count steps)
+
+-- what may be left of a match
+pub ruleset places = (place_within, rest_place, others_place, passed_ends, ends_same)

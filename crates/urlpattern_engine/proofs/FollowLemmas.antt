@@ -158,7 +158,13 @@ module _ (steps others : List Step) (first : steps ≡ Anything ∷ others) wher
   longest_dead front rest none = ap (λ s. walk s rest) first ∙ longest_no_more line_feed (walk others) front [] rest none
 
   -- this front is the longest that leads on
-  pub longest_taken : (text front rest : List ℕ) (found : Captures) → text ≡ front ++ rest → up_to_first line_feed front ≡ front
-      → longest line_feed (captured (walk others)) front rest ≡ captured (walk others) front rest → captured (walk others) front rest ≡ Some found → walk steps text ≡ Some found
-  longest_taken text front rest found cut lacks longest some =
-      ap (λ s. walk s text) first ∙ ap (walk (Anything ∷ others)) cut ∙ longest_found line_feed (captured (walk others)) [] front rest found lacks (longest ∙ some)
+  pub longest_taken : (text front rest left : List ℕ) (found : Captures) → IsUtf8 front → text ≡ front ++ rest → text ≡ front ++ left → up_to_first line_feed (chars front) ≡ chars front
+      → longest line_feed (captured (walk others)) (chars front) (chars left) ≡ captured (walk others) (chars front) (chars left)
+      → captured (walk others) (chars front) (chars rest) ≡ Some found → walk steps (chars text) ≡ Some found
+  longest_taken text front rest left found u e f lacks no_longer some =
+      let gives : Gives = captured (walk others) in
+      let behind : rest ≡ left = append_cancel_left front rest left (sym e ∙ f) in
+      ap (λ s. walk s (chars text)) first
+      ∙ ap (walk (Anything ∷ others)) (ap chars e ∙ chars-append front rest u)
+      ∙ longest_found line_feed gives [] (chars front) (chars rest) found lacks
+      (subst (λ r. longest line_feed gives (chars front) (chars r) ≡ gives (chars front) (chars r)) (sym behind) no_longer ∙ some)

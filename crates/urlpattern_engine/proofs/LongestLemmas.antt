@@ -1,6 +1,7 @@
 -- Runs of characters that are one run of runs.
 use Rattle.std.proofs.Common.{◌≡◌, ℕ, zero, suc, ◌<◌, ◌≤◌, List, [], ◌∷◌, ◌++◌, length, map, Option, Some, None, option_map, Bool, true, false, cond, ◌==◌, refl, sym, ap, ap₂, ◌∙◌, subst, append-nil, append_assoc, length-append, arith, lt-ltb}
 use borrow.Author.Tests.{ltb-true}
+use Rattle.std.proofs.lemmas.List.{append_cancel_left}
 use Rattle.std.proofs.lemmas.Str.{chars-append}
 use Rattle.std.specs.Char.{IsScalar, encode_utf8}
 use Rattle.std.specs.Option.{option_or}
@@ -313,6 +314,13 @@ pub front_some : (front shorter : List ℕ) (c : ℕ) → IsUtf8 shorter → IsS
 front_some front shorter c u scalar e empty =
     let spelled : chars front ≡ chars shorter ++ c ∷ [] = ap chars e ∙ chars-append shorter (encode_utf8 c) u ∙ ap (λ l. chars shorter ++ l) (chars-encode c scalar) in
     absurd (omega (arith, ap length (sym empty ∙ spelled), length-append (chars shorter) (c ∷ [])))
+
+-- a front that is not empty gives what it may give
+pub front_given : (may_be_empty : Bool) (gives : Gives) (text front shorter rest left : List ℕ) (c : ℕ) → IsUtf8 shorter → IsScalar c → front ≡ shorter ++ encode_utf8 c → text ≡ front ++ rest → text ≡ front ++ left
+    → at_least may_be_empty gives (chars front) (chars left) ≡ gives (chars front) (chars rest)
+front_given may_be_empty gives text front shorter rest left c u scalar e f g =
+    at_least_some may_be_empty gives (chars front) (chars left) (front_some front shorter c u scalar e)
+    ∙ ap (λ r. gives (chars front) (chars r)) (append_cancel_left front left rest (sym g ∙ f))
 
 -- where only the empty front is left
 pub falling_empty : (gives : Gives) (front rest : List ℕ) → front ≡ [] → falling (at_least true gives) [] front rest ≡ gives front rest

@@ -3,18 +3,15 @@ mod RunAnswers
 mod SegmentAnswers
 use Rattle.std.proofs.Common.{◌≡◌, ℕ, ◌∷◌, ◌++◌, [], None, length, drop, refl, sym, ap, ◌∙◌, subst, arith, rules}
 use Rattle.std.proofs.lemmas.List.{length-drop, nil_from_length}
-use Rattle.std.proofs.lemmas.Str.{IsUtf8-encode}
 use Rattle.std.specs.Str.{chars, IsUtf8}
 use Rattle.urlpattern_syntax.proofs.TextLemmas.{chars-empty, chars-some}
 use Rattle.urlpattern_syntax.specs.Text.{line_feed}
 use Rattle.urlpattern_engine.specs.declared.step.Step.{Step}
 use Rattle.urlpattern_engine.specs.declared.step.Step.TheVariants.{Literal, Segment, Anything, Maybe}
+use Rattle.urlpattern_engine.specs.Failed.{EndsWith}
 use Rattle.urlpattern_engine.specs.Steps.{Gives, captured, literals, up_to_first, walk, StopAt}
-use Rattle.urlpattern_engine.specs.Taken.{IsCutFor}
-use Rattle.urlpattern_engine.proofs.AttemptLemmas.{cut_sooner, cut_whole, leaves_captured, leaves_end, leaves_missed, leaves_passed, maybe_left, passed_ends, passed_shorter}
-use Rattle.urlpattern_engine.proofs.EndLemmas.{IsTable, begins, either, place_ends, table_next}
-use Rattle.urlpattern_engine.proofs.FailedLemmas.{ends_same, place_within}
-use Rattle.urlpattern_engine.proofs.FirstLemmas.{others_place}
+use Rattle.urlpattern_engine.proofs.AttemptLemmas.{leaves_captured, leaves_end, leaves_missed, leaves_passed, maybe_left}
+use Rattle.urlpattern_engine.proofs.FirstLemmas.{passed_shorter, places}
 use Rattle.urlpattern_engine.proofs.FollowLemmas.{plus, literal_passed, end_taken}
 use Rattle.urlpattern_engine.proofs.RunLemmas.{both_ends, longest_ends, shortest_ends, shortest_none}
 use Rattle.urlpattern_engine.proofs.StepLemmas.{stop-gives}
@@ -22,39 +19,34 @@ use Rattle.urlpattern_engine.proofs.walk.Attempt.+following.Answers.RunAnswers a
 use Rattle.urlpattern_engine.proofs.walk.Attempt.+following.Answers.CopyAnswers as copies
 use Rattle.urlpattern_engine.proofs.walk.Attempt.+following.Answers.SegmentAnswers as segments
 use Rattle.urlpattern_engine.proofs.walk.Attempt.+following.Goals as goal
-use Rattle.urlpattern_engine.proofs.walk.Attempt.+following.Goals.{end_of_segments-After-ends-beginning}
 
 -- ---- the first of the steps
 
 pub follow_first-follow-requires : goal.follow_first-follow-requires
-follow_first-follow-requires n c = (
-  search rules,
-  place_within c.args.self.now.failed c.args.self.now.failed c.args.steps.now c.args.others.now (chars c.args.text.now) (chars c.in-Some.rest.now) refl c.requires.1.1.0
-      (c.args.step ∷ [], c.requires.1.1.1) (c.in-Literal.c ∷ [], c.in-Some.ensures.cut),
-)
+follow_first-follow-requires n c =
+    let first : EndsWith c.args.steps.now c.args.others.now = (c.args.step ∷ [], c.requires.1.1.1) in
+    let behind : EndsWith (chars c.args.text.now) (chars c.in-Some.rest.now) = (c.in-Literal.c ∷ [], c.in-Some.ensures.cut) in
+    search (rules, places, first, behind)
 
 pub follow_first-follow_maybe-requires : goal.follow_first-follow_maybe-requires
-follow_first-follow_maybe-requires n c = (search rules, others_place c.args.step c.args.steps.now c.args.others.now c.requires.1.1.1 c.args.self.now.failed (chars c.args.text.now) c.requires.1.1.0)
+follow_first-follow_maybe-requires n c = search (rules, places)
 
 pub follow_first-follow_longest_run-requires : goal.follow_first-follow_longest_run-requires
-follow_first-follow_longest_run-requires n c = (search rules, others_place c.args.step c.args.steps.now c.args.others.now c.requires.1.1.1 c.args.self.now.failed (chars c.args.text.now) c.requires.1.1.0)
+follow_first-follow_longest_run-requires n c = search (rules, places)
 
 pub follow_first-follow_copies-requires : goal.follow_first-follow_copies-requires
-follow_first-follow_copies-requires n c = (search rules, others_place c.args.step c.args.steps.now c.args.others.now c.requires.1.1.1 c.args.self.now.failed (chars c.args.text.now) c.requires.1.1.0)
+follow_first-follow_copies-requires n c = search (rules, places)
 
 pub follow_first-follow_segments-requires : goal.follow_first-follow_segments-requires
-follow_first-follow_segments-requires n c = (search rules, others_place c.args.step c.args.steps.now c.args.others.now c.requires.1.1.1 c.args.self.now.failed (chars c.args.text.now) c.requires.1.1.0)
+follow_first-follow_segments-requires n c = search (rules, places)
 
 -- ---- a group that may be missing
 
 pub follow_maybe-follow_on-requires : goal.follow_maybe-follow_on-requires
-follow_maybe-follow_on-requires n c =
-    let others = c.args.others.now in
-    let text = chars c.args.text.now in (
-      omega (arith, passed_shorter c.args.group.steps others c.pass.result.now c.pass.ensures),
-      place_within c.args.self.now.failed _ others c.pass.result.now text text c.in_ok-follow.ensures.whole c.requires.1.1
-          (passed_ends c.args.group.steps others c.pass.result.now c.pass.ensures) (ends_same text),
-    )
+follow_maybe-follow_on-requires n c = (
+  omega (arith, passed_shorter c.args.group.steps c.args.others.now c.pass.result.now c.pass.ensures),
+  search (rules, places, c.in_ok-follow.ensures.whole),
+)
 
 pub follow_maybe-returns : goal.follow_maybe-returns
 follow_maybe-returns n c =
@@ -131,58 +123,6 @@ follow_on-returns n c =
     let rest = c.loop-step.rest.now in
     let utf8 : IsUtf8 rest = search rules in
     leaves_end _ _ _ _ _ _ c.loop-step.invariant.leaves c.is_empty-2.result (nil_from_length c.loop-step.left.now (search rules)) (λ e. chars-empty rest (search rules)) (λ e. chars-some rest utf8 (search rules))
-
--- ---- where segments end
-
--- what is known of a place once the calls have answered
-ends_placed : (n : ℕ) (c : end_of_segments-After-ends-beginning n)
-    → let first = c.args.segments.separator.first in
-    let literal = literals c.args.literal.now in
-    let is_greedy = c.args.segments.is_greedy in
-    let end = c.args.segments.end in
-    let gives : Gives = captured (walk c.args.others.now) in
-    let text = c.args.text.now in
-    let front = chars c.loop-begun.front.now in
-    let rest = chars c.after_front-rest.result.now in
-    IsTable first literal is_greedy end gives text front rest c.deref.result.now c.loop-begun.later
-    × IsCutFor gives text c.ends-beginning.result.0 (begins first literal is_greedy end gives front rest)
-    × IsCutFor gives text c.ends-beginning.result.1 (either first literal is_greedy end gives front rest)
-ends_placed n c =
-    let so_far = c.loop-begun.invariant.so_far in
-    let utf8 : IsUtf8 c.loop-begun.front.now = search rules in
-    place_ends c.args.segments.separator.first (literals c.args.literal.now) c.args.segments.is_greedy c.args.segments.end (walk c.args.others.now) c.args.text.now c.loop-begun.front.now
-    c.after_front-rest.result.now so_far.0 c.deref.result.now c.loop-begun.begun.items c.loop-begun.later c.begun_after-next.result c.in_ok-stopping.stopping
-    c.goes_on-onward.result c.ends-beginning.result.0 c.ends-beginning.result.1 utf8 so_far.1 c.after_front-rest.ensures so_far.2 so_far.3 c.deref.ensures.value
-    c.begun_after-next.ensures.there c.begun_after-next.ensures.other c.in_ok-stopping.ensures.end c.goes_on-onward.ensures c.ends-beginning.ensures.beginning c.ends-beginning.ensures.either
-
-pub end_of_segments-returns-in_default-clause-cut : goal.end_of_segments-returns-in_default-clause-cut
-end_of_segments-returns-in_default-clause-cut n c =
-    let gives : Gives = captured (walk c.args.others.now) in
-    let text = c.args.text.now in
-    cut_whole text c.loop-begun.front.now c.after_front-rest.result.now
-    (λ front rest. IsCutFor gives text c.ends-beginning.result.0 (begins c.args.segments.separator.first (literals c.args.literal.now) c.args.segments.is_greedy c.args.segments.end gives front rest))
-    c.after_front-rest.ensures c.in_default.ensures.empty (ends_placed n ((goal.at.end_of_segments-returns-in_default-clause-cut n c).After-ends-beginning)).1
-
-pub end_of_segments-loop-begun-preserved : goal.end_of_segments-loop-begun-preserved
-end_of_segments-loop-begun-preserved n c =
-    let front = c.loop-begun.front.now in
-    let rest = c.after_front-rest.result.now in
-    let shorter = c.in-Some.shorter.now in
-    let last = c.in-Some.ensures.cut in
-    let front_utf8 : IsUtf8 shorter = search rules in
-    let further : IsUtf8 rest = search rules in
-    let ends = ends_placed n ((goal.at.end_of_segments-loop-begun-preserved n c).After-ends-beginning) in
-    let before = c.loop-begun.invariant.before in
-    record {
-      is_text = search rules;
-      so_far = cut_sooner c.args.text.now front shorter rest last.0
-          (λ r. IsTable c.args.segments.separator.first (literals c.args.literal.now) c.args.segments.is_greedy c.args.segments.end (captured (walk c.args.others.now)) c.args.text.now (chars shorter) r c.push.new.self.items c.ends-beginning.result.1)
-          last.1 further c.after_front-rest.ensures last.2
-          (table_next c.args.segments.separator.first (literals c.args.literal.now) c.args.segments.is_greedy c.args.segments.end (captured (walk c.args.others.now)) c.args.text.now front shorter rest last.0
-          c.deref.result.now c.push.new.self.items c.loop-begun.later c.ends-beginning.result.0 c.ends-beginning.result.1
-          front_utf8 further last.1 (IsUtf8-encode last.0 last.1) last.2 (c.in_ok-push.ensures.items ∙ ap (λ t. t ++ c.ends-beginning.result.0 ∷ []) (sym c.deref.ensures.value)) ends.0 ends.1 ends.2);
-      before = record { same = c.in_ok-stopping.ensures.same.same ∙ before.same; whole = c.in_ok-stopping.ensures.same.whole ∙ before.whole };
-    }
 
 -- ---- runs
 
@@ -306,3 +246,9 @@ end_of_segments-end_here-requires = segments.end_of_segments-end_here-requires
 
 pub end_of_segments-loop-begun-init : goal.end_of_segments-loop-begun-init
 end_of_segments-loop-begun-init = segments.end_of_segments-loop-begun-init
+
+pub end_of_segments-returns-in_default-clause-cut : goal.end_of_segments-returns-in_default-clause-cut
+end_of_segments-returns-in_default-clause-cut = segments.end_of_segments-returns-in_default-clause-cut
+
+pub end_of_segments-loop-begun-preserved : goal.end_of_segments-loop-begun-preserved
+end_of_segments-loop-begun-preserved = segments.end_of_segments-loop-begun-preserved

@@ -1,32 +1,27 @@
 -- The answers for copies of a text.
-use Rattle.std.proofs.Common.{◌≡◌, ◌++◌, [], refl, sym, ap, ◌∙◌, append_assoc, arith, rules}
+use Rattle.std.proofs.Common.{◌≡◌, ◌++◌, [], sym, ap, ◌∙◌, append_assoc, arith, rules}
 use Rattle.std.proofs.lemmas.List.{append_cancel_left, append_cancel_right}
 use Rattle.std.proofs.lemmas.Str.{IsUtf8-append}
 use Rattle.std.specs.Str.{chars, IsUtf8}
+use Rattle.urlpattern_engine.specs.Failed.{EndsWith}
 use Rattle.urlpattern_engine.specs.Steps.{literal_text, walk_copies, after_text, any_rounds, copies_of, literals, walk}
-use Rattle.urlpattern_engine.proofs.AttemptLemmas.{follows_later, follows_missed, follows_none, follows_taken, follows_untouched, passed_ends, passed_shorter, untouched-same}
+use Rattle.urlpattern_engine.proofs.AttemptLemmas.{follows_later, follows_missed, follows_none, follows_taken, follows_untouched, untouched-same}
 use Rattle.urlpattern_engine.proofs.CopyLemmas.{copies_any, copies_fewer, copies_none, copies_some, copy_shrinks, fewer-found, no_copy_left}
-use Rattle.urlpattern_engine.proofs.FailedLemmas.{ends_same, place_within}
 use Rattle.urlpattern_engine.proofs.FollowLemmas.{bytes_join}
 use Rattle.urlpattern_engine.proofs.Tried.{Next}
-use Rattle.urlpattern_engine.proofs.FirstLemmas.{rest_place}
+use Rattle.urlpattern_engine.proofs.FirstLemmas.{passed_shorter, places}
 use Rattle.urlpattern_engine.proofs.walk.Attempt.+following.Goals as goal
 
 pub follow_copies-follow_any_copies-requires : goal.follow_copies-follow_any_copies-requires
 follow_copies-follow_any_copies-requires n c = (
   omega (arith, passed_shorter c.args.copies.text.others c.args.steps.now c.pass-others.result.now c.pass-others.ensures),
-  search (rules, place_within, passed_ends, ends_same),
+  search (rules, places),
 )
 
 pub follow_copies-follow_any_copies-requires-in-Some : goal.follow_copies-follow_any_copies-requires-in-Some
 follow_copies-follow_any_copies-requires-in-Some n c =
-    let count = c.args.copies.text.others in
-    let steps = c.args.steps.now in
-    let others = c.pass-others.result.now in (
-      omega (arith, passed_shorter count steps others c.pass-others.ensures),
-      place_within c.args.self.now.failed c.args.self.now.failed steps others (chars c.args.text.now) (chars c.in-Some.rest.now) refl c.requires.1.1 (passed_ends count steps others c.pass-others.ensures)
-          (literal_text c.args.copies.text.first c.first_steps-literal.result.now, c.in-Some.ensures.cut),
-    )
+    let behind : EndsWith (chars c.args.text.now) (chars c.in-Some.rest.now) = (literal_text c.args.copies.text.first c.first_steps-literal.result.now, c.in-Some.ensures.cut) in
+    (omega (arith, passed_shorter c.args.copies.text.others c.args.steps.now c.pass-others.result.now c.pass-others.ensures), search (rules, places, behind))
 
 pub follow_copies-returns-then-copies : goal.follow_copies-returns-then-copies
 follow_copies-returns-then-copies n c =
@@ -77,13 +72,7 @@ pub follow_any_copies-after_front-requires : goal.follow_any_copies-after_front-
 follow_any_copies-after_front-requires n c = let so_far = c.loop-shorter.invariant.so_far in (so_far.0, so_far.1, so_far.2)
 
 pub follow_any_copies-follow-requires : goal.follow_any_copies-follow-requires
-follow_any_copies-follow-requires n c =
-    let front = c.loop-shorter.front.now in
-    let utf8 : IsUtf8 front = search rules in (
-      search rules,
-      rest_place c.args.self.now.failed c.loop-shorter.self.failed c.args.others.now c.args.others.now c.args.text.now front c.after_front.result.now c.loop-shorter.invariant.before.whole c.requires.1.1
-          (ends_same c.args.others.now) utf8 c.after_front.ensures,
-    )
+follow_any_copies-follow-requires n c = search (rules, places)
 
 pub follow_any_copies-returns-then-branch : goal.follow_any_copies-returns-then-branch
 follow_any_copies-returns-then-branch n c =

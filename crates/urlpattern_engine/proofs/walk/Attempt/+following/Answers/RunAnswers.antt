@@ -1,22 +1,22 @@
 -- The answers for runs of characters.
-use Rattle.std.proofs.Common.{◌≡◌, ◌∷◌, ◌++◌, [], length, sym, ap, ◌∙◌, subst, rules}
-use Rattle.std.proofs.lemmas.List.{append_cancel_left}
-use Rattle.std.proofs.lemmas.Str.{chars-append, IsUtf8-encode}
+use Rattle.std.proofs.Common.{◌≡◌, ℕ, ◌∷◌, ◌++◌, [], None, length, sym, ap, ◌∙◌, subst, rules}
+use Rattle.std.proofs.lemmas.Str.{IsUtf8-encode}
 use Rattle.std.specs.Option.{option_or}
 use Rattle.std.specs.Str.{chars, IsUtf8}
 use Rattle.urlpattern_syntax.proofs.TextLemmas.{chars-empty}
 use Rattle.urlpattern_syntax.specs.Text.{line_feed}
-use Rattle.urlpattern_engine.specs.declared.step.Step.TheVariants.{Segment, Anything, Longest}
-use Rattle.urlpattern_engine.specs.Failed.{HasEnded}
+use Rattle.urlpattern_engine.specs.declared.step.Step.TheVariants.{Anything, Longest}
+use Rattle.urlpattern_engine.specs.Failed.{EndsWith, HasEnded}
 use Rattle.urlpattern_engine.specs.Steps.{Gives, captured, longest, shortest, up_to_first, walk}
+use Rattle.urlpattern_engine.specs.Taken.{Untouched}
 use Rattle.urlpattern_engine.proofs.AttemptLemmas.{cut_sooner, follows_later, follows_missed, follows_none, follows_taken, follows_untouched, untouched-same}
-use Rattle.urlpattern_engine.proofs.FailedLemmas.{ends_same, place_within}
 use Rattle.urlpattern_engine.proofs.FallingLemmas.{falling, falling-found, front_shrinks}
 use Rattle.urlpattern_engine.proofs.FollowLemmas.{bytes_join, last_passed, longest_dead, longest_missed, longest_taken, run_ended, run_passed, shortest_grown}
-use Rattle.urlpattern_engine.proofs.LongestLemmas.{at_least, at_least_some, falling_empty, falling_none, front_some, longest_run_falling}
+use Rattle.urlpattern_engine.proofs.LongestLemmas.{at_least, falling_empty, falling_none, front_given, longest_run_falling}
 use Rattle.urlpattern_engine.proofs.RunLemmas.{both_ends, lacks_less, longest_ended, longest_shorter}
-use Rattle.urlpattern_engine.proofs.FirstLemmas.{rest_place}
+use Rattle.urlpattern_engine.proofs.FirstLemmas.{places}
 use Rattle.urlpattern_engine.proofs.walk.Attempt.+following.Goals as goal
+use Rattle.urlpattern_engine.proofs.walk.Attempt.+following.Goals.{follow_longest-Else-branch, follow_longest_run-After-follow_captured}
 
 -- ---- the longest front
 
@@ -32,55 +32,48 @@ follow_longest-loop-self-init n c =
 
 pub follow_longest-follow_captured-requires : goal.follow_longest-follow_captured-requires
 follow_longest-follow_captured-requires n c =
-    let front = c.loop-self.front.now in
-    let utf8 : IsUtf8 front = search rules in (
-      search rules,
-      rest_place c.args.self.now.failed c.loop-self.self.failed c.args.steps.now c.args.others.now c.args.text.now front c.after_front-rest.result.now c.loop-self.invariant.before.whole c.requires.1.1.0
-          (Anything ∷ [], c.requires.1.1.1) utf8 c.after_front-rest.ensures,
-    )
+    let first : EndsWith c.args.steps.now c.args.others.now = (Anything ∷ [], c.requires.1.1.1) in
+    search (rules, places, first)
 
 pub follow_longest-returns-then-branch : goal.follow_longest-returns-then-branch
 follow_longest-returns-then-branch n c =
-    let text = c.args.text.now in
     let front = c.loop-self.front.now in
-    let rest = c.after_front-rest.result.now in
-    let gives : Gives = captured (walk c.args.others.now) in
     let so_far = c.loop-self.invariant.so_far in
-    let same : rest ≡ so_far.0 = append_cancel_left front rest so_far.0 (sym c.after_front-rest.ensures ∙ so_far.2) in
     let utf8 : IsUtf8 front = search rules in
-    let no_longer : longest line_feed gives (chars front) (chars rest) ≡ gives (chars front) (chars rest) = rw same so_far.3.1 in
-    follows_taken c.args.self.now c.loop-self.self c.follow_captured.new.self _ (gives (chars front) (chars rest)) (walk c.args.steps.now (chars text)) c.loop-self.invariant.before c.if-branch.true
-    c.in_ok-follow_captured.ensures
-    (λ found some. longest_taken c.args.steps.now c.args.others.now c.requires.1.1.1 (chars text) (chars front) (chars rest) found
-    (ap chars c.after_front-rest.ensures ∙ chars-append front rest utf8) so_far.3.0 no_longer some)
+    follows_taken c.args.self.now c.loop-self.self c.follow_captured.new.self _ _ _ c.loop-self.invariant.before c.if-branch.true c.in_ok-follow_captured.ensures
+    (λ found some. longest_taken c.args.steps.now c.args.others.now c.requires.1.1.1 c.args.text.now front c.after_front-rest.result.now so_far.0 found utf8 c.after_front-rest.ensures so_far.2 so_far.3.0 so_far.3.1
+    some)
+
+-- this front does not lead on, and none that is longer
+longest_none : (n : ℕ) (c : follow_longest-Else-branch n)
+    → longest line_feed (captured (walk c.args.others.now)) (chars c.loop-self.front.now) (chars c.after_front-rest.result.now) ≡ None
+longest_none n c =
+    let so_far = c.loop-self.invariant.so_far in
+    longest_missed c.args.others.now c.args.text.now c.loop-self.front.now c.after_front-rest.result.now so_far.0 c.loop-self.self.captures.items c.follow_captured.new.self.captures.items _
+    c.after_front-rest.ensures so_far.2 so_far.3.1 c.if-branch.false c.in_ok-follow_captured.ensures.adds
+
+longest_untouched : (n : ℕ) (c : follow_longest-Else-branch n) → Untouched c.args.self.now c.follow_captured.new.self
+longest_untouched n c = follows_untouched c.args.self.now c.loop-self.self c.follow_captured.new.self _ _ c.loop-self.invariant.before c.if-branch.false c.in_ok-follow_captured.ensures
 
 pub follow_longest-insert-requires-clause-place : goal.follow_longest-insert-requires-clause-place
 follow_longest-insert-requires-clause-place n c =
-    let front = c.loop-self.front.now in
-    let utf8 : IsUtf8 front = search rules in
-    rest_place c.args.self.now.failed c.follow_captured.new.self.failed c.args.steps.now c.args.steps.now c.args.text.now front c.after_front-rest.result.now
-    (c.in_ok-follow_captured.ensures.whole ∙ c.loop-self.invariant.before.whole) c.requires.1.1.0 (ends_same c.args.steps.now) utf8 c.after_front-rest.ensures
+    let before = longest_untouched n ((goal.at.follow_longest-insert-requires-clause-place n c).Else-branch) in
+    search (rules, places, before)
 
 pub follow_longest-insert-requires-clause-dead : goal.follow_longest-insert-requires-clause-dead
 follow_longest-insert-requires-clause-dead n c =
-    let front = c.loop-self.front.now in
-    let rest = c.after_front-rest.result.now in
-    let so_far = c.loop-self.invariant.so_far in
-    longest_dead c.args.steps.now c.args.others.now c.requires.1.1.1 (chars front) (chars rest)
-    (longest_missed c.args.others.now c.args.text.now front rest so_far.0 c.loop-self.self.captures.items c.follow_captured.new.self.captures.items _ c.after_front-rest.ensures so_far.2 so_far.3.1
-    c.if-branch.false c.in_ok-follow_captured.ensures.adds)
+    longest_dead c.args.steps.now c.args.others.now c.requires.1.1.1 (chars c.loop-self.front.now) (chars c.after_front-rest.result.now)
+    (longest_none n ((goal.at.follow_longest-insert-requires-clause-dead n c).Else-branch))
 
 pub follow_longest-returns-in_default : goal.follow_longest-returns-in_default
 follow_longest-returns-in_default n c =
     let front = c.loop-self.front.now in
     let rest = c.after_front-rest.result.now in
-    let so_far = c.loop-self.invariant.so_far in
-    let none = longest_missed c.args.others.now c.args.text.now front rest so_far.0 c.loop-self.self.captures.items c.follow_captured.new.self.captures.items _ c.after_front-rest.ensures so_far.2 so_far.3.1
-    c.if-branch.false c.in_ok-follow_captured.ensures.adds in
+    let missed = (goal.at.follow_longest-returns-in_default n c).Else-branch in
+    let before = longest_untouched n missed in
     let whole : c.args.text.now ≡ rest = c.after_front-rest.ensures ∙ ap (λ f. f ++ rest) c.in_default.ensures.empty in
-    let before = follows_untouched c.args.self.now c.loop-self.self c.follow_captured.new.self _ _ c.loop-self.invariant.before c.if-branch.false c.in_ok-follow_captured.ensures in
     follows_missed c.args.self.now _ _ (record { same = before.same; whole = c.insert.ensures ∙ before.whole })
-    (ap (λ t. walk c.args.steps.now (chars t)) whole ∙ longest_dead c.args.steps.now c.args.others.now c.requires.1.1.1 (chars front) (chars rest) none)
+    (ap (λ t. walk c.args.steps.now (chars t)) whole ∙ longest_dead c.args.steps.now c.args.others.now c.requires.1.1.1 (chars front) (chars rest) (longest_none n missed))
 
 pub follow_longest-loop-self-preserved : goal.follow_longest-loop-self-preserved
 follow_longest-loop-self-preserved n c =
@@ -89,21 +82,20 @@ follow_longest-loop-self-preserved n c =
     let rest = c.after_front-rest.result.now in
     let gives : Gives = captured (walk c.args.others.now) in
     let so_far = c.loop-self.invariant.so_far in
-    let none = longest_missed c.args.others.now c.args.text.now front rest so_far.0 c.loop-self.self.captures.items c.follow_captured.new.self.captures.items _ c.after_front-rest.ensures so_far.2 so_far.3.1
-    c.if-branch.false c.in_ok-follow_captured.ensures.adds in
+    let missed = (goal.at.follow_longest-loop-self-preserved n c).Else-branch in
+    let before = longest_untouched n missed in
     let last = c.in-Some.ensures.cut in
     let utf8 : IsUtf8 shorter = search rules in
     let after : IsUtf8 rest = search rules in
     let passed = last_passed front shorter rest last.0 utf8 after last.1 (IsUtf8-encode last.0 last.1) last.2 in
     let less = lacks_less line_feed (chars shorter) last.0 (subst (λ f. up_to_first line_feed f ≡ f) passed.0 so_far.3.0) in
-    let before = follows_untouched c.args.self.now c.loop-self.self c.follow_captured.new.self _ _ c.loop-self.invariant.before c.if-branch.false c.in_ok-follow_captured.ensures in
     record {
       is_text = search rules;
       so_far = cut_sooner c.args.text.now front shorter rest last.0
           (λ r. (up_to_first line_feed (chars shorter) ≡ chars shorter) × (longest line_feed gives (chars shorter) r ≡ gives (chars shorter) r)) last.1 after c.after_front-rest.ensures last.2 (
             less.0,
             subst (λ r. longest line_feed gives (chars shorter) r ≡ gives (chars shorter) r) (sym passed.1)
-                (longest_shorter line_feed gives (chars shorter) last.0 (chars rest) less.1 (ap (λ f. longest line_feed gives f (chars rest)) (sym passed.0) ∙ none)),
+                (longest_shorter line_feed gives (chars shorter) last.0 (chars rest) less.1 (ap (λ f. longest line_feed gives f (chars rest)) (sym passed.0) ∙ longest_none n missed)),
           );
       before = record { same = before.same; whole = c.insert.ensures ∙ before.whole };
     }
@@ -112,10 +104,9 @@ follow_longest-loop-self-preserved n c =
 
 pub follow_shortest-next_of_run-requires : goal.follow_shortest-next_of_run-requires
 follow_shortest-next_of_run-requires n c =
-    let steps = c.args.steps.now in
     let so_far = c.loop-remaining.invariant.so_far in
-    place_within c.args.self.now.failed c.loop-remaining.self.failed steps steps (chars c.args.text.now) (chars c.loop-remaining.rest.now) c.loop-remaining.invariant.before.whole c.requires.1.1.0
-    (ends_same steps) (so_far.0, so_far.1)
+    let ends : EndsWith (chars c.args.text.now) (chars c.loop-remaining.rest.now) = (so_far.0, so_far.1) in
+    search (rules, places, ends)
 
 pub follow_shortest-before-requires : goal.follow_shortest-before-requires
 follow_shortest-before-requires n c =
@@ -126,12 +117,11 @@ follow_shortest-before-requires n c =
 pub follow_shortest-follow_captured-requires : goal.follow_shortest-follow_captured-requires
 follow_shortest-follow_captured-requires n c =
     let so_far = c.loop-remaining.invariant.so_far in
+    let d = c.in-Some.field-0-0 in
     let text = chars c.args.text.now in
-    let remaining = chars c.in-Some.remaining.now in (
-      search rules,
-      place_within c.args.self.now.failed c.loop-remaining.self.failed c.args.steps.now c.args.others.now text remaining c.loop-remaining.invariant.before.whole c.requires.1.1.0
-          (Segment c.args.end ∷ [], c.requires.1.1.1) (so_far.0 ++ c.in-Some.field-0-0 ∷ [], run_passed so_far.0 text (chars c.loop-remaining.rest.now) c.in-Some.field-0-0 remaining so_far.1 c.in-Some.ensures.cut),
-    )
+    let remaining = chars c.in-Some.remaining.now in
+    let ends : EndsWith text remaining = (so_far.0 ++ d ∷ [], run_passed so_far.0 text (chars c.loop-remaining.rest.now) d remaining so_far.1 c.in-Some.ensures.cut) in
+    search (rules, places, ends)
 
 pub follow_shortest-returns-then-branch : goal.follow_shortest-returns-then-branch
 follow_shortest-returns-then-branch n c =
@@ -203,59 +193,47 @@ pub follow_longest_run-after_front-rest-requires : goal.follow_longest_run-after
 follow_longest_run-after_front-rest-requires n c = let so_far = c.loop-shorter.invariant.so_far in (so_far.0, so_far.1, so_far.2)
 
 pub follow_longest_run-follow_captured-requires : goal.follow_longest_run-follow_captured-requires
-follow_longest_run-follow_captured-requires n c =
-    let front = c.loop-shorter.front.now in
-    let utf8 : IsUtf8 front = search rules in (
-      search rules,
-      rest_place c.args.self.now.failed c.loop-shorter.self.failed c.args.steps.now c.args.steps.now c.args.text.now front c.after_front-rest.result.now c.loop-shorter.invariant.before.whole c.requires.1.1
-          (ends_same c.args.steps.now) utf8 c.after_front-rest.ensures,
-    )
+follow_longest_run-follow_captured-requires n c = search (rules, places)
+
+-- a front that is not empty gives what it may give
+run_given : (n : ℕ) (c : follow_longest_run-After-follow_captured n)
+    → let gives : Gives = captured (walk c.args.steps.now) in
+    let front = chars c.loop-shorter.front.now in
+    at_least c.args.run.may_be_empty gives front (chars c.loop-shorter.invariant.so_far.0) ≡ gives front (chars c.after_front-rest.result.now)
+run_given n c =
+    let so_far = c.loop-shorter.invariant.so_far in
+    let last = c.in-Some.ensures.cut in
+    let utf8 : IsUtf8 c.in-Some.shorter.now = search rules in
+    front_given c.args.run.may_be_empty (captured (walk c.args.steps.now)) c.args.text.now c.loop-shorter.front.now c.in-Some.shorter.now c.after_front-rest.result.now so_far.0 last.0 utf8 last.1 last.2
+    c.after_front-rest.ensures so_far.2
 
 pub follow_longest_run-returns-then-branch : goal.follow_longest_run-returns-then-branch
 follow_longest_run-returns-then-branch n c =
-    let may_be_empty = c.args.run.may_be_empty in
-    let front = c.loop-shorter.front.now in
-    let left = c.after_front-rest.result.now in
-    let gives : Gives = captured (walk c.args.steps.now) in
     let so_far = c.loop-shorter.invariant.so_far in
-    let rest : left ≡ so_far.0 = append_cancel_left front left so_far.0 (sym c.after_front-rest.ensures ∙ so_far.2) in
-    let last = c.in-Some.ensures.cut in
-    let utf8 : IsUtf8 c.in-Some.shorter.now = search rules in
-    let some_front = front_some front c.in-Some.shorter.now last.0 utf8 last.1 last.2 in
-    follows_taken c.args.self.now c.loop-shorter.self c.follow_captured.new.self _ (gives (chars front) (chars left))
-    (walk (Longest c.args.run ∷ c.args.steps.now) (chars c.args.text.now)) c.loop-shorter.invariant.before c.if-branch.true c.in_ok-follow_captured.ensures
-    (λ found some. so_far.3 ∙ falling-found (at_least may_be_empty gives) [] (chars front) (chars so_far.0) found
-    (at_least_some may_be_empty gives (chars front) (chars so_far.0) some_front ∙ ap (λ r. gives (chars front) (chars r)) (sym rest) ∙ some))
+    follows_taken c.args.self.now c.loop-shorter.self c.follow_captured.new.self _ _ _ c.loop-shorter.invariant.before c.if-branch.true c.in_ok-follow_captured.ensures
+    (λ found some. so_far.3 ∙ falling-found (at_least c.args.run.may_be_empty (captured (walk c.args.steps.now))) [] (chars c.loop-shorter.front.now) (chars so_far.0) found
+    (run_given n ((goal.at.follow_longest_run-returns-then-branch n c).After-follow_captured) ∙ some))
 
 pub follow_longest_run-loop-shorter-preserved : goal.follow_longest_run-loop-shorter-preserved
 follow_longest_run-loop-shorter-preserved n c =
-    let may_be_empty = c.args.run.may_be_empty in
     let front = c.loop-shorter.front.now in
     let shorter = c.in-Some.shorter.now in
-    let left = c.after_front-rest.result.now in
-    let gives : Gives = captured (walk c.args.steps.now) in
+    let tries : Gives = at_least c.args.run.may_be_empty (captured (walk c.args.steps.now)) in
     let so_far = c.loop-shorter.invariant.so_far in
-    let rest : left ≡ so_far.0 = append_cancel_left front left so_far.0 (sym c.after_front-rest.ensures ∙ so_far.2) in
     let last = c.in-Some.ensures.cut in
     let utf8 : IsUtf8 shorter = search rules in
-    let some = front_some front shorter last.0 utf8 last.1 last.2 in
-    let none = follows_none c.loop-shorter.self c.follow_captured.new.self _ (gives (chars front) (chars left)) c.if-branch.false c.in_ok-follow_captured.ensures in
+    let none = follows_none c.loop-shorter.self c.follow_captured.new.self _ _ c.if-branch.false c.in_ok-follow_captured.ensures in
     record {
       is_text = search rules;
       so_far = cut_sooner c.args.text.now front shorter so_far.0 last.0
-          (λ r. walk (Longest c.args.run ∷ c.args.steps.now) (chars c.args.text.now) ≡ falling (at_least may_be_empty gives) [] (chars shorter) r) last.1 so_far.1 so_far.2 last.2
-          (so_far.3 ∙ front_shrinks (at_least may_be_empty gives) front shorter so_far.0 last.0 utf8 so_far.1 last.1 (IsUtf8-encode last.0 last.1) last.2
-          (at_least_some may_be_empty gives (chars front) (chars so_far.0) some ∙ ap (λ r. gives (chars front) (chars r)) (sym rest) ∙ none));
+          (λ r. walk (Longest c.args.run ∷ c.args.steps.now) (chars c.args.text.now) ≡ falling tries [] (chars shorter) r) last.1 so_far.1 so_far.2 last.2
+          (so_far.3 ∙ front_shrinks tries front shorter so_far.0 last.0 utf8 so_far.1 last.1 (IsUtf8-encode last.0 last.1) last.2
+          (run_given n ((goal.at.follow_longest_run-loop-shorter-preserved n c).After-follow_captured) ∙ none));
       before = follows_untouched c.args.self.now c.loop-shorter.self c.follow_captured.new.self _ _ c.loop-shorter.invariant.before c.if-branch.false c.in_ok-follow_captured.ensures;
     }
 
 pub follow_longest_run-follow_captured-requires-then-run : goal.follow_longest_run-follow_captured-requires-then-run
-follow_longest_run-follow_captured-requires-then-run n c =
-    let text = chars c.args.text.now in (
-      search rules,
-      place_within c.args.self.now.failed c.loop-shorter.self.failed c.args.steps.now c.args.steps.now text text c.loop-shorter.invariant.before.whole c.requires.1.1
-          (ends_same c.args.steps.now) (ends_same text),
-    )
+follow_longest_run-follow_captured-requires-then-run n c = search (rules, places)
 
 pub follow_longest_run-returns-then-run : goal.follow_longest_run-returns-then-run
 follow_longest_run-returns-then-run n c =

@@ -1,73 +1,42 @@
 -- The answers for segments with a text between each two.
-use Rattle.std.proofs.Common.{◌≡◌, ◌∷◌, [], Some, None, refl, sym, ap, ◌∙◌, subst, arith, rules}
+use Rattle.std.proofs.Common.{ℕ, ◌∷◌, ◌++◌, [], None, sym, ap, ◌∙◌, subst, arith, rules}
+use Rattle.std.proofs.lemmas.Str.{IsUtf8-encode}
 use Rattle.std.specs.Str.{chars, IsUtf8}
-use Rattle.urlpattern_engine.specs.Steps.{Gives, captured, literals, segmented, single_run, walk}
+use Rattle.urlpattern_engine.specs.Steps.{Gives, captured, literals, walk}
 use Rattle.urlpattern_engine.specs.Taken.{IsCutFor}
-use Rattle.urlpattern_engine.proofs.AttemptLemmas.{IsCut, cut_end, follows_later, follows_missed, passed_ends, passed_shorter, untouched-same}
-use Rattle.urlpattern_engine.proofs.EndLemmas.{IsTable, same_fronts, segments_step, table_begun}
-use Rattle.urlpattern_engine.proofs.FailedLemmas.{ends_same, place_within}
-use Rattle.urlpattern_engine.proofs.FirstLemmas.{rest_place}
+use Rattle.urlpattern_engine.proofs.AttemptLemmas.{IsCut, cut_end, cut_sooner, cut_whole, follows_later, follows_missed, untouched-same}
+use Rattle.urlpattern_engine.proofs.EndLemmas.{IsTable, begins, either, place_ends, segments_none, segments_some, table_begun, table_next}
+use Rattle.urlpattern_engine.proofs.FirstLemmas.{passed_shorter, places}
 use Rattle.urlpattern_engine.proofs.walk.Attempt.+following.Goals as goal
+use Rattle.urlpattern_engine.proofs.walk.Attempt.+following.Goals.{end_of_segments-After-ends-beginning}
 
 pub follow_segments-end_of_segments-requires : goal.follow_segments-end_of_segments-requires
-follow_segments-end_of_segments-requires n c =
-    let count = c.args.segments.separator.others in
-    let steps = c.args.steps.now in
-    let others = c.pass-others.result.now in
-    let text = chars c.args.text.now in (
-      omega (arith, passed_shorter count steps others c.pass-others.ensures),
-      place_within c.args.self.now.failed c.args.self.now.failed steps others text text refl c.requires.1.1 (passed_ends count steps others c.pass-others.ensures) (ends_same text),
-    )
+follow_segments-end_of_segments-requires n c = (
+  omega (arith, passed_shorter c.args.segments.separator.others c.args.steps.now c.pass-others.result.now c.pass-others.ensures),
+  search (rules, places),
+)
 
 pub follow_segments-follow_captured-requires : goal.follow_segments-follow_captured-requires
-follow_segments-follow_captured-requires n c =
-    let count = c.args.segments.separator.others in
-    let steps = c.args.steps.now in
-    let others = c.pass-others.result.now in
-    let front = c.split_at_seam.result.0.now in
-    let utf8 : IsUtf8 front = search rules in (
-      omega (arith, passed_shorter count steps others c.pass-others.ensures),
-      rest_place c.args.self.now.failed c.end_of_segments.new.self.failed steps others c.args.text.now front c.split_at_seam.result.1.now c.in_ok-count.ensures.same.whole c.requires.1.1
-          (passed_ends count steps others c.pass-others.ensures) utf8 c.split_at_seam.ensures.cut,
-    )
+follow_segments-follow_captured-requires n c = (
+  omega (arith, passed_shorter c.args.segments.separator.others c.args.steps.now c.pass-others.result.now c.pass-others.ensures),
+  search (rules, places, c.in_ok-count.ensures.same),
+)
 
 pub follow_segments-returns-in-Some : goal.follow_segments-returns-in-Some
 follow_segments-returns-in-Some n c =
-    let segments = c.args.segments in
-    let literal = c.first_steps-literal.result.now in
-    let others = c.pass-others.result.now in
-    let text = c.args.text.now in
-    let front = c.split_at_seam.result.0.now in
-    let rest = c.split_at_seam.result.1.now in
-    let gives : Gives = captured (walk others) in
-    let found = segmented (segments.separator.first ∷ literals literal) (single_run segments.is_greedy segments.end) gives [] (chars text) in
-    let cut : IsCutFor gives text (Some c.in-Some.count) found = subst (λ o. IsCutFor gives text o found) c.in-Some.is c.in_ok-count.ensures.cut in
-    let parts = same_fronts front rest cut.0 cut.1 (sym c.split_at_seam.ensures.cut ∙ cut.4) (c.split_at_seam.ensures.count ∙ sym cut.5) in
-    follows_later c.args.self.now c.end_of_segments.new.self c.follow_captured.new.self _ (gives (chars front) (chars rest)) c.follow_captured.result c.in_ok-count.ensures.same
-    (segments_step segments c.args.steps.now literal others (chars text) c.first_steps-literal.ensures c.pass-others.ensures
-    ∙ cut.6 ∙ ap (λ f. gives (chars f) (chars cut.1)) (sym parts.0) ∙ ap (λ r. gives (chars front) (chars r)) (sym parts.1))
+    follows_later c.args.self.now c.end_of_segments.new.self c.follow_captured.new.self _ _ c.follow_captured.result c.in_ok-count.ensures.same
+    (segments_some c.args.segments c.args.steps.now c.first_steps-literal.result.now c.pass-others.result.now c.args.text.now c.first_steps-literal.ensures c.pass-others.ensures _ c.in-Some.count
+    c.split_at_seam.result.0.now c.split_at_seam.result.1.now c.in_ok-count.ensures.cut c.in-Some.is c.split_at_seam.ensures.cut c.split_at_seam.ensures.count)
     c.follow_captured.ensures
 
 pub follow_segments-returns-in-None : goal.follow_segments-returns-in-None
 follow_segments-returns-in-None n c =
-    let segments = c.args.segments in
-    let literal = c.first_steps-literal.result.now in
-    let others = c.pass-others.result.now in
-    let text = c.args.text.now in
-    let gives : Gives = captured (walk others) in
-    let found = segmented (segments.separator.first ∷ literals literal) (single_run segments.is_greedy segments.end) gives [] (chars text) in
-    let none : found ≡ None = subst (λ o. IsCutFor gives text o found) c.in-None.is c.in_ok-count.ensures.cut in
     follows_missed c.args.self.now c.end_of_segments.new.self _ c.in_ok-count.ensures.same
-    (segments_step segments c.args.steps.now literal others (chars text) c.first_steps-literal.ensures c.pass-others.ensures ∙ none)
+    (segments_none c.args.segments c.args.steps.now c.first_steps-literal.result.now c.pass-others.result.now c.args.text.now c.first_steps-literal.ensures c.pass-others.ensures _
+    c.in_ok-count.ensures.cut c.in-None.is)
 
 pub end_of_segments-end_here-requires : goal.end_of_segments-end_here-requires
-end_of_segments-end_here-requires n c =
-    let front = c.loop-begun.front.now in
-    let utf8 : IsUtf8 front = search rules in (
-      search rules,
-      rest_place c.args.self.now.failed c.loop-begun.self.failed c.args.others.now c.args.others.now c.args.text.now front c.after_front-rest.result.now c.loop-begun.invariant.before.whole c.requires.1.1
-          (ends_same c.args.others.now) utf8 c.after_front-rest.ensures,
-    )
+end_of_segments-end_here-requires n c = search (rules, places)
 
 pub end_of_segments-loop-begun-init : goal.end_of_segments-loop-begun-init
 end_of_segments-loop-begun-init n c =
@@ -82,4 +51,54 @@ end_of_segments-loop-begun-init n c =
       so_far = subst (λ t. IsCut text text (λ r. IsTable first literal is_greedy end gives text (chars text) r t None)) (sym c.in_ok-begun.ensures.items)
           (cut_end text (λ r. IsTable first literal is_greedy end gives text (chars text) r [] None) (table_begun first literal is_greedy end gives text (chars text)));
       before = untouched-same c.args.self.now;
+    }
+
+-- what is known of a place once the calls have answered
+ends_placed : (n : ℕ) (c : end_of_segments-After-ends-beginning n)
+    → let first = c.args.segments.separator.first in
+    let literal = literals c.args.literal.now in
+    let is_greedy = c.args.segments.is_greedy in
+    let end = c.args.segments.end in
+    let gives : Gives = captured (walk c.args.others.now) in
+    let text = c.args.text.now in
+    let front = chars c.loop-begun.front.now in
+    let rest = chars c.after_front-rest.result.now in
+    IsTable first literal is_greedy end gives text front rest c.deref.result.now c.loop-begun.later
+    × IsCutFor gives text c.ends-beginning.result.0 (begins first literal is_greedy end gives front rest)
+    × IsCutFor gives text c.ends-beginning.result.1 (either first literal is_greedy end gives front rest)
+ends_placed n c =
+    let so_far = c.loop-begun.invariant.so_far in
+    let utf8 : IsUtf8 c.loop-begun.front.now = search rules in
+    place_ends c.args.segments.separator.first (literals c.args.literal.now) c.args.segments.is_greedy c.args.segments.end (walk c.args.others.now) c.args.text.now c.loop-begun.front.now
+    c.after_front-rest.result.now so_far.0 c.deref.result.now c.loop-begun.begun.items c.loop-begun.later c.begun_after-next.result c.in_ok-stopping.stopping
+    c.goes_on-onward.result c.ends-beginning.result.0 c.ends-beginning.result.1 utf8 so_far.1 c.after_front-rest.ensures so_far.2 so_far.3 c.deref.ensures.value
+    c.begun_after-next.ensures.there c.begun_after-next.ensures.other c.in_ok-stopping.ensures.end c.goes_on-onward.ensures c.ends-beginning.ensures.beginning c.ends-beginning.ensures.either
+
+pub end_of_segments-returns-in_default-clause-cut : goal.end_of_segments-returns-in_default-clause-cut
+end_of_segments-returns-in_default-clause-cut n c =
+    let gives : Gives = captured (walk c.args.others.now) in
+    let text = c.args.text.now in
+    cut_whole text c.loop-begun.front.now c.after_front-rest.result.now
+    (λ front rest. IsCutFor gives text c.ends-beginning.result.0 (begins c.args.segments.separator.first (literals c.args.literal.now) c.args.segments.is_greedy c.args.segments.end gives front rest))
+    c.after_front-rest.ensures c.in_default.ensures.empty (ends_placed n ((goal.at.end_of_segments-returns-in_default-clause-cut n c).After-ends-beginning)).1
+
+pub end_of_segments-loop-begun-preserved : goal.end_of_segments-loop-begun-preserved
+end_of_segments-loop-begun-preserved n c =
+    let front = c.loop-begun.front.now in
+    let rest = c.after_front-rest.result.now in
+    let shorter = c.in-Some.shorter.now in
+    let last = c.in-Some.ensures.cut in
+    let front_utf8 : IsUtf8 shorter = search rules in
+    let further : IsUtf8 rest = search rules in
+    let ends = ends_placed n ((goal.at.end_of_segments-loop-begun-preserved n c).After-ends-beginning) in
+    let before = c.loop-begun.invariant.before in
+    record {
+      is_text = search rules;
+      so_far = cut_sooner c.args.text.now front shorter rest last.0
+          (λ r. IsTable c.args.segments.separator.first (literals c.args.literal.now) c.args.segments.is_greedy c.args.segments.end (captured (walk c.args.others.now)) c.args.text.now (chars shorter) r c.push.new.self.items c.ends-beginning.result.1)
+          last.1 further c.after_front-rest.ensures last.2
+          (table_next c.args.segments.separator.first (literals c.args.literal.now) c.args.segments.is_greedy c.args.segments.end (captured (walk c.args.others.now)) c.args.text.now front shorter rest last.0
+          c.deref.result.now c.push.new.self.items c.loop-begun.later c.ends-beginning.result.0 c.ends-beginning.result.1
+          front_utf8 further last.1 (IsUtf8-encode last.0 last.1) last.2 (c.in_ok-push.ensures.items ∙ ap (λ t. t ++ c.ends-beginning.result.0 ∷ []) (sym c.deref.ensures.value)) ends.0 ends.1 ends.2);
+      before = record { same = c.in_ok-stopping.ensures.same.same ∙ before.same; whole = c.in_ok-stopping.ensures.same.whole ∙ before.whole };
     }
