@@ -173,36 +173,17 @@ copies_segments marks prefix piece (c ∷ suffix) run e =
 between_inside : (marks prefix : List ℕ) (core : Items) (suffix : List ℕ) → (IsStep Once (Captured core) ⊎ IsSegmentGroup (Captured core)) → AreInside (between marks prefix core suffix)
 between_inside marks prefix core suffix captured = put_inside marks prefix _ (captured, put_inside marks suffix Nothing tt)
 
+grouped : (times : Times) (inner : Items) → StandInside times inner → IsGroupAtom (quantifier_of times) (Grouped inner)
+grouped times inner inside = record { times = times; inner = inner; taken = refl; same = refl; inside = inside }
+
 affixed_readable : (modifier : PartModifier) (marks prefix : List ℕ) (piece : Items) (suffix : List ℕ) → IsRun piece → (is_empty prefix && is_empty suffix) ≡ false
     → IsGroupAtom (affixed_quantifier modifier) (Grouped (between marks prefix (affixed_core modifier marks prefix piece suffix) suffix))
-affixed_readable modifiers.None marks prefix piece suffix run e = record {
-  times = often.Once;
-  inner = between marks prefix piece suffix;
-  taken = refl;
-  same = refl;
-  inside = between_inside marks prefix piece suffix (inl (run_captured piece run));
-}
-affixed_readable modifiers.Optional marks prefix piece suffix run e = record {
-  times = often.Optional;
-  inner = between marks prefix piece suffix;
-  taken = refl;
-  same = refl;
-  inside = between_inside marks prefix piece suffix (inl (run_captured piece run));
-}
-affixed_readable modifiers.ZeroOrMore marks prefix piece suffix run e = record {
-  times = often.Optional;
-  inner = between marks prefix (copies marks prefix piece suffix) suffix;
-  taken = refl;
-  same = refl;
-  inside = between_inside marks prefix (copies marks prefix piece suffix) suffix (inr (copies_segments marks prefix piece suffix run e));
-}
-affixed_readable modifiers.OneOrMore marks prefix piece suffix run e = record {
-  times = often.Once;
-  inner = between marks prefix (copies marks prefix piece suffix) suffix;
-  taken = refl;
-  same = refl;
-  inside = between_inside marks prefix (copies marks prefix piece suffix) suffix (inr (copies_segments marks prefix piece suffix run e));
-}
+affixed_readable modifiers.None marks prefix piece suffix run e = grouped often.Once (between marks prefix piece suffix) (between_inside marks prefix piece suffix (inl (run_captured piece run)))
+affixed_readable modifiers.Optional marks prefix piece suffix run e = grouped often.Optional (between marks prefix piece suffix) (between_inside marks prefix piece suffix (inl (run_captured piece run)))
+affixed_readable modifiers.ZeroOrMore marks prefix piece suffix run e =
+    grouped often.Optional _ (between_inside marks prefix (copies marks prefix piece suffix) suffix (inr (copies_segments marks prefix piece suffix run e)))
+affixed_readable modifiers.OneOrMore marks prefix piece suffix run e =
+    grouped often.Once _ (between_inside marks prefix (copies marks prefix piece suffix) suffix (inr (copies_segments marks prefix piece suffix run e)))
 
 group_readable : (is_bare : Bool) (modifier : PartModifier) (marks prefix : List ℕ) (piece : Items) (suffix : List ℕ) → IsRun piece → (is_empty prefix && is_empty suffix) ≡ is_bare
     → IsStep (group_quantifier is_bare modifier) (group_atom is_bare modifier marks prefix piece suffix) ⊎ IsGroupAtom (group_quantifier is_bare modifier) (group_atom is_bare modifier marks prefix piece suffix)

@@ -47,25 +47,15 @@ walk_after-own (step ∷ own) after text = walk_after-own own after text
 
 -- ---- steps that are literal
 
-literals_first : (own others : List Step) → AreLiterals (own ++ others) → AreLiterals own
-literals_first [] others plain = tt
-literals_first (Literal c ∷ own) others plain = literals_first own others plain
-literals_first (Segment end ∷ own) others plain = absurd plain
-literals_first (Anything ∷ own) others plain = absurd plain
-literals_first (Maybe group ∷ own) others plain = absurd plain
-literals_first (Longest run ∷ own) others plain = absurd plain
-literals_first (Copies copies ∷ own) others plain = absurd plain
-literals_first (Segments segments ∷ own) others plain = absurd plain
-
-literals_second : (own others : List Step) → AreLiterals (own ++ others) → AreLiterals others
-literals_second [] others plain = plain
-literals_second (Literal c ∷ own) others plain = literals_second own others plain
-literals_second (Segment end ∷ own) others plain = absurd plain
-literals_second (Anything ∷ own) others plain = absurd plain
-literals_second (Maybe group ∷ own) others plain = absurd plain
-literals_second (Longest run ∷ own) others plain = absurd plain
-literals_second (Copies copies ∷ own) others plain = absurd plain
-literals_second (Segments segments ∷ own) others plain = absurd plain
+literals_parts : (own others : List Step) → AreLiterals (own ++ others) → AreLiterals own × AreLiterals others
+literals_parts [] others plain = (tt, plain)
+literals_parts (Literal c ∷ own) others plain = literals_parts own others plain
+literals_parts (Segment end ∷ own) others plain = absurd plain
+literals_parts (Anything ∷ own) others plain = absurd plain
+literals_parts (Maybe group ∷ own) others plain = absurd plain
+literals_parts (Longest run ∷ own) others plain = absurd plain
+literals_parts (Copies copies ∷ own) others plain = absurd plain
+literals_parts (Segments segments ∷ own) others plain = absurd plain
 
 literals-append : (own others : List Step) → literals (own ++ others) ≡ literals own ++ literals others
 literals-append [] others = refl
@@ -91,8 +81,9 @@ literals_uncaptured (Segments segments ∷ steps) plain = absurd plain
 text_then : (atom : Atom) (items : Items) (own others : List Step) → AtomWalks atom own → Walks items others → AreLiterals (own ++ others)
     → Takes (ways (Item atom Once items)) (after_text (literals (own ++ others)))
 text_then atom items own others first next plain =
-    let one : Takes (atom_ways atom) (after_text (literals own)) = first.text (literals_first own others plain) in
-    let two : Takes (ways items) (after_text (literals others)) = next.text (literals_second own others plain) in
+    let parts = literals_parts own others plain in
+    let one : Takes (atom_ways atom) (after_text (literals own)) = first.text parts.0 in
+    let two : Takes (ways items) (after_text (literals others)) = next.text parts.1 in
     let both = takes-then (atom_ways atom) (ways items) (after_text (literals own)) (after_text (literals others)) one (keeps-after (literals own)) two in
     record {
       takes = λ h front text.
