@@ -1,5 +1,5 @@
 -- Rows for the ends of the steps.
-use Rattle.std.proofs.Common.{◌≡◌, ℕ, zero, suc, ◌<◌, ◌≤◌, ◌⊎◌, inl, inr, List, [], ◌∷◌, ◌++◌, map, replicate, length, get_or, drop, Option, Some, None, Result, Ok, Err, Bool, true, false, cond, ◌||◌, refl, sym, ap, ap₂, ◌∙◌, subst, length-append, arith, Vec, Global}
+use Rattle.std.proofs.Common.{◌≡◌, ℕ, zero, suc, ◌<◌, ◌≤◌, List, [], ◌∷◌, ◌++◌, map, replicate, length, get_or, drop, Option, Some, None, Result, Ok, Err, Bool, true, false, cond, ◌||◌, refl, sym, ap, ap₂, ◌∙◌, subst, length-append, arith, Vec, Global}
 use Rattle.std.proofs.Math.ListN.{get_or-append}
 use Rattle.std.proofs.Math.Seq.{get_or-append_seam}
 use Rattle.std.proofs.lemmas.List.{length-map, map-append}
@@ -9,9 +9,6 @@ use Rattle.std.specs.Borrow.{Bor}
 use Rattle.std.specs.Str.{chars}
 use Rattle.urlpattern_engine.specs.declared.step.Group.{Group}
 use Rattle.urlpattern_engine.specs.declared.step.Step.{Step}
-use Rattle.urlpattern_engine.specs.declared.step.Copies.{Copies as Copied}
-use Rattle.urlpattern_engine.specs.declared.step.Run.{Run}
-use Rattle.urlpattern_engine.specs.declared.step.Segments.{Segments as Segmented}
 use Rattle.urlpattern_engine.specs.declared.step.Step.TheVariants.{Literal, Segment, Anything, Maybe, Longest, Copies, Segments}
 use Rattle.urlpattern_engine.specs.Failed.{EndsWith}
 use Rattle.urlpattern_engine.specs.Steps.{captured, walk}
@@ -136,13 +133,11 @@ front_added step others old new front rest e = by (IsCapture step) e
     by false e = ap (λ k. with_captures k (walk (following step others) rest)) (sym e)
 
 -- a step of another kind than a group that may be missing
-pub single_of : (step : Step)
-    → ((c : ℕ) × (step ≡ Literal c)) ⊎ (((end : ℕ) × (step ≡ Segment end)) ⊎ ((step ≡ Anything) ⊎ (((run : Run) × (step ≡ Longest run))
-    ⊎ (((copies : Copied) × (step ≡ Copies copies)) ⊎ ((segments : Segmented) × (step ≡ Segments segments))))))
-    → IsSingle step
-single_of step (inl (c, e)) = subst IsSingle (sym e) tt
-single_of step (inr (inl (end, e))) = subst IsSingle (sym e) tt
-single_of step (inr (inr (inl e))) = subst IsSingle (sym e) tt
-single_of step (inr (inr (inr (inl (run, e))))) = subst IsSingle (sym e) tt
-single_of step (inr (inr (inr (inr (inl (copies, e)))))) = subst IsSingle (sym e) tt
-single_of step (inr (inr (inr (inr (inr (segments, e)))))) = subst IsSingle (sym e) tt
+pub single_of : (step : Step) → ((group : Group) → ¬ (step ≡ Maybe group)) → IsSingle step
+single_of (Maybe group) other = other group refl
+single_of (Literal c) other = tt
+single_of (Segment end) other = tt
+single_of Anything other = tt
+single_of (Longest run) other = tt
+single_of (Copies copies) other = tt
+single_of (Segments segments) other = tt

@@ -61,21 +61,12 @@ fn row_of(
     requires { AreRows (chars text.now) others.now rows.now }
     ensures { IfOk result (λ row. IsRow (chars text.now) (step ∷ others.now) row.items) }
 {
-    match step {
-        Step::Maybe(group) => {
-            let missing = pass(others, group.steps);
-            either(alloc, row_for(rows, others), row_for(rows, missing))
-        }
-        Step::Literal(_)
-        | Step::Segment(_)
-        | Step::Anything
-        | Step::Longest(_)
-        | Step::Copies(_)
-        | Step::Segments(_) => {
-            let after = row_for(rows, following(step, others));
-            Ok(front_of(alloc, step, others, after, text)?.row)
-        }
+    if let Step::Maybe(group) = step {
+        let missing = pass(others, group.steps);
+        return either(alloc, row_for(rows, others), row_for(rows, missing));
     }
+    let after = row_for(rows, following(step, others));
+    Ok(front_of(alloc, step, others, after, text)?.row)
 }
 
 /// Which ends are in one of two rows.

@@ -1,13 +1,9 @@
-use Rattle.std.proofs.Common.{rules, ℕ, List, ◌≡◌, ◌∷◌, ◌++◌, [], None, length, refl, sym, ap, ◌∙◌, subst, append-nil}
+use Rattle.std.proofs.Common.{rules, ℕ, List, ◌≡◌, ◌∷◌, ◌++◌, [], None, length, sym, ap, ◌∙◌, subst}
 use Rattle.std.proofs.lemmas.List.{append_cancel_left}
 use Rattle.std.proofs.lemmas.Str.{IsUtf8-encode}
-use Rattle.urlpattern_syntax.proofs.TextLemmas.{chars-empty}
-use Rattle.std.specs.Char.{encode_utf8}
 use Rattle.std.specs.Str.{chars, IsUtf8}
 use Rattle.std.specs.Prelude.{is_some}
-use Rattle.urlpattern_engine.specs.Steps.{walk}
-use Rattle.urlpattern_engine.specs.Table.{given, IsRow}
-use Rattle.urlpattern_engine.specs.Taken.{IsCutFor}
+use Rattle.urlpattern_engine.specs.Table.{IsRow}
 use Rattle.urlpattern_engine.proofs.AttemptLemmas.{IsCut, cut_end, cut_sooner, cut_whole}
 use Rattle.urlpattern_engine.proofs.PlaceLemmas.{IsPlaced, IsSoFar, end_whole, placed_now, row_whole, so_far_next, so_far_none}
 use Rattle.urlpattern_engine.proofs.fronts.front_of.Goals as goal
@@ -56,7 +52,8 @@ known_whole c empty = cut_whole c.args.text.now c.loop-row.front.now c.after_fro
 pub returns-in_default-clause-row : goal.returns-in_default-clause-row
 returns-in_default-clause-row c =
     let at = known_whole ((goal.at.returns-in_default-clause-row c).After-ends_of-ends) c.in_default.ensures.empty in
-    subst (IsRow (chars c.args.text.now) (c.args.step ∷ c.args.others.now)) (sym (c.in_ok-push.ensures.items ∙ ap (λ b. c.loop-row.row.items ++ b ∷ []) c.is_some.ensures))
+    let pushed : c.push.new.self.items ≡ c.loop-row.row.items ++ is_some c.ends_of-ends.result.whole ∷ [] = c.in_ok-push.ensures.items ∙ ap (λ b. c.loop-row.row.items ++ b ∷ []) c.is_some.ensures in
+    subst (IsRow (chars c.args.text.now) (c.args.step ∷ c.args.others.now)) (sym pushed)
     (row_whole c.args.step c.args.others.now c.args.text.now (chars c.args.text.now) c.deref.result.now c.loop-row.row.items c.loop-row.later c.ends_of-ends.result.begun c.ends_of-ends.result.later
     c.ends_of-ends.result.whole at.0 at.1)
 

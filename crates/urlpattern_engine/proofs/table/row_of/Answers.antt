@@ -7,7 +7,7 @@ use Rattle.urlpattern_engine.proofs.table.row_of.Goals as goal
 
 pub front_of-requires : goal.front_of-requires
 front_of-requires c = record {
-  single = single_of c.args.step c.in-Literal.is;
+  single = single_of c.args.step c.in_default.not-Maybe;
   after = row_for_end (chars c.args.text.now) c.args.others.now (following c.args.step c.args.others.now) c.following.result.now c.args.rows.now c.row_for-after.result.now c.requires
       (ends_drop _ c.args.others.now) c.following.ensures c.row_for-after.ensures;
 }

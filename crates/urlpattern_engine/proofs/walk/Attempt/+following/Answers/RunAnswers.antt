@@ -16,7 +16,7 @@ use Rattle.urlpattern_engine.proofs.LongestLemmas.{at_least, falling_empty, fall
 use Rattle.urlpattern_engine.proofs.RunLemmas.{both_ends, lacks_less, longest_ended, longest_shorter}
 use Rattle.urlpattern_engine.proofs.FirstLemmas.{places}
 use Rattle.urlpattern_engine.proofs.walk.Attempt.+following.Goals as goal
-use Rattle.urlpattern_engine.proofs.walk.Attempt.+following.Goals.{follow_longest-Else-branch, follow_longest_run-After-follow_captured}
+use Rattle.urlpattern_engine.proofs.walk.Attempt.+following.Goals.{follow_longest-Else-branch, follow_longest_run-After-follow_captured, follow_shortest-After-follow_captured}
 
 -- ---- the longest front
 
@@ -123,33 +123,37 @@ follow_shortest-follow_captured-requires n c =
     let ends : EndsWith text remaining = (so_far.0 ++ d ∷ [], run_passed so_far.0 text (chars c.loop-remaining.rest.now) d remaining so_far.1 c.in-Some.ensures.cut) in
     search (rules, places, ends)
 
+-- what this front gives comes first, and then what those give that are longer
+shortest_so_far : (n : ℕ) (c : follow_shortest-After-follow_captured n)
+    → let gives : Gives = captured (walk c.args.others.now) in
+    let remaining = chars c.in-Some.remaining.now in
+    walk c.args.steps.now (chars c.args.text.now)
+    ≡ option_or (gives (chars c.before-in-Some.result.now) remaining) (shortest c.args.end gives (c.loop-remaining.invariant.so_far.0 ++ c.in-Some.field-0-0 ∷ []) remaining)
+shortest_so_far n c =
+    let so_far = c.loop-remaining.invariant.so_far in
+    so_far.2
+    ∙ shortest_grown c.args.end (captured (walk c.args.others.now)) (chars c.args.text.now) so_far.0 (chars c.before-in-Some.result.now) (chars c.loop-remaining.rest.now) (chars c.in-Some.remaining.now)
+    c.in-Some.field-0-0 so_far.1 c.in-Some.ensures.cut c.in-Some.ensures.other c.before-in-Some.ensures
+
 pub follow_shortest-returns-then-branch : goal.follow_shortest-returns-then-branch
 follow_shortest-returns-then-branch n c =
-    let before = chars c.before-in-Some.result.now in
-    let remaining = chars c.in-Some.remaining.now in
-    let gives : Gives = captured (walk c.args.others.now) in
-    let so_far = c.loop-remaining.invariant.so_far in
-    let grown = shortest_grown c.args.end gives (chars c.args.text.now) so_far.0 before (chars c.loop-remaining.rest.now) remaining c.in-Some.field-0-0 so_far.1 c.in-Some.ensures.cut c.in-Some.ensures.other
-    c.before-in-Some.ensures in
-    follows_taken c.args.self.now c.loop-remaining.self c.follow_captured.new.self _ (gives before remaining) (walk c.args.steps.now (chars c.args.text.now)) c.loop-remaining.invariant.before c.if-branch.true
-    c.in_ok-follow_captured.ensures
-    (λ found some. so_far.2 ∙ grown ∙ ap (λ o. option_or o (shortest c.args.end gives (so_far.0 ++ c.in-Some.field-0-0 ∷ []) remaining)) some)
+    let longer = shortest c.args.end (captured (walk c.args.others.now)) (c.loop-remaining.invariant.so_far.0 ++ c.in-Some.field-0-0 ∷ []) (chars c.in-Some.remaining.now) in
+    follows_taken c.args.self.now c.loop-remaining.self c.follow_captured.new.self _ _ _ c.loop-remaining.invariant.before c.if-branch.true c.in_ok-follow_captured.ensures
+    (λ found some. shortest_so_far n ((goal.at.follow_shortest-returns-then-branch n c).After-follow_captured) ∙ ap (λ o. option_or o longer) some)
 
 pub follow_shortest-loop-remaining-preserved : goal.follow_shortest-loop-remaining-preserved
 follow_shortest-loop-remaining-preserved n c =
-    let before = chars c.before-in-Some.result.now in
-    let remaining = chars c.in-Some.remaining.now in
-    let gives : Gives = captured (walk c.args.others.now) in
     let so_far = c.loop-remaining.invariant.so_far in
-    let grown = shortest_grown c.args.end gives (chars c.args.text.now) so_far.0 before (chars c.loop-remaining.rest.now) remaining c.in-Some.field-0-0 so_far.1 c.in-Some.ensures.cut c.in-Some.ensures.other
-    c.before-in-Some.ensures in
-    let none = follows_none c.loop-remaining.self c.follow_captured.new.self _ (gives before remaining) c.if-branch.false c.in_ok-follow_captured.ensures in
+    let d = c.in-Some.field-0-0 in
+    let remaining = chars c.in-Some.remaining.now in
+    let longer = shortest c.args.end (captured (walk c.args.others.now)) (so_far.0 ++ d ∷ []) remaining in
+    let none = follows_none c.loop-remaining.self c.follow_captured.new.self _ _ c.if-branch.false c.in_ok-follow_captured.ensures in
     record {
       is_text = search rules;
       so_far = (
-        so_far.0 ++ c.in-Some.field-0-0 ∷ [],
-        run_passed so_far.0 (chars c.args.text.now) (chars c.loop-remaining.rest.now) c.in-Some.field-0-0 remaining so_far.1 c.in-Some.ensures.cut,
-        so_far.2 ∙ grown ∙ ap (λ o. option_or o (shortest c.args.end gives (so_far.0 ++ c.in-Some.field-0-0 ∷ []) remaining)) none,
+        so_far.0 ++ d ∷ [],
+        run_passed so_far.0 (chars c.args.text.now) (chars c.loop-remaining.rest.now) d remaining so_far.1 c.in-Some.ensures.cut,
+        shortest_so_far n ((goal.at.follow_shortest-loop-remaining-preserved n c).After-follow_captured) ∙ ap (λ o. option_or o longer) none,
       );
       before = follows_untouched c.args.self.now c.loop-remaining.self c.follow_captured.new.self _ _ c.loop-remaining.invariant.before c.if-branch.false c.in_ok-follow_captured.ensures;
     }
