@@ -24,13 +24,16 @@ use Rattle.urlpattern_engine.proofs.FollowLemmas.{plus, adds_none, end_taken, ex
 pub untouched-same : (old : Attempt) → Untouched old old
 untouched-same old = record { same = refl; whole = refl }
 
+pub untouched-then : (old now new : Attempt) → Untouched old now → Untouched now new → Untouched old new
+untouched-then old now new first second = record { same = second.same ∙ first.same; whole = second.whole ∙ first.whole }
+
 -- steps that were followed, and do not take the text, give nothing
 pub follows_none : (old new : Attempt) (is_taken : Bool) (found : Option Captures) → is_taken ≡ false → Follows old new is_taken found → found ≡ None
 follows_none old new is_taken found missed follows = adds_none old.captures.items new.captures.items is_taken found missed follows.adds
 
 -- and nothing is captured then
 pub follows_untouched : (old now new : Attempt) (is_taken : Bool) (found : Option Captures) → Untouched old now → is_taken ≡ false → Follows now new is_taken found → Untouched old new
-follows_untouched old now new is_taken found before missed follows = record { same = follows.same missed ∙ before.same; whole = follows.whole ∙ before.whole }
+follows_untouched old now new is_taken found before missed follows = untouched-then old now new before (record { same = follows.same missed; whole = follows.whole })
 
 -- the steps take the text where a part of their work does that was tried
 pub follows_taken : (old now new : Attempt) (is_taken : Bool) (part whole : Option Captures) → Untouched old now → is_taken ≡ true → Follows now new is_taken part

@@ -4,7 +4,7 @@ use Rattle.std.proofs.lemmas.Str.{IsUtf8-encode}
 use Rattle.std.specs.Str.{chars, IsUtf8}
 use Rattle.urlpattern_engine.specs.Steps.{Gives, captured, literals, walk}
 use Rattle.urlpattern_engine.specs.Taken.{IsCutFor}
-use Rattle.urlpattern_engine.proofs.AttemptLemmas.{IsCut, cut_end, cut_sooner, cut_whole, follows_later, follows_missed, untouched-same}
+use Rattle.urlpattern_engine.proofs.AttemptLemmas.{IsCut, cut_end, cut_sooner, cut_whole, follows_later, follows_missed, untouched-same, untouched-then}
 use Rattle.urlpattern_engine.proofs.EndLemmas.{IsTable, begins, either, place_ends, segments_none, segments_some, table_begun, table_next}
 use Rattle.urlpattern_engine.proofs.FirstLemmas.{passed_shorter, places}
 use Rattle.urlpattern_engine.proofs.walk.Attempt.+following.Goals as goal
@@ -91,7 +91,6 @@ end_of_segments-loop-begun-preserved n c =
     let front_utf8 : IsUtf8 shorter = search rules in
     let further : IsUtf8 rest = search rules in
     let ends = ends_placed n ((goal.at.end_of_segments-loop-begun-preserved n c).After-ends-beginning) in
-    let before = c.loop-begun.invariant.before in
     record {
       is_text = search rules;
       so_far = cut_sooner c.args.text.now front shorter rest last.0
@@ -100,5 +99,5 @@ end_of_segments-loop-begun-preserved n c =
           (table_next c.args.segments.separator.first (literals c.args.literal.now) c.args.segments.is_greedy c.args.segments.end (captured (walk c.args.others.now)) c.args.text.now front shorter rest last.0
           c.deref.result.now c.push.new.self.items c.loop-begun.later c.ends-beginning.result.0 c.ends-beginning.result.1
           front_utf8 further last.1 (IsUtf8-encode last.0 last.1) last.2 (c.in_ok-push.ensures.items ∙ ap (λ t. t ++ c.ends-beginning.result.0 ∷ []) (sym c.deref.ensures.value)) ends.0 ends.1 ends.2);
-      before = record { same = c.in_ok-stopping.ensures.same.same ∙ before.same; whole = c.in_ok-stopping.ensures.same.whole ∙ before.whole };
+      before = untouched-then c.args.self.now c.loop-begun.self _ c.loop-begun.invariant.before c.in_ok-stopping.ensures.same;
     }
