@@ -90,6 +90,7 @@ pub enum PartModifier {
 
 impl PartModifier {
     /// The modifier as a pattern and a regular expression spell it.
+    #[tactic(auto, using(crate::proofs::TextLemmas::modifier_chars))]
     pub fn as_str(&self) -> &'static str
         ensures bytes { result.now ≡ modifier_text self.now }
         ensures text { chars result.now ≡ modifier_text self.now }
