@@ -13,7 +13,7 @@ use Rattle.urlpattern_syntax.specs.Reading.{AreMet, AreParts, Encoding, Reads, R
 use Rattle.urlpattern_syntax.specs.RegexpText.{escaped}
 use Rattle.urlpattern_syntax.specs.Tokens.{AreTokens, IsRegexpBody, InvalidRegex, NoBody, Nothing, Plain, TokenView, reason}
 use Rattle.urlpattern_syntax.proofs.PieceExamples.{PieceCut, bare, ends, piece, pieces_of}
-use Rattle.urlpattern_syntax.proofs.ReadingExamples.{first_name, keeping, other_name}
+use Rattle.urlpattern_syntax.proofs.ReadingExamples.{first_name, keeping, other_name, same_name}
 use Rattle.urlpattern_syntax.proofs.RegexpTextExamples.{group}
 use Rattle.urlpattern_syntax.proofs.TokenExamples.{char, cut_of, done, empty, literals, mark, name, next, no, none, regexp, token}
 use Rattle.urlpattern_laws.specs.Printing.{Keeps, KeepsTexts, encoded_texts, joined, printed}
@@ -172,27 +172,12 @@ unfolding digits
 number_read = read_by default_options keeping number_tokens number_cut (first_name, ((_, refl), ((_, refl), (refl, tt)))) ([], [], [], refl, refl, refl, refl)
 
 -- two groups of one name
-pub twice_text : printed default_options (segment [] (codes "x") [] ∷ segment [] (codes "x") [] ∷ []) ≡ codes ":x:x"
+pub twice_text : printed default_options (segment [] (codes "a") [] ∷ segment [] (codes "a") [] ∷ []) ≡ codes ":a:a"
 unfolding printing
 twice_text = refl
 
-pub twice_tokens : AreTokens (codes ":x:x") (token tokens.Name 0 (codes "x") ∷ token tokens.Name 2 (codes "x") ∷ token tokens.End 4 [] ∷ [])
-unfolding literals
-twice_tokens = record {
-  front = token tokens.Name 0 (codes "x") ∷ token tokens.Name 2 (codes "x") ∷ [];
-  cut = cut_of (next (name (codes "x") (refl, refl) no refl) (next (name (codes "x") (refl, refl) no refl) done));
-  all = refl;
-}
-
-pub twice_refused : Refuses (codes ":x:x") default_options keeping (views.DuplicateName (codes "x"))
-twice_refused = inr (record {
-  tokens = _;
-  pieces = named (codes "x") ∷ named (codes "x") ∷ [];
-  ending = Stops (token tokens.End 4 []);
-  are_tokens = twice_tokens;
-  are_pieces = pieces_of (names_cut [] (codes "x") (codes "x") 2 4);
-  fails = inr (first_name, inr ((_, refl), inr ((_, refl), inl ((0, omega arith, refl), refl))));
-})
+pub twice_refused : Refuses (codes ":a:a") default_options keeping (views.DuplicateName (codes "a"))
+twice_refused = same_name
 
 -- an empty name
 pub nameless_text : printed default_options (segment [] [] [] ∷ []) ≡ codes ":"
