@@ -36,13 +36,11 @@ pub(super) fn generate_regular_expression(
 #[derive(Clone, Copy)]
 pub(super) struct Captured<T>(pub T);
 
-impl<T: Writable> Writable for Captured<T> {
+impl<T: Writable + Copy> Writable for Captured<T> {
     ghost text = { λ piece. captured (T.text piece.0) };
 
     fn write_to<W: Writer>(&self, writer: &mut W) {
-        writer.write_char('(');
-        self.0.write_to(writer);
-        writer.write_char(')');
+        ('(', self.0, ')').write_to(writer);
     }
 }
 
@@ -50,13 +48,11 @@ impl<T: Writable> Writable for Captured<T> {
 #[derive(Clone, Copy)]
 struct Grouped<T>(T);
 
-impl<T: Writable> Writable for Grouped<T> {
+impl<T: Writable + Copy> Writable for Grouped<T> {
     ghost text = { λ piece. grouped (T.text piece.0) };
 
     fn write_to<W: Writer>(&self, writer: &mut W) {
-        writer.write_str("(?:");
-        self.0.write_to(writer);
-        writer.write_char(')');
+        ("(?:", self.0, ')').write_to(writer);
     }
 }
 
