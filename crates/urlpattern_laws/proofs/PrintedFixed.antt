@@ -23,7 +23,7 @@ use Rattle.urlpattern_laws.proofs.PrintedBehind.{Behind, ReadsBack, are_more, be
 use Rattle.urlpattern_laws.proofs.PrintedBraces.{braced_run, braced_tokens, closing_text, is_braced, text_ends}
 use Rattle.urlpattern_laws.proofs.PrintedTexts.{are_text_pieces, text_are, text_first, text_items, text_no_modifier, text_no_placeholder, text_no_regexp, text_pieces, text_run, text_tokens}
 use Rattle.urlpattern_laws.proofs.PrintedTokens.{Run, mark_ends, run_joined}
-use Rattle.urlpattern_laws.proofs.PrintingLaws.{plain_fixed, plain_kind, plain_modifier, plain_printed}
+use Rattle.urlpattern_laws.proofs.PrintingLaws.{plain_fixed, plain_modifier, plain_printed}
 use Rattle.urlpattern_laws.proofs.RoundTripWords.{AreApart, AreItemsOf, IsItemOf}
 
 -- ---- items

@@ -7,7 +7,7 @@ use Rattle.urlpattern_syntax.specs.declared.parser.pieces.Next.{Next}
 use Rattle.urlpattern_syntax.specs.declared.parser.pieces.Next.TheVariants as nexts
 use Rattle.urlpattern_syntax.specs.declared.parser.pieces.Reader.{Reader}
 use Rattle.urlpattern_syntax.specs.declared.tokenizer.TokenType.{TokenType}
-use Rattle.urlpattern_syntax.specs.declared.tokenizer.TokenType.TheVariants.{Asterisk, Char, Close, End, EscapedChar, InvalidChar, Name, Open, OtherModifier, Regexp}
+use Rattle.urlpattern_syntax.specs.declared.tokenizer.TokenType.TheVariants.{End}
 use Rattle.urlpattern_syntax.specs.Cursors.{AreTokensAfter, IsPlace, IsTokenAfter, tokens_left}
 use Rattle.urlpattern_syntax.specs.Parsing.{Gives, IsModifierSpelled, IsNameSpelled, IsShorter, Stands, StartsText, Takes, reader_left, reader_text}
 use Rattle.urlpattern_syntax.specs.Text.{BeginsAt, BeginsWith, byte_len}

@@ -115,6 +115,7 @@ impl<'a> Escaped<'a> {
 impl Writable for Escaped<'_> {
     ghost text = { escaped_text };
 
+    #[tactic(auto, unfolding(crate::specs::Writing::escaped_text))]
     fn write_to<W: Writer>(&self, writer: &mut W) {
         self.marks.write_escaped(self.text, writer);
     }
