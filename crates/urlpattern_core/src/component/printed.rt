@@ -40,7 +40,7 @@ pub fn generate_pattern_string(
     ensures reads_back { IfOk result (λ text. ReadsBackIfKept (text_of text) (options_view options.now) (parts_view part_list.now)) }
     ensures memory { IfErr result (λ error. error ≡ errors.OutOfMemory) }
 {
-    written(alloc, &PrintedText { part_list, options })
+    Ok(written(alloc, &PrintedText { part_list, options })?)
 }
 
 /// The pattern text of a list of parts.

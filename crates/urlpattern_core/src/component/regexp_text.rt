@@ -2,9 +2,8 @@
 //!
 //! <https://urlpattern.spec.whatwg.org/#generate-a-regular-expression-and-name-list>
 
-ghost use Rattle.std.specs.Prelude.{◌≡◌, ◌++◌, IfErr, IfOk};
+ghost use Rattle.std.specs.Prelude.{◌≡◌, ◌++◌, IfOk};
 ghost use Rattle.urlpattern_core.specs.PartTexts.{affixed_part, bare_part, escaped_prefix, escaped_suffix, escaped_value, fixed_part, matched_text};
-ghost use Rattle.urlpattern_syntax.specs.declared.error.Error.TheVariants as errors;
 ghost use Rattle.urlpattern_syntax.specs.Options.{options_view};
 ghost use Rattle.urlpattern_syntax.specs.Parts.{part_view, parts_view};
 ghost use Rattle.urlpattern_syntax.specs.RegexpText.{captured, grouped, part_regexp, regexp_text, repeated_regexp};
@@ -12,9 +11,8 @@ ghost use Rattle.urlpattern_syntax.specs.Text.{text_of};
 ghost use Rattle.urlpattern_syntax.specs.Writing.{escaped_text};
 
 use super::is_bare;
-use crate::error::Error;
 use crate::parser::{FULL_WILDCARD_REGEXP_VALUE, Options, Part, PartModifier, PartType};
-use std::alloc::Global;
+use std::alloc::{AllocError, Global};
 use urlpattern_syntax::escape::{Escaped, SegmentWildcard};
 use urlpattern_syntax::writing::{Writable, Writer, written};
 
@@ -25,9 +23,8 @@ pub(super) fn generate_regular_expression(
     alloc: Global,
     part_list: &[Part],
     options: &Options,
-) -> Result<String, Error>
-    ensures text { IfOk result (λ text. text_of text ≡ regexp_text (options_view options.now) (parts_view part_list.now)) }
-    ensures memory { IfErr result (λ error. error ≡ errors.OutOfMemory) }
+) -> Result<String, AllocError>
+    ensures { IfOk result (λ text. text_of text ≡ regexp_text (options_view options.now) (parts_view part_list.now)) }
 {
     written(alloc, &RegexpText { part_list, options })
 }
