@@ -1,5 +1,5 @@
 -- Lemmas on calls that ask `url` about a value: the value is set on a URL and read back.
-use Rattle.std.proofs.Common.{◌≡◌, ◌≢◌, ℕ, false, true, ◌==◌, List, [], ◌++◌, length, max, codes, Ok, Err, String, string_bytes, subst, refl, sym, ap, ◌∙◌}
+use Rattle.std.proofs.Common.{◌≡◌, ◌≢◌, ℕ, false, true, ◌==◌, List, [], length, max, Ok, Err, String, string_bytes, subst, refl, sym, ap, ◌∙◌}
 use Rattle.std.proofs.lemmas.Str.{encodes-chars}
 use Rattle.std.specs.Prelude.{Bool, encode_utf8_all, option_copied, unwrap_or, IsErrAnd, Option, Result}
 use Rattle.std.specs.Borrow.{Bor}
@@ -11,7 +11,7 @@ use Rattle.url.specs.Parser.{GivesBy, Parsed}
 use Rattle.url.specs.Parts.{Parts}
 use Rattle.urlpattern_canonical.proofs.CanonicalLemmas.{after-err, after-ok, canonical-empty, canonical-err, canonical-ok, is_empty-false, is_empty-true, tells-through, told-err, told-ok, told_as-err, told_as-ok, unwrap_or-chars, unwrapped-copied}
 use Rattle.urlpattern_canonical.specs.Asking.{IsToldAs}
-use Rattle.urlpattern_canonical.specs.Canonical.{IsAnswer, IsTold, Tells, after, canonical, option_text, port_bytes, scheme_for_port, told_as}
+use Rattle.urlpattern_canonical.specs.Canonical.{IsAnswer, IsTold, Tells, after, canonical, canonical_port, option_text, port_bytes, port_of, scheme_for_port, told_as}
 use Rattle.urlpattern_syntax.specs.declared.error.Error.{Error}
 use Rattle.urlpattern_syntax.specs.Errors.{MemoryOr}
 use Rattle.urlpattern_syntax.specs.Text.{text_of}
@@ -19,9 +19,9 @@ use Rattle.urlpattern_syntax.specs.Text.{text_of}
 -- ---- any question
 
 -- the empty text needs none
-pub empty-answered : (ask : List ℕ → Parsed (List ℕ)) (value : List ℕ) {tested : Bool} (string : String Global) → tested ≡ (length value == 0)
+pub empty_answered : (ask : List ℕ → Parsed (List ℕ)) (value : List ℕ) {tested : Bool} (string : String Global) → tested ≡ (length value == 0)
     → tested ≡ true → string_bytes string ≡ [] → canonical ask (chars value) ≡ Ok (text_of string)
-empty-answered ask value {tested} string is_tested none empty =
+empty_answered ask value {tested} string is_tested none empty =
     canonical-empty ask value string (is_empty-true value tested is_tested none) empty
 
 -- the answer
@@ -92,22 +92,27 @@ module _ {T : Type 0} (reason : ParseError) (url : Parsed Parts) (set : List ℕ
       (λ no. canonical-err (ask_as reason url set get) value reason u (is_empty-false value tested is_tested some)
       (after-err url (λ start. told_as reason (set value start)) get old reason is_old no)))
 
--- ---- the URL that a port is set on, and the longest of the texts that are asked about
+-- ---- the scheme that a port is set under, and the longest of the texts that are asked about
 
 module _ (protocol : Option (Bor (List ℕ))) (given default : Bor (List ℕ)) where
-  pub port-url : (scheme text : List ℕ) → default.now ≡ [] → given ≡ unwrap_or protocol default → chars scheme ≡ scheme_for_port (chars given.now)
-      → IsUtf8 scheme → text ≡ scheme ++ codes "://dummy.test"
-      → text ≡ encode_utf8_all (scheme_for_port (unwrap_or (option_text protocol) [])) ++ codes "://dummy.test"
-  port-url scheme text empty is_given is_scheme u is_text =
+  pub port-scheme : (scheme : List ℕ) → default.now ≡ [] → given ≡ unwrap_or protocol default → chars scheme ≡ scheme_for_port (chars given.now)
+      → IsUtf8 scheme → scheme ≡ encode_utf8_all (scheme_for_port (unwrap_or (option_text protocol) []))
+  port-scheme scheme empty is_given is_scheme u =
       let found : unwrap_or (option_text protocol) [] ≡ chars given.now
       = unwrap_or-chars (option_copied protocol) ∙ ap chars (sym (unwrapped-copied protocol given default _ refl empty is_given))
       in
-      let spelled : encode_utf8_all (scheme_for_port (unwrap_or (option_text protocol) [])) ≡ scheme
-      = ap (λ t. encode_utf8_all (scheme_for_port t)) found ∙ ap encode_utf8_all (sym is_scheme) ∙ encodes-chars scheme u
-      in
-      is_text ∙ ap (λ x. x ++ codes "://dummy.test") (sym spelled)
+      sym (ap (λ t. encode_utf8_all (scheme_for_port t)) found ∙ ap encode_utf8_all (sym is_scheme) ∙ encodes-chars scheme u)
 
   pub port-bytes : (value : List ℕ) (bytes : ℕ) → default.now ≡ [] → given ≡ unwrap_or protocol default → bytes ≡ max (length value) (length given.now)
       → bytes ≡ port_bytes value protocol
   port-bytes value bytes empty is_given is_bytes =
       is_bytes ∙ ap (λ t. max (length value) (length t)) (unwrapped-copied protocol given default _ refl empty is_given)
+
+  -- what is answered about the port under that scheme, for so many bytes
+  pub port-answer : (scheme value : List ℕ) (bytes : ℕ) (result : Result (String Global) Error) → default.now ≡ [] → given ≡ unwrap_or protocol default
+      → chars scheme ≡ scheme_for_port (chars given.now) → IsUtf8 scheme → bytes ≡ max (length value) (length given.now)
+      → IsAnswer (canonical (port_of scheme) (chars value)) bytes result
+      → IsAnswer (canonical_port (option_text protocol) (chars value)) (port_bytes value protocol) result
+  port-answer scheme value bytes result empty is_given is_scheme u is_bytes answer =
+      subst (λ s. IsAnswer (canonical (port_of s) (chars value)) (port_bytes value protocol) result) (port-scheme scheme empty is_given is_scheme u)
+      (subst (λ n. IsAnswer (canonical (port_of scheme) (chars value)) n result) (port-bytes value bytes empty is_given is_bytes) answer)

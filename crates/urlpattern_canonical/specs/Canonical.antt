@@ -52,12 +52,6 @@ told_as reason (Err other) = Err reason
 abbrev pub protocol_of : List ℕ → Parsed (List ℕ)
 protocol_of value = and_then (dummy_of_scheme value) (λ url. Ok url.scheme)
 
-abbrev pub username_of : List ℕ → Parsed (List ℕ)
-username_of value = after dummy_url (λ url. set_username url value) (λ url. url.username)
-
-abbrev pub password_of : List ℕ → Parsed (List ℕ)
-password_of value = after dummy_url (λ url. set_password url (Some value)) (λ url. url.password)
-
 -- the `hostname` of the URL Standard's API, which takes no port
 abbrev pub hostname_of : List ℕ → Parsed (List ℕ)
 hostname_of value =
@@ -82,15 +76,6 @@ pathname_of value =
     if slice_index value 0 == slash then path_of dummy_url value
     else and_then (path_of dummy_url (codes "/-" ++ value)) (λ path. Ok (without_guard path))
 
-abbrev pub opaque_pathname_of : List ℕ → Parsed (List ℕ)
-opaque_pathname_of value = path_of opaque_url value
-
-abbrev pub search_of : List ℕ → Parsed (List ℕ)
-search_of value = after dummy_url (λ url. Ok (set_query url (Some value))) (λ url. unwrap_or url.query [])
-
-abbrev pub hash_of : List ℕ → Parsed (List ℕ)
-hash_of value = after dummy_url (λ url. Ok (set_fragment url (Some value))) (λ url. unwrap_or url.fragment [])
-
 -- ---- canonical values
 
 -- the characters of a text that may be missing
@@ -106,10 +91,10 @@ abbrev pub canonical_protocol : List ℕ → Parsed (List ℕ)
 canonical_protocol text = canonical protocol_of text
 
 abbrev pub canonical_username : List ℕ → Parsed (List ℕ)
-canonical_username text = canonical username_of text
+canonical_username text = canonical (λ value. after dummy_url (λ url. set_username url value) (λ url. url.username)) text
 
 abbrev pub canonical_password : List ℕ → Parsed (List ℕ)
-canonical_password text = canonical password_of text
+canonical_password text = canonical (λ value. after dummy_url (λ url. set_password url (Some value)) (λ url. url.password)) text
 
 abbrev pub canonical_hostname : List ℕ → Parsed (List ℕ)
 canonical_hostname text = canonical hostname_of text
@@ -133,13 +118,13 @@ abbrev pub canonical_pathname : List ℕ → Parsed (List ℕ)
 canonical_pathname text = canonical pathname_of text
 
 abbrev pub canonical_opaque_pathname : List ℕ → Parsed (List ℕ)
-canonical_opaque_pathname text = canonical opaque_pathname_of text
+canonical_opaque_pathname text = canonical (path_of opaque_url) text
 
 abbrev pub canonical_search : List ℕ → Parsed (List ℕ)
-canonical_search text = canonical search_of text
+canonical_search text = canonical (λ value. after dummy_url (λ url. Ok (set_query url (Some value))) (λ url. unwrap_or url.query [])) text
 
 abbrev pub canonical_hash : List ℕ → Parsed (List ℕ)
-canonical_hash text = canonical hash_of text
+canonical_hash text = canonical (λ value. after dummy_url (λ url. Ok (set_fragment url (Some value))) (λ url. unwrap_or url.fragment [])) text
 
 -- ---- refusals
 

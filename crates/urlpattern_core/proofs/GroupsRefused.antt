@@ -14,7 +14,7 @@ use lib.Utf8.{scalars}
 use Rattle.urlpattern_core.proofs.TreesRead.{re_of, same_whole, tree_is_read}
 use Rattle.urlpattern_laws.specs.Dialect.{Quantifier, quantifier_text, Items, Nothing, Item, Atom, Literal, Dot, AnyBut, Captured, Grouped, items_text, atom_text, group_count, atom_group_count, AreItems, IsAtom}
 use Rattle.urlpattern_core.proofs.AtomsRead.{full}
-use Rattle.urlpattern_core.proofs.ItemsRead.{place, Free, repeated_as, opens_item, item_length, item_splits, free_items, part, opens_as, opens_captured, opens_grouped, atom_length, atom-read}
+use Rattle.urlpattern_core.proofs.ItemsRead.{place, Free, repeated_as, opens_item, first_item, item_splits, free_items, part, opens_as, opens_captured, opens_grouped, atom-read}
 use Rattle.urlpattern_core.proofs.TreeTextsRead.{whole, first_line, leaf_passes}
 
 uncounted : (g : ℕ) (t : Text) → 2 ^ 32 ≤ g → capture (place g (40 ∷ t)) None t ≡ None
@@ -44,16 +44,14 @@ mutual
       let more = items_text tree ++ rest in
       let k = g + atom_group_count a in
       let text = atom_text a ++ (quantifier_text q ++ more) in
-      let split : items_text (Item a q tree) ++ rest ≡ text = item_splits a q tree rest in
-      let fuel : 2 * length text < n = subst (λ t. 2 * length t < n) split le in
-      let long = item_length a q more in
+      let long = first_item a q tree rest n le in
       let free_more = free_items tree h.2 rest free in
-      ap (λ t. join_after cat_all earlier (items n (place g t))) split
+      ap (λ t. join_after cat_all earlier (items n (place g t))) (item_splits a q tree rest)
       ∙ branch_goes n (n - 1) earlier (place g text) text (omega arith) refl (opens_item a h.0 (quantifier_text q ++ more)).1
       ∙ ⊎_elim
       (λ (inside : k ≤ 2 ^ 32).
       ap (λ o. o >>= more_parts (n - 1) earlier) (atom-read a h.0 g inside q more free_more (n - 1) (omega arith))
-      ∙ items-refused tree h.2 k inside (omega arith) rest free (n - 1) (omega (arith, long, atom_length a)) (earlier ++ repeated_as q (part g a) ∷ []))
+      ∙ items-refused tree h.2 k inside (omega arith) rest free (n - 1) long.behind (earlier ++ repeated_as q (part g a) ∷ []))
       (λ (outside : 2 ^ 32 < k).
       ap (λ o. o >>= more_parts (n - 1) earlier) (atom-refused a h.0 g fits outside q more free_more (n - 1) (omega arith)))
       (within k (2 ^ 32))

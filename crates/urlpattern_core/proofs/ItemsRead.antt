@@ -5,9 +5,9 @@ use Rattle.std.proofs.lemmas.List.{length-replicate, replicate_more}
 use Rattle.std.specs.List.{starts_with}
 use Rattle.regex_hir.specs.Meaning.{cat_all, alt_all, repeat}
 use Rattle.regex_hir.specs.Re.{Re, group}
-use Rattle.regex_syntax.proofs.BranchLemmas.{ends_branch, Read, repetitions_end, repetitions_go, join_after, branch_ends, branch_goes, more_parts, group_inside, join_parts_is, branches_go, more_branches, join_ends}
+use Rattle.regex_syntax.proofs.BranchLemmas.{ends_branch, Read, more_repetitions, repetitions_end, repetitions_go, join_after, branch_ends, branch_goes, more_parts, group_inside, join_parts_is, branches_go, more_branches, join_ends}
 use Rattle.regex_syntax.specs.Brackets.{Nested, join}
-use Rattle.regex_syntax.specs.Grammar.{Names, Place, atom, bounds, with_repetitions, item, items, opening, capture, set_flags, rest_of_group, opens}
+use Rattle.regex_syntax.specs.Grammar.{Names, Place, atom, bounds, repetitions, with_repetitions, item, items, opening, capture, set_flags, rest_of_group, opens}
 use Rattle.regex_syntax.specs.Reading.{Text, first, skip, is_at, ◌>>=◌}
 use Rattle.regex_syntax.specs.Verdict.{default_config}
 use Rattle.urlpattern_syntax.specs.RegexpText.{regexp_marks}
@@ -40,32 +40,27 @@ unfolding first
 free_lazy [] h = refl
 free_lazy (c ∷ t) h = left_false (c == 63) _ h
 
+-- one mark
+marked : (q : Quantifier) (mark : ℕ) (sub : Nested Re) (g : ℕ) (rest : Text) → Free rest → is_at "?*+{" (mark ∷ rest) ≡ true
+    → (bounds default_config (mark ∷ rest) >>= more_repetitions default_config (length (mark ∷ rest)) sub) ≡ repetitions default_config (length (mark ∷ rest)) (repeated_as q sub) rest
+    → with_repetitions sub (place g (mark ∷ rest)) ≡ Some (repeated_as q sub, place g rest)
+unfolding with_repetitions first skip
+marked q mark sub g rest free is_mark takes =
+    rw (
+      with_repetitions,
+      repetitions_go default_config (length (mark ∷ rest) + 1) (length (mark ∷ rest)) sub (mark ∷ rest) (mark ∷ rest) (omega arith) refl is_mark,
+      takes,
+      repetitions_end default_config (length (mark ∷ rest)) (length rest) (repeated_as q sub) rest rest (omega arith) refl free,
+    )
+
 pub quantified : (q : Quantifier) (sub : Nested Re) (g : ℕ) (rest : Text) → Free rest
     → with_repetitions sub (place g (quantifier_text q ++ rest)) ≡ Some (repeated_as q sub, place g rest)
 unfolding with_repetitions bounds repeat first skip
 quantified Once sub g rest free =
     rw (with_repetitions, repetitions_end default_config (length rest + 1) (length rest) sub rest rest (omega arith) refl free)
-quantified Optional sub g rest free =
-    rw (
-      with_repetitions,
-      repetitions_go default_config (length (63 ∷ rest) + 1) (length (63 ∷ rest)) sub (63 ∷ rest) (63 ∷ rest) (omega arith) refl refl,
-      free_lazy rest free,
-      repetitions_end default_config (length (63 ∷ rest)) (length rest) (repeated_as Optional sub) rest rest (omega arith) refl free,
-    )
-quantified ZeroOrMore sub g rest free =
-    rw (
-      with_repetitions,
-      repetitions_go default_config (length (42 ∷ rest) + 1) (length (42 ∷ rest)) sub (42 ∷ rest) (42 ∷ rest) (omega arith) refl refl,
-      free_lazy rest free,
-      repetitions_end default_config (length (42 ∷ rest)) (length rest) (repeated_as ZeroOrMore sub) rest rest (omega arith) refl free,
-    )
-quantified OneOrMore sub g rest free =
-    rw (
-      with_repetitions,
-      repetitions_go default_config (length (43 ∷ rest) + 1) (length (43 ∷ rest)) sub (43 ∷ rest) (43 ∷ rest) (omega arith) refl refl,
-      free_lazy rest free,
-      repetitions_end default_config (length (43 ∷ rest)) (length rest) (repeated_as OneOrMore sub) rest rest (omega arith) refl free,
-    )
+quantified Optional sub g rest free = marked Optional 63 sub g rest free refl (rw (free_lazy rest free))
+quantified ZeroOrMore sub g rest free = marked ZeroOrMore 42 sub g rest free refl (rw (free_lazy rest free))
+quantified OneOrMore sub g rest free = marked OneOrMore 43 sub g rest free refl (rw (free_lazy rest free))
 quantified LazyOneOrMore sub g rest free =
     rw (
       with_repetitions,
@@ -105,11 +100,31 @@ opens_item (Grouped items) h more = (refl, rw (full 40 (63 ∷ 58 ∷ (items_tex
 pub item_length : (a : Atom) (q : Quantifier) (more : Text) → length (atom_text a ++ (quantifier_text q ++ more)) ≡ length (atom_text a) + (length (quantifier_text q) + length more)
 item_length a q more = length-append (atom_text a) (quantifier_text q ++ more) ∙ ap (λ l. length (atom_text a) + l) (length-append (quantifier_text q) more)
 
+-- how long a text is from its first item on, and behind that item
+pub record FirstItem (a : Atom) (q : Quantifier) (more : Text) (n : ℕ) : Type 0 where
+  pub whole : 2 * length (atom_text a ++ (quantifier_text q ++ more)) < n
+  pub behind : 2 * length more < n - 1
+
 pub item_splits : (atom : Atom) (q : Quantifier) (items : Items) (rest : Text)
     → items_text (Item atom q items) ++ rest ≡ atom_text atom ++ (quantifier_text q ++ (items_text items ++ rest))
 item_splits atom q items rest =
     append_assoc (atom_text atom ++ quantifier_text q) (items_text items) rest
     ∙ append_assoc (atom_text atom) (quantifier_text q) (items_text items ++ rest)
+
+pub atom_length : (atom : Atom) → 0 < length (atom_text atom)
+atom_length (Literal (Plain c)) = omega arith
+atom_length (Literal (Escaped c)) = omega arith
+atom_length Dot = omega arith
+atom_length (AnyBut character) = omega arith
+atom_length (Captured items) = omega arith
+atom_length (Grouped items) = omega arith
+
+pub first_item : (a : Atom) (q : Quantifier) (items : Items) (rest : Text) (n : ℕ) → 2 * length (items_text (Item a q items) ++ rest) < n
+    → FirstItem a q (items_text items ++ rest) n
+first_item a q items rest n le =
+    let more = items_text items ++ rest in
+    let whole : 2 * length (atom_text a ++ (quantifier_text q ++ more)) < n = subst (λ t. 2 * length t < n) (item_splits a q items rest) le in
+    record { whole = whole; behind = omega (arith, item_length a q more, atom_length a) }
 
 pub free_items : (tree : Items) → AreItems tree → (rest : Text) → Free rest → Free (items_text tree ++ rest)
 free_items Nothing h rest free = free
@@ -187,14 +202,6 @@ unfolding first
 no_group (Plain c) h rest = differs regexp_marks c 40 h refl
 no_group (Escaped c) h rest = refl
 
-pub atom_length : (atom : Atom) → 0 < length (atom_text atom)
-atom_length (Literal (Plain c)) = omega arith
-atom_length (Literal (Escaped c)) = omega arith
-atom_length Dot = omega arith
-atom_length (AnyBut character) = omega arith
-atom_length (Captured items) = omega arith
-atom_length (Grouped items) = omega arith
-
 brackets : (t tail : Text) → (t ++ 41 ∷ []) ++ tail ≡ t ++ 41 ∷ tail
 brackets t tail = append_assoc t (41 ∷ []) tail
 
@@ -228,17 +235,14 @@ mutual
       (n, le, ap (λ (k : ℕ). join_after cat_all earlier (items n (place k rest))) same ∙ ap (λ all. join_after cat_all all (items n (place (g + 0) rest))) (sym (append-nil earlier)))
   items-read (Item a q tree) h g small rest free n le earlier =
       let more = items_text tree ++ rest in
-      let k = g + atom_group_count a in
       let text = atom_text a ++ (quantifier_text q ++ more) in
-      let split : items_text (Item a q tree) ++ rest ≡ text = item_splits a q tree rest in
-      let fuel : 2 * length text < n = subst (λ t. 2 * length t < n) split le in
-      let long = item_length a q more in
+      let long = first_item a q tree rest n le in
       let one = atom-read a h.0 g (omega arith) q more (free_items tree h.2 rest free) (n - 1) (omega arith) in
       goes_on a q tree g rest n earlier
-      (ap (λ t. join_after cat_all earlier (items n (place g t))) split
+      (ap (λ t. join_after cat_all earlier (items n (place g t))) (item_splits a q tree rest)
       ∙ branch_goes n (n - 1) earlier (place g text) text (omega arith) refl (opens_item a h.0 (quantifier_text q ++ more)).1
       ∙ ap (λ o. o >>= more_parts (n - 1) earlier) one)
-      (items-read tree h.2 k (omega arith) rest free (n - 1) (omega (arith, long, atom_length a)) (earlier ++ repeated_as q (part g a) ∷ []))
+      (items-read tree h.2 (g + atom_group_count a) (omega arith) rest free (n - 1) long.behind (earlier ++ repeated_as q (part g a) ∷ []))
 
   pub atom-read : (a : Atom) → IsAtom a → (g : ℕ) → g + atom_group_count a ≤ 2 ^ 32 → (q : Quantifier) (more : Text) → Free more → (m : ℕ)
       → 2 * length (atom_text a ++ (quantifier_text q ++ more)) ≤ m

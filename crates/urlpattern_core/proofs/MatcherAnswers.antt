@@ -77,6 +77,19 @@ pub matched-single : {E : Type 0} (answer : E → List ℕ → Option Captures) 
 matched-single answer matcher text middle filter allow_empty test cut is_inner h =
     matched-by answer matcher text middle (SingleCapture filter allow_empty) test cut is_inner (accepts-single answer matcher.ignore_case filter allow_empty middle test h)
 
+-- it is not, where the middle does not pass
+pub not_matched-literal : {E : Type 0} (answer : E → List ℕ → Option Captures) (matcher : MatcherView E) (text middle literal : List ℕ) (test : Bool) →
+    HasMiddle matcher text middle → matcher.inner ≡ Literal literal → (IsTrue test ↔ IsSame matcher.ignore_case middle literal) →
+    test ≡ false → (captures : Captures) → ¬ Matches answer matcher text captures
+not_matched-literal answer matcher text middle literal test cut is_inner h =
+    not_matched-by answer matcher text test (matched-literal answer matcher text middle literal test cut is_inner h)
+
+pub not_matched-single : {E : Type 0} (answer : E → List ℕ → Option Captures) (matcher : MatcherView E) (text middle : List ℕ) (filter : Option ℕ) (allow_empty : Bool) (test : Bool) →
+    HasMiddle matcher text middle → matcher.inner ≡ SingleCapture filter allow_empty → (IsTrue test ↔ (MayBeEmpty allow_empty middle × PassesFilter matcher.ignore_case filter middle)) →
+    test ≡ false → (captures : Captures) → ¬ Matches answer matcher text captures
+not_matched-single answer matcher text middle filter allow_empty test cut is_inner h =
+    not_matched-by answer matcher text test (matched-single answer matcher text middle filter allow_empty test cut is_inner h)
+
 pub accepts-engine : {E : Type 0} (answer : E → List ℕ → Option Captures) (ignore_case : Bool) (engine : E) (middle : List ℕ) (found : Option Captures) →
     found ≡ answer engine middle →
     IsTrue (is_some found) ↔ ((captures : Captures) × Accepts answer ignore_case (RegExp (Ok engine)) middle captures)

@@ -1,5 +1,5 @@
 -- Lemmas on the texts of printed patterns.
-use Rattle.std.proofs.Common.{◌≡◌, ℕ, Bool, true, false, not, ◌&&◌, ◌==◌, List, [], ◌∷◌, ◌++◌, length, take, Option, Some, None, String, refl, sym, ap, subst, ◌∙◌, bytes_eq, map, arith}
+use Rattle.std.proofs.Common.{◌≡◌, ℕ, Bool, true, false, not, ◌&&◌, ◌==◌, List, [], ◌∷◌, ◌++◌, length, take, Option, Some, None, String, refl, sym, ap, subst, ◌∙◌, append_assoc, bytes_eq, map, arith}
 use denote.Ref.{Bor}
 use Rattle.std.proofs.lemmas.Slice.Eq.{bytes_eq-Decides}
 use Rattle.std.proofs.Math.Dec.{eqb}
@@ -105,6 +105,13 @@ printed-cut options previous part after rest next front is_next cut is_whole =
     ap (λ found. front ++ (printed_part options previous (part_view part) found ++ printed_after options (Some (part_view part)) (map part_view after))) (first_neighbour next after is_next)
     ∙ ap (λ list. front ++ printed_after options previous (map part_view list)) (sym cut)
     ∙ is_whole
+
+pub printed-more : (options : OptionsView) (previous : Option PartView) (part : Part) (after rest : List Part) (next : Option (Bor Part)) (front : List ℕ) {whole : List ℕ}
+    → option_copied next ≡ slice_get after 0 → rest ≡ part ∷ after → front ++ printed_after options previous (map part_view rest) ≡ whole
+    → (front ++ printed_part options previous (part_view part) (neighbour next)) ++ printed_after options (Some (part_view part)) (map part_view after) ≡ whole
+printed-more options previous part after rest next front is_next cut is_whole =
+    append_assoc front (printed_part options previous (part_view part) (neighbour next)) (printed_after options (Some (part_view part)) (map part_view after))
+    ∙ printed-cut options previous part after rest next front is_next cut is_whole
 
 -- ---- the texts of parts, by those of their pieces
 

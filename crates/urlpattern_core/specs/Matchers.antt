@@ -33,7 +33,7 @@ matcher_view matcher = record {
 }
 
 -- where a matcher is the result, this holds of it
-abbrev pub IfMatcher : {E : Type 0} → Result (Matcher E) Error → (MatcherView E → Type 0) → Type 0
+abbrev pub IfMatcher : {E Fault : Type 0} → Result (Matcher E) Fault → (MatcherView E → Type 0) → Type 0
 IfMatcher result Holds = IfOk result (λ matcher. Holds (matcher_view matcher))
 
 -- ---- words of private contracts

@@ -23,7 +23,7 @@ pub use matchers::generate_matcher;
 pub use normal::normalize_part_list;
 pub use printed::generate_pattern_string;
 use regexp_text::generate_regular_expression;
-use std::alloc::Global;
+use std::alloc::{AllocError, Global};
 
 /// What a pattern text is compiled to.
 ///
@@ -67,9 +67,8 @@ pub fn generate_regular_expression_and_name_list(
 }
 
 /// The names of the groups of a list of parts, in their order.
-fn generate_name_list(alloc: Global, part_list: &[Part]) -> Result<Vec<String>, Error>
-    ensures names { IfOk result (λ found. map (λ name. text_of name) found.items ≡ group_names (parts_view part_list.now)) }
-    ensures memory { IfErr result (λ error. error ≡ errors.OutOfMemory) }
+fn generate_name_list(alloc: Global, part_list: &[Part]) -> Result<Vec<String>, AllocError>
+    ensures { IfOk result (λ found. map (λ name. text_of name) found.items ≡ group_names (parts_view part_list.now)) }
 {
     let count = part_list.iter().filter(|part| is_group(part)).count();
     let mut names = Vec::with_capacity(alloc, count)?;

@@ -6,17 +6,7 @@ ghost use Rattle.std.specs.Str.{chars, IsUtf8};
 ghost use Rattle.urlpattern_engine.specs.Steps.{from_first, up_to_first};
 
 use urlpattern_syntax::tokenizer::before;
-
-/// The first character of a text and what follows it.
-pub(crate) fn split_first(text: &str) -> Option<(char, &str)>
-    ensures empty { IfNone result (chars text.now ≡ []) }
-    ensures cut { IfSome result (λ found. chars text.now ≡ found.0 ∷ chars found.1.now) }
-    ensures len { IfSome result (λ found. length found.1.now < length text.now) }
-{
-    let mut characters = text.chars();
-    let first = characters.next()?;
-    Some((first, characters.as_str()))
-}
+pub(crate) use urlpattern_syntax::tokenizer::split_first;
 
 /// What follows this character in a text that begins with it.
 pub(crate) fn after(text: &str, c: char) -> Option<&str>

@@ -1,6 +1,6 @@
 -- A placeholder by its tokens, and a modifier by its token: each is one.
 use Rattle.std.proofs.Common.{◌≡◌, ℕ, Bool, List, [], ◌∷◌, ◌++◌, Option, Some, None, refl, sym, ap, ◌∙◌, subst}
-use Rattle.std.specs.Prelude.{codes, IsTrue}
+use Rattle.std.specs.Prelude.{codes, IsTrue, if◌then◌else◌}
 use Rattle.std.proofs.lemmas.Bool.{false≢true}
 use Rattle.urlpattern_syntax.specs.declared.parser.PartModifier.{PartModifier}
 use Rattle.urlpattern_syntax.specs.declared.parser.PartModifier.TheVariants as modifiers
@@ -29,15 +29,10 @@ kinds_one e f g h = sym g ∙ ap (λ (token : TokenView). token.kind) (cons_one 
 tested : (test : TokenType → Bool) (kind known : TokenType) → kind ≡ known → IsTrue (test known) → IsTrue (test kind)
 tested test kind known e h = subst (λ k. IsTrue (test k)) (sym e) h
 
--- kinds with which the same things begin
+-- one of the kinds with which the same things begin
 abbrev pub family : TokenType → TokenType
-family Char = Char
-family EscapedChar = Char
-family Name = Name
-family Regexp = Name
-family Asterisk = Name
 family Open = Open
-family other = End
+family kind = if is_text kind then Char else if is_placeholder kind then Name else End
 
 abbrev pub first_family : List TokenView → Option TokenType
 first_family [] = None

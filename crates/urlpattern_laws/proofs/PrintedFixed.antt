@@ -12,7 +12,7 @@ use Rattle.urlpattern_syntax.specs.Options.{OptionsView}
 use Rattle.urlpattern_syntax.specs.Parts.{PartView}
 use Rattle.urlpattern_syntax.specs.Pieces.{BeginsWithKind, is_modifier, is_placeholder, is_regexp, is_text}
 use Rattle.urlpattern_syntax.specs.Pieces.{Ending as endings, Piece as pieces}
-use Rattle.urlpattern_syntax.specs.Pieces.{ArePieces}
+use Rattle.urlpattern_syntax.specs.Pieces.{ArePieces, Piece}
 use Rattle.urlpattern_syntax.specs.Reading.{Fixed, Item, items_from, joined_items, with_text}
 use Rattle.urlpattern_syntax.specs.RegexpText.{is_fixed_text, is_plain, is_unmodified, modifier_text}
 use Rattle.urlpattern_syntax.specs.Text.{BeginsWith, begins_with, byte_len, is_name_part}
@@ -23,7 +23,7 @@ use Rattle.urlpattern_laws.proofs.PrintedBehind.{Behind, ReadsBack, are_more, be
 use Rattle.urlpattern_laws.proofs.PrintedBraces.{braced_run, braced_tokens, closing_text, is_braced, text_ends}
 use Rattle.urlpattern_laws.proofs.PrintedTexts.{are_text_pieces, text_are, text_first, text_items, text_no_modifier, text_no_placeholder, text_no_regexp, text_pieces, text_run, text_tokens}
 use Rattle.urlpattern_laws.proofs.PrintedTokens.{Run, mark_ends, run_joined}
-use Rattle.urlpattern_laws.proofs.PrintingLaws.{plain_fixed, plain_kind, plain_modifier, plain_printed}
+use Rattle.urlpattern_laws.proofs.PrintingLaws.{plain_fixed, plain_modifier, plain_printed}
 use Rattle.urlpattern_laws.proofs.RoundTripWords.{AreApart, AreItemsOf, IsItemOf}
 
 -- ---- items
@@ -68,58 +68,6 @@ fixed_goes : (part : PartView) → IsTrue (is_fixed_text part.kind) → part.pre
 fixed_goes part fixed e f =
     goes_by part.prefix part.suffix _ e f ∙ ap (λ b. if b then begins_with is_name_part part.value else not (has_custom_name part)) fixed
 
-pub step_plain : (options : OptionsView) (whole : List ℕ) (before : Option PartView) (number : ℕ) (part : PartView) (parts : List PartView) → IsTrue (is_plain part) → part.value ≢ [] → IsUnskipped part.value → part.prefix ≡ [] → part.suffix ≡ [] →
-    AreApart (part ∷ parts) → ReadsBack options whole (Some part) number parts → ReadsBack options whole before number (part ∷ parts)
-step_plain options whole before number part parts plain filled unskipped no_prefix no_suffix apart more = record {
-  tokens = first ++ more.tokens;
-  pieces = text_pieces part.value ++ more.pieces;
-  run = subst (λ t. Run total [] (t ++ rest) (first ++ more.tokens)) spelled (run_joined (text_run total part.value rest unskipped) more.run);
-  are_pieces = subst (λ ts. ArePieces options.prefix ts (text_pieces part.value ++ more.pieces) (endings.Stops (end_of whole))) (sym whole_tokens)
-      (are_text_pieces options.prefix total part.value rest last more.pieces (endings.Stops (end_of whole)) more.are_pieces (more.behind.no_placeholder (plain_fixed part plain)));
-  are_items = (
-    Fixed part.value part.modifier,
-    joined_items (items_from number more.pieces),
-    text_items number part.value more.pieces
-        ∙ text_apart options part parts part.value (joined_items (items_from number more.pieces)) plain filled apart more.are_items
-        ∙ ap (λ m. Fixed part.value m ∷ joined_items (items_from number more.pieces)) (sym (plain_modifier part.kind part.modifier plain)),
-    fixed_item options part.kind part (plain_kind part.kind part.modifier plain),
-    more.are_items,
-  );
-  behind = behind_any options before (Some part) _ _ behind;
-}
-  where
-    total : ℕ
-    total = byte_len whole
-
-    rest : List ℕ
-    rest = printed_after options (Some part) parts
-
-    first : List TokenView
-    first = text_tokens total part.value rest
-
-    last : List TokenView
-    last = more.tokens ++ end_of whole ∷ []
-
-    spelled : escaped_pattern part.value ≡ printed_part options before part (first_part parts)
-    spelled = sym (plain_printed options before part (first_part parts) plain)
-
-    whole_tokens : (first ++ more.tokens) ++ end_of whole ∷ [] ≡ first ++ last
-    whole_tokens = append_assoc first more.tokens (end_of whole ∷ [])
-
-    begins_no : (test : TokenType → Bool) → ((kind : TokenType) → IsTrue (is_text kind) → ¬ IsTrue (test kind)) → ¬ BeginsWithKind test ((first ++ more.tokens) ++ end_of whole ∷ [])
-    begins_no test others = subst (λ ts. ¬ BeginsWithKind test ts) (sym whole_tokens) (text_first test total part.value rest last others (λ e. absurd (filled e)))
-
-    behind : (earlier : PartView) → before ≡ Some earlier → Behind options earlier (Some part) (printed_part options before part (first_part parts) ++ rest) ((first ++ more.tokens) ++ end_of whole ∷ [])
-    behind earlier e = record {
-      no_modifier = λ _ _. begins_no is_modifier text_no_modifier;
-      no_placeholder = λ _ _ _. begins_no is_placeholder text_no_placeholder;
-      no_regexp = λ _ _ _. begins_no is_regexp text_no_regexp;
-      no_name_part = λ alone unmodified free. subst (λ t. ¬ BeginsWith is_name_part (t ++ rest)) spelled
-          (text_ends part.value rest (sym (fixed_goes part (plain_fixed part plain) no_prefix no_suffix) ∙ goes_not earlier part alone unmodified free) (λ f. absurd (filled f)));
-    }
-
--- ---- a fixed text with a modifier
-
 modified_printed : (options : OptionsView) (before : Option PartView) (part : PartView) (next : Option PartView) → IsTrue (is_fixed_text part.kind) → is_unmodified part.modifier ≡ false →
     printed_part options before part next ≡ in_braces true (escaped_pattern part.value) ++ modifier_text part.modifier
 unfolding printed_part
@@ -137,45 +85,91 @@ fixed_kind : (kind : PartType) → IsTrue (is_fixed_text kind) → kind ≡ Fixe
 fixed_kind FixedText h = refl
 fixed_kind kind h = absurd (no h)
 
-pub step_modified : (options : OptionsView) (whole : List ℕ) (before : Option PartView) (number : ℕ) (part : PartView) (parts : List PartView) → IsTrue (is_fixed_text part.kind) → is_unmodified part.modifier ≡ false → IsUnskipped part.value →
-    ReadsBack options whole (Some part) number parts → ReadsBack options whole before number (part ∷ parts)
-step_modified options whole before number part parts fixed modified unskipped more = record {
-  tokens = first ++ more.tokens;
-  pieces = pieces.TextGroup part.value part.modifier ∷ more.pieces;
-  run = subst (λ t. Run total [] (t ++ rest) (first ++ more.tokens)) spelled
-      (run_joined (braced_run total (escaped_pattern part.value) inner part.modifier rest (text_run total part.value (closing_text part.modifier rest) unskipped)) more.run);
-  are_pieces = are_more options.prefix first more.tokens (end_of whole ∷ []) (pieces.TextGroup part.value part.modifier) more.pieces (endings.Stops (end_of whole))
+-- ---- before parts that are read back
+
+module _ (options : OptionsView) (whole : List ℕ) (before : Option PartView) (number : ℕ) (part : PartView) (parts : List PartView) where
+  abbrev total : ℕ
+  total = byte_len whole
+
+  -- what is printed behind the part
+  abbrev rest : List ℕ
+  rest = printed_after options (Some part) parts
+
+  -- a fixed text that is printed as this text, whose tokens and pieces stand before the others
+  step_fixed : (text : List ℕ) (first : List TokenView) (own : List Piece) → IsTrue (is_fixed_text part.kind) → text ≡ printed_part options before part (first_part parts) → (more : ReadsBack options whole (Some part) number parts) →
+      Run total [] (text ++ rest) (first ++ more.tokens) → ArePieces options.prefix ((first ++ more.tokens) ++ end_of whole ∷ []) (own ++ more.pieces) (endings.Stops (end_of whole)) →
+      joined_items (items_from number (own ++ more.pieces)) ≡ Fixed part.value part.modifier ∷ joined_items (items_from number more.pieces) →
+      ((earlier : PartView) → before ≡ Some earlier → Behind options earlier (Some part) (printed_part options before part (first_part parts) ++ rest) ((first ++ more.tokens) ++ end_of whole ∷ [])) →
+      ReadsBack options whole before number (part ∷ parts)
+  step_fixed text first own fixed spelled more run are_pieces items behind = record {
+    tokens = first ++ more.tokens;
+    pieces = own ++ more.pieces;
+    run = subst (λ t. Run total [] (t ++ rest) (first ++ more.tokens)) spelled run;
+    are_pieces = are_pieces;
+    are_items = (Fixed part.value part.modifier, joined_items (items_from number more.pieces), items, fixed_item options part.kind part (fixed_kind part.kind fixed), more.are_items);
+    behind = behind_any options before (Some part) _ _ behind;
+  }
+
+  pub step_plain : IsTrue (is_plain part) → part.value ≢ [] → IsUnskipped part.value → part.prefix ≡ [] → part.suffix ≡ [] → AreApart (part ∷ parts) →
+      ReadsBack options whole (Some part) number parts → ReadsBack options whole before number (part ∷ parts)
+  step_plain plain filled unskipped no_prefix no_suffix apart more =
+      step_fixed (escaped_pattern part.value) first (text_pieces part.value) (plain_fixed part plain) spelled more
+      (run_joined (text_run total part.value rest unskipped) more.run)
+      (subst (λ ts. ArePieces options.prefix ts (text_pieces part.value ++ more.pieces) (endings.Stops (end_of whole))) (sym whole_tokens)
+      (are_text_pieces options.prefix total part.value rest last more.pieces (endings.Stops (end_of whole)) more.are_pieces (more.behind.no_placeholder (plain_fixed part plain))))
+      (text_items number part.value more.pieces
+      ∙ text_apart options part parts part.value (joined_items (items_from number more.pieces)) plain filled apart more.are_items
+      ∙ ap (λ m. Fixed part.value m ∷ joined_items (items_from number more.pieces)) (sym (plain_modifier part.kind part.modifier plain)))
+      behind
+    where
+      first : List TokenView
+      first = text_tokens total part.value rest
+
+      last : List TokenView
+      last = more.tokens ++ end_of whole ∷ []
+
+      spelled : escaped_pattern part.value ≡ printed_part options before part (first_part parts)
+      spelled = sym (plain_printed options before part (first_part parts) plain)
+
+      whole_tokens : (first ++ more.tokens) ++ end_of whole ∷ [] ≡ first ++ last
+      whole_tokens = append_assoc first more.tokens (end_of whole ∷ [])
+
+      begins_no : (test : TokenType → Bool) → ((kind : TokenType) → IsTrue (is_text kind) → ¬ IsTrue (test kind)) → ¬ BeginsWithKind test ((first ++ more.tokens) ++ end_of whole ∷ [])
+      begins_no test others = subst (λ ts. ¬ BeginsWithKind test ts) (sym whole_tokens) (text_first test total part.value rest last others (λ e. absurd (filled e)))
+
+      behind : (earlier : PartView) → before ≡ Some earlier → Behind options earlier (Some part) (printed_part options before part (first_part parts) ++ rest) ((first ++ more.tokens) ++ end_of whole ∷ [])
+      behind earlier e = record {
+        no_modifier = λ _ _. begins_no is_modifier text_no_modifier;
+        no_placeholder = λ _ _ _. begins_no is_placeholder text_no_placeholder;
+        no_regexp = λ _ _ _. begins_no is_regexp text_no_regexp;
+        no_name_part = λ alone unmodified free. subst (λ t. ¬ BeginsWith is_name_part (t ++ rest)) spelled
+            (text_ends part.value rest (sym (fixed_goes part (plain_fixed part plain) no_prefix no_suffix) ∙ goes_not earlier part alone unmodified free) (λ f. absurd (filled f)));
+      }
+
+  pub step_modified : IsTrue (is_fixed_text part.kind) → is_unmodified part.modifier ≡ false → IsUnskipped part.value →
+      ReadsBack options whole (Some part) number parts → ReadsBack options whole before number (part ∷ parts)
+  step_modified fixed modified unskipped more =
+      step_fixed (in_braces true (escaped_pattern part.value) ++ modifier_text part.modifier) first (pieces.TextGroup part.value part.modifier ∷ []) fixed spelled more
+      (run_joined (braced_run total (escaped_pattern part.value) inner part.modifier rest (text_run total part.value (closing_text part.modifier rest) unskipped)) more.run)
+      (are_more options.prefix first more.tokens (end_of whole ∷ []) (pieces.TextGroup part.value part.modifier) more.pieces (endings.Stops (end_of whole))
       (inner, is_braced total (escaped_pattern part.value) inner part.modifier rest (more.tokens ++ end_of whole ∷ []) (λ h. absurd (both_ways _ modified h)), text_are total part.value (closing_text part.modifier rest))
-      more.are_pieces;
-  are_items = (
-    Fixed part.value part.modifier,
-    joined_items (items_from number more.pieces),
-    joined_modified part.value part.modifier (items_from number more.pieces) modified,
-    fixed_item options part.kind part (fixed_kind part.kind fixed),
-    more.are_items,
-  );
-  behind = behind_any options before (Some part) _ _ behind;
-}
-  where
-    total : ℕ
-    total = byte_len whole
+      more.are_pieces)
+      (joined_modified part.value part.modifier (items_from number more.pieces) modified)
+      behind
+    where
+      inner : List TokenView
+      inner = text_tokens total part.value (closing_text part.modifier rest)
 
-    rest : List ℕ
-    rest = printed_after options (Some part) parts
+      first : List TokenView
+      first = braced_tokens total (escaped_pattern part.value) inner part.modifier rest
 
-    inner : List TokenView
-    inner = text_tokens total part.value (closing_text part.modifier rest)
+      spelled : in_braces true (escaped_pattern part.value) ++ modifier_text part.modifier ≡ printed_part options before part (first_part parts)
+      spelled = sym (modified_printed options before part (first_part parts) fixed modified)
 
-    first : List TokenView
-    first = braced_tokens total (escaped_pattern part.value) inner part.modifier rest
-
-    spelled : in_braces true (escaped_pattern part.value) ++ modifier_text part.modifier ≡ printed_part options before part (first_part parts)
-    spelled = sym (modified_printed options before part (first_part parts) fixed modified)
-
-    behind : (earlier : PartView) → before ≡ Some earlier → Behind options earlier (Some part) (printed_part options before part (first_part parts) ++ rest) ((first ++ more.tokens) ++ end_of whole ∷ [])
-    behind earlier e = record {
-      no_modifier = λ _ _. no;
-      no_placeholder = λ _ _ _. no;
-      no_regexp = λ _ _ _. no;
-      no_name_part = λ _ _ _. subst (λ t. ¬ BeginsWith is_name_part (t ++ rest)) spelled (mark_ends (codes "{") refl);
-    }
+      behind : (earlier : PartView) → before ≡ Some earlier → Behind options earlier (Some part) (printed_part options before part (first_part parts) ++ rest) ((first ++ more.tokens) ++ end_of whole ∷ [])
+      behind earlier e = record {
+        no_modifier = λ _ _. no;
+        no_placeholder = λ _ _ _. no;
+        no_regexp = λ _ _ _. no;
+        no_name_part = λ _ _ _. subst (λ t. ¬ BeginsWith is_name_part (t ++ rest)) spelled (mark_ends (codes "{") refl);
+      }

@@ -1,5 +1,5 @@
 -- Worked examples of printed patterns that read back, and of what prints or reads otherwise where one premise is missing.
-use Rattle.std.proofs.Common.{◌≡◌, ℕ, List, [], ◌∷◌, refl, subst, arith, inl, inr, lit<, Some, None, Ok}
+use Rattle.std.proofs.Common.{◌≡◌, ℕ, List, [], ◌∷◌, refl, subst, arith, inl, lit<, Some, None, Ok}
 use Rattle.std.specs.Fmt.{digits}
 use Rattle.std.specs.Prelude.{codes}
 use Rattle.urlpattern_syntax.specs.declared.parser.PartModifier.TheVariants as modifiers
@@ -8,14 +8,14 @@ use Rattle.urlpattern_syntax.specs.declared.tokenizer.TokenType.TheVariants as t
 use Rattle.urlpattern_syntax.specs.Errors.{ErrorView as views}
 use Rattle.urlpattern_syntax.specs.Options.{OptionsView, default_options, pathname_options, standard_options}
 use Rattle.urlpattern_syntax.specs.Parts.{PartView}
-use Rattle.urlpattern_syntax.specs.Pieces.{Piece, Text, Bare, Segment, Anything, Custom, Placeholder, Stops}
-use Rattle.urlpattern_syntax.specs.Reading.{AreMet, AreParts, Encoding, Reads, Refuses, demands, items_of}
+use Rattle.urlpattern_syntax.specs.Pieces.{Piece, Text, Bare, Anything, Custom, Placeholder, Stops}
+use Rattle.urlpattern_syntax.specs.Reading.{Encoding, Reads, Refuses}
 use Rattle.urlpattern_syntax.specs.RegexpText.{escaped}
-use Rattle.urlpattern_syntax.specs.Tokens.{AreTokens, IsRegexpBody, InvalidRegex, NoBody, Nothing, Plain, TokenView, reason}
-use Rattle.urlpattern_syntax.proofs.PieceExamples.{PieceCut, bare, ends, piece, pieces_of}
-use Rattle.urlpattern_syntax.proofs.ReadingExamples.{first_name, keeping, other_name}
+use Rattle.urlpattern_syntax.specs.Tokens.{AreTokens, IsRegexpBody, InvalidRegex, NoBody, Nothing, Plain, reason}
+use Rattle.urlpattern_syntax.proofs.PieceExamples.{PieceCut, bare, ends, piece}
+use Rattle.urlpattern_syntax.proofs.ReadingExamples.{first_name, keeping, named, other_name, read_by, same_name, tokens_of, unnamed}
 use Rattle.urlpattern_syntax.proofs.RegexpTextExamples.{group}
-use Rattle.urlpattern_syntax.proofs.TokenExamples.{char, cut_of, done, empty, literals, mark, name, next, no, none, regexp, token}
+use Rattle.urlpattern_syntax.proofs.TokenExamples.{char, done, empty, literals, mark, name, next, no, none, regexp, token}
 use Rattle.urlpattern_laws.specs.Printing.{Keeps, KeepsTexts, encoded_texts, joined, printed}
 use Rattle.urlpattern_laws.specs.RoundTrip.{IsPrintable}
 use Rattle.urlpattern_laws.proofs.PrintingExamples.{plain, printing, segment, wildcard}
@@ -30,21 +30,6 @@ keeps_texts (text ∷ texts) = (λ answer. (λ e. e, λ e. e), keeps_texts texts
 
 pub keeps_parts : (parts : List PartView) → Keeps keeping parts
 keeps_parts parts = keeps_texts ([] ∷ encoded_texts (joined parts))
-
--- a text reads as these parts by its tokens, its pieces, what is met and what the parts are
-read_by : {text : List ℕ} {tokens : List TokenView} {pieces : List Piece} {found : TokenView} {parts : List PartView} (options : OptionsView)
-    (encoding : Encoding) → AreTokens text tokens → PieceCut options.prefix (Stops found) tokens pieces
-    → AreMet encoding (demands (items_of pieces) (Stops found)) → AreParts options encoding (items_of pieces) parts
-    → Reads text options encoding parts
-read_by options encoding are_tokens cut met are_parts = record {
-  tokens = _;
-  pieces = _;
-  found = _;
-  are_tokens = are_tokens;
-  are_pieces = pieces_of cut;
-  are_met = met;
-  are_parts = are_parts;
-}
 
 -- a slash and a name, which print as `/{:x}`
 pub slash_printable : IsPrintable pathname_options (plain (codes "/") ∷ segment [] (codes "x") [] ∷ [])
@@ -75,13 +60,10 @@ slash_read =
 abbrev lone : Placeholder → Piece
 lone placeholder = Bare [] placeholder modifiers.None
 
-abbrev named : List ℕ → Piece
-named name = lone (record { name = Some name; matched = Segment })
-
 -- two names, one behind the other
 names_cut : (point first second : List ℕ) (place end : ℕ)
     → PieceCut point (Stops (token tokens.End end [])) (token tokens.Name 0 first ∷ token tokens.Name place second ∷ token tokens.End end [] ∷ [])
-    (named first ∷ named second ∷ [])
+    (lone (named first) ∷ lone (named second) ∷ [])
 names_cut point first second place end =
     piece 1 (bare 0 1 (inl (refl, refl)) (refl, refl) refl no no) (piece 1 (bare 0 1 (inl (refl, refl)) (refl, refl) refl no no) (ends (_, refl, refl)))
 
@@ -91,7 +73,7 @@ unfolding printing
 empty_text = refl
 
 pub empty_read : Reads [] default_options keeping []
-empty_read = record { tokens = _; pieces = []; found = token tokens.End 0 []; are_tokens = empty; are_pieces = ([], refl, refl); are_met = (refl, tt); are_parts = refl }
+empty_read = read_by [] (token tokens.End 0 []) empty (ends ([], refl, refl)) (refl, tt) refl
 
 -- one behind a name: what stands behind it is taken by the name
 pub between_text : printed default_options (segment [] (codes "x") [] ∷ plain [] ∷ plain (codes "b") ∷ []) ≡ codes ":xb"
@@ -100,16 +82,16 @@ between_text = refl
 
 pub between_tokens : AreTokens (codes ":xb") (token tokens.Name 0 (codes "xb") ∷ token tokens.End 3 [] ∷ [])
 unfolding literals
-between_tokens = record { front = token tokens.Name 0 (codes "xb") ∷ []; cut = cut_of (next (name (codes "xb") (refl, refl) no refl) done); all = refl }
+between_tokens = tokens_of (token tokens.Name 0 (codes "xb") ∷ []) (next (name (codes "xb") (refl, refl) no refl) done)
 
 abbrev between_pieces : List Piece
-between_pieces = named (codes "xb") ∷ []
+between_pieces = lone (named (codes "xb")) ∷ []
 
 between_cut : PieceCut [] (Stops (token tokens.End 3 [])) (token tokens.Name 0 (codes "xb") ∷ token tokens.End 3 [] ∷ []) between_pieces
 between_cut = piece 1 (bare 0 1 (inl (refl, refl)) (refl, refl) refl no no) (ends (_, refl, refl))
 
 pub between_read : Reads (codes ":xb") default_options keeping (segment [] (codes "xb") [] ∷ [])
-between_read = read_by default_options keeping between_tokens between_cut (first_name, ((_, refl), ((_, refl), (refl, tt)))) ([], [], [], refl, refl, refl, refl)
+between_read = read_by _ _ between_tokens between_cut (first_name, ((_, refl), ((_, refl), (refl, tt)))) ([], [], [], refl, refl, refl, refl)
 
 -- a tab: it is skipped where it is read
 pub tab_text : printed default_options (plain (codes "\t") ∷ []) ≡ codes "\t"
@@ -121,7 +103,7 @@ unfolding literals
 tab_tokens = record { front = []; cut = (codes "\t", refl, refl); all = refl }
 
 pub tab_read : Reads (codes "\t") default_options keeping []
-tab_read = record { tokens = _; pieces = []; found = token tokens.End 1 []; are_tokens = tab_tokens; are_pieces = ([], refl, refl); are_met = (refl, tt); are_parts = refl }
+tab_read = read_by [] (token tokens.End 1 []) tab_tokens (ends ([], refl, refl)) (refl, tt) refl
 
 -- a prefix code point that is a letter: the name before it takes it
 abbrev letter_options : OptionsView
@@ -133,14 +115,12 @@ letter_text = refl
 
 pub letter_tokens : AreTokens (codes ":xa:y") (token tokens.Name 0 (codes "xa") ∷ token tokens.Name 3 (codes "y") ∷ token tokens.End 5 [] ∷ [])
 unfolding literals
-letter_tokens = record {
-  front = token tokens.Name 0 (codes "xa") ∷ token tokens.Name 3 (codes "y") ∷ [];
-  cut = cut_of (next (name (codes "xa") (refl, refl) no refl) (next (name (codes "y") (refl, refl) no refl) done));
-  all = refl;
-}
+letter_tokens =
+    tokens_of (token tokens.Name 0 (codes "xa") ∷ token tokens.Name 3 (codes "y") ∷ [])
+    (next (name (codes "xa") (refl, refl) no refl) (next (name (codes "y") (refl, refl) no refl) done))
 
 pub letter_read : Reads (codes ":xa:y") letter_options keeping (segment [] (codes "xa") [] ∷ segment [] (codes "y") [] ∷ [])
-letter_read = read_by letter_options keeping letter_tokens (names_cut (codes "a") (codes "xa") (codes "y") 3 5) (first_name, ((_, refl), ((_, refl), (other_name (λ e. cc), ((_, refl), ((_, refl), (refl, tt))))))) ([], [], _, refl, refl, refl, ([], [], [], refl, refl, refl, refl))
+letter_read = read_by _ _ letter_tokens (names_cut (codes "a") (codes "xa") (codes "y") 3 5) (first_name, ((_, refl), ((_, refl), (other_name (λ e. cc), ((_, refl), ((_, refl), (refl, tt))))))) ([], [], _, refl, refl, refl, ([], [], [], refl, refl, refl, refl))
 
 -- one that is a mark: its backslash keeps it from the name behind it
 pub mark_text : printed (standard_options None (codes "*")) (segment (codes "*") (codes "x") [] ∷ []) ≡ codes "\\*:x"
@@ -159,40 +139,25 @@ number_text = refl
 
 pub number_tokens : AreTokens (codes "*") (token tokens.Asterisk 0 (codes "*") ∷ token tokens.End 1 [] ∷ [])
 unfolding literals
-number_tokens = record { front = token tokens.Asterisk 0 (codes "*") ∷ []; cut = cut_of (next (mark (refl, refl) tt refl) done); all = refl }
+number_tokens = tokens_of (token tokens.Asterisk 0 (codes "*") ∷ []) (next (mark (refl, refl) tt refl) done)
 
 abbrev number_pieces : List Piece
-number_pieces = lone (record { name = None; matched = Anything }) ∷ []
+number_pieces = lone (unnamed Anything) ∷ []
 
 number_cut : PieceCut [] (Stops (token tokens.End 1 [])) (token tokens.Asterisk 0 (codes "*") ∷ token tokens.End 1 [] ∷ []) number_pieces
 number_cut = piece 1 (bare 0 1 (inl (refl, refl)) refl refl tt no) (ends (_, refl, refl))
 
 pub number_read : Reads (codes "*") default_options keeping (wildcard (codes "0") ∷ [])
 unfolding digits
-number_read = read_by default_options keeping number_tokens number_cut (first_name, ((_, refl), ((_, refl), (refl, tt)))) ([], [], [], refl, refl, refl, refl)
+number_read = read_by _ _ number_tokens number_cut (first_name, ((_, refl), ((_, refl), (refl, tt)))) ([], [], [], refl, refl, refl, refl)
 
 -- two groups of one name
-pub twice_text : printed default_options (segment [] (codes "x") [] ∷ segment [] (codes "x") [] ∷ []) ≡ codes ":x:x"
+pub twice_text : printed default_options (segment [] (codes "a") [] ∷ segment [] (codes "a") [] ∷ []) ≡ codes ":a:a"
 unfolding printing
 twice_text = refl
 
-pub twice_tokens : AreTokens (codes ":x:x") (token tokens.Name 0 (codes "x") ∷ token tokens.Name 2 (codes "x") ∷ token tokens.End 4 [] ∷ [])
-unfolding literals
-twice_tokens = record {
-  front = token tokens.Name 0 (codes "x") ∷ token tokens.Name 2 (codes "x") ∷ [];
-  cut = cut_of (next (name (codes "x") (refl, refl) no refl) (next (name (codes "x") (refl, refl) no refl) done));
-  all = refl;
-}
-
-pub twice_refused : Refuses (codes ":x:x") default_options keeping (views.DuplicateName (codes "x"))
-twice_refused = inr (record {
-  tokens = _;
-  pieces = named (codes "x") ∷ named (codes "x") ∷ [];
-  ending = Stops (token tokens.End 4 []);
-  are_tokens = twice_tokens;
-  are_pieces = pieces_of (names_cut [] (codes "x") (codes "x") 2 4);
-  fails = inr (first_name, inr ((_, refl), inr ((_, refl), inl ((0, omega arith, refl), refl))));
-})
+pub twice_refused : Refuses (codes ":a:a") default_options keeping (views.DuplicateName (codes "a"))
+twice_refused = same_name
 
 -- an empty name
 pub nameless_text : printed default_options (segment [] [] [] ∷ []) ≡ codes ":"
@@ -227,17 +192,17 @@ full_body = record {
 
 pub full_tokens : AreTokens (codes "(.*)") (token tokens.Regexp 0 (codes ".*") ∷ token tokens.End 4 [] ∷ [])
 unfolding literals
-full_tokens = record { front = token tokens.Regexp 0 (codes ".*") ∷ []; cut = cut_of (next (regexp (codes ".*") full_body refl) done); all = refl }
+full_tokens = tokens_of (token tokens.Regexp 0 (codes ".*") ∷ []) (next (regexp (codes ".*") full_body refl) done)
 
 abbrev full_pieces : List Piece
-full_pieces = lone (record { name = None; matched = Custom (codes ".*") }) ∷ []
+full_pieces = lone (unnamed (Custom (codes ".*"))) ∷ []
 
 full_cut : PieceCut [] (Stops (token tokens.End 4 [])) (token tokens.Regexp 0 (codes ".*") ∷ token tokens.End 4 [] ∷ []) full_pieces
 full_cut = piece 1 (bare 0 1 (inl (refl, refl)) (refl, refl) refl tt no) (ends (_, refl, refl))
 
 pub full_read : Reads (codes "(.*)") default_options keeping (wildcard (codes "0") ∷ [])
 unfolding escaped digits
-full_read = read_by default_options keeping full_tokens full_cut (first_name, ((_, refl), ((_, refl), (refl, tt)))) ([], [], [], refl, refl, refl, refl)
+full_read = read_by _ _ full_tokens full_cut (first_name, ((_, refl), ((_, refl), (refl, tt)))) ([], [], [], refl, refl, refl, refl)
 
 -- a value that is none of a group's
 pub value_text : printed default_options (record (wildcard (codes "0")) { value = codes "a" } ∷ []) ≡ codes "*"
@@ -260,7 +225,7 @@ changing text answer = answer ≡ Ok (codes "b")
 
 pub changed_tokens : AreTokens (codes "a") (token tokens.Char 0 (codes "a") ∷ token tokens.End 1 [] ∷ [])
 unfolding literals
-changed_tokens = record { front = token tokens.Char 0 (codes "a") ∷ []; cut = cut_of (next (char refl refl refl) done); all = refl }
+changed_tokens = tokens_of (token tokens.Char 0 (codes "a") ∷ []) (next (char refl refl refl) done)
 
 abbrev changed_pieces : List Piece
 changed_pieces = Text (codes "a") ∷ []
@@ -269,4 +234,4 @@ changed_cut : PieceCut [] (Stops (token tokens.End 1 [])) (token tokens.Char 0 (
 changed_cut = piece 1 (_, refl, refl, refl, λ k v. no) (ends (_, refl, refl))
 
 pub changed_read : Reads (codes "a") default_options changing (plain (codes "b") ∷ [])
-changed_read = read_by default_options changing changed_tokens changed_cut ((_, refl), (refl, tt)) (codes "b", [], refl, refl, refl)
+changed_read = read_by _ _ changed_tokens changed_cut ((_, refl), (refl, tt)) (codes "b", [], refl, refl, refl)

@@ -1,10 +1,13 @@
 -- Lemmas on a group that is read token by token, up to where its end has to be.
-use Rattle.std.proofs.Common.{◌≡◌, List, ℕ, ◌∷◌, ◌++◌}
+use Rattle.std.proofs.Common.{◌≡◌, ◌≢◌, List, ℕ, false, ◌∷◌, ◌++◌, inl, inr, ap, ◌∙◌, sym, subst}
+use Rattle.urlpattern_syntax.specs.declared.parser.PartModifier.{PartModifier}
 use Rattle.urlpattern_syntax.specs.declared.parser.pieces.Reader.{Reader}
-use Rattle.urlpattern_syntax.specs.Parsing.{BeginsWithPlaceholder, BeginsWithTexts, Takes}
-use Rattle.urlpattern_syntax.specs.Pieces.{BeginsWithKind, IsFilled, Placeholder, is_text}
-use Rattle.urlpattern_syntax.specs.Tokens.{TokenView}
-use Rattle.urlpattern_syntax.proofs.PieceLemmas.{filled, filled_cut}
+use Rattle.urlpattern_syntax.specs.declared.tokenizer.TokenType.TheVariants.{Close, Open}
+use Rattle.urlpattern_syntax.specs.Parsing.{BeginsWithClose, BeginsWithPiece, BeginsWithPlaceholder, BeginsWithTexts, EndsAt, Takes}
+use Rattle.urlpattern_syntax.specs.Pieces.{BeginsWithKind, IsFilled, Placeholder, is_placeholder, is_text}
+use Rattle.urlpattern_syntax.specs.Pieces.{Ending as endings, Piece as pieces}
+use Rattle.urlpattern_syntax.specs.Tokens.{TokenView, token_view}
+use Rattle.urlpattern_syntax.proofs.PieceLemmas.{filled, filled_cut, filled_group, not_first, open_ending, text_group}
 use Rattle.urlpattern_syntax.proofs.ReaderLemmas.{takes_then}
 
 -- the tokens begin with this opening brace and texts
@@ -43,3 +46,57 @@ takes_inner a b c d opening before placeholder after front middle back =
       is_filled = filled p.0 p.1 y z before after placeholder p.3 p.4 q;
       all = q.all;
     })
+
+-- ---- the four ends of a group
+
+-- texts in braces, and a modifier
+pub takes_text_group : (old mid new : Reader) (before : List ℕ) (modifier : PartModifier) → old.token.kind ≡ Open →
+    Takes old mid (BeginsWithFront (token_view old.token) before) → Takes mid new (λ tokens rest. BeginsWithClose tokens modifier rest) →
+    Takes old new (λ tokens rest. (point : List ℕ) → BeginsWithPiece point tokens (pieces.TextGroup before modifier) rest)
+takes_text_group old mid new before modifier is_open front closes =
+    takes_then old mid new (BeginsWithFront (token_view old.token) before) (λ tokens rest. BeginsWithClose tokens modifier rest)
+    (λ tokens rest. (point : List ℕ) → BeginsWithPiece point tokens (pieces.TextGroup before modifier) rest) front closes
+    (λ x y z gx gy gz p q point. subst (λ w. BeginsWithPiece point w (pieces.TextGroup before modifier) z) (sym p.1)
+    (text_group (token_view old.token) p.2.front p.0 y z modifier is_open p.2.cut q point before p.2.are_texts))
+
+-- texts behind a brace that is not closed
+pub takes_open_texts : (old mid new : Reader) (before : List ℕ) → old.token.kind ≡ Open → is_placeholder mid.token.kind ≡ false → new.token.kind ≢ Close →
+    Takes old mid (BeginsWithFront (token_view old.token) before) → Takes mid new (λ tokens rest. tokens ≡ rest) →
+    Takes old new (λ tokens rest. List ℕ → EndsAt tokens endings.LacksClose rest)
+takes_open_texts old mid new before is_open none other front lacks =
+    takes_then old mid new (BeginsWithFront (token_view old.token) before) (λ tokens rest. tokens ≡ rest)
+    (λ tokens rest. List ℕ → EndsAt tokens endings.LacksClose rest) front lacks
+    (λ x y z gx gy gz p q point. subst (λ w. EndsAt w endings.LacksClose z) (sym p.1)
+    (open_ending (token_view old.token) p.2.front p.0 z gz.more (token_view new.token) is_open (p.2.cut ∙ ap (λ w. p.2.front ++ w) q) gz.first (
+      subst (λ w. ¬ BeginsWithKind is_text w) q p.2.all,
+      inl (
+        before,
+        p.2.are_texts,
+        subst (λ w. ¬ BeginsWithKind is_placeholder w) q (not_first is_placeholder (token_view mid.token) gy.more y gy.first none),
+      ),
+    )
+    other))
+
+-- a placeholder between texts in braces, and a modifier
+pub takes_filled_group : (old mid new : Reader) (before : List ℕ) (placeholder : Placeholder) (after : List ℕ) (modifier : PartModifier) → old.token.kind ≡ Open →
+    Takes old mid (BeginsWithInner (token_view old.token) before placeholder after) → Takes mid new (λ tokens rest. BeginsWithClose tokens modifier rest) →
+    Takes old new (λ tokens rest. (point : List ℕ) → BeginsWithPiece point tokens (pieces.Group before placeholder after modifier) rest)
+takes_filled_group old mid new before placeholder after modifier is_open inner closes =
+    let Piece : List TokenView → List TokenView → Type 0 = λ tokens rest. (point : List ℕ) → BeginsWithPiece point tokens (pieces.Group before placeholder after modifier) rest in
+    takes_then old mid new (BeginsWithInner (token_view old.token) before placeholder after) (λ tokens rest. BeginsWithClose tokens modifier rest) Piece inner closes
+    (λ x y z gx gy gz p q point. subst (λ w. BeginsWithPiece point w (pieces.Group before placeholder after modifier) z) (sym p.first)
+    (filled_group (token_view old.token) p.inner p.behind y z modifier is_open p.cut q point before after placeholder (subst (IsFilled p.inner before placeholder after) q.cut p.is_filled)))
+
+-- a placeholder between texts behind a brace that is not closed
+pub takes_open_filled : (old mid new : Reader) (before : List ℕ) (placeholder : Placeholder) (after : List ℕ) → old.token.kind ≡ Open → new.token.kind ≢ Close →
+    Takes old mid (BeginsWithInner (token_view old.token) before placeholder after) → Takes mid new (λ tokens rest. tokens ≡ rest) →
+    Takes old new (λ tokens rest. List ℕ → EndsAt tokens endings.LacksClose rest)
+takes_open_filled old mid new before placeholder after is_open other inner lacks =
+    takes_then old mid new (BeginsWithInner (token_view old.token) before placeholder after) (λ tokens rest. tokens ≡ rest)
+    (λ tokens rest. List ℕ → EndsAt tokens endings.LacksClose rest) inner lacks
+    (λ x y z gx gy gz p q point. subst (λ w. EndsAt w endings.LacksClose z) (sym p.first)
+    (open_ending (token_view old.token) p.inner p.behind z gz.more (token_view new.token) is_open (p.cut ∙ ap (λ w. p.inner ++ w) q) gz.first (
+      subst (λ w. ¬ BeginsWithKind is_text w) q p.all,
+      inr (before, after, placeholder, subst (IsFilled p.inner before placeholder after) q p.is_filled),
+    )
+    other))

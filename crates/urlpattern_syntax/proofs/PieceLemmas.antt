@@ -283,26 +283,11 @@ not_first test token more tokens e f h = false≢true (sym f ∙ subst (BeginsWi
 pub no_modifier : (kind : TokenType) → kind ≢ OtherModifier → kind ≢ Asterisk → is_modifier kind ≡ false
 no_modifier OtherModifier h g = absurd (h refl)
 no_modifier Asterisk h g = absurd (g refl)
-no_modifier Open h g = refl
-no_modifier Close h g = refl
-no_modifier Regexp h g = refl
-no_modifier Name h g = refl
-no_modifier Char h g = refl
-no_modifier EscapedChar h g = refl
-no_modifier End h g = refl
-no_modifier InvalidChar h g = refl
+no_modifier other h g = refl
 
 pub not_regexp : (kind : TokenType) → kind ≢ Regexp → is_regexp kind ≡ false
 not_regexp Regexp h = absurd (h refl)
-not_regexp Asterisk h = refl
-not_regexp OtherModifier h = refl
-not_regexp Open h = refl
-not_regexp Close h = refl
-not_regexp Name h = refl
-not_regexp Char h = refl
-not_regexp EscapedChar h = refl
-not_regexp End h = refl
-not_regexp InvalidChar h = refl
+not_regexp other h = refl
 
 -- a placeholder that is neither a name nor a custom regular expression is an asterisk
 pub asterisk_left : (kind : TokenType) → IsTrue (is_placeholder kind) → kind ≢ Name → kind ≢ Regexp → kind ≡ Asterisk

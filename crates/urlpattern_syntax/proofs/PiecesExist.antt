@@ -10,10 +10,10 @@ use Rattle.urlpattern_syntax.specs.declared.parser.PartModifier.TheVariants as m
 use Rattle.urlpattern_syntax.specs.declared.tokenizer.TokenType.{TokenType}
 use Rattle.urlpattern_syntax.specs.declared.tokenizer.TokenType.TheVariants.{Asterisk, Char, Close, End, EscapedChar, Name, Open, OtherModifier, Regexp}
 use Rattle.urlpattern_syntax.specs.Parsing.{BeginsWithPlaceholder, BeginsWithModifier, IsTokenList, joined_values}
-use Rattle.urlpattern_syntax.specs.Pieces.{Piece, Ending, Stops, LacksClose, Placeholder, Matched, ArePieces, IsPiece, IsEnding, IsBraced, IsFilled, IsPrefixOf, IsPlaceholderOf, TakesPrefix, TakesRegexp, BeginsWithKind, is_text, is_placeholder, is_modifier, is_stop}
+use Rattle.urlpattern_syntax.specs.Pieces.{Piece, Ending, Stops, LacksClose, Placeholder, Matched, ArePieces, IsPiece, IsEnding, IsBare, IsBraced, IsFilled, IsPrefixOf, IsPlaceholderOf, TakesPrefix, TakesRegexp, BeginsWithKind, is_text, is_placeholder, is_modifier, is_stop}
 use Rattle.urlpattern_syntax.specs.Pieces.{Matched as matched, Piece as pieces}
 use Rattle.urlpattern_syntax.specs.Tokens.{TokenView}
-use Rattle.urlpattern_syntax.proofs.PieceLemmas.{IsTokenList-rest, IsTokenList-texts, named, named_regexp, narrower, one_or_more, open_texts, optional, unnamed_regexp, wildcard, zero_or_more}
+use Rattle.urlpattern_syntax.proofs.PieceLemmas.{IsTokenList-rest, IsTokenList-texts, bare_piece, named, named_regexp, narrower, one_or_more, open_texts, optional, unnamed_regexp, wildcard, zero_or_more}
 
 -- ---- kinds
 
@@ -142,29 +142,18 @@ no_front [] [] back e = refl
 no_front [] (token ∷ middle) back e = absurd (cc e)
 no_front (token ∷ front) middle back e = absurd (cc e)
 
+some_bare : (point prefix : List ℕ) (tokens rest : List TokenView) (placeholder : Placeholder) (modifier : PartModifier) → IsBare point tokens prefix placeholder modifier rest → ¬ (tokens ≡ [])
+some_bare point prefix tokens rest placeholder modifier b e =
+    some_placeholder b.middle placeholder.name placeholder.matched b.is_placeholder (no_front b.front b.middle b.back (sym b.cut ∙ e))
+
 bare_step : (point prefix : List ℕ) (before tokens : List TokenView) → IsPrefixOf point before prefix → IsTokenList tokens → PlaceholderAt tokens → Step point (before ++ tokens)
 bare_step point prefix before tokens is_prefix h found = with_modifier (modifier_at found.rest (found.begins.closed h))
   where
     with_modifier : ModifierAt found.rest → Step point (before ++ tokens)
     with_modifier m =
-        let p = found.begins in
-        let q = m.begins in
-        goes_on (before ++ p.front ++ q.front) m.rest (pieces.Bare prefix found.placeholder m.modifier)
-        (ap (λ x. before ++ x) (p.cut ∙ ap (λ x. p.front ++ x) q.cut ∙ sym (append_assoc p.front q.front m.rest))
-        ∙ sym (append_assoc before (p.front ++ q.front) m.rest) ∙ ap (λ x. x ++ m.rest) (sym (append_assoc before p.front q.front)))
-        (record {
-          front = before;
-          middle = p.front;
-          back = q.front;
-          cut = refl;
-          is_prefix = is_prefix;
-          is_placeholder = p.is_placeholder;
-          is_modifier = q.is_modifier;
-          takes_regexp = subst (TakesRegexp found.placeholder.matched) q.cut p.takes_regexp;
-          takes_modifier = q.takes_modifier;
-        })
-        q.closed
-        (λ e. some_placeholder p.front found.placeholder.name found.placeholder.matched p.is_placeholder (no_front before p.front q.front e))
+        let begins = bare_piece point before tokens found.rest m.rest prefix found.placeholder m.modifier is_prefix found.begins m.begins in
+        goes_on begins.0 m.rest (pieces.Bare prefix found.placeholder m.modifier) begins.1 begins.2 m.begins.closed
+        (some_bare point prefix begins.0 m.rest found.placeholder m.modifier begins.2)
 
 text_step : (point : List ℕ) (token : TokenView) (rest : List TokenView) → IsTrue (is_text token.kind) → TakesPrefix point token rest → IsTokenList (token ∷ rest) → Step point (token ∷ rest)
 text_step point token rest text alone h =

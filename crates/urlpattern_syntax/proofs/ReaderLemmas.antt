@@ -7,7 +7,7 @@ use Rattle.urlpattern_syntax.specs.declared.parser.pieces.Next.{Next}
 use Rattle.urlpattern_syntax.specs.declared.parser.pieces.Next.TheVariants as nexts
 use Rattle.urlpattern_syntax.specs.declared.parser.pieces.Reader.{Reader}
 use Rattle.urlpattern_syntax.specs.declared.tokenizer.TokenType.{TokenType}
-use Rattle.urlpattern_syntax.specs.declared.tokenizer.TokenType.TheVariants.{Asterisk, Char, Close, End, EscapedChar, InvalidChar, Name, Open, OtherModifier, Regexp}
+use Rattle.urlpattern_syntax.specs.declared.tokenizer.TokenType.TheVariants.{End}
 use Rattle.urlpattern_syntax.specs.Cursors.{AreTokensAfter, IsPlace, IsTokenAfter, tokens_left}
 use Rattle.urlpattern_syntax.specs.Parsing.{Gives, IsModifierSpelled, IsNameSpelled, IsShorter, Stands, StartsText, Takes, reader_left, reader_text}
 use Rattle.urlpattern_syntax.specs.Text.{BeginsAt, BeginsWith, byte_len}
@@ -122,27 +122,11 @@ name_after whole rest next token (inr h) e = name_given token.value (subst (λ k
 
 pub one_left : (kind : TokenType) → kind ≢ End → tokens_left kind ≡ 1
 one_left End h = absurd (h refl)
-one_left Open h = refl
-one_left Close h = refl
-one_left Regexp h = refl
-one_left Name h = refl
-one_left Char h = refl
-one_left EscapedChar h = refl
-one_left OtherModifier h = refl
-one_left Asterisk h = refl
-one_left InvalidChar h = refl
+one_left other h = refl
 
 pub tokens_left_most : (kind : TokenType) → tokens_left kind ≤ 1
 tokens_left_most End = omega arith
-tokens_left_most Open = omega arith
-tokens_left_most Close = omega arith
-tokens_left_most Regexp = omega arith
-tokens_left_most Name = omega arith
-tokens_left_most Char = omega arith
-tokens_left_most EscapedChar = omega arith
-tokens_left_most OtherModifier = omega arith
-tokens_left_most Asterisk = omega arith
-tokens_left_most InvalidChar = omega arith
+tokens_left_most other = omega arith
 
 -- what is behind a token is less than what began with it
 pub left_within : (rest behind next : List ℕ) (kind : TokenType) → IsUtf8 rest → IsUtf8 behind → byte_len (chars behind) < byte_len (chars rest) → length next ≤ length behind → length next + tokens_left kind ≤ length rest

@@ -1,5 +1,5 @@
 -- Worked examples of regular expressions of parts.
-use Rattle.std.proofs.Common.{◌≡◌, ℕ, List, [], ◌∷◌, refl}
+use Rattle.std.proofs.Common.{◌≡◌, ℕ, List, [], ◌∷◌, map, refl}
 use Rattle.std.specs.Prelude.{codes, slice_index, Some}
 use Rattle.urlpattern_syntax.specs.declared.parser.PartModifier.{PartModifier}
 use Rattle.urlpattern_syntax.specs.declared.parser.PartModifier.TheVariants as modifiers
@@ -61,115 +61,52 @@ group kind prefix name suffix modifier =
 abbrev pub users_parts : List PartView
 users_parts = fixed_text (codes "/users") modifiers.None ∷ group SegmentWildcard (codes "/") (codes "id") [] modifiers.None ∷ []
 
-pub users_regexp : regexp_text pathname_options users_parts ≡ codes "^/users(?:/([^/]+?))$"
+-- parts, with the regular expression and the names that they have under options
+record Written : Type 0 where
+  options : OptionsView
+  parts : List PartView
+  regexp : List ℕ
+  names : List (List ℕ)
+
+abbrev written : OptionsView → List PartView → (regexp : List ℕ) → (names : List (List ℕ)) → Written
+written options parts regexp names = record { options = options; parts = parts; regexp = regexp; names = names }
+
+abbrev examples : List Written
+examples =
+    written pathname_options users_parts (codes "^/users(?:/([^/]+?))$") (codes "id" ∷ [])
+    -- in ECMAScript's syntax each slash is escaped
+    ∷ written ecma_pathname_options users_parts (codes "^\\/users(?:\\/([^\\/]+?))$") (codes "id" ∷ [])
+    -- the empty pattern: no parts, and a regular expression of the empty text alone
+    ∷ written default_options [] (codes "^$") []
+    -- the pattern `{a}?b`: fixed texts make no group that captures
+    ∷ written default_options (fixed_text (codes "a") modifiers.Optional ∷ fixed_text (codes "b") modifiers.None ∷ [])
+    (codes "^(?:a)?b$") []
+    -- the pattern `/:x*`: any number of segments, of which the first slash is not captured
+    ∷ written pathname_options (group SegmentWildcard (codes "/") (codes "x") [] modifiers.ZeroOrMore ∷ [])
+    (codes "^(?:/((?:[^/]+?)(?:/(?:[^/]+?))*))?$") (codes "x" ∷ [])
+    -- the pattern `{a/:x/b}+`: between two copies stand the suffix of one and the prefix of the next
+    ∷ written pathname_options (group SegmentWildcard (codes "a/") (codes "x") (codes "/b") modifiers.OneOrMore ∷ [])
+    (codes "^(?:a/((?:[^/]+?)(?:/ba/(?:[^/]+?))*)/b)$") (codes "x" ∷ [])
+    -- the pattern `:x**`: the first asterisk is a modifier, the second a full wildcard
+    ∷ written default_options (group SegmentWildcard [] (codes "x") [] modifiers.ZeroOrMore ∷ group FullWildcard [] (codes "0") [] modifiers.None ∷ [])
+    (codes "^((?:.+?)*)(.*)$") (codes "x" ∷ codes "0" ∷ [])
+    -- the pattern `{:x\foo}`: a suffix alone makes brackets round the group
+    ∷ written default_options (group SegmentWildcard [] (codes "x") (codes "foo") modifiers.None ∷ [])
+    (codes "^(?:(.+?)foo)$") (codes "x" ∷ [])
+    -- the pattern `{a*b}+`: a full wildcard that is repeated
+    ∷ written default_options (group FullWildcard (codes "a") (codes "0") (codes "b") modifiers.OneOrMore ∷ [])
+    (codes "^(?:a((?:.*)(?:ba(?:.*))*)b)$") (codes "0" ∷ [])
+    -- the pattern `:a.:b` of a hostname: the dot between the segments is escaped
+    ∷ written hostname_options (group SegmentWildcard [] (codes "a") [] modifiers.None ∷ fixed_text (codes ".") modifiers.None ∷ group SegmentWildcard [] (codes "b") [] modifiers.None ∷ [])
+    (codes "^([^\\.]+?)\\.([^\\.]+?)$") (codes "a" ∷ codes "b" ∷ [])
+    -- the pattern `a\{:b(c)`: the body of a custom regular expression stands as it is, a fixed text is escaped
+    ∷ written default_options (fixed_text (codes "a{") modifiers.None ∷ record { kind = Regexp; value = codes "c"; modifier = modifiers.None; name = codes "b"; prefix = []; suffix = [] } ∷ [])
+    (codes "^a\\{(c)$") (codes "b" ∷ [])
+    ∷ []
+
+regexps_are_right : map (λ (w : Written). regexp_text w.options w.parts) examples ≡ map (λ (w : Written). w.regexp) examples
 unfolding escaped part_regexp
-users_regexp = refl
+regexps_are_right = refl
 
-pub users_names : group_names users_parts ≡ codes "id" ∷ []
-users_names = refl
-
--- the same parts in ECMAScript's syntax, where each slash is escaped
-pub users_regexp_ecma : regexp_text ecma_pathname_options users_parts ≡ codes "^\\/users(?:\\/([^\\/]+?))$"
-unfolding escaped part_regexp
-users_regexp_ecma = refl
-
--- the empty pattern: no parts, and a regular expression of the empty text alone
-abbrev pub no_parts : List PartView
-no_parts = []
-
-pub no_regexp : regexp_text default_options no_parts ≡ codes "^$"
-unfolding escaped part_regexp
-no_regexp = refl
-
-pub no_names : group_names no_parts ≡ []
-no_names = refl
-
--- the pattern `{a}?b`: fixed texts make no group that captures
-abbrev pub optional_parts : List PartView
-optional_parts = fixed_text (codes "a") modifiers.Optional ∷ fixed_text (codes "b") modifiers.None ∷ []
-
-pub optional_regexp : regexp_text default_options optional_parts ≡ codes "^(?:a)?b$"
-unfolding escaped part_regexp
-optional_regexp = refl
-
-pub optional_names : group_names optional_parts ≡ []
-optional_names = refl
-
--- the pattern `/:x*`: any number of segments, of which the first slash is not captured
-abbrev pub repeated_parts : List PartView
-repeated_parts = group SegmentWildcard (codes "/") (codes "x") [] modifiers.ZeroOrMore ∷ []
-
-pub repeated_regexp : regexp_text pathname_options repeated_parts ≡ codes "^(?:/((?:[^/]+?)(?:/(?:[^/]+?))*))?$"
-unfolding escaped part_regexp
-repeated_regexp = refl
-
-pub repeated_names : group_names repeated_parts ≡ codes "x" ∷ []
-repeated_names = refl
-
--- the pattern `{a/:x/b}+`: between two copies stand the suffix of one and the prefix of the next
-abbrev pub joined_parts : List PartView
-joined_parts = group SegmentWildcard (codes "a/") (codes "x") (codes "/b") modifiers.OneOrMore ∷ []
-
-pub joined_regexp : regexp_text pathname_options joined_parts ≡ codes "^(?:a/((?:[^/]+?)(?:/ba/(?:[^/]+?))*)/b)$"
-unfolding escaped part_regexp
-joined_regexp = refl
-
-pub joined_names : group_names joined_parts ≡ codes "x" ∷ []
-joined_names = refl
-
--- the pattern `:x**`: the first asterisk is a modifier, the second a full wildcard
-abbrev pub starred_parts : List PartView
-starred_parts = group SegmentWildcard [] (codes "x") [] modifiers.ZeroOrMore ∷ group FullWildcard [] (codes "0") [] modifiers.None ∷ []
-
-pub starred_regexp : regexp_text default_options starred_parts ≡ codes "^((?:.+?)*)(.*)$"
-unfolding escaped part_regexp
-starred_regexp = refl
-
-pub starred_names : group_names starred_parts ≡ codes "x" ∷ codes "0" ∷ []
-starred_names = refl
-
--- the pattern `{:x\foo}`: a suffix alone makes brackets round the group
-abbrev pub suffixed_parts : List PartView
-suffixed_parts = group SegmentWildcard [] (codes "x") (codes "foo") modifiers.None ∷ []
-
-pub suffixed_regexp : regexp_text default_options suffixed_parts ≡ codes "^(?:(.+?)foo)$"
-unfolding escaped part_regexp
-suffixed_regexp = refl
-
-pub suffixed_names : group_names suffixed_parts ≡ codes "x" ∷ []
-suffixed_names = refl
-
--- the pattern `{a*b}+`: a full wildcard that is repeated
-abbrev pub wild_parts : List PartView
-wild_parts = group FullWildcard (codes "a") (codes "0") (codes "b") modifiers.OneOrMore ∷ []
-
-pub wild_regexp : regexp_text default_options wild_parts ≡ codes "^(?:a((?:.*)(?:ba(?:.*))*)b)$"
-unfolding escaped part_regexp
-wild_regexp = refl
-
-pub wild_names : group_names wild_parts ≡ codes "0" ∷ []
-wild_names = refl
-
--- the pattern `:a.:b` of a hostname: the dot between the segments is escaped
-abbrev pub dotted_parts : List PartView
-dotted_parts = group SegmentWildcard [] (codes "a") [] modifiers.None ∷ fixed_text (codes ".") modifiers.None ∷ group SegmentWildcard [] (codes "b") [] modifiers.None ∷ []
-
-pub dotted_regexp : regexp_text hostname_options dotted_parts ≡ codes "^([^\\.]+?)\\.([^\\.]+?)$"
-unfolding escaped part_regexp
-dotted_regexp = refl
-
-pub dotted_names : group_names dotted_parts ≡ codes "a" ∷ codes "b" ∷ []
-dotted_names = refl
-
--- the pattern `a\{:b(c)`: the body of a custom regular expression stands as it is, a fixed text is escaped
-abbrev pub custom_parts : List PartView
-custom_parts =
-    fixed_text (codes "a{") modifiers.None
-    ∷ record { kind = Regexp; value = codes "c"; modifier = modifiers.None; name = codes "b"; prefix = []; suffix = [] } ∷ []
-
-pub custom_regexp : regexp_text default_options custom_parts ≡ codes "^a\\{(c)$"
-unfolding escaped part_regexp
-custom_regexp = refl
-
-pub custom_names : group_names custom_parts ≡ codes "b" ∷ []
-custom_names = refl
+names_are_right : map (λ (w : Written). group_names w.parts) examples ≡ map (λ (w : Written). w.names) examples
+names_are_right = refl

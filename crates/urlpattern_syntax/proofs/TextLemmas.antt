@@ -7,6 +7,9 @@ use Rattle.std.specs.Char.{encode_utf8}
 use Rattle.std.specs.Str.{chars, IsUtf8}
 use Rattle.std.proofs.lemmas.List.{append-nil}
 use Rattle.std.proofs.lemmas.Str.{chars-nil, length-le-encodes, encodes-append, encodes-chars}
+use Rattle.urlpattern_syntax.specs.declared.parser.PartModifier.{PartModifier}
+use Rattle.urlpattern_syntax.specs.declared.parser.PartModifier.TheVariants as modifiers
+use Rattle.urlpattern_syntax.specs.RegexpText.{modifier_text}
 use Rattle.urlpattern_syntax.specs.Text.{byte_len, BeginsAt}
 pub use Rattle.urlpattern_syntax.specs.WritingLaws.{byte_len-append, byte_len-nil}
 
@@ -55,25 +58,29 @@ chars-some bytes u some e =
 pub bytes_from_chars : (bytes text : List ℕ) → IsUtf8 bytes → chars bytes ≡ text → encode_utf8_all text ≡ text → bytes ≡ text
 bytes_from_chars bytes text u e f = sym (encodes-chars bytes u) ∙ ap encode_utf8_all e ∙ f
 
-pub chars_question_mark : chars (codes "?") ≡ codes "?"
-unfolding chars
-chars_question_mark = refl
+-- a text whose characters and bytes are the same numbers
+abbrev pub IsOfSingleBytes : List ℕ → Type 0
+IsOfSingleBytes text = (chars text ≡ text) × (encode_utf8_all text ≡ text)
 
-pub question_mark_bytes : encode_utf8_all (codes "?") ≡ codes "?"
-unfolding encode_utf8
-question_mark_bytes = refl
+pub question_mark : IsOfSingleBytes (codes "?")
+unfolding chars encode_utf8
+question_mark = (refl, refl)
+
+pub full_wildcard : IsOfSingleBytes (codes ".*")
+unfolding chars encode_utf8
+full_wildcard = (refl, refl)
+
+-- the spelling of a modifier has a byte for each character
+pub modifier_chars : (modifier : PartModifier) → chars (modifier_text modifier) ≡ modifier_text modifier
+unfolding chars
+modifier_chars modifiers.None = refl
+modifier_chars modifiers.Optional = refl
+modifier_chars modifiers.ZeroOrMore = refl
+modifier_chars modifiers.OneOrMore = refl
 
 -- texts with the same characters have the same bytes
 pub bytes_same : (xs ys : List ℕ) → IsUtf8 xs → IsUtf8 ys → chars xs ≡ chars ys → xs ≡ ys
 bytes_same xs ys u v e = sym (encodes-chars xs u) ∙ ap encode_utf8_all e ∙ encodes-chars ys v
-
-pub chars_full_wildcard : chars (codes ".*") ≡ codes ".*"
-unfolding chars
-chars_full_wildcard = refl
-
-pub full_wildcard_bytes : encode_utf8_all (codes ".*") ≡ codes ".*"
-unfolding encode_utf8
-full_wildcard_bytes = refl
 
 pub chars_nothing : chars [] ≡ []
 chars_nothing = chars-nil

@@ -23,7 +23,7 @@ pub fn escape_pattern_string(alloc: Global, input: &str) -> Result<String, Error
     ensures escaped { IfOk result (λ text. text_of text ≡ escaped_pattern (chars input.now)) }
     ensures memory { IfErr result (λ error. error ≡ errors.OutOfMemory) }
 {
-    written(alloc, &Escaped::pattern(input))
+    Ok(written(alloc, &Escaped::pattern(input))?)
 }
 
 /// The characters that take a backslash.
@@ -115,6 +115,7 @@ impl<'a> Escaped<'a> {
 impl Writable for Escaped<'_> {
     ghost text = { escaped_text };
 
+    #[tactic(auto, unfolding(crate::specs::Writing::escaped_text))]
     fn write_to<W: Writer>(&self, writer: &mut W) {
         self.marks.write_escaped(self.text, writer);
     }

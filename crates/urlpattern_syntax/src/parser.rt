@@ -3,7 +3,6 @@
 //! <https://urlpattern.spec.whatwg.org/#parts-and-part-lists>
 ghost use Rattle.std.specs.Prelude.{◌≤◌, ◌≡◌, Result, Some, IfOk, IfErr, OnOk};
 ghost use Rattle.std.specs.Str.{chars};
-ghost use Rattle.urlpattern_syntax.specs.declared.error.Error.TheVariants as errors;
 ghost use Rattle.urlpattern_syntax.specs.Errors.{ErrorView, error_view};
 ghost use Rattle.urlpattern_syntax.specs.Options.{options_view};
 ghost use Rattle.urlpattern_syntax.specs.Parsing.{FaultOr, MemoryOr, Stands, StartsText, reader_left, reader_text};
@@ -25,7 +24,7 @@ use crate::writing::is_written;
 use part_list::PartList;
 use pieces::{Matched, Next, Reader};
 use serde::{Deserialize, Serialize};
-use std::alloc::Global;
+use std::alloc::{AllocError, Global};
 use std::fmt;
 
 /// The regular expression of a full wildcard.
@@ -90,6 +89,7 @@ pub enum PartModifier {
 
 impl PartModifier {
     /// The modifier as a pattern and a regular expression spell it.
+    #[tactic(auto, using(crate::proofs::TextLemmas::modifier_chars))]
     pub fn as_str(&self) -> &'static str
         ensures bytes { result.now ≡ modifier_text self.now }
         ensures text { chars result.now ≡ modifier_text self.now }
@@ -245,10 +245,9 @@ impl<F: Fn(&str) -> Result<String, Error>> PatternParser<'_, F> {
 
     /// The kind of a placeholder's part, and its value: the body of a custom regular expression that is no wildcard.
     #[inline(always)]
-    fn kind_and_value(&self, matched: Matched<'_>) -> Result<(PartType, String), Error>
+    fn kind_and_value(&self, matched: Matched<'_>) -> Result<(PartType, String), AllocError>
         ensures kind { IfOk result (λ found. found.0 ≡ kind_of (parser_options self.now) (matched_regexp self.now matched.entry)) }
         ensures value { IfOk result (λ found. text_of found.1 ≡ value_of found.0 (matched_regexp self.now matched.entry)) }
-        ensures memory { IfErr result (λ error. error ≡ errors.OutOfMemory) }
     {
         match matched {
             Matched::Segment => Ok((PartType::SegmentWildcard, String::new(self.alloc))),
@@ -258,10 +257,9 @@ impl<F: Fn(&str) -> Result<String, Error>> PatternParser<'_, F> {
     }
 
     /// The kind and the value of a part that stands for what this regular expression matches.
-    fn kind_by_regexp(&self, regexp: &str) -> Result<(PartType, String), Error>
+    fn kind_by_regexp(&self, regexp: &str) -> Result<(PartType, String), AllocError>
         ensures kind { IfOk result (λ found. found.0 ≡ kind_of (parser_options self.now) (chars regexp.now)) }
         ensures value { IfOk result (λ found. text_of found.1 ≡ value_of found.0 (chars regexp.now)) }
-        ensures memory { IfErr result (λ error. error ≡ errors.OutOfMemory) }
     {
         if is_written(regexp, &SegmentWildcard(self.options)) {
             return Ok((PartType::SegmentWildcard, String::new(self.alloc)));

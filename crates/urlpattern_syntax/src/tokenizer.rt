@@ -137,8 +137,8 @@ pub fn before<'a>(text: &'a str, end: &str) -> &'a str
     &text[..text.len() - end.len()]
 }
 
-/// The first character of a text and what follows it.
-pub(crate) fn split_first(text: &str) -> Option<(char, &str)>
+/// The first character of a text and what follows it. `None`, if the text is empty.
+pub fn split_first(text: &str) -> Option<(char, &str)>
     ensures empty { IfNone result (chars text.now ≡ []) }
     ensures cut { IfSome result (λ found. chars text.now ≡ found.0 ∷ chars found.1.now) }
     ensures len { IfSome result (λ found. length found.1.now < length text.now) }

@@ -2,16 +2,14 @@
 //!
 //! A text says once how it is written, to any [`Writer`]. [`written`] first has its bytes counted, asks for that much
 //! memory, and then has it written, which can't fail. For the crates of this project.
-ghost use Rattle.std.specs.Prelude.{◌≡◌, ◌∷◌, ◌++◌, ℕ, List, [], IfErr, IfOk, MatchBool};
+ghost use Rattle.std.specs.Prelude.{◌≡◌, ◌∷◌, ◌++◌, ℕ, List, [], IfOk, MatchBool};
 ghost use Rattle.std.specs.Str.{chars};
-ghost use Rattle.urlpattern_syntax.specs.declared.error.Error.TheVariants as errors;
 ghost use Rattle.urlpattern_syntax.specs.Text.{text_of};
 ghost use Rattle.urlpattern_syntax.specs.Writing.{Appends, Compares, Counts, HasRoom, left_view};
 ghost use Rattle.urlpattern_syntax.specs.WritingLaws.{appends_both, appends_nothing, compares_both, compares_nothing, counts_both, counts_nothing, room_front, room_rest};
 
-use crate::error::Error;
 use crate::tokenizer::split_first;
-use std::alloc::Global;
+use std::alloc::{AllocError, Global};
 
 /// Where a text is written: a counter of its bytes, or a `String` that has memory for it.
 pub trait Writer {
@@ -138,15 +136,14 @@ pub trait Writable {
 /// The text as a `String`, in one request for memory, or none if it is empty.
 ///
 /// The error is that memory ran out, or that the text is longer than any `String`.
-pub fn written<T: Writable>(alloc: Global, text: &T) -> Result<String, Error>
-    ensures text { IfOk result (λ string. text_of string ≡ T.text text.now) }
-    ensures memory { IfErr result (λ error. error ≡ errors.OutOfMemory) }
+pub fn written<T: Writable>(alloc: Global, text: &T) -> Result<String, AllocError>
+    ensures { IfOk result (λ string. text_of string ≡ T.text text.now) }
 {
     let mut counter = Counter { bytes: 0 };
     text.write_to(&mut counter);
     let bytes = counter.bytes;
     if bytes == usize::MAX {
-        return Err(Error::OutOfMemory);
+        return Err(AllocError);
     }
     let mut string = String::with_capacity(alloc, bytes)?;
     text.write_to(&mut string);

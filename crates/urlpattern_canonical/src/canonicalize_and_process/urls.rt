@@ -3,7 +3,7 @@ ghost use Rattle.std.specs.Prelude.{◌≡◌, None, Ok, IfOk, IfErr, MatchResul
 ghost use Rattle.url.specs.Parser.{parse_url};
 ghost use Rattle.urlpattern_syntax.specs.Errors.{MemoryOr};
 ghost use Rattle.urlpattern_syntax.specs.declared.error.Error.TheVariants as errors;
-ghost use Rattle.urlpattern_canonical.specs.Canonical.{Tells, dummy_url, opaque_url, path_of};
+ghost use Rattle.urlpattern_canonical.specs.Canonical.{Tells, dummy_of_scheme, dummy_url, opaque_url, path_of};
 
 use super::Canonicalizer;
 use super::refusals::told;
@@ -74,8 +74,17 @@ fn parse_dummy(alloc: Global) -> Result<Url, Error>
     parse(alloc, DUMMY_URL, 0)
 }
 
+/// Parses a URL of the scheme, in a question about texts of this many bytes at most.
+pub(super) fn parse_under(alloc: Global, scheme: &str, bytes: usize) -> Result<Url, Error>
+    ensures ok { IfOk result (λ url. dummy_of_scheme scheme.now ≡ Ok url) }
+    ensures err { IfErr result (MemoryOr (Tells (dummy_of_scheme scheme.now) bytes)) }
+{
+    let text = format!(in alloc; "{scheme}://dummy.test")?;
+    parse(alloc, &text, bytes)
+}
+
 /// Parses a URL, in a question about texts of this many bytes at most.
-pub(super) fn parse(alloc: Global, text: &str, bytes: usize) -> Result<Url, Error>
+fn parse(alloc: Global, text: &str, bytes: usize) -> Result<Url, Error>
     ensures ok { IfOk result (λ url. parse_url None text.now ≡ Ok url) }
     ensures err { IfErr result (MemoryOr (Tells (parse_url None text.now) bytes)) }
 {

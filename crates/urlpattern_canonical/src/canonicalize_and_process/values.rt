@@ -1,4 +1,6 @@
 //! Canonical values of the components of a URL: what `url` answers once they are set.
+#![tactic(auto, using(crate::proofs::SettingLemmas::empty_answered))]
+
 ghost use Rattle.std.specs.Prelude.{◌≡◌, length, IsAscii};
 ghost use Rattle.std.specs.Str.{chars};
 ghost use Rattle.urlpattern_canonical.specs.Canonical.{IsAnswer, canonical_hash, canonical_hostname, canonical_opaque_pathname, canonical_password, canonical_pathname, canonical_port, canonical_protocol, canonical_search, canonical_username, option_text, port_bytes, scheme_for_port, without_guard};
@@ -6,7 +8,7 @@ ghost use Rattle.urlpattern_canonical.specs.Canonical.{IsAnswer, canonical_hash,
 use super::Canonicalizer;
 use super::marks::begins_with_slash;
 use super::refusals::{told, told_as};
-use super::urls::{parse, parse_opaque};
+use super::urls::{parse_opaque, parse_under};
 use url::{ParseError, quirks};
 use urlpattern_syntax::Error;
 
@@ -20,8 +22,7 @@ impl Canonicalizer {
         if value.is_empty() {
             return Ok(String::new(self.alloc));
         }
-        let text = format!(in self.alloc; "{value}://dummy.test")?;
-        let url = parse(self.alloc, &text, value.len())?;
+        let url = parse_under(self.alloc, value, value.len())?;
         Ok(String::from_str(self.alloc, url.scheme())?)
     }
 
@@ -78,10 +79,8 @@ impl Canonicalizer {
             return Ok(String::new(self.alloc));
         }
         let protocol = protocol.unwrap_or("");
-        let scheme = scheme_for_port(protocol);
         let bytes = value.len().max(protocol.len());
-        let text = format!(in self.alloc; "{scheme}://dummy.test")?;
-        let mut url = parse(self.alloc, &text, bytes)?;
+        let mut url = parse_under(self.alloc, scheme_for_port(protocol), bytes)?;
         told_as(
             ParseError::InvalidPort,
             quirks::set_port(&mut url, value),

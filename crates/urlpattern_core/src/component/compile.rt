@@ -16,7 +16,7 @@ use super::{Component, generate_name_list};
 use crate::error::Error;
 use crate::parser::{Options, Part, PartType, RegexSyntax, parse_pattern_string};
 use crate::regexp::RegExp;
-use std::alloc::Global;
+use std::alloc::{AllocError, Global};
 
 impl<R: RegExp> Component<R> {
     /// The component of a pattern text, or of an asterisk where there is none.
@@ -91,9 +91,8 @@ fn engine_of<R: RegExp>(
     regexp: &str,
     flags: &str,
     has_regexp_group: bool,
-) -> Result<Result<R, Error>, Error>
-    ensures made { IfOk result (λ engine. IsAskedEngineBy R.RegExp has_regexp_group (chars flags.now) (chars regexp.now) (engine_view engine)) }
-    ensures memory { IfErr result (λ error. error ≡ errors.OutOfMemory) }
+) -> Result<Result<R, Error>, AllocError>
+    ensures { IfOk result (λ engine. IsAskedEngineBy R.RegExp has_regexp_group (chars flags.now) (chars regexp.now) (engine_view engine)) }
 {
     let engine: Result<R, Error> = ask_engine(alloc, regexp, flags, false)?;
     if has_regexp_group && engine.is_ok() && R::syntax() == RegexSyntax::EcmaScript {

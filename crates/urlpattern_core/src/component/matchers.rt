@@ -16,7 +16,7 @@ use crate::error::{Error, RegExpError};
 use crate::matcher::{InnerMatcher, Matcher};
 use crate::parser::{Options, Part, PartModifier, PartType};
 use crate::regexp::RegExp;
-use std::alloc::Global;
+use std::alloc::{AllocError, Global};
 use urlpattern_syntax::writing::written;
 
 /// The matcher of a list of parts. Plain fixed texts at the ends of the list become its prefix and its suffix.
@@ -35,7 +35,7 @@ pub fn generate_matcher<R: RegExp>(
     ensures means { IfMatcher result (AnswersByMeaning R.answer (options_view options.now) (parts_view part_list.now)) }
     ensures memory { IfErr result (λ error. error ≡ errors.OutOfMemory) }
 {
-    generate_matcher_knowing(alloc, part_list, options, flags, None)
+    Ok(generate_matcher_knowing(alloc, part_list, options, flags, None)?)
 }
 
 /// The same, where the regular expression of the whole list may be known.
@@ -45,10 +45,9 @@ pub(crate) fn generate_matcher_knowing<R: RegExp>(
     options: &Options,
     flags: &str,
     whole: Option<&str>,
-) -> Result<Matcher<R>, Error>
+) -> Result<Matcher<R>, AllocError>
     requires { IfSome whole (λ text. chars text.now ≡ regexp_text (options_view options.now) (parts_view part_list.now)) }
-    ensures made { IfMatcher result (IsMatcherBy R.RegExp (options_view options.now) (chars flags.now) (parts_view part_list.now)) }
-    ensures memory { IfErr result (λ error. error ≡ errors.OutOfMemory) }
+    ensures { IfMatcher result (IsMatcherBy R.RegExp (options_view options.now) (chars flags.now) (parts_view part_list.now)) }
 {
     let (prefix, middle, suffix) = peel(part_list);
     let known = if middle.len() == part_list.len() {
@@ -125,9 +124,8 @@ fn literal_matcher<R>(
     prefix: &str,
     suffix: &str,
     options: &Options,
-) -> Result<Matcher<R>, Error>
-    ensures made { IfMatcher result (λ made. made ≡ literal_view options.now.ignore_case (chars prefix.now ++ chars suffix.now)) }
-    ensures memory { IfErr result (λ error. error ≡ errors.OutOfMemory) }
+) -> Result<Matcher<R>, AllocError>
+    ensures { IfMatcher result (λ made. made ≡ literal_view options.now.ignore_case (chars prefix.now ++ chars suffix.now)) }
 {
     Ok(Matcher {
         prefix: String::new(alloc),
@@ -148,10 +146,9 @@ fn capture_matcher<R>(
     options: &Options,
     filter: Option<char>,
     allow_empty: bool,
-) -> Result<Matcher<R>, Error>
-    ensures made { IfMatcher result (λ made. made
+) -> Result<Matcher<R>, AllocError>
+    ensures { IfMatcher result (λ made. made
         ≡ single_capture (options_view options.now) (chars prefix.now) (part_view part.now) (chars suffix.now) filter allow_empty) }
-    ensures memory { IfErr result (λ error. error ≡ errors.OutOfMemory) }
 {
     Ok(Matcher {
         prefix: joined(alloc, prefix, &part.prefix)?,
@@ -174,11 +171,10 @@ fn engine_matcher<R: RegExp>(
     options: &Options,
     flags: &str,
     known: Option<&str>,
-) -> Result<Matcher<R>, Error>
+) -> Result<Matcher<R>, AllocError>
     requires { IfSome known (λ text. chars text.now ≡ regexp_text (options_view options.now) (parts_view middle.now)) }
-    ensures made { IfMatcher result (IsAskingMatcherBy R.RegExp (options_view options.now) (chars flags.now)
+    ensures { IfMatcher result (IsAskingMatcherBy R.RegExp (options_view options.now) (chars flags.now)
         (chars prefix.now) (parts_view middle.now) (chars suffix.now)) }
-    ensures memory { IfErr result (λ error. error ≡ errors.OutOfMemory) }
 {
     let regexp = match known {
         Some(text) => ask_engine(alloc, text, flags, false)?,
@@ -196,28 +192,24 @@ fn engine_matcher<R: RegExp>(
 }
 
 /// The value that an engine makes of a text, or the error that it refuses the text.
-///
-/// The error answered is that memory ran out.
 pub(crate) fn ask_engine<R: RegExp>(
     alloc: Global,
     regexp: &str,
     flags: &str,
     force_eval: bool,
-) -> Result<Result<R, Error>, Error>
-    ensures made { IfOk result (λ engine. IsEngineBy R.RegExp force_eval (chars flags.now) (chars regexp.now) (engine_view engine)) }
-    ensures memory { IfErr result (λ error. error ≡ errors.OutOfMemory) }
+) -> Result<Result<R, Error>, AllocError>
+    ensures { IfOk result (λ engine. IsEngineBy R.RegExp force_eval (chars flags.now) (chars regexp.now) (engine_view engine)) }
 {
     match R::parse(alloc, regexp, flags, force_eval) {
         Ok(engine) => Ok(Ok(engine)),
         Err(RegExpError::Pattern) => Ok(Err(Error::RegExp(()))),
-        Err(RegExpError::OutOfMemory) => Err(Error::OutOfMemory),
+        Err(RegExpError::OutOfMemory) => Err(AllocError),
     }
 }
 
 /// Two texts end to end.
-fn joined(alloc: Global, front: &str, back: &str) -> Result<String, Error>
-    ensures text { IfOk result (λ text. text_of text ≡ chars front.now ++ chars back.now) }
-    ensures memory { IfErr result (λ error. error ≡ errors.OutOfMemory) }
+fn joined(alloc: Global, front: &str, back: &str) -> Result<String, AllocError>
+    ensures { IfOk result (λ text. text_of text ≡ chars front.now ++ chars back.now) }
 {
     written(alloc, &(front, back))
 }

@@ -40,7 +40,7 @@ pub fn generate_pattern_string(
     ensures reads_back { IfOk result (λ text. ReadsBackIfKept (text_of text) (options_view options.now) (parts_view part_list.now)) }
     ensures memory { IfErr result (λ error. error ≡ errors.OutOfMemory) }
 {
-    written(alloc, &PrintedText { part_list, options })
+    Ok(written(alloc, &PrintedText { part_list, options })?)
 }
 
 /// The pattern text of a list of parts.
@@ -207,7 +207,14 @@ fn needs_grouping(
 ) -> bool
     ensures { result ≡ needs_braces (options_view options.now) (neighbour previous.entry) (part_view part.now) (neighbour next.entry) }
 {
-    has_other_ends(options, part) || takes_next(part, next) || takes_before(options, previous, part)
+    needs_grouping_before(options, part, next) || takes_before(options, previous, part)
+}
+
+/// Whether the part has to stand between braces before this next part, whatever stands before it.
+fn needs_grouping_before(options: &Options, part: &Part, next: Option<&Part>) -> bool
+    ensures { result ≡ (has_suffix (part_view part.now) || has_other_prefix (options_view options.now) (part_view part.now) || takes_next (part_view part.now) (neighbour next.entry)) }
+{
+    has_other_ends(options, part) || takes_next(part, next)
 }
 
 /// Whether the part has a suffix, or a prefix that is not the prefix code point.

@@ -2,9 +2,8 @@
 //!
 //! <https://urlpattern.spec.whatwg.org/#generate-a-regular-expression-and-name-list>
 
-ghost use Rattle.std.specs.Prelude.{◌≡◌, ◌++◌, IfErr, IfOk};
+ghost use Rattle.std.specs.Prelude.{◌≡◌, ◌++◌, IfOk};
 ghost use Rattle.urlpattern_core.specs.PartTexts.{affixed_part, bare_part, escaped_prefix, escaped_suffix, escaped_value, fixed_part, matched_text};
-ghost use Rattle.urlpattern_syntax.specs.declared.error.Error.TheVariants as errors;
 ghost use Rattle.urlpattern_syntax.specs.Options.{options_view};
 ghost use Rattle.urlpattern_syntax.specs.Parts.{part_view, parts_view};
 ghost use Rattle.urlpattern_syntax.specs.RegexpText.{captured, grouped, part_regexp, regexp_text, repeated_regexp};
@@ -12,9 +11,8 @@ ghost use Rattle.urlpattern_syntax.specs.Text.{text_of};
 ghost use Rattle.urlpattern_syntax.specs.Writing.{escaped_text};
 
 use super::is_bare;
-use crate::error::Error;
 use crate::parser::{FULL_WILDCARD_REGEXP_VALUE, Options, Part, PartModifier, PartType};
-use std::alloc::Global;
+use std::alloc::{AllocError, Global};
 use urlpattern_syntax::escape::{Escaped, SegmentWildcard};
 use urlpattern_syntax::writing::{Writable, Writer, written};
 
@@ -25,9 +23,8 @@ pub(super) fn generate_regular_expression(
     alloc: Global,
     part_list: &[Part],
     options: &Options,
-) -> Result<String, Error>
-    ensures text { IfOk result (λ text. text_of text ≡ regexp_text (options_view options.now) (parts_view part_list.now)) }
-    ensures memory { IfErr result (λ error. error ≡ errors.OutOfMemory) }
+) -> Result<String, AllocError>
+    ensures { IfOk result (λ text. text_of text ≡ regexp_text (options_view options.now) (parts_view part_list.now)) }
 {
     written(alloc, &RegexpText { part_list, options })
 }
@@ -36,13 +33,11 @@ pub(super) fn generate_regular_expression(
 #[derive(Clone, Copy)]
 pub(super) struct Captured<T>(pub T);
 
-impl<T: Writable> Writable for Captured<T> {
+impl<T: Writable + Copy> Writable for Captured<T> {
     ghost text = { λ piece. captured (T.text piece.0) };
 
     fn write_to<W: Writer>(&self, writer: &mut W) {
-        writer.write_char('(');
-        self.0.write_to(writer);
-        writer.write_char(')');
+        ('(', self.0, ')').write_to(writer);
     }
 }
 
@@ -50,13 +45,11 @@ impl<T: Writable> Writable for Captured<T> {
 #[derive(Clone, Copy)]
 struct Grouped<T>(T);
 
-impl<T: Writable> Writable for Grouped<T> {
+impl<T: Writable + Copy> Writable for Grouped<T> {
     ghost text = { λ piece. grouped (T.text piece.0) };
 
     fn write_to<W: Writer>(&self, writer: &mut W) {
-        writer.write_str("(?:");
-        self.0.write_to(writer);
-        writer.write_char(')');
+        ("(?:", self.0, ')').write_to(writer);
     }
 }
 

@@ -1,12 +1,9 @@
 //! The names that a pattern gives to its placeholders.
-ghost use Rattle.std.specs.Prelude.{◌≡◌, ◌||◌, ℕ, List, false, IfErr, OnOk};
-ghost use Rattle.std.specs.Str.{};
-ghost use Rattle.urlpattern_syntax.specs.declared.error.Error.TheVariants as errors;
+ghost use Rattle.std.specs.Prelude.{◌≡◌, ◌||◌, ℕ, List, false, OnOk};
 ghost use Rattle.urlpattern_syntax.specs.GivenNames.{has_name, is_text};
 
-use crate::error::Error;
 use arrayvec::ArrayVec;
-use std::alloc::Global;
+use std::alloc::{AllocError, Global};
 use std::collections::BTreeSet;
 
 /// How many names are kept without memory.
@@ -40,9 +37,8 @@ impl<'a> GivenNames<'a> {
     /// Adds a name.
     ///
     /// The error is that memory ran out.
-    pub(super) fn add(&mut self, name: &'a str) -> Result<(), Error>
-        ensures added { OnOk result ((other : List ℕ) → has_name self.new other ≡ (is_text other name.entry || has_name self.old other)) }
-        ensures memory { IfErr result (λ error. error ≡ errors.OutOfMemory) }
+    pub(super) fn add(&mut self, name: &'a str) -> Result<(), AllocError>
+        ensures { OnOk result ((other : List ℕ) → has_name self.new other ≡ (is_text other name.entry || has_name self.old other)) }
     {
         if !self.few.is_full() {
             self.few.push(name);
@@ -50,7 +46,7 @@ impl<'a> GivenNames<'a> {
         }
         match self.others.insert(name) {
             Ok(_) => Ok(()),
-            Err(_) => Err(Error::OutOfMemory),
+            Err(_) => Err(AllocError),
         }
     }
 }

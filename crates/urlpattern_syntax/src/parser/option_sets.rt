@@ -65,7 +65,7 @@ impl Options {
         ensures escaped { IfOk result (λ text. text_of text ≡ escaped_regexp (options_view self.now) (chars input.now)) }
         ensures memory { IfErr result (λ error. error ≡ errors.OutOfMemory) }
     {
-        written(alloc, &Escaped::regexp(input, self))
+        Ok(written(alloc, &Escaped::regexp(input, self))?)
     }
 
     /// The regular expression of a segment: some characters that are no delimiter.
@@ -77,6 +77,6 @@ impl Options {
         ensures wildcard { IfOk result (λ text. text_of text ≡ segment_wildcard (options_view self.now)) }
         ensures memory { IfErr result (λ error. error ≡ errors.OutOfMemory) }
     {
-        written(alloc, &SegmentWildcard(self))
+        Ok(written(alloc, &SegmentWildcard(self))?)
     }
 }

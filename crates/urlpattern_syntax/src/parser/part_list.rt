@@ -3,7 +3,6 @@
 //! <https://urlpattern.spec.whatwg.org/#parts-and-part-lists>
 ghost use Rattle.std.specs.Prelude.{◌<◌, ◌≡◌, ◌∷◌, ◌++◌, [], Contains, IfOk, IfErr, OnOk};
 ghost use Rattle.std.specs.Str.{chars};
-ghost use Rattle.urlpattern_syntax.specs.declared.error.Error.TheVariants as errors;
 ghost use Rattle.urlpattern_syntax.specs.Parsing.{IsNamed, IsPieceNamed, MemoryOr, name_view, part_list_view, piece_view};
 ghost use Rattle.urlpattern_syntax.specs.PartLists.{AddsAll, AddsPiece, FailsToAdd, FailsToAddPiece, IsDuplicate, Knows, KnowsItsNames, list_names, next_name, pending_item, then_group, then_text};
 ghost use Rattle.urlpattern_syntax.specs.Reading.{next_number, number_after};
@@ -13,7 +12,7 @@ use super::given_names::GivenNames;
 use super::pieces::{Piece, Placeholder};
 use super::{Part, PartModifier, PatternParser};
 use crate::error::{Error, ParserError};
-use std::alloc::Global;
+use std::alloc::{AllocError, Global};
 
 /// What is read of a pattern text so far.
 #[derive(Drop)]
@@ -56,8 +55,8 @@ impl<'a> PartList<'a> {
         ensures err { IfErr result (FailsToAddPiece F.Fn parser.now self.old piece.now) }
     {
         match piece {
-            Piece::Text(text) => self.add_plain(text),
-            Piece::TextGroup(text, PartModifier::None) => self.add_plain(text),
+            Piece::Text(text) => Ok(self.add_plain(text)?),
+            Piece::TextGroup(text, PartModifier::None) => Ok(self.add_plain(text)?),
             Piece::TextGroup(text, modifier) => self.add_fixed(parser, text, modifier.copied()),
             Piece::Bare(prefix, placeholder, modifier) => {
                 self.add_group(parser, prefix, placeholder, "", modifier.copied())
@@ -69,12 +68,11 @@ impl<'a> PartList<'a> {
     }
 
     /// Puts a text after the pending text.
-    pub(super) fn add_plain(&mut self, text: &str) -> Result<(), Error>
+    pub(super) fn add_plain(&mut self, text: &str) -> Result<(), AllocError>
         ensures parts { self.new.parts ≡ self.old.parts }
         ensures pending { OnOk result (text_of self.new.pending_fixed_value ≡ text_of self.old.pending_fixed_value ++ chars text.now) }
         ensures names { self.new.given_names ≡ self.old.given_names }
         ensures number { self.new.next_numeric_name ≡ self.old.next_numeric_name }
-        ensures memory { IfErr result (λ error. error ≡ errors.OutOfMemory) }
     {
         self.pending_fixed_value.push_str(text)?;
         Ok(())

@@ -1,7 +1,7 @@
 //! The taking of one token at the front of a text, and of what is skipped before it.
 //!
 //! <https://urlpattern.spec.whatwg.org/#tokenize>
-ghost use Rattle.std.specs.Prelude.{◌≡◌, ◌<◌, ◌≤◌, ◌∷◌, ◌++◌, ℕ, [], length, codes, IfOk, IfErr};
+ghost use Rattle.std.specs.Prelude.{◌≡◌, ◌<◌, ◌≤◌, ◌∷◌, ◌++◌, ℕ, Bool, [], length, codes, IfOk, IfErr};
 ghost use Rattle.std.specs.Str.{chars};
 ghost use Rattle.urlpattern_syntax.specs.Text.{BeginsWith, is_among, is_name_part};
 ghost use Rattle.urlpattern_syntax.specs.Tokens.{FaultView, IsFaultAt, IsInvalidChar, LacksEscaped, LacksQuestionMark, Lexes, LexesUnder, Skips, SkipsBy, fault_view, is_ignored};
@@ -93,7 +93,7 @@ fn name(text: &str) -> Result<Lexeme<'_>, TokenizerError>
 {
     match split_first(text) {
         Some((first, rest)) if is_name_start(first) => {
-            let rest = skip_name(rest);
+            let rest = skip::<NamePart>(rest);
             Ok(Lexeme {
                 kind: TokenType::Name,
                 value: before(text, rest),
@@ -174,41 +174,58 @@ fn nested_group(text: &str) -> Result<&str, TokenizerError>
     }
 }
 
-/// The text behind the tabs, line feeds and carriage returns that it begins with.
+/// A kind of characters.
+trait CharKind {
+    ghost test: { ℕ → Bool };
+
+    /// Whether the character is of the kind.
+    fn has(c: char) -> bool
+        ensures { result ≡ test c };
+}
+
+/// The tabs, line feeds and carriage returns, which are skipped between tokens.
+struct Ignored;
+
+impl CharKind for Ignored {
+    ghost test = { is_ignored };
+
+    fn has(c: char) -> bool {
+        matches!(c, '\t' | '\n' | '\r')
+    }
+}
+
+/// The characters of a name.
+struct NamePart;
+
+impl CharKind for NamePart {
+    ghost test = { is_name_part };
+
+    fn has(c: char) -> bool {
+        is_name_part(c)
+    }
+}
+
+/// The text behind the characters of the kind that it begins with.
+fn skip<K: CharKind>(text: &str) -> &str
+    ensures skips { SkipsBy K.test (chars text.now) (chars result.now) }
+    ensures all { ¬ BeginsWith K.test (chars result.now) }
+    ensures len { length result.now ≤ length text.now }
+{
+    let mut rest = text;
+    while let Some((first, after)) = split_first(rest) {
+        if !K::has(first) {
+            break;
+        }
+        rest = after;
+    }
+    rest
+}
+
+/// The text behind the characters that it begins with and that are skipped between tokens.
 pub(super) fn skip_ignored(text: &str) -> &str
     ensures skips { Skips (chars text.now) (chars result.now) }
     ensures all { ¬ BeginsWith is_ignored (chars result.now) }
     ensures len { length result.now ≤ length text.now }
 {
-    let mut rest = text;
-    while let Some((first, after)) = split_first(rest) {
-        if !is_ignored(first) {
-            break;
-        }
-        rest = after;
-    }
-    rest
-}
-
-/// The text behind the name characters that it begins with.
-fn skip_name(text: &str) -> &str
-    ensures skips { SkipsBy is_name_part (chars text.now) (chars result.now) }
-    ensures all { ¬ BeginsWith is_name_part (chars result.now) }
-    ensures len { length result.now ≤ length text.now }
-{
-    let mut rest = text;
-    while let Some((first, after)) = split_first(rest) {
-        if !is_name_part(first) {
-            break;
-        }
-        rest = after;
-    }
-    rest
-}
-
-/// Whether a character is skipped between tokens.
-fn is_ignored(c: char) -> bool
-    ensures { result ≡ is_ignored c }
-{
-    matches!(c, '\t' | '\n' | '\r')
+    skip::<Ignored>(text)
 }

@@ -12,9 +12,9 @@ pub returns-clause-meaning : goal.returns-clause-meaning
 returns-clause-meaning c = λ h.
     let options = options_view c.args.options.now in
     let parts = map part_view c.args.part_list.now in
-    subst (λ t. HasMeaningOf t options parts) (sym c.in_ok-text.ensures.text) (one_meaning options parts h)
+    subst (λ t. HasMeaningOf t options parts) (sym c.in_ok-text.ensures) (one_meaning options parts h)
 
 pub returns-clause-captures : goal.returns-clause-captures
 returns-clause-captures c = λ text captures means.
     captures_counted (options_view c.args.options.now) (map part_view c.args.part_list.now) text captures means
-    ∙ sym (ap (λ xs. length xs) c.in_ok-names.ensures.names) ∙ length-map c.in_ok-names.names.items (λ name. text_of name)
+    ∙ sym (ap (λ xs. length xs) c.in_ok-names.ensures) ∙ length-map c.in_ok-names.names.items (λ name. text_of name)

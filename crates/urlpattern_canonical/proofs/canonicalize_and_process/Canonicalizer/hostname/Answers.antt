@@ -3,13 +3,9 @@ use Rattle.url.specs.Host.{host_text}
 use Rattle.url.specs.Parts.{host_or_empty}
 use Rattle.url.specs.Quirks as quirks
 use Rattle.url.specs.declared.error.ParseError.TheVariants.{InvalidDomainCharacter}
-use Rattle.urlpattern_canonical.proofs.SettingLemmas.{empty-answered, set_as-answered, set_as-refused}
-use Rattle.urlpattern_canonical.specs.Canonical.{dummy_url, hostname_of}
+use Rattle.urlpattern_canonical.proofs.SettingLemmas.{set_as-answered, set_as-refused}
+use Rattle.urlpattern_canonical.specs.Canonical.{dummy_url}
 use Rattle.urlpattern_canonical.proofs.canonicalize_and_process.Canonicalizer.hostname.Goals as goal
-
-pub returns-then-is_empty : goal.returns-then-is_empty
-returns-then-is_empty c =
-    empty-answered hostname_of c.args.value.now c.new.result c.is_empty.ensures c.if-is_empty.true c.new.ensures.bytes
 
 pub returns-in_err-told_as : goal.returns-in_err-told_as
 returns-in_err-told_as c =

@@ -1,21 +1,15 @@
 use Rattle.std.proofs.Common.{Some, ◌∙◌}
 use Rattle.url.specs.Setters.{set_password}
-use Rattle.urlpattern_canonical.proofs.SettingLemmas.{empty-answered, set-answered, set-refused}
-use Rattle.urlpattern_canonical.specs.Canonical.{dummy_url, password_of}
+use Rattle.urlpattern_canonical.proofs.SettingLemmas.{set-answered, set-refused}
+use Rattle.urlpattern_canonical.specs.Canonical.{dummy_url}
 use Rattle.urlpattern_canonical.proofs.canonicalize_and_process.Canonicalizer.password.Goals as goal
-
-pub returns-then-is_empty : goal.returns-then-is_empty
-returns-then-is_empty c =
-    empty-answered password_of c.args.value.now c.new.result c.is_empty.ensures c.if-is_empty.true c.new.ensures.bytes
 
 pub returns-in_err-told : goal.returns-in_err-told
 returns-in_err-told c =
-    set-refused dummy_url (λ value url. set_password url (Some value)) (λ url. url.password) c.args.value.now c.set_password.new.self c.set_password.result c.told.result
-    c.from_residual-in_err-told.result c.in_err-told.field-0.0 c.utf8.value c.is_empty.ensures c.if-is_empty.false c.in_ok-url.ensures.ok
-    c.set_password.ensures.0 c.told.ensures c.in_err-told.was c.from_residual-in_err-told.ensures.1
+    set-refused dummy_url (λ value url. set_password url (Some value)) (λ url. url.password) c.args.value.now _ _ _ _ _ c.utf8.value c.is_empty.ensures c.if-is_empty.false
+    c.in_ok-url.ensures.ok c.set_password.ensures.0 c.told.ensures c.in_err-told.was c.from_residual-in_err-told.ensures.1
 
 pub returns : goal.returns
 returns c =
-    set-answered dummy_url (λ value url. set_password url (Some value)) (λ url. url.password) c.args.value.now c.set_password.new.self c.set_password.result c.told.result
-    c.in_ok-from_str.field-0 c.utf8.value c.is_empty.ensures c.if-is_empty.false c.in_ok-url.ensures.ok c.set_password.ensures.0 c.told.ensures
-    c.in_ok-told.was (c.in_ok-from_str.ensures.ok ∙ c.password.ensures)
+    set-answered dummy_url (λ value url. set_password url (Some value)) (λ url. url.password) c.args.value.now _ _ _ c.in_ok-from_str.field-0 c.utf8.value c.is_empty.ensures c.if-is_empty.false
+    c.in_ok-url.ensures.ok c.set_password.ensures.0 c.told.ensures c.in_ok-told.was (c.in_ok-from_str.ensures.ok ∙ c.password.ensures)

@@ -1,13 +1,9 @@
 use Rattle.std.proofs.Common.{◌≡◌, ◌++◌, length, codes, sym, ap, Ok, ◌∙◌}
 use Rattle.url.specs.Parser.{and_then}
 use Rattle.urlpattern_canonical.proofs.CanonicalLemmas.{pathname_of-bare, pathname_of-slash}
-use Rattle.urlpattern_canonical.proofs.SettingLemmas.{answered, empty-answered, refused}
+use Rattle.urlpattern_canonical.proofs.SettingLemmas.{answered, refused}
 use Rattle.urlpattern_canonical.specs.Canonical.{dummy_url, path_of, pathname_of, without_guard}
 use Rattle.urlpattern_canonical.proofs.canonicalize_and_process.Canonicalizer.pathname.Goals as goal
-
-pub returns-then-is_empty : goal.returns-then-is_empty
-returns-then-is_empty c =
-    empty-answered pathname_of c.args.value.now c.new.result c.is_empty.ensures c.if-is_empty.true c.new.ensures.bytes
 
 pub returns-then-begins_with_slash : goal.returns-then-begins_with_slash
 returns-then-begins_with_slash c =

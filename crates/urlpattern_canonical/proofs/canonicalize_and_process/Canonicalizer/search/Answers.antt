@@ -1,22 +1,17 @@
 use Rattle.std.proofs.Common.{[], refl, unwrap_or, Some, Ok, ◌∙◌}
 use Rattle.url.specs.Setters.{set_query}
 use Rattle.urlpattern_canonical.proofs.CanonicalLemmas.{unwrapped-copied}
-use Rattle.urlpattern_canonical.proofs.SettingLemmas.{empty-answered, set-answered, set-refused}
-use Rattle.urlpattern_canonical.specs.Canonical.{dummy_url, search_of}
+use Rattle.urlpattern_canonical.proofs.SettingLemmas.{set-answered, set-refused}
+use Rattle.urlpattern_canonical.specs.Canonical.{dummy_url}
 use Rattle.urlpattern_canonical.proofs.canonicalize_and_process.Canonicalizer.search.Goals as goal
-
-pub returns-then-is_empty : goal.returns-then-is_empty
-returns-then-is_empty c =
-    empty-answered search_of c.args.value.now c.new.result c.is_empty.ensures c.if-is_empty.true c.new.ensures.bytes
 
 pub returns-in_err-told : goal.returns-in_err-told
 returns-in_err-told c =
-    set-refused dummy_url (λ value url. Ok (set_query url (Some value))) (λ url. unwrap_or url.query []) c.args.value.now c.set_query.new.self c.set_query.result c.told.result
-    c.from_residual-in_err-told.result c.in_err-told.field-0.0 c.utf8.value c.is_empty.ensures c.if-is_empty.false c.in_ok-url.ensures.ok
-    c.set_query.ensures.0 c.told.ensures c.in_err-told.was c.from_residual-in_err-told.ensures.1
+    set-refused dummy_url (λ value url. Ok (set_query url (Some value))) (λ url. unwrap_or url.query []) c.args.value.now _ _ _ _ _ c.utf8.value c.is_empty.ensures c.if-is_empty.false
+    c.in_ok-url.ensures.ok c.set_query.ensures.0 c.told.ensures c.in_err-told.was c.from_residual-in_err-told.ensures.1
 
 pub returns : goal.returns
 returns c =
-    set-answered dummy_url (λ value url. Ok (set_query url (Some value))) (λ url. unwrap_or url.query []) c.args.value.now c.set_query.new.self c.set_query.result c.told.result
-    c.in_ok-from_str.field-0 c.utf8.value c.is_empty.ensures c.if-is_empty.false c.in_ok-url.ensures.ok c.set_query.ensures.0 c.told.ensures
-    c.in_ok-told.was (c.in_ok-from_str.ensures.ok ∙ unwrapped-copied c.query.result c.unwrap_or.result _ _ c.query.ensures.value refl c.unwrap_or.ensures)
+    set-answered dummy_url (λ value url. Ok (set_query url (Some value))) (λ url. unwrap_or url.query []) c.args.value.now _ _ _ c.in_ok-from_str.field-0 c.utf8.value c.is_empty.ensures c.if-is_empty.false
+    c.in_ok-url.ensures.ok c.set_query.ensures.0 c.told.ensures c.in_ok-told.was
+    (c.in_ok-from_str.ensures.ok ∙ unwrapped-copied c.query.result c.unwrap_or.result _ _ c.query.ensures.value refl c.unwrap_or.ensures)

@@ -19,8 +19,8 @@ returns-clause-made g c =
     record {
       is_printed = c.in_ok-generate_pattern_string.ensures.text;
       has_engine = engine-along IsMade MayRefuse g.R.RegExp.syntax_of (engine_view c.in_ok-regexp.regexp) told flags_are
-          (ap chars c.deref.ensures ∙ c.in_ok-text.ensures.text) c.in_ok-regexp.ensures.made;
-      has_names = c.in_ok-generate_name_list.ensures.names;
-      has_matcher = subst (λ flags. IsMadeOf IsMade (MayRefuseAtFirst MayRefuse) options flags parts (matcher_view c.in_ok-matcher.matcher)) flags_are c.in_ok-matcher.ensures.made;
+          (ap chars c.deref.ensures ∙ c.in_ok-text.ensures) c.in_ok-regexp.ensures;
+      has_names = c.in_ok-generate_name_list.ensures;
+      has_matcher = subst (λ flags. IsMadeOf IsMade (MayRefuseAtFirst MayRefuse) options flags parts (matcher_view c.in_ok-matcher.matcher)) flags_are c.in_ok-matcher.ensures;
       tells_regexps = told;
     }

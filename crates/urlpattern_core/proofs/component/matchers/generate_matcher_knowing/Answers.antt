@@ -9,8 +9,8 @@ use Rattle.urlpattern_syntax.specs.Options.{options_view}
 use Rattle.urlpattern_syntax.specs.Parts.{part_view}
 use Rattle.urlpattern_core.proofs.component.matchers.generate_matcher_knowing.Goals as goal
 
-pub returns-in_default-clause-made : goal.returns-in_default-clause-made
-returns-in_default-clause-made g c =
+pub returns-in_default : goal.returns-in_default
+returns-in_default g c =
     let IsMade = g.R.RegExp.IsMade in
     let MayRefuse = MayRefuseAtFirst g.R.RegExp.MayRefuse in
     let options = options_view c.args.options.now in
@@ -20,4 +20,4 @@ returns-in_default-clause-made g c =
     if_ok-map _ _ c.engine_matcher-in_default.result
     (λ matcher made. made-of IsMade MayRefuse options flags _ middle _ _ (matcher_view matcher) c.peel.ensures
     (many-by_engine (IsEngineOf IsMade MayRefuse flags) options _ middle _ (matcher_view matcher) len made))
-    c.engine_matcher-in_default.ensures.made
+    c.engine_matcher-in_default.ensures

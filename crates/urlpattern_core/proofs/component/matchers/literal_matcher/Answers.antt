@@ -2,6 +2,6 @@ use Rattle.std.proofs.Common.{refl}
 use Rattle.urlpattern_syntax.proofs.StringTexts.{text-nil}
 use Rattle.urlpattern_core.proofs.component.matchers.literal_matcher.Goals as goal
 
-pub returns-clause-made : goal.returns-clause-made
-returns-clause-made g c =
-    rw (text-nil c.new.result c.new.ensures.bytes, text-nil c.new-2.result c.new-2.ensures.bytes, c.in_ok-joined.ensures.text) refl
+pub returns : goal.returns
+returns g c =
+    rw (text-nil c.new.result c.new.ensures.bytes, text-nil c.new-2.result c.new-2.ensures.bytes, c.in_ok-joined.ensures) refl

@@ -1,4 +1,4 @@
-use Rattle.std.proofs.Common.{◌∙◌, ap, subst}
+use Rattle.std.proofs.Common.{◌∙◌, ℕ, List, ap, subst}
 use Rattle.std.specs.Str.{chars}
 use Rattle.urlpattern_core.proofs.Peeling.{if_err-map, if_ok-map}
 use Rattle.urlpattern_laws.proofs.ReadsBack.{answered_only, answered_refused}
@@ -13,24 +13,18 @@ use Rattle.urlpattern_core.proofs.component.normal.normalize_part_list.Goals as 
 
 pub returns-clause-same : goal.returns-clause-same
 returns-clause-same g c =
-    let options = options_view c.args.options.now in
-    let parts = parts_view c.args.part_list.now in
-    let encoding = encoding_by g.F.Fn c.args.encoding_callback in
     let text = ap chars c.deref.ensures ∙ c.in_ok-text.ensures.text in
     if_ok-map _ _ c.parse_pattern_string.result
-    (λ normal reads printable kept. answered_only options encoding parts printable kept (parts_view normal.items)
-    (subst (λ of. Reads of options encoding (parts_view normal.items)) text reads))
+    (λ normal reads printable kept. answered_only _ _ _ printable kept (parts_view normal.items)
+    (subst (λ of. Reads of (options_view c.args.options.now) (encoding_by g.F.Fn c.args.encoding_callback) (parts_view normal.items)) text reads))
     c.parse_pattern_string.ensures.reads
 
 pub returns-clause-fails : goal.returns-clause-fails
 returns-clause-fails g c =
-    let options = options_view c.args.options.now in
-    let parts = parts_view c.args.part_list.now in
     let encoding = encoding_by g.F.Fn c.args.encoding_callback in
+    let Refused : List ℕ → ErrorView → Type 0 = λ text error. Refuses text (options_view c.args.options.now) encoding error in
     let text = ap chars c.deref.ensures ∙ c.in_ok-text.ensures.text in
-    let From : ErrorView → Type 0 = λ error. Refuses (chars c.deref.result.now) options encoding error in
-    let To : ErrorView → Type 0 = FailsText encoding (encoded_texts (joined parts)) in
     if_err-map _ _ c.parse_pattern_string.result
-    (λ error refused printable. MemoryOr-weaker From To error
-    (λ view refuses. answered_refused options encoding parts printable view (subst (λ of. Refuses of options encoding view) text refuses)) refused)
+    (λ error refused printable. MemoryOr-weaker (Refused (chars c.deref.result.now)) (FailsText encoding (encoded_texts (joined (parts_view c.args.part_list.now)))) error
+    (λ view refuses. answered_refused _ _ _ printable view (subst (λ of. Refused of view) text refuses)) refused)
     c.parse_pattern_string.ensures.refuses

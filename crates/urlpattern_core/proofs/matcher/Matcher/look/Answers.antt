@@ -2,9 +2,8 @@ use Rattle.std.proofs.Common.{◌≡◌, ap, ◌∙◌, refl}
 use Rattle.std.specs.Prelude.{Ok}
 use Rattle.std.specs.Str.{chars}
 use Rattle.urlpattern_laws.specs.Matching.{RegExp}
-use Rattle.urlpattern_syntax.specs.Text.{text_of}
 use Rattle.urlpattern_core.specs.Matchers.{engine_view, inner_view, matcher_view}
-use Rattle.urlpattern_core.proofs.MatcherAnswers.{answers-engine, matched-literal, matched-single, not_matched-by, not_matched-without}
+use Rattle.urlpattern_core.proofs.MatcherAnswers.{answers-engine, not_matched-literal, not_matched-single, not_matched-without}
 use Rattle.urlpattern_core.proofs.matcher.Matcher.look.Goals as goal
 
 pub returns-in_err-middle-clause-answer : goal.returns-in_err-middle-clause-answer
@@ -12,16 +11,10 @@ returns-in_err-middle-clause-answer g c =
     rw c.from_residual.ensures (not_matched-without g.R.RegExp.answer (matcher_view c.args.self.now) (chars c.args.input.now) c.in_err-middle.ensures.none)
 
 pub returns-else-is_same-clause-answer : goal.returns-else-is_same-clause-answer
-returns-else-is_same-clause-answer g c =
-    not_matched-by g.R.RegExp.answer (matcher_view c.args.self.now) (chars c.args.input.now) c.is_same.result
-    (matched-literal g.R.RegExp.answer (matcher_view c.args.self.now) (chars c.args.input.now) (chars c.in_ok-middle.middle.now) (text_of c.in-Literal.literal) c.is_same.result
-    c.in_ok-middle.ensures.some (ap inner_view c.in-Literal.is) (rw c.deref.ensures at c.is_same.ensures)) c.if-is_same.false
+returns-else-is_same-clause-answer g c = not_matched-literal g.R.RegExp.answer (matcher_view c.args.self.now) _ (chars c.in_ok-middle.middle.now) _ _ c.in_ok-middle.ensures.some (ap inner_view c.in-Literal.is) (rw c.deref.ensures at c.is_same.ensures) c.if-is_same.false
 
 pub returns-else-is_captured-clause-answer : goal.returns-else-is_captured-clause-answer
-returns-else-is_captured-clause-answer g c =
-    not_matched-by g.R.RegExp.answer (matcher_view c.args.self.now) (chars c.args.input.now) c.is_captured.result
-    (matched-single g.R.RegExp.answer (matcher_view c.args.self.now) (chars c.args.input.now) (chars c.in_ok-middle.middle.now) c.in-SingleCapture.filter c.in-SingleCapture.allow_empty c.is_captured.result
-    c.in_ok-middle.ensures.some (ap inner_view c.in-SingleCapture.is) c.is_captured.ensures) c.if-is_captured.false
+returns-else-is_captured-clause-answer g c = not_matched-single g.R.RegExp.answer (matcher_view c.args.self.now) _ (chars c.in_ok-middle.middle.now) _ _ _ c.in_ok-middle.ensures.some (ap inner_view c.in-SingleCapture.is) c.is_captured.ensures c.if-is_captured.false
 
 pub returns-in-Ok-clause-answer : goal.returns-in-Ok-clause-answer
 returns-in-Ok-clause-answer g c =

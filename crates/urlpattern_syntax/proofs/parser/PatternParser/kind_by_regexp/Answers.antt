@@ -2,7 +2,7 @@ use Rattle.std.proofs.Common.{◌≡◌, codes, sym, ap, ◌∙◌, rules}
 use Rattle.std.specs.Str.{chars}
 use Rattle.urlpattern_syntax.proofs.ReadingLemmas.{kind_full, kind_custom, kind_segment}
 use Rattle.urlpattern_syntax.proofs.StringTexts.{text-nil}
-use Rattle.urlpattern_syntax.proofs.TextLemmas.{bytes_from_chars, chars_full_wildcard, full_wildcard_bytes}
+use Rattle.urlpattern_syntax.proofs.TextLemmas.{bytes_from_chars, full_wildcard}
 use Rattle.urlpattern_syntax.specs.Options.{options_view}
 use Rattle.urlpattern_syntax.specs.RegexpText.{segment_wildcard}
 use Rattle.urlpattern_syntax.proofs.parser.PatternParser.kind_by_regexp.Goals as goal
@@ -22,7 +22,7 @@ returns-then-eq-clause-kind g c =
     let regexp = chars c.args.regexp.now in
     let other : ¬ (regexp ≡ segment_wildcard options) = c.if-is_written.ensures in
     let same : c.args.regexp.now ≡ codes ".*" = search rules in
-    sym (kind_full options regexp other (ap chars same ∙ chars_full_wildcard))
+    sym (kind_full options regexp other (ap chars same ∙ full_wildcard.0))
 
 pub returns-clause-kind : goal.returns-clause-kind
 returns-clause-kind g c =
@@ -31,4 +31,4 @@ returns-clause-kind g c =
     let other : ¬ (regexp ≡ segment_wildcard options) = c.if-is_written.ensures in
     let wild : ¬ (c.args.regexp.now ≡ codes ".*") = search rules in
     sym (kind_custom options regexp other
-    (λ e. wild (bytes_from_chars _ _ c.utf8.regexp e full_wildcard_bytes)))
+    (λ e. wild (bytes_from_chars _ _ c.utf8.regexp e full_wildcard.1)))

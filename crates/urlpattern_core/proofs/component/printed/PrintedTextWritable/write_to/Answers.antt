@@ -1,8 +1,8 @@
-use Rattle.std.proofs.Common.{◌≡◌, ◌++◌, ◌∙◌, [], List, ℕ, Some, sym, ap, map, refl, subst, append_assoc}
+use Rattle.std.proofs.Common.{◌≡◌, ◌++◌, ◌∙◌, [], List, ℕ, sym, ap, map, refl, subst}
 use Rattle.std.proofs.lemmas.List.{append-nil, nil_from_length}
-use Rattle.urlpattern_core.proofs.PrintedTexts.{printed-cut}
+use Rattle.urlpattern_core.proofs.PrintedTexts.{printed-cut, printed-more}
 use Rattle.urlpattern_core.specs.Neighbours.{neighbour}
-use Rattle.urlpattern_laws.specs.Printing.{printed, printed_after, printed_part}
+use Rattle.urlpattern_laws.specs.Printing.{printed, printed_after}
 use Rattle.urlpattern_syntax.specs.Options.{options_view}
 use Rattle.urlpattern_syntax.specs.Parts.{part_view}
 use Rattle.urlpattern_core.proofs.component.printed.PrintedTextWritable.write_to.Goals as goal
@@ -12,26 +12,16 @@ loop-part-init g c = ([], g.met.W.Writer.writes_nothing c.args.writer.now, refl)
 
 pub write_to-requires : goal.write_to-requires
 write_to-requires g c =
-    let options = options_view c.args.self.now.options.now in
-    let previous = neighbour c.loop-part.previous in
-    let front = c.loop-part.invariant.0 in
-    let here = printed_part options previous (part_view c.in-Some.part.now) (neighbour c.first-next.result) in
-    let behind = printed_after options (Some (part_view c.in-Some.part.now)) (map part_view c.in-Some.after.now) in
-    let cut = printed-cut options previous c.in-Some.part.now c.in-Some.after.now c.loop-part.rest.now c.first-next.result front c.first-next.ensures.value c.in-Some.ensures.cases.0 c.loop-part.invariant.2 in
+    let cut = printed-cut (options_view c.args.self.now.options.now) (neighbour c.loop-part.previous) c.in-Some.part.now c.in-Some.after.now c.loop-part.rest.now c.first-next.result c.loop-part.invariant.0 c.first-next.ensures.value c.in-Some.ensures.cases.0 c.loop-part.invariant.2 in
     let fits = subst (λ (text : List ℕ). g.W.Writer.Fits c.args.writer.now text) (sym cut) c.requires in
-    g.met.W.Writer.fits_front c.loop-part.writer here behind
-    (g.met.W.Writer.fits_rest c.args.writer.now c.loop-part.writer front (here ++ behind) fits c.loop-part.invariant.1)
+    g.met.W.Writer.fits_front c.loop-part.writer _ _ (g.met.W.Writer.fits_rest c.args.writer.now c.loop-part.writer c.loop-part.invariant.0 _ fits c.loop-part.invariant.1)
 
 pub loop-part-preserved : goal.loop-part-preserved
-loop-part-preserved g c =
-    let options = options_view c.args.self.now.options.now in
-    let previous = neighbour c.loop-part.previous in
-    let front = c.loop-part.invariant.0 in
-    let here = printed_part options previous (part_view c.in-Some.part.now) (neighbour c.first-next.result) in
-    let behind = printed_after options (Some (part_view c.in-Some.part.now)) (map part_view c.in-Some.after.now) in
-    let cut = printed-cut options previous c.in-Some.part.now c.in-Some.after.now c.loop-part.rest.now c.first-next.result front c.first-next.ensures.value c.in-Some.ensures.cases.0 c.loop-part.invariant.2 in
-    let writes = g.met.W.Writer.writes_both c.args.writer.now c.loop-part.writer c.write_to.new.writer front here c.loop-part.invariant.1 c.write_to.ensures in
-    (front ++ here, writes, append_assoc front here behind ∙ cut)
+loop-part-preserved g c = (
+  _,
+  g.met.W.Writer.writes_both c.args.writer.now c.loop-part.writer c.write_to.new.writer c.loop-part.invariant.0 _ c.loop-part.invariant.1 c.write_to.ensures,
+  printed-more (options_view c.args.self.now.options.now) (neighbour c.loop-part.previous) c.in-Some.part.now c.in-Some.after.now c.loop-part.rest.now c.first-next.result c.loop-part.invariant.0 c.first-next.ensures.value c.in-Some.ensures.cases.0 c.loop-part.invariant.2,
+)
 
 pub returns : goal.returns
 returns g c =

@@ -65,13 +65,11 @@ new_name-requires-clause-knows g c =
     let old = c.args.self.now in
     let mid = c.add_pending.new.self in
     knows_same _ _ old.given_names mid.given_names old.next_numeric_name mid.next_numeric_name
-    (names_pending (parser_options c.args.parser.now) (parser_encoding g.F.Fn c.args.parser.now) (part_list_view old) (part_list_view mid) c.in_ok-add_pending.ensures.ok)
+    (names_pending _ _ (part_list_view old) (part_list_view mid) c.in_ok-add_pending.ensures.ok)
     c.in_ok-add_pending.ensures.names c.in_ok-add_pending.ensures.number c.requires.knows
 
 pub returns-clause-knows : goal.returns-clause-knows
 returns-clause-knows g c =
-    let options = parser_options c.args.parser.now in
-    let encoding = parser_encoding g.F.Fn c.args.parser.now in
     let old = part_list_view c.args.self.now in
     let mid = part_list_view c.add_pending.new.self in
     let given = c.new_name.new.self.given_names in
@@ -79,8 +77,8 @@ returns-clause-knows g c =
     let new : PartListView = record { parts = parts_view c.push.new.self.items; pending = text_of c.new_name.new.self.pending_fixed_value; number = next } in
     let name = name_or (name_view c.args.placeholder.now.name) in
     let group = group_item (chars c.args.before.now) c.args.placeholder.now (chars c.args.after.now) c.args.modifier old.number in
-    let added : group_names new.parts ≡ group_names old.parts ++ name old.number ∷ [] = names_with options encoding old new (group ∷ []) (returns-clause-ok g c) in
-    let before : group_names mid.parts ≡ group_names old.parts = names_pending options encoding old mid c.in_ok-add_pending.ensures.ok in
+    let added : group_names new.parts ≡ group_names old.parts ++ name old.number ∷ [] = names_with _ _ old new (group ∷ []) (returns-clause-ok g c) in
+    let before : group_names mid.parts ≡ group_names old.parts = names_pending _ _ old mid c.in_ok-add_pending.ensures.ok in
     let names : group_names new.parts ≡ group_names mid.parts ++ name mid.number ∷ [] =
     added ∙ ap (λ x. x ++ name old.number ∷ []) (sym before) ∙ ap (λ n. group_names mid.parts ++ name n ∷ []) (sym c.in_ok-add_pending.ensures.number) in
     knows_same (group_names mid.parts ++ name mid.number ∷ []) (group_names new.parts) given given next next names refl refl c.in_ok-name.ensures.knows

@@ -25,4 +25,4 @@ returns-in_ok-add-in-Some-clause-knows c =
     let name = c.in-Some.name in
     let given : IsGiven (chars name.now) = subst (λ found. IsNamed (name_view found)) c.in-Some.is c.requires.named in
     let utf8 : IsUtf8 name.now = search rules in
-    rw c.in-Some.is (knows_name (group_names (map part_view list.parts.items)) list.given_names list.next_numeric_name c.requires.knows c.add.new.self name utf8 given c.in_ok-add-in-Some.ensures.added)
+    rw c.in-Some.is (knows_name (group_names (map part_view list.parts.items)) list.given_names list.next_numeric_name c.requires.knows c.add.new.self name utf8 given c.in_ok-add-in-Some.ensures)
