@@ -74,6 +74,9 @@ impl<'s, 't> Failed<'s, 't> {
         requires dead { walk steps.now (chars text.now) ≡ None }
         ensures { self.new ≡ self.old }
     {
+        if !self.has_room() {
+            return;
+        }
         if let Some(bit) = bit_of(self.text, steps, text) {
             set_bit(&mut self.bits, bit);
         }

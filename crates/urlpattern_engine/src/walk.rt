@@ -106,11 +106,12 @@ impl<'t> Attempt<'_, 't> {
                     rest = remaining;
                     left = others;
                 }
+                Step::Segment(end) => return self.follow_shortest(*end, left, others, rest),
                 _ => {
                     if self.failed.contains(left, rest) {
                         return Ok(false);
                     }
-                    if self.follow_first(*step, left, others, rest)? {
+                    if self.follow_first(step, left, others, rest)? {
                         return Ok(true);
                     }
                     self.failed.insert(left, rest);
@@ -125,22 +126,22 @@ impl<'t> Attempt<'_, 't> {
     ///
     /// The ways in which the first of them may take the text are tried in turn.
     #[cycle(following)]
-    fn follow_first(&mut self, step: Step, steps: &[Step], others: &[Step], text: &'t str) -> Taken
+    fn follow_first(&mut self, step: &Step, steps: &[Step], others: &[Step], text: &'t str) -> Taken
         requires place { IsPlace self.old.failed steps.now (chars text.now) }
-        requires first { steps.now ≡ step ∷ others.now }
+        requires first { steps.now ≡ step.now ∷ others.now }
         ensures { IfOk result (λ taken. FollowsOn self.old self.new taken (walk steps.now (chars text.now))) }
     {
         match step {
-            Step::Literal(c) => match after(text, c) {
+            Step::Literal(c) => match after(text, *c) {
                 Some(rest) => self.follow(others, rest),
                 None => Ok(false),
             },
-            Step::Segment(end) => self.follow_shortest(end, steps, others, text),
+            Step::Segment(end) => self.follow_shortest(*end, steps, others, text),
             Step::Anything => self.follow_longest(steps, others, text),
-            Step::Maybe(group) => self.follow_maybe(group, others, text),
-            Step::Longest(run) => self.follow_longest_run(run, others, text),
-            Step::Copies(copies) => self.follow_copies(copies, others, text),
-            Step::Segments(segments) => self.follow_segments(segments, others, text),
+            Step::Maybe(group) => self.follow_maybe(*group, others, text),
+            Step::Longest(run) => self.follow_longest_run(*run, others, text),
+            Step::Copies(copies) => self.follow_copies(*copies, others, text),
+            Step::Segments(segments) => self.follow_segments(*segments, others, text),
         }
     }
 

@@ -24,7 +24,7 @@ use Rattle.urlpattern_engine.proofs.walk.Attempt.+following.Goals as goal
 
 pub follow_first-follow-requires : goal.follow_first-follow-requires
 follow_first-follow-requires n c =
-    let first : EndsWith c.args.steps.now c.args.others.now = (c.args.step ∷ [], c.requires.1.1.1) in
+    let first : EndsWith c.args.steps.now c.args.others.now = (c.args.step.now ∷ [], c.requires.1.1.1) in
     let behind : EndsWith (chars c.args.text.now) (chars c.in-Some.rest.now) = (c.in-Literal.c ∷ [], c.in-Some.ensures.cut) in
     search (rules, places, first, behind)
 
