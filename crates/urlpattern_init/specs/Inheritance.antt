@@ -25,9 +25,13 @@ use Rattle.urlpattern_syntax.specs.Text.{begins_with, byte_len, text_of}
 abbrev pub given_texts : UrlPatternInit → Eight (Option (String Global))
 given_texts given = record { protocol = given.protocol; username = given.username; password = given.password; hostname = given.hostname; port = given.port; pathname = given.pathname; search = given.search; hash = given.hash }
 
+-- texts that may be missing, as values
+abbrev pub values_of : Eight (Option (String Global)) → Values
+values_of texts = each (λ name. option_map text_of (at texts name))
+
 -- the texts that it gives
 abbrev pub values_view : UrlPatternInit → Values
-values_view init = each (λ name. option_map text_of (at (given_texts init) name))
+values_view init = values_of (given_texts init)
 
 -- ---- the table
 

@@ -3,14 +3,15 @@
 //! <https://urlpattern.spec.whatwg.org/#process-a-urlpatterninit>
 mod processing;
 
-ghost use Rattle.std.specs.Prelude.{◌≡◌, None, option_map};
-ghost use Rattle.urlpattern_init.specs.Inheritance.{values_view};
-ghost use Rattle.urlpattern_syntax.specs.Eight.{at, each};
+ghost use Rattle.std.specs.Prelude.{◌≡◌, option_map};
+ghost use Rattle.urlpattern_init.specs.Inheritance.{values_of, values_view};
+ghost use Rattle.urlpattern_syntax.specs.Eight.{at};
 ghost use Rattle.urlpattern_syntax.specs.Text.{text_of};
 
-pub use processing::{given, process, url_text};
+pub use processing::{process, process_values, url_text};
 use url::Url;
-use urlpattern_syntax::eight::Eight;
+use urlpattern_syntax::eight::{ComponentName, Eight};
+use urlpattern_syntax::{field_of, with_fields};
 
 /// The components of a URL pattern, each with its own pattern, or those of a URL to be matched.
 ///
@@ -38,22 +39,19 @@ pub struct UrlPatternInit {
 }
 
 impl UrlPatternInit {
-    /// An init of these values, without a base URL.
-    pub(crate) fn of_values(values: Eight<Option<String>>) -> Self
-        ensures values { values_view result ≡ each (λ name. option_map text_of (at values name)) }
-        ensures base { result.base_url ≡ None }
+    /// The text of a component, if it is given.
+    pub fn get(&self, name: ComponentName) -> &Option<String>
+        ensures { option_map text_of result.now ≡ at (values_view self.now) name }
     {
-        Self {
-            protocol: values.protocol,
-            username: values.username,
-            password: values.password,
-            hostname: values.hostname,
-            port: values.port,
-            pathname: values.pathname,
-            search: values.search,
-            hash: values.hash,
-            base_url: None,
-        }
+        field_of!(self, name)
+    }
+
+    /// The init of these texts, with this base URL.
+    pub fn from_eight(texts: Eight<Option<String>>, base_url: Option<Url>) -> Self
+        ensures texts { values_view result ≡ values_of texts }
+        ensures base { result.base_url ≡ base_url }
+    {
+        with_fields!(Self, texts, base_url)
     }
 }
 

@@ -7,4 +7,4 @@ mod init;
 pub mod laws;
 
 pub use constructor_parser::accepts_special_scheme;
-pub use init::{UrlPatternInit, UrlPatternMatchInput, given, process, url_text};
+pub use init::{UrlPatternInit, UrlPatternMatchInput, process, process_values, url_text};

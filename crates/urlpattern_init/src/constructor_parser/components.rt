@@ -40,9 +40,7 @@ impl<'a> Split<'a> {
             ensures { IsOwned (at (components_of self.entry.now) name) result }
         { owned(alloc, *self.values.get(name)) };
         let values = Eight::try_from_fn(value)?;
-        let mut init = UrlPatternInit::of_values(values);
-        init.base_url = base_url;
-        Ok(init)
+        Ok(UrlPatternInit::from_eight(values, base_url))
     }
 
     /// No component.

@@ -3,7 +3,7 @@ ghost use Rattle.std.specs.Prelude.{◌≡◌, ◌&&◌, None, Ok, is_none, opti
 ghost use Rattle.std.specs.Str.{chars};
 ghost use Rattle.urlpattern_canonical.specs.Canonical.{Tells};
 ghost use Rattle.urlpattern_init.specs.Inheritance as spec;
-ghost use Rattle.urlpattern_init.specs.Inheritance.{bytes_of, init_bytes, init_values, is_inheritable, missing, must_lack, up_to_last_slash, values_view};
+ghost use Rattle.urlpattern_init.specs.Inheritance.{bytes_of, init_bytes, init_values, is_inheritable, missing, must_lack, up_to_last_slash, values_of, values_view};
 ghost use Rattle.urlpattern_init.specs.Processing.{IsFailureIn, IsPathnameAnswer, IsTextAnswer, IsValueAfter, bytes_in, given_values, lacking_in, optional_bytes, optional_text, value_in, values_in};
 ghost use Rattle.urlpattern_syntax.specs.declared.eight.ComponentName.{ComponentName};
 ghost use Rattle.urlpattern_syntax.specs.declared.error.Error.TheVariants as errors;
@@ -89,22 +89,6 @@ pub fn url_text(url: &Url, component: ComponentName) -> &str
     }
 }
 
-/// What an init has for a component.
-pub fn given(init: &UrlPatternInit, component: ComponentName) -> &Option<String>
-    ensures { option_map text_of result.now ≡ at (values_view init.now) component }
-{
-    match component {
-        ComponentName::Protocol => &init.protocol,
-        ComponentName::Username => &init.username,
-        ComponentName::Password => &init.password,
-        ComponentName::Hostname => &init.hostname,
-        ComponentName::Port => &init.port,
-        ComponentName::Pathname => &init.pathname,
-        ComponentName::Search => &init.search,
-        ComponentName::Hash => &init.hash,
-    }
-}
-
 /// Whether an init lacks all of these components.
 fn lacks_all(init: &UrlPatternInit, components: &[ComponentName]) -> bool
     ensures { result ≡ spec.lacks_all (values_view init.now) components.now }
@@ -116,7 +100,7 @@ fn lacks_all(init: &UrlPatternInit, components: &[ComponentName]) -> bool
 fn lacks(init: &UrlPatternInit, component: ComponentName) -> bool
     ensures { result ≡ is_none (at (values_view init.now) component) }
 {
-    given(init, component).is_none()
+    init.get(component).is_none()
 }
 
 /// Whether a pathname is absolute.
@@ -156,9 +140,9 @@ struct Processing<'a> {
 
 impl Processing<'_> {
     /// The values that the init comes to, with this one for the protocol.
-    fn values(&self, protocol: Option<String>) -> Result<UrlPatternInit, Error>
+    fn values(&self, protocol: Option<String>) -> Result<Eight<Option<String>>, Error>
         requires { value_in self.now None ComponentName.Protocol ≡ Ok (option_map text_of protocol) }
-        ensures ok { IfOk result (λ values. values_in self.now ≡ Ok (values_view values)) }
+        ensures ok { IfOk result (λ values. values_in self.now ≡ Ok (values_of values)) }
         ensures err { IfErr result (MemoryOr (Tells (values_in self.now) (bytes_in self.now))) }
     {
         let value = |name: ComponentName| -> Result<Option<String>, Error>
@@ -166,7 +150,7 @@ impl Processing<'_> {
         { self.value_after(name, &protocol) };
         let mut values = Eight::try_from_fn(value)?;
         values.protocol = protocol;
-        Ok(UrlPatternInit::of_values(values))
+        Ok(values)
     }
 
     /// The value that a component comes to, under the protocol that the init comes to. Of the protocol there is none.
@@ -207,7 +191,7 @@ impl Processing<'_> {
         ensures ok { IfOk result (λ value. value_in self.now (optional_text protocol.entry) component ≡ Ok (option_map text_of value)) }
         ensures err { IfErr result (IsFailureIn self.now (optional_text protocol.entry) (optional_bytes protocol.entry) component) }
     {
-        match given(self.init, component) {
+        match self.init.get(component) {
             Some(text) => Ok(Some(self.processed(component, text, protocol)?)),
             None => self.lacking(component),
         }
@@ -285,7 +269,7 @@ impl Processing<'_> {
     }
 }
 
-/// The values that an init comes to, in either mode.
+/// What an init comes to, in either mode: an init of its values, without a base URL.
 ///
 /// The error is the first refusal of `url`, or that memory ran out. A pattern meets no refusal.
 ///
@@ -296,6 +280,23 @@ pub fn process(
     kind: &ProcessType,
 ) -> Result<UrlPatternInit, Error>
     ensures ok { IfOk result (λ values. init_values kind.now init.now ≡ Ok (values_view values)) }
+    ensures err { IfErr result (MemoryOr (Tells (init_values kind.now init.now) (init_bytes kind.now init.now))) }
+{
+    let values = process_values(alloc, init, kind)?;
+    Ok(UrlPatternInit::from_eight(values, None))
+}
+
+/// The values that an init comes to, in either mode.
+///
+/// The error is the first refusal of `url`, or that memory ran out. A pattern meets no refusal.
+///
+/// <https://urlpattern.spec.whatwg.org/#process-a-urlpatterninit>
+pub fn process_values(
+    alloc: Global,
+    init: &UrlPatternInit,
+    kind: &ProcessType,
+) -> Result<Eight<Option<String>>, Error>
+    ensures ok { IfOk result (λ values. init_values kind.now init.now ≡ Ok (values_of values)) }
     ensures err { IfErr result (MemoryOr (Tells (init_values kind.now init.now) (init_bytes kind.now init.now))) }
 {
     let canonicalizer = match kind {

@@ -13,6 +13,6 @@ returns-in_err-values-clause-memory c =
 
 pub returns-clause-components : goal.returns-clause-components
 returns-clause-components c =
-    c.of_values-init.ensures.values
+    c.from_eight.ensures.texts
     ∙ same_values _ (components_of c.args.self.now) (λ name.
     at-each (λ other. option_map text_of (at c.in_ok-values.values other)) name ∙ (c.in_ok-values.ensures.ok name).1.ok)

@@ -6,7 +6,7 @@ use Rattle.urlpattern_syntax.proofs.EightLemmas.{at-each}
 use Rattle.urlpattern_syntax.specs.Eight.{at}
 use Rattle.urlpattern_syntax.specs.Text.{text_of}
 use Rattle.urlpattern_init.proofs.InheritanceLemmas.{asked-le, has_value, is_value, kept, processed, refused-behind}
-use Rattle.urlpattern_init.specs.Inheritance.{bytes_of, values_view}
+use Rattle.urlpattern_init.specs.Inheritance.{bytes_of, values_of}
 use Rattle.std.specs.declared.alloc.Global.{Global}
 use Rattle.urlpattern_syntax.specs.declared.eight.ComponentName.{ComponentName}
 use Rattle.urlpattern_init.specs.Processing.{IsValueAfter, bytes_in, component_bytes, given_values, value_in, values_in}
@@ -31,10 +31,10 @@ pub returns-clause-ok : goal.returns-clause-ok
 returns-clause-ok c =
     let this = c.args.self.now in
     let protocol = option_map text_of c.args.protocol in
-    let found = values_view c.of_values.result in
     let others = record c.in_ok-values.values { protocol = c.args.protocol } in
+    let found = values_of others in
     processed this.kind.now (given_values this) this.init.now.base_url protocol found c.requires
     (is_value this.kind.now (given_values this) this.init.now.base_url protocol c.requires found (search rules) (λ name not_first.
     (c.in_ok-values.ensures.ok name).1.ok not_first
-    ∙ ap Ok (sym (ap (λ all. at all name) c.of_values.ensures.values ∙ at-each (λ n. option_map text_of (at others n)) name
+    ∙ ap Ok (sym (at-each (λ n. option_map text_of (at others n)) name
     ∙ ap (option_map text_of) (kept c.args.protocol c.in_ok-values.values name not_first)))))

@@ -5,7 +5,7 @@ use Rattle.urlpattern_init.proofs.InheritanceLemmas.{given-le, refused-protocol}
 use Rattle.urlpattern_syntax.specs.declared.eight.ComponentName.TheVariants.{Protocol}
 use Rattle.urlpattern_init.specs.Inheritance.{asked_bytes, given_bytes, processed_values, processed_value, values_view}
 use Rattle.urlpattern_canonical.specs.Canonical.{bytes_asked}
-use Rattle.urlpattern_init.proofs.init.processing.process.Goals as goal
+use Rattle.urlpattern_init.proofs.init.processing.process_values.Goals as goal
 
 pub returns-in_err-protocol-clause-err : goal.returns-in_err-protocol-clause-err
 returns-in_err-protocol-clause-err c =
