@@ -1,4 +1,7 @@
 pub mod JsonExamples
-pub mod ReadingLemmas
+pub mod TreeLemmas
+pub mod EachLemmas
+pub mod InitLemmas
+pub mod ItemLemmas
 pub mod PatternLemmas
 pub mod RoundTrip

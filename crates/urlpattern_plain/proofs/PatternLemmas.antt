@@ -1,11 +1,11 @@
 -- What a pattern is read as.
 use Rattle.std.proofs.Common.{◌≡◌, None, Some, codes, refl}
 use Rattle.serde_json.specs.Data.{Data}
-use Rattle.urlpattern_inputs.specs.Steps.{Fails}
-use Rattle.urlpattern_inputs.specs.Trees.{flag_read, member_read, read_each}
-use Rattle.urlpattern_inputs.specs.declared.reading.Unread.{Unread}
-use Rattle.urlpattern_inputs.specs.declared.reading.Unread.TheVariants.{OutOfMemory, Shape}
-use Rattle.urlpattern_inputs.proofs.EachLemmas.{nothing}
+use Rattle.urlpattern_plain.specs.Steps.{Fails}
+use Rattle.urlpattern_plain.specs.Trees.{flag_read, member_read, read_each}
+use Rattle.urlpattern_plain.specs.declared.reading.Unread.{Unread}
+use Rattle.urlpattern_plain.specs.declared.reading.Unread.TheVariants.{OutOfMemory, Shape}
+use Rattle.urlpattern_plain.proofs.EachLemmas.{nothing}
 use Rattle.urlpattern_plain.specs.Json.{component_read, pattern_read}
 use Rattle.urlpattern_plain.specs.Values.{PatternView}
 use Rattle.urlpattern_syntax.specs.Eight.{name_text}

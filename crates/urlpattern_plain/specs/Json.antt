@@ -4,7 +4,7 @@ use Rattle.std.specs.Str.{bytes_eq, chars}
 use Rattle.serde_json.specs.Data.{Data, null, boolean, string, array, Items, no_items, item}
 use Rattle.serde_json.specs.Find.{as_array, as_str}
 use Rattle.serde_json.specs.View.{items_of}
-use Rattle.urlpattern_inputs.specs.Trees.{◌>>=◌, each_member, flag_read, member_read, object_of, optional_read, read_each, text_read}
+use Rattle.urlpattern_plain.specs.Trees.{◌>>=◌, each_member, flag_read, member_read, object_of, optional_read, read_each, text_read}
 use Rattle.urlpattern_plain.specs.Values.{ComponentView, InnerView, MatcherView, PatternView, literal, single_capture, regexp}
 use Rattle.urlpattern_syntax.specs.Eight.{at, name_text}
 

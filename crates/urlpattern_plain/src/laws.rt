@@ -3,10 +3,10 @@
 //! Each function here does nothing; what it promises is a theorem.
 
 ghost use Rattle.std.specs.Prelude.{ℕ, List};
-ghost use Rattle.urlpattern_inputs.specs.declared.options.UrlPatternOptions.{UrlPatternOptions};
-ghost use Rattle.urlpattern_inputs.specs.InputJson.{init_read, init_tree, input_read, input_tree, match_input_read, match_input_tree, options_read, options_tree};
-ghost use Rattle.urlpattern_inputs.specs.InputValues.{InitView, InputView};
-ghost use Rattle.urlpattern_inputs.specs.Trees.{IsReadBack};
+ghost use Rattle.urlpattern_plain.specs.declared.options.UrlPatternOptions.{UrlPatternOptions};
+ghost use Rattle.urlpattern_plain.specs.InputJson.{init_read, init_tree, input_read, input_tree, match_input_read, match_input_tree, options_read, options_tree};
+ghost use Rattle.urlpattern_plain.specs.InputValues.{InitView, InputView};
+ghost use Rattle.urlpattern_plain.specs.Trees.{IsReadBack};
 ghost use Rattle.urlpattern_plain.specs.Json.{component_read, component_tree, matcher_read, matcher_tree, pattern_read, pattern_tree};
 ghost use Rattle.urlpattern_plain.specs.Values.{ComponentView, HasFilter, HasFilters, MatcherView, PatternView};
 ghost use Rattle.urlpattern_syntax.specs.declared.eight.Eight.{Eight};

@@ -4,22 +4,20 @@ ghost use Rattle.std.specs.Prelude.{◌≡◌, IfErr, IfOk, OnOk, option_map};
 ghost use Rattle.serde_json.specs.View.{view};
 ghost use Rattle.urlpattern_plain.specs.Json.{capture_read, inner_members, inner_read, matcher_read, matcher_tree};
 ghost use Rattle.urlpattern_core.specs.Matchers as compiled;
-ghost use Rattle.urlpattern_inputs.specs.Steps.{Gives};
-ghost use Rattle.urlpattern_inputs.specs.Trees.{GainAll};
+ghost use Rattle.urlpattern_plain.specs.Steps.{Gives};
+ghost use Rattle.urlpattern_plain.specs.Trees.{GainAll};
 ghost use Rattle.urlpattern_plain.specs.Plain.{engine_text, plain_inner, plain_matcher};
 ghost use Rattle.urlpattern_plain.specs.Values.{inner_by, inner_view, matcher_by, matcher_view};
 ghost use Rattle.urlpattern_syntax.specs.declared.error.Error.TheVariants as errors;
 ghost use Rattle.urlpattern_syntax.specs.Text.{text_of};
 
-use crate::reading::optional_character_field;
-use crate::writing::filter_value;
+use crate::reading::{Unread, flag_field, optional_character_field, text_field, text_of, told};
+use crate::writing::{filter_value, put_text};
 use serde::{Deserialize, Serialize};
 use serde_json::{Map, Value};
 use std::alloc::{AllocError, Global};
 use urlpattern_core::regexp::RegExp;
 use urlpattern_core::{Error, matcher};
-use urlpattern_inputs::reading::{Unread, flag_field, text_field, text_of, told};
-use urlpattern_inputs::writing::put_text;
 
 /// What a text is matched with: its prefix, its suffix, and what stands between them.
 #[derive(Debug, Clone, PartialEq, Eq, Drop, Serialize, Deserialize)]

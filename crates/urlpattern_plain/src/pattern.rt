@@ -5,25 +5,24 @@ ghost use Rattle.serde_json.specs.View.{view};
 ghost use Rattle.urlpattern_plain.specs.Json.{component_read, component_tree, matcher_read, pattern_read, pattern_tree};
 ghost use Rattle.urlpattern_core.specs.Compiling as compiled;
 ghost use Rattle.urlpattern_plain.specs.Plain.{plain_component};
-ghost use Rattle.urlpattern_inputs.specs.Steps.{Gives};
-ghost use Rattle.urlpattern_inputs.specs.Trees.{Gain, member_read};
+ghost use Rattle.urlpattern_plain.specs.Steps.{Gives};
+ghost use Rattle.urlpattern_plain.specs.Trees.{Gain, member_read};
 ghost use Rattle.urlpattern_plain.specs.Values.{component_by, component_patterns, component_view, matcher_view, pattern_view};
 ghost use Rattle.urlpattern_syntax.specs.Eight.{at};
 ghost use Rattle.urlpattern_syntax.specs.declared.error.Error.TheVariants as errors;
 ghost use Rattle.urlpattern_syntax.specs.Text.{text_of};
 
 use crate::matcher::{Matcher, engine_text};
-use crate::reading::texts_field;
-use crate::writing::texts_value;
+use crate::reading::{Unread, flag_field, member, text_field, texts_field, told};
+use crate::writing::{put_text, texts_value};
 use serde::{Deserialize, Serialize};
 use serde_json::{Map, Value};
 use std::alloc::{AllocError, Global};
 use urlpattern_core::Error;
 use urlpattern_core::component::Component;
 use urlpattern_core::regexp::RegExp;
-use urlpattern_inputs::reading::{Unread, flag_field, member, text_field, told};
-use urlpattern_inputs::writing::put_text;
 use urlpattern_syntax::eight::{ComponentName, Eight};
+use urlpattern_syntax::{field_of, with_fields};
 
 /// A pattern for each of a URL's components.
 #[derive(Debug, Clone, PartialEq, Eq, Drop, Serialize, Deserialize)]
@@ -107,37 +106,18 @@ impl UrlPattern {
     }
 
     /// The pattern of these components.
-    fn from_eight(components: Eight<UrlPatternComponent>, has_regexp_groups: bool) -> Self
+    pub fn from_eight(components: Eight<UrlPatternComponent>, has_regexp_groups: bool) -> Self
         ensures components { component_patterns result ≡ components }
         ensures groups { result.has_regexp_groups ≡ has_regexp_groups }
     {
-        Self {
-            protocol: components.protocol,
-            username: components.username,
-            password: components.password,
-            hostname: components.hostname,
-            port: components.port,
-            pathname: components.pathname,
-            search: components.search,
-            hash: components.hash,
-            has_regexp_groups,
-        }
+        with_fields!(Self, components, has_regexp_groups)
     }
 
     /// The pattern of a component.
-    fn get(&self, name: ComponentName) -> &UrlPatternComponent
-        ensures { component_view result.now ≡ at (pattern_view self.now).components name }
+    pub fn get(&self, name: ComponentName) -> &UrlPatternComponent
+        ensures { result.now ≡ at (component_patterns self.now) name }
     {
-        match name {
-            ComponentName::Protocol => &self.protocol,
-            ComponentName::Username => &self.username,
-            ComponentName::Password => &self.password,
-            ComponentName::Hostname => &self.hostname,
-            ComponentName::Port => &self.port,
-            ComponentName::Pathname => &self.pathname,
-            ComponentName::Search => &self.search,
-            ComponentName::Hash => &self.hash,
-        }
+        field_of!(self, name)
     }
 }
 

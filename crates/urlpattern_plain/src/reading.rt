@@ -1,14 +1,110 @@
-//! The steps of reading compiled patterns from JSON.
-ghost use Rattle.std.specs.Prelude.{◌≡◌, map, string_bytes};
+//! The steps of reading plain values from JSON.
+ghost use Rattle.std.specs.Prelude.{◌≡◌, map, option_map, string_bytes};
 ghost use Rattle.std.specs.Str.{chars};
+ghost use Rattle.serde_json.specs.Find.{as_str, get};
 ghost use Rattle.serde_json.specs.View.{items_view, view};
-ghost use Rattle.urlpattern_inputs.specs.Steps.{Gives};
-ghost use Rattle.urlpattern_inputs.specs.Trees.{member_read, optional_read};
 ghost use Rattle.urlpattern_plain.specs.Json.{character_read, only, texts_of_items, texts_read};
+ghost use Rattle.urlpattern_plain.specs.Steps.{Gives, told};
+ghost use Rattle.urlpattern_plain.specs.Trees.{flag_read, member_read, optional_read, text_read};
+ghost use Rattle.urlpattern_plain.specs.declared.reading.Unread.TheVariants as unread;
 
 use serde_json::Value;
-use std::alloc::Global;
-use urlpattern_inputs::reading::{Unread, member};
+use std::alloc::{AllocError, AllocFailed, Global};
+use urlpattern_syntax::Error;
+
+/// Why no value was read.
+#[derive(Drop)]
+pub(crate) enum Unread {
+    /// The tree stands for none.
+    Shape,
+    /// The allocator had no memory.
+    OutOfMemory,
+}
+
+impl From<AllocError> for Unread {
+    ghost from_gives = { λ _ reason. reason ≡ unread.OutOfMemory };
+
+    fn from(_error: AllocError) -> Unread {
+        Unread::OutOfMemory
+    }
+}
+
+impl<T: Drop> From<AllocFailed<T>> for Unread {
+    ghost from_gives = { λ _ reason. reason ≡ unread.OutOfMemory };
+
+    fn from(_error: AllocFailed<T>) -> Unread {
+        Unread::OutOfMemory
+    }
+}
+
+/// The answer of a public call.
+pub(crate) fn told<T>(read: Result<T, Unread>) -> Result<Option<T>, Error>
+    ensures { result ≡ told read }
+{
+    match read {
+        Ok(value) => Ok(Some(value)),
+        Err(Unread::Shape) => Ok(None),
+        Err(Unread::OutOfMemory) => Err(Error::OutOfMemory),
+    }
+}
+
+/// The member that has to be there.
+pub(crate) fn member<'v>(tree: &'v Value, name: &str) -> Result<&'v Value, Unread>
+    ensures { Gives (λ found. view found.now) result (get name.now (view tree.now)) }
+{
+    match tree.get(name) {
+        Some(member) => Ok(member),
+        None => Err(Unread::Shape),
+    }
+}
+
+/// The text of a member, lent.
+pub(crate) fn text_of<'v>(tree: &'v Value, name: &str) -> Result<&'v str, Unread>
+    ensures { Gives (λ text. text.now) result (text_read name.now (view tree.now)) }
+{
+    match member(tree, name)?.as_str() {
+        Some(text) => Ok(text),
+        None => Err(Unread::Shape),
+    }
+}
+
+/// The text of a member.
+pub(crate) fn text_field(alloc: Global, tree: &Value, name: &str) -> Result<String, Unread>
+    ensures { Gives string_bytes result (text_read name.now (view tree.now)) }
+{
+    let text = text_of(tree, name)?;
+    Ok(String::from_str(alloc, text)?)
+}
+
+/// The text of a member that may be missing.
+pub(crate) fn optional_text_field(
+    alloc: Global,
+    tree: &Value,
+    name: &str,
+) -> Result<Option<String>, Unread>
+    ensures { Gives (option_map string_bytes) result (optional_read as_str name.now (view tree.now)) }
+{
+    let Some(member) = tree.get(name) else {
+        return Ok(None);
+    };
+    if member.is_null() {
+        return Ok(None);
+    }
+    match member.as_str() {
+        Some(text) => Ok(Some(String::from_str(alloc, text)?)),
+        None => Err(Unread::Shape),
+    }
+}
+
+/// The flag of a member.
+pub(crate) fn flag_field(tree: &Value, name: &str) -> Result<bool, Unread>
+    ensures { Gives (λ flag. flag) result (flag_read name.now (view tree.now)) }
+{
+    match member(tree, name)?.as_bool() {
+        Some(flag) => Ok(flag),
+        None => Err(Unread::Shape),
+    }
+}
 
 /// The character of a member that may be missing.
 pub(crate) fn optional_character_field(tree: &Value, name: &str) -> Result<Option<char>, Unread>

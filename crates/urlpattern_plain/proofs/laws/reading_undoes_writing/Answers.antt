@@ -1,5 +1,4 @@
-use Rattle.urlpattern_inputs.proofs.RoundTrip.{init_again, input_again, match_input_again, options_again}
-use Rattle.urlpattern_plain.proofs.RoundTrip.{component_again, matcher_again, pattern_again}
+use Rattle.urlpattern_plain.proofs.RoundTrip.{init_again, input_again, match_input_again, options_again, component_again, matcher_again, pattern_again}
 use Rattle.urlpattern_plain.proofs.laws.reading_undoes_writing.Goals as goal
 
 pub returns : goal.returns

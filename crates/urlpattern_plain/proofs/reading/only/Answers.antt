@@ -1,5 +1,5 @@
 use Rattle.std.proofs.Common.{sym, ◌∙◌}
-use Rattle.urlpattern_plain.proofs.ReadingLemmas.{only_one, only_two}
+use Rattle.urlpattern_plain.proofs.ItemLemmas.{only_one, only_two}
 use Rattle.urlpattern_plain.proofs.reading.only.Goals as goal
 
 pub returns-in-Some : goal.returns-in-Some

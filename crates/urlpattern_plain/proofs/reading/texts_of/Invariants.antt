@@ -1,7 +1,7 @@
 use Rattle.std.proofs.Common.{◌≡◌, drop, map, string_bytes}
 use Rattle.serde_json.specs.View.{items_view}
 use Rattle.urlpattern_plain.specs.Json.{texts_of_items}
-use Rattle.urlpattern_plain.proofs.ReadingLemmas.{with_front}
+use Rattle.urlpattern_plain.proofs.ItemLemmas.{with_front}
 use Rattle.urlpattern_plain.proofs.reading.texts_of.Given as goal
 
 abbrev pub invariant-loop-item : goal.invariant-loop-item

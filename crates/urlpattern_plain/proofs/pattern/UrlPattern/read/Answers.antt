@@ -1,7 +1,7 @@
 use Rattle.std.proofs.Common.{sym, ap, rules, Some, ◌∙◌}
 use Rattle.serde_json.specs.View.{view}
-use Rattle.urlpattern_inputs.specs.Trees.{member_read}
-use Rattle.urlpattern_inputs.proofs.EachLemmas.{passed_on, read_each-fails, read_each-seen}
+use Rattle.urlpattern_plain.specs.Trees.{member_read}
+use Rattle.urlpattern_plain.proofs.EachLemmas.{passed_on, read_each-fails, read_each-seen}
 use Rattle.urlpattern_plain.specs.Json.{component_read, pattern_read}
 use Rattle.urlpattern_plain.specs.Values.{component_view, pattern_view}
 use Rattle.urlpattern_plain.proofs.PatternLemmas.{pattern_fails, pattern_from}

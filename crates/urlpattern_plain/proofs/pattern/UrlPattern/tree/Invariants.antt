@@ -1,6 +1,6 @@
 use Rattle.std.proofs.Common.{◌≡◌, Some, take}
 use Rattle.serde_json.specs.View.{members_view}
-use Rattle.urlpattern_inputs.proofs.TreeLemmas.{with_each}
+use Rattle.urlpattern_plain.proofs.TreeLemmas.{with_each}
 use Rattle.urlpattern_plain.specs.Json.{component_tree}
 use Rattle.urlpattern_plain.specs.Values.{pattern_view}
 use Rattle.urlpattern_syntax.specs.Eight.{at}
