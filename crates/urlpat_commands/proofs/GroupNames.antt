@@ -21,7 +21,7 @@ use Rattle.urlpattern.specs.Captures.{captures_view, groups_view}
 use Rattle.urlpattern.specs.Match.{ResultView}
 use Rattle.urlpattern.specs.Text.{text_of}
 use Rattle.urlpattern_syntax.specs.declared.eight.ComponentName.{ComponentName}
-use Rattle.urlpattern_pattern.specs.declared.pattern.captures.UrlPatternCaptures.{UrlPatternCaptures}
+use Rattle.urlpattern.specs.declared.pattern.captures.UrlPatternCaptures.{UrlPatternCaptures}
 
 -- ---- names that are gathered
 

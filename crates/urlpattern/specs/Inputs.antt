@@ -1,28 +1,28 @@
 -- The inputs of a browser: what a pattern is constructed from, and what it is matched against, after the URLPattern
 -- Standard, sections "Constructor", and "Matching", at "match".
-use Rattle.std.specs.Prelude.{◌≡◌, ⊤, ℕ, List, length, max, Option, None, Some, Ok, String, option_map, string_bytes, MatchOption}
+use Rattle.std.specs.Prelude.{◌≡◌, ⊤, ℕ, List, length, max, Option, None, Some, Result, Ok, IfOk, String, option_map, string_bytes, MatchOption}
 use Rattle.std.specs.Cow.{cow_str_bytes}
 use Rattle.std.specs.Str.{chars}
+use Rattle.std.specs.declared.alloc.AllocError.{AllocError}
 use Rattle.std.specs.declared.alloc.Global.{Global}
 use Rattle.url.specs.Parser.{Parsed, and_then, parse_url}
 use Rattle.url.specs.Parts.{Parts}
-use Rattle.urlpattern_init.specs.Inheritance.{values_view}
+use Rattle.urlpattern_init.specs.Inheritance.{values_of, values_view}
 use Rattle.urlpattern_init.specs.SpecialProtocol.{IsSpecialBy}
 use Rattle.urlpattern_init.specs.declared.init.UrlPatternInit.{UrlPatternInit}
 use Rattle.urlpattern_init.specs.declared.init.UrlPatternMatchInput.{UrlPatternMatchInput}
 use Rattle.urlpattern_init.specs.declared.init.UrlPatternMatchInput.TheVariants as match_inputs
 use Rattle.urlpattern_canonical.specs.Canonical.{IsRefusedByUrl, Tells}
 use Rattle.urlpattern_core.specs.Engines.{IsRegexOf, regex_answer}
-use Rattle.urlpattern_inputs.specs.declared.init.UrlPatternInit.{UrlPatternInit as PlainInit}
-use Rattle.urlpattern_inputs.specs.declared.input.StringOrInit.{StringOrInit}
-use Rattle.urlpattern_inputs.specs.declared.input.StringOrInit.TheVariants as inputs
-use Rattle.urlpattern_inputs.specs.InputValues.{given_texts, input_view}
-pub use Rattle.urlpattern_pattern.specs.FromString.{RefusesText, parsed_base, text_bytes}
-use Rattle.urlpattern_pattern.specs.FromString.{IsInitOfText}
-use Rattle.urlpattern_syntax.specs.Errors.{ErrorView}
-use Rattle.urlpattern_syntax.specs.Errors.{ErrorView as views}
+use Rattle.urlpattern_plain.specs.declared.init.UrlPatternInit.{UrlPatternInit as PlainInit}
+use Rattle.urlpattern_plain.specs.declared.input.StringOrInit.{StringOrInit}
+use Rattle.urlpattern_plain.specs.declared.input.StringOrInit.TheVariants as inputs
+use Rattle.urlpattern_plain.specs.InputValues.{given_texts, input_view}
+pub use Rattle.urlpattern.specs.FromString.{RefusesText, parsed_base, text_bytes}
+use Rattle.urlpattern.specs.FromString.{IsInitOfText}
+use Rattle.urlpattern_syntax.specs.Errors.{ErrorView, ErrorView as views}
 use Rattle.urlpattern_syntax.specs.Text.{text_of}
-use Rattle.urlpattern_syntax.specs.Eight.{Values, at, each}
+use Rattle.urlpattern_syntax.specs.Eight.{Values}
 
 -- ---- URLs: texts are their bytes
 
@@ -34,10 +34,14 @@ parsed_text base text = and_then (parsed_base base) (λ url. parse_url url text)
 
 -- the texts that a plain init gives
 abbrev pub plain_values : PlainInit → Values
-plain_values init = each (λ name. option_map text_of (at (given_texts init) name))
+plain_values init = values_of (given_texts init)
 
 abbrev pub plain_base : PlainInit → Option (List ℕ)
 plain_base init = option_map string_bytes init.base_url
+
+-- a text that may be missing is copied, unless memory ran out
+abbrev pub IsCopyOfText : Option (List ℕ) → Result (Option (String Global)) AllocError → Type 0
+IsCopyOfText text copied = IfOk copied (λ copy. option_map text_of copy ≡ text)
 
 -- The init has the texts of the plain one, and its base URL.
 pub record IsInitOf (plain : PlainInit) (init : UrlPatternInit) : Type 0 where

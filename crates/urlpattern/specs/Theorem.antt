@@ -14,8 +14,8 @@ use Rattle.urlpattern_laws.specs.Matching.{Answers, AnswersByMeaning, IsMadeOf, 
 use Rattle.urlpattern_laws.specs.PartMeaning.{Captures, PartsMean}
 use Rattle.urlpattern_laws.specs.Printing.{Keeps, joined, printed}
 use Rattle.urlpattern_laws.specs.RoundTrip.{WereRead}
-use Rattle.urlpattern_pattern.specs.Match.{HasMatch, HasNoMatch, IsLongInput, IsMatch, ResultView}
-use Rattle.urlpattern_pattern.specs.Patterns.{PatternView}
+use Rattle.urlpattern.specs.Match.{HasMatch, HasNoMatch, IsLongInput, IsMatch, ResultView}
+use Rattle.urlpattern.specs.Patterns.{PatternView}
 use Rattle.urlpattern_syntax.specs.Errors.{ErrorView}
 use Rattle.urlpattern_syntax.specs.Options.{OptionsView}
 use Rattle.urlpattern_syntax.specs.Parts.{PartView}

@@ -3,24 +3,26 @@ ghost use Rattle.std.specs.Prelude.{◌≡◌, None, Ok, Some, length, max, opti
 ghost use Rattle.std.specs.Str.{chars};
 ghost use Rattle.url.specs.Parser as url_spec;
 ghost use Rattle.urlpattern_init.specs.Inheritance.{values_view};
-ghost use Rattle.urlpattern.specs.Inputs.{FindsInput, IsConstructedFrom, IsInitOf, IsInitOfString, RefusesInput, RefusesSecondBase, longer_bytes, RefusesText, parsed_base, parsed_text, plain_base, plain_values, text_bytes};
+ghost use Rattle.urlpattern.specs.Inputs.{IsCopyOfText, FindsInput, IsConstructedFrom, IsInitOf, IsInitOfString, RefusesInput, RefusesSecondBase, longer_bytes, RefusesText, parsed_base, parsed_text, plain_base, plain_values, text_bytes};
 ghost use Rattle.urlpattern_canonical.specs.Canonical.{Tells};
-ghost use Rattle.urlpattern_inputs.specs.declared.input.StringOrInit.TheVariants as plain_inputs;
+ghost use Rattle.urlpattern_plain.specs.declared.input.StringOrInit.TheVariants as plain_inputs;
 ghost use Rattle.urlpattern_syntax.specs.declared.error.Error.TheVariants as errors;
+ghost use Rattle.urlpattern_syntax.specs.Eight.{at};
 ghost use Rattle.urlpattern_syntax.specs.Parsing.{name_view};
 ghost use Rattle.urlpattern_syntax.specs.Errors.{MemoryOr};
 ghost use Rattle.urlpattern_syntax.specs.Text.{text_of};
 
+use crate::pattern::{init_of_text, parse_base, parse_url};
 use regex::Regex;
-use std::alloc::Global;
+use std::alloc::{AllocError, Global};
 use std::borrow::CowStr;
 use url::Url;
 use urlpattern_canonical::canonicalize_and_process::told;
 use urlpattern_core::Error;
 use urlpattern_init as init;
 use urlpattern_init::UrlPatternMatchInput;
-use urlpattern_inputs::{Inputs, StringOrInit, UrlPatternInit};
-use urlpattern_pattern::{init_of_text, parse_base, parse_url};
+use urlpattern_plain::{Inputs, StringOrInit, UrlPatternInit};
+use urlpattern_syntax::eight::{ComponentName, Eight};
 
 /// The init of a pattern: of a constructor string, with a base URL if there is one, or of components one by one.
 ///
@@ -51,17 +53,7 @@ fn init_of(alloc: Global, init: UrlPatternInit) -> Result<init::UrlPatternInit, 
     ensures refused { IfErr result (MemoryOr (Tells (parsed_base (plain_base init)) (text_bytes (plain_base init)))) }
 {
     let base_url = parse_base(alloc, borrowed(&init.base_url))?;
-    Ok(init::UrlPatternInit {
-        base_url,
-        hash: init.hash,
-        search: init.search,
-        pathname: init.pathname,
-        port: init.port,
-        hostname: init.hostname,
-        password: init.password,
-        username: init.username,
-        protocol: init.protocol,
-    })
+    Ok(init::UrlPatternInit::from_eight(init.into_eight(), base_url))
 }
 
 /// What a pattern is matched against, and the input again with the text of the base URL beside it. None if `url` refuses
@@ -142,25 +134,16 @@ fn copied_init(
     ensures base { IfOk result (λ copy. copy.base_url ≡ base_url) }
     ensures memory { IfErr result (λ error. error ≡ errors.OutOfMemory) }
 {
-    Ok(init::UrlPatternInit {
-        protocol: copied(alloc, &init.protocol)?,
-        username: copied(alloc, &init.username)?,
-        password: copied(alloc, &init.password)?,
-        hostname: copied(alloc, &init.hostname)?,
-        port: copied(alloc, &init.port)?,
-        pathname: copied(alloc, &init.pathname)?,
-        search: copied(alloc, &init.search)?,
-        hash: copied(alloc, &init.hash)?,
-        base_url,
-    })
+    let text = |name: ComponentName| -> Result<Option<String>, AllocError>
+        ensures { IsCopyOfText (at (plain_values init.entry.now) name) result }
+    { copied(alloc, init.get(name)) };
+    let texts = Eight::try_from_fn(text)?;
+    Ok(init::UrlPatternInit::from_eight(texts, base_url))
 }
 
 /// A copy of a text, if there is one.
-///
-/// The error is that memory ran out.
-fn copied(alloc: Global, text: &Option<String>) -> Result<Option<String>, Error>
-    ensures ok { IfOk result (λ copy. option_map text_of copy ≡ option_map text_of text.now) }
-    ensures memory { IfErr result (λ error. error ≡ errors.OutOfMemory) }
+fn copied(alloc: Global, text: &Option<String>) -> Result<Option<String>, AllocError>
+    ensures { IsCopyOfText (option_map text_of text.now) result }
 {
     match text {
         Some(text) => Ok(Some(String::from_str(alloc, text)?)),
@@ -179,11 +162,8 @@ fn borrowed(text: &Option<String>) -> Option<&str>
 }
 
 /// A text of one's own, if there is one.
-///
-/// The error is that memory ran out.
-fn owned(alloc: Global, text: Option<&str>) -> Result<Option<String>, Error>
-    ensures ok { IfOk result (λ owned. option_map text_of owned ≡ name_view text.entry) }
-    ensures memory { IfErr result (λ error. error ≡ errors.OutOfMemory) }
+fn owned(alloc: Global, text: Option<&str>) -> Result<Option<String>, AllocError>
+    ensures { IsCopyOfText (name_view text.entry) result }
 {
     match text {
         Some(text) => Ok(Some(String::from_str(alloc, text)?)),

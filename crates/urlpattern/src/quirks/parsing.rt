@@ -1,20 +1,20 @@
 //! Patterns for browsers: compiled, and as plain data.
 ghost use Rattle.std.specs.Prelude.{◌≡◌, IfErr, IfOk};
-ghost use Rattle.urlpattern_pattern.specs.Compiled.{IsPatternOfInit, RefusesInit};
-ghost use Rattle.urlpattern_pattern.specs.Patterns.{PatternView, pattern_view};
-ghost use Rattle.urlpattern.specs.Quirks.{plain_pattern};
+ghost use Rattle.urlpattern.specs.Compiled.{IsPatternOfInit, RefusesInit};
+ghost use Rattle.urlpattern.specs.Patterns.{PatternView, pattern_view};
+ghost use Rattle.urlpattern.specs.Quirks.{IsPlainOf, plain_pattern};
 ghost use Rattle.urlpattern_plain.specs.Values.{pattern_by};
 ghost use Rattle.urlpattern_syntax.specs.declared.error.Error.TheVariants as errors;
 ghost use Rattle.urlpattern_syntax.specs.Errors.{MemoryOr};
 ghost use Rattle.urlpattern_syntax.specs.Text.{text_of};
 
+use crate::pattern;
 use std::alloc::Global;
 use urlpattern_core::Error;
+use urlpattern_core::component::Component;
 use urlpattern_core::regexp::RegExp;
 use urlpattern_init::UrlPatternInit;
-use urlpattern_inputs::UrlPatternOptions;
-use urlpattern_pattern as pattern;
-use urlpattern_plain::{UrlPattern, UrlPatternComponent};
+use urlpattern_plain::{UrlPattern, UrlPatternComponent, UrlPatternOptions};
 
 /// Compiles a pattern from an init, and tells it as plain data.
 ///
@@ -56,15 +56,9 @@ fn plain_pattern<R: RegExp>(
     ensures memory { IfErr result (λ error. error ≡ errors.OutOfMemory) }
 {
     let has_regexp_groups = pattern.has_regexp_groups();
-    Ok(UrlPattern {
-        protocol: UrlPatternComponent::from_component(alloc, pattern.protocol)?,
-        username: UrlPatternComponent::from_component(alloc, pattern.username)?,
-        password: UrlPatternComponent::from_component(alloc, pattern.password)?,
-        hostname: UrlPatternComponent::from_component(alloc, pattern.hostname)?,
-        port: UrlPatternComponent::from_component(alloc, pattern.port)?,
-        pathname: UrlPatternComponent::from_component(alloc, pattern.pathname)?,
-        search: UrlPatternComponent::from_component(alloc, pattern.search)?,
-        hash: UrlPatternComponent::from_component(alloc, pattern.hash)?,
-        has_regexp_groups,
-    })
+    let plain = |component: Component<R>| -> Result<UrlPatternComponent, Error>
+        ensures { IsPlainOf R.text_made_of component result }
+    { UrlPatternComponent::from_component(alloc, component) };
+    let components = pattern.components.try_map(plain)?;
+    Ok(UrlPattern::from_eight(components, has_regexp_groups))
 }

@@ -1,0 +1,89 @@
+-- Lemmas on the first pattern of a list that matches.
+use Rattle.std.proofs.Common.{◌≡◌, ◌<◌, ◌≤◌, ℕ, Bor, List, ap, ◌∙◌, get_or, length, refl, sym, subst, inr, inl, take}
+use Rattle.std.proofs.lemmas.List.{take-map}
+use Rattle.std.proofs.lemmas.List.Elements.{All-map, All-weaker}
+use Rattle.std.proofs.lemmas.Option.{get_or_from_slice_get, slice_get-map, slice_get_past, slice_get_read, slice_get_within}
+use Rattle.std.specs.Prelude.{All, IfOk, IfSome, MatchOption, Option, Some, None, Result, Ok, Err, option_copied, option_map, slice_get}
+use Rattle.urlpattern_init.specs.declared.init.UrlPatternMatchInput.{UrlPatternMatchInput}
+use Rattle.urlpattern_syntax.specs.declared.eight.ComponentName.{ComponentName}
+use Rattle.urlpattern_laws.specs.PartMeaning.{Captures}
+use Rattle.urlpattern.proofs.MatchLaws.{refused-unmatched}
+use Rattle.urlpattern.specs.FirstMatch.{IsFirstMatch, IsFirstMatchOf, OneAsksAnEngine, patterns_view}
+use Rattle.urlpattern.specs.Match.{AsksAnEngine, HasMatch, HasNoMatch, IsMatch, IsMatchOf, IsRefused, ResultView}
+use Rattle.urlpattern.specs.MatchInput.{IsNoInput, input_texts}
+use Rattle.urlpattern.specs.Patterns.{PatternView, pattern_view}
+use Rattle.urlpattern.specs.declared.pattern.UrlPattern.{UrlPattern}
+use Rattle.urlpattern_syntax.specs.declared.error.Error.{Error}
+use Rattle.urlpattern_syntax.specs.Eight.{Texts}
+
+-- ---- the pattern at an index
+
+-- what is borrowed at an index is the element there
+pub got : {X : Type 0} (found : Option (Bor X)) (xs : List X) (i : ℕ) (P : Bor X → Type 0)
+    → IfSome found (λ x. x.now ≡ get_or xs i x.now) → MatchOption found (length xs ≤ i) (λ x. (i < length xs) × P x)
+    → option_copied found ≡ slice_get xs i
+got None xs i P same past = sym (slice_get_past xs i past)
+got (Some x) xs i P same (inside, p) = sym (slice_get_read xs (length xs) i x.now refl inside same)
+
+-- ---- patterns that were passed over
+
+module _ {E : Type 0} (answer : E → List ℕ → Option Captures) (texts : Texts) where
+  -- the patterns themselves, and what contracts see of them
+  pub refused-views : (patterns : List (UrlPattern E)) → All (λ pattern. IsRefused answer (pattern_view pattern) texts) patterns
+      → All (λ pattern. IsRefused answer pattern texts) (patterns_view patterns)
+  refused-views patterns refused = All-map (λ view. IsRefused answer view texts) (λ pattern. pattern_view pattern) patterns refused
+
+  -- the pattern at an index is the first where those before it were passed over
+  pub first-views : (patterns : List (UrlPattern E)) (index : ℕ) (pattern : UrlPattern E) (match : ComponentName → ResultView) → slice_get patterns index ≡ Some pattern
+      → All (λ earlier. IsRefused answer (pattern_view earlier) texts) (take index patterns)
+      → IsMatchOf answer (pattern_view pattern) texts match
+      → IsFirstMatchOf answer (patterns_view patterns) texts (Some (index, match))
+  first-views patterns index pattern match is_there refused is_match = (
+    (pattern_view pattern, slice_get-map (λ pattern. pattern_view pattern) patterns index ∙ ap (option_map (λ pattern. pattern_view pattern)) is_there, is_match),
+    subst (λ views. All (λ pattern. IsRefused answer pattern texts) views) (sym (take-map (λ pattern. pattern_view pattern) index patterns)) (refused-views (take index patterns) refused),
+  )
+
+-- ---- when memory is asked for
+
+-- one of the patterns asks an engine where the one at an index does
+pub one_asks-views : {E : Type 0} (texts : Texts) (patterns : List (UrlPattern E)) (index : ℕ) (pattern : UrlPattern E) → slice_get patterns index ≡ Some pattern →
+    AsksAnEngine (pattern_view pattern) texts → OneAsksAnEngine (patterns_view patterns) texts
+one_asks-views texts patterns index pattern is_there asks =
+    let views = patterns_view patterns in
+    let view = pattern_view pattern in
+    let there = slice_get-map (λ pattern. pattern_view pattern) patterns index ∙ ap (option_map (λ pattern. pattern_view pattern)) is_there in
+    (index, view, slice_get_within views index view there, get_or_from_slice_get views index view view there, asks)
+
+-- ---- a first match and its result
+
+module _ {E : Type 0} (answer : E → List ℕ → Option Captures) (patterns : List (PatternView E)) where
+  -- a result of the pattern's match is one of the first match
+  pub first-same : (texts : Texts) (index : ℕ) (match result : ComponentName → ResultView)
+      → ((pattern : PatternView E) → IsMatchOf answer pattern texts match → IsMatchOf answer pattern texts result)
+      → IsFirstMatchOf answer patterns texts (Some (index, match)) → IsFirstMatchOf answer patterns texts (Some (index, result))
+  first-same texts index match result step ((pattern, is_there, is_match), others) = ((pattern, is_there, step pattern is_match), others)
+
+  pub first-same_input : (input : UrlPatternMatchInput) (index : ℕ) (match result : ComponentName → ResultView)
+      → ((pattern : PatternView E) → IsMatch answer pattern input match → IsMatch answer pattern input result)
+      → IsFirstMatch answer patterns input (Some (index, match)) → IsFirstMatch answer patterns input (Some (index, result))
+  first-same_input input index match result step ((pattern, is_there, is_match), others) = ((pattern, is_there, step pattern is_match), others)
+
+-- ---- from texts to inputs
+
+module _ {E : Type 0} (answer : E → List ℕ → Option Captures) (patterns : List (PatternView E)) (input : UrlPatternMatchInput) where
+  -- an input that has no texts is not matched
+  pub none-of_no_input : IsNoInput input → IsFirstMatch answer patterns input None
+  none-of_no_input no_input = λ k d within. inl no_input
+
+  -- what is found of the input's texts is found of the input
+  pub first-of_texts : {X : Type 0} (view : X → ComponentName → ResultView) (texts : Texts) (result : Result (Option (ℕ × X)) Error) → input_texts input ≡ Ok texts
+      → IfOk result (λ found. IsFirstMatchOf answer patterns texts (option_map (λ first. (first.0, view first.1)) found))
+      → IfOk result (λ found. IsFirstMatch answer patterns input (option_map (λ first. (first.0, view first.1)) found))
+  first-of_texts view texts (Ok (Some first)) are_texts ((pattern, is_there, is_match), others) = (
+    (pattern, is_there, (texts, are_texts, is_match)),
+    All-weaker (λ earlier. IsRefused answer earlier texts) (λ earlier. ¬ HasMatch answer earlier input)
+        (λ earlier refused. refused-unmatched answer earlier input texts are_texts refused) (take first.0 patterns) others,
+  )
+  first-of_texts view texts (Ok None) are_texts refused =
+      All-weaker (λ pattern. IsRefused answer pattern texts) (λ pattern. HasNoMatch answer pattern input) (λ pattern refused. inr (texts, are_texts, refused)) patterns refused
+  first-of_texts view texts (Err error) are_texts h = tt

@@ -1,0 +1,69 @@
+-- From what eight components answer to what a call tells.
+use Rattle.std.proofs.Common.{◌≡◌, ℕ, Bor, List, true, false, refl, sym, ◌∙◌, subst, inr}
+use Rattle.std.specs.HashMap.{HashMap}
+use Rattle.std.specs.Prelude.{Bool, Option, Some, None, Result, Ok, Err, String, is_some, IfOk, IfNone, IfSome, MatchBool, MatchOption}
+use Rattle.std.specs.Str.{chars}
+use Rattle.std.specs.declared.alloc.Global.{Global}
+use Rattle.urlpattern_syntax.specs.declared.eight.ComponentName.{ComponentName}
+use Rattle.urlpattern_init.specs.declared.init.UrlPatternMatchInput.{UrlPatternMatchInput}
+use Rattle.urlpattern_syntax.specs.declared.eight.Eight.{Eight}
+use Rattle.urlpattern_syntax.proofs.EightLemmas.{by_name}
+use Rattle.urlpattern.specs.Calls.{borrowed_texts, results_of}
+use Rattle.urlpattern.specs.Match.{AreMatched, HasMatch, HasNoMatch, IsMatch, IsMatchOf, IsRefused, IsSameResult, ResultView, group_in}
+use Rattle.urlpattern.specs.MatchInput.{input_texts}
+use Rattle.urlpattern.specs.Patterns.{PatternView}
+use Rattle.urlpattern_laws.specs.PartMeaning.{Captures}
+use Rattle.urlpattern_syntax.specs.declared.error.Error.{Error}
+use Rattle.urlpattern_syntax.specs.Eight.{Texts, at}
+
+-- whether something was found
+pub tells-some : {X : Type 0} (P : X → Type 0) (A B : Type 0) (found : Option X) (test : Bool) → test ≡ is_some found →
+    ((x : X) → P x → A) → IfSome found P → IfNone found B → MatchBool test A B
+tells-some P A B None test e f some none = subst (λ (b : Bool). MatchBool b A B) (sym e) none
+tells-some P A B (Some x) test e f some none = subst (λ (b : Bool). MatchBool b A B) (sym e) (f x some)
+
+-- a test of the input's texts tests the input
+pub test-of_texts : {E : Type 0} (answer : E → List ℕ → Option Captures) (pattern : PatternView E) (input : UrlPatternMatchInput) (texts : Texts) (result : Result Bool Error) →
+    input_texts input ≡ Ok texts → IfOk result (λ matched. MatchBool matched (AreMatched answer pattern texts) (IsRefused answer pattern texts)) →
+    IfOk result (λ matched. MatchBool matched (HasMatch answer pattern input) (HasNoMatch answer pattern input))
+test-of_texts answer pattern input texts (Ok true) e h = (texts, e, h)
+test-of_texts answer pattern input texts (Ok false) e h = inr (texts, e, h)
+test-of_texts answer pattern input texts (Err error) e h = tt
+
+-- what is found of the input's texts is found of the input
+pub found-of_texts : {E X : Type 0} (answer : E → List ℕ → Option Captures) (pattern : PatternView E) (view : X → ComponentName → ResultView) (input : UrlPatternMatchInput) (texts : Texts) (result : Result (Option X) Error) →
+    input_texts input ≡ Ok texts → IfOk result (λ found. MatchOption found (IsRefused answer pattern texts) (λ match. IsMatchOf answer pattern texts (view match))) →
+    IfOk result (λ found. MatchOption found (HasNoMatch answer pattern input) (λ match. IsMatch answer pattern input (view match)))
+found-of_texts answer pattern view input texts (Ok (Some match)) e matched = (texts, e, matched)
+found-of_texts answer pattern view input texts (Ok None) e refused = inr (texts, e, refused)
+found-of_texts answer pattern view input texts (Err error) e h = tt
+
+-- a result that tells the same as a match is one
+pub match-same : {E : Type 0} (answer : E → List ℕ → Option Captures) (pattern : PatternView E) (texts : Texts) (match result : ComponentName → ResultView) →
+    ((name : ComponentName) → IsSameResult (result name) (match name)) → IsMatchOf answer pattern texts match → IsMatchOf answer pattern texts result
+match-same answer pattern texts match result same is_match = record {
+  captures = is_match.captures;
+  are_answers = is_match.are_answers;
+  are_results = λ name. record {
+    has_input = (same name).0 ∙ (is_match.are_results name).has_input;
+    has_groups = λ group. (same name).1 group ∙ (is_match.are_results name).has_groups group;
+  };
+}
+
+pub input-same : {E : Type 0} (answer : E → List ℕ → Option Captures) (pattern : PatternView E) (input : UrlPatternMatchInput) (match result : ComponentName → ResultView) →
+    ((name : ComponentName) → IsSameResult (result name) (match name)) → IsMatch answer pattern input match → IsMatch answer pattern input result
+input-same answer pattern input match result same (texts, e, is_match) = (texts, e, match-same answer pattern texts match result same is_match)
+
+-- texts that are lent, and the text of one component
+pub text-at : (texts : Eight (Bor (List ℕ))) (name : ComponentName) → at (borrowed_texts texts) name ≡ chars (at texts name).now
+text-at texts = by_name (λ name. at (borrowed_texts texts) name ≡ chars (at texts name).now) refl refl refl refl refl refl refl refl
+
+-- texts beside copies of the groups of a match of them are its results
+pub match-of_groups : {E S : Type 0} (answer : E → List ℕ → Option Captures) (pattern : PatternView E) (texts : Texts) (match : ComponentName → ResultView) (groups : Eight (HashMap (String Global) (Option (String Global)) S)) →
+    ((name : ComponentName) (group : List ℕ) → group_in (at groups name) group ≡ (match name).group group) →
+    IsMatchOf answer pattern texts match → IsMatchOf answer pattern texts (results_of texts groups)
+match-of_groups answer pattern texts match groups copied is_match = record {
+  captures = is_match.captures;
+  are_answers = is_match.are_answers;
+  are_results = λ name. record { has_input = refl; has_groups = λ group. copied name group ∙ (is_match.are_results name).has_groups group };
+}

@@ -1,0 +1,112 @@
+use Rattle.std.proofs.Common.{List, arith, length, refl, rules, subst, sym, take, take_all, ◌<◌, ◌≤◌, ◌∙◌, ℕ}
+use Rattle.std.proofs.lemmas.List.Elements.{All-more}
+use Rattle.std.proofs.lemmas.Option.{slice_get_read}
+use Rattle.std.specs.Prelude.{All, Contains, Some}
+use Rattle.urlpattern_index.specs.Keys.{address_keys}
+use Rattle.urlpattern_index.specs.Listed.{IsAmong}
+use Rattle.urlpattern.proofs.Results.{if_err}
+use Rattle.urlpattern.proofs.ListLemmas.{first-views, one_asks-views, refused-views}
+use Rattle.urlpattern.proofs.PlaceLemmas.{candidate_within, passed_over}
+use Rattle.urlpattern.specs.Captures.{captures_view}
+use Rattle.urlpattern.specs.Calls.{borrowed_texts, captures_of}
+use Rattle.urlpattern.specs.FirstMatch.{IsFirstMatchOf, OneAsksAnEngine, patterns_view}
+use Rattle.urlpattern.specs.Match.{IsMatchOf, IsRefused}
+use Rattle.urlpattern.specs.Patterns.{pattern_view}
+use Rattle.urlpattern.specs.Places.{address_of}
+use Rattle.urlpattern.specs.declared.pattern.UrlPattern.{UrlPattern}
+use Rattle.urlpattern.proofs.list.UrlPatternList.first.Goals as goal
+use Rattle.urlpattern_syntax.specs.Eight.{at}
+
+pub index-pattern-requires : goal.index-pattern-requires
+index-pattern-requires g c =
+    let within : c.in-Some.index < length c.self.inside.patterns.items =
+    candidate_within c.self.inside.patterns.items c.self.inside.index (Contains (address_keys (address_of (borrowed_texts c.args.texts)))) c.in-Some.index c.self.invariant
+    (c.candidates-candidates.ensures.listed c.in-Some.index c.in-Some.ensures.0.1) in
+    omega (arith, c.self.inside.patterns.ok)
+
+pub overflow_add-from : goal.overflow_add-from
+overflow_add-from g c =
+    let within : c.in-Some.index < length c.self.inside.patterns.items =
+    candidate_within c.self.inside.patterns.items c.self.inside.index (Contains (address_keys (address_of (borrowed_texts c.args.texts)))) c.in-Some.index c.self.invariant
+    (c.candidates-candidates.ensures.listed c.in-Some.index c.in-Some.ensures.0.1) in
+    omega (arith, c.self.inside.patterns.small, c.self.inside.patterns.ok)
+
+pub loop-index-smaller : goal.loop-index-smaller
+loop-index-smaller g c =
+    let within : c.in-Some.index < length c.self.inside.patterns.items =
+    candidate_within c.self.inside.patterns.items c.self.inside.index (Contains (address_keys (address_of (borrowed_texts c.args.texts)))) c.in-Some.index c.self.invariant
+    (c.candidates-candidates.ensures.listed c.in-Some.index c.in-Some.ensures.0.1) in
+    let from : c.loop-index.from ≤ c.in-Some.index = c.in-Some.ensures.0.0 in
+    omega arith
+
+pub loop-index-preserved : goal.loop-index-preserved
+loop-index-preserved g c =
+    let answer = g.R.RegExp.answer in
+    let texts = borrowed_texts c.args.texts in
+    let items = c.self.inside.patterns.items in
+    let index = c.in-Some.index in
+    let least = c.in-Some.ensures in
+    let within : index < length items =
+    candidate_within items c.self.inside.index (Contains (address_keys (address_of texts))) index c.self.invariant
+    (c.candidates-candidates.ensures.listed index least.0.1) in
+    let refuses = λ (pattern : UrlPattern g.row.R.Denot). IsRefused answer (pattern_view pattern) texts in
+    let refused = rw c.in_default-2.is at c.in_ok-captures.ensures.refused in
+    let before =
+    passed_over answer texts items c.self.inside.index c.candidates-candidates.result c.self.invariant c.candidates-candidates.ensures.found c.loop-index.from index c.loop-index.invariant.refused
+    (λ number le lt among. let other : index ≤ number = least.1 number (le, among) in absurd (omega arith)) in
+    record {
+      within = omega arith;
+      refused = All-more refuses items index c.index-pattern.result.now within before (subst refuses c.index-pattern.ensures refused);
+    }
+
+pub returns-in-Some-2-clause-first : goal.returns-in-Some-2-clause-first
+returns-in-Some-2-clause-first g c =
+    let answer = g.R.RegExp.answer in
+    let texts = borrowed_texts c.args.texts in
+    let items = c.self.inside.patterns.items in
+    let index = c.in-Some.index in
+    let pattern = c.index-pattern.result.now in
+    let least = c.in-Some.ensures in
+    let within : index < length items =
+    candidate_within items c.self.inside.index (Contains (address_keys (address_of texts))) index c.self.invariant
+    (c.candidates-candidates.ensures.listed index least.0.1) in
+    let is_there = slice_get_read items (length items) index pattern refl within c.index-pattern.ensures in
+    let before =
+    passed_over answer texts items c.self.inside.index c.candidates-candidates.result c.self.invariant c.candidates-candidates.ensures.found c.loop-index.from index c.loop-index.invariant.refused
+    (λ number le lt among. let other : index ≤ number = least.1 number (le, among) in absurd (omega arith)) in
+    let is_match : IsMatchOf answer (pattern_view pattern) texts (captures_view c.with_captures.result) = record {
+      captures = λ name. captures_of (at c.in-Some-2.captures name);
+      are_answers = rw c.in-Some-2.is at c.in_ok-captures.ensures.answers;
+      are_results = c.with_captures.ensures;
+    } in
+    subst (λ (patterns : List (UrlPattern g.row.R.Denot)). IsFirstMatchOf answer (patterns_view patterns) texts (Some (index, captures_view c.with_captures.result)))
+    c.self.view_is
+    (first-views answer texts items index pattern (captures_view c.with_captures.result) is_there before is_match)
+
+pub returns-in_err-captures-clause-asked : goal.returns-in_err-captures-clause-asked
+returns-in_err-captures-clause-asked g c =
+    let texts = borrowed_texts c.args.texts in
+    let items = c.self.inside.patterns.items in
+    let index = c.in-Some.index in
+    let pattern = c.index-pattern.result.now in
+    let within : index < length items =
+    candidate_within items c.self.inside.index (Contains (address_keys (address_of texts))) index c.self.invariant
+    (c.candidates-candidates.ensures.listed index c.in-Some.ensures.0.1) in
+    let is_there = slice_get_read items (length items) index pattern refl within c.index-pattern.ensures in
+    if_err _ c.from_residual.result
+    (subst (λ (patterns : List (UrlPattern g.row.R.Denot)). OneAsksAnEngine (patterns_view patterns) texts) c.self.view_is
+    (one_asks-views texts items index pattern is_there c.in_err-captures.ensures.asked))
+
+pub returns-clause-first : goal.returns-clause-first
+returns-clause-first g c =
+    let answer = g.R.RegExp.answer in
+    let texts = borrowed_texts c.args.texts in
+    let items = c.self.inside.patterns.items in
+    let none = c.in_default.ensures in
+    let all =
+    passed_over answer texts items c.self.inside.index c.candidates-candidates.result c.self.invariant c.candidates-candidates.ensures.found c.loop-index.from (length items) c.loop-index.invariant.refused
+    (λ number le lt among. none number (le, among)) in
+    let whole : length items ≤ length items = omega arith in
+    subst (λ (patterns : List (UrlPattern g.row.R.Denot)). All (λ pattern. IsRefused answer pattern texts) (patterns_view patterns))
+    (take_all (length items) items whole ∙ c.self.view_is)
+    (refused-views answer texts (take (length items) items) all)

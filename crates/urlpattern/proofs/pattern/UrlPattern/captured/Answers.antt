@@ -1,0 +1,17 @@
+use Rattle.std.proofs.Common.{subst}
+use Rattle.std.proofs.lemmas.Option.{IfSome_then}
+use Rattle.std.proofs.lemmas.Result.{IfOk-weaker}
+use Rattle.std.specs.Prelude.{Option}
+use Rattle.urlpattern_laws.specs.Matching.{Answers}
+use Rattle.urlpattern_laws.specs.PartMeaning.{Captures}
+use Rattle.urlpattern.specs.Calls.{borrowed_texts}
+use Rattle.urlpattern.specs.Patterns.{pattern_view}
+use Rattle.urlpattern.proofs.pattern.UrlPattern.captured.Goals as goal
+use Rattle.urlpattern_syntax.specs.Eight.{at}
+
+pub returns-clause-answers : goal.returns-clause-answers
+returns-clause-answers g c =
+    IfOk-weaker c.captures_of_looks.result _ _ (λ found some. IfSome_then found some (λ captures answered name.
+    subst
+    (λ (found : Option Captures). Answers g.R.RegExp.answer (pattern_view c.args.self.now name).matcher (at (borrowed_texts c.args.texts.now) name) found)
+    (answered name) (c.in-Some.ensures.some name))) c.captures_of_looks.ensures.some

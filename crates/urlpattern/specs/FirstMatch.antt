@@ -1,0 +1,44 @@
+-- What the first match of a list of patterns is.
+use Rattle.std.specs.Prelude.{◌≡◌, ℕ, List, map, take, All, Any, Option, Some, None, option_map, slice_get}
+use Rattle.urlpattern_init.specs.declared.init.UrlPatternMatchInput.{UrlPatternMatchInput}
+use Rattle.urlpattern_syntax.specs.declared.eight.ComponentName.{ComponentName}
+use Rattle.urlpattern.specs.declared.pattern.UrlPattern.{UrlPattern}
+use Rattle.urlpattern.specs.declared.pattern.captures.UrlPatternCaptures.{UrlPatternCaptures}
+use Rattle.urlpattern.specs.Captures.{captures_view}
+use Rattle.urlpattern.specs.Match.{AsksAnEngine, HasMatch, HasNoMatch, IsMatch, IsMatchOf, IsRefused, ResultView, result_view, UrlPatternResult}
+use Rattle.urlpattern.specs.Patterns.{PatternView, pattern_view}
+use Rattle.urlpattern_laws.specs.PartMeaning.{Captures}
+use Rattle.urlpattern_syntax.specs.Eight.{Texts}
+
+-- A `UrlPatternList`: what the components of each pattern are compiled to.
+abbrev pub patterns_view : {E : Type 0} → List (UrlPattern E) → List (PatternView E)
+patterns_view patterns = map (λ pattern. pattern_view pattern) patterns
+
+-- An index with the results of its pattern's components.
+abbrev pub FirstView : Type 0
+FirstView = ℕ × (ComponentName → ResultView)
+
+abbrev pub first_view : Option (ℕ × UrlPatternResult) → Option FirstView
+first_view found = option_map (λ first. (first.0, result_view first.1)) found
+
+abbrev pub first_captures_view : Option (ℕ × UrlPatternCaptures) → Option FirstView
+first_captures_view found = option_map (λ first. (first.0, captures_view first.1)) found
+
+-- what is found of a list on an input: the least index whose pattern has a match of it, with that match, and none where no
+-- pattern has one
+abbrev pub IsFirstMatch : {E : Type 0} → (answer : E → List ℕ → Option Captures) → List (PatternView E) → UrlPatternMatchInput → Option FirstView → Type 0
+IsFirstMatch {E} answer patterns input (Some first) =
+    ((pattern : PatternView E) × (slice_get patterns first.0 ≡ Some pattern) × IsMatch answer pattern input first.1)
+    × All (λ earlier. ¬ HasMatch answer earlier input) (take first.0 patterns)
+IsFirstMatch answer patterns input None = All (λ pattern. HasNoMatch answer pattern input) patterns
+
+-- the same of eight texts: the least index whose pattern matches them
+abbrev pub IsFirstMatchOf : {E : Type 0} → (answer : E → List ℕ → Option Captures) → List (PatternView E) → Texts → Option FirstView → Type 0
+IsFirstMatchOf {E} answer patterns texts (Some first) =
+    ((pattern : PatternView E) × (slice_get patterns first.0 ≡ Some pattern) × IsMatchOf answer pattern texts first.1)
+    × All (λ earlier. IsRefused answer earlier texts) (take first.0 patterns)
+IsFirstMatchOf answer patterns texts None = All (λ pattern. IsRefused answer pattern texts) patterns
+
+-- one of the patterns asks an engine about eight texts
+abbrev pub OneAsksAnEngine : {E : Type 0} → List (PatternView E) → Texts → Type 0
+OneAsksAnEngine patterns texts = Any (λ pattern. AsksAnEngine pattern texts) patterns

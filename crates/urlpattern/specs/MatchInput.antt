@@ -1,0 +1,30 @@
+-- The texts of a match input, after the URLPattern Standard, section "Matching", at "perform a match".
+use Rattle.std.specs.Prelude.{ℕ, Ok}
+use Rattle.url.specs.Parser.{Parsed, and_then}
+use Rattle.urlpattern_init.specs.declared.init.UrlPatternMatchInput.{UrlPatternMatchInput}
+use Rattle.urlpattern_init.specs.declared.init.UrlPatternMatchInput.TheVariants.{Init, Url as UrlInput}
+use Rattle.urlpattern_init.specs.Inheritance.{init_bytes, init_values, texts_of_url, texts_of_values}
+use Rattle.urlpattern_canonical.specs.Canonical.{IsRefusedByUrl}
+use Rattle.urlpattern_canonical.specs.declared.canonicalize_and_process.ProcessType.TheVariants.{Url}
+use Rattle.urlpattern_plain.specs.InputValues.{matched_texts}
+use Rattle.urlpattern_plain.specs.declared.match_input.MatchInput.{MatchInput}
+use Rattle.urlpattern_syntax.specs.Text.{text_of}
+use Rattle.urlpattern_syntax.specs.Eight.{Texts, at, each}
+
+-- the texts that an input has
+abbrev pub texts_view : MatchInput → Texts
+texts_view input = each (λ name. text_of (at (matched_texts input) name))
+
+-- the eight texts of a match input: those of the URL, or those that the init comes to
+abbrev pub input_texts : UrlPatternMatchInput → Parsed Texts
+input_texts (Init init) = and_then (init_values Url init) (λ values. Ok (texts_of_values values))
+input_texts (UrlInput url) = Ok (texts_of_url url)
+
+-- the bytes of the longest text about which `url` is asked; of a URL there is none
+abbrev pub input_bytes : UrlPatternMatchInput → ℕ
+input_bytes (Init init) = init_bytes Url init
+input_bytes (UrlInput url) = 0
+
+-- the input has no texts
+abbrev pub IsNoInput : UrlPatternMatchInput → Type 0
+IsNoInput input = IsRefusedByUrl (input_texts input) (input_bytes input)

@@ -1,0 +1,257 @@
+//! Lists of patterns, of which the first that matches an input is asked for.
+//!
+//! The texts of the input are made once. An index knows the patterns that can match them, by the literal protocol and hostname
+//! and by the text that the pathname begins with. Those look at them, in the order of the list, and nothing is made of those
+//! that do not match.
+ghost use Rattle.std.specs.Iterator.Adapters.{IterYieldsInOrder};
+ghost use Rattle.std.specs.Prelude.{◌≡◌, ◌==◌, ◌++◌, [], ◌∷◌, length, map, option_copied, slice_get, IfErr, IfOk, OnErr, OnOk};
+ghost use Rattle.std.specs.Slice.Iter.{iter_rest};
+ghost use Rattle.urlpattern_init.specs.Inheritance.{texts_of_url};
+ghost use Rattle.urlpattern_init.specs.declared.init.UrlPatternMatchInput.TheVariants as inputs;
+ghost use Rattle.urlpattern.specs.Calls.{borrowed_texts, first_groups_view};
+ghost use Rattle.urlpattern.specs.FirstMatch.{first_captures_view, first_view, patterns_view, IsFirstMatch, IsFirstMatchOf, OneAsksAnEngine};
+ghost use Rattle.urlpattern.specs.MatchInput.{texts_view};
+ghost use Rattle.urlpattern.specs.declared.pattern.UrlPattern.{UrlPattern};
+ghost use Rattle.urlpattern_syntax.specs.declared.error.Error.TheVariants as errors;
+
+use crate::match_input::parse_match_input;
+use crate::pattern::{
+    Groups, UrlPattern, UrlPatternCaptures, UrlPatternResult, empty_result, input_texts, result_of,
+    url_texts,
+};
+use std::alloc::Global;
+use std::marker::Model;
+use std::slice;
+use url::Url;
+use urlpattern_core::Error;
+use urlpattern_core::error::OutOfMemory;
+use urlpattern_core::regexp::RegExp;
+use urlpattern_index::{Address, Index};
+use urlpattern_init::UrlPatternMatchInput;
+use urlpattern_plain::MatchInput;
+use urlpattern_syntax::eight::Eight;
+
+/// Patterns in their order, as the routes of a router.
+#[derive(Debug, Drop)]
+pub struct UrlPatternList<R: RegExp = regex::Regex> {
+    patterns: Vec<UrlPattern<R>>,
+    /// Where the URLs lie that each pattern can match.
+    index: Index,
+}
+
+impl<R: RegExp> Model for UrlPatternList<R> {
+    ghost use Rattle.std.specs.Prelude.{List};
+    ghost use Rattle.urlpattern.specs.Places.{AreKeys};
+    ghost use Rattle.urlpattern.specs.declared.pattern.UrlPattern.{UrlPattern};
+
+    ghost Value = { List (UrlPattern R) };
+
+    ghost view = { λ list. list.patterns.items };
+
+    ghost invariant = { λ list. AreKeys list.patterns.items list.index };
+}
+
+impl<R: RegExp> UrlPatternList<R> {
+    /// An empty list. It does not allocate.
+    pub fn new(alloc: Global) -> Self
+        ensures { result ≡ [] }
+    {
+        Self {
+            patterns: Vec::new(alloc),
+            index: Index::new(alloc),
+        }
+    }
+
+    /// Appends a pattern.
+    ///
+    /// Where memory runs out, the error is the pattern again, and the list is as it was.
+    pub fn push(&mut self, pattern: UrlPattern<R>) -> Result<(), UrlPattern<R>>
+        ensures appended { OnOk result (self.new ≡ self.old ++ pattern ∷ []) }
+        ensures unchanged { OnErr result (self.new ≡ self.old) }
+        ensures handed_back { IfErr result (λ refused. refused ≡ pattern) }
+    {
+        let Ok(()) = self.patterns.reserve(1) else {
+            return Err(pattern);
+        };
+        let Ok(()) = self.index.push(pattern.place()) else {
+            return Err(pattern);
+        };
+        match self.patterns.push(pattern) {
+            Ok(()) => Ok(()),
+            Err(_) => unreachable!(),
+        }
+    }
+
+    /// How many patterns there are.
+    pub fn len(&self) -> usize
+        ensures { result ≡ length self.now }
+    {
+        self.patterns.len()
+    }
+
+    /// Whether there is no pattern.
+    pub fn is_empty(&self) -> bool
+        ensures { result ≡ (length self.now == 0) }
+    {
+        self.patterns.is_empty()
+    }
+
+    /// The pattern at an index, if there is one.
+    pub fn get(&self, index: usize) -> Option<&UrlPattern<R>>
+        ensures { option_copied result ≡ slice_get self.now index }
+    {
+        self.patterns.get(index)
+    }
+
+    /// The patterns, in their order.
+    pub fn iter(&self) -> slice::Iter<'_, UrlPattern<R>>
+        ensures rest { iter_rest result ≡ self.now }
+        ensures runs { IterYieldsInOrder (UrlPattern R) }
+    {
+        self.patterns.iter()
+    }
+
+    /// The least index whose pattern matches an input, and that match. `None`: no pattern matches it.
+    ///
+    /// The answer is that of `UrlPattern::exec` on one pattern after the other until one matches. Patterns after that one are
+    /// not asked, nor are those that the index leaves out.
+    ///
+    /// The error is that memory ran out.
+    pub fn first_match(
+        &self,
+        alloc: Global,
+        input: UrlPatternMatchInput,
+    ) -> Result<Option<(usize, UrlPatternResult)>, Error>
+        ensures first { IfOk result (λ found. IsFirstMatch R.answer (patterns_view self.now) input (first_view found)) }
+        ensures memory { IfErr result (λ error. error ≡ errors.OutOfMemory) }
+    {
+        match input {
+            UrlPatternMatchInput::Url(url) => self.first_of_url(alloc, &url),
+            input => match parse_match_input(alloc, input)? {
+                Some(texts) => self.first_of_texts(alloc, texts),
+                None => Ok(None),
+            },
+        }
+    }
+
+    /// The least index whose pattern matches a URL, and that match, borrowed from the pattern and the URL. `None`: no pattern
+    /// matches it.
+    ///
+    /// The answer is that of `UrlPattern::captures` on one pattern after the other until one matches.
+    ///
+    /// The error is that memory ran out. Only an engine allocates.
+    pub fn first_captures<'a>(
+        &'a self,
+        alloc: Global,
+        url: &'a Url,
+    ) -> Result<Option<(usize, UrlPatternCaptures<'a>)>, Error>
+        ensures first { IfOk result (λ found. IsFirstMatch R.answer (patterns_view self.now) (inputs.Url url.now) (first_captures_view found)) }
+        ensures memory { IfErr result (λ error. error ≡ errors.OutOfMemory) }
+        ensures asked { IfErr result (λ _. OneAsksAnEngine (patterns_view self.now) (texts_of_url url.now)) }
+    {
+        Ok(self.first(alloc, url_texts(url))?)
+    }
+
+    /// The least index whose pattern matches an input that has its eight texts, and that match, borrowed from the pattern and
+    /// the input. `None`: no pattern matches it.
+    ///
+    /// The error is that memory ran out. Only an engine allocates.
+    pub fn first_captures_of_input<'a>(
+        &'a self,
+        alloc: Global,
+        input: &'a MatchInput,
+    ) -> Result<Option<(usize, UrlPatternCaptures<'a>)>, Error>
+        ensures first { IfOk result (λ found. IsFirstMatchOf R.answer (patterns_view self.now) (texts_view input.now) (first_captures_view found)) }
+        ensures memory { IfErr result (λ error. error ≡ errors.OutOfMemory) }
+        ensures asked { IfErr result (λ _. OneAsksAnEngine (patterns_view self.now) (texts_view input.now)) }
+    {
+        Ok(self.first(alloc, input_texts(input))?)
+    }
+
+    /// The first match of a URL, whose texts are copied.
+    fn first_of_url(
+        &self,
+        alloc: Global,
+        url: &Url,
+    ) -> Result<Option<(usize, UrlPatternResult)>, Error>
+        ensures first { IfOk result (λ found. IsFirstMatch R.answer (patterns_view self.now) (inputs.Url url.now) (first_view found)) }
+        ensures memory { IfErr result (λ error. error ≡ errors.OutOfMemory) }
+    {
+        match self.first_captures(alloc, url)? {
+            Some((index, captures)) => {
+                let mut result = empty_result(alloc);
+                let copied = captures.copy_to(alloc, &mut result);
+                drop(captures);
+                copied?;
+                Ok(Some((index, result)))
+            }
+            None => Ok(None),
+        }
+    }
+
+    /// The first match of texts that are there, which are moved.
+    fn first_of_texts(
+        &self,
+        alloc: Global,
+        texts: MatchInput,
+    ) -> Result<Option<(usize, UrlPatternResult)>, Error>
+        ensures first { IfOk result (λ found. IsFirstMatchOf R.answer (patterns_view self.now) (texts_view texts) (first_view found)) }
+        ensures memory { IfErr result (λ error. error ≡ errors.OutOfMemory) }
+    {
+        match self.first_groups(alloc, &texts)? {
+            Some((index, groups)) => Ok(Some((index, result_of(texts, groups)))),
+            None => Ok(None),
+        }
+    }
+
+    /// The index of the first pattern that matches an input that has its eight texts, and copies of what its groups capture, by
+    /// name. `None`: no pattern matches it.
+    ///
+    /// The error is that memory ran out.
+    fn first_groups(
+        &self,
+        alloc: Global,
+        input: &MatchInput,
+    ) -> Result<Option<(usize, Eight<Groups>)>, Error>
+        ensures first { IfOk result (λ found. IsFirstMatchOf R.answer (patterns_view self.now) (texts_view input.now)
+            (first_groups_view (texts_view input.now) found)) }
+        ensures memory { IfErr result (λ error. error ≡ errors.OutOfMemory) }
+    {
+        match self.first_captures_of_input(alloc, input)? {
+            Some((index, captures)) => {
+                let groups = captures.to_groups(alloc);
+                drop(captures);
+                Ok(Some((index, groups?)))
+            }
+            None => Ok(None),
+        }
+    }
+
+    /// The first match of eight texts. `None`: no pattern matches them.
+    ///
+    /// Only an engine allocates.
+    fn first<'a>(
+        &'a self,
+        alloc: Global,
+        texts: Eight<&'a str>,
+    ) -> Result<Option<(usize, UrlPatternCaptures<'a>)>, OutOfMemory>
+        ensures first { IfOk result (λ found.
+            IsFirstMatchOf R.answer (patterns_view self.now) (borrowed_texts texts.entry) (first_captures_view found)) }
+        ensures asked { IfErr result (λ _. OneAsksAnEngine (patterns_view self.now) (borrowed_texts texts.entry)) }
+    {
+        let candidates = self.index.candidates(Address {
+            protocol: texts.protocol,
+            hostname: texts.hostname,
+            pathname: texts.pathname,
+        });
+        let mut from = 0;
+        while let Some(index) = candidates.least_from(from) {
+            let pattern = &self.patterns[index];
+            if let Some(captures) = pattern.captured(alloc, &texts)? {
+                return Ok(Some((index, pattern.with_captures(texts, captures))));
+            }
+            from = index + 1;
+        }
+        Ok(None)
+    }
+}

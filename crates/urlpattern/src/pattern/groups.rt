@@ -1,0 +1,51 @@
+//! The groups of a match, by their names.
+ghost use Rattle.std.specs.Prelude.{◌≡◌, IfOk, map, option_map};
+ghost use Rattle.urlpattern.specs.Calls.{AreGroups, HasNoGroups};
+ghost use Rattle.urlpattern_core.specs.Captured.{capture_view};
+ghost use Rattle.urlpattern_syntax.specs.Text.{text_of};
+
+use std::alloc::{AllocError, Global};
+use std::collections::HashMap;
+use urlpattern_core::error::OutOfMemory;
+
+/// What groups capture, by their names. A group that took no part has None.
+pub(crate) type Groups = HashMap<String, Option<String>>;
+
+/// What the groups with these names capture, which stand in the same order. Of equal names the last counts.
+pub(super) fn groups_of(
+    alloc: Global,
+    names: &[String],
+    captures: &[Option<&str>],
+) -> Result<Groups, OutOfMemory>
+    ensures groups { IfOk result (AreGroups (map (λ name. text_of name) names.now) (map capture_view captures.now)) }
+{
+    let mut groups = HashMap::new(alloc);
+    add_groups(alloc, &mut groups, names, captures)?;
+    Ok(groups)
+}
+
+/// Adds what the groups with these names capture, which stand in the same order. Of equal names the last counts.
+pub(super) fn add_groups(
+    alloc: Global,
+    groups: &mut Groups,
+    names: &[String],
+    captures: &[Option<&str>],
+) -> Result<(), OutOfMemory>
+    requires { HasNoGroups groups.old }
+    ensures groups { IfOk result (λ _. AreGroups (map (λ name. text_of name) names.now) (map capture_view captures.now) groups.new) }
+{
+    for (name, capture) in names.iter().zip(captures) {
+        groups.insert(name.clone()?, copied(alloc, *capture)?)?;
+    }
+    Ok(())
+}
+
+/// A copy of what a group captures.
+fn copied(alloc: Global, capture: Option<&str>) -> Result<Option<String>, AllocError>
+    ensures { IfOk result (λ copy. option_map text_of copy ≡ capture_view capture.entry) }
+{
+    match capture {
+        Some(text) => Ok(Some(String::from_str(alloc, text)?)),
+        None => Ok(None),
+    }
+}

@@ -1,0 +1,275 @@
+//! Matching: what a pattern answers to eight texts, and the groups of the answer.
+//!
+//! All components look at their texts before anything is made. Engines are asked last, and the first refusal ends it.
+ghost use Rattle.std.specs.Prelude.{◌≡◌, None, Some, IfErr, IfNone, IfOk, IfSome};
+ghost use Rattle.urlpattern_core.specs.Looks.{look_answer, IsAsking};
+ghost use Rattle.urlpattern_init.specs.declared.init.UrlPatternMatchInput.TheVariants as inputs;
+ghost use Rattle.urlpattern_init.specs.Inheritance.{texts_of_url};
+ghost use Rattle.urlpattern.specs.Captures.{captures_view};
+ghost use Rattle.urlpattern.specs.Match.{AreAnswers, AsksAnEngine, FindsInInput, FindsInTexts, IsRefused, TestsInput, TestsTexts, result_view};
+ghost use Rattle.urlpattern.specs.MatchInput.{texts_view};
+ghost use Rattle.urlpattern.specs.Calls.{AreCaptured, AreLooks, AskWithCause, HasCaptures, all_captures, borrowed_texts, results_of};
+ghost use Rattle.urlpattern.specs.Patterns.{pattern_view};
+ghost use Rattle.urlpattern_syntax.specs.declared.eight.ComponentName.{ComponentName as Name};
+ghost use Rattle.urlpattern_syntax.specs.declared.error.Error.TheVariants as errors;
+ghost use Rattle.urlpattern_syntax.specs.Eight.{at};
+
+use super::UrlPattern;
+use super::captures::{Captured, Missed, UrlPatternCaptures};
+use super::groups::Groups;
+use super::result::{UrlPatternResult, empty_result, result_of};
+use super::texts::{input_texts, url_texts};
+use crate::match_input::parse_match_input;
+use std::alloc::Global;
+use url::Url;
+use urlpattern_core::Error;
+use urlpattern_core::error::OutOfMemory;
+use urlpattern_core::matcher::Look;
+use urlpattern_core::regexp::RegExp;
+use urlpattern_init::UrlPatternMatchInput;
+use urlpattern_plain::MatchInput;
+use urlpattern_syntax::eight::{ComponentName, Eight};
+
+impl<R: RegExp> UrlPattern<R> {
+    /// Whether the pattern matches an input. A URL's texts are its own; an init's are those that it comes to, with what it
+    /// inherits. An input that `url` refuses is not matched.
+    ///
+    /// The error is that memory ran out. For the texts of a URL none is asked for but by an engine.
+    ///
+    /// <https://urlpattern.spec.whatwg.org/#url-pattern-match>
+    pub fn test(&self, alloc: Global, input: UrlPatternMatchInput) -> Result<bool, Error>
+        ensures matched { IfOk result (TestsInput R.answer (pattern_view self.now) input) }
+        ensures memory { IfErr result (λ error. error ≡ errors.OutOfMemory) }
+    {
+        match input {
+            UrlPatternMatchInput::Url(url) => self.test_url(alloc, &url),
+            input => match parse_match_input(alloc, input)? {
+                Some(texts) => Ok(self.is_matched(alloc, input_texts(&texts))?),
+                None => Ok(false),
+            },
+        }
+    }
+
+    /// What the groups capture where the pattern matches an input, and None where it does not: of a URL its own texts are
+    /// matched, of an init those that it comes to, with what it inherits. An input that `url` refuses is not matched.
+    ///
+    /// The error is that memory ran out.
+    ///
+    /// <https://urlpattern.spec.whatwg.org/#url-pattern-match>
+    pub fn exec(
+        &self,
+        alloc: Global,
+        input: UrlPatternMatchInput,
+    ) -> Result<Option<UrlPatternResult>, Error>
+        ensures matched { IfOk result (FindsInInput result_view R.answer (pattern_view self.now) input) }
+        ensures memory { IfErr result (λ error. error ≡ errors.OutOfMemory) }
+    {
+        match input {
+            UrlPatternMatchInput::Url(url) => self.exec_url(alloc, &url),
+            input => match parse_match_input(alloc, input)? {
+                Some(texts) => self.exec_texts(alloc, texts),
+                None => Ok(None),
+            },
+        }
+    }
+
+    /// Whether the pattern matches a URL, as `test` answers it.
+    ///
+    /// The error is that memory ran out. Only an engine allocates.
+    pub fn test_url(&self, alloc: Global, url: &Url) -> Result<bool, Error>
+        ensures matched { IfOk result (TestsInput R.answer (pattern_view self.now) (inputs.Url url.now)) }
+        ensures memory { IfErr result (λ error. error ≡ errors.OutOfMemory) }
+        ensures asked { IfErr result (λ _. AsksAnEngine (pattern_view self.now) (texts_of_url url.now)) }
+    {
+        Ok(self.is_matched(alloc, url_texts(url))?)
+    }
+
+    /// What the groups capture of a URL, as `exec` answers it. `None`: the pattern does not match the URL.
+    ///
+    /// The error is that memory ran out.
+    pub fn exec_url(&self, alloc: Global, url: &Url) -> Result<Option<UrlPatternResult>, Error>
+        ensures matched { IfOk result (FindsInInput result_view R.answer (pattern_view self.now) (inputs.Url url.now)) }
+        ensures memory { IfErr result (λ error. error ≡ errors.OutOfMemory) }
+    {
+        match self.captures(alloc, url)? {
+            Some(captures) => {
+                let mut result = empty_result(alloc);
+                let copied = captures.copy_to(alloc, &mut result);
+                drop(captures);
+                copied?;
+                Ok(Some(result))
+            }
+            None => Ok(None),
+        }
+    }
+
+    /// The match of a URL, borrowed from the pattern and the URL. `None`: the pattern does not match the URL.
+    ///
+    /// The error is that memory ran out. Only an engine allocates.
+    ///
+    /// <https://urlpattern.spec.whatwg.org/#url-pattern-match>
+    pub fn captures<'a>(
+        &'a self,
+        alloc: Global,
+        url: &'a Url,
+    ) -> Result<Option<UrlPatternCaptures<'a>>, Error>
+        ensures matched { IfOk result (FindsInInput captures_view R.answer (pattern_view self.now) (inputs.Url url.now)) }
+        ensures memory { IfErr result (λ error. error ≡ errors.OutOfMemory) }
+        ensures asked { IfErr result (λ _. AsksAnEngine (pattern_view self.now) (texts_of_url url.now)) }
+    {
+        Ok(self.captures_of_texts(alloc, url_texts(url))?)
+    }
+
+    /// The match of an input that has its eight texts, borrowed from the pattern and the input. `None`: the pattern does not
+    /// match them.
+    ///
+    /// Of an init, or of what a browser gives, `quirks::parse_match_input` makes such an input.
+    ///
+    /// The error is that memory ran out. Only an engine allocates.
+    pub fn captures_of_input<'a>(
+        &'a self,
+        alloc: Global,
+        input: &'a MatchInput,
+    ) -> Result<Option<UrlPatternCaptures<'a>>, Error>
+        ensures matched { IfOk result (FindsInTexts captures_view R.answer (pattern_view self.now) (texts_view input.now)) }
+        ensures memory { IfErr result (λ error. error ≡ errors.OutOfMemory) }
+        ensures asked { IfErr result (λ _. AsksAnEngine (pattern_view self.now) (texts_view input.now)) }
+    {
+        Ok(self.captures_of_texts(alloc, input_texts(input))?)
+    }
+
+    /// The match of texts that are there, which are moved.
+    fn exec_texts(
+        &self,
+        alloc: Global,
+        texts: MatchInput,
+    ) -> Result<Option<UrlPatternResult>, Error>
+        ensures matched { IfOk result (FindsInTexts result_view R.answer (pattern_view self.now) (texts_view texts)) }
+        ensures memory { IfErr result (λ error. error ≡ errors.OutOfMemory) }
+    {
+        match self.matched_groups(alloc, &texts)? {
+            Some(groups) => Ok(Some(result_of(texts, groups))),
+            None => Ok(None),
+        }
+    }
+
+    /// Copies of what the groups capture of an input that has its eight texts, by name. `None`: the pattern does not match them.
+    ///
+    /// The error is that memory ran out.
+    fn matched_groups(
+        &self,
+        alloc: Global,
+        input: &MatchInput,
+    ) -> Result<Option<Eight<Groups>>, Error>
+        ensures matched { IfOk result (FindsInTexts (results_of (texts_view input.now)) R.answer (pattern_view self.now) (texts_view input.now)) }
+        ensures memory { IfErr result (λ error. error ≡ errors.OutOfMemory) }
+    {
+        match self.captures_of_input(alloc, input)? {
+            Some(captures) => {
+                let groups = captures.to_groups(alloc);
+                drop(captures);
+                Ok(Some(groups?))
+            }
+            None => Ok(None),
+        }
+    }
+
+    /// Whether these texts are matched.
+    fn is_matched(&self, alloc: Global, texts: Eight<&str>) -> Result<bool, OutOfMemory>
+        ensures matched { IfOk result (TestsTexts R.answer (pattern_view self.now) (borrowed_texts texts.entry)) }
+        ensures asked { IfErr result (λ _. AsksAnEngine (pattern_view self.now) (borrowed_texts texts.entry)) }
+    {
+        Ok(self.captured(alloc, &texts)?.is_some())
+    }
+
+    /// The match of these texts. `None`: one of them is not matched.
+    ///
+    /// Only an engine allocates.
+    fn captures_of_texts<'a>(
+        &'a self,
+        alloc: Global,
+        texts: Eight<&'a str>,
+    ) -> Result<Option<UrlPatternCaptures<'a>>, OutOfMemory>
+        ensures matched { IfOk result (FindsInTexts captures_view R.answer (pattern_view self.now) (borrowed_texts texts.entry)) }
+        ensures asked { IfErr result (λ _. AsksAnEngine (pattern_view self.now) (borrowed_texts texts.entry)) }
+    {
+        match self.captured(alloc, &texts)? {
+            Some(captures) => Ok(Some(self.with_captures(texts, captures))),
+            None => Ok(None),
+        }
+    }
+
+    /// The match of texts of which the groups capture this.
+    pub(crate) fn with_captures<'a>(
+        &'a self,
+        texts: Eight<&'a str>,
+        captures: Eight<Captured<'a>>,
+    ) -> UrlPatternCaptures<'a>
+        ensures { HasCaptures (pattern_view self.now) (borrowed_texts texts.entry) captures.entry (captures_view result) }
+    {
+        let names = |name: ComponentName| -> &Vec<String>
+            ensures { result.now ≡ (at self.entry.now.components name).group_name_list }
+        { &self.components.get(name).group_name_list };
+        UrlPatternCaptures {
+            names: Eight::from_fn(names),
+            texts,
+            captures,
+        }
+    }
+
+    /// What the components see in their texts, before an engine is asked. None if one of them does not match.
+    #[inline(always)]
+    fn look<'a>(&'a self, texts: &Eight<&'a str>) -> Option<Eight<Look<'a, R>>>
+        ensures some { IfSome result (AreLooks R.answer (pattern_view self.now) (borrowed_texts texts.now)) }
+        ensures none { IfNone result (IsRefused R.answer (pattern_view self.now) (borrowed_texts texts.now)) }
+        ensures asked { IfSome result (AskWithCause (pattern_view self.now) (borrowed_texts texts.now)) }
+    {
+        let components = &self.components;
+        // The path refuses most, so it is the first.
+        Some(Eight {
+            pathname: components.pathname.matcher.look(texts.pathname)?,
+            hostname: components.hostname.matcher.look(texts.hostname)?,
+            protocol: components.protocol.matcher.look(texts.protocol)?,
+            port: components.port.matcher.look(texts.port)?,
+            search: components.search.matcher.look(texts.search)?,
+            hash: components.hash.matcher.look(texts.hash)?,
+            username: components.username.matcher.look(texts.username)?,
+            password: components.password.matcher.look(texts.password)?,
+        })
+    }
+
+    /// What the groups capture of these texts. None if one of the texts is not matched.
+    ///
+    /// Only an engine allocates.
+    pub(crate) fn captured<'a>(
+        &'a self,
+        alloc: Global,
+        texts: &Eight<&'a str>,
+    ) -> Result<Option<Eight<Captured<'a>>>, OutOfMemory>
+        ensures refused { IfOk result (λ found. IfNone found (IsRefused R.answer (pattern_view self.now) (borrowed_texts texts.now))) }
+        ensures answers { IfOk result (λ found. IfSome found (λ captures.
+            AreAnswers R.answer (pattern_view self.now) (borrowed_texts texts.now) (all_captures captures))) }
+        ensures asked { IfErr result (λ _. AsksAnEngine (pattern_view self.now) (borrowed_texts texts.now)) }
+    {
+        let Some(looks) = self.look(texts) else {
+            return Ok(None);
+        };
+        captures_of_looks(alloc, looks)
+    }
+}
+
+/// What eight looks come to. None if an engine that is asked does not match.
+fn captures_of_looks<'a, R: RegExp>(
+    alloc: Global,
+    looks: Eight<Look<'a, R>>,
+) -> Result<Option<Eight<Captured<'a>>>, OutOfMemory>
+    ensures some { IfOk result (λ found. IfSome found (AreCaptured R.answer looks.entry)) }
+    ensures none { IfOk result (λ found. IfNone found ((name : Name) × (look_answer R.answer (Some (at looks.entry name)) ≡ None))) }
+    ensures asked { IfErr result (λ _. (name : Name) × IsAsking (at looks.entry name)) }
+{
+    match looks.try_map(|look| Captured::of_look(alloc, look)) {
+        Ok(captures) => Ok(Some(captures)),
+        Err(Missed::Unmatched) => Ok(None),
+        Err(Missed::OutOfMemory) => Err(OutOfMemory),
+    }
+}

@@ -1,0 +1,56 @@
+//! What is fixed of the texts that a pattern matches.
+ghost use Rattle.urlpattern_core.specs.Matchers.{matcher_view};
+ghost use Rattle.urlpattern_index.specs.Views.{fixed_path, fixed_texts, option_text};
+ghost use Rattle.urlpattern.specs.Patterns.{pattern_view};
+ghost use Rattle.urlpattern.specs.Places.{AreFixed, IsFixedPath, IsFixedText};
+
+use crate::pattern::UrlPattern;
+use urlpattern_core::matcher::{InnerMatcher, Matcher};
+use urlpattern_core::regexp::RegExp;
+use urlpattern_index::{Path, Place};
+
+impl<R: RegExp> UrlPattern<R> {
+    /// Where the URLs lie that the pattern can match. It does not allocate.
+    pub(crate) fn place(&self) -> Place<'_>
+        ensures { AreFixed (pattern_view self.now) (fixed_texts result) }
+    {
+        Place {
+            protocol: fixed_text(&self.components.protocol.matcher),
+            hostname: fixed_text(&self.components.hostname.matcher),
+            pathname: fixed_path(&self.components.pathname.matcher),
+        }
+    }
+}
+
+/// The text that alone is matched. `None`: other texts are matched, or case is ignored.
+fn fixed_text<R>(matcher: &Matcher<R>) -> Option<&str>
+    ensures { IsFixedText (matcher_view matcher.now) (option_text result) }
+{
+    if matcher.ignore_case {
+        return None;
+    }
+    if !matcher.prefix.is_empty() {
+        return None;
+    }
+    if !matcher.suffix.is_empty() {
+        return None;
+    }
+    match &matcher.inner {
+        InnerMatcher::Literal { literal } => Some(literal),
+        _ => None,
+    }
+}
+
+/// The text that alone is matched, or else the one with which each text begins that is matched: the empty one where case is
+/// ignored.
+fn fixed_path<R>(matcher: &Matcher<R>) -> Path<'_>
+    ensures { IsFixedPath (matcher_view matcher.now) (fixed_path result) }
+{
+    if let Some(text) = fixed_text(matcher) {
+        return Path::Is(text);
+    }
+    if matcher.ignore_case {
+        return Path::BeginsWith("");
+    }
+    Path::BeginsWith(&matcher.prefix)
+}
