@@ -21,7 +21,7 @@ use urlpattern::quirks::{
     StringOrInit, UrlPatternInit, process_construct_pattern_input, process_match_input,
 };
 use urlpattern::regexp::{PatternRegexp, RegExp};
-use urlpattern::{Error, UrlPattern, UrlPatternMatchInput, UrlPatternOptions};
+use urlpattern::{ComponentName, Error, UrlPattern, UrlPatternMatchInput, UrlPatternOptions};
 
 /// What is timed.
 #[derive(Clone, Copy, Drop)]
@@ -159,18 +159,9 @@ impl<'a, E: RegExp> Subject<'a, E> {
     /// Makes a map of the groups of each component.
     #[inline(never)]
     fn maps(&self, alloc: Global) -> Result<bool, Error> {
-        let components = [
-            &self.pattern.protocol,
-            &self.pattern.username,
-            &self.pattern.password,
-            &self.pattern.hostname,
-            &self.pattern.port,
-            &self.pattern.pathname,
-            &self.pattern.search,
-            &self.pattern.hash,
-        ];
         let mut has_groups = false;
-        for component in components {
+        for name in ComponentName::all() {
+            let component = self.pattern.components.get(*name);
             has_groups |= make_map(alloc, &component.group_name_list)?;
         }
         Ok(has_groups)

@@ -58,18 +58,19 @@ fn expect_fact<R: RegExp>(rt: &impl Abort, pattern: &UrlPattern<R>, fact: Fact<'
     }
 }
 
+/// The component of a name.
+fn component_named(name: &str) -> ComponentName {
+    for component in ComponentName::all() {
+        if component.as_str() == name {
+            return *component;
+        }
+    }
+    ComponentName::Hash
+}
+
 /// A component of a pattern.
 fn component<'a, R: RegExp>(pattern: &'a UrlPattern<R>, name: &str) -> &'a Component<R> {
-    match name {
-        "protocol" => &pattern.protocol,
-        "username" => &pattern.username,
-        "password" => &pattern.password,
-        "hostname" => &pattern.hostname,
-        "port" => &pattern.port,
-        "pathname" => &pattern.pathname,
-        "search" => &pattern.search,
-        _ => &pattern.hash,
-    }
+    pattern.components.get(component_named(name))
 }
 
 /// The text of a component's regular expression.
@@ -197,16 +198,7 @@ fn expect_copy(rt: &impl Abort, found: &UrlPatternResult) -> Result<(), Error> {
 
 /// What a result tells of a component.
 fn component_result<'a>(found: &'a UrlPatternResult, name: &str) -> &'a UrlPatternComponentResult {
-    match name {
-        "protocol" => &found.protocol,
-        "username" => &found.username,
-        "password" => &found.password,
-        "hostname" => &found.hostname,
-        "port" => &found.port,
-        "pathname" => &found.pathname,
-        "search" => &found.search,
-        _ => &found.hash,
-    }
+    found.get(component_named(name))
 }
 
 /// Compares the text of a component, and the number of its groups.

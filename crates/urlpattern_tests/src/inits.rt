@@ -1,9 +1,9 @@
 //! Inits and URLs, as the rows give them.
 
-use std::alloc::Global;
+use std::alloc::{AllocError, Global};
 use std::process::Abort;
 use url::{ParseError, Url};
-use urlpattern::{ComponentName, Error, UrlPatternInit, UrlPatternMatchInput};
+use urlpattern::{ComponentName, Eight, Error, UrlPatternInit, UrlPatternMatchInput};
 
 /// The texts of an init, by the names of its components.
 pub type Fields<'a> = &'a [(&'a str, &'a str)];
@@ -24,26 +24,22 @@ pub fn url_input(alloc: Global, text: &str) -> Result<UrlPatternMatchInput, Erro
 
 /// An init with these texts.
 pub fn init_of(alloc: Global, fields: Fields<'_>) -> Result<UrlPatternInit, Error> {
-    let mut init = UrlPatternInit::default();
-    for (name, text) in fields {
-        set(&mut init, name, String::from_str(alloc, text)?);
-    }
-    Ok(init)
+    let texts = Eight::try_from_fn(|name| given(alloc, fields, name))?;
+    Ok(UrlPatternInit::from_eight(texts, None))
 }
 
-/// Sets the text of a component.
-fn set(init: &mut UrlPatternInit, name: &str, text: String) {
-    let text = Some(text);
-    match name {
-        "protocol" => init.protocol = text,
-        "username" => init.username = text,
-        "password" => init.password = text,
-        "hostname" => init.hostname = text,
-        "port" => init.port = text,
-        "pathname" => init.pathname = text,
-        "search" => init.search = text,
-        _ => init.hash = text,
+/// The text that is given for a component.
+fn given(
+    alloc: Global,
+    fields: Fields<'_>,
+    component: ComponentName,
+) -> Result<Option<String>, AllocError> {
+    for (name, text) in fields {
+        if *name == component.as_str() {
+            return Ok(Some(String::from_str(alloc, text)?));
+        }
     }
+    Ok(None)
 }
 
 /// An init with these texts and a base URL.
@@ -68,15 +64,21 @@ pub fn expect_init(
     texts: Texts<'_>,
     base_url: Option<&str>,
 ) -> Result<(), Error> {
-    let mut expected = UrlPatternInit::default();
-    for (name, text) in ComponentName::all().iter().zip(texts) {
-        if let Some(text) = text {
-            set(&mut expected, name.as_str(), String::from_str(alloc, text)?);
-        }
+    for (name, text) in ComponentName::all().iter().zip(&texts) {
+        assert_eq!(rt; lent(init.get(*name)), *text, "of {name:?}");
     }
-    if let Some(base_url) = base_url {
-        expected.base_url = Some(url_of(alloc, base_url)?);
-    }
-    assert_eq!(rt; *init, expected);
+    let base_url = match base_url {
+        Some(text) => Some(url_of(alloc, text)?),
+        None => None,
+    };
+    assert_eq!(rt; init.base_url, base_url);
     Ok(())
+}
+
+/// A text that is lent, if there is one.
+fn lent(text: &Option<String>) -> Option<&str> {
+    match text {
+        Some(text) => Some(text),
+        None => None,
+    }
 }

@@ -44,11 +44,9 @@ fn by_hand<R: RegExp>(
 /// A pattern with this component for the path, whose other components take any text.
 fn with_pathname<R: RegExp>(alloc: Global, pathname: Component<R>) -> Result<UrlPattern<R>, Error> {
     let init = UrlPatternInit::default();
-    let pattern = UrlPattern::parse(alloc, init, UrlPatternOptions::default())?;
-    Ok(UrlPattern {
-        pathname,
-        ..pattern
-    })
+    let mut pattern = UrlPattern::parse(alloc, init, UrlPatternOptions::default())?;
+    pattern.components.pathname = pathname;
+    Ok(pattern)
 }
 
 /// A pattern with this text for the path, and a URL as an input.

@@ -7,7 +7,8 @@ use std::alloc::{AllocError, Global};
 use urlpattern::quirks::{StringOrInit, process_construct_pattern_input, process_match_input};
 use urlpattern::regexp::RegExp;
 use urlpattern::{
-    Error, UrlPattern, UrlPatternComponentResult, UrlPatternOptions, UrlPatternResult,
+    ComponentName, Error, UrlPattern, UrlPatternComponentResult, UrlPatternOptions,
+    UrlPatternResult,
 };
 
 /// Whether a pattern over this engine, and what it answers to the inputs, are what was recorded.
@@ -34,15 +35,16 @@ pub fn built<R: RegExp>(
 
 /// Whether the texts of a pattern are the recorded ones.
 fn has_same_texts<R: RegExp>(pattern: &UrlPattern<R>, recorded: &Value) -> bool {
-    has_text(recorded, "protocol", pattern.protocol())
-        && has_text(recorded, "username", pattern.username())
-        && has_text(recorded, "password", pattern.password())
-        && has_text(recorded, "hostname", pattern.hostname())
-        && has_text(recorded, "port", pattern.port())
-        && has_text(recorded, "pathname", pattern.pathname())
-        && has_text(recorded, "search", pattern.search())
-        && has_text(recorded, "hash", pattern.hash())
-        && is_set(recorded, "has_regexp_groups") == pattern.has_regexp_groups()
+    ComponentName::all().iter().all(|&name| has_text(
+        recorded,
+        name.as_str(),
+        text_of(pattern, name),
+    )) && is_set(recorded, "has_regexp_groups") == pattern.has_regexp_groups()
+}
+
+/// The pattern text of a component, as it is written anew.
+fn text_of<R: RegExp>(pattern: &UrlPattern<R>, name: ComponentName) -> &str {
+    &pattern.components.get(name).pattern_string
 }
 
 /// Whether what comes of each input of a question is the recorded result.
@@ -92,14 +94,11 @@ fn is_same_result(
 
 /// Whether the results of all components are the recorded ones.
 pub fn are_same_components(found: &UrlPatternResult, recorded: &Value) -> bool {
-    is_same_component(&found.protocol, recorded, "protocol")
-        && is_same_component(&found.username, recorded, "username")
-        && is_same_component(&found.password, recorded, "password")
-        && is_same_component(&found.hostname, recorded, "hostname")
-        && is_same_component(&found.port, recorded, "port")
-        && is_same_component(&found.pathname, recorded, "pathname")
-        && is_same_component(&found.search, recorded, "search")
-        && is_same_component(&found.hash, recorded, "hash")
+    ComponentName::all().iter().all(|&name| is_same_component(
+        found.get(name),
+        recorded,
+        name.as_str(),
+    ))
 }
 
 /// Whether the result of a component is the recorded one.
