@@ -2,9 +2,8 @@
 use Rattle.std.proofs.Common.{◌≡◌, ◌≢◌, ℕ, Bool, true, false, List, [], ◌∷◌, ap, arith, inl, inr, refl, subst, sym, ◌∙◌}
 use Rattle.std.proofs.lemmas.Bool.{or_parts}
 use Rattle.std.proofs.lemmas.List.Elements.{All-cons}
-use Rattle.std.specs.Prelude.{◌⊎◌, All, MatchOption, Option, Some, None, option_map, Ok, IsTrue, length}
+use Rattle.std.specs.Prelude.{All, MatchOption, Option, Some, None, option_map, Ok}
 use Rattle.url.specs.Parser.{Parsed}
-use Rattle.urlpattern_canonical.specs.Canonical.{IsAnswer}
 use Rattle.urlpattern_core.specs.Compiling.{ComponentView, IsCompiledFrom, IsComponentOf, MayRefuseAtFirst, engine_flags, has_regexp, is_regexp}
 use Rattle.urlpattern_init.specs.declared.init.UrlPatternInit.{UrlPatternInit}
 use Rattle.urlpattern_init.specs.declared.init.UrlPatternMatchInput.{UrlPatternMatchInput}
@@ -24,7 +23,6 @@ use Rattle.urlpattern_syntax.specs.declared.parser.PartType.{PartType}
 use Rattle.urlpattern_syntax.specs.declared.parser.PartType.TheVariants.{Regexp}
 use Rattle.urlpattern_syntax.specs.declared.parser.RegexSyntax.{RegexSyntax}
 use Rattle.urlpattern_syntax.specs.Parts.{PartView}
-use Rattle.urlpattern_syntax.specs.Reading.{Encoding}
 use Rattle.urlpattern_syntax.specs.RegexpText.{group_names}
 use Rattle.urlpattern_syntax.specs.Text.{text_of}
 use Rattle.urlpattern_syntax.specs.Eight.{Texts, Values, at}

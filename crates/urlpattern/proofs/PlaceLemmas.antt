@@ -1,5 +1,5 @@
 -- Lemmas on the patterns that a list does not ask.
-use Rattle.std.proofs.Common.{◌≡◌, ℕ, zero, suc, ◌+◌, ◌<◌, ◌≤◌, ◌⊎◌, Bool, true, false, List, [], ◌∷◌, ◌++◌, ap, arith, drop, get_or, inl, inr, length, refl, subst, sym, take, ◌∙◌}
+use Rattle.std.proofs.Common.{◌≡◌, ℕ, zero, suc, ◌<◌, ◌≤◌, ◌⊎◌, Bool, true, false, List, [], ◌∷◌, ◌++◌, ap, arith, drop, get_or, inl, inr, length, refl, subst, sym, take, ◌∙◌}
 use Rattle.std.proofs.lemmas.Bool.{cases_lt}
 use Rattle.std.proofs.lemmas.List.{append-nil, append_assoc, get_or-take, take-append-drop, take_at}
 use Rattle.std.proofs.lemmas.Option.{same_Some, slice_get-get_or}
@@ -8,7 +8,7 @@ use Rattle.std.specs.List.{AllZip}
 use Rattle.std.specs.Prelude.{All, Option, None, Some, bytes_eq, slice_get}
 use Rattle.urlpattern_index.specs.Keys.{key_of}
 use Rattle.urlpattern_index.specs.Listed.{IsAmong}
-use Rattle.urlpattern_index.specs.Places.{AddressTexts, BeginsWith, FixedPath, FixedTexts, HasTexts, Is, IsPath, IsText}
+use Rattle.urlpattern_index.specs.Places.{BeginsWith, FixedPath, FixedTexts, HasTexts, Is, IsPath, IsText}
 use Rattle.urlpattern_syntax.specs.declared.eight.ComponentName.TheVariants.{Hostname, Pathname, Protocol}
 use Rattle.urlpattern_laws.specs.Matching.{Answers, InnerView, Literal, MatcherView, folded}
 use Rattle.urlpattern_laws.specs.PartMeaning.{Captures}

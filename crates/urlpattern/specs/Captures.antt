@@ -1,5 +1,5 @@
 -- A match that is borrowed from the pattern and from what it matches, as a result.
-use Rattle.std.specs.Prelude.{◌≡◌, ℕ, List, map, zip, Option, Result, String, IfOk}
+use Rattle.std.specs.Prelude.{ℕ, List, map, zip, Option, Result, String, IfOk}
 use Rattle.std.specs.HashMap.{HashMap}
 use Rattle.std.specs.Str.{chars}
 use Rattle.std.specs.declared.alloc.Global.{Global}

@@ -1,5 +1,5 @@
 -- What is fixed of the texts that a pattern matches, by which a list finds it.
-use Rattle.std.specs.Prelude.{◌≡◌, ◌⊎◌, ℕ, Bool, false, List, [], Option, None, Some}
+use Rattle.std.specs.Prelude.{◌≡◌, ◌⊎◌, ℕ, false, List, [], Option, None, Some}
 use Rattle.std.specs.List.{AllZip}
 use Rattle.urlpattern_index.specs.Keys.{key_of}
 use Rattle.urlpattern_index.specs.Places.{AddressTexts, BeginsWith, FixedPath, FixedTexts, Is}

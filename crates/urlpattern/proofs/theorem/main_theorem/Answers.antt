@@ -1,4 +1,3 @@
-use Rattle.std.proofs.Common.{refl}
 use Rattle.urlpattern_core.specs.Compiling.{MayRefuseAtFirst}
 use Rattle.urlpattern_laws.proofs.CallbackLaws.{outcome_one}
 use Rattle.urlpattern_laws.proofs.CaptureCount.{captures_counted}

@@ -1,9 +1,8 @@
-use Rattle.std.proofs.Common.{List, arith, length, refl, rules, subst, sym, take, take_all, ◌<◌, ◌≤◌, ◌∙◌, ℕ}
+use Rattle.std.proofs.Common.{List, arith, length, refl, subst, take, take_all, ◌<◌, ◌≤◌, ◌∙◌}
 use Rattle.std.proofs.lemmas.List.Elements.{All-more}
 use Rattle.std.proofs.lemmas.Option.{slice_get_read}
 use Rattle.std.specs.Prelude.{All, Contains, Some}
 use Rattle.urlpattern_index.specs.Keys.{address_keys}
-use Rattle.urlpattern_index.specs.Listed.{IsAmong}
 use Rattle.urlpattern.proofs.Results.{if_err}
 use Rattle.urlpattern.proofs.ListLemmas.{first-views, one_asks-views, refused-views}
 use Rattle.urlpattern.proofs.PlaceLemmas.{candidate_within, passed_over}

@@ -1,4 +1,4 @@
-use Rattle.std.proofs.Common.{◌≡◌, ◌∙◌, ap}
+use Rattle.std.proofs.Common.{◌∙◌, ap}
 use Rattle.urlpattern.specs.Patterns.{pattern_view}
 use Rattle.urlpattern_plain.proofs.EachLemmas.{each-same}
 use Rattle.urlpattern_plain.specs.Plain.{plain_component}
