@@ -55,7 +55,7 @@ impl<R: RegExp> Matcher<R> {
     /// What the groups capture of a text, in their order: slices of it, with None where a group took no part. Where the
     /// text is not matched there is no list.
     ///
-    /// The error is that memory ran out. None is asked for where the answer is None before an engine is asked, nor where
+    /// The error is that memory ran out. It does not allocate where the answer is `None` before an engine is asked, nor where
     /// a literal stands between prefix and suffix.
     pub fn matches<'a>(
         &self,
@@ -98,7 +98,7 @@ impl<R: RegExp> Matcher<R> {
 
     /// Whether a text is matched.
     ///
-    /// The error is that memory ran out. None is asked for but by an engine.
+    /// The error is that memory ran out. Only an engine allocates.
     pub fn accepts(&self, alloc: Global, input: &str) -> Result<bool, Error>
         ensures answer { IfOk result (λ accepted. IsTrue accepted ↔ IsMatched R.answer (matcher_view self.now) (chars input.now)) }
         ensures memory { IfErr result (λ error. error ≡ errors.OutOfMemory) }

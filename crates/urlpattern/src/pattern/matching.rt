@@ -34,7 +34,7 @@ impl<R: RegExp> UrlPattern<R> {
     /// Whether the pattern matches an input. A URL's texts are its own; an init's are those that it comes to, with what it
     /// inherits. An input that `url` refuses is not matched.
     ///
-    /// The error is that memory ran out. For the texts of a URL none is asked for but by an engine.
+    /// The error is that memory ran out. For the texts of a URL only an engine allocates.
     ///
     /// <https://urlpattern.spec.whatwg.org/#url-pattern-match>
     pub fn test(&self, alloc: Global, input: UrlPatternMatchInput) -> Result<bool, Error>

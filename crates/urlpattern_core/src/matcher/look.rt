@@ -26,7 +26,7 @@ pub enum Look<'a, R> {
 }
 
 impl<R: RegExp> Matcher<R> {
-    /// What is seen in a text, without memory. None is asked for and no engine is asked; None means that the text is not
+    /// What is seen in a text. It does not allocate and asks no engine. `None`: the text is not
     /// matched. An engine is left to be asked only where one stands between the text's prefix and suffix.
     pub fn look<'a>(&'a self, input: &'a str) -> Option<Look<'a, R>>
         ensures answer { Answers R.answer (matcher_view self.now) (chars input.now) (look_answer R.answer result) }
