@@ -160,7 +160,7 @@ fn write_text<O: Write>(text: &str, out: &mut O) -> io::Result<()> {
     Ok(())
 }
 
-/// Draws the bar of a time, and the time behind it in microseconds.
+/// Draws the bar of a time, and the time after it in microseconds.
 fn draw_bar<O: Write>(
     time: u32,
     longest: u32,

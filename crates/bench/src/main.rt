@@ -1,5 +1,5 @@
-//! Replays recorded questions and answers over the library, and prints how many there are and how many differ. Behind the
-//! word `questions` it makes questions by a seed, on which calls have to agree. Behind the word `time` it times the library's
+//! Replays recorded questions and answers over the library, and prints how many there are and how many differ. After the
+//! word `questions` it makes questions by a seed, on which calls have to agree. After the word `time` it times the library's
 //! calls. The word `chart` alone draws times that standard input gives.
 #![tactic(auto)]
 
@@ -39,8 +39,8 @@ fn main(rt: HostRuntime) -> ExitCode {
     })
 }
 
-/// Replays the files that the words name, and says whether each answer is the recorded one. Behind them the word `questions`, a
-/// seed and a count ask so many questions more, on which calls have to agree. Behind the word `time` the files hold pairs that
+/// Replays the files that the words name, and says whether each answer is the recorded one. After them the word `questions`, a
+/// seed and a count ask so many questions more, on which calls have to agree. After the word `time` the files hold pairs that
 /// are timed. The word `chart` alone draws the times that standard input gives.
 fn run(rt: &HostRuntime) -> io::Result<bool> {
     let mut words = env::args(rt)?;

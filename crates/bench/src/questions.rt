@@ -1,6 +1,6 @@
 //! Questions that are made by a seed, to calls that have to agree with each other. No answer is recorded.
 //!
-//! A question is of one number: those of a run have the seed and the numbers behind it, so that each can be asked alone. There is
+//! A question is of one number: those of a run have the seed and the numbers after it, so that each can be asked alone. There is
 //! memory for all of them, so that a call that says it ran out is one that differs.
 
 mod constructors;
@@ -184,7 +184,7 @@ impl Tallies {
     }
 }
 
-/// Asks so many questions, of the seed and the numbers behind it, and prints those to which calls do not agree, and the counts.
+/// Asks so many questions, of the seed and the numbers after it, and prints those to which calls do not agree, and the counts.
 /// Says whether all agree.
 pub fn run<O: Write>(alloc: Global, seed: u64, count: u64, out: &mut O) -> io::Result<bool> {
     let mut tallies = Tallies::default();

@@ -1,4 +1,4 @@
--- What the match of an input tells of one group.
+-- What one group captures in the match of an input.
 use Rattle.std.specs.Prelude.{◌≡◌, ◌⊎◌, ℕ, List, codes, Option, None}
 use Rattle.std.specs.Option.{option_flatten}
 use Rattle.std.specs.Str.{chars}

@@ -6,13 +6,13 @@ ghost use Rattle.urlpattern.specs.Patterns.{pattern_view};
 
 use std::alloc::Global;
 use url::Url;
-use urlpattern::laws::tests_tell_matches;
+use urlpattern::laws::tests_agree_with_matches;
 use urlpattern::regexp::RegExp;
 use urlpattern::{Error, UrlPattern, UrlPatternMatchInput};
 
 /// Whether a URL may be seen: true only of URLs that the pattern matches, and of each that it matches.
 ///
-/// The error is that memory ran out, which tells nothing of the URL. It is not to be taken for a permission.
+/// The error is that memory ran out, which says nothing about the URL. It is not to be taken for a permission.
 pub fn is_permitted<R: RegExp>(
     alloc: Global,
     permitted: &UrlPattern<R>,
@@ -23,6 +23,6 @@ pub fn is_permitted<R: RegExp>(
     ensures memory { IfErr result (λ error. error ≡ Error.OutOfMemory) }
 {
     // A law of the library, which costs nothing to call: a test is not false where there is a match.
-    tests_tell_matches::<R>();
+    tests_agree_with_matches::<R>();
     permitted.test_url(alloc, url)
 }

@@ -5,7 +5,7 @@ use Rattle.std.proofs.lemmas.List.{map-append}
 use Rattle.std.proofs.lemmas.Str.{encodes-chars, IsUtf8-string_bytes}
 use Rattle.std.specs.Prelude.{MatchOption, Option, None, Some, String, string_bytes, encode_utf8_all}
 use Rattle.std.specs.declared.alloc.Global.{Global}
-use Rattle.urlpat_commands.specs.Answers.{AreGroupLines, AreLines, named_results, IsFirstAnswer, IsFirstText, IsMatchAnswer, IsMatchFailure, IsMatchText, IsMatchTextBy, RefusesPatternOf, TellsMatch, base_of, IsPatternOf, IsUnmatched, IsUnmatchedBy, IsUnmatchedByEach, default_pattern_options, words_view}
+use Rattle.urlpat_commands.specs.Answers.{AreGroupLines, AreLines, named_results, IsFirstAnswer, IsFirstText, IsMatchAnswer, IsMatchFailure, IsMatchText, IsMatchTextBy, RefusesPatternOf, AnswersMatch, base_of, IsPatternOf, IsUnmatched, IsUnmatchedBy, IsUnmatchedByEach, default_pattern_options, words_view}
 use Rattle.urlpat_commands.specs.declared.command.Failure.TheVariants as failures
 use Rattle.urlpat_commands.specs.declared.command.Printed.{Printed}
 use Rattle.urlpattern.specs.Eight.{name_text}
@@ -23,11 +23,11 @@ use Rattle.urlpattern_syntax.specs.declared.parser.RegexSyntax.TheVariants.{Rust
 
 -- ---- texts
 
--- the whole goes on behind a text that has grown
+-- the whole goes on after a text that has grown
 pub behind : (was now whole lines rest : List ℕ) → now ≡ was ++ lines → whole ≡ now ++ rest → whole ≡ was ++ (lines ++ rest)
 behind was now whole lines rest grown goes = goes ∙ ap (λ text. text ++ rest) grown ∙ append_assoc was lines rest
 
--- the lines of one more component go behind those of the others
+-- the lines of one more component go after those of the others
 pub lines-behind : (components : List (List ℕ × ResultView)) (component : List ℕ × ResultView) (lines more : List ℕ)
     → AreLines components lines → AreGroupLines component.0 component.1 more → AreLines (components ++ component ∷ []) (lines ++ more)
 lines-behind [] component lines more none last = (more, [], ap (λ text. text ++ more) none ∙ sym (append-nil more), last, refl)
@@ -39,7 +39,7 @@ lines-behind (first ∷ components) component lines more (own, others, split, gr
   lines-behind components component others more rest last,
 )
 
--- so the lines of the next component go behind those of the components before it
+-- so the lines of the next component go after those of the components before it
 pub lines-next : (found : ComponentName → ResultView) (names : List ComponentName) (n : ℕ) (lines more : List ℕ) → n < length names
     → AreLines (named_results found (take n names)) lines
     → AreGroupLines (name_text (get_or names n Protocol)) (found (get_or names n Protocol)) more
@@ -82,12 +82,12 @@ found_by pattern input base compiled None is answer = (compiled, is, answer)
 found_by pattern input base compiled (Some text) is answer = (compiled, is, answer)
 
 -- an answer that tells of lines, or that there are none, tells of a match
-pub tells_match : (Matched : List ℕ → Type 0) (Unmatched : Type 0) (lines : Option (String Global)) (answer : Printed)
+pub answers_match : (Matched : List ℕ → Type 0) (Unmatched : Type 0) (lines : Option (String Global)) (answer : Printed)
     → MatchOption lines ((string_bytes answer.text ≡ codes "no match\n") × (answer.status ≡ 1)) (λ text. (answer.text ≡ text) × (answer.status ≡ 0))
     → MatchOption lines Unmatched (λ text. Matched (string_bytes text))
-    → TellsMatch (Matched (string_bytes answer.text)) Unmatched (string_bytes answer.text) answer.status
-tells_match Matched Unmatched None answer is unmatched = inr (unmatched, is.0, is.1)
-tells_match Matched Unmatched (Some text) answer is matched = inl (subst (λ (told : String Global). Matched (string_bytes told)) (sym is.0) matched, is.1)
+    → AnswersMatch (Matched (string_bytes answer.text)) Unmatched (string_bytes answer.text) answer.status
+answers_match Matched Unmatched None answer is unmatched = inr (unmatched, is.0, is.1)
+answers_match Matched Unmatched (Some text) answer is matched = inl (subst (λ (reported : String Global). Matched (string_bytes reported)) (sym is.0) matched, is.1)
 
 -- ---- words
 
@@ -107,15 +107,15 @@ two_words_and_more (x ∷ y ∷ others) a b rest least is_a is_b is_rest = rw (i
 
 module _ (words : List (String Global)) (pattern base input : String Global) (are : words ≡ pattern ∷ base ∷ input ∷ []) where
   pub match_answers : (text : List ℕ) (status : ℕ)
-      → TellsMatch (IsMatchText (string_bytes pattern) (string_bytes input) (base_of (string_bytes base)) text) (IsUnmatched (string_bytes pattern) (string_bytes input) (base_of (string_bytes base))) text status
+      → AnswersMatch (IsMatchText (string_bytes pattern) (string_bytes input) (base_of (string_bytes base)) text) (IsUnmatched (string_bytes pattern) (string_bytes input) (base_of (string_bytes base))) text status
       → IsMatchAnswer (words_view words) text status
-  match_answers text status told = rw are told
+  match_answers text status reported = rw are reported
 
   pub match_fails : (error : Error) → MemoryOr (RefusesPatternOf (string_bytes pattern) (base_of (string_bytes base))) error → IsMatchFailure (words_view words) (failures.Refused error)
-  match_fails error told = rw are told
+  match_fails error reported = rw are reported
 
 pub first_answers : (words : List (String Global)) (base input : String Global) (patterns : List (String Global)) → words ≡ base ∷ input ∷ patterns → 0 < length patterns → (text : List ℕ) (status : ℕ)
-    → TellsMatch (IsFirstText (words_view patterns) (string_bytes input) (base_of (string_bytes base)) text) (IsUnmatchedByEach (words_view patterns) (string_bytes input) (base_of (string_bytes base))) text status
+    → AnswersMatch (IsFirstText (words_view patterns) (string_bytes input) (base_of (string_bytes base)) text) (IsUnmatchedByEach (words_view patterns) (string_bytes input) (base_of (string_bytes base))) text status
     → IsFirstAnswer (words_view words) text status
-first_answers words base input [] are some text status told = absurd (omega (arith, some))
-first_answers words base input (pattern ∷ patterns) are some text status told = rw are told
+first_answers words base input [] are some text status reported = absurd (omega (arith, some))
+first_answers words base input (pattern ∷ patterns) are some text status reported = rw are reported

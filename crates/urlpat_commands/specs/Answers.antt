@@ -61,7 +61,7 @@ IsCopy bytes (Err error) = error ≡ errors.OutOfMemory
 abbrev pub kept : Encoding
 kept = encoding_of IsCopy
 
--- The text tells what the pattern is compiled to under the options of that name, its fixed texts kept as they are: the names
+-- The text is what the pattern is compiled to under the options of that name, its fixed texts kept as they are: the names
 -- of the parts that it reads as, a regular expression that means what these parts mean, and a pattern that reads back.
 pub record IsComponentText (kind pattern text : List ℕ) : Type 0 where
   pub options : OptionsView
@@ -134,7 +134,7 @@ AreLines [] text = text ≡ []
 AreLines (component ∷ rest) text =
     (first others : List ℕ) × (text ≡ first ++ others) × AreGroupLines component.0 component.1 first × AreLines rest others
 
--- the text gets such lines behind what it has
+-- the text gets such lines after what it has
 abbrev pub GetsLines : (AreSuch : List ℕ → Type 0) → (old new : String Global) → Type 0
 GetsLines AreSuch old new = (lines : List ℕ) × (string_bytes new ≡ string_bytes old ++ lines) × AreSuch lines
 
@@ -157,7 +157,7 @@ IsRefusedText input base = IsRefusedByUrl (parsed_text base input) (max (length 
 abbrev pub FindsUrl : (input : List ℕ) → (base : Option (List ℕ)) → Option Url → Type 0
 FindsUrl input base found = MatchOption found (IsRefusedText input base) (IsUrlOf input base)
 
--- The pattern matches the input, a URL under this base URL, and the text tells what the groups capture.
+-- The pattern matches the input, a URL under this base URL, and the text has what the groups capture.
 pub record IsMatchTextBy (compiled : PatternView PatternRegexp) (input : List ℕ) (base : Option (List ℕ)) (text : List ℕ) : Type 0 where
   pub url : Parts
   pub result : ComponentName → ResultView
@@ -202,7 +202,7 @@ pub record RefusesOneOf (texts : List (List ℕ)) (base : Option (List ℕ)) (er
   pub are_compiled : ArePatternsOf (take index texts) base earlier
   pub refuses : RefusesPatternOf text base error
 
--- A pattern of the list is the first that matches the input, a URL under this base URL, and the text tells its index and
+-- A pattern of the list is the first that matches the input, a URL under this base URL, and the text has its index and
 -- what its groups capture.
 pub record IsFirstTextBy (compiled : List (PatternView PatternRegexp)) (input : List ℕ) (base : Option (List ℕ)) (text : List ℕ) : Type 0 where
   pub url : Parts
@@ -248,9 +248,9 @@ IsComponentFailure words failure = failure ≡ failures.Usage
 
 -- ---- the words after `match`
 
--- the answer tells a match, with the status 0, or that there is none, with 1
-abbrev pub TellsMatch : (Matched Unmatched : Type 0) → (text : List ℕ) → (status : ℕ) → Type 0
-TellsMatch Matched Unmatched text status = (Matched × (status ≡ 0)) ⊎ (Unmatched × (text ≡ codes "no match\n") × (status ≡ 1))
+-- the answer is a match, with the status 0, or that there is none, with 1
+abbrev pub AnswersMatch : (Matched Unmatched : Type 0) → (text : List ℕ) → (status : ℕ) → Type 0
+AnswersMatch Matched Unmatched text status = (Matched × (status ≡ 0)) ⊎ (Unmatched × (text ≡ codes "no match\n") × (status ≡ 1))
 
 -- the only failure is that something is refused in this way, or that memory ran out
 abbrev pub IsRefusal : (Refuses : ErrorView → Type 0) → Failure → Type 0
@@ -259,7 +259,7 @@ IsRefusal Refuses (failures.Refused error) = MemoryOr Refuses error
 
 abbrev pub IsMatchAnswer : (words : List (List ℕ)) → (text : List ℕ) → (status : ℕ) → Type 0
 IsMatchAnswer (pattern ∷ base ∷ input ∷ []) text status =
-    TellsMatch (IsMatchText pattern input (base_of base) text) (IsUnmatched pattern input (base_of base)) text status
+    AnswersMatch (IsMatchText pattern input (base_of base) text) (IsUnmatched pattern input (base_of base)) text status
 IsMatchAnswer words text status = ⊥
 
 abbrev pub IsMatchFailure : (words : List (List ℕ)) → Failure → Type 0
@@ -270,7 +270,7 @@ IsMatchFailure words failure = failure ≡ failures.Usage
 
 abbrev pub IsFirstAnswer : (words : List (List ℕ)) → (text : List ℕ) → (status : ℕ) → Type 0
 IsFirstAnswer (base ∷ input ∷ pattern ∷ patterns) text status =
-    TellsMatch (IsFirstText (pattern ∷ patterns) input (base_of base) text) (IsUnmatchedByEach (pattern ∷ patterns) input (base_of base)) text status
+    AnswersMatch (IsFirstText (pattern ∷ patterns) input (base_of base) text) (IsUnmatchedByEach (pattern ∷ patterns) input (base_of base)) text status
 IsFirstAnswer words text status = ⊥
 
 abbrev pub IsFirstFailure : (words : List (List ℕ)) → Failure → Type 0

@@ -96,12 +96,12 @@ pub fn run<Out: Write, Err: Write>(
 pub fn fail<Err: Write>(failure: &Failure, err: &mut Err) -> u8
     ensures { result ≡ FAILED }
 {
-    let _ = tell(failure, err);
+    let _ = report(failure, err);
     FAILED
 }
 
 /// Writes why there is no answer: how the program is used, or the error and a line end.
-fn tell<Err: Write>(failure: &Failure, err: &mut Err) -> io::Result<()>
+fn report<Err: Write>(failure: &Failure, err: &mut Err) -> io::Result<()>
     ensures { IfSome (failure_lines failure.now) (λ lines. OnOk result (Appends (Err.contents err.old) (Err.contents err.new) lines)) }
 {
     match failure {

@@ -9,7 +9,7 @@ use Rattle.std.specs.Str.{chars, IsAscii, IsUtf8}
 use Rattle.std.specs.declared.alloc.Global.{Global}
 use Rattle.std.proofs.lemmas.Str.{IsUtf8-string_bytes}
 use Rattle.urlpattern_laws.proofs.Encodings.{Weakens, reads_weaker, refuses_weaker}
-use Rattle.urlpattern.specs.Compiled.{AreCompiled, Compiles, FirstRefused, HasEngine, HasHierarchicalPath, IsCompiled, IsComponentCompiled, IsComponentRefused, IsRefusedFrom, RefusesPattern, RefusesValues, behind_protocol, has_default_port, is_ipv6_pattern, is_mark, is_same, pattern_values, without_default_port}
+use Rattle.urlpattern.specs.Compiled.{AreCompiled, Compiles, FirstRefused, HasEngine, HasHierarchicalPath, IsCompiled, IsComponentCompiled, IsComponentRefused, IsRefusedFrom, RefusesPattern, RefusesValues, after_protocol, has_default_port, is_ipv6_pattern, is_mark, is_same, pattern_values, without_default_port}
 use Rattle.urlpattern.specs.Patterns.{pattern_view}
 use Rattle.urlpattern_syntax.specs.declared.eight.ComponentName.{ComponentName as Names}
 use Rattle.urlpattern_syntax.specs.declared.eight.ComponentName.TheVariants.{Protocol}
@@ -88,15 +88,15 @@ there_and_empty (c ∷ text) tested e = ((λ is. absurd (false≢true (sym e ∙
 -- ---- errors
 
 pub memory_or-map : (P Q : ErrorView → Type 0) (error : Error) → ((view : ErrorView) → P view → Q view) → MemoryOr P error → MemoryOr Q error
-memory_or-map P Q error step told = elim told [ inl memory ↦ inl memory | inr refused ↦ inr (step _ refused) ]
+memory_or-map P Q error step reported = elim reported [ inl memory ↦ inl memory | inr refused ↦ inr (step _ refused) ]
 
 -- a refusal that is passed on is a later one
 pub refused_later : {T : Type 0} (result : Result T Error) (error : Error) (Refuses Later : ErrorView → Type 0)
     → IsErrAnd result (λ passed. passed ≡ error) → MemoryOr Refuses error → ((view : ErrorView) → Refuses view → Later view)
     → IfErr result (MemoryOr Later)
-refused_later (Ok value) error Refuses Later same told later = tt
-refused_later (Err passed) error Refuses Later same told later =
-    subst (MemoryOr Later) (sym same) (memory_or-map Refuses Later error later told)
+refused_later (Ok value) error Refuses Later same reported later = tt
+refused_later (Err passed) error Refuses Later same reported later =
+    subst (MemoryOr Later) (sym same) (memory_or-map Refuses Later error later reported)
 
 first_refused : {E : Type 0} (IsFrom : Compiles E) (asked : UrlPatternOptions) (values : Values) (hierarchical : Bool)
     (before after : List Names) (component : Names) (view : ErrorView)
@@ -114,9 +114,9 @@ pub refused_after : {E T : Type 0} (IsFrom : Compiles E) (asked : UrlPatternOpti
     → MemoryOr (IsComponentRefused IsFrom asked values hierarchical component) error
     → AllByRecursion (λ earlier. (compiled : ComponentView E) × IsComponentCompiled IsFrom asked values hierarchical earlier compiled) before
     → IfErr result (MemoryOr (FirstRefused IsFrom asked values hierarchical (before ++ component ∷ after)))
-refused_after IsFrom asked values hierarchical result error before after component same told compiled =
+refused_after IsFrom asked values hierarchical result error before after component same reported compiled =
     refused_later result error (IsComponentRefused IsFrom asked values hierarchical component)
-    (FirstRefused IsFrom asked values hierarchical (before ++ component ∷ after)) same told
+    (FirstRefused IsFrom asked values hierarchical (before ++ component ∷ after)) same reported
     (λ view. first_refused IsFrom asked values hierarchical before after component view compiled)
 
 -- ---- a component under an encoding that answers no less
@@ -157,7 +157,7 @@ pub refused_weaker : {E T : Type 0} (IsMade : E → List ℕ → List ℕ → Ty
 refused_weaker IsMade MayRefuse syntax strong weak h text pattern options manner (Ok made) e f refused = tt
 refused_weaker IsMade MayRefuse syntax strong weak h text pattern options manner (Err error) e f refused = elim refused [
   | inl memory ↦ inl memory
-  | inr told ↦ inr (refused_weaker-view IsMade MayRefuse syntax strong weak h text pattern options manner _ e f told)
+  | inr reported ↦ inr (refused_weaker-view IsMade MayRefuse syntax strong weak h text pattern options manner _ e f reported)
 ]
 
 -- ---- patterns that begin as an IPv6 address does
@@ -181,7 +181,7 @@ or-first first second tested e is = is ∙ ap (λ test. test || second) (sym is 
 pub or-second : (first second tested later : Bool) → tested ≡ first → tested ≡ false → later ≡ second → later ≡ (first || second)
 or-second first second tested later e none is = is ∙ ap (λ test. test || second) (sym none ∙ e)
 
--- ---- the pattern behind its protocol
+-- ---- the pattern after its protocol
 
 pub are_compiled : {E : Type 0} (IsFrom : Compiles E) (answer : E → List ℕ → Option Captures) (asked : UrlPatternOptions) (values : Values) (hierarchical : Bool)
     (protocol : ComponentView E) (result : Result (UrlPattern E) Error)
@@ -189,10 +189,10 @@ pub are_compiled : {E : Type 0} (IsFrom : Compiles E) (answer : E → List ℕ �
     → IfOk result (λ pattern. component_view pattern.components.protocol ≡ protocol)
     → IfOk result (λ pattern. (component : Names) → IsComponentCompiled IsFrom asked values hierarchical component (pattern_view pattern component))
     → IfOk result (λ pattern. AreCompiled IsFrom answer asked values (pattern_view pattern))
-are_compiled IsFrom answer asked values hierarchical protocol (Err error) tells same compiled = tt
-are_compiled {E} IsFrom answer asked values hierarchical protocol (Ok pattern) tells same compiled = record {
+are_compiled IsFrom answer asked values hierarchical protocol (Err error) reports same compiled = tt
+are_compiled {E} IsFrom answer asked values hierarchical protocol (Ok pattern) reports same compiled = record {
   hierarchical = hierarchical;
-  tells_path = subst (λ (view : ComponentView E). IsTrue hierarchical ↔ HasHierarchicalPath answer values view.matcher) (sym same) tells;
+  path_kind = subst (λ (view : ComponentView E). IsTrue hierarchical ↔ HasHierarchicalPath answer values view.matcher) (sym same) reports;
   are_compiled = compiled;
 }
 
@@ -200,12 +200,12 @@ pub refused_behind : {E T : Type 0} (IsFrom : Compiles E) (answer : E → List �
     (protocol : ComponentView E) (result : Result T Error)
     → IsComponentCompiled IsFrom asked values hierarchical Protocol protocol
     → (IsTrue hierarchical ↔ HasHierarchicalPath answer values protocol.matcher)
-    → IfErr result (MemoryOr (FirstRefused IsFrom asked values hierarchical behind_protocol))
+    → IfErr result (MemoryOr (FirstRefused IsFrom asked values hierarchical after_protocol))
     → IfErr result (MemoryOr (RefusesValues IsFrom answer asked values))
-refused_behind IsFrom answer asked values hierarchical protocol (Ok found) compiled tells refused = tt
-refused_behind IsFrom answer asked values hierarchical protocol (Err error) compiled tells refused =
-    memory_or-map (FirstRefused IsFrom asked values hierarchical behind_protocol) (RefusesValues IsFrom answer asked values) error
-    (λ view first. inr (record { protocol = protocol; hierarchical = hierarchical; is_compiled = compiled; tells_path = tells; refused = first })) refused
+refused_behind IsFrom answer asked values hierarchical protocol (Ok found) compiled reports refused = tt
+refused_behind IsFrom answer asked values hierarchical protocol (Err error) compiled reports refused =
+    memory_or-map (FirstRefused IsFrom asked values hierarchical after_protocol) (RefusesValues IsFrom answer asked values) error
+    (λ view first. inr (record { protocol = protocol; hierarchical = hierarchical; is_compiled = compiled; path_kind = reports; refused = first })) refused
 
 -- ---- the pattern of an init
 
@@ -222,4 +222,4 @@ pub is_refused : {E T : Type 0} (IsFrom : Compiles E) (answer : E → List ℕ �
     → IfErr result (MemoryOr (RefusesPattern IsFrom answer init asked))
 is_refused IsFrom answer init asked values (Ok found) are refused = tt
 is_refused IsFrom answer init asked values (Err error) are refused =
-    memory_or-map (RefusesValues IsFrom answer asked values) (RefusesPattern IsFrom answer init asked) error (λ view told. (values, are, told)) refused
+    memory_or-map (RefusesValues IsFrom answer asked values) (RefusesPattern IsFrom answer init asked) error (λ view reported. (values, are, reported)) refused

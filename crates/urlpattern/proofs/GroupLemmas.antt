@@ -85,7 +85,7 @@ or-cond true x None z = refl
 or-cond false x None z = refl
 or-cond b x (Some y) z = refl
 
--- the first of some groups counts where none behind it has its name; else it is as if it were not there
+-- the first of some groups counts where none after it has its name; else it is as if it were not there
 pub group_of-first : (name : List ℕ) (first : List ℕ) (names : List (List ℕ)) (capture : Option (List ℕ)) (captures : Captures) (before : Option (Option (List ℕ))) →
     option_or (group_of (first ∷ names) (capture ∷ captures) name) before ≡ option_or (group_of names captures name) (cond (bytes_eq name first) (Some capture) before)
 group_of-first name first names capture captures before =
@@ -101,7 +101,7 @@ group_of-end (first ∷ names) captures name (inr e) = ap (λ rest. group_of (fi
 
 -- ---- a map that grows by one group after the other
 
--- once the capture of a name is put, those behind it are still to come
+-- once the capture of a name is put, those after it are still to come
 pub groups-more : {S : Type 0} (before names : List (String Global)) (before_captures captures : List (Option (Bor (List ℕ)))) (name key : String Global) (capture : Option (Bor (List ℕ))) (value : Option (String Global))
     (old new : HashMap (String Global) (Option (String Global)) S) (group : List ℕ) (found : Option (Option (List ℕ))) →
     before ≡ name ∷ names → before_captures ≡ capture ∷ captures → string_bytes key ≡ string_bytes name → option_map text_of value ≡ capture_view capture →
@@ -141,7 +141,7 @@ chars-test bytes other one two =
     (cases_Bool (bytes_eq (chars bytes) (chars other))))
     (cases_Bool (bytes_eq bytes other))
 
--- once the capture of the first name is taken where that is the name, those behind it are still to come
+-- once the capture of the first name is taken where that is the name, those after it are still to come
 pub named-more : (before names : List (String Global)) (before_captures captures : List (Option (Bor (List ℕ)))) (name : String Global) (capture : Option (Bor (List ℕ)))
     (group : List ℕ) (old new found : Option (Option (List ℕ))) →
     before ≡ name ∷ names → before_captures ≡ capture ∷ captures → new ≡ cond (bytes_eq group (text_of name)) (Some (capture_view capture)) old →

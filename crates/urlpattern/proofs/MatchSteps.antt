@@ -17,10 +17,10 @@ use Rattle.urlpattern_syntax.specs.declared.error.Error.{Error}
 use Rattle.urlpattern_syntax.specs.Eight.{Texts, at}
 
 -- whether something was found
-pub tells-some : {X : Type 0} (P : X → Type 0) (A B : Type 0) (found : Option X) (test : Bool) → test ≡ is_some found →
+pub reports-some : {X : Type 0} (P : X → Type 0) (A B : Type 0) (found : Option X) (test : Bool) → test ≡ is_some found →
     ((x : X) → P x → A) → IfSome found P → IfNone found B → MatchBool test A B
-tells-some P A B None test e f some none = subst (λ (b : Bool). MatchBool b A B) (sym e) none
-tells-some P A B (Some x) test e f some none = subst (λ (b : Bool). MatchBool b A B) (sym e) (f x some)
+reports-some P A B None test e f some none = subst (λ (b : Bool). MatchBool b A B) (sym e) none
+reports-some P A B (Some x) test e f some none = subst (λ (b : Bool). MatchBool b A B) (sym e) (f x some)
 
 -- a test of the input's texts tests the input
 pub test-of_texts : {E : Type 0} (answer : E → List ℕ → Option Captures) (pattern : PatternView E) (input : UrlPatternMatchInput) (texts : Texts) (result : Result Bool Error) →

@@ -62,7 +62,7 @@ component_agrees : {E : Type 0} (answer : E → List ℕ → Option Captures) (I
 component_agrees answer IsMade MayRefuse syntax asked values hierarchical component compiled text parts result reads is_component premises answers =
     let options = options_of asked values hierarchical component in
     matcher_means answer IsMade (MayRefuseAtFirst MayRefuse) options (engine_flags options) parts compiled.matcher text result is_component.has_matcher
-    (none_custom parts (sym is_component.tells_regexps ∙ premises.generated)) premises.case_kept premises.no_line_feed premises.characters
+    (none_custom parts (sym is_component.regexp_flag ∙ premises.generated)) premises.case_kept premises.no_line_feed premises.characters
     (premises.follows parts reads) answers
 
 -- ---- a whole pattern

@@ -44,7 +44,7 @@ module _ (asked : UrlPatternOptions) (values : Values) (pattern : PatternView Re
       IsTakenByRegex (options_of asked values compiled.hierarchical component) (engine_flags (options_of asked values compiled.hierarchical component)) parts (pattern component).matcher
   taken parts is_component = record {
     is_made = is_component.has_matcher;
-    generated = none_custom parts (sym is_component.tells_regexps ∙ premises.generated);
+    generated = none_custom parts (sym is_component.regexp_flag ∙ premises.generated);
     case_kept = premises.case_kept;
     took = premises.took;
   }

@@ -64,7 +64,7 @@ with_case asked options = record options { syntax = asked.regex_syntax; ignore_c
 abbrev pub is_mark : List ℕ → ℕ → Bool
 is_mark mark c = c == slice_index mark 0
 
--- the pattern of a hostname begins as an IPv6 address does: with a bracket, which may stand behind one open brace or one
+-- the pattern of a hostname begins as an IPv6 address does: with a bracket, which may stand after one open brace or one
 -- backslash; a bracket alone is none
 abbrev pub is_ipv6_pattern : List ℕ → Bool
 is_ipv6_pattern text =
@@ -133,7 +133,7 @@ HasHierarchicalPath answer values protocol =
 -- The values are compiled to this pattern: by its protocol the pathname is hierarchical or not, and each component is compiled.
 pub record AreCompiled {E : Type 0} (IsFrom : Compiles E) (answer : E → List ℕ → Option Captures) (asked : UrlPatternOptions) (values : Values) (pattern : PatternView E) : Type 0 where
   pub hierarchical : Bool
-  pub tells_path : IsTrue hierarchical ↔ HasHierarchicalPath answer values (pattern Protocol).matcher
+  pub path_kind : IsTrue hierarchical ↔ HasHierarchicalPath answer values (pattern Protocol).matcher
   pub are_compiled : (component : ComponentName) → IsComponentCompiled IsFrom asked values hierarchical component (pattern component)
 
 -- the init is compiled to this pattern
@@ -143,9 +143,9 @@ IsCompiled IsFrom answer init asked pattern =
 
 -- ---- refusals
 
--- the order in which components are compiled, behind the protocol
-abbrev pub behind_protocol : List ComponentName
-behind_protocol = Hostname ∷ Pathname ∷ Username ∷ Password ∷ Port ∷ Search ∷ Hash ∷ []
+-- the order in which components are compiled, after the protocol
+abbrev pub after_protocol : List ComponentName
+after_protocol = Hostname ∷ Pathname ∷ Username ∷ Password ∷ Port ∷ Search ∷ Hash ∷ []
 
 -- one of these components is refused with this error, and those before it are compiled
 abbrev pub FirstRefused : {E : Type 0} → Compiles E → UrlPatternOptions → Values → (hierarchical : Bool) → List ComponentName → ErrorView → Type 0
@@ -155,18 +155,18 @@ FirstRefused {E} IsFrom asked values hierarchical (component ∷ components) err
     ⊎ (((compiled : ComponentView E) × IsComponentCompiled IsFrom asked values hierarchical component compiled)
     × FirstRefused IsFrom asked values hierarchical components error)
 
--- The protocol is compiled, and of the components behind it one is refused with this error.
-pub record RefusesBehindProtocol {E : Type 0} (IsFrom : Compiles E) (answer : E → List ℕ → Option Captures) (asked : UrlPatternOptions) (values : Values) (error : ErrorView) : Type 0 where
+-- The protocol is compiled, and of the components after it one is refused with this error.
+pub record RefusesAfterProtocol {E : Type 0} (IsFrom : Compiles E) (answer : E → List ℕ → Option Captures) (asked : UrlPatternOptions) (values : Values) (error : ErrorView) : Type 0 where
   pub protocol : ComponentView E
   pub hierarchical : Bool
   pub is_compiled : IsComponentCompiled IsFrom asked values hierarchical Protocol protocol
-  pub tells_path : IsTrue hierarchical ↔ HasHierarchicalPath answer values protocol.matcher
-  pub refused : FirstRefused IsFrom asked values hierarchical behind_protocol error
+  pub path_kind : IsTrue hierarchical ↔ HasHierarchicalPath answer values protocol.matcher
+  pub refused : FirstRefused IsFrom asked values hierarchical after_protocol error
 
 -- the values are refused with this error, that of the first component that is refused
 abbrev pub RefusesValues : {E : Type 0} → Compiles E → (answer : E → List ℕ → Option Captures) → UrlPatternOptions → Values → ErrorView → Type 0
 RefusesValues IsFrom answer asked values error =
-    IsComponentRefused IsFrom asked values false Protocol error ⊎ RefusesBehindProtocol IsFrom answer asked values error
+    IsComponentRefused IsFrom asked values false Protocol error ⊎ RefusesAfterProtocol IsFrom answer asked values error
 
 -- the init is refused with this error
 abbrev pub RefusesPattern : {E : Type 0} → Compiles E → (answer : E → List ℕ → Option Captures) → UrlPatternInit → UrlPatternOptions → ErrorView → Type 0

@@ -4,7 +4,7 @@ use Rattle.std.specs.Prelude.{◌≡◌, ◌⊎◌, ℕ, Bool, List, [], length,
 use Rattle.std.specs.Str.{chars}
 use Rattle.url.specs.Parser.{Parsed, and_then, parse_url}
 use Rattle.url.specs.Parts.{Parts}
-use Rattle.urlpattern_canonical.specs.Canonical.{Tells}
+use Rattle.urlpattern_canonical.specs.Canonical.{Reports}
 use Rattle.urlpattern_core.specs.Compiling.{IsCompiledBy, MayRefuseAtFirst}
 use Rattle.urlpattern_core.specs.declared.regexp.RegExp.{Ghosts as Engine}
 use Rattle.urlpattern_init.specs.ConstructorString.{HasProtocolOrBase, RefusesString, SplitsInto}
@@ -36,14 +36,14 @@ pub record IsInitOfText (IsSpecial : List ℕ → Bool → Type 0) (text : List 
   pub is_split : SplitsInto IsSpecial text (values_view init)
   pub is_complete : HasProtocolOrBase init
 
--- the same, where an engine tells which protocols are special; the text is its bytes
+-- the same, where an engine decides which protocols are special; the text is its bytes
 abbrev pub IsInitOfTextBy : {E : Type 0} → Engine E → (text : List ℕ) → (base : Option (List ℕ)) → UrlPatternInit → Type 0
 IsInitOfTextBy engine text = IsInitOfText (IsSpecialBy engine.IsMade (MayRefuseAtFirst engine.MayRefuse) engine.answer) (chars text)
 
 -- a constructor string is refused with this error, that of its base URL or its own
 abbrev pub RefusesText : (text : List ℕ) → (base : Option (List ℕ)) → ErrorView → Type 0
 RefusesText text base error =
-    Tells (parsed_base base) (text_bytes base) error
+    Reports (parsed_base base) (text_bytes base) error
     ⊎ ((url : Option Parts) × (parsed_base base ≡ Ok url) × RefusesString text url error)
 
 -- ---- patterns
@@ -60,7 +60,7 @@ RefusesPatternOfText IsFrom IsSpecial answer text base asked error =
     RefusesText text base error
     ⊎ ((init : UrlPatternInit) × IsInitOfText IsSpecial text base init × RefusesPattern IsFrom answer init asked error)
 
--- the same, where an engine compiles and tells which protocols are special; the text is its bytes
+-- the same, where an engine compiles and decides which protocols are special; the text is its bytes
 abbrev pub IsPatternOfTextBy : {E : Type 0} → Engine E → (text : List ℕ) → (base : Option (List ℕ)) → UrlPatternOptions → UrlPattern E → Type 0
 IsPatternOfTextBy engine text base asked pattern =
     IsPatternOfText (IsCompiledBy engine) (IsSpecialBy engine.IsMade (MayRefuseAtFirst engine.MayRefuse) engine.answer)

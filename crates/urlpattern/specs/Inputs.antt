@@ -12,7 +12,7 @@ use Rattle.urlpattern_init.specs.SpecialProtocol.{IsSpecialBy}
 use Rattle.urlpattern_init.specs.declared.init.UrlPatternInit.{UrlPatternInit}
 use Rattle.urlpattern_init.specs.declared.init.UrlPatternMatchInput.{UrlPatternMatchInput}
 use Rattle.urlpattern_init.specs.declared.init.UrlPatternMatchInput.TheVariants as match_inputs
-use Rattle.urlpattern_canonical.specs.Canonical.{IsRefusedByUrl, Tells}
+use Rattle.urlpattern_canonical.specs.Canonical.{IsRefusedByUrl, Reports}
 use Rattle.urlpattern_core.specs.Engines.{IsRegexOf, regex_answer}
 use Rattle.urlpattern_plain.specs.declared.init.UrlPatternInit.{UrlPatternInit as PlainInit}
 use Rattle.urlpattern_plain.specs.declared.input.StringOrInit.{StringOrInit}
@@ -69,7 +69,7 @@ IsConstructedFrom (inputs.Init plain) (Some base) init = ⊥
 -- no pattern is constructed, for this error
 abbrev pub RefusesInput : StringOrInit → (base : Option (List ℕ)) → ErrorView → Type 0
 RefusesInput (inputs.String text) base error = RefusesText (chars (cow_str_bytes text)) base error
-RefusesInput (inputs.Init plain) None error = Tells (parsed_base (plain_base plain)) (text_bytes (plain_base plain)) error
+RefusesInput (inputs.Init plain) None error = Reports (parsed_base (plain_base plain)) (text_bytes (plain_base plain)) error
 RefusesInput (inputs.Init plain) (Some base) error = error ≡ views.BaseUrlWithInit
 
 -- ---- what a pattern is matched against

@@ -56,7 +56,7 @@ pub record MeaningPremises {E : Type 0} (answer : E → List ℕ → Option Capt
   pub follows : (parts : List PartView) → ReadsAs asked values hierarchical component parts
       → FollowsMiddle answer (options_of asked values hierarchical component) parts compiled.matcher.inner
 
--- What is found of eight texts. Where they are matched, the result of each component that meets the premises tells a meaning
+-- What is found of eight texts. Where they are matched, the result of each component that meets the premises is a meaning
 -- of its text: as groups the names of the parts beside the captures. Where they are not, and all components meet the
 -- premises, the pattern texts do not mean all eight.
 abbrev pub IsFoundByMeaning : {E : Type 0} → (answer : E → List ℕ → Option Captures) → UrlPatternOptions → Values → (hierarchical : Bool) → PatternView E → Texts → Option (ComponentName → ResultView) → Type 0
@@ -99,7 +99,7 @@ pub record RegexPremises (asked : UrlPatternOptions) (values : Values) (hierarch
   pub no_line_feed : IsTrue (lacks line_feed text)
   pub characters : IsTrue (all_scalars text)
 
--- The result of a component tells the first way of its text: as groups the names of the parts that its pattern text reads as,
+-- The result of a component is the first way of its text: as groups the names of the parts that its pattern text reads as,
 -- beside what the first way captures.
 pub record IsFirstResult (asked : UrlPatternOptions) (values : Values) (hierarchical : Bool) (component : ComponentName) (text : List ℕ) (result : ResultView) : Type 0 where
   pub parts : List PartView

@@ -55,8 +55,8 @@ pub fn groups_mean_the_parts<R: RegExp>()
 
 /// A test of a pattern is true exactly where there is a match, and then there is one match. It is not false there, unless
 /// the texts of an init are longer than `url` takes.
-pub fn tests_tell_matches<E>()
-    ensures tells { (answer : E → List ℕ → Option Captures) (pattern : PatternView E) (input : UrlPatternMatchInput) →
+pub fn tests_agree_with_matches<E>()
+    ensures agree { (answer : E → List ℕ → Option Captures) (pattern : PatternView E) (input : UrlPatternMatchInput) →
         HasMatch answer pattern input ↔ ((result : ComponentName → ResultView) × IsMatch answer pattern input result) }
     ensures one { (answer : E → List ℕ → Option Captures) (pattern : PatternView E) (input : UrlPatternMatchInput) (result other : ComponentName → ResultView) →
         IsMatch answer pattern input result → IsMatch answer pattern input other → (component : ComponentName) → IsSameResult (result component) (other component) }

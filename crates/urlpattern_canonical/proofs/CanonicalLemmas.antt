@@ -13,8 +13,8 @@ use Rattle.url.specs.declared.error.ParseError.{ParseError}
 use Rattle.url.specs.declared.error.ParseError.TheVariants.{Overflow, OutOfMemory}
 use Rattle.url.specs.Parser.{Gives, GivesBy, IsOutOfRoom, Parsed, and_then, parse_url}
 use Rattle.url.specs.Parts.{Parts}
-use Rattle.urlpattern_canonical.specs.Asking.{IsToldAs, reported_as}
-use Rattle.urlpattern_canonical.specs.Canonical.{IsAnswer, IsTold, Tells, after, canonical, dummy_url, long_text, path_of, pathname_of, reported, scheme_for_port, told_as, without_guard}
+use Rattle.urlpattern_canonical.specs.Asking.{IsRefusedAs, reported_as}
+use Rattle.urlpattern_canonical.specs.Canonical.{IsAnswer, IsReported, Reports, after, canonical, dummy_url, long_text, path_of, pathname_of, reported_error, scheme_for_port, refused_as, without_guard}
 use Rattle.urlpattern_syntax.proofs.TextLemmas.{chars-empty}
 use Rattle.urlpattern_syntax.specs.declared.error.Error.{Error}
 use Rattle.urlpattern_syntax.specs.declared.error.Error.TheVariants as errors
@@ -26,19 +26,19 @@ use Rattle.urlpattern_syntax.specs.Text.{begins_with, text_of}
 
 -- ---- refusals
 
-reported_short : (bytes : ℕ) → bytes < long_text → reported Overflow bytes ≡ views.OutOfMemory
+reported_short : (bytes : ℕ) → bytes < long_text → reported_error Overflow bytes ≡ views.OutOfMemory
 reported_short bytes short = ap (λ is_short. if is_short then views.OutOfMemory else views.Url Overflow) (lt-ltb bytes long_text short)
 
-reported_long : (bytes : ℕ) → long_text ≤ bytes → reported Overflow bytes ≡ views.Url Overflow
+reported_long : (bytes : ℕ) → long_text ≤ bytes → reported_error Overflow bytes ≡ views.Url Overflow
 reported_long bytes long = ap (λ is_short. if is_short then views.OutOfMemory else views.Url Overflow) (le-ltb bytes long_text long)
 
 overflow_is_no_want_of_memory : Overflow ≢ OutOfMemory
 overflow_is_no_want_of_memory same = cc
 
--- an overflow is want of memory, or an error of any question about so many bytes
-overflow_tells : {T : Type 0} (whole : Parsed T) (bytes : ℕ) (error : Error) → error_view error ≡ reported Overflow bytes → MemoryOr (Tells whole bytes) error
-overflow_tells whole bytes error is =
-    let Holds : ErrorView → Type 0 = λ view. Tells whole bytes view in
+-- an overflow means that memory ran out, or an error of any question about so many bytes
+overflow_reports : {T : Type 0} (whole : Parsed T) (bytes : ℕ) (error : Error) → error_view error ≡ reported_error Overflow bytes → MemoryOr (Reports whole bytes) error
+overflow_reports whole bytes error is =
+    let Holds : ErrorView → Type 0 = λ view. Reports whole bytes view in
     elim (cases_lt bytes long_text) [
       | inl short ↦ inl (is ∙ reported_short bytes short)
       | inr long ↦ inr (subst Holds (sym (is ∙ reported_long bytes long)) (overflow_is_no_want_of_memory, inr (refl, long)))
@@ -53,90 +53,90 @@ refused_by asked reason is_other is_no_overflow gives =
       | inr room ↦ elim room [ inl memory ↦ absurd (is_other memory) | inr long ↦ absurd (is_no_overflow long) ]
     ]
 
-url_tells : {T : Type 0} (whole : Parsed T) (reason : ParseError) (bytes : ℕ) (error : Error) → reason ≢ OutOfMemory → whole ≡ Err reason
-    → error_view error ≡ views.Url reason → MemoryOr (Tells whole bytes) error
-url_tells whole reason bytes error is_other refused is =
-    let Holds : ErrorView → Type 0 = λ view. Tells whole bytes view in inr (subst Holds (sym is) (is_other, inl refused))
+url_reports : {T : Type 0} (whole : Parsed T) (reason : ParseError) (bytes : ℕ) (error : Error) → reason ≢ OutOfMemory → whole ≡ Err reason
+    → error_view error ≡ views.Url reason → MemoryOr (Reports whole bytes) error
+url_reports whole reason bytes error is_other refused is =
+    let Holds : ErrorView → Type 0 = λ view. Reports whole bytes view in inr (subst Holds (sym is) (is_other, inl refused))
 
 -- a refusal of a step is one of the whole question
-tells : {T U : Type 0} (asked : Parsed T) (whole : Parsed U) (reason : ParseError) (bytes : ℕ) (error : Error)
-    → (asked ≡ Err reason → whole ≡ Err reason) → (asked ≡ Err reason) ⊎ IsOutOfRoom reason → error_view error ≡ reported reason bytes
-    → MemoryOr (Tells whole bytes) error
-tells asked whole OutOfMemory bytes error step gives is = inl is
-tells asked whole Overflow bytes error step gives is = overflow_tells whole bytes error is
-tells asked whole reason bytes error step gives is =
-    url_tells whole reason bytes error (λ same. cc) (step (refused_by asked reason (λ same. cc) (λ same. cc) gives)) is
+reports : {T U : Type 0} (asked : Parsed T) (whole : Parsed U) (reason : ParseError) (bytes : ℕ) (error : Error)
+    → (asked ≡ Err reason → whole ≡ Err reason) → (asked ≡ Err reason) ⊎ IsOutOfRoom reason → error_view error ≡ reported_error reason bytes
+    → MemoryOr (Reports whole bytes) error
+reports asked whole OutOfMemory bytes error step gives is = inl is
+reports asked whole Overflow bytes error step gives is = overflow_reports whole bytes error is
+reports asked whole reason bytes error step gives is =
+    url_reports whole reason bytes error (λ same. cc) (step (refused_by asked reason (λ same. cc) (λ same. cc) gives)) is
 
 -- the same where each refusal is reported as another
-tells_as : {T U : Type 0} (asked : Parsed T) (whole : Parsed U) (reason other : ParseError) (bytes : ℕ) (error : Error)
-    → reason ≢ OutOfMemory → (told_as reason asked ≡ Err reason → whole ≡ Err reason) → (asked ≡ Err other) ⊎ IsOutOfRoom other
-    → error_view error ≡ reported_as reason other bytes → MemoryOr (Tells whole bytes) error
-tells_as asked whole reason OutOfMemory bytes error proper step gives is = inl is
-tells_as asked whole reason Overflow bytes error proper step gives is = overflow_tells whole bytes error is
-tells_as asked whole reason other bytes error proper step gives is =
-    url_tells whole reason bytes error proper
-    (step (ap (told_as reason) (refused_by asked other (λ same. cc) (λ same. cc) gives))) is
+reports_as : {T U : Type 0} (asked : Parsed T) (whole : Parsed U) (reason other : ParseError) (bytes : ℕ) (error : Error)
+    → reason ≢ OutOfMemory → (refused_as reason asked ≡ Err reason → whole ≡ Err reason) → (asked ≡ Err other) ⊎ IsOutOfRoom other
+    → error_view error ≡ reported_as reason other bytes → MemoryOr (Reports whole bytes) error
+reports_as asked whole reason OutOfMemory bytes error proper step gives is = inl is
+reports_as asked whole reason Overflow bytes error proper step gives is = overflow_reports whole bytes error is
+reports_as asked whole reason other bytes error proper step gives is =
+    url_reports whole reason bytes error proper
+    (step (ap (refused_as reason) (refused_by asked other (λ same. cc) (λ same. cc) gives))) is
 
 -- what is told of an answer that is seen by `view`
-pub told-ok : {T U : Type 0} (view : T → U) (answer : Parsed T) (asked : Parsed U) (bytes : ℕ) (result : Result T Error) (value : T)
-    → GivesBy view answer asked → IsTold answer bytes result → result ≡ Ok value → asked ≡ Ok (view value)
-told-ok view (Ok found) asked bytes result value gives told was = gives ∙ ap (λ x. Ok (view x)) (let same : found ≡ value = cc in same)
-told-ok view (Err reason) asked bytes result value gives told was = absurd (rw was at told)
+pub reported-ok : {T U : Type 0} (view : T → U) (answer : Parsed T) (asked : Parsed U) (bytes : ℕ) (result : Result T Error) (value : T)
+    → GivesBy view answer asked → IsReported answer bytes result → result ≡ Ok value → asked ≡ Ok (view value)
+reported-ok view (Ok found) asked bytes result value gives reported was = gives ∙ ap (λ x. Ok (view x)) (let same : found ≡ value = cc in same)
+reported-ok view (Err reason) asked bytes result value gives reported was = absurd (rw was at reported)
 
-pub told-err : {T U V : Type 0} (view : T → U) (answer : Parsed T) (asked : Parsed U) (whole : Parsed V) (bytes : ℕ) (result : Result T Error)
-    (error : Error) → GivesBy view answer asked → IsTold answer bytes result → result ≡ Err error
-    → ((reason : ParseError) → asked ≡ Err reason → whole ≡ Err reason) → MemoryOr (Tells whole bytes) error
-told-err view (Ok found) asked whole bytes result error gives told was step = absurd cc
-told-err view (Err reason) asked whole bytes result error gives told was step =
-    tells asked whole reason bytes error (step reason) gives (rw was at told)
+pub reported-err : {T U V : Type 0} (view : T → U) (answer : Parsed T) (asked : Parsed U) (whole : Parsed V) (bytes : ℕ) (result : Result T Error)
+    (error : Error) → GivesBy view answer asked → IsReported answer bytes result → result ≡ Err error
+    → ((reason : ParseError) → asked ≡ Err reason → whole ≡ Err reason) → MemoryOr (Reports whole bytes) error
+reported-err view (Ok found) asked whole bytes result error gives reported was step = absurd cc
+reported-err view (Err reason) asked whole bytes result error gives reported was step =
+    reports asked whole reason bytes error (step reason) gives (rw was at reported)
 
-pub told_as-ok : {T U : Type 0} (view : T → U) (answer : Parsed T) (asked : Parsed U) (reason : ParseError) (bytes : ℕ) (result : Result T Error)
-    (value : T) → GivesBy view answer asked → IsToldAs reason answer bytes result → result ≡ Ok value → told_as reason asked ≡ Ok (view value)
-told_as-ok view (Ok found) asked reason bytes result value gives told was =
-    ap (told_as reason) gives ∙ ap (λ x. Ok (view x)) (let same : found ≡ value = cc in same)
-told_as-ok view (Err other) asked reason bytes result value gives told was = absurd (rw was at told)
+pub refused_as-ok : {T U : Type 0} (view : T → U) (answer : Parsed T) (asked : Parsed U) (reason : ParseError) (bytes : ℕ) (result : Result T Error)
+    (value : T) → GivesBy view answer asked → IsRefusedAs reason answer bytes result → result ≡ Ok value → refused_as reason asked ≡ Ok (view value)
+refused_as-ok view (Ok found) asked reason bytes result value gives reported was =
+    ap (refused_as reason) gives ∙ ap (λ x. Ok (view x)) (let same : found ≡ value = cc in same)
+refused_as-ok view (Err other) asked reason bytes result value gives reported was = absurd (rw was at reported)
 
-pub told_as-err : {T U V : Type 0} (view : T → U) (answer : Parsed T) (asked : Parsed U) (whole : Parsed V) (reason : ParseError) (bytes : ℕ)
-    (result : Result T Error) (error : Error) → reason ≢ OutOfMemory → GivesBy view answer asked → IsToldAs reason answer bytes result
-    → result ≡ Err error → (told_as reason asked ≡ Err reason → whole ≡ Err reason) → MemoryOr (Tells whole bytes) error
-told_as-err view (Ok found) asked whole reason bytes result error proper gives told was step = absurd cc
-told_as-err view (Err other) asked whole reason bytes result error proper gives told was step =
-    tells_as asked whole reason other bytes error proper step gives (rw was at told)
+pub refused_as-err : {T U V : Type 0} (view : T → U) (answer : Parsed T) (asked : Parsed U) (whole : Parsed V) (reason : ParseError) (bytes : ℕ)
+    (result : Result T Error) (error : Error) → reason ≢ OutOfMemory → GivesBy view answer asked → IsRefusedAs reason answer bytes result
+    → result ≡ Err error → (refused_as reason asked ≡ Err reason → whole ≡ Err reason) → MemoryOr (Reports whole bytes) error
+refused_as-err view (Ok found) asked whole reason bytes result error proper gives reported was step = absurd cc
+refused_as-err view (Err other) asked whole reason bytes result error proper gives reported was step =
+    reports_as asked whole reason other bytes error proper step gives (rw was at reported)
 
 -- what a step tells, the whole tells
-tells-through_view : {T U : Type 0} (asked : Parsed T) (whole : Parsed U) (bytes : ℕ) (error : ErrorView)
-    → ((reason : ParseError) → asked ≡ Err reason → whole ≡ Err reason) → Tells asked bytes error → Tells whole bytes error
-tells-through_view asked whole bytes (views.Url reason) step told =
-    (told.0, elim told.1 [ inl refused ↦ inl (step reason refused) | inr long ↦ inr long ])
-tells-through_view asked whole bytes error step told = absurd told
+reports-through_view : {T U : Type 0} (asked : Parsed T) (whole : Parsed U) (bytes : ℕ) (error : ErrorView)
+    → ((reason : ParseError) → asked ≡ Err reason → whole ≡ Err reason) → Reports asked bytes error → Reports whole bytes error
+reports-through_view asked whole bytes (views.Url reason) step reported =
+    (reported.0, elim reported.1 [ inl refused ↦ inl (step reason refused) | inr long ↦ inr long ])
+reports-through_view asked whole bytes error step reported = absurd reported
 
-pub tells-through : {T U : Type 0} (asked : Parsed T) (whole : Parsed U) (bytes : ℕ) (error : Error)
-    → ((reason : ParseError) → asked ≡ Err reason → whole ≡ Err reason) → MemoryOr (Tells asked bytes) error → MemoryOr (Tells whole bytes) error
-tells-through asked whole bytes error step told =
-    elim told [ inl memory ↦ inl memory | inr refused ↦ inr (tells-through_view asked whole bytes (error_view error) step refused) ]
+pub reports-through : {T U : Type 0} (asked : Parsed T) (whole : Parsed U) (bytes : ℕ) (error : Error)
+    → ((reason : ParseError) → asked ≡ Err reason → whole ≡ Err reason) → MemoryOr (Reports asked bytes) error → MemoryOr (Reports whole bytes) error
+reports-through asked whole bytes error step reported =
+    elim reported [ inl memory ↦ inl memory | inr refused ↦ inr (reports-through_view asked whole bytes (error_view error) step refused) ]
 
 -- texts of more bytes
-tells-more_view : {T : Type 0} (asked : Parsed T) (few many : ℕ) (error : ErrorView) → few ≤ many → Tells asked few error → Tells asked many error
-tells-more_view asked few many (views.Url reason) more told =
-    (told.0, elim told.1 [ inl refused ↦ inl refused | inr long ↦ inr (long.0, omega (arith, long.1)) ])
-tells-more_view asked few many error more told = absurd told
+reports-more_view : {T : Type 0} (asked : Parsed T) (few many : ℕ) (error : ErrorView) → few ≤ many → Reports asked few error → Reports asked many error
+reports-more_view asked few many (views.Url reason) more reported =
+    (reported.0, elim reported.1 [ inl refused ↦ inl refused | inr long ↦ inr (long.0, omega (arith, long.1)) ])
+reports-more_view asked few many error more reported = absurd reported
 
-pub tells-more : {T : Type 0} (asked : Parsed T) (few many : ℕ) (error : Error) → few ≤ many → MemoryOr (Tells asked few) error
-    → MemoryOr (Tells asked many) error
-tells-more asked few many error more told =
-    elim told [ inl memory ↦ inl memory | inr refused ↦ inr (tells-more_view asked few many (error_view error) more refused) ]
+pub reports-more : {T : Type 0} (asked : Parsed T) (few many : ℕ) (error : Error) → few ≤ many → MemoryOr (Reports asked few) error
+    → MemoryOr (Reports asked many) error
+reports-more asked few many error more reported =
+    elim reported [ inl memory ↦ inl memory | inr refused ↦ inr (reports-more_view asked few many (error_view error) more refused) ]
 
 pub answers-more : (asked : Parsed (List ℕ)) (few many : ℕ) (result : Result (String Global) Error) → few ≤ many → IsAnswer asked few result
     → IsAnswer asked many result
 answers-more asked few many (Ok text) more answer = answer
-answers-more asked few many (Err error) more answer = tells-more asked few many error more answer
+answers-more asked few many (Err error) more answer = reports-more asked few many error more answer
 
 -- what is told of a URL that is parsed
-pub told_parse : (answer : Parsed Parts) (asked : Parsed Parts) (bytes : ℕ) (result : Result Parts Error) → Gives answer asked
-    → IsTold answer bytes result → IfOk result (λ url. asked ≡ Ok url) × IfErr result (MemoryOr (Tells asked bytes))
-told_parse answer asked bytes (Ok url) gives told = (told-ok (λ x. x) answer asked bytes (Ok url) url gives told refl, tt)
-told_parse answer asked bytes (Err error) gives told =
-    (tt, told-err (λ x. x) answer asked asked bytes (Err error) error gives told refl (λ reason e. e))
+pub reported_parse : (answer : Parsed Parts) (asked : Parsed Parts) (bytes : ℕ) (result : Result Parts Error) → Gives answer asked
+    → IsReported answer bytes result → IfOk result (λ url. asked ≡ Ok url) × IfErr result (MemoryOr (Reports asked bytes))
+reported_parse answer asked bytes (Ok url) gives reported = (reported-ok (λ x. x) answer asked bytes (Ok url) url gives reported refl, tt)
+reported_parse answer asked bytes (Err error) gives reported =
+    (tt, reported-err (λ x. x) answer asked asked bytes (Err error) error gives reported refl (λ reason e. e))
 
 -- ---- the steps of a question
 
@@ -194,13 +194,13 @@ pub opaque_is_parsed : (url : Parts) × (parse_url None (codes "data:dummy,test"
 unfolding url_on_literals
 opaque_is_parsed = (_, refl)
 
--- so a refusal to parse one is want of memory
-pub only_memory : (asked : Parsed Parts) (url : Parts) (bytes : ℕ) (error : Error) → asked ≡ Ok url → bytes < long_text → MemoryOr (Tells asked bytes) error
+-- so a refusal to parse one means that memory ran out
+pub only_memory : (asked : Parsed Parts) (url : Parts) (bytes : ℕ) (error : Error) → asked ≡ Ok url → bytes < long_text → MemoryOr (Reports asked bytes) error
     → error_view error ≡ views.OutOfMemory
-only_memory asked url bytes error is_url few told =
-    elim told [ inl memory ↦ memory | inr refused ↦ none asked url bytes (error_view error) is_url few refused ]
+only_memory asked url bytes error is_url few reported =
+    elim reported [ inl memory ↦ memory | inr refused ↦ none asked url bytes (error_view error) is_url few refused ]
   where
-    none : (asked : Parsed Parts) (url : Parts) (bytes : ℕ) (view : ErrorView) → asked ≡ Ok url → bytes < long_text → Tells asked bytes view
+    none : (asked : Parsed Parts) (url : Parts) (bytes : ℕ) (view : ErrorView) → asked ≡ Ok url → bytes < long_text → Reports asked bytes view
         → view ≡ views.OutOfMemory
     none asked url bytes (views.Url reason) is_url few refused =
         elim refused.1 [ inl same ↦ absurd cc | inr long ↦ absurd (omega (arith, long.1)) ]
@@ -217,9 +217,9 @@ out_of_memory (errors.Url reason) e = absurd cc
 out_of_memory (errors.RegExp unit) e = absurd cc
 
 pub memory_alone : (asked : Parsed Parts) (url : Parts) (bytes : ℕ) (result : Result Parts Error) → asked ≡ Ok url → bytes < long_text
-    → IfErr result (MemoryOr (Tells asked bytes)) → IfErr result (λ error. error ≡ errors.OutOfMemory)
-memory_alone asked url bytes (Ok found) is_url few told = tt
-memory_alone asked url bytes (Err error) is_url few told = out_of_memory error (only_memory asked url bytes error is_url few told)
+    → IfErr result (MemoryOr (Reports asked bytes)) → IfErr result (λ error. error ≡ errors.OutOfMemory)
+memory_alone asked url bytes (Ok found) is_url few reported = tt
+memory_alone asked url bytes (Err error) is_url few reported = out_of_memory error (only_memory asked url bytes error is_url few reported)
 
 -- ---- the test for an empty text
 

@@ -9,9 +9,9 @@ use Rattle.url.specs.declared.error.ParseError.{ParseError}
 use Rattle.url.specs.declared.error.ParseError.TheVariants.{OutOfMemory}
 use Rattle.url.specs.Parser.{GivesBy, Parsed}
 use Rattle.url.specs.Parts.{Parts}
-use Rattle.urlpattern_canonical.proofs.CanonicalLemmas.{after-err, after-ok, canonical-empty, canonical-err, canonical-ok, is_empty-false, is_empty-true, tells-through, told-err, told-ok, told_as-err, told_as-ok, unwrap_or-chars, unwrapped-copied}
-use Rattle.urlpattern_canonical.specs.Asking.{IsToldAs}
-use Rattle.urlpattern_canonical.specs.Canonical.{IsAnswer, IsTold, Tells, after, canonical, canonical_port, option_text, port_bytes, port_of, scheme_for_port, told_as}
+use Rattle.urlpattern_canonical.proofs.CanonicalLemmas.{after-err, after-ok, canonical-empty, canonical-err, canonical-ok, is_empty-false, is_empty-true, reports-through, reported-err, reported-ok, refused_as-err, refused_as-ok, unwrap_or-chars, unwrapped-copied}
+use Rattle.urlpattern_canonical.specs.Asking.{IsRefusedAs}
+use Rattle.urlpattern_canonical.specs.Canonical.{IsAnswer, IsReported, Reports, after, canonical, canonical_port, option_text, port_bytes, port_of, scheme_for_port, refused_as}
 use Rattle.urlpattern_syntax.specs.declared.error.Error.{Error}
 use Rattle.urlpattern_syntax.specs.Errors.{MemoryOr}
 use Rattle.urlpattern_syntax.specs.Text.{text_of}
@@ -33,64 +33,64 @@ answered ask value {tested} answer string u is_tested some asked is_answer =
 
 -- an error that is handed on
 handed_on : (asked : Parsed (List ℕ)) (bytes : ℕ) (result : Result (String Global) Error) (error : Error) → IsErrAnd result (λ e. e ≡ error)
-    → MemoryOr (Tells asked bytes) error → IsAnswer asked bytes result
-handed_on asked bytes (Ok text) error was told = absurd was
-handed_on asked bytes (Err e) error was told = subst (MemoryOr (Tells asked bytes)) (sym was) told
+    → MemoryOr (Reports asked bytes) error → IsAnswer asked bytes result
+handed_on asked bytes (Ok text) error was reported = absurd was
+handed_on asked bytes (Err e) error was reported = subst (MemoryOr (Reports asked bytes)) (sym was) reported
 
 -- the refusal of a step
 pub refused : {T : Type 0} (ask : List ℕ → Parsed (List ℕ)) (asked : Parsed T) (value : List ℕ) {tested : Bool} (bytes : ℕ)
     (result : Result (String Global) Error) (error : Error) → IsUtf8 value → tested ≡ (length value == 0) → tested ≡ false
-    → ((reason : ParseError) → asked ≡ Err reason → ask value ≡ Err reason) → MemoryOr (Tells asked bytes) error
+    → ((reason : ParseError) → asked ≡ Err reason → ask value ≡ Err reason) → MemoryOr (Reports asked bytes) error
     → IsErrAnd result (λ e. e ≡ error) → IsAnswer (canonical ask (chars value)) bytes result
-refused ask asked value {tested} bytes result error u is_tested some step told was =
+refused ask asked value {tested} bytes result error u is_tested some step reported was =
     handed_on (canonical ask (chars value)) bytes result error was
-    (tells-through asked (canonical ask (chars value)) bytes error
-    (λ reason no. canonical-err ask value reason u (is_empty-false value tested is_tested some) (step reason no)) told)
+    (reports-through asked (canonical ask (chars value)) bytes error
+    (λ reason no. canonical-err ask value reason u (is_empty-false value tested is_tested some) (step reason no)) reported)
 
 -- ---- a value that is set
 
 module _ {T : Type 0} (url : Parsed Parts) (set : List ℕ → Parts → Parsed Parts) (get : Parts → List ℕ) (value : List ℕ) {tested : Bool}
-    {old : Parts} (new : Parts) (answer : Parsed T) (told : Result T Error) where
+    {old : Parts} (new : Parts) (answer : Parsed T) (reported : Result T Error) where
   pub set-answered : {found : T} (string : String Global) → IsUtf8 value → tested ≡ (length value == 0) → tested ≡ false → url ≡ Ok old
-      → GivesBy (λ _. new) answer (set value old) → IsTold answer (length value) told → told ≡ Ok found → string_bytes string ≡ get new
+      → GivesBy (λ _. new) answer (set value old) → IsReported answer (length value) reported → reported ≡ Ok found → string_bytes string ≡ get new
       → canonical (λ bytes. after url (set bytes) get) (chars value) ≡ Ok (text_of string)
-  set-answered {found} string u is_tested some is_old gives is_told was is_new =
+  set-answered {found} string u is_tested some is_old gives is_reported was is_new =
       answered (λ bytes. after url (set bytes) get) value (get new) string u is_tested some
       (after-ok url (set value) get old new is_old
-      (told-ok (λ _. new) answer (set value old) (length value) told found gives is_told was)) is_new
+      (reported-ok (λ _. new) answer (set value old) (length value) reported found gives is_reported was)) is_new
 
   pub set-refused : (result : Result (String Global) Error) (error : Error) → IsUtf8 value → tested ≡ (length value == 0) → tested ≡ false
-      → url ≡ Ok old → GivesBy (λ _. new) answer (set value old) → IsTold answer (length value) told → told ≡ Err error
+      → url ≡ Ok old → GivesBy (λ _. new) answer (set value old) → IsReported answer (length value) reported → reported ≡ Err error
       → IsErrAnd result (λ e. e ≡ error) → IsAnswer (canonical (λ bytes. after url (set bytes) get) (chars value)) (length value) result
-  set-refused result error u is_tested some is_old gives is_told failed was =
+  set-refused result error u is_tested some is_old gives is_reported failed was =
       let ask : List ℕ → Parsed (List ℕ) = λ bytes. after url (set bytes) get in
       handed_on (canonical ask (chars value)) (length value) result error was
-      (told-err (λ _. new) answer (set value old) (canonical ask (chars value)) (length value) told error gives is_told failed
+      (reported-err (λ _. new) answer (set value old) (canonical ask (chars value)) (length value) reported error gives is_reported failed
       (λ reason no. canonical-err ask value reason u (is_empty-false value tested is_tested some) (after-err url (set value) get old reason is_old no)))
 
 -- the question where each refusal is told as this one
 abbrev pub ask_as : ParseError → Parsed Parts → (List ℕ → Parts → Parsed Parts) → (Parts → List ℕ) → List ℕ → Parsed (List ℕ)
-ask_as reason url set get text = after url (λ start. told_as reason (set text start)) get
+ask_as reason url set get text = after url (λ start. refused_as reason (set text start)) get
 
 module _ {T : Type 0} (reason : ParseError) (url : Parsed Parts) (set : List ℕ → Parts → Parsed Parts) (get : Parts → List ℕ) (value : List ℕ)
-    {tested : Bool} (bytes : ℕ) {old : Parts} (new : Parts) (answer : Parsed T) (told : Result T Error) where
+    {tested : Bool} (bytes : ℕ) {old : Parts} (new : Parts) (answer : Parsed T) (reported : Result T Error) where
   pub set_as-answered : {found : T} (string : String Global) → IsUtf8 value → tested ≡ (length value == 0) → tested ≡ false → url ≡ Ok old
-      → GivesBy (λ _. new) answer (set value old) → IsToldAs reason answer bytes told → told ≡ Ok found → string_bytes string ≡ get new
+      → GivesBy (λ _. new) answer (set value old) → IsRefusedAs reason answer bytes reported → reported ≡ Ok found → string_bytes string ≡ get new
       → canonical (ask_as reason url set get) (chars value) ≡ Ok (text_of string)
-  set_as-answered {found} string u is_tested some is_old gives is_told was is_new =
+  set_as-answered {found} string u is_tested some is_old gives is_reported was is_new =
       answered (ask_as reason url set get) value (get new) string u is_tested some
-      (after-ok url (λ start. told_as reason (set value start)) get old new is_old
-      (told_as-ok (λ _. new) answer (set value old) reason bytes told found gives is_told was)) is_new
+      (after-ok url (λ start. refused_as reason (set value start)) get old new is_old
+      (refused_as-ok (λ _. new) answer (set value old) reason bytes reported found gives is_reported was)) is_new
 
   pub set_as-refused : (result : Result (String Global) Error) (error : Error) → reason ≢ OutOfMemory → IsUtf8 value
       → tested ≡ (length value == 0) → tested ≡ false → url ≡ Ok old → GivesBy (λ _. new) answer (set value old)
-      → IsToldAs reason answer bytes told → told ≡ Err error → IsErrAnd result (λ e. e ≡ error)
+      → IsRefusedAs reason answer bytes reported → reported ≡ Err error → IsErrAnd result (λ e. e ≡ error)
       → IsAnswer (canonical (ask_as reason url set get) (chars value)) bytes result
-  set_as-refused result error proper u is_tested some is_old gives is_told failed was =
+  set_as-refused result error proper u is_tested some is_old gives is_reported failed was =
       handed_on (canonical (ask_as reason url set get) (chars value)) bytes result error was
-      (told_as-err (λ _. new) answer (set value old) (canonical (ask_as reason url set get) (chars value)) reason bytes told error proper gives is_told failed
+      (refused_as-err (λ _. new) answer (set value old) (canonical (ask_as reason url set get) (chars value)) reason bytes reported error proper gives is_reported failed
       (λ no. canonical-err (ask_as reason url set get) value reason u (is_empty-false value tested is_tested some)
-      (after-err url (λ start. told_as reason (set value start)) get old reason is_old no)))
+      (after-err url (λ start. refused_as reason (set value start)) get old reason is_old no)))
 
 -- ---- the scheme that a port is set under, and the longest of the texts that are asked about
 

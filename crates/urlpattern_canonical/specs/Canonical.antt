@@ -43,10 +43,10 @@ dummy_of_scheme scheme = parse_url None (scheme ++ codes "://dummy.test")
 abbrev pub after : Parsed Parts → (Parts → Parsed Parts) → (Parts → List ℕ) → Parsed (List ℕ)
 after url set get = and_then url (λ old. and_then (set old) (λ new. Ok (get new)))
 
--- the same, where each refusal is told as this one
-abbrev pub told_as : {T : Type 0} → ParseError → Parsed T → Parsed T
-told_as reason (Ok x) = Ok x
-told_as reason (Err other) = Err reason
+-- the same, where each refusal is reported as this one
+abbrev pub refused_as : {T : Type 0} → ParseError → Parsed T → Parsed T
+refused_as reason (Ok x) = Ok x
+refused_as reason (Err other) = Err reason
 
 -- the scheme of a URL that begins with the value
 abbrev pub protocol_of : List ℕ → Parsed (List ℕ)
@@ -55,12 +55,12 @@ protocol_of value = and_then (dummy_of_scheme value) (λ url. Ok url.scheme)
 -- the `hostname` of the URL Standard's API, which takes no port
 abbrev pub hostname_of : List ℕ → Parsed (List ℕ)
 hostname_of value =
-    after dummy_url (λ url. told_as InvalidDomainCharacter (quirks.set_host url value false)) (λ url. host_text (host_or_empty url))
+    after dummy_url (λ url. refused_as InvalidDomainCharacter (quirks.set_host url value false)) (λ url. host_text (host_or_empty url))
 
 -- the `port` of the URL Standard's API
 abbrev pub port_of : (scheme value : List ℕ) → Parsed (List ℕ)
 port_of scheme value =
-    after (dummy_of_scheme scheme) (λ url. told_as InvalidPort (quirks.set_port url value)) (λ url. text_between url BeforePort AfterPort)
+    after (dummy_of_scheme scheme) (λ url. refused_as InvalidPort (quirks.set_port url value)) (λ url. text_between url BeforePort AfterPort)
 
 -- the path of a URL with another path
 abbrev pub path_of : Parsed Parts → List ℕ → Parsed (List ℕ)
@@ -134,30 +134,30 @@ abbrev pub long_text : ℕ
 long_text = 2 ^ 24
 
 -- The error that a refusal of a question about texts of this many bytes is reported as: an overflow where no text is long
--- is want of memory too.
-abbrev pub reported : ParseError → (bytes : ℕ) → ErrorView
-reported OutOfMemory bytes = views.OutOfMemory
-reported Overflow bytes = if ltb bytes long_text then views.OutOfMemory else views.Url Overflow
-reported reason bytes = views.Url reason
+-- is that memory ran out too.
+abbrev pub reported_error : ParseError → (bytes : ℕ) → ErrorView
+reported_error OutOfMemory bytes = views.OutOfMemory
+reported_error Overflow bytes = if ltb bytes long_text then views.OutOfMemory else views.Url Overflow
+reported_error reason bytes = views.Url reason
 
 -- The result is the answer of `url`, with its refusal as it is reported.
-abbrev pub IsTold : {T : Type 0} → (answer : Result T ParseError) → (bytes : ℕ) → Result T Error → Type 0
-IsTold answer bytes result =
-    MatchResult answer (λ value. result ≡ Ok value) (λ reason. IsErrAnd result (λ error. error_view error ≡ reported reason bytes))
+abbrev pub IsReported : {T : Type 0} → (answer : Result T ParseError) → (bytes : ℕ) → Result T Error → Type 0
+IsReported answer bytes result =
+    MatchResult answer (λ value. result ≡ Ok value) (λ reason. IsErrAnd result (λ error. error_view error ≡ reported_error reason bytes))
 
 -- `url` refuses the question, or the longest text of it may be too long
 abbrev pub IsRefusedByUrl : {T : Type 0} → Parsed T → (bytes : ℕ) → Type 0
 IsRefusedByUrl asked bytes = ((reason : ParseError) × (asked ≡ Err reason)) ⊎ (long_text ≤ bytes)
 
--- The error is the refusal of a question about texts of this many bytes at most. Want of memory is never told as an error
+-- The error is the refusal of a question about texts of this many bytes at most. That memory ran out is never reported as an error
 -- of a URL.
-abbrev pub Tells : {T : Type 0} → Parsed T → (bytes : ℕ) → ErrorView → Type 0
-Tells asked bytes (views.Url reason) = (reason ≢ OutOfMemory) × ((asked ≡ Err reason) ⊎ ((reason ≡ Overflow) × (long_text ≤ bytes)))
-Tells asked bytes error = ⊥
+abbrev pub Reports : {T : Type 0} → Parsed T → (bytes : ℕ) → ErrorView → Type 0
+Reports asked bytes (views.Url reason) = (reason ≢ OutOfMemory) × ((asked ≡ Err reason) ⊎ ((reason ≡ Overflow) × (long_text ≤ bytes)))
+Reports asked bytes error = ⊥
 
 -- A call answers a question about so many bytes: with the text, with the refusal, or that memory ran out.
 abbrev pub IsAnswer : Parsed (List ℕ) → (bytes : ℕ) → Result (String Global) Error → Type 0
-IsAnswer asked bytes result = MatchResult result (λ text. asked ≡ Ok (text_of text)) (MemoryOr (Tells asked bytes))
+IsAnswer asked bytes result = MatchResult result (λ text. asked ≡ Ok (text_of text)) (MemoryOr (Reports asked bytes))
 
 -- how many bytes a port has, or its protocol where that has more
 abbrev pub port_bytes : (port : List ℕ) → (protocol : Option (Bor (List ℕ))) → ℕ

@@ -18,7 +18,7 @@ mod values;
 
 pub use ipv6::canonicalize_ipv6_hostname;
 pub use marks::{begins_with_slash, without_first};
-pub use refusals::told;
+pub use refusals::reported;
 pub use schemes::{is_special_scheme, special_scheme_default_port};
 use std::alloc::Global;
 use url::Url;

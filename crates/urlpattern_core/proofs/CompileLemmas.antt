@@ -9,10 +9,10 @@ use Rattle.urlpattern_syntax.specs.Errors.{ErrorView}
 
 -- an engine of equal flags and an equal text, where custom regular expressions are told alike
 pub engine-along : {E : Type 0} (IsMade : E → List ℕ → List ℕ → Type 0) (MayRefuse : List ℕ → List ℕ → Bool → Type 0) (syntax : RegexSyntax) (engine : Result E ErrorView)
-    {has told : Bool} {flags options_flags regexp text : List ℕ} → has ≡ told → flags ≡ options_flags → regexp ≡ text
+    {has reported : Bool} {flags options_flags regexp text : List ℕ} → has ≡ reported → flags ≡ options_flags → regexp ≡ text
     → IsEngineOf IsMade (MayRefuseAsked MayRefuse (is_asked_again syntax has)) flags regexp engine
-    → IsEngineOf IsMade (MayRefuseAsked MayRefuse (is_asked_again syntax told)) options_flags text engine
-engine-along IsMade MayRefuse syntax engine {has} {told} {flags} {options_flags} {regexp} {text} e f r made =
+    → IsEngineOf IsMade (MayRefuseAsked MayRefuse (is_asked_again syntax reported)) options_flags text engine
+engine-along IsMade MayRefuse syntax engine {has} {reported} {flags} {options_flags} {regexp} {text} e f r made =
     subst (λ b. IsEngineOf IsMade (MayRefuseAsked MayRefuse (is_asked_again syntax b)) options_flags text engine) e
     (subst (λ g. IsEngineOf IsMade (MayRefuseAsked MayRefuse (is_asked_again syntax has)) g text engine) f
     (subst (λ t. IsEngineOf IsMade (MayRefuseAsked MayRefuse (is_asked_again syntax has)) flags t engine) r made))

@@ -100,7 +100,7 @@ opens_item (Grouped items) h more = (refl, rw (full 40 (63 ∷ 58 ∷ (items_tex
 pub item_length : (a : Atom) (q : Quantifier) (more : Text) → length (atom_text a ++ (quantifier_text q ++ more)) ≡ length (atom_text a) + (length (quantifier_text q) + length more)
 item_length a q more = length-append (atom_text a) (quantifier_text q ++ more) ∙ ap (λ l. length (atom_text a) + l) (length-append (quantifier_text q) more)
 
--- how long a text is from its first item on, and behind that item
+-- how long a text is from its first item on, and after that item
 pub record FirstItem (a : Atom) (q : Quantifier) (more : Text) (n : ℕ) : Type 0 where
   pub whole : 2 * length (atom_text a ++ (quantifier_text q ++ more)) < n
   pub behind : 2 * length more < n - 1

@@ -19,9 +19,9 @@ no_round : (greedy : Bool) (body : Rest → Rest) (k : Rest) (j : ℕ) → trace
 unfolding trace_rounds
 no_round greedy body k j = refl
 
-scalars_behind : (before text : List ℕ) → scalars (before ++ text) ≡ true → scalars text ≡ true
-scalars_behind [] text h = h
-scalars_behind (c ∷ before) text h = scalars_behind before text (and_parts _ _ h).1
+scalars_after : (before text : List ℕ) → scalars (before ++ text) ≡ true → scalars text ≡ true
+scalars_after [] text h = h
+scalars_after (c ∷ before) text h = scalars_after before text (and_parts _ _ h).1
 
 module _ (Shown : ℕ → Captures → Writes → Type 0)
     (shown-append : (g : ℕ) (c d : Captures) (own more : Writes) → Shown g c own → Shown (g + length c) d more → Shown g (c ++ d) (own ++ more))
@@ -49,7 +49,7 @@ module _ (Shown : ℕ → Captures → Writes → Type 0)
       let past : length hay ≤ at before = omega (arith, ap at (sym e ∙ append-nil before)) in
       ap (option_and_then (λ c. if in_ranges rs c then k (at before + len_utf8 c) else None)) (char_at_past hay (at before) past)
   leaf g passes rs same before (c ∷ rest) e k =
-      let scalar : IsScalar c = (and_parts _ _ (scalars_behind before (c ∷ rest) (ap scalars e ∙ good))).0 in
+      let scalar : IsScalar c = (and_parts _ _ (scalars_after before (c ∷ rest) (ap scalars e ∙ good))).0 in
       let stands : drop (at before) hay ≡ encode_utf8 c ++ encodes rest =
       ap (λ t. drop (at before) (encodes t)) (sym e) ∙ ap (drop (at before)) (encodes-append before (c ∷ rest)) ∙ drop_at (encodes before) (encodes (c ∷ rest)) (at before) refl in
       let here : char_at hay (at before) ≡ Some c = char_at_from hay (at before) c (encodes rest) scalar stands in

@@ -33,8 +33,8 @@ matched-by answer matcher text middle inner test e is_inner h = (
 -- it is not matched, where the test fails
 pub not_matched-by : {E : Type 0} (answer : E → List ℕ → Option Captures) (matcher : MatcherView E) (text : List ℕ) (test : Bool) →
     (IsTrue test ↔ IsMatched answer matcher text) → test ≡ false → (captures : Captures) → ¬ Matches answer matcher text captures
-not_matched-by answer matcher text test tells fails captures matches =
-    let t : test ≡ true = tells.1 (captures, matches) in
+not_matched-by answer matcher text test reports fails captures matches =
+    let t : test ≡ true = reports.1 (captures, matches) in
     let never : ⊥ = cc in never
 
 -- ---- whether a text may be captured

@@ -90,14 +90,14 @@ bytes_eq-text one other =
 
 -- ---- neighbours
 
--- the first of the parts behind
+-- the first of the parts after
 pub first_neighbour : (first : Option (Bor Part)) (parts : List Part) → option_copied first ≡ slice_get parts 0 → neighbour first ≡ first_part (map part_view parts)
 first_neighbour None [] e = refl
 first_neighbour None (part ∷ parts) e = absurd (cc e)
 first_neighbour (Some first) [] e = absurd (cc e)
 first_neighbour (Some first) (part ∷ parts) e = ap (λ found. option_map part_view found) e
 
--- what is written behind a part's own text, where the list is cut behind that part
+-- what is written after a part's own text, where the list is cut after that part
 pub printed-cut : (options : OptionsView) (previous : Option PartView) (part : Part) (after rest : List Part) (next : Option (Bor Part)) (front : List ℕ) {whole : List ℕ}
     → option_copied next ≡ slice_get after 0 → rest ≡ part ∷ after → front ++ printed_after options previous (map part_view rest) ≡ whole
     → front ++ (printed_part options previous (part_view part) (neighbour next) ++ printed_after options (Some (part_view part)) (map part_view after)) ≡ whole

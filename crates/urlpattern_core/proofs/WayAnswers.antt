@@ -17,8 +17,8 @@ abbrev pub at : List ℕ → ℕ
 at before = length (encodes before)
 
 -- a trace with writes put before its own
-abbrev pub behind_writes : Writes → Trace → Trace
-behind_writes own rest = record { end = rest.end; writes = own ++ rest.writes }
+abbrev pub after_writes : Writes → Trace → Trace
+after_writes own rest = record { end = rest.end; writes = own ++ rest.writes }
 
 module _ (Shown : ℕ → Captures → Writes → Type 0)
     (shown-append : (g : ℕ) (c d : Captures) (own more : Writes) → Shown g c own → Shown (g + length c) d more → Shown g (c ++ d) (own ++ more))
@@ -29,7 +29,7 @@ module _ (Shown : ℕ → Captures → Writes → Type 0)
   Gave g before k [] o = o ≡ None
   Gave g before k (way ∷ ways) o =
       ((k (at (before ++ way.taken)) ≡ None) × Gave g before k ways o)
-      ⊎ ((own : Writes) × (rest : Trace) × (k (at (before ++ way.taken)) ≡ Some rest) × (o ≡ Some (behind_writes own rest)) × Shown g way.captures own)
+      ⊎ ((own : Writes) × (rest : Trace) × (k (at (before ++ way.taken)) ≡ Some rest) × (o ≡ Some (after_writes own rest)) × Shown g way.captures own)
 
   pub gave-append : (g : ℕ) (before : List ℕ) (k : Rest) (xs ys : List Way) (o p : Option Trace) → Gave g before k xs o → Gave g before k ys p → Gave g before k (xs ++ ys) (option_or o p)
   gave-append g before k [] ys o p h q = rw h q
@@ -46,18 +46,18 @@ module _ (Shown : ℕ → Captures → Writes → Type 0)
 
   -- a way that something continues is taken
   hit : (g : ℕ) (before : List ℕ) (k : Rest) (way : Way) (ms ys : List Way) (o : Option Trace) (own : Writes) (rest : Trace)
-      → Gave (g + length way.captures) (before ++ way.taken) k ms (Some rest) → Shown g way.captures own → o ≡ Some (behind_writes own rest)
+      → Gave (g + length way.captures) (before ++ way.taken) k ms (Some rest) → Shown g way.captures own → o ≡ Some (after_writes own rest)
       → Gave g before k (map (joined_way way) ms ++ ys) o
   hit g before k way [] ys o own rest p s e = absurd (none-some _ (sym p))
   hit g before k way (m ∷ ms) ys o own rest (inl p) s e =
       inl (ap (λ t. k (at t)) (sym (append_assoc before way.taken m.taken)) ∙ p.0, hit g before k way ms ys o own rest p.1 s e)
   hit g before k way (m ∷ ms) ys o own rest (inr (more, last, there, f, shown)) s e =
-      let same : rest ≡ behind_writes more last = same_Some _ _ f in
+      let same : rest ≡ after_writes more last = same_Some _ _ f in
       inr (
         own ++ more,
         last,
         ap (λ t. k (at t)) (sym (append_assoc before way.taken m.taken)) ∙ there,
-        e ∙ ap (λ (t : Trace). Some (behind_writes own t)) same ∙ ap (λ ws. Some (record { end = last.end; writes = ws })) (sym (append_assoc own more last.writes)),
+        e ∙ ap (λ (t : Trace). Some (after_writes own t)) same ∙ ap (λ ws. Some (record { end = last.end; writes = ws })) (sym (append_assoc own more last.writes)),
         shown-append g way.captures m.captures own more s shown,
       )
 

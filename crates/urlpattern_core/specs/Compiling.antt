@@ -73,7 +73,7 @@ pub record IsComponentOf {E : Type 0} (IsMade : E → (regexp flags : List ℕ) 
   pub has_engine : IsEngineOf IsMade (MayRefuseAsked MayRefuse (is_asked_again syntax (has_regexp parts))) (engine_flags options) (regexp_text options parts) component.regexp
   pub has_names : component.group_name_list ≡ group_names parts
   pub has_matcher : IsMadeOf IsMade (MayRefuseAtFirst MayRefuse) options (engine_flags options) parts component.matcher
-  pub tells_regexps : component.has_regexp_group ≡ has_regexp parts
+  pub regexp_flag : component.has_regexp_group ≡ has_regexp parts
 
 -- The component is compiled from the text: its fields are those of parts that the text means.
 abbrev pub IsCompiledFrom : {E : Type 0} → (IsMade : E → (regexp flags : List ℕ) → Type 0) → (MayRefuse : (regexp flags : List ℕ) → (force_eval : Bool) → Type 0) → RegexSyntax → (text : List ℕ) → OptionsView → Encoding → ComponentView E → Type 0

@@ -47,7 +47,7 @@ abbrev pub PeelsTo : List PartView → (prefix : List ℕ) → List PartView →
 PeelsTo parts prefix middle suffix =
     (front back : Option PartView) × ArePeeled parts front middle back × (prefix ≡ end_text front) × (suffix ≡ end_text back)
 
--- the text of a plain fixed part that goes off the front of the parts, and the parts behind it
+-- the text of a plain fixed part that goes off the front of the parts, and the parts after it
 abbrev pub PeelsFront : List PartView → (prefix : List ℕ) → List PartView → Type 0
 PeelsFront parts prefix rest =
     (front : Option PartView) × (parts ≡ option_to_list front ++ rest) × GoesOff front (BeginsPlain parts) × (prefix ≡ end_text front)

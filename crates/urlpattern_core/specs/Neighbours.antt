@@ -1,4 +1,4 @@
--- The part before or behind another in a list: what a clause sees of it.
+-- The part before or after another in a list: what a clause sees of it.
 use denote.Ref.{Bor}
 use Rattle.std.specs.Prelude.{◌&&◌, Bool, bytes_eq, ℕ, List, not, Option, option_map}
 use Rattle.urlpattern_syntax.specs.declared.parser.Part.{Part}

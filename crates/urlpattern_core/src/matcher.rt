@@ -5,7 +5,7 @@ ghost use Rattle.std.specs.Char.{to_ascii_lowercase};
 ghost use Rattle.std.specs.Str.{chars};
 ghost use Rattle.urlpattern_core.specs.Captured.{captures_view};
 ghost use Rattle.urlpattern_core.specs.Matchers.{BeginsWithFolded, EndsWithFolded, matcher_view};
-ghost use Rattle.urlpattern_laws.specs.Matching.{Answers, AsksEngine, HasMiddle, IsMatched, IsSame, MayBeEmpty, MayWantMemory, PassesFilter};
+ghost use Rattle.urlpattern_laws.specs.Matching.{Answers, AsksEngine, HasMiddle, IsMatched, IsSame, MayBeEmpty, MayRunOutOfMemory, PassesFilter};
 ghost use Rattle.urlpattern_syntax.specs.declared.error.Error.TheVariants as errors;
 ghost use Rattle.urlpattern_syntax.specs.Text.{lacks};
 
@@ -21,7 +21,7 @@ use std::alloc::Global;
 pub struct Matcher<R> {
     /// The text that a matched text begins with.
     pub prefix: String,
-    /// The text that a matched text ends with, behind the prefix and what stands between.
+    /// The text that a matched text ends with, after the prefix and what stands between.
     pub suffix: String,
     /// What stands between prefix and suffix.
     pub inner: InnerMatcher<R>,
@@ -64,7 +64,7 @@ impl<R: RegExp> Matcher<R> {
     ) -> Result<Option<Vec<Option<&'a str>>>, Error>
         ensures answer { IfOk result (λ found. Answers R.answer (matcher_view self.now) (chars input.now) (captures_view found)) }
         ensures memory { IfErr result (λ error. error ≡ errors.OutOfMemory) }
-        ensures asked { IfErr result (λ _. MayWantMemory R.answer (matcher_view self.now) (chars input.now)) }
+        ensures asked { IfErr result (λ _. MayRunOutOfMemory R.answer (matcher_view self.now) (chars input.now)) }
     {
         let Some(middle) = self.middle(input) else {
             return Ok(None);

@@ -18,8 +18,8 @@ use std::alloc::Global;
 
 /// A regular expression of some engine.
 ///
-/// What a type of engines means is told by its ghost members: `syntax_of` is the syntax that it takes, `IsMade` tells
-/// which of its values are made of a text and flags, `MayRefuse` tells of a text, flags and `force_eval` whether they may
+/// What a type of engines means is in its ghost members: `syntax_of` is the syntax that it takes, `IsMade` says
+/// which of its values are made of a text and flags, `MayRefuse` says of a text, flags and `force_eval` whether they may
 /// be refused, `answer` what a value answers to a text, and `text_made_of` the text that a value was made of.
 pub trait RegExp: Sized + Drop {
     ghost syntax_of: { RegexSyntax };
@@ -40,7 +40,7 @@ pub trait RegExp: Sized + Drop {
     ///
     /// With `force_eval` a text is refused at once if the engine does not take it. Without, an engine may put that off.
     ///
-    /// The error tells a text that the engine refuses from want of memory.
+    /// The error says whether the engine refuses the text or memory ran out.
     fn parse(
         alloc: Global,
         pattern: &str,

@@ -146,7 +146,7 @@ module _ (old now : Attempt) (steps left : List Step) (text rest : List ℕ) (le
 
 -- ---- a text that is cut
 
--- the text is cut behind the front, and this holds of the characters that follow
+-- the text is cut after the front, and this holds of the characters that follow
 abbrev pub IsCut : (text front : List ℕ) → (Holds : List ℕ → Type 0) → Type 0
 IsCut text front Holds = (rest : List ℕ) × IsUtf8 rest × (text ≡ front ++ rest) × Holds (chars rest)
 

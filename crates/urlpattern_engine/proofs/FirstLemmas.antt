@@ -7,7 +7,7 @@ use Rattle.urlpattern_engine.specs.Failed.{EndsWith, IsPlace, Whole}
 use Rattle.urlpattern_engine.proofs.FailedLemmas.{ends_drop, ends_same, place_within}
 use Rattle.urlpattern_engine.proofs.FollowLemmas.{chars_end}
 
--- what stands behind a front may be left too
+-- what stands after a front may be left too
 pub rest_place : (whole now : Whole) (steps others : List Step) (text front rest : List ℕ) → now ≡ whole → IsPlace whole steps (chars text) → EndsWith steps others → IsUtf8 front → text ≡ front ++ rest
     → IsPlace now others (chars rest)
 rest_place whole now steps others text front rest same place end u e = place_within whole now steps others (chars text) (chars rest) same place end (chars_end text front rest u e)

@@ -24,12 +24,12 @@ use Rattle.urlpattern_engine.proofs.TokenLemmas.{captured_literal}
 pub apart : (a b : ℕ) (s t : List ℕ) → (a == b) ≡ false → ¬ (a ∷ s ≡ b ∷ t)
 apart a b s t ne e = let same : a ≡ b = cc in eqb-false a b ne same
 
-pub behind_same : (c : ℕ) (s t : List ℕ) → c ∷ s ≡ c ∷ t → s ≡ t
-behind_same c s t e = cc
+pub after_same : (c : ℕ) (s t : List ℕ) → c ∷ s ≡ c ∷ t → s ≡ t
+after_same c s t e = cc
 
 -- ---- characters
 
--- A character stands there as it is, or behind a backslash.
+-- A character stands there as it is, or after a backslash.
 abbrev pub ByItself : (Is : Character → Type 0) → (text : List ℕ) → (c : ℕ) → (rest : List ℕ) → Type 0
 ByItself Is text c rest = Is (Plain c) × (text ≡ c ∷ rest)
 
@@ -112,7 +112,7 @@ run_plain step text rest behind c dot class (inr (own, e, after)) f = apart c 91
 
 -- ---- runs that are repeated
 
--- A group of runs, one after the other, stands behind the bracket that captures them.
+-- A group of runs, one after the other, stands after the bracket that captures them.
 pub record RepeatedRun (step : Step) (text rest : List ℕ) : Type 0 where
   pub end : ℕ
   pub is_greedy : Bool
@@ -185,7 +185,7 @@ captured_kind (Longest run) text rest (items, are, (own, is_greedy, quantifier, 
 captured_kind (Copies copies) text rest (items, are, is, e) = absurd is
 captured_kind (Segments segments) text rest (items, are, is, e) = absurd is
 
--- behind another character than an opening bracket it is a run
+-- after another character than an opening bracket it is a run
 pub captured_run : (step : Step) (text rest : List ℕ) → ((behind : List ℕ) → text ≢ codes "(" ++ behind) → BeginsWithCaptured text step rest → (end : ℕ) × (is_greedy : Bool) × IsRunStep end is_greedy step
 captured_run step text rest other begins = by (captured_kind step text rest begins)
   where
@@ -194,13 +194,13 @@ captured_run step text rest other begins = by (captured_kind step text rest begi
     by (inl run) = run
     by (inr (behind, e, repeated)) = absurd (other behind e)
 
--- and behind that bracket it is repeated
+-- and after that bracket it is repeated
 pub captured_repeated : (step : Step) (text rest : List ℕ) → BeginsWithCaptured (codes "(" ++ text) step rest → RepeatedRun step text rest
 captured_repeated step text rest begins = by (captured_kind step (codes "(" ++ text) rest begins)
   where
     by : ((end : ℕ) × (is_greedy : Bool) × IsRunStep end is_greedy step) ⊎ ((behind : List ℕ) × (codes "(" ++ text ≡ codes "(" ++ behind) × RepeatedRun step behind rest) → RepeatedRun step text rest
     by (inl (end, is_greedy, is)) = absurd (run_plain step (codes "(" ++ text) rest text 40 refl refl (run_begins end is_greedy step (codes "(" ++ text) rest is begins) refl)
-    by (inr (behind, e, repeated)) = subst (λ t. RepeatedRun step t rest) (sym (behind_same 40 text behind e)) repeated
+    by (inr (behind, e, repeated)) = subst (λ t. RepeatedRun step t rest) (sym (after_same 40 text behind e)) repeated
 
 pub captured_unasked : (step : Step) (text rest behind : List ℕ) → BeginsWithCaptured text step rest → ¬ (text ≡ codes "?" ++ behind)
 captured_unasked step text rest behind begins f = by (captured_kind step text rest begins)
@@ -234,9 +234,9 @@ segments_opened end is_greedy text rest (front, (items, are, is, same), e) =
     let step = run_step_is end is_greedy items is in
     let inner : List ℕ = items_text items ++ (codes ")" ++ (codes "(?:" ++ rest)) in
     let spelled : codes "(" ++ text ≡ codes "(" ++ (codes "(?:" ++ inner) = e ∙ ap (λ t. t ++ rest) same ∙ ap (λ t. codes "((?:" ++ t) (append_assoc (items_text items) (codes ")(?:") rest) in
-    (inner, run_step end is_greedy, behind_same 40 text (codes "(?:" ++ inner) spelled, step.0, (items, are, step.1, refl))
+    (inner, run_step end is_greedy, after_same 40 text (codes "(?:" ++ inner) spelled, step.0, (items, are, step.1, refl))
 
--- what stands behind the opening bracket of a token
+-- what stands after the opening bracket of a token
 abbrev pub InBracket : Token → (text rest : List ℕ) → Type 0
 InBracket Open text rest = text ≡ codes "?:" ++ rest
 InBracket (Close times) text rest = ⊥
@@ -258,18 +258,18 @@ atom_in step (dialect.Literal (Plain c)) text rest is of e = let same : 40 ≡ c
 atom_in step (dialect.Literal (Escaped c)) text rest is of e = absurd (apart 40 92 text (c ∷ rest) refl e)
 atom_in step Dot text rest is of e = absurd (apart 40 46 text rest refl e)
 atom_in step (AnyBut character) text rest is of e = absurd (eqb-false 40 91 refl (ap first e))
-atom_in step (Captured items) text rest is of e = (items, is, of, behind_same 40 text _ e ∙ append_assoc (items_text items) (codes ")") rest)
+atom_in step (Captured items) text rest is of e = (items, is, of, after_same 40 text _ e ∙ append_assoc (items_text items) (codes ")") rest)
 atom_in step (Grouped items) text rest is of e = absurd (no_step_of_group step items of)
 
 pub bracket_in : (token : Token) (text rest : List ℕ) → BeginsWithToken (codes "(" ++ text) token rest → InBracket token text rest
-bracket_in Open text rest (front, is, e) = behind_same 40 text (codes "?:" ++ rest) (e ∙ ap (λ t. t ++ rest) is)
+bracket_in Open text rest (front, is, e) = after_same 40 text (codes "?:" ++ rest) (e ∙ ap (λ t. t ++ rest) is)
 bracket_in (Close times) text rest (front, is, e) = apart 40 41 text (times_text times ++ rest) refl (e ∙ ap (λ t. t ++ rest) is)
 bracket_in (One step) text rest (front, (atom, is, of, f), e) = atom_in step atom text rest is of (e ∙ ap (λ t. t ++ rest) f)
 bracket_in (MaybeStep step) text rest (front, (own, one, (atom, is, of, f), g), e) =
     atom_in step atom text (codes "?" ++ rest) is of (e ∙ ap (λ t. t ++ rest) (g ∙ ap (λ t. t ++ codes "?") f) ∙ append_assoc (atom_text atom) (codes "?") rest)
 bracket_in (FirstSegment end is_greedy) text rest begins = begins
 
--- what holds of a token behind an opening bracket, by what it may be
+-- what holds of a token after an opening bracket, by what it may be
 pub by_bracket : (P : Token → List ℕ → Type 0) (text : List ℕ) → ((rest : List ℕ) → text ≡ codes "?:" ++ rest → P Open rest)
     → ((step : Step) (rest : List ℕ) → BeginsWithCaptured text step (codes ")" ++ rest) → P (One step) rest)
     → ((step : Step) (rest : List ℕ) → BeginsWithCaptured text step (codes ")" ++ (codes "?" ++ rest)) → P (MaybeStep step) rest)
@@ -383,7 +383,7 @@ times_apart often.Optional rest behind more e = apart 63 40 rest behind refl e
 times_apart often.ZeroOrMore rest behind more e = apart 42 40 rest behind refl e
 times_apart often.OneOrMore rest behind more e = apart 43 40 rest behind refl e
 
--- behind runs that are repeated no group opens
+-- after runs that are repeated no group opens
 pub repeated_no_segments : (step : Step) (text rest inner : List ℕ) (single : Step) (behind remaining left : List ℕ) → BeginsWithCaptured text step rest → text ≡ codes "(?:" ++ inner
     → ReadsRun inner single behind → behind ≡ codes ")" ++ remaining → remaining ≡ codes "(?:" ++ left → ⊥
 repeated_no_segments step text rest inner single behind remaining left begins e reads f g =

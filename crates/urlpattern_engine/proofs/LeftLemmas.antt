@@ -36,7 +36,7 @@ MayBeTaken often.OneOrMore own = AreLiterals own
 abbrev pub IsLeftOutside : (rest : List ℕ) → Type 0
 IsLeftOutside rest = (tree : Items) × AreItems tree × AreReadable tree × (rest ≡ items_text tree ++ codes "$")
 
--- the rest of a group, its closing bracket, and what is left behind it
+-- the rest of a group, its closing bracket, and what is left after it
 pub record IsLeftInside (rest : List ℕ) (own : List Step) : Type 0 where
   pub inner : Items
   pub times : Times
@@ -52,7 +52,7 @@ abbrev pub IsLeft : (opened : Option ℕ) → (rest : List ℕ) → List Step �
 IsLeft None rest done = IsLeftOutside rest
 IsLeft (Some first) rest done = IsLeftInside rest (drop first done)
 
--- how it goes on behind a token
+-- how it goes on after a token
 abbrev pub GoesOn : Token → (opened : Option ℕ) → (rest : List ℕ) → List Step → Type 0
 GoesOn (One step) opened rest done = IsLeft opened rest (done ++ step ∷ [])
 GoesOn (MaybeStep step) opened rest done = (own : List Step) → IsLeft opened rest (done ++ own)
@@ -322,7 +322,7 @@ ended opened rest done left none = by (comes opened rest done left)
     by (inl end) = end
     by (inr next) = absurd (none next.token next.remaining next.begins next.unquantified)
 
--- a generated expression is left behind its first character
+-- a generated expression is left after its first character
 pub left_first : (regexp : List ℕ) → IsGenerated regexp → (rest : List ℕ) × (regexp ≡ codes "^" ++ rest) × IsLeftOutside rest
 left_first regexp (options, parts, plain, e) = (
   items_text (tree_of options parts) ++ codes "$",
@@ -330,8 +330,8 @@ left_first regexp (options, parts, plain, e) = (
   (tree_of options parts, tree_allowed options parts plain, tree_readable options parts plain, refl),
 )
 
-pub left_behind : (regexp rest : List ℕ) → regexp ≡ codes "^" ++ rest → IsGenerated regexp → IsLeft None rest []
-left_behind regexp rest e generated =
+pub left_after : (regexp rest : List ℕ) → regexp ≡ codes "^" ++ rest → IsGenerated regexp → IsLeft None rest []
+left_after regexp rest e generated =
     let left = left_first regexp generated in
     let f = left.1 in
     let same : left.0 ≡ rest = cc in

@@ -64,7 +64,7 @@ tried-joined next way (x ∷ xs) =
     (tried-joined next way xs)
     ∙ sym (option_map-or (λ others. way.captures ++ others) (before_next next x) (tried (before_next next) xs))
 
--- the ways of what follows are tried behind each way
+-- the ways of what follows are tried after each way
 pub tried-behind : (next : Next) (choice : Choice) (xs : List Way)
     → tried (before_next next) (continued choice xs) ≡ tried (before_next (λ rest. tried (before_next next) (choice rest))) xs
 tried-behind next choice xs =

@@ -8,7 +8,7 @@ use Rattle.std.specs.Str.{chars, IsUtf8}
 use Rattle.std.specs.declared.alloc.Global.{Global}
 use Rattle.url.specs.Parts.{Parts, cannot_be_a_base}
 use Rattle.urlpattern_canonical.proofs.CanonicalLemmas.{answers-more, dummy_is_parsed, memory_alone}
-use Rattle.urlpattern_canonical.specs.Canonical.{IsAnswer, Tells, bytes_asked, dummy_url, processed_base, processed_pathname}
+use Rattle.urlpattern_canonical.specs.Canonical.{IsAnswer, Reports, bytes_asked, dummy_url, processed_base, processed_pathname}
 use Rattle.std.proofs.lemmas.List.Elements.{All-head, All-tail}
 use Rattle.urlpattern_syntax.proofs.EightLemmas.{at-each, by_name, same_values}
 use Rattle.urlpattern_syntax.proofs.StringTexts.{text-nil}
@@ -133,7 +133,7 @@ kept first values =
     by_name (λ name. name ≢ Protocol → at (record values { protocol = first }) name ≡ at values name)
     (λ other. absurd (other refl)) (λ _. refl) (λ _. refl) (λ _. refl) (λ _. refl) (λ _. refl) (λ _. refl) (λ _. refl)
 
--- what is known of the components behind the protocol is known of all
+-- what is known of the components after the protocol is known of all
 module _ (mode : ProcessType) (values : Values) (base : Option Parts) (protocol : Option (List ℕ)) (e : processed_value mode values base None Protocol ≡ Ok protocol) where
   pub or_protocol : (P : ComponentName → Type 0) → P Protocol → ((name : ComponentName) → name ≢ Protocol → P name) → (name : ComponentName) → P name
   or_protocol P first others =
@@ -255,20 +255,20 @@ pattern-processed values base =
           (λ name. (found name).1 ∙ ap Ok (sym (at-each (λ other. (found other).0) name))),
     )
 
-never-told : (asked : Parsed Values) (found : Values) (view : ErrorView) → asked ≡ Ok found → ¬ Tells asked 0 view
-never-told asked found (views.Url reason) is refused =
+never-reported : (asked : Parsed Values) (found : Values) (view : ErrorView) → asked ≡ Ok found → ¬ Reports asked 0 view
+never-reported asked found (views.Url reason) is refused =
     elim refused.1 [ inl same ↦ absurd cc | inr long ↦ absurd (omega (arith, long.1)) ]
-never-told asked found view is refused = absurd refused
+never-reported asked found view is refused = absurd refused
 
--- so an error is want of memory
+-- so an error means that memory ran out
 pub pattern-memory : (values : Values) (base : Option Parts) (error : Error)
-    → MemoryOr (Tells (processed_values Pattern values base) (asked_bytes Pattern values base)) error → error ≡ errors.OutOfMemory
+    → MemoryOr (Reports (processed_values Pattern values base) (asked_bytes Pattern values base)) error → error ≡ errors.OutOfMemory
 unfolding asked_bytes
-pattern-memory values base error told =
+pattern-memory values base error reported =
     let found = pattern-processed values base in
-    elim told [
+    elim reported [
       | inl memory ↦ memory_alone dummy_url dummy_is_parsed.0 0 (Err error) dummy_is_parsed.1 (omega arith) (inl memory)
-      | inr refused ↦ absurd (never-told (processed_values Pattern values base) found.0 (error_view error) found.1 refused)
+      | inr refused ↦ absurd (never-reported (processed_values Pattern values base) found.0 (error_view error) found.1 refused)
     ]
 
 -- ---- what is put before a pathname

@@ -6,7 +6,7 @@ use Rattle.std.proofs.lemmas.List.Sums.{fold-append, sum_by-append}
 use Rattle.std.proofs.lemmas.Option.{get_or_from_slice_get, slice_get_within}
 use Rattle.std.specs.List.{count_by, fold, range_with_len, sum_by}
 use Rattle.std.specs.Prelude.{codes, IsTrue, slice_get, slice_range}
-use Rattle.urlpattern_init.specs.Split.{EndsAt, at, count_seen, depth_before, depth_behind, is_balanced, is_end, is_ending, is_open, is_seen, is_sign, may_end}
+use Rattle.urlpattern_init.specs.Split.{EndsAt, at, count_seen, depth_before, depth_after, is_balanced, is_end, is_ending, is_open, is_seen, is_sign, may_end}
 use Rattle.urlpattern_init.specs.Splitting.{is_hostname}
 use Rattle.urlpattern_init.specs.declared.constructor_parser.sections.Section.{Section}
 use Rattle.urlpattern_init.specs.declared.constructor_parser.sections.Section.TheVariants.{Protocol, Authority, Username, Password, Hostname, Port, Pathname, Search, Hash}
@@ -24,11 +24,11 @@ depth_here tokens from depth =
     rw none refl
 
 -- one token further on
-pub depth_more : (tokens : List TokenView) (from depth i : ℕ) (token : TokenView) → from ≤ i → slice_get tokens i ≡ Some token → depth_before tokens from depth (i + 1) ≡ depth_behind token.kind (depth_before tokens from depth i)
-depth_more tokens from depth i token behind is =
-    ap (fold (λ (reached : ℕ) (t : TokenView). depth_behind t.kind reached) depth) (between_more tokens from i token behind (slice_get_within tokens i token is))
-    ∙ fold-append (λ (reached : ℕ) (t : TokenView). depth_behind t.kind reached) depth (slice_range tokens from i) (get_or tokens i token ∷ [])
-    ∙ ap (λ (t : TokenView). depth_behind t.kind (depth_before tokens from depth i)) (get_or_from_slice_get tokens i token token is)
+pub depth_more : (tokens : List TokenView) (from depth i : ℕ) (token : TokenView) → from ≤ i → slice_get tokens i ≡ Some token → depth_before tokens from depth (i + 1) ≡ depth_after token.kind (depth_before tokens from depth i)
+depth_more tokens from depth i token after is =
+    ap (fold (λ (reached : ℕ) (t : TokenView). depth_after t.kind reached) depth) (between_more tokens from i token after (slice_get_within tokens i token is))
+    ∙ fold-append (λ (reached : ℕ) (t : TokenView). depth_after t.kind reached) depth (slice_range tokens from i) (get_or tokens i token ∷ [])
+    ∙ ap (λ (t : TokenView). depth_after t.kind (depth_before tokens from depth i)) (get_or_from_slice_get tokens i token token is)
 
 -- ---- seen
 
@@ -51,7 +51,7 @@ count_by_one p xs x = sum_by-append (λ (y : ℕ). cond (p y) 1 0) xs (x ∷ [])
 
 -- one token further on
 pub count_more : (mark : List ℕ) (tokens : List TokenView) (from depth i : ℕ) → from ≤ i → count_seen mark tokens from depth (i + 1) ≡ count_seen mark tokens from depth i + cond (is_seen tokens from depth i && at (is_sign mark) tokens i) 1 0
-count_more mark tokens from depth i behind =
+count_more mark tokens from depth i after =
     let e : (i + 1) - from ≡ suc (i - from) = omega arith in
     let f : from + (i - from) ≡ i = omega arith in
     let p : ℕ → Bool = λ other. is_seen tokens from depth other && at (is_sign mark) tokens other in
@@ -69,7 +69,7 @@ count_here mark tokens from depth =
 
 -- the walk has come to a place, and the section has not ended before it
 pub record IsOnTheWay (section : Section) (tokens : List TokenView) (from depth index reached opened closed : ℕ) : Type 0 where
-  pub behind : from ≤ index
+  pub after : from ≤ index
   pub depth_is : reached ≡ depth_before tokens from depth index
   pub none : (other : ℕ) → from ≤ other → other < index → ¬ IsTrue (may_end section tokens from depth other)
   pub opened_is : IsTrue (is_hostname section) → opened ≡ count_seen (codes "[") tokens from depth index
@@ -78,9 +78,9 @@ pub record IsOnTheWay (section : Section) (tokens : List TokenView) (from depth 
 -- the walk begins
 pub way_begins : (section : Section) (tokens : List TokenView) (from depth : ℕ) → IsOnTheWay section tokens from depth from depth 0 0
 way_begins section tokens from depth = record {
-  behind = omega arith;
+  after = omega arith;
   depth_is = sym (depth_here tokens from depth);
-  none = λ other behind before. absurd (omega arith);
+  none = λ other after before. absurd (omega arith);
   opened_is = λ h. sym (count_here (codes "[") tokens from depth);
   closed_is = λ h. sym (count_here (codes "]") tokens from depth);
 }
@@ -113,7 +113,7 @@ walk_sees tokens from depth index reached token is goes depth_is =
 -- it ends at End
 pub way_ends : (section : Section) (tokens : List TokenView) (from depth index reached opened closed : ℕ) (token : TokenView) → IsOnTheWay section tokens from depth index reached opened closed → slice_get tokens index ≡ Some token → is_end token.kind ≡ true → EndsAt section tokens from depth index
 way_ends section tokens from depth index reached opened closed token way is end = record {
-  behind = way.behind;
+  after = way.after;
   within = slice_get_within tokens index token is;
   stops = or_right _ _ (at_view (λ t. is_end t.kind) tokens index token is ∙ end);
   least = way.none;
@@ -122,18 +122,18 @@ way_ends section tokens from depth index reached opened closed token way is end 
 -- it ends at a sign that is seen
 pub way_stops : (section : Section) (tokens : List TokenView) (from depth index reached opened closed : ℕ) (token : TokenView) → IsOnTheWay section tokens from depth index reached opened closed → slice_get tokens index ≡ Some token → is_end token.kind ≡ false → (not (is_open token.kind) && reached == 0) ≡ true → is_ending section (opened == closed) tokens index ≡ true → EndsAt section tokens from depth index
 way_stops section tokens from depth index reached opened closed token way is goes seen ending = record {
-  behind = way.behind;
+  after = way.after;
   within = slice_get_within tokens index token is;
   stops = or_left _ _ (and_from _ _ (walk_sees tokens from depth index reached token is goes way.depth_is ∙ seen) (sym (ending_of section tokens from depth index reached opened closed way) ∙ ending));
   least = way.none;
 }
 
--- it goes on behind a token
-pub way_goes : (section : Section) (tokens : List TokenView) (from depth index reached opened closed reached' opened' closed' : ℕ) (token : TokenView) → IsOnTheWay section tokens from depth index reached opened closed → slice_get tokens index ≡ Some token → is_end token.kind ≡ false → ((not (is_open token.kind) && reached == 0) && is_ending section (opened == closed) tokens index) ≡ false → reached' ≡ depth_behind token.kind reached → opened' ≡ opened + cond (is_hostname section && (not (is_open token.kind) && reached == 0) && at (is_sign (codes "[")) tokens index) 1 0 → closed' ≡ closed + cond (is_hostname section && (not (is_open token.kind) && reached == 0) && at (is_sign (codes "]")) tokens index) 1 0 → IsOnTheWay section tokens from depth (index + 1) reached' opened' closed'
+-- it goes on after a token
+pub way_goes : (section : Section) (tokens : List TokenView) (from depth index reached opened closed reached' opened' closed' : ℕ) (token : TokenView) → IsOnTheWay section tokens from depth index reached opened closed → slice_get tokens index ≡ Some token → is_end token.kind ≡ false → ((not (is_open token.kind) && reached == 0) && is_ending section (opened == closed) tokens index) ≡ false → reached' ≡ depth_after token.kind reached → opened' ≡ opened + cond (is_hostname section && (not (is_open token.kind) && reached == 0) && at (is_sign (codes "[")) tokens index) 1 0 → closed' ≡ closed + cond (is_hostname section && (not (is_open token.kind) && reached == 0) && at (is_sign (codes "]")) tokens index) 1 0 → IsOnTheWay section tokens from depth (index + 1) reached' opened' closed'
 way_goes section tokens from depth index reached opened closed reached' opened' closed' token way is goes passes depth_more_is opened_more closed_more = record {
-  behind = let h = way.behind in omega arith;
-  depth_is = depth_more_is ∙ ap (depth_behind token.kind) way.depth_is ∙ sym (depth_more tokens from depth index token way.behind is);
-  none = λ other behind before. none_yet other behind (cases_eq other index) before;
+  after = let h = way.after in omega arith;
+  depth_is = depth_more_is ∙ ap (depth_after token.kind) way.depth_is ∙ sym (depth_more tokens from depth index token way.after is);
+  none = λ other after before. none_yet other after (cases_eq other index) before;
   opened_is = λ h. opened_more ∙ counted (codes "[") opened h (way.opened_is h);
   closed_is = λ h. closed_more ∙ counted (codes "]") closed h (way.closed_is h);
 }
@@ -148,21 +148,21 @@ way_goes section tokens from depth index reached opened closed reached' opened' 
         ∙ passes
 
     none_yet : (other : ℕ) → from ≤ other → (other ≡ index) ⊎ (other ≡ index → ⊥) → other < index + 1 → ¬ IsTrue (may_end section tokens from depth other)
-    none_yet other behind (inl e) before h = both_ways _ (ap (may_end section tokens from depth) e ∙ not_here) h
-    none_yet other behind (inr ne) before h = way.none other behind (omega arith) h
+    none_yet other after (inl e) before h = both_ways _ (ap (may_end section tokens from depth) e ∙ not_here) h
+    none_yet other after (inr ne) before h = way.none other after (omega arith) h
 
     counted : (mark : List ℕ) (n : ℕ) → IsTrue (is_hostname section) → n ≡ count_seen mark tokens from depth index → n + cond (is_hostname section && (not (is_open token.kind) && reached == 0) && at (is_sign mark) tokens index) 1 0 ≡ count_seen mark tokens from depth (index + 1)
     counted mark n hostname so_far =
         ap (λ b. n + cond (b && (not (is_open token.kind) && reached == 0) && at (is_sign mark) tokens index) 1 0) hostname
         ∙ ap (λ b. n + cond (b && at (is_sign mark) tokens index) 1 0) (sym sees)
         ∙ ap (λ m. m + cond (is_seen tokens from depth index && at (is_sign mark) tokens index) 1 0) so_far
-        ∙ sym (count_more mark tokens from depth index way.behind)
+        ∙ sym (count_more mark tokens from depth index way.after)
 
--- the depth behind a token is one more at most
-pub depth_behind-bound : (kind : TokenType) (depth : ℕ) → depth_behind kind depth ≤ depth + 1
-depth_behind-bound Open depth = omega arith
-depth_behind-bound Close depth = omega arith
-depth_behind-bound kind depth = omega arith
+-- the depth after a token is one more at most
+pub depth_after-bound : (kind : TokenType) (depth : ℕ) → depth_after kind depth ≤ depth + 1
+depth_after-bound Open depth = omega arith
+depth_after-bound Close depth = omega arith
+depth_after-bound kind depth = omega arith
 
 pub cond-bound : (b : Bool) → cond b 1 0 ≤ 1
 cond-bound true = omega arith

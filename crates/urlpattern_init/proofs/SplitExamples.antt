@@ -28,21 +28,21 @@ may_not section tokens from depth place zero = true
 may_not section tokens from depth place (suc count) = not (may_end section tokens from depth place) && may_not section tokens from depth (place + 1) count
 
 nowhere : (section : Section) (tokens : List TokenView) (from depth place count : ℕ) → may_not section tokens from depth place count ≡ true → (other : ℕ) → place ≤ other → other < place + count → ¬ IsTrue (may_end section tokens from depth other)
-nowhere section tokens from depth place zero h other behind before may = absurd (omega arith)
-nowhere section tokens from depth place (suc count) h other behind before may =
+nowhere section tokens from depth place zero h other after before may = absurd (omega arith)
+nowhere section tokens from depth place (suc count) h other after before may =
     let parts = and_parts (not (may_end section tokens from depth place)) (may_not section tokens from depth (place + 1) count) h in
     elim (cases_eq other place) [
       | inl same ↦ absurd (both_ways (may_end section tokens from depth place) (not-true (may_end section tokens from depth place) parts.0) (ap (may_end section tokens from depth) (sym same) ∙ may))
       | inr differ ↦ nowhere section tokens from depth (place + 1) count parts.1 other (omega arith) (omega arith) may
     ]
 
--- a section ends so many tokens behind its beginning
+-- a section ends so many tokens after its beginning
 ends : (section : Section) (tokens : List TokenView) (from depth count place : ℕ) → place ≡ from + count → place < length tokens → IsTrue (may_end section tokens from depth place || ends_at tokens place) → may_not section tokens from depth from count ≡ true → EndsAt section tokens from depth place
 ends section tokens from depth count place e within stops none = record {
-  behind = omega arith;
+  after = omega arith;
   within = within;
   stops = stops;
-  least = λ other behind before. nowhere section tokens from depth from count none other behind (omega arith);
+  least = λ other after before. nowhere section tokens from depth from count none other after (omega arith);
 }
 
 -- a text between two tokens
@@ -68,7 +68,7 @@ closing_bracket = record {
   is_colon_there = refl;
   protocol_ends = ends Protocol bracket_tokens 0 0 5 5 refl (lit< tt) refl refl;
   protocol = between bracket_tokens 0 5 [] (codes "https") (codes "://a]") refl refl refl refl;
-  behind = inl (
+  after = inl (
     refl,
     (
       10,
@@ -93,7 +93,7 @@ closing_bracket = record {
 abbrev special_tokens : List TokenView
 special_tokens = letters 0 (codes "https") ++ one InvalidChar 5 (codes ":") ++ letters 6 (codes "1/") ++ one End 8 []
 
--- behind a special protocol stands an authority without slashes
+-- after a special protocol stands an authority without slashes
 pub special_without_slashes : IsAbsoluteSplit (codes "https:1/") special_tokens true 5
     (record { protocol = Some (codes "https"); username = None; password = None; hostname = Some (codes "1"); port = Some []; pathname = Some (codes "/"); search = None; hash = None })
 unfolding byte_len encode_utf8
@@ -101,7 +101,7 @@ special_without_slashes = record {
   is_colon_there = refl;
   protocol_ends = ends Protocol special_tokens 0 0 5 5 refl (lit< tt) refl refl;
   protocol = between special_tokens 0 5 [] (codes "https") (codes ":1/") refl refl refl refl;
-  behind = inr (inl (
+  after = inr (inl (
     refl,
     (
       7,
@@ -138,7 +138,7 @@ special_without_slashes = record {
 abbrev opaque_tokens : List TokenView
 opaque_tokens = letters 0 (codes "data") ++ one InvalidChar 4 (codes ":") ++ letters 5 (codes "1") ++ one OtherModifier 6 (codes "?") ++ letters 7 (codes "b") ++ one End 8 []
 
--- behind any other protocol stands a pathname, with an empty hostname and an empty port
+-- after any other protocol stands a pathname, with an empty hostname and an empty port
 pub opaque_pathname : IsAbsoluteSplit (codes "data:1?b") opaque_tokens false 4
     (record { protocol = Some (codes "data"); username = None; password = None; hostname = Some []; port = Some []; pathname = Some (codes "1"); search = Some (codes "b"); hash = None })
 unfolding byte_len encode_utf8
@@ -146,7 +146,7 @@ opaque_pathname = record {
   is_colon_there = refl;
   protocol_ends = ends Protocol opaque_tokens 0 0 4 4 refl (lit< tt) refl refl;
   protocol = between opaque_tokens 0 4 [] (codes "data") (codes ":1?b") refl refl refl refl;
-  behind = inr (inr (
+  after = inr (inr (
     refl,
     refl,
     refl,
@@ -210,7 +210,7 @@ all_components = record {
   is_colon_there = refl;
   protocol_ends = ends Protocol whole_tokens 0 0 5 5 refl (lit< tt) refl refl;
   protocol = between whole_tokens 0 5 [] (codes "https") (codes "://user\\:pw@example.com:8080/a?b#c") refl refl refl refl;
-  behind = inl (
+  after = inl (
     refl,
     (
       15,

@@ -60,17 +60,17 @@ module _ (text : List ℕ) (tokens : List TokenView) (are_tokens : AreLenientTok
   NoneBefore section from depth place = (other : ℕ) → from ≤ other → other < place → ¬ IsTrue (may_end section tokens from depth other)
 
   one_more : (section : Section) (from depth place : ℕ) → NoneBefore section from depth place → may_end section tokens from depth place ≡ false → NoneBefore section from depth (place + 1)
-  one_more section from depth place none passes other behind before may = elim (cases_eq other place) [
+  one_more section from depth place none passes other after before may = elim (cases_eq other place) [
     | inl same ↦ both_ways (may_end section tokens from depth place) passes (ap (may_end section tokens from depth) (sym same) ∙ may)
-    | inr differ ↦ none other behind (omega arith) may
+    | inr differ ↦ none other after (omega arith) may
   ]
 
   ends_here : (section : Section) (from depth place : ℕ) → from ≤ place → place < length tokens → NoneBefore section from depth place →
       (place + 1 < length tokens → NoneBefore section from depth (place + 1) → Ends section from depth) → Ends section from depth
-  ends_here section from depth place behind within none more = by_sign (may_end section tokens from depth place) refl
+  ends_here section from depth place after within none more = by_sign (may_end section tokens from depth place) refl
     where
       stops_here : IsTrue (may_end section tokens from depth place || ends_at tokens place) → Ends section from depth
-      stops_here stops = (place, record { behind = behind; within = within; stops = stops; least = none })
+      stops_here stops = (place, record { after = after; within = within; stops = stops; least = none })
 
       by_end : (b : Bool) → ends_at tokens place ≡ b → may_end section tokens from depth place ≡ false → Ends section from depth
       by_end true e passes = stops_here (or_right (may_end section tokens from depth place) (ends_at tokens place) e)
@@ -81,19 +81,19 @@ module _ (text : List ℕ) (tokens : List TokenView) (are_tokens : AreLenientTok
       by_sign false e = by_end (ends_at tokens place) refl e
 
   ends_within : (n : ℕ) (section : Section) (from depth place : ℕ) → from ≤ place → place < length tokens → length tokens < place + n → NoneBefore section from depth place → Ends section from depth
-  ends_within zero section from depth place behind within few none = absurd (omega arith)
-  ends_within (suc n) section from depth place behind within few none =
-      ends_here section from depth place behind within none
+  ends_within zero section from depth place after within few none = absurd (omega arith)
+  ends_within (suc n) section from depth place after within few none =
+      ends_here section from depth place after within none
       (λ next more. ends_within n section from depth (place + 1) (omega arith) next (omega arith) more)
 
   -- a section ends
   ends_some : (section : Section) (from depth : ℕ) → from < length tokens → Ends section from depth
   ends_some section from depth within =
-      ends_within (suc (length tokens)) section from depth from (omega arith) within (omega arith) (λ other behind before may. omega arith)
+      ends_within (suc (length tokens)) section from depth from (omega arith) within (omega arith) (λ other after before may. omega arith)
 
   -- there is a text up to where it ends
   takes_some : (section : Section) (from depth : ℕ) (ends : Ends section from depth) → (taken : Option (List ℕ)) × Takes text tokens from ends.0 taken
-  takes_some section from depth ends = let b = text_between text tokens from ends.0 are_tokens ends.1.behind ends.1.within in (Some b.0, b.1)
+  takes_some section from depth ends = let b = text_between text tokens from ends.0 are_tokens ends.1.after ends.1.within in (Some b.0, b.1)
 
   -- ---- from the hash to the front
 
@@ -215,7 +215,7 @@ module _ (text : List ℕ) (tokens : List TokenView) (are_tokens : AreLenientTok
 
   userinfo_from : (from until : ℕ) → EndsAt Authority tokens from 0 until → IsTrue (is_at_sign tokens until) → UserinfoFor (UserinfoFrom text tokens from until)
   userinfo_from from until authority sign =
-      let order = authority.behind in
+      let order = authority.after in
       let inside = authority.within in
       let ends = ends_some Username from 0 (omega arith) in
       let t = takes_some Username from 0 ends in
@@ -227,7 +227,7 @@ module _ (text : List ℕ) (tokens : List TokenView) (are_tokens : AreLenientTok
         | inr ge ↦ (t.0, None, λ c. (ends.0, ends.1, t.1, inl (omega arith, refl)))
       ]
 
-  -- components behind the protocol
+  -- components after the protocol
   abbrev AuthorityFor : (Is : Values → Type 0) → Type 0
   AuthorityFor Is = (c : Values) × ((protocol : Option (List ℕ)) → Is (record c { protocol = protocol }))
 
@@ -319,7 +319,7 @@ module _ (text : List ℕ) (tokens : List TokenView) (are_tokens : AreLenientTok
               is_colon_there = sign;
               protocol_ends = ends;
               protocol = t.1;
-              behind = inr (inl (and_from (not (has_slashes tokens colon)) special (ap not no_slashes) is_special, a.1 t.0));
+              after = inr (inl (and_from (not (has_slashes tokens colon)) special (ap not no_slashes) is_special, a.1 t.0));
             },
           )
       by_special false not_special no_slashes =
@@ -330,7 +330,7 @@ module _ (text : List ℕ) (tokens : List TokenView) (are_tokens : AreLenientTok
               is_colon_there = sign;
               protocol_ends = ends;
               protocol = t.1;
-              behind = inr (inr (and_from (not (has_slashes tokens colon)) (not special) (ap not no_slashes) (ap not not_special), refl, refl, refl, refl, p.3 c));
+              after = inr (inr (and_from (not (has_slashes tokens colon)) (not special) (ap not no_slashes) (ap not not_special), refl, refl, refl, refl, p.3 c));
             },
           )
 
@@ -340,7 +340,7 @@ module _ (text : List ℕ) (tokens : List TokenView) (are_tokens : AreLenientTok
           let more = sign_goes_on (codes "/") tokens (colon + 2) closed second in
           let a = authority_from special (colon + 3) (omega arith) in (
             record a.0 { protocol = t.0 },
-            record { is_colon_there = sign; protocol_ends = ends; protocol = t.1; behind = inl (slashes, a.1 t.0) },
+            record { is_colon_there = sign; protocol_ends = ends; protocol = t.1; after = inl (slashes, a.1 t.0) },
           )
       by_slashes false other = by_special special refl other
 

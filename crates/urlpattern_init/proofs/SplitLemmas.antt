@@ -1,4 +1,4 @@
--- Lemmas on the places of a split: what a sign tells, what is seen behind it, and that a section ends at one place.
+-- Lemmas on the places of a split: what a sign tells, what is seen after it, and that a section ends at one place.
 use Rattle.std.proofs.Common.{◌≡◌, ℕ, zero, suc, ◌+◌, ◌-◌, ◌<◌, ◌≤◌, ◌⊎◌, Bool, true, false, not, ◌&&◌, ◌||◌, ◌==◌, Option, Some, None, List, [], ◌∷◌, ◌++◌, length, take, drop, refl, sym, ap, ◌∙◌, inl, inr, arith}
 use Rattle.std.proofs.lemmas.Bool.{and_parts, and_from, both_ways, cases_Bool, cases_eq, cases_lt, eqb-true, false≢true, or_cases, or_right}
 use Rattle.std.proofs.lemmas.List.{drop-drop}
@@ -7,7 +7,7 @@ use Rattle.std.proofs.lemmas.Slice.Eq.{bytes_eq-Decides}
 use Rattle.std.specs.List.{fold}
 use Rattle.std.specs.Prelude.{codes, IsSomeAnd, IsTrue, is_some, option_map, slice_get, slice_range}
 use Rattle.std.specs.Str.{bytes_eq}
-use Rattle.urlpattern_init.specs.Split.{EndsAt, IsSplit, LacksProtocol, at, depth_before, depth_behind, ends_at, is_at_sign, is_balanced, is_character, is_colon_sign, is_end, is_ending, is_hash_sign, is_open, is_search_sign, is_seen, is_sign, is_slash_sign, may_end}
+use Rattle.urlpattern_init.specs.Split.{EndsAt, IsSplit, LacksProtocol, at, depth_before, depth_after, ends_at, is_at_sign, is_balanced, is_character, is_colon_sign, is_end, is_ending, is_hash_sign, is_open, is_search_sign, is_seen, is_sign, is_slash_sign, may_end}
 use Rattle.urlpattern_init.specs.Splitting.{IsClosed, may_follow_port}
 use Rattle.urlpattern_init.specs.declared.constructor_parser.sections.Section.{Section}
 use Rattle.urlpattern_init.specs.declared.constructor_parser.sections.Section.TheVariants.{Authority, Password, Port, Protocol, Username}
@@ -28,7 +28,7 @@ found_at test (token ∷ tokens) (suc i) h =
     let found = found_at test tokens i h in
     (found.0, found.1, found.2, let within = found.3 in omega arith)
 
-character_depth : (kind : TokenType) (depth : ℕ) → is_character kind ≡ true → depth_behind kind depth ≡ depth
+character_depth : (kind : TokenType) (depth : ℕ) → is_character kind ≡ true → depth_after kind depth ≡ depth
 character_depth Char depth h = refl
 character_depth EscapedChar depth h = refl
 character_depth InvalidChar depth h = refl
@@ -73,12 +73,12 @@ range_joined tokens from between place le more =
 -- the depth is counted on from a place between
 pub depth_joined : (tokens : List TokenView) (from depth between place : ℕ) → from ≤ between → between ≤ place → depth_before tokens from depth place ≡ depth_before tokens between (depth_before tokens from depth between) place
 depth_joined tokens from depth between place le more =
-    ap (fold (λ (reached : ℕ) (t : TokenView). depth_behind t.kind reached) depth) (range_joined tokens from between place le more)
-    ∙ fold-append (λ (reached : ℕ) (t : TokenView). depth_behind t.kind reached) depth (slice_range tokens from between) (slice_range tokens between place)
+    ap (fold (λ (reached : ℕ) (t : TokenView). depth_after t.kind reached) depth) (range_joined tokens from between place le more)
+    ∙ fold-append (λ (reached : ℕ) (t : TokenView). depth_after t.kind reached) depth (slice_range tokens from between) (slice_range tokens between place)
 
--- behind a sign the depth is that before it
-pub depth_behind_sign : (mark : List ℕ) (tokens : List TokenView) (from depth place : ℕ) → from < place → IsTrue (at (is_sign mark) tokens from) → depth_before tokens from depth place ≡ depth_before tokens (from + 1) depth place
-depth_behind_sign mark tokens from depth place less h =
+-- after a sign the depth is that before it
+pub depth_after_sign : (mark : List ℕ) (tokens : List TokenView) (from depth place : ℕ) → from < place → IsTrue (at (is_sign mark) tokens from) → depth_before tokens from depth place ≡ depth_before tokens (from + 1) depth place
+depth_after_sign mark tokens from depth place less h =
     let found = found_at (is_sign mark) tokens from h in
     let character : is_character found.0.kind ≡ true = (and_parts (is_character found.0.kind) (bytes_eq found.0.value mark) found.2).0 in
     let le : from ≤ from + 1 = omega arith in
@@ -86,7 +86,7 @@ depth_behind_sign mark tokens from depth place less h =
     depth_joined tokens from depth (from + 1) place le more
     ∙ ap (λ d. depth_before tokens (from + 1) d place)
     (depth_more tokens from depth from found.0 (omega arith) found.1
-    ∙ ap (depth_behind found.0.kind) (depth_here tokens from depth)
+    ∙ ap (depth_after found.0.kind) (depth_here tokens from depth)
     ∙ character_depth found.0.kind depth character)
 
 -- where one is seen whose depth is the same, the other is
@@ -120,7 +120,7 @@ depth_at_end section tokens from depth place ends goes =
       | inr end ↦ absurd (goes end)
     ]
 
--- a slash that is seen behind the end of a section is seen from the beginning of the section
+-- a slash that is seen after the end of a section is seen from the beginning of the section
 pub slash_seen_before : (section : Section) (tokens : List TokenView) (from depth end other : ℕ) → IsClosed tokens → EndsAt section tokens from depth end → end ≤ other → IsTrue (is_seen tokens end 0 other) → IsTrue (is_slash_sign tokens other) → IsTrue (is_seen tokens from depth other)
 slash_seen_before section tokens from depth end other closed ends le seen slash =
     elim (cases_Bool (ends_at tokens end)) [
@@ -132,14 +132,14 @@ slash_seen_before section tokens from depth end other closed ends le seen slash 
       | inr goes ↦
           let zero_depth = depth_at_end section tokens from depth end ends (λ h. both_ways (ends_at tokens end) goes h) in
           seen_same tokens from depth end 0 other
-          (depth_joined tokens from depth end other ends.behind le ∙ ap (λ d. depth_before tokens end d other) zero_depth)
+          (depth_joined tokens from depth end other ends.after le ∙ ap (λ d. depth_before tokens end d other) zero_depth)
           ∙ seen
     ]
 
--- a slash that is seen behind a sign is seen from the sign
+-- a slash that is seen after a sign is seen from the sign
 pub slash_seen_from_sign : (mark : List ℕ) (tokens : List TokenView) (sign other : ℕ) → IsTrue (at (is_sign mark) tokens sign) → sign < other → IsTrue (is_seen tokens (sign + 1) 0 other) → IsTrue (is_seen tokens sign 0 other)
 slash_seen_from_sign mark tokens sign other is_a_sign less seen =
-    seen_same tokens sign 0 (sign + 1) 0 other (depth_behind_sign mark tokens sign 0 other less is_a_sign) ∙ seen
+    seen_same tokens sign 0 (sign + 1) 0 other (depth_after_sign mark tokens sign 0 other less is_a_sign) ∙ seen
 
 -- a slash at which a section ends is seen
 pub slash_is_seen : (section : Section) (tokens : List TokenView) (from depth end : ℕ) → EndsAt section tokens from depth end → IsTrue (is_slash_sign tokens end) → IsTrue (is_seen tokens from depth end)
@@ -173,8 +173,8 @@ port_sign tokens from depth place ends =
 
 -- a section ends no later than where it may
 pub ends_by : (section : Section) (tokens : List TokenView) (from depth place other : ℕ) → EndsAt section tokens from depth place → from ≤ other → IsTrue (may_end section tokens from depth other) → place ≤ other
-ends_by section tokens from depth place other ends behind may =
-    elim (cases_lt other place) [ inl before ↦ absurd (ends.least other behind before may) | inr le ↦ le ]
+ends_by section tokens from depth place other ends after may =
+    elim (cases_lt other place) [ inl before ↦ absurd (ends.least other after before may) | inr le ↦ le ]
 
 -- a sign with which a section ends is seen
 pub sign_is_seen : (mark : List ℕ) (section : Section) (tokens : List TokenView) (from depth end : ℕ) → EndsAt section tokens from depth end → IsTrue (at (is_sign mark) tokens end) → IsTrue (is_seen tokens from depth end)
@@ -195,18 +195,18 @@ sign_conflict tokens i colon at_sign =
     let f : one.0.value ≡ codes "@" = (bytes_eq-Decides one.0.value (codes "@")).0 is_two in
     false≢true (ap (λ v. bytes_eq v (codes "@")) (sym e) ∙ ap (λ v. bytes_eq v (codes "@")) f)
 
--- what is seen from behind a colon with which the username ends is seen from its beginning
+-- what is seen from after a colon with which the username ends is seen from its beginning
 userinfo_depth : (tokens : List TokenView) (from colon place : ℕ) → EndsAt Username tokens from 0 colon → IsTrue (is_colon_sign tokens colon) → colon < place → depth_before tokens from 0 place ≡ depth_before tokens (colon + 1) 0 place
 userinfo_depth tokens from colon place ends is_a_colon less =
     let level = depth_at_end Username tokens from 0 colon ends (sign_not_end (codes ":") tokens colon is_a_colon) in
-    depth_joined tokens from 0 colon place ends.behind (omega arith)
+    depth_joined tokens from 0 colon place ends.after (omega arith)
     ∙ ap (λ d. depth_before tokens colon d place) level
-    ∙ depth_behind_sign (codes ":") tokens colon 0 place less is_a_colon
+    ∙ depth_after_sign (codes ":") tokens colon 0 place less is_a_colon
 
 -- the username ends at the sign of the hostname or before it
 pub username_before : (tokens : List TokenView) (from until place : ℕ) → EndsAt Authority tokens from 0 until → IsTrue (is_at_sign tokens until) → EndsAt Username tokens from 0 place → place ≤ until
 username_before tokens from until place authority at_sign username =
-    ends_by Username tokens from 0 place until username authority.behind
+    ends_by Username tokens from 0 place until username authority.after
     (and_from (is_seen tokens from 0 until) (is_colon_sign tokens until || is_at_sign tokens until) (sign_is_seen (codes "@") Authority tokens from 0 until authority at_sign) (or_right (is_colon_sign tokens until) (is_at_sign tokens until) at_sign))
 
 -- an authority may end at the sign of the hostname
@@ -225,7 +225,7 @@ username_alone tokens from until place closed authority at_sign username no_colo
       | inl may ↦
           let parts = may_end_parts Username tokens from 0 place may in
           let sign : IsTrue (is_at_sign tokens place) = elim (or_cases (is_colon_sign tokens place) (is_at_sign tokens place) parts.1) [ inl colon ↦ absurd (no_colon colon) | inr sign ↦ sign ] in
-          let ge = ends_by Authority tokens from 0 until place authority username.behind (and_from (is_seen tokens from 0 place) (is_ending Authority (is_balanced tokens from 0 place) tokens place) parts.0 (at_sign_ends tokens place (is_balanced tokens from 0 place) sign)) in
+          let ge = ends_by Authority tokens from 0 until place authority username.after (and_from (is_seen tokens from 0 place) (is_ending Authority (is_balanced tokens from 0 place) tokens place) parts.0 (at_sign_ends tokens place (is_balanced tokens from 0 place) sign)) in
           omega arith
       | inr is_end ↦ let last = closed.last place username.within is_end in let within = authority.within in omega arith
     ]
@@ -238,13 +238,13 @@ password_ends tokens from until colon place closed authority at_sign username is
     let seen_there = sign_is_seen (codes "@") Authority tokens from 0 until authority at_sign in
     let seen_here : IsTrue (is_seen tokens (colon + 1) 0 until) = seen_same tokens (colon + 1) 0 from 0 until (sym (userinfo_depth tokens from colon until username is_a_colon less)) ∙ seen_there in
     let before : place ≤ until = ends_by Password tokens (colon + 1) 0 place until password (omega arith) (and_from (is_seen tokens (colon + 1) 0 until) (is_at_sign tokens until) seen_here at_sign) in
-    let behind = password.behind in (
+    let after = password.after in (
       less,
       elim (stops_cases Password tokens (colon + 1) 0 place password) [
         | inl may ↦
             let parts = may_end_parts Password tokens (colon + 1) 0 place may in
             let seen : IsTrue (is_seen tokens from 0 place) = seen_same tokens from 0 (colon + 1) 0 place (userinfo_depth tokens from colon place username is_a_colon (omega arith)) ∙ parts.0 in
-            let start = username.behind in
+            let start = username.after in
             let ge = ends_by Authority tokens from 0 until place authority (omega arith) (and_from (is_seen tokens from 0 place) (is_ending Authority (is_balanced tokens from 0 place) tokens place) seen (at_sign_ends tokens place (is_balanced tokens from 0 place) parts.1)) in
             omega arith
         | inr is_end ↦ let last = closed.last place password.within is_end in let within = authority.within in omega arith
@@ -253,18 +253,18 @@ password_ends tokens from until colon place closed authority at_sign username is
 
 -- ---- an authority without an end
 
-depth_below : (kind : TokenType) (lower upper : ℕ) → lower ≤ upper → depth_behind kind lower ≤ depth_behind kind upper
+depth_below : (kind : TokenType) (lower upper : ℕ) → lower ≤ upper → depth_after kind lower ≤ depth_after kind upper
 depth_below Open lower upper le = omega arith
 depth_below Close lower upper le = omega arith
 depth_below kind lower upper le = le
 
-fold_below : (tokens : List TokenView) (lower upper : ℕ) → lower ≤ upper → fold (λ (reached : ℕ) (t : TokenView). depth_behind t.kind reached) lower tokens ≤ fold (λ (reached : ℕ) (t : TokenView). depth_behind t.kind reached) upper tokens
+fold_below : (tokens : List TokenView) (lower upper : ℕ) → lower ≤ upper → fold (λ (reached : ℕ) (t : TokenView). depth_after t.kind reached) lower tokens ≤ fold (λ (reached : ℕ) (t : TokenView). depth_after t.kind reached) upper tokens
 fold_below [] lower upper le = le
-fold_below (token ∷ tokens) lower upper le = fold_below tokens (depth_behind token.kind lower) (depth_behind token.kind upper) (depth_below token.kind lower upper le)
+fold_below (token ∷ tokens) lower upper le = fold_below tokens (depth_after token.kind lower) (depth_after token.kind upper) (depth_below token.kind lower upper le)
 
 -- where an authority ends at End, no slash is seen from its beginning, at whatever depth
 pub no_slash_in_sight : (tokens : List TokenView) (from depth end other : ℕ) → IsClosed tokens → EndsAt Authority tokens from 0 end → IsTrue (ends_at tokens end) → from ≤ other → IsTrue (is_seen tokens from depth other) → IsTrue (is_slash_sign tokens other) → ⊥
-no_slash_in_sight tokens from depth end other closed ends is_end behind seen slash =
+no_slash_in_sight tokens from depth end other closed ends is_end after seen slash =
     let last = closed.last end ends.within is_end in
     let goes_on = sign_goes_on (codes "/") tokens other closed slash in
     let not_end = sign_not_end (codes "/") tokens other slash in
@@ -272,7 +272,7 @@ no_slash_in_sight tokens from depth end other closed ends is_end behind seen sla
     let below = fold_below (slice_range tokens from other) 0 depth (omega arith) in
     let level_there : depth_before tokens from 0 other ≡ depth_before tokens from depth other = omega arith in
     let seen_there : IsTrue (is_seen tokens from 0 other) = seen_same tokens from 0 from depth other level_there ∙ seen in
-    ends.least other behind (omega arith)
+    ends.least other after (omega arith)
     (and_from (is_seen tokens from 0 other) (is_ending Authority (is_balanced tokens from 0 other) tokens other) seen_there (or_second (is_at_sign tokens other) (is_slash_sign tokens other) (is_search_sign tokens other) (is_hash_sign tokens other) slash))
   where
     or_second : (a b c d : Bool) → b ≡ true → (a || b || c || d) ≡ true

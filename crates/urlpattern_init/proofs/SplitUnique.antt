@@ -145,7 +145,7 @@ module _ (text : List ℕ) (tokens : List TokenView) (are_tokens : AreLenientTok
 
   not_before : (section : Section) (from depth place other : ℕ) → EndsAt section tokens from depth place → EndsAt section tokens from depth other → place < other → ⊥
   not_before section from depth place other h g less = elim (stops_cases section tokens from depth place h) [
-    | inl may ↦ g.least place h.behind less may
+    | inl may ↦ g.least place h.after less may
     | inr is_end ↦ let last = closed.last place h.within is_end in let within = g.within in omega arith
   ]
 
@@ -339,7 +339,7 @@ module _ (text : List ℕ) (tokens : List TokenView) (are_tokens : AreLenientTok
     absolute_one special colon place h g =
         let e = ends_one Protocol 0 0 colon place h.protocol_ends g.protocol_ends in
         same_components c d (protocol_one special special colon place h g)
-        (absolute_from_one special place (subst (AbsoluteFrom c special) e h.behind) g.behind)
+        (absolute_from_one special place (subst (AbsoluteFrom c special) e h.after) g.after)
 
     relative_or_absolute : (special : Bool) (colon : ℕ) → IsRelativeSplit text tokens c → IsAbsoluteSplit text tokens special colon d → ⊥
     relative_or_absolute special colon h g =

@@ -58,8 +58,8 @@ are_closed text tokens h = subst IsClosed (sym h.all) (record {
 
 -- ---- where tokens stand
 
--- the text has a token's place behind this front
-pub record StandsBehind (tokens : List TokenView) (i : ℕ) (front : List ℕ) : Type 0 where
+-- the text has a token's place after this front
+pub record StandsAfter (tokens : List TokenView) (i : ℕ) (front : List ℕ) : Type 0 where
   pub index : IsSomeAnd (slice_get tokens i) (λ token. token.index ≡ byte_len front)
 
 -- a lenient token takes a stretch of the text
@@ -77,8 +77,8 @@ front_len whole front rest place e h =
     let n = ap byte_len e ∙ byte_len-append front rest in
     omega arith
 
--- a token of a cut stands behind a front of the text
-front_of : (whole before text : List ℕ) (front : List TokenView) (i : ℕ) → whole ≡ before ++ text → IsCut (IsLenient whole) text front [] → i < length (front ++ end_of whole ∷ []) → (pre post : List ℕ) × (text ≡ pre ++ post) × StandsBehind (front ++ end_of whole ∷ []) i (before ++ pre)
+-- a token of a cut stands after a front of the text
+front_of : (whole before text : List ℕ) (front : List TokenView) (i : ℕ) → whole ≡ before ++ text → IsCut (IsLenient whole) text front [] → i < length (front ++ end_of whole ∷ []) → (pre post : List ℕ) × (text ≡ pre ++ post) × StandsAfter (front ++ end_of whole ∷ []) i (before ++ pre)
 front_of whole before text [] zero e cut within = (text, [], sym (append-nil text), record { index = ap byte_len e })
 front_of whole before text [] (suc i) e cut within = absurd (omega arith)
 front_of whole before text (token ∷ front) zero e cut within =
@@ -97,8 +97,8 @@ front_of whole before text (token ∷ front) (suc i) e cut within =
       record { index = subst (λ x. IsSomeAnd (slice_get (front ++ end_of whole ∷ []) i) (λ t. t.index ≡ byte_len x)) (append_assoc before (skipped.0 ++ spelling.0) found.0) found.3.index },
     )
 
--- two tokens stand behind two fronts, the one an extension of the other
-fronts_of : (whole before text : List ℕ) (front : List TokenView) (i j : ℕ) → whole ≡ before ++ text → IsCut (IsLenient whole) text front [] → i ≤ j → j < length (front ++ end_of whole ∷ []) → (pre mid post : List ℕ) × (text ≡ pre ++ (mid ++ post)) × StandsBehind (front ++ end_of whole ∷ []) i (before ++ pre) × StandsBehind (front ++ end_of whole ∷ []) j ((before ++ pre) ++ mid)
+-- two tokens stand after two fronts, the one an extension of the other
+fronts_of : (whole before text : List ℕ) (front : List TokenView) (i j : ℕ) → whole ≡ before ++ text → IsCut (IsLenient whole) text front [] → i ≤ j → j < length (front ++ end_of whole ∷ []) → (pre mid post : List ℕ) × (text ≡ pre ++ (mid ++ post)) × StandsAfter (front ++ end_of whole ∷ []) i (before ++ pre) × StandsAfter (front ++ end_of whole ∷ []) j ((before ++ pre) ++ mid)
 fronts_of whole before text [] zero zero e cut le within =
     (text, [], [], sym (append-nil text), record { index = ap byte_len e }, record { index = ap byte_len (e ∙ sym (append-nil (before ++ text))) })
 fronts_of whole before text [] i (suc j) e cut le within = absurd (omega arith)
@@ -141,7 +141,7 @@ fronts_of whole before text (token ∷ front) (suc i) (suc j) e cut le within =
       record { index = subst (λ x. IsSomeAnd (slice_get (front ++ end_of whole ∷ []) j) (λ t. t.index ≡ byte_len (x ++ found.1))) same found.5.index },
     )
 
-index_at : (tokens : List TokenView) (i n : ℕ) (front : List ℕ) → byte_len front ≡ n → StandsBehind tokens i front → IsSomeAnd (slice_get tokens i) (λ token. token.index ≡ n)
+index_at : (tokens : List TokenView) (i n : ℕ) (front : List ℕ) → byte_len front ≡ n → StandsAfter tokens i front → IsSomeAnd (slice_get tokens i) (λ token. token.index ≡ n)
 index_at tokens i n front e h = subst (λ m. IsSomeAnd (slice_get tokens i) (λ token. token.index ≡ m)) e h.index
 
 -- there is a text between two lenient tokens

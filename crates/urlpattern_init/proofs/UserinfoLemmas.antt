@@ -10,7 +10,7 @@ use Rattle.urlpattern_init.specs.declared.constructor_parser.tokens.Source.{Sour
 use Rattle.urlpattern_init.proofs.SplitLemmas.{password_ends, sign_goes_on, username_alone}
 use Rattle.urlpattern_init.proofs.TextBetween.{source_closed, tokens_len}
 
--- A username without a password ends at the sign of the hostname, behind which more tokens follow.
+-- A username without a password ends at the sign of the hostname, after which more tokens follow.
 pub record EndsAlone (source : Source) (from until place : ℕ) : Type 0 where
   pub username : EndsAt Username (tokens_of source) from 0 place
   pub same : place ≡ until
@@ -40,10 +40,10 @@ module _ (source : Source) (from : Place) (until : ℕ) (is_source : IsSource so
         goes = more_follow;
       }
 
-  pub ends_before : (colon place : ℕ) (behind : Place) → EndsAt Username (tokens_of source) from.index from.depth colon → is_colon_sign (tokens_of source) colon ≡ true
-      → behind.index ≡ colon + 1 → behind.depth ≡ 0 → EndsAt Password (tokens_of source) behind.index behind.depth place
+  pub ends_before : (colon place : ℕ) (after : Place) → EndsAt Username (tokens_of source) from.index from.depth colon → is_colon_sign (tokens_of source) colon ≡ true
+      → after.index ≡ colon + 1 → after.depth ≡ 0 → EndsAt Password (tokens_of source) after.index after.depth place
       → EndsBefore source from.index until colon place
-  ends_before colon place behind ends is_colon index depth more =
+  ends_before colon place after ends is_colon index depth more =
       let username : EndsAt Username (tokens_of source) from.index 0 colon = rw level at ends in
       let password : EndsAt Password (tokens_of source) (colon + 1) 0 place = rw (index, depth) at more in
       let found = password_ends (tokens_of source) from.index until colon place (source_closed source is_source) authority sign username is_colon password in

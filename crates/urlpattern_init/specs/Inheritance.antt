@@ -79,7 +79,7 @@ processed_text mode protocol Hash text = processed_hash mode text
 abbrev pub is_slash : ℕ → Bool
 is_slash c = c == slash
 
--- an absolute pathname begins with a slash; in a pattern the slash may stand behind one backslash or one open brace
+-- an absolute pathname begins with a slash; in a pattern the slash may stand after one backslash or one open brace
 abbrev pub is_absolute : ProcessType → List ℕ → Bool
 is_absolute Pattern text =
     begins_with is_slash (without_first backslash text) || begins_with is_slash (without_first left_brace text)
@@ -98,7 +98,7 @@ put_before mode (Some base) text =
 
 -- ---- the values that an init comes to
 
--- a text that the init has, behind what is put before it
+-- a text that the init has, after what is put before it
 abbrev pub given_text : ProcessType → Option Parts → ComponentName → List ℕ → List ℕ
 given_text mode base Pathname text = put_before mode base text ++ text
 given_text mode base component text = text

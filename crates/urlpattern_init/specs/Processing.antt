@@ -5,7 +5,7 @@ use Rattle.std.specs.Option.{option_or}
 use Rattle.std.specs.Str.{chars}
 use Rattle.std.specs.declared.alloc.Global.{Global}
 use Rattle.url.specs.Parser.{Parsed}
-use Rattle.urlpattern_canonical.specs.Canonical.{IsAnswer, Tells, bytes_asked}
+use Rattle.urlpattern_canonical.specs.Canonical.{IsAnswer, Reports, bytes_asked}
 use Rattle.urlpattern_init.specs.declared.init.processing.Processing.{Processing}
 use Rattle.urlpattern_init.specs.Inheritance.{bytes_of, given_bytes, given_text, inherited, init_bytes, init_values, missing, processed_text, processed_value, values_view}
 use Rattle.urlpattern_syntax.specs.declared.eight.ComponentName.{ComponentName}
@@ -38,7 +38,7 @@ component_bytes processing protocol_bytes component =
     bytes_asked processing.kind.now
     (max protocol_bytes (given_bytes processing.kind.now (given_values processing) processing.init.now.base_url component))
 
--- a text of the init, behind what is put before it
+-- a text of the init, after what is put before it
 abbrev pub given_in : Processing → ComponentName → List ℕ → List ℕ
 given_in processing component text = given_text processing.kind.now processing.init.now.base_url component text
 
@@ -74,9 +74,9 @@ lacking_in processing component =
 -- the refusal of a component's value, or that memory ran out
 abbrev pub IsFailureIn : Processing → (protocol : Option (List ℕ)) → (protocol_bytes : ℕ) → ComponentName → Error → Type 0
 IsFailureIn processing protocol protocol_bytes component =
-    MemoryOr (Tells (value_in processing protocol component) (component_bytes processing protocol_bytes component))
+    MemoryOr (Reports (value_in processing protocol component) (component_bytes processing protocol_bytes component))
 
--- the value that a component behind the protocol comes to, or why it comes to none
+-- the value that a component after the protocol comes to, or why it comes to none
 pub record IsValueAfter (processing : Processing) (protocol : Option (List ℕ)) (component : ComponentName) (result : Result (Option (String Global)) Error) : Type 0 where
   pub ok : IfOk result (λ value. component ≢ Protocol → value_in processing protocol component ≡ Ok (option_map text_of value))
   pub err : IfErr result (IsFailureIn processing protocol (bytes_of protocol) component)

@@ -32,14 +32,14 @@ AcceptsAny answer matcher texts = Any (λ text. IsMatched answer (matcher_view m
 abbrev pub AcceptsSpecialScheme : {E : Type 0} → (answer : E → List ℕ → Option Captures) → MatcherView E → Type 0
 AcceptsSpecialScheme answer matcher = Any (λ scheme. IsMatched answer matcher scheme.0) special_schemes
 
--- The pattern of a protocol is compiled under the default options, and its matcher tells whether it is special. Engines'
+-- The pattern of a protocol is compiled under the default options, and its matcher decides whether it is special. Engines'
 -- values are made, regular expressions refused, and texts answered in this way.
 pub record IsSpecialBy {E : Type 0} (IsMade : E → (regexp flags : List ℕ) → Type 0) (MayRefuse : (regexp flags : List ℕ) → Type 0) (answer : E → List ℕ → Option Captures) (protocol : List ℕ) (special : Bool) : Type 0 where
   pub parts : List PartView
   pub matcher : MatcherView E
   pub reads : Reads protocol default_options protocol_encoding parts
   pub is_made : IsMadeOf IsMade MayRefuse default_options (codes "u") parts matcher
-  pub tells : IsTrue special ↔ AcceptsSpecialScheme answer matcher
+  pub reports : IsTrue special ↔ AcceptsSpecialScheme answer matcher
 
 -- the answer on a protocol by a type of engines
 abbrev pub IsSpecialTo : {E : Type 0} → Engine E → (protocol : List ℕ) → (special : Bool) → Type 0

@@ -42,7 +42,7 @@ is_character kind = false
 abbrev pub is_sign : (mark : List ℕ) → TokenView → Bool
 is_sign mark token = is_character token.kind && bytes_eq token.value mark
 
--- a colon, behind a protocol, a username or a hostname
+-- a colon, after a protocol, a username or a hostname
 abbrev pub is_colon_sign : List TokenView → ℕ → Bool
 is_colon_sign tokens place = at (is_sign (codes ":")) tokens place
 
@@ -65,7 +65,7 @@ is_open_bracket tokens place = at (is_sign (codes "[")) tokens place
 abbrev pub is_close_bracket : List TokenView → ℕ → Bool
 is_close_bracket tokens place = at (is_sign (codes "]")) tokens place
 
--- a question mark behind a token of this kind is a modifier
+-- a question mark after a token of this kind is a modifier
 abbrev pub takes_modifier : TokenType → Bool
 takes_modifier Name = true
 takes_modifier Regexp = true
@@ -86,15 +86,15 @@ is_search_sign tokens place =
 
 -- ---- which tokens are seen
 
--- the depth of groups behind a token: an open brace adds one, a closing one takes one off where there is one
-abbrev pub depth_behind : TokenType → ℕ → ℕ
-depth_behind Open depth = depth + 1
-depth_behind Close depth = depth - 1
-depth_behind kind depth = depth
+-- the depth of groups after a token: an open brace adds one, a closing one takes one off where there is one
+abbrev pub depth_after : TokenType → ℕ → ℕ
+depth_after Open depth = depth + 1
+depth_after Close depth = depth - 1
+depth_after kind depth = depth
 
 -- the depth before a place, where it is `depth` before the token at `from`
 abbrev pub depth_before : List TokenView → (from depth place : ℕ) → ℕ
-depth_before tokens from depth place = fold (λ reached token. depth_behind token.kind reached) depth (slice_range tokens from place)
+depth_before tokens from depth place = fold (λ reached token. depth_after token.kind reached) depth (slice_range tokens from place)
 
 -- End is seen, and a token outside of all groups that opens none
 abbrev pub is_seen : List TokenView → (from depth place : ℕ) → Bool
@@ -134,7 +134,7 @@ may_end section tokens from depth place =
 
 -- The section that begins at `from`, where the depth is `depth`, ends here: at the least place where it may, else at End.
 pub record EndsAt (section : Section) (tokens : List TokenView) (from depth place : ℕ) : Type 0 where
-  pub behind : from ≤ place
+  pub after : from ≤ place
   pub within : place < length tokens
   pub stops : IsTrue (may_end section tokens from depth place || ends_at tokens place)
   pub least : (other : ℕ) → from ≤ other → other < place → ¬ IsTrue (may_end section tokens from depth other)
@@ -156,7 +156,7 @@ Takes text tokens from until component = IsSomeAnd component (IsTextBetween text
 abbrev pub HashFrom : (text : List ℕ) → List TokenView → (from : ℕ) → Values → Type 0
 HashFrom text tokens from components = (until : ℕ) × IsTrue (ends_at tokens until) × Takes text tokens from until components.hash
 
--- a hash begins behind the sign for it, and there is none at End
+-- a hash begins after the sign for it, and there is none at End
 abbrev pub HashAt : (text : List ℕ) → List TokenView → (place : ℕ) → Values → Type 0
 HashAt text tokens place components =
     (IsTrue (is_hash_sign tokens place) × HashFrom text tokens (place + 1) components)
@@ -167,7 +167,7 @@ abbrev pub SearchFrom : (text : List ℕ) → List TokenView → (from depth : �
 SearchFrom text tokens from depth components =
     (until : ℕ) × EndsAt Search tokens from depth until × Takes text tokens from until components.search × HashAt text tokens until components
 
--- a search begins behind the sign for it; where the hash begins without one, it is empty
+-- a search begins after the sign for it; where the hash begins without one, it is empty
 abbrev pub SearchAt : (text : List ℕ) → List TokenView → (place : ℕ) → Values → Type 0
 SearchAt text tokens place components =
     (IsTrue (is_search_sign tokens place) × SearchFrom text tokens (place + 1) 0 components)
@@ -184,7 +184,7 @@ abbrev pub implied_pathname : (special : Bool) → List ℕ
 implied_pathname true = codes "/"
 implied_pathname false = []
 
--- behind a hostname or a port a pathname begins with its slash
+-- after a hostname or a port a pathname begins with its slash
 abbrev pub PathnameAt : (text : List ℕ) → List TokenView → (special : Bool) → (place : ℕ) → Values → Type 0
 PathnameAt text tokens special place components =
     (IsTrue (is_slash_sign tokens place) × PathnameFrom text tokens place 0 components)
@@ -225,7 +225,7 @@ AuthorityFrom text tokens special from components =
 
 -- ---- the whole string
 
--- no protocol: the first token tells where the hash, the search or else the pathname begins
+-- no protocol: the first token decides where the hash, the search or else the pathname begins
 pub record IsRelativeSplit (text : List ℕ) (tokens : List TokenView) (components : Values) : Type 0 where
   pub until : ℕ
   pub no_colon : EndsAt Protocol tokens 0 0 until
@@ -243,12 +243,12 @@ pub record IsRelativeSplit (text : List ℕ) (tokens : List TokenView) (componen
 abbrev pub has_slashes : List TokenView → ℕ → Bool
 has_slashes tokens place = is_slash_sign tokens (place + 1) && is_slash_sign tokens (place + 2)
 
--- Behind the protocol stands an authority if slashes or a special protocol tell so, else a pathname with an empty hostname.
+-- After the protocol comes an authority if slashes follow or the protocol is special, else a pathname with an empty hostname.
 pub record IsAbsoluteSplit (text : List ℕ) (tokens : List TokenView) (special : Bool) (colon : ℕ) (components : Values) : Type 0 where
   pub is_colon_there : IsTrue (is_colon_sign tokens colon)
   pub protocol_ends : EndsAt Protocol tokens 0 0 colon
   pub protocol : Takes text tokens 0 colon components.protocol
-  pub behind :
+  pub after :
       (IsTrue (has_slashes tokens colon) × AuthorityFrom text tokens special (colon + 3) components)
       ⊎ (IsTrue (not (has_slashes tokens colon) && special) × AuthorityFrom text tokens special (colon + 1) components)
       ⊎ (IsTrue (not (has_slashes tokens colon) && not special) × (components.username ≡ None) × (components.password ≡ None)

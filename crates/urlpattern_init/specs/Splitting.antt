@@ -37,20 +37,20 @@ IsSource source = AreLenientTokens (text_of_source source) (tokens_of source)
 
 -- ---- what may stand where a component is over
 
--- behind a search: the sign of the hash, or End
+-- after a search: the sign of the hash, or End
 abbrev pub may_follow_search : List TokenView → ℕ → Bool
 may_follow_search tokens place = is_hash_sign tokens place || ends_at tokens place
 
--- behind a pathname: the sign of the search or of the hash, or End
+-- after a pathname: the sign of the search or of the hash, or End
 abbrev pub may_follow_pathname : List TokenView → ℕ → Bool
 may_follow_pathname tokens place = is_search_sign tokens place || is_hash_sign tokens place || ends_at tokens place
 
--- behind a port: the slash of a pathname, or what may follow a pathname
+-- after a port: the slash of a pathname, or what may follow a pathname
 abbrev pub may_follow_port : List TokenView → ℕ → Bool
 may_follow_port tokens place =
     is_slash_sign tokens place || is_search_sign tokens place || is_hash_sign tokens place || ends_at tokens place
 
--- behind a hostname: the colon of a port, or what may follow a port
+-- after a hostname: the colon of a port, or what may follow a port
 abbrev pub may_follow_hostname : List TokenView → ℕ → Bool
 may_follow_hostname tokens place =
     is_colon_sign tokens place || is_slash_sign tokens place || is_search_sign tokens place || is_hash_sign tokens place || ends_at tokens place

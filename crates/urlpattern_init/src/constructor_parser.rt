@@ -75,7 +75,7 @@ impl UrlPatternInit {
 }
 
 impl<'t, 'a> Source<'t, 'a> {
-    /// The components of a constructor string. Its protocol is read first, and tells whether it is special.
+    /// The components of a constructor string. Its protocol is read first, and whether it is special.
     ///
     /// The error is that of the protocol's pattern, or that memory ran out.
     fn split<R: RegExp>(&self, alloc: Global) -> Result<Split<'a>, Error>

@@ -66,7 +66,7 @@ content_one tokens rest other x y none no' (filled a behind back p e h q k s) (f
           ∙ ap (λ z. Filled (joined_values b) p' (joined_values z)) d.front ∙ sym t;
     }
 
--- texts, a placeholder and texts, with more behind them
+-- texts, a placeholder and texts, with more after them
 pub filled_form : (inner rest more : List TokenView) (before after : List ℕ) (placeholder : Placeholder) →
     ((back : List TokenView) → TakesRegexp placeholder.matched (back ++ rest) → TakesRegexp placeholder.matched (back ++ more)) →
     IsFilled inner before placeholder after rest → ContentForm (inner ++ more) more (Filled before placeholder after)

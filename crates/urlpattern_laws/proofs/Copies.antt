@@ -26,7 +26,7 @@ IsBetween IsPiece prefix suffix text = (piece : List ℕ) × (text ≡ prefix ++
 abbrev pub IsFurther : (List ℕ → Type 0) → (prefix suffix text : List ℕ) → Type 0
 IsFurther IsPiece prefix suffix text = (piece : List ℕ) × (text ≡ suffix ++ prefix ++ piece) × IsPiece piece
 
--- what stands between the first prefix and the last suffix where n copies stand behind the first
+-- what stands between the first prefix and the last suffix where n copies stand after the first
 abbrev pub IsCore : (List ℕ → Type 0) → (prefix suffix : List ℕ) → ℕ → (text : List ℕ) → Type 0
 IsCore IsPiece prefix suffix n text = (first rest : List ℕ) × (text ≡ first ++ rest) × IsPiece first × IsRepeated (IsFurther IsPiece prefix suffix) n rest
 

@@ -10,11 +10,11 @@ use Rattle.urlpattern_syntax.proofs.TokenExamples.{no}
 abbrev pub plain : List ℕ → Atom
 plain text = Literal (Plain (slice_index text 0))
 
--- an atom that is taken once, or as a quantifier says, and nothing behind it
+-- an atom that is taken once, or as a quantifier says, and nothing after it
 abbrev pub once : Atom → Items
 once atom = Item atom Once Nothing
 
--- characters that stand by themselves, one behind the other, and what follows them
+-- characters that stand by themselves, one after the other, and what follows them
 abbrev pub word_then : List ℕ → Items → Items
 word_then [] items = items
 word_then (c ∷ word) items = Item (Literal (Plain c)) Once (word_then word items)
@@ -38,7 +38,7 @@ users_is_tree = (refl, (no, tt, (no, tt, (no, tt, (no, tt, (no, tt, (no, tt, ((n
 
 -- what it captures from `/users/1`
 pub users_means : Means users_tree (codes "/users/1") (Some (codes "1") ∷ [])
-users_means = word_means (codes "/users") (once (Grouped (word_then (codes "/") segment_tree))) (codes "/1") (Some (codes "1") ∷ []) behind_users
+users_means = word_means (codes "/users") (once (Grouped (word_then (codes "/") segment_tree))) (codes "/1") (Some (codes "1") ∷ []) after_users
   where
     segment : Means segment_tree (codes "1") (Some (codes "1") ∷ [])
     segment = (
@@ -52,8 +52,8 @@ users_means = word_means (codes "/users") (once (Grouped (word_then (codes "/") 
       (refl, refl),
     )
 
-    behind_users : Means (once (Grouped (word_then (codes "/") segment_tree))) (codes "/1") (Some (codes "1") ∷ [])
-    behind_users = (codes "/1", [], Some (codes "1") ∷ [], [], refl, refl, word_means (codes "/") segment_tree (codes "1") (Some (codes "1") ∷ []) segment, (refl, refl))
+    after_users : Means (once (Grouped (word_then (codes "/") segment_tree))) (codes "/1") (Some (codes "1") ∷ [])
+    after_users = (codes "/1", [], Some (codes "1") ∷ [], [], refl, refl, word_means (codes "/") segment_tree (codes "1") (Some (codes "1") ∷ []) segment, (refl, refl))
 
 -- the tree of `^(?:a)?$`
 abbrev pub optional_tree : Items

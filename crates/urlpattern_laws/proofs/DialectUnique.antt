@@ -6,7 +6,7 @@ use Rattle.urlpattern_laws.proofs.DialectLeads.{Ends, IsFree, IsUnclosed, Leads,
 use Rattle.urlpattern_laws.proofs.DialectSpelled.{spelled, atom_spelled, items-spelled}
 use Rattle.urlpattern_laws.specs.Dialect.{Items, Nothing, Item, Atom, Literal, Dot, AnyBut, Captured, Grouped, items_text, quantifier_text, AreItems, IsAtom, IsTreeOf, IsOnlyTreeOf}
 
--- behind the bracket that captures, no items begin with a question mark
+-- after the bracket that captures, no items begin with a question mark
 not_grouped : (items : Items) (rest left : List ℕ) → AreItems items → ¬ (spelled items (codes ")" ++ rest) ≡ codes "?:" ++ left)
 not_grouped items rest left h e = spelled_free items (codes ")" ++ rest) h refl (subst (Leads (codes "]?*+")) (sym e) refl)
 

@@ -13,7 +13,7 @@ use Rattle.urlpattern_syntax.specs.Tokens.{Body as bodies, Front as fronts}
 use Rattle.urlpattern_syntax.specs.Tokens.{FaultView, IncompleteEscapeCode, InvalidName, InvalidRegex, RegexpFault, StartsWithQuestionMark, NotAscii, EscapedNotAscii, GroupAtEnd, CapturingGroup, NotClosed, NoBody, reason, LacksRegexp, IsFaultAt}
 use Rattle.urlpattern_syntax.specs.Tokens.{IsLexed, Spells, EndsThere, IsName, marks, is_ignored, SkipsBy}
 
--- ---- what stands behind an opening bracket, read from the front
+-- ---- what stands after an opening bracket, read from the front
 
 -- The bracket that closes it was found and this follows, or there is a fault.
 data Reached : Type 0 where
@@ -28,7 +28,7 @@ close : Reached → (ℕ → Reached) → ℕ → Reached
 close shut inside zero = shut
 close shut inside (suc depth) = inside depth
 
--- the rest of a body behind so many inner brackets that are open
+-- the rest of a body after so many inner brackets that are open
 scan : List ℕ → Mode → ℕ → Reached
 scan [] Reads depth = Fails (InvalidRegex (reason NotClosed))
 scan [] Escapes depth = Fails IncompleteEscapeCode
@@ -94,14 +94,14 @@ begins : (ℕ → Bool) → List ℕ → Bool
 begins p [] = false
 begins p (c ∷ text) = p c
 
-told : Reached → Lexing
-told (Shut rest) = Token Regexp rest
-told (Fails fault) = Fault fault
+reported : Reached → Lexing
+reported (Shut rest) = Token Regexp rest
+reported (Fails fault) = Fault fault
 
 bracketed : List ℕ → Lexing
 bracketed text =
     cond (begins is_question_mark text) (Fault (InvalidRegex (reason StartsWithQuestionMark)))
-    (cond (begins (is_among (codes ")")) text) (Fault (InvalidRegex (reason NoBody))) (told (scan text Reads 0)))
+    (cond (begins (is_among (codes ")")) text) (Fault (InvalidRegex (reason NoBody))) (reported (scan text Reads 0)))
 
 -- what follows the characters that pass the test
 after : (ℕ → Bool) → List ℕ → List ℕ
@@ -163,25 +163,25 @@ front-unclosed (fronts.Inside (bodies.Escaped c body) front) h b = false≢true 
 front-unclosed (fronts.Inside (bodies.Plain c body) front) h b = body-unclosed (bodies.Plain c body) h.0 b
 front-unclosed (fronts.Inside (bodies.Group inner body) front) h b = false≢true b
 
-bracketed-scan : (front rest : List ℕ) → ¬ BeginsWith is_question_mark front → ¬ BeginsWith (is_among (codes ")")) front → (front ≡ [] → begins is_question_mark rest ≡ false) → (front ≡ [] → begins (is_among (codes ")")) rest ≡ false) → bracketed (front ++ rest) ≡ told (scan (front ++ rest) Reads 0)
+bracketed-scan : (front rest : List ℕ) → ¬ BeginsWith is_question_mark front → ¬ BeginsWith (is_among (codes ")")) front → (front ≡ [] → begins is_question_mark rest ≡ false) → (front ≡ [] → begins (is_among (codes ")")) rest ≡ false) → bracketed (front ++ rest) ≡ reported (scan (front ++ rest) Reads 0)
 unfolding bracketed
 bracketed-scan front rest unmarked unclosed e f =
     cond-false _ _ _ (begins-append is_question_mark front rest unmarked e)
     ∙ cond-false _ _ _ (begins-append (is_among (codes ")")) front rest unclosed f)
 
 bracketed-body : (value rest : List ℕ) → IsRegexpBody value → bracketed (value ++ (codes ")" ++ rest)) ≡ Token Regexp rest
-unfolding scan close told
+unfolding scan close reported
 bracketed-body value rest h =
     bracketed-scan value (codes ")" ++ rest) h.not_marked (λ b. body-unclosed h.body h.is_body (subst (BeginsWith (is_among (codes ")"))) h.spelled b)) (λ e. absurd (h.not_empty e)) (λ e. absurd (h.not_empty e))
-    ∙ ap (λ x. told (scan (x ++ (codes ")" ++ rest)) Reads 0)) h.spelled
-    ∙ ap told (scan-body h.body h.is_body (codes ")" ++ rest) 0)
+    ∙ ap (λ x. reported (scan (x ++ (codes ")" ++ rest)) Reads 0)) h.spelled
+    ∙ ap reported (scan-body h.body h.is_body (codes ")" ++ rest) 0)
 
-bracketed-front : (front rest : List ℕ) (h : IsRegexpFront front) → begins is_question_mark rest ≡ false → begins (is_among (codes ")")) rest ≡ false → bracketed (front ++ rest) ≡ told (scan rest Reads (depth_of h.front 0))
+bracketed-front : (front rest : List ℕ) (h : IsRegexpFront front) → begins is_question_mark rest ≡ false → begins (is_among (codes ")")) rest ≡ false → bracketed (front ++ rest) ≡ reported (scan rest Reads (depth_of h.front 0))
 unfolding scan
 bracketed-front front rest h e f =
     bracketed-scan front rest h.not_marked (λ b. front-unclosed h.front h.is_front (subst (BeginsWith (is_among (codes ")"))) h.spelled b)) (λ _. e) (λ _. f)
-    ∙ ap (λ x. told (scan (x ++ rest) Reads 0)) h.spelled
-    ∙ ap told (scan-front h.front h.is_front rest 0)
+    ∙ ap (λ x. reported (scan (x ++ rest) Reads 0)) h.spelled
+    ∙ ap reported (scan-front h.front h.is_front rest 0)
 
 named-name : (value rest : List ℕ) → IsName value → ¬ BeginsWith is_name_part rest → named (value ++ rest) ≡ Token Name rest
 unfolding named
@@ -248,28 +248,28 @@ value_one End value other text h g = absurd h
 value_one InvalidChar value other text h g = absurd h
 
 lex-lacks : (rest : List ℕ) (fault : RegexpFault) → LacksRegexp rest fault → bracketed rest ≡ Fault (InvalidRegex (reason fault))
-unfolding bracketed begins scan told
+unfolding bracketed begins scan reported
 lex-lacks [] StartsWithQuestionMark h = absurd (false≢true h)
 lex-lacks (c ∷ rest) StartsWithQuestionMark h = cond-true (is_question_mark c) _ _ h
 lex-lacks rest NotAscii h =
     let odd = over_ascii h.2 h.5 in
     ap bracketed h.4
     ∙ bracketed-front h.0 (h.2 ∷ h.1) h.3 (odd (codes "?") refl) (odd (codes ")") refl)
-    ∙ ap told (cond-false _ _ _ (odd (codes "\\()") refl) ∙ cond-false _ _ _ (le-ltb h.2 128 h.5))
+    ∙ ap reported (cond-false _ _ _ (odd (codes "\\()") refl) ∙ cond-false _ _ _ (le-ltb h.2 128 h.5))
 lex-lacks rest EscapedNotAscii h =
     ap bracketed (h.4 ∙ append_assoc h.0 (codes "\\") (h.2 ∷ h.1))
     ∙ bracketed-front h.0 (codes "\\" ++ h.2 ∷ h.1) h.3 refl refl
-    ∙ ap told (cond-false _ _ _ (le-ltb h.2 128 h.5))
+    ∙ ap reported (cond-false _ _ _ (le-ltb h.2 128 h.5))
 lex-lacks rest GroupAtEnd h = ap bracketed h.2 ∙ bracketed-front h.0 (codes "(") h.1 refl refl
 lex-lacks rest CapturingGroup h =
     ap bracketed (h.4 ∙ append_assoc h.0 (codes "(") (h.2 ∷ h.1))
     ∙ bracketed-front h.0 (codes "(" ++ h.2 ∷ h.1) h.3 refl refl
-    ∙ ap told (cond-false _ _ _ (false_from_ne_true _ h.5))
+    ∙ ap reported (cond-false _ _ _ (false_from_ne_true _ h.5))
 lex-lacks rest NotClosed h = ap bracketed (sym (append-nil rest)) ∙ bracketed-front rest [] h refl refl
 lex-lacks rest NoBody h = ap bracketed h.1
 
 lex-fault : (text : List ℕ) (fault : FaultView) → IsFaultAt text fault → lex text ≡ Fault fault
-unfolding lex marked escaped begins scan told
+unfolding lex marked escaped begins scan reported
 lex-fault text IncompleteEscapeCode (inl e) = ap lex e
 lex-fault text IncompleteEscapeCode (inr h) =
     ap lex h.2 ∙ bracketed-front h.0 (codes "\\") h.1 refl refl

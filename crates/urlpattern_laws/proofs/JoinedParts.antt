@@ -11,7 +11,7 @@ use Rattle.urlpattern_syntax.specs.Parts.{PartView}
 use Rattle.urlpattern_syntax.specs.RegexpText.{group_names, is_fixed_text, is_plain}
 use Rattle.urlpattern_syntax.specs.Tokens.{is_ignored}
 use Rattle.urlpattern_laws.specs.Printing.{joined, joined_with}
-use Rattle.urlpattern_laws.specs.RoundTrip.{AllHaveFields, AreNamed, ArePatternParts, AreUnskipped, HasFields, HasUnskipped, IsNamed, IsUnskipped, number_behind}
+use Rattle.urlpattern_laws.specs.RoundTrip.{AllHaveFields, AreNamed, ArePatternParts, AreUnskipped, HasFields, HasUnskipped, IsNamed, IsUnskipped, following_number}
 use Rattle.urlpattern_laws.proofs.MeaningLaws.{with_value}
 use Rattle.urlpattern_laws.proofs.PrintingLaws.{plain_kind}
 use Rattle.urlpattern_laws.proofs.RoundTripWords.{AreApart}
@@ -53,7 +53,7 @@ joined_fields options (part ∷ parts) h = fields_first options part (joined par
 
 -- ---- names
 
-fixed_number : (number : ℕ) (kind : PartType) (part : PartView) → kind ≡ FixedText → number_behind number kind part ≡ number
+fixed_number : (number : ℕ) (kind : PartType) (part : PartView) → kind ≡ FixedText → following_number number kind part ≡ number
 fixed_number number FixedText part e = refl
 fixed_number number kind part e = absurd (cc e)
 
@@ -63,17 +63,17 @@ names_pair number true part next parts fixed h =
     let behind = fixed_number number part.kind part (fixed.first refl) in (
       h.0,
       subst (λ n. AreNamed n parts)
-          (fixed_number (number_behind number part.kind part) next.kind next (fixed.second refl) ∙ behind ∙ sym (fixed_number number part.kind one (fixed.first refl))) h.1.1,
+          (fixed_number (following_number number part.kind part) next.kind next (fixed.second refl) ∙ behind ∙ sym (fixed_number number part.kind one (fixed.first refl))) h.1.1,
     )
 names_pair number false part next parts fixed h = h
 
-names_first : (number : ℕ) (part : PartView) (parts : List PartView) → IsNamed number part.kind part.name → AreNamed (number_behind number part.kind part) parts → AreNamed number (joined_with part parts)
+names_first : (number : ℕ) (part : PartView) (parts : List PartView) → IsNamed number part.kind part.name → AreNamed (following_number number part.kind part) parts → AreNamed number (joined_with part parts)
 names_first number part [] h more = (h, more)
 names_first number part (next ∷ parts) h more = names_pair number (is_plain part && is_plain next) part next parts (both_fixed part next) (h, more)
 
 joined_names : (number : ℕ) (parts : List PartView) → AreNamed number parts → AreNamed number (joined parts)
 joined_names number [] h = h
-joined_names number (part ∷ parts) h = names_first number part (joined parts) h.0 (joined_names (number_behind number part.kind part) parts h.1)
+joined_names number (part ∷ parts) h = names_first number part (joined parts) h.0 (joined_names (following_number number part.kind part) parts h.1)
 
 -- the names of groups, where this kind is that of the first part
 abbrev names_by : PartType → PartView → List PartView → List (List ℕ)

@@ -67,8 +67,8 @@ names_first : (part : PartView) (parts : List PartView) → group_names (joined_
 names_first part [] = refl
 names_first part (next ∷ parts) = names_pair part next parts (is_plain part) (is_plain next) refl refl
 
-pub same_names_behind : (part : PartView) (parts others : List PartView) → group_names parts ≡ group_names others → group_names (part ∷ parts) ≡ group_names (part ∷ others)
-same_names_behind part parts others e = go (is_fixed_text part.kind)
+pub same_names_after : (part : PartView) (parts others : List PartView) → group_names parts ≡ group_names others → group_names (part ∷ parts) ≡ group_names (part ∷ others)
+same_names_after part parts others e = go (is_fixed_text part.kind)
   where
     go : (is_fixed : Bool) →
         map (λ (p : PartView). p.name) (if not is_fixed then part ∷ filter (λ (p : PartView). not (is_fixed_text p.kind)) parts else filter (λ (p : PartView). not (is_fixed_text p.kind)) parts)
@@ -78,4 +78,4 @@ same_names_behind part parts others e = go (is_fixed_text part.kind)
 
 pub names_joined : (parts : List PartView) → group_names (joined parts) ≡ group_names parts
 names_joined [] = refl
-names_joined (part ∷ parts) = names_first part (joined parts) ∙ same_names_behind part (joined parts) parts (names_joined parts)
+names_joined (part ∷ parts) = names_first part (joined parts) ∙ same_names_after part (joined parts) parts (names_joined parts)

@@ -44,7 +44,7 @@ pub mod PrintedTexts
 pub mod PrintedPlaceholders
 pub mod PrintedBraces
 pub mod PrintedGroups
-pub mod PrintedBehind
+pub mod PrintedAfter
 pub mod PrintedFixed
 pub mod PrintedCaptures
 pub mod PrintedParts

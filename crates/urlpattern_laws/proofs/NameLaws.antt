@@ -147,12 +147,12 @@ met_new encoding earlier (Capture prefix name match suffix modifier ∷ items) f
 abbrev pub Differ : List ℕ → List ℕ → Type 0
 Differ name other = name ≢ other
 
--- What is to be shown of names that are new behind others.
-record AreNewBehind (earlier names : List (List ℕ)) : Type 0 where
+-- What is to be shown of names that are new after others.
+record AreNewAfter (earlier names : List (List ℕ)) : Type 0 where
   pub behind : All (λ name. ¬ Contains earlier name) names
   pub distinct : AllPairs Differ names
 
-new_names : (earlier : List (List ℕ)) (items : List Item) → NewNames earlier items → AreNewBehind earlier (item_names items)
+new_names : (earlier : List (List ℕ)) (items : List Item) → NewNames earlier items → AreNewAfter earlier (item_names items)
 new_names earlier [] h = record { behind = All-nil (λ name. ¬ Contains earlier name); distinct = λ i j d lt within. absurd (omega arith) }
 new_names earlier (Fixed text modifier ∷ items) h = new_names earlier items h
 new_names earlier (Capture prefix name match suffix modifier ∷ items) h =

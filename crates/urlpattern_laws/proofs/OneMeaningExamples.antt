@@ -31,7 +31,7 @@ use Rattle.urlpattern_syntax.proofs.TokenExamples.{no}
 pub users_of : tree_of pathname_options users_parts ≡ users_tree
 users_of = refl
 
--- the delimiter `]` stands behind a backslash in the class
+-- the delimiter `]` stands after a backslash in the class
 pub bracket_of : tree_of (standard_options (Some (slice_index (codes "]") 0)) []) (group SegmentWildcard [] (codes "x") [] modifiers.None ∷ [])
     ≡ once (Captured (Item (AnyBut (Escaped (slice_index (codes "]") 0))) LazyOneOrMore Nothing))
 bracket_of = refl

@@ -77,41 +77,41 @@ data Verdict (encoding : Encoding) (Is : List ℕ → Type 0) (all : List Demand
 
 module _ (encoding : Encoding) (Is : List ℕ → Type 0) where
   -- each text that is asked for has an answer, or `Is` holds of it
-  abbrev Told : List Demand → Type 0
-  Told all = (before behind : List Demand) (asked : List ℕ) → all ≡ before ++ Encode asked ∷ behind → AreMet encoding before → HasAnswer encoding asked ⊎ Is asked
+  abbrev Reported : List Demand → Type 0
+  Reported all = (before behind : List Demand) (asked : List ℕ) → all ≡ before ++ Encode asked ∷ behind → AreMet encoding before → HasAnswer encoding asked ⊎ Is asked
 
   later : (demand : Demand) (rest : List Demand) → IsMet encoding demand → Verdict encoding Is rest → Verdict encoding Is (demand ∷ rest)
   later demand rest met (Met more) = Met (met, more)
   later demand rest met (Failed error fails) = Failed error (inr (met, fails))
   later demand rest met (Unanswered before behind asked cut are_met is) = Unanswered (demand ∷ before) behind asked (ap (λ x. demand ∷ x) cut) (met, are_met) is
 
-  first : (demand : Demand) (rest : List Demand) → Told (demand ∷ rest) → (IsMet encoding demand → Verdict encoding Is rest) → Verdict encoding Is (demand ∷ rest)
-  first (Encode text) rest told more = by_answer (told [] rest text refl tt)
+  first : (demand : Demand) (rest : List Demand) → Reported (demand ∷ rest) → (IsMet encoding demand → Verdict encoding Is rest) → Verdict encoding Is (demand ∷ rest)
+  first (Encode text) rest reported more = by_answer (reported [] rest text refl tt)
     where
       by_answer : HasAnswer encoding text ⊎ Is text → Verdict encoding Is (Encode text ∷ rest)
       by_answer (inl (Ok answer, h)) = later (Encode text) rest (answer, h) (more (answer, h))
       by_answer (inl (Err error, h)) = Failed error (inl h)
       by_answer (inr is) = Unanswered [] rest text refl tt is
-  first (NewName earlier name) rest told more = elim (contained_or_not earlier name) [
+  first (NewName earlier name) rest reported more = elim (contained_or_not earlier name) [
     | inl h ↦ Failed (views.DuplicateName name) (inl (h, refl))
     | inr new ↦ later (NewName earlier name) rest new (more new)
   ]
-  first (Expect kind token) rest told more = elim (kind_or_other token.kind kind) [
+  first (Expect kind token) rest reported more = elim (kind_or_other token.kind kind) [
     | inl e ↦ later (Expect kind token) rest e (more e)
     | inr other ↦ Failed (views.ExpectedToken kind token.kind token.value) (inl (other, refl))
   ]
 
-  verdict : (all : List Demand) → Told all → Verdict encoding Is all
-  verdict [] told = Met tt
-  verdict (demand ∷ rest) told =
-      first demand rest told
-      (λ met. verdict rest (λ before behind asked cut are_met. told (demand ∷ before) behind asked (ap (λ x. demand ∷ x) cut) (met, are_met)))
+  verdict : (all : List Demand) → Reported all → Verdict encoding Is all
+  verdict [] reported = Met tt
+  verdict (demand ∷ rest) reported =
+      first demand rest reported
+      (λ met. verdict rest (λ before behind asked cut are_met. reported (demand ∷ before) behind asked (ap (λ x. demand ∷ x) cut) (met, are_met)))
 
 -- ---- what is met
 
-met_behind : (encoding : Encoding) (xs ys : List Demand) → AreMet encoding (xs ++ ys) → AreMet encoding ys
-met_behind encoding [] ys h = h
-met_behind encoding (x ∷ xs) ys h = met_behind encoding xs ys h.1
+met_after : (encoding : Encoding) (xs ys : List Demand) → AreMet encoding (xs ++ ys) → AreMet encoding ys
+met_after encoding [] ys h = h
+met_after encoding (x ∷ xs) ys h = met_after encoding xs ys h.1
 
 -- before the end of the tokens each fixed text is asked for
 demands-stops : (earlier : List (List ℕ)) (text : List ℕ) (modifier : PartModifier) (items : List Item) (found : TokenView) → demands_after earlier (Fixed text modifier ∷ items) (endings.Stops found) ≡ encode_fixed text ++ demands_after earlier items (endings.Stops found)
@@ -141,13 +141,13 @@ met_close : (encoding : Encoding) (earlier : List (List ℕ)) (items : List Item
 met_close encoding earlier [] found met = met.0
 met_close encoding earlier (Fixed text modifiers.None ∷ []) found met = met.0
 met_close encoding earlier (Fixed text modifiers.None ∷ x ∷ items) found met =
-    met_close encoding earlier (x ∷ items) found (met_behind encoding (encode_fixed text) (demands_after earlier (x ∷ items) (endings.LacksClose found)) met)
+    met_close encoding earlier (x ∷ items) found (met_after encoding (encode_fixed text) (demands_after earlier (x ∷ items) (endings.LacksClose found)) met)
 met_close encoding earlier (Fixed text modifiers.Optional ∷ items) found met =
-    met_close encoding earlier items found (met_behind encoding (encode_fixed text) (demands_after earlier items (endings.LacksClose found)) met)
+    met_close encoding earlier items found (met_after encoding (encode_fixed text) (demands_after earlier items (endings.LacksClose found)) met)
 met_close encoding earlier (Fixed text modifiers.ZeroOrMore ∷ items) found met =
-    met_close encoding earlier items found (met_behind encoding (encode_fixed text) (demands_after earlier items (endings.LacksClose found)) met)
+    met_close encoding earlier items found (met_after encoding (encode_fixed text) (demands_after earlier items (endings.LacksClose found)) met)
 met_close encoding earlier (Fixed text modifiers.OneOrMore ∷ items) found met =
-    met_close encoding earlier items found (met_behind encoding (encode_fixed text) (demands_after earlier items (endings.LacksClose found)) met)
+    met_close encoding earlier items found (met_after encoding (encode_fixed text) (demands_after earlier items (endings.LacksClose found)) met)
 met_close encoding earlier (Capture prefix name match suffix modifier ∷ items) found met =
     met_close encoding (earlier ++ name ∷ []) items found met.1.1.1
 
@@ -168,7 +168,7 @@ module _ (text : List ℕ) (options : OptionsView) (encoding : Encoding) (Is : L
       inl (Err error, inr (record { tokens = tokens; pieces = pieces; ending = ending; are_tokens = h; are_pieces = p; fails = fails }))
   judged tokens pieces ending h p (Unanswered before behind asked cut met is) = inr (
     asked,
-    record { tokens = tokens; pieces = pieces; ending = ending; before = before; behind = behind; are_tokens = h; are_pieces = p; asks = cut; are_met = met },
+    record { tokens = tokens; pieces = pieces; ending = ending; before = before; later = behind; are_tokens = h; are_pieces = p; asks = cut; are_met = met },
     is,
   )
   judged tokens pieces (endings.Stops found) h p (Met met) =
@@ -178,18 +178,18 @@ module _ (text : List ℕ) (options : OptionsView) (encoding : Encoding) (Is : L
       let e = ending_tokens options.prefix tokens pieces (endings.LacksClose found) p in
       absurd (e.1.6 (met_close encoding [] (items_of pieces) found met))
 
-  outcome_told : ((asked : List ℕ) → Asks text options encoding asked → HasAnswer encoding asked ⊎ Is asked) → Outcome
-  outcome_told told = elim (tokens_or_fault_exist text) [
+  outcome_reported : ((asked : List ℕ) → Asks text options encoding asked → HasAnswer encoding asked ⊎ Is asked) → Outcome
+  outcome_reported reported = elim (tokens_or_fault_exist text) [
     | inl t ↦
         let p = pieces_exist options.prefix t.0 (are_token_list text t.0 t.1) in
         judged t.0 p.0 p.1 t.1 p.2 (verdict encoding Is (demands (items_of p.0) p.1) (λ before behind asked cut met.
-        told asked (record { tokens = t.0; pieces = p.0; ending = p.1; before = before; behind = behind; are_tokens = t.1; are_pieces = p.2; asks = cut; are_met = met })))
+        reported asked (record { tokens = t.0; pieces = p.0; ending = p.1; before = before; later = behind; are_tokens = t.1; are_pieces = p.2; asks = cut; are_met = met })))
     | inr f ↦ inl (Err (views.Tokenizer f.0 f.1), inl (f.0, f.1, f.2, refl))
   ]
 
 -- Where the encoding answers what it is asked about, the text has an outcome.
 pub outcome_answered : (text : List ℕ) (options : OptionsView) (encoding : Encoding) → AnswersAsked text options encoding → HasSomeOutcome text options encoding
-outcome_answered text options encoding answered = elim (outcome_told text options encoding (λ _. ⊥) (λ asked asks. inl (answered asked asks))) [
+outcome_answered text options encoding answered = elim (outcome_reported text options encoding (λ _. ⊥) (λ asked asks. inl (answered asked asks))) [
   | inl outcome ↦ outcome
   | inr lacks ↦ absurd lacks.2
 ]
@@ -197,4 +197,4 @@ outcome_answered text options encoding answered = elim (outcome_told text option
 -- With a list of answers, the text has an outcome, or it asks about one that is not in the list.
 pub outcome_listed : (text : List ℕ) (options : OptionsView) (answers : List (List ℕ × Result (List ℕ) ErrorView)) → HasSomeOutcome text options (listed answers) ⊎ LacksAnswer text options (listed answers)
 outcome_listed text options answers =
-    outcome_told text options (listed answers) (λ asked. ¬ HasAnswer (listed answers) asked) (λ asked asks. answered_or_not answers asked)
+    outcome_reported text options (listed answers) (λ asked. ¬ HasAnswer (listed answers) asked) (λ asked asks. answered_or_not answers asked)

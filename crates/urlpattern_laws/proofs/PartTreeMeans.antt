@@ -53,7 +53,7 @@ some_texts marks value text captures (suc n) some are e = (n, of_texts marks val
 
 -- ---- a part before items
 
--- what a part, and items behind it, mean
+-- what a part, and items after it, mean
 abbrev pub MeansBefore : OptionsView → PartView → Items → List ℕ → Captures → Type 0
 MeansBefore options part items text captures =
     (first rest : List ℕ) × (own others : Captures) × (text ≡ first ++ rest) × (captures ≡ own ++ others)

@@ -13,7 +13,7 @@ use Rattle.urlpattern_syntax.specs.Text.{is_among}
 
 -- ---- texts
 
--- a character, behind a backslash if it is one of the marks
+-- a character, after a backslash if it is one of the marks
 abbrev pub character : (marks : List ℕ) → ℕ → Character
 character marks c = if is_among marks c then Escaped c else Plain c
 
@@ -39,7 +39,7 @@ wildcard_items options kind = Nothing
 
 -- ---- one part
 
--- the modifier as it is written behind an atom
+-- the modifier as it is written after an atom
 abbrev pub quantifier_of : PartModifier → Quantifier
 quantifier_of modifiers.None = quantifiers.Once
 quantifier_of modifiers.Optional = quantifiers.Optional

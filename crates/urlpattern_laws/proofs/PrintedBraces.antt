@@ -1,4 +1,4 @@
--- Modifiers, braces, and the suffix behind a name, as they are printed.
+-- Modifiers, braces, and the suffix after a name, as they are printed.
 use Rattle.std.proofs.Common.{◌≡◌, ℕ, Bool, true, false, List, [], ◌∷◌, ◌++◌, refl, sym, ap, ◌∙◌, subst, append_assoc}
 use Rattle.std.specs.Prelude.{IsTrue, codes, if◌then◌else◌}
 use Rattle.std.proofs.lemmas.Bool.{and_parts, both_ways}
@@ -59,7 +59,7 @@ modifier_regexp total modifiers.OneOrMore rest behind free = no
 
 -- ---- braces
 
--- what stands behind what stands in braces
+-- what stands after what stands in braces
 abbrev pub closing_text : PartModifier → (rest : List ℕ) → List ℕ
 closing_text modifier rest = codes "}" ++ (modifier_text modifier ++ rest)
 
@@ -143,7 +143,7 @@ suffix_tokens total true (c ∷ suffix) rest part h =
       are_texts = (more.0, ap (λ t. c ∷ t) more.1);
     }
 
--- behind a name that stands alone, a suffix with its backslash ends the name
+-- after a name that stands alone, a suffix with its backslash ends the name
 pub suffix_ends : (kept : Bool) (suffix rest : List ℕ) → begins_with is_name_part suffix ≡ kept → ¬ BeginsWith is_name_part rest → ¬ BeginsWith is_name_part (suffix_text kept suffix ++ rest)
 suffix_ends true suffix rest e free = mark_ends (codes "\\") refl
 suffix_ends false suffix rest e free = text_ends suffix rest e (λ f. free)

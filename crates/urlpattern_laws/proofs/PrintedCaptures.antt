@@ -15,8 +15,8 @@ use Rattle.urlpattern_syntax.specs.RegexpText.{is_empty, is_fixed_text, is_unmod
 use Rattle.urlpattern_syntax.specs.Text.{BeginsWith, begins_with, byte_len, is_name_part}
 use Rattle.urlpattern_syntax.specs.Tokens.{TokenView, end_of}
 use Rattle.urlpattern_laws.specs.Printing.{admits_asterisk, first_part, goes_on, has_custom_name, has_other_prefix, has_suffix, last_of, needs_braces, printed_after, printed_fixed, printed_group, printed_part, takes_before, takes_next}
-use Rattle.urlpattern_laws.specs.RoundTrip.{IsPrefixPoint, number_behind}
-use Rattle.urlpattern_laws.proofs.PrintedBehind.{Behind, ReadsBack, are_more, behind_any, goes_by, goes_not}
+use Rattle.urlpattern_laws.specs.RoundTrip.{IsPrefixPoint, following_number}
+use Rattle.urlpattern_laws.proofs.PrintedAfter.{Behind, ReadsBack, are_more, after_any, goes_by, goes_not}
 use Rattle.urlpattern_laws.proofs.PrintedGroups.{GroupPiece, IsGroup, group_bare, group_braced}
 use Rattle.urlpattern_laws.proofs.PrintedTokens.{Run, run_joined}
 use Rattle.urlpattern_laws.proofs.RoundTripWords.{IsItemOf}
@@ -47,7 +47,7 @@ filled_text (c ∷ text) h = refl
 
 -- ---- what a group begins with
 
--- behind a group without modifier no asterisk is printed
+-- after a group without modifier no asterisk is printed
 admits_none : (before : PartView) → is_fixed_text before.kind ≡ false → IsTrue (is_unmodified before.modifier) → admits_asterisk (Some before) ≡ false
 admits_none before group plain = ap (λ b. b || not (is_unmodified before.modifier)) group ∙ ap not plain
 
@@ -77,7 +77,7 @@ needs_none options before part next h =
     let one = or_parts (has_suffix part) (has_other_prefix options part) two.0 in
     record { no_suffix = empty_text part.suffix one.0; no_other_prefix = one.1; takes_none = two.1 }
 
-module _ (options : OptionsView) (whole : List ℕ) (before : Option PartView) (number : ℕ) (part : PartView) (parts : List PartView) (is : IsGroup options number part) (more : ReadsBack options whole (Some part) (number_behind number part.kind part) parts) where
+module _ (options : OptionsView) (whole : List ℕ) (before : Option PartView) (number : ℕ) (part : PartView) (parts : List PartView) (is : IsGroup options number part) (more : ReadsBack options whole (Some part) (following_number number part.kind part) parts) where
   abbrev rest : List ℕ
   rest = printed_after options (Some part) parts
 
@@ -94,9 +94,9 @@ module _ (options : OptionsView) (whole : List ℕ) (before : Option PartView) (
         no_name_part = λ alone plain. more.behind.no_name_part alone plain none.takes_none;
       })
 
-  behind_by : (braces : Bool) → needs_braces options before part (first_part parts) ≡ braces → (piece : GroupPiece options (byte_len whole) number before part braces rest last) → (earlier : PartView) → before ≡ Some earlier →
+  after_by : (braces : Bool) → needs_braces options before part (first_part parts) ≡ braces → (piece : GroupPiece options (byte_len whole) number before part braces rest last) → (earlier : PartView) → before ≡ Some earlier →
       Behind options earlier (Some part) (printed_part options before part (first_part parts) ++ rest) ((piece.tokens ++ more.tokens) ++ end_of whole ∷ [])
-  behind_by braces e piece earlier f = record {
+  after_by braces e piece earlier f = record {
     no_modifier = λ group plain. by_tokens is_modifier (piece.no_modifier (ap admits_asterisk f ∙ admits_none earlier group plain));
     no_placeholder = λ fixed filled g. by_tokens is_placeholder (piece.no_placeholder (λ prefix. sym e ∙ or_right _ _ (ap (λ b. takes_before options b part) f ∙ before_taken options earlier part prefix fixed filled g)));
     no_regexp = λ alone plain free. by_tokens is_regexp (piece.no_regexp (own (goes_not earlier part alone plain free)));
@@ -118,13 +118,13 @@ module _ (options : OptionsView) (whole : List ℕ) (before : Option PartView) (
     are_pieces = are_more options.prefix piece.tokens more.tokens (end_of whole ∷ []) piece.piece more.pieces (endings.Stops (end_of whole)) piece.is_piece more.are_pieces;
     are_items = (
       Capture part.prefix part.name piece.placeholder.matched part.suffix part.modifier,
-      joined_items (items_from (number_behind number part.kind part) more.pieces),
+      joined_items (items_from (following_number number part.kind part) more.pieces),
       ap (λ x. joined_items (x ∷ items_from (number_after number piece.piece) more.pieces)) piece.is_item
           ∙ ap (λ n. Capture part.prefix part.name piece.placeholder.matched part.suffix part.modifier ∷ joined_items (items_from n more.pieces)) piece.is_number,
       capture_item options part.kind part piece.placeholder.matched is.group piece.shows.is_kind piece.shows.is_value,
       more.are_items,
     );
-    behind = behind_any options before (Some part) _ _ (behind_by braces e piece);
+    behind = after_any options before (Some part) _ _ (after_by braces e piece);
   }
 
   pub step_group : IsPrefixPoint options.prefix → ReadsBack options whole before number (part ∷ parts)

@@ -19,7 +19,7 @@ use Rattle.urlpattern_syntax.specs.Text.{BeginsWith, begins_with, byte_len, is_n
 use Rattle.urlpattern_syntax.specs.Tokens.{TokenView, end_of}
 use Rattle.urlpattern_laws.specs.Printing.{escaped_pattern, first_part, goes_on, has_custom_name, in_braces, needs_braces, printed_after, printed_fixed, printed_group, printed_part}
 use Rattle.urlpattern_laws.specs.RoundTrip.{IsUnskipped}
-use Rattle.urlpattern_laws.proofs.PrintedBehind.{Behind, ReadsBack, are_more, behind_any, goes_by, goes_not}
+use Rattle.urlpattern_laws.proofs.PrintedAfter.{Behind, ReadsBack, are_more, after_any, goes_by, goes_not}
 use Rattle.urlpattern_laws.proofs.PrintedBraces.{braced_run, braced_tokens, closing_text, is_braced, text_ends}
 use Rattle.urlpattern_laws.proofs.PrintedTexts.{are_text_pieces, text_are, text_first, text_items, text_no_modifier, text_no_placeholder, text_no_regexp, text_pieces, text_run, text_tokens}
 use Rattle.urlpattern_laws.proofs.PrintedTokens.{Run, mark_ends, run_joined}
@@ -91,7 +91,7 @@ module _ (options : OptionsView) (whole : List ℕ) (before : Option PartView) (
   abbrev total : ℕ
   total = byte_len whole
 
-  -- what is printed behind the part
+  -- what is printed after the part
   abbrev rest : List ℕ
   rest = printed_after options (Some part) parts
 
@@ -107,7 +107,7 @@ module _ (options : OptionsView) (whole : List ℕ) (before : Option PartView) (
     run = subst (λ t. Run total [] (t ++ rest) (first ++ more.tokens)) spelled run;
     are_pieces = are_pieces;
     are_items = (Fixed part.value part.modifier, joined_items (items_from number more.pieces), items, fixed_item options part.kind part (fixed_kind part.kind fixed), more.are_items);
-    behind = behind_any options before (Some part) _ _ behind;
+    behind = after_any options before (Some part) _ _ behind;
   }
 
   pub step_plain : IsTrue (is_plain part) → part.value ≢ [] → IsUnskipped part.value → part.prefix ≡ [] → part.suffix ≡ [] → AreApart (part ∷ parts) →

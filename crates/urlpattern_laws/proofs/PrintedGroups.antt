@@ -15,7 +15,7 @@ use Rattle.urlpattern_syntax.specs.RegexpText.{escaped, is_empty, is_fixed_text,
 use Rattle.urlpattern_syntax.specs.Text.{BeginsWith, begins_with, is_among, is_name_part}
 use Rattle.urlpattern_syntax.specs.Tokens.{TokenView}
 use Rattle.urlpattern_laws.specs.Printing.{admits_asterisk, escaped_pattern, has_custom_name, has_other_prefix, is_asterisk, is_name_alone, pattern_marks, printed_group, printed_match, printed_name, printed_suffix}
-use Rattle.urlpattern_laws.specs.RoundTrip.{HasFields, IsNamed, IsPrefixPoint, IsUnskipped, number_behind}
+use Rattle.urlpattern_laws.specs.RoundTrip.{HasFields, IsNamed, IsPrefixPoint, IsUnskipped, following_number}
 use Rattle.urlpattern_laws.proofs.PrintedBraces.{SuffixTokens, braced_run, braced_tokens, closing_text, is_braced, modifier_ends, modifier_is, modifier_regexp, modifier_run, modifier_takes, modifier_tokens, suffix_ends, suffix_text, suffix_tokens, text_ends, texts_no_regexp}
 use Rattle.urlpattern_laws.proofs.PrintedPlaceholders.{Placed, Shows, name_by, named_no_regexp, not_anything, placed_no_modifier, placed_part, placeholder_of, shows_part, takes_regexp}
 use Rattle.urlpattern_laws.proofs.PrintedTexts.{kind_by, text_are, text_first, text_no_modifier, text_no_placeholder, text_no_regexp, text_run, text_tokens}
@@ -38,13 +38,13 @@ pub record GroupPiece (options : OptionsView) (total number : ℕ) (before : Opt
   pub is_piece : IsPiece options.prefix tokens piece behind
   pub shows : Shows options number part.kind part placeholder
   pub is_item : item number piece ≡ Capture part.prefix part.name placeholder.matched part.suffix part.modifier
-  pub is_number : number_after number piece ≡ number_behind number part.kind part
+  pub is_number : number_after number piece ≡ following_number number part.kind part
   pub no_modifier : admits_asterisk before ≡ false → ¬ BeginsWithKind is_modifier (tokens ++ behind)
   pub no_placeholder : (part.prefix ≡ [] → braces ≡ true) → ¬ BeginsWithKind is_placeholder (tokens ++ behind)
   pub no_regexp : (part.prefix ≡ [] → braces ≡ false → IsTrue (has_custom_name part)) → ¬ BeginsWithKind is_regexp (tokens ++ behind)
   pub no_name_part : (part.prefix ≡ [] → braces ≡ false → IsTrue (has_custom_name part)) → ¬ BeginsWith is_name_part (printed_group options before part braces ++ rest)
 
--- an asterisk stands behind no name
+-- an asterisk stands after no name
 unnamed_asterisk : (custom other : Bool) → IsTrue custom → (not custom && other) ≡ false
 unnamed_asterisk true other h = refl
 unnamed_asterisk false other h = absurd (no h)
@@ -171,7 +171,7 @@ colon_ends false name rest h = absurd (no h)
 three_lists : (a b c d : List TokenView) → (a ++ b ++ c) ++ d ≡ a ++ (b ++ (c ++ d))
 three_lists a b c d = simp append_assoc
 
--- an asterisk without braces and without a prefix stands behind what admits one
+-- an asterisk without braces and without a prefix stands after what admits one
 no_asterisk : (custom admits : Bool) (prefix : List ℕ) → prefix ≡ [] → admits ≡ false → (not custom && (admits || false || not (is_empty prefix))) ≡ false
 no_asterisk true admits prefix e f = refl
 no_asterisk false true prefix e f = absurd (false≢true (sym f))

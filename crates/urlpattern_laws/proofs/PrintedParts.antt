@@ -11,8 +11,8 @@ use Rattle.urlpattern_syntax.specs.Parts.{PartView}
 use Rattle.urlpattern_syntax.specs.RegexpText.{is_fixed_text, is_unmodified}
 use Rattle.urlpattern_syntax.specs.Tokens.{end_of}
 use Rattle.urlpattern_laws.specs.Printing.{HaveTexts, printed}
-use Rattle.urlpattern_laws.specs.RoundTrip.{AllHaveFields, AreNamed, ArePatternParts, AreUnskipped, HasFields, HasUnskipped, IsNamed, IsPrefixPoint, IsUnskipped, number_behind}
-use Rattle.urlpattern_laws.proofs.PrintedBehind.{ReadsBack, reads_end}
+use Rattle.urlpattern_laws.specs.RoundTrip.{AllHaveFields, AreNamed, ArePatternParts, AreUnskipped, HasFields, HasUnskipped, IsNamed, IsPrefixPoint, IsUnskipped, following_number}
+use Rattle.urlpattern_laws.proofs.PrintedAfter.{ReadsBack, reads_end}
 use Rattle.urlpattern_laws.proofs.PrintedCaptures.{step_group}
 use Rattle.urlpattern_laws.proofs.PrintedFixed.{step_modified, step_plain}
 use Rattle.urlpattern_laws.proofs.PrintedTokens.{run_tokens}
@@ -32,17 +32,17 @@ record IsBefore (options : OptionsView) (whole : List ℕ) (number : ℕ) (part 
   pub filled : IsTrue (is_fixed_text part.kind) → part.value ≢ []
   pub unskipped : HasUnskipped part.kind part
   pub apart : AreApart (part ∷ parts)
-  pub more : ReadsBack options whole (Some part) (number_behind number part.kind part) parts
+  pub more : ReadsBack options whole (Some part) (following_number number part.kind part) parts
 
 step_fixed : (options : OptionsView) (whole : List ℕ) (before : Option PartView) (number : ℕ) (part : PartView) (parts : List PartView) (modifier : PartModifier) → part.kind ≡ FixedText → part.modifier ≡ modifier → IsBefore options whole number part parts → ReadsBack options whole before number (part ∷ parts)
 step_fixed options whole before number part parts modifiers.None e f is =
     let fields = subst (λ kind. HasFields options kind part) e is.fields in
     step_plain options whole before number part parts (and_from _ _ (ap is_fixed_text e) (ap is_unmodified f)) (is.filled (ap is_fixed_text e))
     (subst (λ kind. HasUnskipped kind part) e is.unskipped) fields.0 fields.1 is.apart
-    (subst (λ kind. ReadsBack options whole (Some part) (number_behind number kind part) parts) e is.more)
+    (subst (λ kind. ReadsBack options whole (Some part) (following_number number kind part) parts) e is.more)
 step_fixed options whole before number part parts modifier e f is =
     step_modified options whole before number part parts (ap is_fixed_text e) (ap is_unmodified f)
-    (subst (λ kind. HasUnskipped kind part) e is.unskipped) (subst (λ kind. ReadsBack options whole (Some part) (number_behind number kind part) parts) e is.more)
+    (subst (λ kind. HasUnskipped kind part) e is.unskipped) (subst (λ kind. ReadsBack options whole (Some part) (following_number number kind part) parts) e is.more)
 
 step_capture : (options : OptionsView) (whole : List ℕ) (before : Option PartView) (number : ℕ) (part : PartView) (parts : List PartView) → is_fixed_text part.kind ≡ false → IsUnskipped part.prefix → IsUnskipped part.suffix → IsBefore options whole number part parts → ReadsBack options whole before number (part ∷ parts)
 step_capture options whole before number part parts group prefix suffix is =
@@ -67,7 +67,7 @@ reads_back options whole before number (part ∷ parts) point fields named fille
       filled = filled.0;
       unskipped = unskipped.0;
       apart = apart;
-      more = reads_back options whole (Some part) (number_behind number part.kind part) parts point fields.1 named.1 filled.1 unskipped.1 (apart_rest part parts apart);
+      more = reads_back options whole (Some part) (following_number number part.kind part) parts point fields.1 named.1 filled.1 unskipped.1 (apart_rest part parts apart);
     })
 
 -- parts that are apart print as a text whose tokens and pieces stand for the parts, one by one

@@ -20,7 +20,7 @@ use Rattle.urlpattern_syntax.specs.Text.{BeginsWith, begins_with, is_name_part}
 use Rattle.urlpattern_syntax.specs.Tokens.{IsName, IsRegexpBody, TokenView}
 use Rattle.urlpattern_syntax.specs.Tokens.{Body as bodies}
 use Rattle.urlpattern_laws.specs.Printing.{has_custom_name, is_segment, printed_match, printed_name}
-use Rattle.urlpattern_laws.specs.RoundTrip.{HasFields, IsNamed, number_behind}
+use Rattle.urlpattern_laws.specs.RoundTrip.{HasFields, IsNamed, following_number}
 use Rattle.urlpattern_syntax.proofs.NameCharacters.{decimal_digited, name_not_digited}
 use Rattle.urlpattern_laws.proofs.PrintedTokens.{Run, asterisk_lexed, done, mark_ends, name_lexed, next, regexp_lexed, token_at}
 
@@ -84,7 +84,7 @@ number_shown : (number : ℕ) (kind : PartType) (name : List ℕ) (custom : Bool
 number_shown number kind name true group = refl
 number_shown number kind name false group = refl
 
-number_of : (number : ℕ) (kind : PartType) (part : PartView) → is_fixed_text kind ≡ false → number_behind number kind part ≡ (if has_custom_name part then number else suc number)
+number_of : (number : ℕ) (kind : PartType) (part : PartView) → is_fixed_text kind ≡ false → following_number number kind part ≡ (if has_custom_name part then number else suc number)
 number_of number FixedText part group = absurd (false≢true (sym group))
 number_of number Regexp part group = refl
 number_of number SegmentWildcard part group = refl
@@ -101,7 +101,7 @@ compared_full options false = refl
 -- What a placeholder stands for is a part of this kind.
 pub record Shows (options : OptionsView) (number : ℕ) (kind : PartType) (part : PartView) (placeholder : Placeholder) : Type 0 where
   pub name : name_or placeholder.name number ≡ part.name
-  pub number_after : next_number placeholder.name number ≡ number_behind number kind part
+  pub number_after : next_number placeholder.name number ≡ following_number number kind part
   pub is_kind : kind_of options (compared options placeholder.matched) ≡ kind
   pub is_value : value_of kind (compared options placeholder.matched) ≡ part.value
 
@@ -206,7 +206,7 @@ placed_by options total number kind part true false rest e none group h named en
     placed_named options total kind part rest group h (name_given number kind part.name group named e) (λ segment. ends (and_from _ _ segment refl))
 placed_by options total number kind part false asterisk rest e none group h named ends = placed_numbered options total kind part asterisk rest group h (both_ways (has_custom_name part) e)
 
--- the tokens of a part's name and of what it matches, where no asterisk stands behind a name and the rest does not go
+-- the tokens of a part's name and of what it matches, where no asterisk stands after a name and the rest does not go
 -- on with a name that stands alone
 pub placed_part : (options : OptionsView) (total number : ℕ) (kind : PartType) (part : PartView) (asterisk : Bool) (rest : List ℕ) → (IsTrue (has_custom_name part) → asterisk ≡ false) →
     is_fixed_text kind ≡ false → HasFields options kind part → IsNamed number kind part.name → (IsTrue (is_segment kind && has_custom_name part) → ¬ BeginsWith is_name_part rest) →

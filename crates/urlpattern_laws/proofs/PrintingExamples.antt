@@ -29,7 +29,7 @@ pub escaped_mark : escaped_pattern (codes "a{b\\") ≡ codes "a\\{b\\\\"
 unfolding printing
 escaped_mark = refl
 
--- a bracket behind a name would be the name's
+-- a bracket after a name would be the name's
 pub wild : printed default_options (segment [] (codes "x") [] ∷ wildcard (codes "0") ∷ []) ≡ codes "{:x}(.*)"
 unfolding printing
 wild = refl
@@ -39,7 +39,7 @@ pub slash : printed pathname_options (plain (codes "/") ∷ segment [] (codes "x
 unfolding printing
 slash = refl
 
--- a letter behind a name would be the name's, between braces too
+-- a letter after a name would be the name's, between braces too
 pub suffixed : printed default_options (segment [] (codes "x") (codes "foo") ∷ []) ≡ codes "{:x\\foo}"
 unfolding printing
 suffixed = refl
@@ -53,7 +53,7 @@ pub braced_slash : printed pathname_options (fixed_text (codes "/") modifiers.Op
 unfolding printing
 braced_slash = refl
 
--- no braces round the prefix code point and a name, where a modifier stands behind them
+-- no braces round the prefix code point and a name, where a modifier stands after them
 pub prefixed : printed pathname_options (plain (codes "/a") ∷ group SegmentWildcard (codes "/") (codes "x") [] modifiers.Optional ∷ plain (codes "b") ∷ []) ≡ codes "/a/:x?b"
 unfolding printing
 prefixed = refl
@@ -78,7 +78,7 @@ pub number : printed pathname_options (segment [] (codes "0") [] ∷ []) ≡ cod
 unfolding printing
 number = refl
 
--- an asterisk behind an asterisk would be its modifier
+-- an asterisk after an asterisk would be its modifier
 pub wildcards : printed default_options (wildcard (codes "0") ∷ wildcard (codes "1") ∷ []) ≡ codes "*(.*)"
 unfolding printing
 wildcards = refl

@@ -89,7 +89,7 @@ same_after options a b [] e f = refl
 same_after options a b (part ∷ parts) e f =
     ap (λ t. t ++ printed_after options (Some part) parts) (same_before options a b part (first_part parts) (e part) f)
 
--- parts behind that decide the same
+-- parts after that decide the same
 same_next : (options : OptionsView) (before : Option PartView) (part : PartView) (a b : Option PartView) →
     takes_next part a ≡ takes_next part b → printed_part options before part a ≡ printed_part options before part b
 same_next options before part a b e =

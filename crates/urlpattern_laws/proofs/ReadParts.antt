@@ -18,7 +18,7 @@ use Rattle.urlpattern_syntax.specs.Reading.{AreParts, Capture, Encoding, Fixed, 
 use Rattle.urlpattern_syntax.specs.RegexpText.{full_wildcard, segment_wildcard, segment_wildcard_of}
 use Rattle.urlpattern_syntax.specs.Text.{begins_with, is_among}
 use Rattle.urlpattern_syntax.specs.Tokens.{AreTokens, IsName, IsRegexpBody, TokenView}
-use Rattle.urlpattern_laws.specs.RoundTrip.{AllHaveFields, AreNamed, ArePatternParts, HasFields, IsNamed, number_behind}
+use Rattle.urlpattern_laws.specs.RoundTrip.{AllHaveFields, AreNamed, ArePatternParts, HasFields, IsNamed, following_number}
 use Rattle.urlpattern_laws.proofs.KindValues.{AllOfKind, PiecesHave, pieces_have, text_of_kind}
 use Rattle.urlpattern_laws.proofs.NameLaws.{GivesName, NamePieces, all_piece_names, names_distinct, text_names}
 use Rattle.urlpattern_syntax.proofs.NameCharacters.{decimal_starts, name_starts, starts_with_digit}
@@ -217,10 +217,10 @@ group_named options regexp number name h =
     cond_both (bytes_eq regexp (segment_wildcard options)) SegmentWildcard _ (λ kind. IsNamed number kind name) (λ _. h)
     (λ _. cond_both (bytes_eq regexp full_wildcard) FullWildcard part_types.Regexp (λ kind. IsNamed number kind name) (λ _. h) (λ _. h))
 
-group_number : (options : OptionsView) (regexp : List ℕ) (number : ℕ) (part : PartView) → number_behind number (kind_of options regexp) part ≡ number_with number part.name
+group_number : (options : OptionsView) (regexp : List ℕ) (number : ℕ) (part : PartView) → following_number number (kind_of options regexp) part ≡ number_with number part.name
 group_number options regexp number part =
-    cond_both (bytes_eq regexp (segment_wildcard options)) SegmentWildcard _ (λ kind. number_behind number kind part ≡ number_with number part.name) (λ _. refl)
-    (λ _. cond_both (bytes_eq regexp full_wildcard) FullWildcard part_types.Regexp (λ kind. number_behind number kind part ≡ number_with number part.name) (λ _. refl) (λ _. refl))
+    cond_both (bytes_eq regexp (segment_wildcard options)) SegmentWildcard _ (λ kind. following_number number kind part ≡ number_with number part.name) (λ _. refl)
+    (λ _. cond_both (bytes_eq regexp full_wildcard) FullWildcard part_types.Regexp (λ kind. following_number number kind part ≡ number_with number part.name) (λ _. refl) (λ _. refl))
 
 parts_names : (options : OptionsView) (encoding : Encoding) (number : ℕ) (items : List Item) (parts : List PartView) → AreGroups number items → AreParts options encoding items parts → AreNamed number parts
 parts_names options encoding number [] parts h are = subst (AreNamed number) (sym are) tt

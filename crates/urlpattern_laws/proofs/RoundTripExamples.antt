@@ -60,7 +60,7 @@ slash_read =
 abbrev lone : Placeholder → Piece
 lone placeholder = Bare [] placeholder modifiers.None
 
--- two names, one behind the other
+-- two names, one after the other
 names_cut : (point first second : List ℕ) (place end : ℕ)
     → PieceCut point (Stops (token tokens.End end [])) (token tokens.Name 0 first ∷ token tokens.Name place second ∷ token tokens.End end [] ∷ [])
     (lone (named first) ∷ lone (named second) ∷ [])
@@ -75,7 +75,7 @@ empty_text = refl
 pub empty_read : Reads [] default_options keeping []
 empty_read = read_by [] (token tokens.End 0 []) empty (ends ([], refl, refl)) (refl, tt) refl
 
--- one behind a name: what stands behind it is taken by the name
+-- one after a name: what stands after it is taken by the name
 pub between_text : printed default_options (segment [] (codes "x") [] ∷ plain [] ∷ plain (codes "b") ∷ []) ≡ codes ":xb"
 unfolding printing
 between_text = refl
@@ -122,7 +122,7 @@ letter_tokens =
 pub letter_read : Reads (codes ":xa:y") letter_options keeping (segment [] (codes "xa") [] ∷ segment [] (codes "y") [] ∷ [])
 letter_read = read_by _ _ letter_tokens (names_cut (codes "a") (codes "xa") (codes "y") 3 5) (first_name, ((_, refl), ((_, refl), (other_name (λ e. cc), ((_, refl), ((_, refl), (refl, tt))))))) ([], [], _, refl, refl, refl, ([], [], [], refl, refl, refl, refl))
 
--- one that is a mark: its backslash keeps it from the name behind it
+-- one that is a mark: its backslash keeps it from the name after it
 pub mark_text : printed (standard_options None (codes "*")) (segment (codes "*") (codes "x") [] ∷ []) ≡ codes "\\*:x"
 unfolding printing
 mark_text = refl

@@ -17,7 +17,7 @@ use Rattle.urlpattern_syntax.specs.Reading.{AreMet, AreParts, Capture, Encoding,
 use Rattle.urlpattern_syntax.specs.RegexpText.{is_fixed_text}
 use Rattle.urlpattern_syntax.specs.Tokens.{TokenView}
 use Rattle.urlpattern_laws.specs.Printing.{HaveTexts, encoded_texts}
-use Rattle.urlpattern_laws.specs.RoundTrip.{AllHaveFields, AreNamed, HasFields, IsNamed, number_behind}
+use Rattle.urlpattern_laws.specs.RoundTrip.{AllHaveFields, AreNamed, HasFields, IsNamed, following_number}
 use Rattle.urlpattern_laws.proofs.NameLaws.{Differ, NewNames}
 use Rattle.urlpattern_laws.proofs.RoundTripWords.{AreItemsOf, IsItemOf}
 
@@ -45,13 +45,13 @@ pub data AllStand (options : OptionsView) (Of : List ℕ → Type 0) : List Part
   group : (prefix name : List ℕ) (match : Matched) (suffix : List ℕ) (modifier : PartModifier) (parts : List PartView) (items : List Item) → Of prefix → Of suffix → AllStand options Of parts items → AllStand options Of (capture_part options prefix name match suffix modifier ∷ parts) (Capture prefix name match suffix modifier ∷ items)
 
 module _ (options : OptionsView) (Of : List ℕ → Type 0) where
-  -- the texts of a part of this kind, and of the parts behind it
+  -- the texts of a part of this kind, and of the parts after it
   abbrev Texts : PartType → PartView → List PartView → Type 0
   Texts kind part parts = EachText Of ((if is_fixed_text kind then part.value ∷ [] else part.prefix ∷ part.suffix ∷ []) ++ encoded_texts parts)
 
-  behind_texts : (kind : PartType) (part : PartView) (parts : List PartView) → Texts kind part parts → EachText Of (encoded_texts parts)
-  behind_texts FixedText part parts h = h.1
-  behind_texts kind part parts h = h.1.1
+  after_texts : (kind : PartType) (part : PartView) (parts : List PartView) → Texts kind part parts → EachText Of (encoded_texts parts)
+  after_texts FixedText part parts h = h.1
+  after_texts kind part parts h = h.1.1
 
   -- a fixed text that is not empty, in front
   stand_fixed : (part : PartView) (item : Item) (parts : List PartView) (items : List Item) (value : List ℕ) → part ≡ fixed_text value part.modifier → value ≢ [] → Of value →
@@ -83,7 +83,7 @@ module _ (options : OptionsView) (Of : List ℕ → Type 0) where
   items_stand number (part ∷ parts) items is fields names filled texts =
       subst (AllStand options Of (part ∷ parts)) (sym is.2)
       (stand_first part.kind part is.0 parts is.1 number refl is.3 fields.0 names.0 filled.0 texts
-      (items_stand (number_behind number part.kind part) parts is.1 is.4 fields.1 names.1 filled.1 (behind_texts part.kind part parts texts)))
+      (items_stand (following_number number part.kind part) parts is.1 is.4 fields.1 names.1 filled.1 (after_texts part.kind part parts texts)))
 
 -- ---- names
 
@@ -98,7 +98,7 @@ both_new : (earlier : List (List ℕ)) (name : List ℕ) (names : List (List ℕ
 both_new earlier name names behind differ = λ k d lt has.
     elim (Contains-push_cases earlier name (get_or names k d) has) [ inl old ↦ behind k d lt old | inr same ↦ differ k d lt same ]
 
--- names that differ are new, one behind the other
+-- names that differ are new, one after the other
 pub distinct_new : (earlier : List (List ℕ)) (items : List Item) → All (λ other. ¬ Contains earlier other) (item_names items) → AllPairs Differ (item_names items) → NewNames earlier items
 distinct_new earlier [] behind distinct = tt
 distinct_new earlier (Fixed text modifier ∷ items) behind distinct = distinct_new earlier items behind distinct

@@ -77,13 +77,13 @@ module _ (text : List ℕ) (unmarked : ¬ BeginsWith (is_among (codes "?)")) tex
           let l = ap length e in
           GoesOn after depth (HasRead-escaped text rest (c ∷ after) after depth c h e refl (ltb-true c 128 f)) (omega arith)
       by_ascii false f =
-          let told = InvalidRegex (reason EscapedNotAscii) in
-          Ends (Faulty told (fault_escape text rest depth h unmarked (c ∷ after) told e (c, after, refl, ltb-false c 128 f, refl)))
+          let reported = InvalidRegex (reason EscapedNotAscii) in
+          Ends (Faulty reported (fault_escape text rest depth h unmarked (c ∷ after) reported e (c, after, refl, ltb-false c 128 f, refl)))
 
   group_step : (rest after : List ℕ) (depth : ℕ) → HasRead text rest depth → rest ≡ codes "(" ++ after → BodyStep text rest
   group_step rest [] depth h e =
-      let told = InvalidRegex (reason GroupAtEnd) in
-      Ends (Faulty told (fault_group text rest depth h unmarked [] told e (inl (refl, refl))))
+      let reported = InvalidRegex (reason GroupAtEnd) in
+      Ends (Faulty reported (fault_group text rest depth h unmarked [] reported e (inl (refl, refl))))
   group_step rest (c ∷ after) depth h e = by_question_mark (is_question_mark c) refl
     where
       by_question_mark : (b : Bool) → is_question_mark c ≡ b → BodyStep text rest
@@ -92,8 +92,8 @@ module _ (text : List ℕ) (unmarked : ¬ BeginsWith (is_among (codes "?)")) tex
           let marked : c ∷ after ≡ codes "?" ++ after = by_mark (λ x. x ∷ after ≡ codes "?" ++ after) 63 c [] f refl (λ g. absurd (false≢true g)) in
           GoesOn after (depth + 1) (HasRead-opened text rest (c ∷ after) after depth h e marked) (omega arith)
       by_question_mark false f =
-          let told = InvalidRegex (reason CapturingGroup) in
-          Ends (Faulty told (fault_group text rest depth h unmarked (c ∷ after) told e (inr (c, after, refl, both_ways (is_question_mark c) f, refl))))
+          let reported = InvalidRegex (reason CapturingGroup) in
+          Ends (Faulty reported (fault_group text rest depth h unmarked (c ∷ after) reported e (inr (c, after, refl, both_ways (is_question_mark c) f, refl))))
 
   close_step : (rest after : List ℕ) (depth : ℕ) → HasRead text rest depth → rest ≡ codes ")" ++ after → BodyStep text rest
   close_step rest after zero h e = Ends (Lexed Regexp h.read after (body_lexed text rest 0 h unmarked h.read after refl e h.cut))
@@ -174,7 +174,7 @@ lexing c text counts = by_kind (is_among marks c) refl
     by_kind true e = marked_lexing c text e
     by_kind false e = single Char c text (Spells-char c e counts) (λ _. tt)
 
--- What stands in a text behind what is skipped: nothing, a token or a fault.
+-- What stands in a text after what is skipped: nothing, a token or a fault.
 data Start (text : List ℕ) : Type 0 where
   AtEnd : Skips text [] → Start text
   AtToken : (start : List ℕ) (kind : TokenType) (value rest : List ℕ) → Skips text start → IsLexed start kind value rest → Start text

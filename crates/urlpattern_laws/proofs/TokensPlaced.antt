@@ -108,7 +108,7 @@ rises_between : (least : ℕ) (front between back : List TokenView) (token later
 rises_between least [] between back token later h = rises_least (suc token.index) between back later h.1
 rises_between least (first ∷ front) between back token later h = rises_between (suc first.index) front between back token later h.1
 
--- A token's index is less than that of each token behind it, End's too.
+-- A token's index is less than that of each token after it, End's too.
 pub lenient_rise : (text : List ℕ) (tokens front between back : List TokenView) (token later : TokenView) → AreLenientTokens text tokens → tokens ≡ front ++ token ∷ (between ++ later ∷ back) → token.index < later.index
 lenient_rise text tokens front between back token later h e =
     rises_between 0 front between back token later
@@ -145,7 +145,7 @@ lenient_end_last text tokens front back token h e is_end = cut_ends text text h.
 pub end_last : (text : List ℕ) (tokens front back : List TokenView) (token : TokenView) → AreTokens text tokens → tokens ≡ front ++ token ∷ back → token.kind ≡ End → back ≡ []
 end_last text tokens front back token h = lenient_end_last text tokens front back token (lenient_strict text tokens h)
 
--- The last token is the End, behind the whole text.
+-- The last token is the End, after the whole text.
 pub lenient_last_end : (text : List ℕ) (tokens front : List TokenView) (token : TokenView) → AreLenientTokens text tokens → tokens ≡ front ++ token ∷ [] → token ≡ end_of text
 lenient_last_end text tokens front token h e = last_same front h.front token (end_of text) (sym e ∙ h.all)
 

@@ -39,7 +39,7 @@ text_means marks front text captures = (
   λ is. (put_means marks front Nothing text captures).1 ([], is.0 ∙ sym (append-nil front), (refl, is.1)),
 )
 
--- ---- an atom and nothing behind it
+-- ---- an atom and nothing after it
 
 pub alone_means : (atom : Atom) (quantifier : Quantifier) (text : List ℕ) (captures : Captures) →
     Means (alone atom quantifier) text captures ↔ IsTaken quantifier (atom_group_count atom) (AtomMeans atom) text captures

@@ -1,4 +1,4 @@
--- Ways one after another: items behind items, and a fixed text before items.
+-- Ways one after another: items after items, and a fixed text before items.
 use Rattle.std.proofs.Common.{◌≡◌, ℕ, List, [], ◌∷◌, ◌++◌, map, length, Option, Some, option_map, find, Bool, true, false, cond, ◌==◌, refl, sym, ap, ap₂, ◌∙◌, append_assoc, append-nil, eq-eqb}
 use Rattle.std.proofs.lemmas.Bool.{cond-true}
 use Rattle.urlpattern_laws.specs.Dialect.{Items, Nothing, Item, Literal, Once, character_of, atom_group_count}
@@ -26,7 +26,7 @@ map-itself : {A : Type 0} (xs : List A) → map (λ x. x) xs ≡ xs
 map-itself [] = refl
 map-itself (x ∷ xs) = ap (λ l. x ∷ l) (map-itself xs)
 
--- ---- items behind items
+-- ---- items after items
 
 continued-same : (next other : Choice) (xs : List Way) → ((text : List ℕ) → next text ≡ other text) → continued next xs ≡ continued other xs
 continued-same next other [] e = refl

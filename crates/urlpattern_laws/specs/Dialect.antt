@@ -9,7 +9,7 @@ use Rattle.urlpattern_syntax.specs.Text.{is_among, line_feed, IsRepeated}
 
 -- ---- trees
 
--- A character as it is written: by itself, or behind a backslash.
+-- A character as it is written: by itself, or after a backslash.
 pub data Character : Type 0 where
   Plain Escaped : ℕ → Character
 
@@ -18,7 +18,7 @@ pub data Quantifier : Type 0 where
   Once Optional ZeroOrMore OneOrMore LazyOneOrMore : Quantifier
 
 mutual
-  -- Atoms one behind the other, each with its quantifier.
+  -- Atoms one after the other, each with its quantifier.
   pub data Items : Type 0 where
     Nothing : Items
     Item : Atom → Quantifier → Items → Items
@@ -75,7 +75,7 @@ abbrev mutual
   atom_group_count (Captured items) = suc (group_count items)
   atom_group_count (Grouped items) = group_count items
 
--- a mark stands behind a backslash, and a slash may; any other character stands by itself
+-- a mark stands after a backslash, and a slash may; any other character stands by itself
 abbrev pub IsCharacter : Character → Type 0
 IsCharacter (Plain c) = ¬ IsTrue (is_among regexp_marks c)
 IsCharacter (Escaped c) = IsTrue (is_among (regexp_marks ++ codes "/") c)
@@ -84,7 +84,7 @@ IsCharacter (Escaped c) = IsTrue (is_among (regexp_marks ++ codes "/") c)
 abbrev pub class_marks : List ℕ
 class_marks = codes "[\\"
 
--- in a class a mark or a slash may stand behind a backslash, and any character but `[` and the backslash by itself
+-- in a class a mark or a slash may stand after a backslash, and any character but `[` and the backslash by itself
 abbrev pub IsClassCharacter : Character → Type 0
 IsClassCharacter (Plain c) = ¬ IsTrue (is_among class_marks c)
 IsClassCharacter (Escaped c) = IsTrue (is_among (regexp_marks ++ codes "/") c)

@@ -74,10 +74,10 @@ pub record Asks (text : List ℕ) (options : OptionsView) (encoding : Encoding) 
   pub pieces : List Piece
   pub ending : Ending
   pub before : List Demand
-  pub behind : List Demand
+  pub later : List Demand
   pub are_tokens : AreTokens text tokens
   pub are_pieces : ArePieces options.prefix tokens pieces ending
-  pub asks : demands (items_of pieces) ending ≡ before ++ Encode asked ∷ behind
+  pub asks : demands (items_of pieces) ending ≡ before ++ Encode asked ∷ later
   pub are_met : AreMet encoding before
 
 -- the encoding answers each text that it is asked about

@@ -170,8 +170,8 @@ abbrev pub AsksEngine : {E : Type 0} → MatcherView E → List ℕ → Type 0
 AsksEngine matcher text = (middle : List ℕ) × HasMiddle matcher text middle × HoldsEngine matcher.inner
 
 -- memory is asked for: by an engine, or for the list of one capture
-abbrev pub MayWantMemory : {E : Type 0} → (answer : E → List ℕ → Option Captures) → MatcherView E → List ℕ → Type 0
-MayWantMemory answer matcher text = AsksEngine matcher text ⊎ (CapturesOne matcher.inner × IsMatched answer matcher text)
+abbrev pub MayRunOutOfMemory : {E : Type 0} → (answer : E → List ℕ → Option Captures) → MatcherView E → List ℕ → Type 0
+MayRunOutOfMemory answer matcher text = AsksEngine matcher text ⊎ (CapturesOne matcher.inner × IsMatched answer matcher text)
 
 -- ---- agreeing with the parts
 

@@ -71,7 +71,7 @@ needs_braces options before part next =
 
 -- ---- the text of a part
 
--- an asterisk behind this part is not its modifier
+-- an asterisk after this part is not its modifier
 abbrev pub admits_asterisk : Option PartView → Bool
 admits_asterisk None = true
 admits_asterisk (Some before) = is_fixed_text before.kind || not (is_unmodified before.modifier)
@@ -80,7 +80,7 @@ admits_asterisk (Some before) = is_fixed_text before.kind || not (is_unmodified 
 abbrev pub is_asterisk : (before : Option PartView) → PartView → (braces : Bool) → Bool
 is_asterisk before part braces = not (has_custom_name part) && (admits_asterisk before || braces || not (is_empty part.prefix))
 
--- what a part of this kind matches, behind its name
+-- what a part of this kind matches, after its name
 abbrev pub printed_match : OptionsView → PartType → PartView → (asterisk : Bool) → List ℕ
 printed_match options FixedText part asterisk = []
 printed_match options Regexp part asterisk = captured part.value

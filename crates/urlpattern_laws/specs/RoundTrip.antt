@@ -48,14 +48,14 @@ IsNamed number FixedText name = name ≡ []
 IsNamed number kind name = IsName name ⊎ (name ≡ decimal number)
 
 -- how many groups have no name of their own, this part too
-abbrev pub number_behind : ℕ → PartType → PartView → ℕ
-number_behind number FixedText part = number
-number_behind number kind part = if has_custom_name part then number else suc number
+abbrev pub following_number : ℕ → PartType → PartView → ℕ
+following_number number FixedText part = number
+following_number number kind part = if has_custom_name part then number else suc number
 
 -- the names of these parts, where so many groups without a name stand before them
 abbrev pub AreNamed : ℕ → List PartView → Type 0
 AreNamed number [] = Unit {0}
-AreNamed number (part ∷ parts) = IsNamed number part.kind part.name × AreNamed (number_behind number part.kind part) parts
+AreNamed number (part ∷ parts) = IsNamed number part.kind part.name × AreNamed (following_number number part.kind part) parts
 
 -- The parts are such as a pattern text may be read as, by their kinds, values and names.
 pub record ArePatternParts (options : OptionsView) (parts : List PartView) : Type 0 where

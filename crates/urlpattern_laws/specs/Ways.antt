@@ -59,7 +59,7 @@ looped greedy atom text =
 
 -- ---- trees
 
--- an atom, with so many groups, behind which the quantifier stands
+-- an atom, with so many groups, after which the quantifier stands
 abbrev pub quantified_ways : Quantifier → (groups : ℕ) → Choice → Choice
 quantified_ways Once groups atom text = atom text
 quantified_ways Optional groups atom text = atom text ++ idle groups text ∷ []

@@ -75,15 +75,15 @@ pub fn every_text_has_tokens()
 {}
 
 /// Nothing of a text is lost in its tokens but what is skipped between them and the marks of an escape, a name and a
-/// regular expression. Each token begins where its index says, behind the token before it, and its value stands there in
+/// regular expression. Each token begins where its index says, after the token before it, and its value stands there in
 /// the text. End is the last token, and no other.
 pub fn tokens_lose_nothing()
     ensures lay { (text : List ℕ) (tokens : List TokenView) → AreTokens text tokens → Lays 0 tokens text }
     ensures rise { (text : List ℕ) (tokens front between back : List TokenView) (token later : TokenView) → AreTokens text tokens → tokens ≡ front ++ token ∷ (between ++ later ∷ back) → token.index < later.index }
     ensures stand { (text : List ℕ) (tokens front back : List TokenView) (token : TokenView) → AreTokens text tokens → tokens ≡ front ++ token ∷ back →
-        (before behind : List ℕ) × (text ≡ before ++ spelling token.kind token.value ++ behind) × (token.index ≡ byte_len before) }
+        (before after : List ℕ) × (text ≡ before ++ spelling token.kind token.value ++ after) × (token.index ≡ byte_len before) }
     ensures slice { (text : List ℕ) (tokens front back : List TokenView) (token : TokenView) → AreTokens text tokens → tokens ≡ front ++ token ∷ back →
-        (before behind : List ℕ) × (text ≡ before ++ token.value ++ behind) }
+        (before after : List ℕ) × (text ≡ before ++ token.value ++ after) }
     ensures ends { (text : List ℕ) (tokens front : List TokenView) (token : TokenView) → AreTokens text tokens → tokens ≡ front ++ token ∷ [] → token ≡ end_of text }
     ensures only_end { (text : List ℕ) (tokens front back : List TokenView) (token : TokenView) → AreTokens text tokens → tokens ≡ front ++ token ∷ back → token.kind ≡ End → back ≡ [] }
 {}

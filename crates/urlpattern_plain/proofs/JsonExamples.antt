@@ -42,7 +42,7 @@ two_characters : character_read (string (codes "ab")) ≡ None
 unfolding chars
 two_characters = refl
 
--- the name of a kind is told by its letters' case too
+-- the name of a kind is read_or_none by its letters' case too
 kind_in_capitals : matcher_read (object (member (codes "kind") (string (codes "Literal")) (member (codes "literal") (string []) (member (codes "prefix") (string []) (member (codes "suffix") (string []) no_members))))) ≡ None
 unfolding matcher_read inner_read
 kind_in_capitals = refl

@@ -15,7 +15,7 @@ abbrev pub filter_tree : Option ℕ → Data
 filter_tree None = null
 filter_tree (Some character) = string (encode_utf8 character)
 
--- the members that tell what stands between prefix and suffix
+-- the members for what is between prefix and suffix
 abbrev pub inner_members : InnerView → List (List ℕ × Option Data)
 inner_members (literal bytes) =
     (codes "kind", Some (string (codes "literal")))

@@ -14,8 +14,8 @@ abbrev pub Gives : {X Y : Type 0} → (X → Y) → Result X Unread → Option Y
 Gives view (Ok value) read = read ≡ Some (view value)
 Gives view (Err reason) read = Fails reason read
 
--- a tree without a value is an answer, want of memory is an error
-abbrev pub told : {X : Type 0} → Result X Unread → Result (Option X) Error
-told (Ok value) = Ok (Some value)
-told (Err unread.Shape) = Ok None
-told (Err unread.OutOfMemory) = Err errors.OutOfMemory
+-- a tree without a value is an answer, out of memory is an error
+abbrev pub read_or_none : {X : Type 0} → Result X Unread → Result (Option X) Error
+read_or_none (Ok value) = Ok (Some value)
+read_or_none (Err unread.Shape) = Ok None
+read_or_none (Err unread.OutOfMemory) = Err errors.OutOfMemory

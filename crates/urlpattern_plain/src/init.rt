@@ -9,7 +9,7 @@ ghost use Rattle.urlpattern_plain.specs.InputValues.{given_texts, init_view};
 ghost use Rattle.urlpattern_syntax.specs.Eight.{at};
 ghost use Rattle.urlpattern_syntax.specs.declared.error.Error.TheVariants as errors;
 
-use crate::reading::{Unread, optional_text_field, told};
+use crate::reading::{Unread, optional_text_field, read_or_none};
 use crate::writing::put_optional;
 use serde::{Deserialize, Serialize};
 use serde_json::{Map, Value};
@@ -81,7 +81,7 @@ impl UrlPatternInit {
         ensures read { IfOk result (λ found. option_map init_view found ≡ init_read (view value.now)) }
         ensures memory { IfErr result (λ error. error ≡ errors.OutOfMemory) }
     {
-        told(Self::read(alloc, value))
+        read_or_none(Self::read(alloc, value))
     }
 
     #[tactic(auto, unfolding(crate::specs::InputJson::init_read))]

@@ -8,7 +8,7 @@ ghost use Rattle.urlpattern_plain.specs.InputValues.{input_view};
 ghost use Rattle.urlpattern_syntax.specs.declared.error.Error.TheVariants as errors;
 
 use crate::init::UrlPatternInit;
-use crate::reading::{Unread, told};
+use crate::reading::{Unread, read_or_none};
 use serde_json::Value;
 use std::alloc::Global;
 use std::borrow::CowStr;
@@ -47,7 +47,7 @@ impl<'a> StringOrInit<'a> {
         ensures read { IfOk result (λ found. option_map input_view found ≡ input_read (view value.now)) }
         ensures memory { IfErr result (λ error. error ≡ errors.OutOfMemory) }
     {
-        told(Self::read(alloc, value))
+        read_or_none(Self::read(alloc, value))
     }
 
     fn read(alloc: Global, value: &Value) -> Result<Self, Unread>

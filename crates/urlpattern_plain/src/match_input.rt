@@ -7,7 +7,7 @@ ghost use Rattle.urlpattern_plain.specs.InputValues.{empty_match_input, match_in
 ghost use Rattle.urlpattern_syntax.specs.Eight.{at};
 ghost use Rattle.urlpattern_syntax.specs.declared.error.Error.TheVariants as errors;
 
-use crate::reading::{Unread, text_field, told};
+use crate::reading::{Unread, read_or_none, text_field};
 use crate::writing::put_text;
 use serde::{Deserialize, Serialize};
 use serde_json::{Map, Value};
@@ -72,7 +72,7 @@ impl MatchInput {
         ensures read { IfOk result (λ found. option_map match_input_view found ≡ match_input_read (view value.now)) }
         ensures memory { IfErr result (λ error. error ≡ errors.OutOfMemory) }
     {
-        told(Self::read(alloc, value))
+        read_or_none(Self::read(alloc, value))
     }
 
     fn read(alloc: Global, value: &Value) -> Result<Self, Unread>

@@ -11,7 +11,9 @@ ghost use Rattle.urlpattern_plain.specs.Values.{inner_by, inner_view, matcher_by
 ghost use Rattle.urlpattern_syntax.specs.declared.error.Error.TheVariants as errors;
 ghost use Rattle.urlpattern_syntax.specs.Text.{text_of};
 
-use crate::reading::{Unread, flag_field, optional_character_field, text_field, text_of, told};
+use crate::reading::{
+    Unread, flag_field, optional_character_field, read_or_none, text_field, text_of,
+};
 use crate::writing::{filter_value, put_text};
 use serde::{Deserialize, Serialize};
 use serde_json::{Map, Value};
@@ -25,14 +27,14 @@ use urlpattern_core::{Error, matcher};
 pub struct Matcher {
     /// The text that a matched text begins with.
     pub prefix: String,
-    /// The text that a matched text ends with, behind the prefix and what stands between.
+    /// The text that a matched text ends with, after the prefix and what stands between.
     pub suffix: String,
     /// What stands between prefix and suffix. In JSON its keys stand beside theirs.
     #[serde(flatten)]
     pub inner: InnerMatcher,
 }
 
-/// What stands between the prefix and the suffix of a text. In JSON the key `kind` tells which of the three it is.
+/// What stands between the prefix and the suffix of a text. In JSON the key `kind` says which of the three it is.
 #[derive(Debug, Clone, PartialEq, Eq, Drop, Serialize, Deserialize)]
 #[serde(tag = "kind", rename_all = "camelCase", rename_all_fields = "camelCase")]
 pub enum InnerMatcher {
@@ -102,7 +104,7 @@ impl Matcher {
         ensures read { IfOk result (λ found. option_map matcher_view found ≡ matcher_read (view value.now)) }
         ensures memory { IfErr result (λ error. error ≡ errors.OutOfMemory) }
     {
-        told(Self::read(alloc, value))
+        read_or_none(Self::read(alloc, value))
     }
 
     #[tactic(auto, unfolding(crate::specs::Json::matcher_read))]
@@ -169,7 +171,7 @@ impl InnerMatcher {
         }
     }
 
-    /// By the kind that the object tells.
+    /// By the kind that the object names.
     #[tactic(auto, unfolding(crate::specs::Json::inner_read))]
     fn read(alloc: Global, value: &Value) -> Result<Self, Unread>
         ensures { Gives inner_view result (inner_read (view value.now)) }

@@ -7,7 +7,7 @@ ghost use Rattle.urlpattern_plain.specs.InputJson.{options_read, options_tree, s
 ghost use Rattle.urlpattern_plain.specs.Steps.{Gives};
 ghost use Rattle.urlpattern_syntax.specs.declared.error.Error.TheVariants as errors;
 
-use crate::reading::{Unread, flag_field, told};
+use crate::reading::{Unread, flag_field, read_or_none};
 use serde::{Deserialize, Serialize};
 use serde_json::{Value, json};
 use std::alloc::Global;
@@ -46,7 +46,7 @@ impl UrlPatternOptions {
         ensures read { IfOk result (λ found. found ≡ options_read (view value.now)) }
         ensures memory { IfErr result (λ error. error ≡ errors.OutOfMemory) }
     {
-        told(Self::read(value))
+        read_or_none(Self::read(value))
     }
 
     #[tactic(auto, unfolding(crate::specs::InputJson::options_read))]

@@ -13,7 +13,7 @@ ghost use Rattle.urlpattern_syntax.specs.declared.error.Error.TheVariants as err
 ghost use Rattle.urlpattern_syntax.specs.Text.{text_of};
 
 use crate::matcher::{Matcher, engine_text};
-use crate::reading::{Unread, flag_field, member, text_field, texts_field, told};
+use crate::reading::{Unread, flag_field, member, read_or_none, text_field, texts_field};
 use crate::writing::{put_text, texts_value};
 use serde::{Deserialize, Serialize};
 use serde_json::{Map, Value};
@@ -93,7 +93,7 @@ impl UrlPattern {
         ensures read { IfOk result (λ found. option_map pattern_view found ≡ pattern_read (view value.now)) }
         ensures memory { IfErr result (λ error. error ≡ errors.OutOfMemory) }
     {
-        told(Self::read(alloc, value))
+        read_or_none(Self::read(alloc, value))
     }
 
     #[tactic(auto, unfolding(crate::specs::Json::pattern_read))]
@@ -170,7 +170,7 @@ impl UrlPatternComponent {
         ensures read { IfOk result (λ found. option_map component_view found ≡ component_read (view value.now)) }
         ensures memory { IfErr result (λ error. error ≡ errors.OutOfMemory) }
     {
-        told(Self::read(alloc, value))
+        read_or_none(Self::read(alloc, value))
     }
 
     #[tactic(auto, unfolding(crate::specs::Json::component_read))]

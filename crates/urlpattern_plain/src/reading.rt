@@ -4,7 +4,7 @@ ghost use Rattle.std.specs.Str.{chars};
 ghost use Rattle.serde_json.specs.Find.{as_str, get};
 ghost use Rattle.serde_json.specs.View.{items_view, view};
 ghost use Rattle.urlpattern_plain.specs.Json.{character_read, only, texts_of_items, texts_read};
-ghost use Rattle.urlpattern_plain.specs.Steps.{Gives, told};
+ghost use Rattle.urlpattern_plain.specs.Steps.{Gives, read_or_none};
 ghost use Rattle.urlpattern_plain.specs.Trees.{flag_read, member_read, optional_read, text_read};
 ghost use Rattle.urlpattern_plain.specs.declared.reading.Unread.TheVariants as unread;
 
@@ -38,8 +38,8 @@ impl<T: Drop> From<AllocFailed<T>> for Unread {
 }
 
 /// The answer of a public call.
-pub(crate) fn told<T>(read: Result<T, Unread>) -> Result<Option<T>, Error>
-    ensures { result ≡ told read }
+pub(crate) fn read_or_none<T>(read: Result<T, Unread>) -> Result<Option<T>, Error>
+    ensures { result ≡ read_or_none read }
 {
     match read {
         Ok(value) => Ok(Some(value)),

@@ -80,7 +80,7 @@ prepends_group inner i marked = record {
   spells = λ body. ap (λ x. (codes "(" ++ x ++ codes ")") ++ body_text body) (sym i.spelled);
 }
 
--- ---- the rest of a body behind so many inner brackets that are open
+-- ---- the rest of a body after so many inner brackets that are open
 
 -- the text closes them and is the rest of a body
 abbrev pub Closes : ℕ → List ℕ → Type 0
@@ -236,7 +236,7 @@ module _ (text rest : List ℕ) (depth : ℕ) (h : HasRead text rest depth) (unm
   fault_escape tail IncompleteEscapeCode e lacks =
       inr (h.read, front_read, ap (λ x. codes "(" ++ x) (h.cut ∙ ap (λ x. h.read ++ x) (e ∙ ap (λ x. codes "\\" ++ x) lacks)))
   fault_escape tail InvalidName e lacks = absurd lacks
-  fault_escape tail (InvalidRegex told) e lacks = (
+  fault_escape tail (InvalidRegex reported) e lacks = (
     text,
     EscapedNotAscii,
     refl,
@@ -254,9 +254,9 @@ module _ (text rest : List ℕ) (depth : ℕ) (h : HasRead text rest depth) (unm
   pub fault_group : (tail : List ℕ) (fault : FaultView) → rest ≡ codes "(" ++ tail → LacksQuestionMark tail fault → IsFaultAt (codes "(" ++ text) fault
   fault_group tail IncompleteEscapeCode e lacks = absurd lacks
   fault_group tail InvalidName e lacks = absurd lacks
-  fault_group tail (InvalidRegex told) e (inl lacks) =
+  fault_group tail (InvalidRegex reported) e (inl lacks) =
       (text, GroupAtEnd, refl, (h.read, front_read, h.cut ∙ ap (λ x. h.read ++ x) (e ∙ ap (λ x. codes "(" ++ x) lacks.0)), lacks.1)
-  fault_group tail (InvalidRegex told) e (inr lacks) = (
+  fault_group tail (InvalidRegex reported) e (inr lacks) = (
     text,
     CapturingGroup,
     refl,

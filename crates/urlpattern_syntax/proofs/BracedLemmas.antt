@@ -59,7 +59,7 @@ takes_text_group old mid new before modifier is_open front closes =
     (λ x y z gx gy gz p q point. subst (λ w. BeginsWithPiece point w (pieces.TextGroup before modifier) z) (sym p.1)
     (text_group (token_view old.token) p.2.front p.0 y z modifier is_open p.2.cut q point before p.2.are_texts))
 
--- texts behind a brace that is not closed
+-- texts after a brace that is not closed
 pub takes_open_texts : (old mid new : Reader) (before : List ℕ) → old.token.kind ≡ Open → is_placeholder mid.token.kind ≡ false → new.token.kind ≢ Close →
     Takes old mid (BeginsWithFront (token_view old.token) before) → Takes mid new (λ tokens rest. tokens ≡ rest) →
     Takes old new (λ tokens rest. List ℕ → EndsAt tokens endings.LacksClose rest)
@@ -87,7 +87,7 @@ takes_filled_group old mid new before placeholder after modifier is_open inner c
     (λ x y z gx gy gz p q point. subst (λ w. BeginsWithPiece point w (pieces.Group before placeholder after modifier) z) (sym p.first)
     (filled_group (token_view old.token) p.inner p.behind y z modifier is_open p.cut q point before after placeholder (subst (IsFilled p.inner before placeholder after) q.cut p.is_filled)))
 
--- a placeholder between texts behind a brace that is not closed
+-- a placeholder between texts after a brace that is not closed
 pub takes_open_filled : (old mid new : Reader) (before : List ℕ) (placeholder : Placeholder) (after : List ℕ) → old.token.kind ≡ Open → new.token.kind ≢ Close →
     Takes old mid (BeginsWithInner (token_view old.token) before placeholder after) → Takes mid new (λ tokens rest. tokens ≡ rest) →
     Takes old new (λ tokens rest. List ℕ → EndsAt tokens endings.LacksClose rest)

@@ -104,8 +104,8 @@ module _ (whole rest characters next : List ℕ) (c : ℕ) (place : IsPlace whol
       by_more (inl e) = absurd (cc e)
       by_more (inr g) = g
 
-  behind_before : AreCharactersBefore behind characters next
-  behind_before = record { cut = refl; stand = others_stand; more = inr next_stands }
+  after_before : AreCharactersBefore behind characters next
+  after_before = record { cut = refl; stand = others_stand; more = inr next_stands }
 
   abbrev token : TokenView
   token = record { kind = Char; index = byte_len whole - byte_len rest; value = c ∷ [] }
@@ -118,12 +118,12 @@ module _ (whole rest characters next : List ℕ) (c : ℕ) (place : IsPlace whol
   lexed : IsLexed rest Char (c ∷ []) behind
   lexed = character_lexed Char rest (c ∷ []) behind c h.cut h.cut (Spells-char c (not_mark c first_stands) (both_ways (is_ignored c) (not_skipped c first_stands))) tt
 
-  behind_stands : (text : List ℕ) → IsTrue (list_all stands_for_itself text) → BeginsWith stands_for_itself (text ++ next)
-  behind_stands [] g = next_stands
-  behind_stands (d ∷ text) g = (and_parts _ _ g).0
+  after_stands : (text : List ℕ) → IsTrue (list_all stands_for_itself text) → BeginsWith stands_for_itself (text ++ next)
+  after_stands [] g = next_stands
+  after_stands (d ∷ text) g = (and_parts _ _ g).0
 
-  behind_place : IsPlace whole behind
-  behind_place = place_next whole rest (c ∷ []) behind behind Char (byte_len whole - byte_len rest) place lexed index_place (SkipsBy-none is_ignored behind) (stands_there behind (behind_stands characters others_stand))
+  after_place : IsPlace whole behind
+  after_place = place_next whole rest (c ∷ []) behind behind Char (byte_len whole - byte_len rest) place lexed index_place (SkipsBy-none is_ignored behind) (stands_there behind (after_stands characters others_stand))
 
   one_more : BeginsWithTokens whole behind characters next → BeginsWithTokens whole rest (c ∷ characters) next
   one_more others = record {
@@ -138,7 +138,7 @@ pub character_tokens : (whole rest characters next : List ℕ) → IsPlace whole
 character_tokens whole rest [] next place h = one_row whole rest next place h.cut
 character_tokens whole rest (c ∷ characters) next place h =
     one_more whole rest characters next c place h
-    (character_tokens whole (characters ++ next) characters next (behind_place whole rest characters next c place h) (behind_before whole rest characters next c place h))
+    (character_tokens whole (characters ++ next) characters next (after_place whole rest characters next c place h) (after_before whole rest characters next c place h))
 
 -- ---- the token that such a character begins
 

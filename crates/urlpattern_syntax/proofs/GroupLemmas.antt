@@ -52,7 +52,7 @@ module _ (options : OptionsView) (encoding : Encoding) (old mid : PartListView) 
       FirstFails encoding (item_demands (group_names old.parts) (pending_items old.pending ++ group ∷ [])) error
   suffix_fails before error new h g = fails_group error (inr (is_new new, inr ((before, h), inl g)))
 
-  -- all are met, and the part stands behind the others
+  -- all are met, and the part stands after the others
   pub adds_group : (new : PartListView) (before after : List ℕ) → ¬ Contains (group_names mid.parts) (name_at mid.number) → encoding prefix (Ok before) → encoding suffix (Ok after) →
       new.parts ≡ mid.parts ++ capture_part options before (name_at mid.number) placeholder.matched after modifier ∷ [] → new.pending ≡ mid.pending →
       AddsParts options encoding old (pending_items old.pending ++ group ∷ []) new

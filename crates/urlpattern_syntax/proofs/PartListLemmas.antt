@@ -59,9 +59,9 @@ module _ (options : OptionsView) (encoding : Encoding) (tokens rest : List Token
   names_read : group_names old.parts ≡ item_names r.items
   names_read = names-AreParts options encoding r.items old.parts r.are_parts
 
-  -- a demand behind those of the items fails
-  fails_behind : (more : List Piece) (ending : Ending) (left : List Item) (error : ErrorView) → ArePieces options.prefix rest more ending → with_text old.pending (joined_items (items_from old.number more)) ≡ left → FirstFails encoding (demands_after (item_names r.items) left ending) error → FailsTokens tokens options encoding error
-  fails_behind more ending left error are_pieces e h = record {
+  -- a demand after those of the items fails
+  fails_after : (more : List Piece) (ending : Ending) (left : List Item) (error : ErrorView) → ArePieces options.prefix rest more ending → with_text old.pending (joined_items (items_from old.number more)) ≡ left → FirstFails encoding (demands_after (item_names r.items) left ending) error → FailsTokens tokens options encoding error
+  fails_after more ending left error are_pieces e h = record {
     pieces = r.pieces ++ more;
     ending = ending;
     are_pieces = r.cut more ending are_pieces;
@@ -131,7 +131,7 @@ module _ (options : OptionsView) (encoding : Encoding) (tokens rest : List Token
         let more = pieces_exist options.prefix behind closed in
         let left = joined_items (items_from (number_after old.number piece) more.0) in
         let items = pending_items old.pending ++ x ∷ [] in
-        fails_behind (piece ∷ more.0) more.1 (items ++ left) error (front, behind, cut, is_piece, more.2)
+        fails_after (piece ∷ more.0) more.1 (items ++ left) error (front, behind, cut, is_piece, more.2)
         (ap (λ y. with_text old.pending (joined_items (y ∷ items_from (number_after old.number piece) more.0))) is
         ∙ ap (with_text old.pending) (joined-other x (items_from (number_after old.number piece) more.0) other)
         ∙ with_text-other old.pending x left other ∙ sym (append_assoc (pending_items old.pending) (x ∷ []) left))
@@ -178,13 +178,13 @@ module _ (options : OptionsView) (encoding : Encoding) (tokens rest : List Token
   pub fails_end : (found : TokenView) (error : Error) → IsEnding rest (endings.Stops found) → MemoryOr (FirstFails encoding (encode_fixed old.pending ++ Expect End found ∷ [])) error → MemoryOr (FailsTokens tokens options encoding) error
   fails_end found error is_ending h =
       MemoryOr-weaker (FirstFails encoding (encode_fixed old.pending ++ Expect End found ∷ [])) (FailsTokens tokens options encoding) error
-      (λ view f. fails_behind [] (endings.Stops found) (pending_items old.pending) view is_ending (with_text-nil old.pending)
+      (λ view f. fails_after [] (endings.Stops found) (pending_items old.pending) view is_ending (with_text-nil old.pending)
       (subst (λ x. FirstFails encoding x view) (sym (demands-pending (item_names r.items) old.pending found)) f)) h
 
   pub fails_open : (found : TokenView) (error : Error) → IsEnding rest (endings.LacksClose found) → MemoryOr (λ view. view ≡ error_views.ExpectedToken Close found.kind found.value) error → MemoryOr (FailsTokens tokens options encoding) error
   fails_open found error is_ending h =
       MemoryOr-weaker (λ view. view ≡ error_views.ExpectedToken Close found.kind found.value) (FailsTokens tokens options encoding) error
-      (λ view e. fails_behind [] (endings.LacksClose found) (pending_items old.pending) view is_ending (with_text-nil old.pending)
+      (λ view e. fails_after [] (endings.LacksClose found) (pending_items old.pending) view is_ending (with_text-nil old.pending)
       (subst (λ x. FirstFails encoding x view) (sym (demands-lacking (item_names r.items) old.pending found)) (inl (is_ending.6, e)))) h
 
 -- ---- a row of characters

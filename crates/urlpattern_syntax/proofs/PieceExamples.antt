@@ -11,7 +11,7 @@ use Rattle.urlpattern_syntax.proofs.TokenExamples.{token, no}
 
 -- ---- steps
 
--- Pieces one behind the other, each of so many tokens, and where they end.
+-- Pieces one after the other, each of so many tokens, and where they end.
 pub data PieceCut (point : List ℕ) (ending : Ending) : List TokenView → List Piece → Type 0 where
   ends : {tokens : List TokenView} → IsEnding tokens ending → PieceCut point ending tokens []
   piece : {tokens : List TokenView} {first : Piece} {pieces : List Piece} (n : ℕ) → IsPiece point (take n tokens) first (drop n tokens) → PieceCut point ending (drop n tokens) pieces → PieceCut point ending tokens (first ∷ pieces)
@@ -27,7 +27,7 @@ cut_twice i j tokens =
     sym (take-append-drop i tokens) ∙ ap (λ rest. take i tokens ++ rest) (sym (take-append-drop j (drop i tokens)))
     ∙ sym (append_assoc (take i tokens) (take j (drop i tokens)) (drop j (drop i tokens)))
 
--- a placeholder of j tokens behind a prefix of i tokens
+-- a placeholder of j tokens after a prefix of i tokens
 pub bare : {point prefix : List ℕ} {tokens rest : List TokenView} {placeholder : Placeholder} {modifier : PartModifier} (i j : ℕ) →
     IsPrefixOf point (take i tokens) prefix → IsPlaceholderOf (take j (drop i tokens)) placeholder.name placeholder.matched →
     IsModifier (drop j (drop i tokens)) modifier → TakesRegexp placeholder.matched (drop j (drop i tokens) ++ rest) → TakesModifier modifier rest →
@@ -59,7 +59,7 @@ braced opening closing back cut is_open is_close is_modifier takes_modifier = re
   takes_modifier = takes_modifier;
 }
 
--- a placeholder of j tokens behind texts of i tokens
+-- a placeholder of j tokens after texts of i tokens
 pub filled : {inner rest : List TokenView} {before after : List ℕ} {placeholder : Placeholder} (i j : ℕ) →
     AreTexts (take i inner) before → IsPlaceholderOf (take j (drop i inner)) placeholder.name placeholder.matched →
     TakesRegexp placeholder.matched (drop j (drop i inner) ++ rest) → AreTexts (drop j (drop i inner)) after →
@@ -101,7 +101,7 @@ starred_cut =
 pub starred : ArePieces [] starred_tokens starred_pieces (Stops (token End 4 []))
 starred = pieces_of starred_cut
 
--- the pattern `/:id.html`: the slash before a name is its prefix, the characters behind it are texts
+-- the pattern `/:id.html`: the slash before a name is its prefix, the characters after it are texts
 abbrev pub page_tokens : List TokenView
 page_tokens =
     token Char 0 (codes "/") ∷ token Name 1 (codes "id") ∷ token Char 4 (codes ".") ∷ token Char 5 (codes "h")

@@ -28,7 +28,7 @@ spelled_modifier token spelling h e = by_spelling (spelled_kind token.kind Other
     by_spelling (same, inl plus) = inl (same ∙ plus)
     by_spelling (same, inr mark) = inr (same ∙ mark)
 
--- the tokens of a cut, and End behind them
+-- the tokens of a cut, and End after them
 cut_token_list : (whole text left : List ℕ) (tokens : List TokenView) (last : TokenView) → last.kind ≡ End → IsCut (IsTokenOf whole) text tokens left → IsTokenList (tokens ++ last ∷ [])
 cut_token_list whole text left [] last e h = e
 cut_token_list whole text left (token ∷ []) last e h =
@@ -205,7 +205,7 @@ takes_narrower matched.Segment (token ∷ back) behind closing h = h
 takes_narrower matched.Anything back behind closing h = tt
 takes_narrower (matched.Custom body) back behind closing h = tt
 
--- what fills braces fills them whatever stands behind them
+-- what fills braces fills them whatever stands after them
 pub narrower : (inner : List TokenView) (before after : List ℕ) (behind : List TokenView) (closing : TokenView) (placeholder : Placeholder) → IsFilled inner before placeholder after (closing ∷ behind) → IsFilled inner before placeholder after (closing ∷ [])
 narrower inner before after behind closing placeholder f = record {
   front = f.front;

@@ -123,7 +123,7 @@ texts_at (token ∷ tokens) = text_or_not token tokens (is_text token.kind) refl
 
 -- ---- one step
 
--- a piece and fewer tokens behind it, or where the pieces end
+-- a piece and fewer tokens after it, or where the pieces end
 data Step (point : List ℕ) (tokens : List TokenView) : Type 0 where
   ends : (ending : Ending) → IsEnding tokens ending → Step point tokens
   goes_on : (front rest : List TokenView) (piece : Piece) → tokens ≡ front ++ rest → IsPiece point front piece rest → IsTokenList rest → ¬ (front ≡ []) → Step point tokens
@@ -203,7 +203,7 @@ group_step point opening closing inner behind piece k l is h = with_modifier (mo
         }) refl)
         q.closed (λ e. cc e)
 
--- what follows the texts behind the placeholder of a group
+-- what follows the texts after the placeholder of a group
 filled_step : (point : List ℕ) (opening : TokenView) (inner : List TokenView) (before after : List ℕ) (placeholder : Placeholder) (rest : List TokenView) → opening.kind ≡ Open → IsFilled inner before placeholder after rest → ¬ BeginsWithKind is_text rest → IsTokenList rest → Step point (opening ∷ inner ++ rest)
 filled_step point opening inner before after placeholder [] k f none h = absurd h
 filled_step point opening inner before after placeholder (found ∷ behind) k f none h = by_kind found.kind refl

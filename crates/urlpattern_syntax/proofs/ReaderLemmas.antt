@@ -11,7 +11,7 @@ use Rattle.urlpattern_syntax.specs.declared.tokenizer.TokenType.TheVariants.{End
 use Rattle.urlpattern_syntax.specs.Cursors.{AreTokensAfter, IsPlace, IsTokenAfter, tokens_left}
 use Rattle.urlpattern_syntax.specs.Parsing.{Gives, IsModifierSpelled, IsNameSpelled, IsShorter, Stands, StartsText, Takes, reader_left, reader_text}
 use Rattle.urlpattern_syntax.specs.Text.{BeginsAt, BeginsWith, byte_len}
-use Rattle.urlpattern_syntax.specs.Tokens.{AreTokens, IsCut, IsLexed, IsTokenOf, Skips, Spells, TellsFault, TokenView, is_ignored, token_view}
+use Rattle.urlpattern_syntax.specs.Tokens.{AreTokens, IsCut, IsLexed, IsTokenOf, Skips, Spells, ReportsFault, TokenView, is_ignored, token_view}
 use Rattle.urlpattern_syntax.proofs.NameCharacters.{name_given}
 use Rattle.urlpattern_syntax.proofs.PieceLemmas.{IsTokenList-more, are_token_list_after, spelled_kind, spelled_modifier}
 use Rattle.urlpattern_syntax.proofs.TextLemmas.{byte_len-append, byte_len-chars}
@@ -128,7 +128,7 @@ pub tokens_left_most : (kind : TokenType) → tokens_left kind ≤ 1
 tokens_left_most End = omega arith
 tokens_left_most other = omega arith
 
--- what is behind a token is less than what began with it
+-- what is after a token is less than what began with it
 pub left_within : (rest behind next : List ℕ) (kind : TokenType) → IsUtf8 rest → IsUtf8 behind → byte_len (chars behind) < byte_len (chars rest) → length next ≤ length behind → length next + tokens_left kind ≤ length rest
 left_within rest behind next kind u v less le =
     let e = byte_len-chars rest u in
@@ -205,8 +205,8 @@ takes_weaker a b P Q t weaker = record {
 }
 
 -- the text is the same, so its fault is
-pub fault_same : {T : Type 0} (a b : List ℕ) (result : Result T Error) → chars a ≡ chars b → IfErr result (TellsFault (chars a)) → IfErr result (TellsFault (chars b))
-fault_same a b result e h = subst (λ text. IfErr result (TellsFault text)) e h
+pub fault_same : {T : Type 0} (a b : List ℕ) (result : Result T Error) → chars a ≡ chars b → IfErr result (ReportsFault (chars a)) → IfErr result (ReportsFault (chars b))
+fault_same a b result e h = subst (λ text. IfErr result (ReportsFault text)) e h
 
 pub ok_weaker : {T : Type 0} (result : Result T Error) (P Q : Type 0) → (P → Q) → OnOk result P → OnOk result Q
 ok_weaker (Ok x) P Q f h = f h

@@ -21,7 +21,7 @@ use Rattle.urlpattern_syntax.proofs.TokenExamples.{Cut, done, next, cut_of, lite
 
 -- ---- steps
 
--- a text is these tokens, one behind the other, and its end
+-- a text is these tokens, one after the other, and its end
 pub tokens_of : {text : List ℕ} (front : List TokenView) → Cut text [] text front → AreTokens text (front ++ end_of text ∷ [])
 tokens_of front cut = record { front = front; cut = cut_of cut; all = refl }
 

@@ -81,7 +81,7 @@ EndsOther-push [] x h = h
 EndsOther-push (y ∷ []) x h = h
 EndsOther-push (y ∷ z ∷ xs) x h = EndsOther-push (z ∷ xs) x h
 
--- demands go on behind a fixed text before another item
+-- demands go on after a fixed text before another item
 demands-fixed_item : (earlier : List (List ℕ)) (text : List ℕ) (modifier : PartModifier) (x : Item) (rest : List Item) (ending : Ending) → demands_after earlier (Fixed text modifier ∷ x ∷ rest) ending ≡ encode_fixed text ++ demands_after earlier (x ∷ rest) ending
 demands-fixed_item earlier text modifiers.None x rest (endings.Stops found) = refl
 demands-fixed_item earlier text modifiers.None x rest (endings.LacksClose found) = refl
@@ -89,7 +89,7 @@ demands-fixed_item earlier text modifiers.Optional x rest ending = refl
 demands-fixed_item earlier text modifiers.ZeroOrMore x rest ending = refl
 demands-fixed_item earlier text modifiers.OneOrMore x rest ending = refl
 
--- and behind one that is not plain
+-- and after one that is not plain
 demands-fixed_other : (earlier : List (List ℕ)) (text : List ℕ) (modifier : PartModifier) (rest : List Item) (ending : Ending) → ¬ IsPlain (Fixed text modifier) → demands_after earlier (Fixed text modifier ∷ rest) ending ≡ encode_fixed text ++ demands_after earlier rest ending
 demands-fixed_other earlier text modifier (x ∷ rest) ending h = demands-fixed_item earlier text modifier x rest ending
 demands-fixed_other earlier text modifiers.None [] ending h = absurd (h tt)
@@ -287,7 +287,7 @@ nothing_pending options encoding old e = record {
   pending = e;
 }
 
--- ---- one more item behind what was added
+-- ---- one more item after what was added
 
 module _ (options : OptionsView) (encoding : Encoding) (old mid : PartListView) (items : List Item) (a : AddsParts options encoding old items mid) where
   names_mid : group_names mid.parts ≡ group_names old.parts ++ item_names items

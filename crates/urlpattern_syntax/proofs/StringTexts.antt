@@ -14,11 +14,11 @@ use Rattle.urlpattern_syntax.specs.Text.{text_of}
 pub chars-encode : (c : ℕ) → IsScalar c → chars (encode_utf8 c) ≡ c ∷ []
 chars-encode c s = chars_past_char (encode_utf8 c) [] c (IsUtf8-encode c s) (sym (append-nil _)) ∙ ap (λ cs. c ∷ cs) chars-nil
 
--- the characters of the bytes of this `String` with these behind them
+-- the characters of the bytes of this `String` with these after them
 pub text-append : {now : List ℕ} (was : String Global) (bytes : List ℕ) → now ≡ string_bytes was ++ bytes → chars now ≡ text_of was ++ chars bytes
 text-append was bytes now = ap chars now ∙ chars-append (string_bytes was) bytes (IsUtf8-string_bytes was)
 
--- the same, with those of one character behind them
+-- the same, with those of one character after them
 pub text-push : {now : List ℕ} (was : String Global) (c : ℕ) → IsScalar c → now ≡ string_bytes was ++ encode_utf8 c → chars now ≡ text_of was ++ c ∷ []
 text-push was c s now = text-append was (encode_utf8 c) now ∙ ap (λ x. text_of was ++ x) (chars-encode c s)
 

@@ -13,19 +13,19 @@ use Rattle.urlpattern_syntax.specs.Parsing.{AddsItem, AddsParts, BeginsWithPiece
 use Rattle.urlpattern_syntax.specs.Pieces.{IsEnding, Piece}
 use Rattle.urlpattern_syntax.specs.Pieces.{Ending as endings}
 use Rattle.urlpattern_syntax.specs.Reading.{Encoding, Expect, FirstFails, Reads, Refuses, encode_fixed, item, number_after}
-use Rattle.urlpattern_syntax.specs.Tokens.{AreTokens, TellsFault, TokenView, fault_view, token_view}
+use Rattle.urlpattern_syntax.specs.Tokens.{AreTokens, ReportsFault, TokenView, fault_view, token_view}
 use Rattle.urlpattern_syntax.proofs.PartListLemmas.{HasRead, fails_end, fails_open, fails_piece, nothing_read, reads_end, reads_piece, reads_row}
 use Rattle.urlpattern_syntax.proofs.ReadingLemmas.{MemoryOr-weaker}
 
 -- a fault that is told is a refusal
-pub tells_refuses : (text : List ℕ) (options : OptionsView) (encoding : Encoding) (error : Error) → TellsFault text error → MemoryOr (Refuses text options encoding) error
-tells_refuses text options encoding (errors.Tokenizer fault place) h = inr (inl (fault_view fault, place, h, refl))
-tells_refuses text options encoding errors.OutOfMemory h = inl refl
-tells_refuses text options encoding errors.BaseUrlRequired h = absurd h
-tells_refuses text options encoding errors.BaseUrlWithInit h = absurd h
-tells_refuses text options encoding (errors.Parser error) h = absurd h
-tells_refuses text options encoding (errors.Url error) h = absurd h
-tells_refuses text options encoding (errors.RegExp error) h = absurd h
+pub reports_refuses : (text : List ℕ) (options : OptionsView) (encoding : Encoding) (error : Error) → ReportsFault text error → MemoryOr (Refuses text options encoding) error
+reports_refuses text options encoding (errors.Tokenizer fault place) h = inr (inl (fault_view fault, place, h, refl))
+reports_refuses text options encoding errors.OutOfMemory h = inl refl
+reports_refuses text options encoding errors.BaseUrlRequired h = absurd h
+reports_refuses text options encoding errors.BaseUrlWithInit h = absurd h
+reports_refuses text options encoding (errors.Parser error) h = absurd h
+reports_refuses text options encoding (errors.Url error) h = absurd h
+reports_refuses text options encoding (errors.RegExp error) h = absurd h
 
 -- so is a demand of its tokens that fails
 pub tokens_refuse : (text : List ℕ) (tokens : List TokenView) (options : OptionsView) (encoding : Encoding) (error : Error) → AreTokens text tokens → MemoryOr (FailsTokens tokens options encoding) error → MemoryOr (Refuses text options encoding) error
@@ -78,7 +78,7 @@ module _ (options : OptionsView) (encoding : Encoding) (text : List ℕ) where
 
     -- a piece that is not added
     pub piece_fails : (piece : Piece) (error other : Error) → Takes old new (λ tokens rest. BeginsWithPiece options.prefix tokens piece rest) → FailsItem encoding list (item list.number piece) error → reader_text old ≡ text → FaultOr new (λ view. view ≡ error_view error) other → MemoryOr (Refuses text options encoding) other
-    piece_fails piece error other takes failed same (inl h) = tells_refuses text options encoding other (subst (λ x. TellsFault x other) (ap chars takes.whole ∙ same) h)
+    piece_fails piece error other takes failed same (inl h) = reports_refuses text options encoding other (subst (λ x. ReportsFault x other) (ap chars takes.whole ∙ same) h)
     piece_fails piece error other takes failed same (inr (left, inl h)) = inl h
     piece_fails piece error other takes failed same (inr (left, inr h)) =
         let t = takes.gives left.0 left.1 in
@@ -115,7 +115,7 @@ module _ (options : OptionsView) (encoding : Encoding) (text : List ℕ) where
         }
 
     pub end_fails : (error : Error) → Takes old new (λ tokens rest. EndsAt tokens endings.Stops rest) → reader_text old ≡ text → FaultOr new (FirstFails encoding (encode_fixed list.pending ++ Expect End (token_view new.token) ∷ [])) error → MemoryOr (Refuses text options encoding) error
-    end_fails error takes same (inl h) = tells_refuses text options encoding error (subst (λ x. TellsFault x error) (ap chars takes.whole ∙ same) h)
+    end_fails error takes same (inl h) = reports_refuses text options encoding error (subst (λ x. ReportsFault x error) (ap chars takes.whole ∙ same) h)
     end_fails error takes same (inr (left, h)) =
         let t = takes.gives left.0 left.1 in
         let r = read t.0 t.1 in

@@ -30,7 +30,7 @@ no = both_ways false refl
 pub none : {text : List ℕ} → Skips text text
 none = ([], refl, refl)
 
--- Tokens at the front of a text, one behind the other, and what is left of it.
+-- Tokens at the front of a text, one after the other, and what is left of it.
 pub data Cut (whole left : List ℕ) : List ℕ → List TokenView → Type 0 where
   done : Cut whole left left []
   next : {text rest : List ℕ} {token : TokenView} {tokens : List TokenView} → IsTokenOf whole text token rest → Cut whole left rest tokens → Cut whole left text (token ∷ tokens)
@@ -52,7 +52,7 @@ pub mark : {whole rest : List ℕ} {kind : TokenType} {c index : ℕ} → Spells
 mark {whole} {rest} {kind} {c} {index} spells ends place =
     record { lexed = record { spelling = c ∷ []; cut = refl; spells = spells; ends = ends }; place = place }
 
--- a character behind a backslash
+-- a character after a backslash
 pub escaped_char : {whole rest : List ℕ} {c index : ℕ} → BeginsAt whole (codes "\\" ++ c ∷ rest) index → IsTokenOf whole (codes "\\" ++ c ∷ rest) (token EscapedChar index (c ∷ [])) rest
 escaped_char {whole} {rest} {c} {index} place = record {
   lexed = record { spelling = codes "\\" ++ c ∷ []; cut = refl; spells = (refl, (c, refl)); ends = tt };
@@ -93,7 +93,7 @@ short_front {c} ascii plain not_marked =
 
 -- ---- tokens
 
--- the pattern `/users/:id`: a name takes the letters behind its colon
+-- the pattern `/users/:id`: a name takes the letters after its colon
 abbrev pub users_front : List TokenView
 users_front =
     token Char 0 (codes "/") ∷ token Char 1 (codes "u") ∷ token Char 2 (codes "s") ∷ token Char 3 (codes "e")
@@ -131,7 +131,7 @@ pub empty : AreTokens [] (token End 0 [] ∷ [])
 unfolding literals
 empty = record { front = []; cut = none; all = refl }
 
--- a tab ends a name, and stands for nothing; what stands behind it has its own place
+-- a tab ends a name, and stands for nothing; what stands after it has its own place
 pub tabbed : AreTokens (codes ":a\tb\n") (token Name 0 (codes "a") ∷ token Char 3 (codes "b") ∷ token End 5 [] ∷ [])
 unfolding literals
 tabbed = record {
@@ -152,7 +152,7 @@ pub colon : IsFault (codes ":") InvalidName 0
 unfolding literals
 colon = record { front = []; left = _; cut = none; place = refl; fault = ([], refl, no) }
 
--- the place of a colon without a name is behind the brace
+-- the place of a colon without a name is after the brace
 pub brace_colon : IsFault (codes "}:") InvalidName 1
 unfolding literals
 brace_colon = record {
@@ -174,7 +174,7 @@ accent_colon = record {
   fault = ([], refl, no);
 }
 
--- the fault behind a name is found too
+-- the fault after a name is found too
 pub twice_colon : IsFault (codes ":a:a:") InvalidName 4
 unfolding literals
 twice_colon = record {
@@ -195,7 +195,7 @@ pub bracket_backslash : IsFault (codes "(\\") IncompleteEscapeCode 0
 unfolding literals
 bracket_backslash = record { front = []; left = _; cut = none; place = refl; fault = inr ([], no_front, refl) }
 
--- what is wrong behind a bracket with which the text begins
+-- what is wrong after a bracket with which the text begins
 pub bracket : {text : List ℕ} (rest : List ℕ) (fault : RegexpFault) → text ≡ codes "(" ++ rest → LacksRegexp rest fault → IsFault text (InvalidRegex (reason fault)) 0
 bracket {text} rest fault e lacks =
     record { front = []; left = text; cut = none; place = omega arith; fault = (rest, fault, e, lacks, refl) }
@@ -239,7 +239,7 @@ lenient_backslash = record {
   all = refl;
 }
 
--- behind a bracket that is not closed, the cut goes on with the next character
+-- after a bracket that is not closed, the cut goes on with the next character
 pub lenient_bracket : AreLenientTokens (codes "(a") (token InvalidChar 0 (codes "(") ∷ token Char 1 (codes "a") ∷ token End 2 [] ∷ [])
 unfolding literals
 lenient_bracket = record {

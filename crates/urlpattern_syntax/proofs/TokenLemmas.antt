@@ -14,7 +14,7 @@ use Rattle.urlpattern_syntax.specs.declared.tokenizer.TokenType.{TokenType}
 use Rattle.urlpattern_syntax.specs.declared.tokenizer.TokenType.TheVariants.{Asterisk, Char, Close, End, EscapedChar, InvalidChar, Name, Open, OtherModifier, Regexp}
 use Rattle.urlpattern_syntax.specs.Text.{byte_len, BeginsAt, BeginsWith, is_among, is_name_start, is_name_part}
 use Rattle.urlpattern_syntax.proofs.TextLemmas.{byte_len-append, length-le-byte_len}
-use Rattle.urlpattern_syntax.specs.Tokens.{TokenView, end_of, AreTokensUnder, IsCut, IsInvalidChar, IsInvalidCharOf, IsTokenOf, LexesUnder, Skips, SkipsBy, IsLexed, Spells, EndsThere, IsName, IsFaultAt, InvalidName, TellsFaultUnder, marks, is_ignored}
+use Rattle.urlpattern_syntax.specs.Tokens.{TokenView, end_of, AreTokensUnder, IsCut, IsInvalidChar, IsInvalidCharOf, IsTokenOf, LexesUnder, Skips, SkipsBy, IsLexed, Spells, EndsThere, IsName, IsFaultAt, InvalidName, ReportsFaultUnder, marks, is_ignored}
 
 -- ---- what is skipped
 
@@ -59,7 +59,7 @@ escaped_lexed text value rest c e f = record {
   ends = tt;
 }
 
--- a name behind a colon: its first character, and what is skipped behind that
+-- a name after a colon: its first character, and what is skipped after that
 pub name_lexed : (text value tail rest : List ℕ) (c : ℕ) → text ≡ c ∷ tail → is_name_start c ≡ true → SkipsBy is_name_part tail rest → ¬ BeginsWith is_name_part rest → text ≡ value ++ rest → IsLexed (codes ":" ++ text) Name value rest
 name_lexed text value tail rest c e starts skips all f = record {
   spelling = codes ":" ++ value;
@@ -71,7 +71,7 @@ name_lexed text value tail rest c e starts skips all f = record {
     whole : value ≡ c ∷ skips.0
     whole = append_cancel_right value (c ∷ skips.0) rest (sym f ∙ e ∙ ap (λ x. c ∷ x) skips.1)
 
--- no name begins behind this colon
+-- no name begins after this colon
 pub no_name : (text : List ℕ) → ¬ BeginsWith is_name_start text → IsFaultAt (codes ":" ++ text) InvalidName
 no_name text h = (text, refl, h)
 
@@ -170,7 +170,7 @@ IsTokenUnder-made policies.Lenient whole text value rest kind index h place = el
   | inr invalid ↦ inr (invalid_token whole text value rest kind index invalid place)
 ]
 
--- one more token, and what is skipped behind it
+-- one more token, and what is skipped after it
 pub IsCutUnder-more : (policy : TokenizePolicy) (text : List ℕ) (tokens : List TokenView) (left value rest next : List ℕ) (kind : TokenType) (index : ℕ) → IsCutUnder policy text tokens left → IsLexedUnder policy left kind value rest → BeginsAt text left index → Skips rest next → IsCutUnder policy text (tokens ++ record { kind = kind; index = index; value = value } ∷ []) next
 IsCutUnder-more policy text tokens left value rest next kind index cut lexed place skips =
     IsCut-more (IsTokenUnder policy text) text tokens left rest next (record { kind = kind; index = index; value = value }) cut (IsTokenUnder-made policy text left value rest kind index lexed place) skips
@@ -181,10 +181,10 @@ AreTokensUnder-cut policies.Strict text tokens front cut all = record { front = 
 AreTokensUnder-cut policies.Lenient text tokens front cut all = record { front = front; cut = cut; all = all }
 
 -- a fault is told under the strict policy alone
-pub TellsFaultUnder-first : (policy : TokenizePolicy) (text left : List ℕ) (front : List TokenView) (fault : TokenizerError) (index : ℕ) → IsCutUnder policy text front left → LexesUnder policy left (Err fault) → BeginsAt text left index → TellsFaultUnder policy text (errors.Tokenizer fault index)
-TellsFaultUnder-first policies.Strict text left front fault index cut told place = record { front = front; left = left; cut = cut; place = place; fault = told }
-TellsFaultUnder-first policies.Lenient text left front fault index cut told place = absurd told
+pub ReportsFaultUnder-first : (policy : TokenizePolicy) (text left : List ℕ) (front : List TokenView) (fault : TokenizerError) (index : ℕ) → IsCutUnder policy text front left → LexesUnder policy left (Err fault) → BeginsAt text left index → ReportsFaultUnder policy text (errors.Tokenizer fault index)
+ReportsFaultUnder-first policies.Strict text left front fault index cut reported place = record { front = front; left = left; cut = cut; place = place; fault = reported }
+ReportsFaultUnder-first policies.Lenient text left front fault index cut reported place = absurd reported
 
-pub TellsFaultUnder-memory : (policy : TokenizePolicy) (text : List ℕ) → TellsFaultUnder policy text errors.OutOfMemory
-TellsFaultUnder-memory policies.Strict text = tt
-TellsFaultUnder-memory policies.Lenient text = refl
+pub ReportsFaultUnder-memory : (policy : TokenizePolicy) (text : List ℕ) → ReportsFaultUnder policy text errors.OutOfMemory
+ReportsFaultUnder-memory policies.Strict text = tt
+ReportsFaultUnder-memory policies.Lenient text = refl

@@ -10,7 +10,7 @@ use Rattle.urlpattern_syntax.specs.Text.{text_of}
 use Rattle.urlpattern_syntax.specs.Tokens as fault
 use Rattle.urlpattern_syntax.specs.Tokens.{FaultView}
 
--- a kind of token is told by its name
+-- a kind of token has its name alone
 abbrev pub kind_name : TokenType → List ℕ
 kind_name Open = codes "Open"
 kind_name Close = codes "Close"

@@ -31,7 +31,7 @@ use Rattle.urlpattern_syntax.specs.Text.{BeginsWith, is_name_start, text_of}
 use Rattle.urlpattern_syntax.specs.Pieces.{ArePieces, Piece, Placeholder, Matched, Ending, IsPiece, IsEnding, IsPlaceholderOf, IsPrefixOf, IsModifier, TakesModifier, TakesRegexp, AreTexts, BeginsWithKind, is_text}
 use Rattle.urlpattern_syntax.specs.Pieces.{Matched as matched, Ending as endings, Piece as pieces}
 use Rattle.urlpattern_syntax.specs.Reading.{demands, items_of, AreMet, AreParts, Demand, Encode, Encoding, FirstFails, Item, Fixed, Capture, NewName, encode_fixed, name_or}
-use Rattle.urlpattern_syntax.specs.Tokens.{AreTokens, TellsFault, TokenView, token_view}
+use Rattle.urlpattern_syntax.specs.Tokens.{AreTokens, ReportsFault, TokenView, token_view}
 
 abbrev pub views : List Token → List TokenView
 views tokens = map token_view tokens
@@ -200,9 +200,9 @@ IsNext point tokens (nexts.Characters first more) rest = BeginsWithRow tokens (c
 IsNext point tokens nexts.Stops rest = EndsAt tokens endings.Stops rest
 IsNext point tokens nexts.LacksClose rest = EndsAt tokens endings.LacksClose rest
 
--- the same of these tokens behind any that are the prefix
-abbrev pub IsNextBehind : (prefix : List ℕ) → (tokens : List TokenView) → Next → (rest : List TokenView) → Type 0
-IsNextBehind prefix tokens next rest =
+-- the same of these tokens after any that are the prefix
+abbrev pub IsNextAfter : (prefix : List ℕ) → (tokens : List TokenView) → Next → (rest : List TokenView) → Type 0
+IsNextAfter prefix tokens next rest =
     (point : List ℕ) (before : List TokenView) → IsPrefixOf point before prefix → IsNext point (before ++ tokens) next rest
 
 -- a placeholder is taken
@@ -251,7 +251,7 @@ abbrev pub pending_items : List ℕ → List Item
 pending_items [] = []
 pending_items (c ∷ text) = Fixed (c ∷ text) modifiers.None ∷ []
 
--- the parts of these items stand behind those of before, and nothing is pending
+-- the parts of these items stand after those of before, and nothing is pending
 pub record AddsParts (options : OptionsView) (encoding : Encoding) (old : PartListView) (items : List Item) (new : PartListView) : Type 0 where
   pub added : List PartView
   pub parts : new.parts ≡ old.parts ++ added
@@ -259,12 +259,12 @@ pub record AddsParts (options : OptionsView) (encoding : Encoding) (old : PartLi
   pub are_met : AreMet encoding (item_demands (group_names old.parts) items)
   pub pending : new.pending ≡ []
 
--- the item is added: a plain fixed text is put behind the pending text, any other behind the part of that
+-- the item is added: a plain fixed text is put after the pending text, any other after the part of that
 abbrev pub AddsItem : OptionsView → Encoding → PartListView → Item → PartListView → Type 0
 AddsItem options encoding old (Fixed text modifiers.None) new = (new.parts ≡ old.parts) × (new.pending ≡ old.pending ++ text)
 AddsItem options encoding old item new = AddsParts options encoding old (pending_items old.pending ++ item ∷ []) new
 
--- memory ran out, or a demand of these items behind the parts fails with the error
+-- memory ran out, or a demand of these items after the parts fails with the error
 abbrev pub FailsItems : Encoding → List PartView → List Item → Error → Type 0
 FailsItems encoding parts items error = MemoryOr (FirstFails encoding (item_demands (group_names parts) items)) error
 
@@ -290,4 +290,4 @@ pub record FailsTokens (tokens : List TokenView) (options : OptionsView) (encodi
 
 -- memory ran out, or the error is the first fault of the text, or it is one of these and the rest has tokens
 abbrev pub FaultOr : Reader → (ErrorView → Type 0) → Error → Type 0
-FaultOr reader Is error = TellsFault (reader_text reader) error ⊎ (((tokens : List TokenView) × Gives reader tokens) × MemoryOr Is error)
+FaultOr reader Is error = ReportsFault (reader_text reader) error ⊎ (((tokens : List TokenView) × Gives reader tokens) × MemoryOr Is error)

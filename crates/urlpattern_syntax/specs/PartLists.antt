@@ -59,7 +59,7 @@ KnowsItsNames list = Knows list (list_names list)
 abbrev pub next_name : PartList → Option (Bor (List ℕ)) → List ℕ
 next_name list name = name_or (name_view name) list.next_numeric_name
 
--- the error tells that the name of the list's next placeholder stands in it before
+-- the error reports that the name of the list's next placeholder is in it already
 abbrev pub IsDuplicate : PartList → Option (Bor (List ℕ)) → ErrorView → Type 0
 IsDuplicate list name error = Contains (list_names list) (next_name list name) × (error ≡ error_views.DuplicateName (next_name list name))
 
@@ -78,7 +78,7 @@ abbrev pub then_group : PartList → (before : List ℕ) → Placeholder → (af
 then_group list before placeholder after modifier =
     pending_item list ++ group_item (chars before) placeholder (chars after) modifier list.next_numeric_name ∷ []
 
--- what a piece stands for behind the list
+-- what a piece stands for after the list
 abbrev pub next_item : PartList → Piece → Item
 next_item list piece = item list.next_numeric_name (piece_view piece)
 
@@ -86,7 +86,7 @@ next_item list piece = item list.next_numeric_name (piece_view piece)
 abbrev pub end_demands : PartList → Token → List Demand
 end_demands list token = encode_fixed (part_list_view list).pending ++ Expect End (token_view token) ∷ []
 
--- the parser puts the parts of these items behind those of the list, and nothing is pending
+-- the parser puts the parts of these items after those of the list, and nothing is pending
 abbrev pub AddsAll : {F : Type 0} → Calls F → PatternParser F → (old : PartList) → List Item → (new : PartList) → Type 0
 AddsAll calls parser old items new =
     AddsParts (parser_options parser) (parser_encoding calls parser) (part_list_view old) items (part_list_view new)
@@ -96,7 +96,7 @@ abbrev pub AddsPiece : {F : Type 0} → Calls F → PatternParser F → (old : P
 AddsPiece calls parser old piece new =
     AddsItem (parser_options parser) (parser_encoding calls parser) (part_list_view old) (next_item old piece) (part_list_view new)
 
--- memory ran out, or a demand of these items behind the list fails with the error
+-- memory ran out, or a demand of these items after the list fails with the error
 abbrev pub FailsToAdd : {F : Type 0} → Calls F → PatternParser F → PartList → List Item → Error → Type 0
 FailsToAdd calls parser list items error = FailsItems (parser_encoding calls parser) (part_list_view list).parts items error
 

@@ -25,7 +25,7 @@ pub data Piece : Type 0 where
   Bare : (prefix : List ℕ) → Placeholder → PartModifier → Piece
   -- texts in braces
   TextGroup : List ℕ → PartModifier → Piece
-  -- a placeholder in braces, with the texts before and behind it
+  -- a placeholder in braces, with the texts before and after it
   Group : (before : List ℕ) → Placeholder → (after : List ℕ) → PartModifier → Piece
 
 -- ---- tokens by kind
@@ -101,7 +101,7 @@ abbrev pub TakesRegexp : Matched → List TokenView → Type 0
 TakesRegexp Segment rest = ¬ BeginsWithKind is_regexp rest
 TakesRegexp matched rest = Unit {0}
 
--- a Char that is the prefix code point goes to the placeholder behind it
+-- a Char that is the prefix code point goes to the placeholder after it
 abbrev pub TakesPrefix : (point : List ℕ) → TokenView → List TokenView → Type 0
 TakesPrefix point token rest = token.kind ≡ Char → token.value ≡ point → ¬ BeginsWithKind is_placeholder rest
 

@@ -117,7 +117,7 @@ abbrev pub AreMet : Encoding → List Demand → Type 0
 AreMet encoding [] = Unit {0}
 AreMet encoding (demand ∷ rest) = IsMet encoding demand × AreMet encoding rest
 
--- the demand is not met, and this error tells it
+-- the demand is not met, and this error reports it
 abbrev pub Fails : Encoding → Demand → ErrorView → Type 0
 Fails encoding (Encode text) error = encoding text (Err error)
 Fails encoding (NewName earlier name) error = Contains earlier name × (error ≡ views.DuplicateName name)

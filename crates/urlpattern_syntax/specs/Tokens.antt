@@ -83,7 +83,7 @@ Spells Name value text = (text ≡ codes ":" ++ value) × IsName value
 Spells Regexp value text = (text ≡ codes "(" ++ value ++ codes ")") × IsRegexpBody value
 Spells Char value text =
     (value ≡ text) × ((c : ℕ) × (text ≡ c ∷ []) × ¬ IsTrue (is_among marks c) × ¬ IsTrue (is_ignored c))
--- these two are not spelled: End stands behind the whole text, InvalidChar in a fault's place
+-- these two are not spelled: End stands after the whole text, InvalidChar in a fault's place
 Spells End value text = ⊥
 Spells InvalidChar value text = ⊥
 
@@ -101,7 +101,7 @@ pub record IsLexed (text : List ℕ) (kind : TokenType) (value rest : List ℕ) 
 
 -- ---- faults
 
--- Where the front of a body stops: in it, or behind an inner bracket that is not closed.
+-- Where the front of a body stops: in it, or after an inner bracket that is not closed.
 pub data Front : Type 0 where
   Here : Body → Front
   Inside : Body → Front → Front
@@ -114,14 +114,14 @@ abbrev pub IsFront : Front → Type 0
 IsFront (Here body) = IsBody body
 IsFront (Inside body front) = IsBody body × IsFront front × BeginsWith is_question_mark (front_text front)
 
--- what may stand behind `(` before a fault
+-- what may stand after `(` before a fault
 pub record IsRegexpFront (text : List ℕ) : Type 0 where
   pub front : Front
   pub is_front : IsFront front
   pub spelled : text ≡ front_text front
   pub not_marked : ¬ BeginsWith is_question_mark text
 
--- What is wrong behind `(`.
+-- What is wrong after `(`.
 pub data RegexpFault : Type 0 where
   StartsWithQuestionMark NotAscii EscapedNotAscii GroupAtEnd CapturingGroup NotClosed NoBody : RegexpFault
 
@@ -139,7 +139,7 @@ LacksRegexp rest CapturingGroup =
 LacksRegexp rest NotClosed = IsRegexpFront rest
 LacksRegexp rest NoBody = (more : List ℕ) × (rest ≡ codes ")" ++ more)
 
--- how the fault is told
+-- the words in which the fault is reported
 abbrev pub reason : RegexpFault → List ℕ
 reason StartsWithQuestionMark = codes "must not start with ?, and may only contain ascii"
 reason NotAscii = codes "must not start with ?, and may only contain ascii"
@@ -173,8 +173,8 @@ abbrev pub IsFaultAt : List ℕ → FaultView → Type 0
 IsFaultAt text IncompleteEscapeCode =
     (text ≡ codes "\\") ⊎ ((front : List ℕ) × IsRegexpFront front × (text ≡ codes "(" ++ front ++ codes "\\"))
 IsFaultAt text InvalidName = (rest : List ℕ) × (text ≡ codes ":" ++ rest) × ¬ BeginsWith is_name_start rest
-IsFaultAt text (InvalidRegex told) =
-    (rest : List ℕ) × (fault : RegexpFault) × (text ≡ codes "(" ++ rest) × LacksRegexp rest fault × (told ≡ reason fault)
+IsFaultAt text (InvalidRegex reported) =
+    (rest : List ℕ) × (fault : RegexpFault) × (text ≡ codes "(" ++ rest) × LacksRegexp rest fault × (reported ≡ reason fault)
 
 -- ---- a whole text
 
@@ -211,12 +211,12 @@ pub record AreTokens (text : List ℕ) (tokens : List TokenView) : Type 0 where
   pub all : tokens ≡ front ++ end_of text ∷ []
 
 -- The first fault of the text, and its place.
-pub record IsFault (text : List ℕ) (told : FaultView) (index : ℕ) : Type 0 where
+pub record IsFault (text : List ℕ) (reported : FaultView) (index : ℕ) : Type 0 where
   pub front : List TokenView
   pub left : List ℕ
   pub cut : IsStrictCut text front left
   pub place : BeginsAt text left index
-  pub fault : IsFaultAt left told
+  pub fault : IsFaultAt left reported
 
 -- a character in a fault's place stands in the whole text where this begins
 pub record IsInvalidCharOf (whole text : List ℕ) (token : TokenView) (rest : List ℕ) : Type 0 where
@@ -227,7 +227,7 @@ pub record IsInvalidCharOf (whole text : List ℕ) (token : TokenView) (rest : L
   pub is_token : token ≡ record { kind = InvalidChar; index = token.index; value = character ∷ [] }
   pub place : BeginsAt whole text token.index
 
--- These are the lenient tokens of the text: in a fault's place stands one character, and the cut goes on behind it.
+-- These are the lenient tokens of the text: in a fault's place stands one character, and the cut goes on after it.
 pub record AreLenientTokens (text : List ℕ) (tokens : List TokenView) : Type 0 where
   pub front : List TokenView
   pub cut : IsCut (λ start token rest. IsTokenOf text start token rest ⊎ IsInvalidCharOf text start token rest) text front []
@@ -263,28 +263,28 @@ LexesUnder policies.Lenient text result = MatchResult result
     ⊎ IsInvalidChar text lexeme.kind (chars lexeme.value.now) (chars lexeme.rest.now))
     (λ fault. ⊥)
 
--- no ASCII character stands behind a backslash in the body of a custom regular expression
+-- no ASCII character stands after a backslash in the body of a custom regular expression
 abbrev pub LacksEscaped : List ℕ → FaultView → Type 0
 LacksEscaped text IncompleteEscapeCode = text ≡ []
 LacksEscaped text InvalidName = ⊥
-LacksEscaped text (InvalidRegex told) =
-    (c : ℕ) × (more : List ℕ) × (text ≡ c ∷ more) × (128 ≤ c) × (told ≡ reason EscapedNotAscii)
+LacksEscaped text (InvalidRegex reported) =
+    (c : ℕ) × (more : List ℕ) × (text ≡ c ∷ more) × (128 ≤ c) × (reported ≡ reason EscapedNotAscii)
 
--- no question mark stands behind an inner bracket
+-- no question mark stands after an inner bracket
 abbrev pub LacksQuestionMark : List ℕ → FaultView → Type 0
 LacksQuestionMark text IncompleteEscapeCode = ⊥
 LacksQuestionMark text InvalidName = ⊥
-LacksQuestionMark text (InvalidRegex told) =
-    ((text ≡ []) × (told ≡ reason GroupAtEnd))
-    ⊎ ((c : ℕ) × (more : List ℕ) × (text ≡ c ∷ more) × ¬ IsTrue (is_question_mark c) × (told ≡ reason CapturingGroup))
+LacksQuestionMark text (InvalidRegex reported) =
+    ((text ≡ []) × (reported ≡ reason GroupAtEnd))
+    ⊎ ((c : ℕ) × (more : List ℕ) × (text ≡ c ∷ more) × ¬ IsTrue (is_question_mark c) × (reported ≡ reason CapturingGroup))
 
--- the error tells the first fault of the text, or that memory ran out
-abbrev pub TellsFault : List ℕ → Error → Type 0
-TellsFault text (errors.Tokenizer fault place) = IsFault text (fault_view fault) place
-TellsFault text errors.OutOfMemory = Unit {0}
-TellsFault text other = ⊥
+-- the error reports the first fault of the text, or that memory ran out
+abbrev pub ReportsFault : List ℕ → Error → Type 0
+ReportsFault text (errors.Tokenizer fault place) = IsFault text (fault_view fault) place
+ReportsFault text errors.OutOfMemory = Unit {0}
+ReportsFault text other = ⊥
 
--- the same under the policy: the lenient one tells no fault
-abbrev pub TellsFaultUnder : TokenizePolicy → List ℕ → Error → Type 0
-TellsFaultUnder policies.Strict text error = TellsFault text error
-TellsFaultUnder policies.Lenient text error = error ≡ errors.OutOfMemory
+-- the same under the policy: the lenient one reports no fault
+abbrev pub ReportsFaultUnder : TokenizePolicy → List ℕ → Error → Type 0
+ReportsFaultUnder policies.Strict text error = ReportsFault text error
+ReportsFaultUnder policies.Lenient text error = error ≡ errors.OutOfMemory

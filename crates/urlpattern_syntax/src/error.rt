@@ -30,7 +30,7 @@ pub enum Error {
     OutOfMemory,
 }
 
-/// Tells the error, with the place in a pattern text where it has one.
+/// Prints the error, with the place in a pattern text where it has one.
 impl fmt::Display for Error {
     ghost output = { λ error. error_text (error_view error) };
 
@@ -104,7 +104,7 @@ pub enum TokenizerError {
     InvalidRegex(RegexFault),
 }
 
-/// Tells the fault.
+/// Prints the fault.
 impl fmt::Display for TokenizerError {
     ghost output = { λ error. Some (fault_text (fault_view error)) };
 
@@ -166,7 +166,7 @@ pub enum ParserError {
     DuplicateName(String),
 }
 
-/// Tells what had to stand and what does, or the name.
+/// Prints what was expected and what was found, or the name.
 impl fmt::Display for ParserError {
     ghost output = { λ error. Some (parser_error_text error) };
 

@@ -141,7 +141,7 @@ pub struct Part {
     pub name: String,
     /// The text that stands before it each time, empty for a fixed text.
     pub prefix: String,
-    /// The text that stands behind it each time, empty for a fixed text.
+    /// The text that stands after it each time, empty for a fixed text.
     pub suffix: String,
 }
 

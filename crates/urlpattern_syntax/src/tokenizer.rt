@@ -4,7 +4,7 @@
 ghost use Rattle.std.specs.Prelude.{◌≡◌, ◌<◌, List, map, ℕ, ◌∷◌, ◌++◌, [], length, IfNone, IfSome, IfOk, IfErr};
 ghost use Rattle.std.specs.Str.{chars};
 ghost use Rattle.urlpattern_syntax.specs.Text.{is_name_start, is_name_part};
-ghost use Rattle.urlpattern_syntax.specs.Tokens.{AreTokensUnder, TellsFaultUnder, token_view};
+ghost use Rattle.urlpattern_syntax.specs.Tokens.{AreTokensUnder, ReportsFaultUnder, token_view};
 
 mod cursors;
 mod lexemes;
@@ -85,7 +85,7 @@ pub struct Token<'a> {
 pub enum TokenizePolicy {
     /// Answer an error.
     Strict,
-    /// Take the character as a token of the kind `InvalidChar`, and go on behind it.
+    /// Take the character as a token of the kind `InvalidChar`, and go on after it.
     Lenient,
 }
 
@@ -101,7 +101,7 @@ pub fn tokenize<'a>(
     policy: TokenizePolicy,
 ) -> Result<Vec<Token<'a>>, Error>
     ensures tokens { IfOk result (λ tokens. AreTokensUnder policy (chars input.now) (map token_view tokens.items)) }
-    ensures fault { IfErr result (TellsFaultUnder policy (chars input.now)) }
+    ensures fault { IfErr result (ReportsFaultUnder policy (chars input.now)) }
 {
     let mut tokens = Vec::new(alloc);
     let mut rest = skip_ignored(input);

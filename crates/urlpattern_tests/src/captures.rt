@@ -1,4 +1,4 @@
-//! Matches that borrow: what they tell, beside the result that owns its texts, and that none asks for memory without an engine.
+//! Matches that borrow: their texts and groups, beside the result that owns its texts, and that none asks for memory without an engine.
 
 use crate::inits::{init_of, url_of};
 use std::alloc::Global;

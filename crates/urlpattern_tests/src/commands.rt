@@ -42,7 +42,7 @@ fn expect_run(
     line: &[&str],
     status: u8,
     printed: &str,
-    told: &str,
+    expected: &str,
 ) -> Result<(), AllocError> {
     let words = words_of(alloc, line)?;
     let mut out = Vec::new(alloc);
@@ -53,7 +53,7 @@ fn expect_run(
         "at {line:?}"
     );
     assert_eq!(rt; str::from_utf8(&out), Ok(printed), "at {line:?}");
-    assert_eq!(rt; str::from_utf8(&err), Ok(told), "at {line:?}");
+    assert_eq!(rt; str::from_utf8(&err), Ok(expected), "at {line:?}");
     Ok(())
 }
 
@@ -68,7 +68,7 @@ fn expect_printed(
 }
 
 #[test]
-fn tells_the_usage(rt: HostRuntime) -> Result<(), Fail> {
+fn prints_the_usage(rt: HostRuntime) -> Result<(), Fail> {
     let mut usage = String::from_str(
         rt.alloc(),
         "usage: urlpat component default|hostname|pathname PATTERN\n",
@@ -92,28 +92,28 @@ fn tells_the_usage(rt: HostRuntime) -> Result<(), Fail> {
 }
 
 #[test]
-fn tells_why_a_pattern_is_refused(rt: HostRuntime) -> Result<(), Fail> {
+fn prints_why_a_pattern_is_refused(rt: HostRuntime) -> Result<(), Fail> {
     let alloc = rt.alloc();
-    // What is told of a token's fault, and its place.
+    // What is printed for a token's fault, with its place.
     let faults = [
         (":", "invalid name; must be at least length 1", 0),
         ("a\\", "incomplete escape code", 1),
         ("é(", "invalid regex: missing closing )", 2),
     ];
-    for (pattern, told, place) in faults {
+    for (pattern, expected, place) in faults {
         let mut line = String::new(alloc);
-        writeln!(line, "tokenizer error: {told} (at char {place})")?;
+        writeln!(line, "tokenizer error: {expected} (at char {place})")?;
         expect_run(&rt, alloc, &["component", "default", pattern], 2, "", &line)?;
     }
-    // What is told of tokens that are no pattern.
+    // What is printed for tokens that are no pattern.
     let refusals = [
         ("{a", "expected token Close, found '' of type End"),
         (":é:é", "pattern contains duplicate name é"),
         ("a}", "expected token End, found '}' of type Close"),
     ];
-    for (pattern, told) in refusals {
+    for (pattern, expected) in refusals {
         let mut line = String::new(alloc);
-        writeln!(line, "parser error: {told}")?;
+        writeln!(line, "parser error: {expected}")?;
         expect_run(&rt, alloc, &["component", "default", pattern], 2, "", &line)?;
     }
     Ok(())
@@ -150,7 +150,7 @@ fn prints_the_groups_of_a_match(rt: HostRuntime) -> Result<(), Fail> {
 }
 
 #[test]
-fn tells_a_group_that_took_no_part_from_an_empty_one(rt: HostRuntime) -> Result<(), Fail> {
+fn a_group_that_took_no_part_is_not_an_empty_one(rt: HostRuntime) -> Result<(), Fail> {
     let rows = [
         ("https://example.com/a", "x"),
         ("https://example.com/a/", "x="),
@@ -198,8 +198,8 @@ fn the_first_pattern_that_is_refused_ends_the_run(rt: HostRuntime) -> Result<(),
     ];
     expect_run(&rt, rt.alloc(), &line, 2, "", relative)?;
     let line = ["first", "https://example.com", "nonsense", "/x", "/{"];
-    let told = "parser error: expected token Close, found '' of type End\n";
-    expect_run(&rt, rt.alloc(), &line, 2, "", told)?;
+    let expected = "parser error: expected token Close, found '' of type End\n";
+    expect_run(&rt, rt.alloc(), &line, 2, "", expected)?;
     Ok(())
 }
 
@@ -214,7 +214,7 @@ fn says_that_there_is_no_match(rt: HostRuntime) -> Result<(), Fail> {
 }
 
 #[test]
-fn tells_why_a_pattern_or_its_base_is_refused(rt: HostRuntime) -> Result<(), Fail> {
+fn prints_why_a_pattern_or_its_base_is_refused(rt: HostRuntime) -> Result<(), Fail> {
     let relative = "a relative input without a base URL is not valid\n";
     let line = ["match", "/users/:id", "-", "https://example.com/x"];
     expect_run(&rt, rt.alloc(), &line, 2, "", relative)?;

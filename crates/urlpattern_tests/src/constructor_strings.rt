@@ -1,4 +1,4 @@
-//! Constructor strings: the base URL that is kept, long strings, and want of memory.
+//! Constructor strings: the base URL that is kept, long strings, and out of memory.
 
 use crate::inits::{Texts, expect_init, url_of};
 use regex::Regex;

@@ -12,9 +12,9 @@ use urlpattern::{
 /// What groups are expected to capture, by name.
 pub type Groups<'a> = &'a [(&'a str, Option<&'a str>)];
 
-/// What a match is expected to tell of a component that has one group: the component's name, its text, the group's name
+/// What a match is expected to have for a component that has one group: the component's name, its text, the group's name
 /// and what it captures.
-pub type Told<'a> = (&'a str, &'a str, &'a str, Option<&'a str>);
+pub type Expected<'a> = (&'a str, &'a str, &'a str, Option<&'a str>);
 
 /// What is expected of a pattern. A component is called by its name.
 #[derive(Clone, Copy)]
@@ -81,7 +81,7 @@ fn regexp_of<R: RegExp>(component: &Component<R>) -> &str {
     }
 }
 
-/// The match of an input, or None. A test has to tell the same.
+/// The match of an input, or None. `test` has to answer the same.
 fn found_by<R: RegExp>(
     rt: &impl Abort,
     alloc: Global,
@@ -122,16 +122,16 @@ fn matched<R: RegExp>(
     }
 }
 
-/// Compares what the match of an input tells of components, each of which has one group.
+/// Compares the match of an input for components, each of which has one group.
 pub fn expect_match<R: RegExp>(
     rt: &impl Abort,
     alloc: Global,
     pattern: UrlPattern<R>,
     input: UrlPatternMatchInput,
-    told: &[Told<'_>],
+    expected: &[Expected<'_>],
 ) -> Result<(), Error> {
     let found = matched(rt, alloc, pattern, input)?;
-    for (name, text, group, captured) in told {
+    for (name, text, group, captured) in expected {
         let component = component_result(&found, name);
         expect_text(rt, component, text, 1);
         expect_captured(rt, component, group, *captured);
@@ -139,7 +139,7 @@ pub fn expect_match<R: RegExp>(
     expect_copy(rt, &found)
 }
 
-/// Compares what the match of an input tells of the path: its text, and what its groups capture.
+/// Compares the match of an input for the path: its text, and what its groups capture.
 pub fn expect_path<R: RegExp>(
     rt: &impl Abort,
     alloc: Global,
@@ -156,7 +156,7 @@ pub fn expect_path<R: RegExp>(
     expect_copy(rt, &found)
 }
 
-/// Compares what the match of an input tells of the path by name: the groups in the order of their names, and nothing
+/// Compares the match of an input for the path by name: the groups in the order of their names, and nothing
 /// of another name.
 pub fn expect_names<R: RegExp>(
     rt: &impl Abort,
@@ -188,7 +188,7 @@ fn expect_named(
     Ok(())
 }
 
-/// Compares a result with its copy, and what it tells of the path with what it tells of the query, which is another.
+/// Compares a result with its copy, and its path with its query, which is another.
 fn expect_copy(rt: &impl Abort, found: &UrlPatternResult) -> Result<(), Error> {
     let copy = found.clone()?;
     assert!(rt; copy == *found, "a copy");
@@ -196,7 +196,7 @@ fn expect_copy(rt: &impl Abort, found: &UrlPatternResult) -> Result<(), Error> {
     Ok(())
 }
 
-/// What a result tells of a component.
+/// The result of a component.
 fn component_result<'a>(found: &'a UrlPatternResult, name: &str) -> &'a UrlPatternComponentResult {
     found.get(component_named(name))
 }

@@ -196,7 +196,7 @@ fn an_init_writes_what_is_given(rt: HostRuntime) -> Result<(), Fail> {
 }
 
 #[test]
-fn a_matcher_tells_its_kind(rt: HostRuntime) -> Result<(), Fail> {
+fn a_matcher_writes_its_kind(rt: HostRuntime) -> Result<(), Fail> {
     for text in [SEGMENT, LITERAL, REGEXP] {
         expect_written::<Matcher>(&rt, rt.alloc(), text, text)?;
     }
@@ -354,7 +354,7 @@ fn a_zero_and_what_stands_for_no_character_are_kept(rt: HostRuntime) -> Result<(
 }
 
 /// Holds whichever allocation is refused: `rt try --test --fail-alloc N` refuses one. The tree is made by `serde_json`,
-/// whose own want of memory ends the test.
+/// which ends when its own memory runs out.
 #[test]
 fn json_without_memory_gives_no_other_answer(rt: HostRuntime) -> Result<(), Fail> {
     let tree = Value::from_str(rt.alloc(), &pattern_text(rt.alloc())?)?;

@@ -1,7 +1,7 @@
-//! Matches of patterns with components put together by hand, of URLs and of inits, copies of results, and want of memory.
+//! Matches of patterns with components put together by hand, of URLs and of inits, copies of results, and out of memory.
 
 use crate::components::path_of;
-use crate::facts::{Groups, Told, expect_match, expect_names, expect_no_match, expect_path};
+use crate::facts::{Expected, Groups, expect_match, expect_names, expect_no_match, expect_path};
 use crate::inits::{Fields, init_of, init_under, url_input};
 use regex::Regex;
 use std::alloc::Global;
@@ -60,16 +60,16 @@ fn with_path_and_url(
     Ok((pattern, input))
 }
 
-/// Compares what a pattern with this text for the path tells of a URL that it matches.
+/// Compares the match of a URL by a pattern with this text for the path.
 fn expect_url(
     rt: &impl Abort,
     alloc: Global,
     pathname: &str,
     url: &str,
-    told: &[Told<'_>],
+    expected: &[Expected<'_>],
 ) -> Result<(), Error> {
     let (pattern, input) = with_path_and_url(alloc, pathname, url)?;
-    expect_match(rt, alloc, pattern, input, told)
+    expect_match(rt, alloc, pattern, input, expected)
 }
 
 /// Compares the groups of a path: what an engine captures of it, beside these names.
@@ -181,15 +181,21 @@ fn names_are_sorted(rt: HostRuntime) -> Result<(), Fail> {
     Ok(())
 }
 
-/// Compares what a pattern with a name in its path tells of an init that it matches.
+/// Compares the match of an init by a pattern with a name in its path.
 fn expect_init(
     rt: &impl Abort,
     alloc: Global,
     init: UrlPatternInit,
-    told: &[Told<'_>],
+    expected: &[Expected<'_>],
 ) -> Result<(), Error> {
     let pattern = with_pathname(alloc, path_of::<Regex>(alloc, "/users/:id")?)?;
-    expect_match(rt, alloc, pattern, UrlPatternMatchInput::Init(init), told)
+    expect_match(
+        rt,
+        alloc,
+        pattern,
+        UrlPatternMatchInput::Init(init),
+        expected,
+    )
 }
 
 #[test]
@@ -232,8 +238,8 @@ fn a_copy_of_a_result_equals_it(rt: HostRuntime) -> Result<(), Fail> {
 /// Holds whichever allocation is refused: `rt try --test --fail-alloc N` refuses one.
 #[test]
 fn a_match_without_memory_gives_no_other_answer(rt: HostRuntime) {
-    let told = [("pathname", "/users/123", "id", Some("123"))];
+    let expected = [("pathname", "/users/123", "id", Some("123"))];
     let url = "https://example.com/users/123";
-    let answer = expect_url(&rt, rt.alloc(), "/users/:id(\\d+)", url, &told);
+    let answer = expect_url(&rt, rt.alloc(), "/users/:id(\\d+)", url, &expected);
     assert!(rt; matches!(answer, Ok(()) | Err(Error::OutOfMemory)));
 }

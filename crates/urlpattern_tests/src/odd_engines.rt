@@ -78,7 +78,7 @@ fn what_an_engine_refuses_is_kept_and_matches_nothing(rt: HostRuntime) -> Result
 }
 
 #[test]
-fn an_engine_without_memory_is_told_as_such(rt: HostRuntime) -> Result<(), Fail> {
+fn an_engine_without_memory_is_reported_as_such(rt: HostRuntime) -> Result<(), Fail> {
     let alloc = rt.alloc();
     assert!(rt; matches!(matcher_of::<Starved>(alloc), Err(Error::OutOfMemory)));
     assert!(rt;

@@ -1,4 +1,4 @@
-//! Patterns that are built of an init: the components of which case is ignored, and want of memory.
+//! Patterns that are built of an init: the components of which case is ignored, and out of memory.
 
 use crate::facts::{Fact, expect_facts};
 use crate::inits::init_of;
@@ -25,7 +25,7 @@ fn expect_built<R: RegExp>(
 }
 
 #[test]
-fn case_is_ignored_behind_the_authority(rt: HostRuntime) -> Result<(), Fail> {
+fn case_is_ignored_after_the_authority(rt: HostRuntime) -> Result<(), Fail> {
     let facts = [
         Fact::IgnoresCase(&["pathname", "search", "hash"]),
         Fact::Regexp("pathname", "^\\/users(?:\\/([^\\/]+?))$"),

@@ -18,7 +18,11 @@ use urlpattern::regexp::RegExp;
 use urlpattern::{Error, UrlPattern, UrlPatternOptions};
 
 /// Whether a plain pattern has this text for its path, and JSON for path and protocol.
-fn is_told(alloc: Global, pattern: &quirks::UrlPattern, pathname: &str) -> Result<bool, Error> {
+fn is_as_expected(
+    alloc: Global,
+    pattern: &quirks::UrlPattern,
+    pathname: &str,
+) -> Result<bool, Error> {
     let path = pattern.pathname.to_json_value(alloc)?;
     let protocol = pattern.protocol.to_json_value(alloc)?;
     Ok(
@@ -29,10 +33,10 @@ fn is_told(alloc: Global, pattern: &quirks::UrlPattern, pathname: &str) -> Resul
 }
 
 /// Whether the plain pattern of a path has its text.
-fn is_path_told(alloc: Global, pathname: &str) -> Result<bool, Error> {
+fn is_path_as_expected(alloc: Global, pathname: &str) -> Result<bool, Error> {
     let init = init_of(alloc, &[("pathname", pathname)])?;
     let pattern = parse_pattern::<Regex>(alloc, init, UrlPatternOptions::default())?;
-    is_told(alloc, &pattern, pathname)
+    is_as_expected(alloc, &pattern, pathname)
 }
 
 /// The pattern of a path, for the library.
@@ -130,6 +134,6 @@ fn a_refused_regular_expression_is_an_empty_text(rt: HostRuntime) -> Result<(), 
 /// Holds whichever allocation is refused: `rt try --test --fail-alloc N` refuses one.
 #[test]
 fn a_plain_pattern_without_memory_gives_no_other_answer(rt: HostRuntime) {
-    let answer = is_path_told(rt.alloc(), "/users/:id");
+    let answer = is_path_as_expected(rt.alloc(), "/users/:id");
     assert!(rt; matches!(answer, Ok(true) | Err(Error::OutOfMemory)));
 }

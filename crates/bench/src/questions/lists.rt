@@ -27,7 +27,7 @@ const FRONTS: [&str; 6] = [
     "http{s}?://example.com/a",
 ];
 
-/// What the paths of its patterns are made of behind that.
+/// What the paths of its patterns are made of after that.
 const ENDS: [&str; 10] = [
     "/a", "/b", "/:y", "/c", "/*", "/1", "/2", "/:z?", "/(1|2)", "-b",
 ];

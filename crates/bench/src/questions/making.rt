@@ -77,7 +77,7 @@ impl Maker {
         Ok(mutant)
     }
 
-    /// A text of which a character is left out, stands twice, or gives way to a piece or stands behind one. Where the byte
+    /// A text of which a character is left out, stands twice, or gives way to a piece or stands after one. Where the byte
     /// that is drawn begins no character the text is as it was.
     fn changed(&mut self, text: &str, pieces: &[&str]) -> Result<String, AllocError> {
         let place = self.below(text.len());

@@ -28,16 +28,19 @@ fn reads_back(alloc: Global, given: &Given, parts: &[Part]) -> Result<bool, Erro
         Err(_) => return Ok(false),
     };
     let again = generate_pattern_string(alloc, &joined, &given.options)?;
-    Ok(again == printed && told(alloc, &joined, false)? == told(alloc, parts, true)?)
+    Ok(
+        again == printed
+            && text_of_parts(alloc, &joined, false)? == text_of_parts(alloc, parts, true)?,
+    )
 }
 
 /// The parts as one text, in which neighbouring plain texts are joined if that is asked for.
-fn told(alloc: Global, parts: &[Part], joins: bool) -> Result<String, AllocError> {
-    let mut told = String::new(alloc);
-    let mut is_behind_plain = false;
+fn text_of_parts(alloc: Global, parts: &[Part], joins: bool) -> Result<String, AllocError> {
+    let mut text_of_parts = String::new(alloc);
+    let mut is_after_plain = false;
     for part in parts {
         let is_plain = is_plain(part);
-        if !(joins && is_plain && is_behind_plain) {
+        if !(joins && is_plain && is_after_plain) {
             let Part {
                 kind,
                 modifier,
@@ -47,14 +50,14 @@ fn told(alloc: Global, parts: &[Part], joins: bool) -> Result<String, AllocError
                 ..
             } = part;
             write!(
-                told,
+                text_of_parts,
                 "\n{kind:?} {modifier} {name:?} {prefix:?} {suffix:?} "
             )?;
         }
-        told.push_str(&part.value)?;
-        is_behind_plain = is_plain;
+        text_of_parts.push_str(&part.value)?;
+        is_after_plain = is_plain;
     }
-    Ok(told)
+    Ok(text_of_parts)
 }
 
 /// Whether a part is a fixed text that stands once.

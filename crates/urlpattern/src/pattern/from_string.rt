@@ -3,14 +3,14 @@
 ghost use Rattle.std.specs.Prelude.{◌≡◌, None, Ok, length, option_copied, IfErr, IfOk};
 ghost use Rattle.std.specs.Str.{chars};
 ghost use Rattle.url.specs.Parser.{parse_url};
-ghost use Rattle.urlpattern_canonical.specs.Canonical.{Tells};
+ghost use Rattle.urlpattern_canonical.specs.Canonical.{Reports};
 ghost use Rattle.urlpattern.specs.FromString.{parsed_base, text_bytes, IsInitOfTextBy, IsPatternOfTextBy, RefusesPatternOfTextBy, RefusesText};
 ghost use Rattle.urlpattern_syntax.specs.Errors.{MemoryOr};
 
 use super::UrlPattern;
 use std::alloc::Global;
 use url::Url;
-use urlpattern_canonical::canonicalize_and_process::told;
+use urlpattern_canonical::canonicalize_and_process::reported;
 use urlpattern_core::Error;
 use urlpattern_core::regexp::RegExp;
 use urlpattern_init::UrlPatternInit;
@@ -57,7 +57,7 @@ pub fn init_of_text<R: RegExp>(
 /// The error is the refusal of `url`, or that memory ran out.
 pub fn parse_base(alloc: Global, text: Option<&str>) -> Result<Option<Url>, Error>
     ensures ok { IfOk result (λ base. parsed_base (option_copied text.entry) ≡ Ok base) }
-    ensures err { IfErr result (MemoryOr (Tells (parsed_base (option_copied text.entry)) (text_bytes (option_copied text.entry)))) }
+    ensures err { IfErr result (MemoryOr (Reports (parsed_base (option_copied text.entry)) (text_bytes (option_copied text.entry)))) }
 {
     match text {
         Some(text) => Ok(Some(parse_url(alloc, text)?)),
@@ -70,7 +70,7 @@ pub fn parse_base(alloc: Global, text: Option<&str>) -> Result<Option<Url>, Erro
 /// The error is the refusal of `url`, or that memory ran out.
 pub fn parse_url(alloc: Global, text: &str) -> Result<Url, Error>
     ensures ok { IfOk result (λ url. parse_url None text.now ≡ Ok url) }
-    ensures err { IfErr result (MemoryOr (Tells (parse_url None text.now) (length text.now))) }
+    ensures err { IfErr result (MemoryOr (Reports (parse_url None text.now) (length text.now))) }
 {
-    told(Url::parse(alloc, text), text.len())
+    reported(Url::parse(alloc, text), text.len())
 }

@@ -5,7 +5,7 @@ ghost use Rattle.std.specs.Str.{chars};
 ghost use Rattle.urlpattern_canonical.specs.Canonical.{IsAnswer};
 ghost use Rattle.urlpattern_core.specs.Compiling.{IsCompiledBy, component_view, pattern_text};
 ghost use Rattle.urlpattern_init.specs.Inheritance.{values_view};
-ghost use Rattle.urlpattern.specs.Compiled.{HasEngine, HasHierarchicalPath, IsPatternOfInit, RefusesInit, behind_protocol, canonical_in_hostname, has_default_port, is_ipv6_pattern, is_mark, is_same, pattern_of, pattern_values, without_default_port};
+ghost use Rattle.urlpattern.specs.Compiled.{HasEngine, HasHierarchicalPath, IsPatternOfInit, RefusesInit, after_protocol, canonical_in_hostname, has_default_port, is_ipv6_pattern, is_mark, is_same, pattern_of, pattern_values, without_default_port};
 ghost use Rattle.urlpattern.specs.Compilers.{AreRefused, ComeTo, CompilesComponent, RefusesComponent, RefusesFirstOf, RefusesFrom, component_manner};
 ghost use Rattle.urlpattern.specs.Patterns.{pattern_view};
 ghost use Rattle.urlpattern_syntax.specs.declared.eight.ComponentName.{ComponentName};
@@ -180,7 +180,7 @@ struct Compiler<'a> {
 }
 
 impl Compiler<'_> {
-    /// The pattern: the protocol is compiled first, and tells whether the pathname is hierarchical.
+    /// The pattern: the protocol is compiled first, since it decides whether the pathname is hierarchical.
     ///
     /// The error is that of the first component that is refused, or that memory ran out.
     fn pattern<R: RegExp>(&self) -> Result<UrlPattern<R>, Error>
@@ -189,13 +189,13 @@ impl Compiler<'_> {
     {
         let protocol = self.component(ComponentName::Protocol, false)?;
         let hierarchical = self.is_hierarchical(&protocol)?;
-        self.behind_protocol(protocol, hierarchical)
+        self.after_protocol(protocol, hierarchical)
     }
 
     /// The pattern with this protocol.
     ///
     /// The error is that of the first component that is refused, or that memory ran out.
-    fn behind_protocol<R: RegExp>(
+    fn after_protocol<R: RegExp>(
         &self,
         protocol: component::Component<R>,
         hierarchical: bool,
@@ -203,7 +203,7 @@ impl Compiler<'_> {
         requires { CompilesComponent R.RegExp self.now hierarchical ComponentName.Protocol (component_view protocol) }
         ensures protocol { IfOk result (λ pattern. component_view pattern.components.protocol ≡ component_view protocol) }
         ensures compiled { IfOk result (λ pattern. (component : ComponentName) → CompilesComponent R.RegExp self.now hierarchical component (pattern_view pattern component)) }
-        ensures refused { IfErr result (MemoryOr (RefusesFirstOf R.RegExp self.now hierarchical behind_protocol)) }
+        ensures refused { IfErr result (MemoryOr (RefusesFirstOf R.RegExp self.now hierarchical after_protocol)) }
     {
         let components = Eight {
             protocol,
@@ -303,7 +303,7 @@ impl Compiler<'_> {
     ///
     /// The error is that memory ran out.
     fn is_hierarchical<R: RegExp>(&self, protocol: &component::Component<R>) -> Result<bool, Error>
-        ensures tells { IfOk result (λ hierarchical. IsTrue hierarchical ↔ HasHierarchicalPath R.answer (values_view self.now.values.now) (component_view protocol.now).matcher) }
+        ensures path_kind { IfOk result (λ hierarchical. IsTrue hierarchical ↔ HasHierarchicalPath R.answer (values_view self.now.values.now) (component_view protocol.now).matcher) }
         ensures memory { IfErr result (λ error. error ≡ errors.OutOfMemory) }
     {
         if is_there_and_empty(&self.values.protocol) || is_there_with_slash(&self.values.pathname) {

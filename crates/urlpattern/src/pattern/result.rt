@@ -1,4 +1,4 @@
-//! What a match tells: the text of each component, and what its groups capture.
+//! The result of a match: the text of each component, and what its groups capture.
 ghost use Rattle.std.specs.Cmp.Lexicographic.{slice_cmp};
 ghost use Rattle.std.specs.HashMap.{IsUnique, get_by_text, keys};
 ghost use Rattle.std.specs.Ordering.{nat_cmp};
@@ -19,12 +19,12 @@ use urlpattern_core::error::OutOfMemory;
 use urlpattern_plain::MatchInput;
 use urlpattern_syntax::eight::{ComponentName, Eight};
 
-/// What a match tells of each component.
+/// The result of a match, for each component.
 ///
 /// <https://urlpattern.spec.whatwg.org/#dictdef-urlpatternresult>
 pub type UrlPatternResult = Eight<UrlPatternComponentResult>;
 
-/// What a match tells of one component.
+/// The result of a match for one component.
 ///
 /// <https://urlpattern.spec.whatwg.org/#dictdef-urlpatterncomponentresult>
 #[derive(Debug, Clone, PartialEq, Eq, Drop)]

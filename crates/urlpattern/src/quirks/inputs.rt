@@ -4,7 +4,7 @@ ghost use Rattle.std.specs.Str.{chars};
 ghost use Rattle.url.specs.Parser as url_spec;
 ghost use Rattle.urlpattern_init.specs.Inheritance.{values_view};
 ghost use Rattle.urlpattern.specs.Inputs.{IsCopyOfText, FindsInput, IsConstructedFrom, IsInitOf, IsInitOfString, RefusesInput, RefusesSecondBase, longer_bytes, RefusesText, parsed_base, parsed_text, plain_base, plain_values, text_bytes};
-ghost use Rattle.urlpattern_canonical.specs.Canonical.{Tells};
+ghost use Rattle.urlpattern_canonical.specs.Canonical.{Reports};
 ghost use Rattle.urlpattern_plain.specs.declared.input.StringOrInit.TheVariants as plain_inputs;
 ghost use Rattle.urlpattern_syntax.specs.declared.error.Error.TheVariants as errors;
 ghost use Rattle.urlpattern_syntax.specs.Eight.{at};
@@ -17,7 +17,7 @@ use regex::Regex;
 use std::alloc::{AllocError, Global};
 use std::borrow::CowStr;
 use url::Url;
-use urlpattern_canonical::canonicalize_and_process::told;
+use urlpattern_canonical::canonicalize_and_process::reported;
 use urlpattern_core::Error;
 use urlpattern_init as init;
 use urlpattern_init::UrlPatternMatchInput;
@@ -50,7 +50,7 @@ pub fn process_construct_pattern_input(
 /// The init of components one by one, with their base URL.
 fn init_of(alloc: Global, init: UrlPatternInit) -> Result<init::UrlPatternInit, Error>
     ensures init { IfOk result (IsInitOf init) }
-    ensures refused { IfErr result (MemoryOr (Tells (parsed_base (plain_base init)) (text_bytes (plain_base init)))) }
+    ensures refused { IfErr result (MemoryOr (Reports (parsed_base (plain_base init)) (text_bytes (plain_base init)))) }
 {
     let base_url = parse_base(alloc, borrowed(&init.base_url))?;
     Ok(init::UrlPatternInit::from_eight(init.into_eight(), base_url))
@@ -176,7 +176,7 @@ fn owned(alloc: Global, text: Option<&str>) -> Result<Option<String>, AllocError
 /// The error is the refusal of `url`, or that memory ran out.
 fn parse_text(alloc: Global, text: &str, base_url: Option<&str>) -> Result<Url, Error>
     ensures ok { IfOk result (λ url. parsed_text (option_copied base_url.entry) text.now ≡ Ok url) }
-    ensures err { IfErr result (MemoryOr (Tells (parsed_text (option_copied base_url.entry) text.now)
+    ensures err { IfErr result (MemoryOr (Reports (parsed_text (option_copied base_url.entry) text.now)
         (longer_bytes (option_copied base_url.entry) text.now))) }
 {
     match base_url {
@@ -193,7 +193,7 @@ fn parse_text(alloc: Global, text: &str, base_url: Option<&str>) -> Result<Url, 
 /// The error is the refusal of `url`, or that memory ran out.
 fn join(base: &Url, text: &str, bytes: usize) -> Result<Url, Error>
     ensures ok { IfOk result (λ url. url_spec.parse_url (Some base.now) text.now ≡ Ok url) }
-    ensures err { IfErr result (MemoryOr (Tells (url_spec.parse_url (Some base.now) text.now) bytes)) }
+    ensures err { IfErr result (MemoryOr (Reports (url_spec.parse_url (Some base.now) text.now) bytes)) }
 {
-    told(base.join(text), bytes)
+    reported(base.join(text), bytes)
 }

@@ -16,7 +16,7 @@ use urlpattern_core::regexp::RegExp;
 use urlpattern_init::UrlPatternInit;
 use urlpattern_plain::{UrlPattern, UrlPatternComponent, UrlPatternOptions};
 
-/// Compiles a pattern from an init, and tells it as plain data.
+/// Compiles a pattern from an init, and returns it as plain data.
 ///
 /// The error is that of compiling the pattern.
 pub fn parse_pattern<R: RegExp>(

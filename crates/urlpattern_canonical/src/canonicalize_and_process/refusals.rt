@@ -1,8 +1,8 @@
 //! What a refusal by `url` is reported as.
 ghost use Rattle.std.specs.Prelude.{◌≡◌};
 ghost use Rattle.urlpattern_syntax.specs.Errors.{error_view};
-ghost use Rattle.urlpattern_canonical.specs.Asking.{IsToldAs};
-ghost use Rattle.urlpattern_canonical.specs.Canonical.{IsTold, reported};
+ghost use Rattle.urlpattern_canonical.specs.Asking.{IsRefusedAs};
+ghost use Rattle.urlpattern_canonical.specs.Canonical.{IsReported, reported_error};
 
 use url::{ParseError, ParseResult};
 use urlpattern_syntax::Error;
@@ -12,10 +12,10 @@ const LONG_TEXT: usize = 1 << 24;
 
 /// What `url` answers to a question about texts of this many bytes at most.
 ///
-/// The error is the refusal of `url`. It is want of memory only where `url` says so, or says that a text is too long where
+/// The error is the refusal of `url`. It is that memory ran out only where `url` says so, or says that a text is too long where
 /// none is.
-pub fn told<T>(answer: ParseResult<T>, bytes: usize) -> Result<T, Error>
-    ensures { IsTold answer bytes result }
+pub fn reported<T>(answer: ParseResult<T>, bytes: usize) -> Result<T, Error>
+    ensures { IsReported answer bytes result }
 {
     match answer {
         Ok(value) => Ok(value),
@@ -23,13 +23,13 @@ pub fn told<T>(answer: ParseResult<T>, bytes: usize) -> Result<T, Error>
     }
 }
 
-/// The same, where each refusal is told as this one.
-pub(super) fn told_as(
+/// The same, where each refusal is reported as this one.
+pub(super) fn refused_as(
     reason: ParseError,
     answer: ParseResult<()>,
     bytes: usize,
 ) -> Result<(), Error>
-    ensures { IsToldAs reason answer bytes result }
+    ensures { IsRefusedAs reason answer bytes result }
 {
     match answer {
         Ok(()) => Ok(()),
@@ -40,7 +40,7 @@ pub(super) fn told_as(
 
 /// The error for a refusal by `url` of a question about texts of this many bytes at most.
 fn refusal(error: ParseError, bytes: usize) -> Error
-    ensures { error_view result ≡ reported error bytes }
+    ensures { error_view result ≡ reported_error error bytes }
 {
     match error {
         ParseError::OutOfMemory => Error::OutOfMemory,

@@ -3,10 +3,10 @@ ghost use Rattle.std.specs.Prelude.{◌≡◌, None, Ok, IfOk, IfErr, MatchResul
 ghost use Rattle.url.specs.Parser.{parse_url};
 ghost use Rattle.urlpattern_syntax.specs.Errors.{MemoryOr};
 ghost use Rattle.urlpattern_syntax.specs.declared.error.Error.TheVariants as errors;
-ghost use Rattle.urlpattern_canonical.specs.Canonical.{Tells, dummy_of_scheme, dummy_url, opaque_url, path_of};
+ghost use Rattle.urlpattern_canonical.specs.Canonical.{Reports, dummy_of_scheme, dummy_url, opaque_url, path_of};
 
 use super::Canonicalizer;
-use super::refusals::told;
+use super::refusals::reported;
 use std::alloc::Global;
 use url::Url;
 use urlpattern_syntax::Error;
@@ -50,10 +50,10 @@ impl Canonicalizer {
     /// The URL on which values are set, with this path.
     pub(super) fn dummy_with_path(&self, path: &str, bytes: usize) -> Result<Url, Error>
         ensures { MatchResult result (λ url. path_of dummy_url path.now ≡ Ok url.path)
-            (MemoryOr (Tells (path_of dummy_url path.now) bytes)) }
+            (MemoryOr (Reports (path_of dummy_url path.now) bytes)) }
     {
         let mut url = self.dummy()?;
-        told(url.set_path(path), bytes)?;
+        reported(url.set_path(path), bytes)?;
         Ok(url)
     }
 }
@@ -77,7 +77,7 @@ fn parse_dummy(alloc: Global) -> Result<Url, Error>
 /// Parses a URL of the scheme, in a question about texts of this many bytes at most.
 pub(super) fn parse_under(alloc: Global, scheme: &str, bytes: usize) -> Result<Url, Error>
     ensures ok { IfOk result (λ url. dummy_of_scheme scheme.now ≡ Ok url) }
-    ensures err { IfErr result (MemoryOr (Tells (dummy_of_scheme scheme.now) bytes)) }
+    ensures err { IfErr result (MemoryOr (Reports (dummy_of_scheme scheme.now) bytes)) }
 {
     let text = format!(in alloc; "{scheme}://dummy.test")?;
     parse(alloc, &text, bytes)
@@ -86,7 +86,7 @@ pub(super) fn parse_under(alloc: Global, scheme: &str, bytes: usize) -> Result<U
 /// Parses a URL, in a question about texts of this many bytes at most.
 fn parse(alloc: Global, text: &str, bytes: usize) -> Result<Url, Error>
     ensures ok { IfOk result (λ url. parse_url None text.now ≡ Ok url) }
-    ensures err { IfErr result (MemoryOr (Tells (parse_url None text.now) bytes)) }
+    ensures err { IfErr result (MemoryOr (Reports (parse_url None text.now) bytes)) }
 {
-    told(Url::parse(alloc, text), bytes)
+    reported(Url::parse(alloc, text), bytes)
 }

@@ -7,7 +7,7 @@ ghost use Rattle.urlpattern_canonical.specs.Canonical.{IsAnswer, canonical_hash,
 
 use super::Canonicalizer;
 use super::marks::begins_with_slash;
-use super::refusals::{told, told_as};
+use super::refusals::{refused_as, reported};
 use super::urls::{parse_opaque, parse_under};
 use url::{ParseError, quirks};
 use urlpattern_syntax::Error;
@@ -36,7 +36,7 @@ impl Canonicalizer {
             return Ok(String::new(self.alloc));
         }
         let mut url = self.dummy()?;
-        told(url.set_username(value), value.len())?;
+        reported(url.set_username(value), value.len())?;
         Ok(String::from_str(self.alloc, url.username())?)
     }
 
@@ -50,7 +50,7 @@ impl Canonicalizer {
             return Ok(String::new(self.alloc));
         }
         let mut url = self.dummy()?;
-        told(url.set_password(Some(value)), value.len())?;
+        reported(url.set_password(Some(value)), value.len())?;
         Ok(String::from_str(self.alloc, quirks::password(&url))?)
     }
 
@@ -65,7 +65,7 @@ impl Canonicalizer {
         }
         let mut url = self.dummy()?;
         let answer = quirks::set_hostname(&mut url, value);
-        told_as(ParseError::InvalidDomainCharacter, answer, value.len())?;
+        refused_as(ParseError::InvalidDomainCharacter, answer, value.len())?;
         Ok(String::from_str(self.alloc, quirks::hostname(&url))?)
     }
 
@@ -81,7 +81,7 @@ impl Canonicalizer {
         let protocol = protocol.unwrap_or("");
         let bytes = value.len().max(protocol.len());
         let mut url = parse_under(self.alloc, scheme_for_port(protocol), bytes)?;
-        told_as(
+        refused_as(
             ParseError::InvalidPort,
             quirks::set_port(&mut url, value),
             bytes,
@@ -117,7 +117,7 @@ impl Canonicalizer {
             return Ok(String::new(self.alloc));
         }
         let mut url = parse_opaque(self.alloc)?;
-        told(url.set_path(value), value.len())?;
+        reported(url.set_path(value), value.len())?;
         Ok(String::from_str(self.alloc, url.path())?)
     }
 
@@ -131,7 +131,7 @@ impl Canonicalizer {
             return Ok(String::new(self.alloc));
         }
         let mut url = self.dummy()?;
-        told(url.set_query(Some(value)), value.len())?;
+        reported(url.set_query(Some(value)), value.len())?;
         Ok(String::from_str(self.alloc, url.query().unwrap_or(""))?)
     }
 
@@ -145,7 +145,7 @@ impl Canonicalizer {
             return Ok(String::new(self.alloc));
         }
         let mut url = self.dummy()?;
-        told(url.set_fragment(Some(value)), value.len())?;
+        reported(url.set_fragment(Some(value)), value.len())?;
         Ok(String::from_str(self.alloc, url.fragment().unwrap_or(""))?)
     }
 }

@@ -22,7 +22,7 @@ impl<R: RegExp> Component<R> {
     /// The component of a pattern text, or of an asterisk where there is none.
     ///
     /// Each fixed text, prefix and suffix of the pattern goes through the callback. What the engine refuses is kept in the
-    /// component as an error. An engine that takes ECMAScript's syntax is told to look at the text at once if the pattern
+    /// component as an error. An engine that takes ECMAScript's syntax is made to compile the text at once if the pattern
     /// has a regular expression of its own.
     ///
     /// Where the pattern has none and case is kept, the component's matcher answers what the parts of the pattern mean, if

@@ -287,7 +287,7 @@ fn is_asterisk(previous: Option<&Part>, part: &Part, grouped: bool) -> bool
     !has_custom_name(part) && (admits_asterisk(previous) || grouped || !part.prefix.is_empty())
 }
 
-/// Whether an asterisk behind the part would not be its modifier.
+/// Whether an asterisk after the part would not be its modifier.
 fn admits_asterisk(previous: Option<&Part>) -> bool
     ensures { result ≡ admits_asterisk (neighbour previous.entry) }
 {

@@ -82,16 +82,16 @@ impl<'t, 'a> Source<'t, 'a> {
         ensures turns { result.turns ≤ 2 * length self.now.tokens.now }
     {
         if self.has_slashes(colon.index) {
-            let Split { mut values, turns } = self.authority_from(colon.behind(3), special);
+            let Split { mut values, turns } = self.authority_from(colon.after(3), special);
             values.protocol = Some(protocol);
             return Split { values, turns };
         }
         if special {
-            let Split { mut values, turns } = self.authority_from(colon.behind(1), special);
+            let Split { mut values, turns } = self.authority_from(colon.after(1), special);
             values.protocol = Some(protocol);
             return Split { values, turns };
         }
-        let Split { mut values, turns } = self.pathname_from(colon.behind(1));
+        let Split { mut values, turns } = self.pathname_from(colon.after(1));
         values.protocol = Some(protocol);
         values.hostname = Some("");
         values.port = Some("");
@@ -118,7 +118,7 @@ impl<'t, 'a> Source<'t, 'a> {
         self.pathname_from(Place { index: 0, ..end })
     }
 
-    /// The authority, which begins at a place, and what stands behind it.
+    /// The authority, which begins at a place, and what stands after it.
     fn authority_from(&self, from: Place, special: bool) -> Split<'a>
         requires source { IsSource self.now }
         requires within { from.index < length self.now.tokens.now }
@@ -146,7 +146,7 @@ impl<'t, 'a> Source<'t, 'a> {
     }
 
     /// The username and the password, which begin at a place, where the hostname follows the sign `until`, and what
-    /// stands behind them.
+    /// stands after them.
     fn userinfo_from(&self, from: Place, until: usize, special: bool) -> Split<'a>
         requires source { IsSource self.now }
         requires ends { EndsAt Section.Authority (tokens_of self.now) from.index 0 until }
@@ -160,21 +160,21 @@ impl<'t, 'a> Source<'t, 'a> {
         let end = self.end_of(Section::Username, from);
         let username = Some(self.text_between(from.index, end.index));
         if !self.is_sign(end.index, b':') {
-            let Split { mut values, turns } = self.hostname_from(end.behind(1), special);
+            let Split { mut values, turns } = self.hostname_from(end.after(1), special);
             values.username = username;
             values.password = None;
             return Split { values, turns };
         }
-        let password_from = end.behind(1);
+        let password_from = end.after(1);
         let password_end = self.end_of(Section::Password, password_from);
         let password = Some(self.text_between(password_from.index, password_end.index));
-        let Split { mut values, turns } = self.hostname_from(password_end.behind(1), special);
+        let Split { mut values, turns } = self.hostname_from(password_end.after(1), special);
         values.username = username;
         values.password = password;
         Split { values, turns }
     }
 
-    /// The hostname, which begins at a place, and what stands behind it.
+    /// The hostname, which begins at a place, and what stands after it.
     fn hostname_from(&self, from: Place, special: bool) -> Split<'a>
         requires source { IsSource self.now }
         requires reads { CanRead self.now from }
@@ -188,7 +188,7 @@ impl<'t, 'a> Source<'t, 'a> {
         Split { values, turns }
     }
 
-    /// The port, if a colon stands at a place, and what stands behind it.
+    /// The port, if a colon stands at a place, and what stands after it.
     fn port_at(&self, end: Place, special: bool) -> Split<'a>
         requires source { IsSource self.now }
         requires reads { HasRead self.now end }
@@ -198,7 +198,7 @@ impl<'t, 'a> Source<'t, 'a> {
         ensures turns { result.turns ≤ 2 * length self.now.tokens.now }
     {
         if self.is_sign(end.index, b':') {
-            let from = end.behind(1);
+            let from = end.after(1);
             let end = self.end_of(Section::Port, from);
             let Split { mut values, turns } = self.pathname_at(end, special);
             values.port = Some(self.text_between(from.index, end.index));
@@ -209,7 +209,7 @@ impl<'t, 'a> Source<'t, 'a> {
         Split { values, turns }
     }
 
-    /// What stands behind the hostname and the port: the pathname, if it begins at a place, the search and the hash.
+    /// What stands after the hostname and the port: the pathname, if it begins at a place, the search and the hash.
     fn pathname_at(&self, end: Place, special: bool) -> Split<'a>
         requires source { IsSource self.now }
         requires reads { HasRead self.now end }
@@ -220,7 +220,7 @@ impl<'t, 'a> Source<'t, 'a> {
         ensures turns { result.turns ≤ 2 * length self.now.tokens.now }
     {
         if self.is_sign(end.index, b'/') {
-            return self.pathname_from(end.behind(0));
+            return self.pathname_from(end.after(0));
         }
         if self.is_search_sign(end.index) || self.is_sign(end.index, b'#') {
             let Split { mut values, turns } = self.search_at(end);
@@ -244,7 +244,7 @@ impl<'t, 'a> Source<'t, 'a> {
         Split { values, turns }
     }
 
-    /// The search and the hash, if they begin behind the token at a place.
+    /// The search and the hash, if they begin after the token at a place.
     fn search_at(&self, end: Place) -> Split<'a>
         requires source { IsSource self.now }
         requires reads { HasRead self.now end }
@@ -254,10 +254,10 @@ impl<'t, 'a> Source<'t, 'a> {
         ensures turns { result.turns ≤ 2 * length self.now.tokens.now }
     {
         if self.is_search_sign(end.index) {
-            return self.search_from(end.behind(1));
+            return self.search_from(end.after(1));
         }
         if self.is_sign(end.index, b'#') {
-            let Split { mut values, turns } = self.hash_from(end.behind(1));
+            let Split { mut values, turns } = self.hash_from(end.after(1));
             values.search = Some("");
             return Split { values, turns };
         }
@@ -278,7 +278,7 @@ impl<'t, 'a> Source<'t, 'a> {
         Split { values, turns }
     }
 
-    /// The hash, if it begins behind the token at a place.
+    /// The hash, if it begins after the token at a place.
     fn hash_at(&self, end: Place) -> Split<'a>
         requires source { IsSource self.now }
         requires reads { HasRead self.now end }
@@ -288,7 +288,7 @@ impl<'t, 'a> Source<'t, 'a> {
         ensures turns { result.turns ≤ 2 * length self.now.tokens.now }
     {
         if self.is_sign(end.index, b'#') {
-            return self.hash_from(end.behind(1));
+            return self.hash_from(end.after(1));
         }
         Split::nothing(end.turns)
     }

@@ -1,6 +1,6 @@
 //! The sections of a constructor string, and where each ends.
 ghost use Rattle.std.specs.Prelude.{◌≡◌, ◌+◌, ◌*◌, ◌^◌, ◌<◌, ◌≤◌, ◌∷◌, ◌&&◌, ◌==◌, not, if◌then◌else◌, [], length};
-ghost use Rattle.urlpattern_init.specs.Split.{EndsAt, at, depth_before, depth_behind, is_end, is_ending, is_open, is_sign};
+ghost use Rattle.urlpattern_init.specs.Split.{EndsAt, at, depth_before, depth_after, is_end, is_ending, is_open, is_sign};
 ghost use Rattle.urlpattern_init.specs.Splitting.{IsSource, is_hostname, tokens_of};
 
 use super::tokens::Source;
@@ -34,8 +34,8 @@ pub(super) struct Place {
 }
 
 impl Place {
-    /// The place so many tokens behind this one, outside of all groups.
-    pub(super) fn behind(self, count: usize) -> Place
+    /// The place so many tokens after this one, outside of all groups.
+    pub(super) fn after(self, count: usize) -> Place
         requires { self.index + count < 2 ^ 64 }
         ensures index { result.index ≡ self.index + count }
         ensures depth { result.depth ≡ 0 }
@@ -77,12 +77,12 @@ impl<'t, 'a> Source<'t, 'a> {
             }
             opened = self.count_bracket(section, is_seen, place.index, b'[', opened);
             closed = self.count_bracket(section, is_seen, place.index, b']', closed);
-            place.depth = depth_behind(kind, place.depth);
+            place.depth = depth_after(kind, place.depth);
             place.index += 1;
         }
     }
 
-    /// Whether a section ends with the token at the index, where `balanced` tells that a colon there stands outside of
+    /// Whether a section ends with the token at the index, where `balanced` says that a colon there is outside of
     /// square brackets.
     fn is_ending(&self, section: Section, balanced: bool, index: usize) -> bool
         ensures { result ≡ is_ending section balanced (tokens_of self.now) index }
@@ -147,10 +147,10 @@ fn is_seen(kind: TokenType, depth: usize) -> bool
     !matches!(kind, TokenType::Open) && depth == 0
 }
 
-/// The depth of groups behind a token.
-fn depth_behind(kind: TokenType, depth: usize) -> usize
+/// The depth of groups after a token.
+fn depth_after(kind: TokenType, depth: usize) -> usize
     requires { depth + 1 < 2 ^ 64 }
-    ensures { result ≡ depth_behind kind depth }
+    ensures { result ≡ depth_after kind depth }
 {
     match kind {
         TokenType::Open => depth + 1,

@@ -25,7 +25,7 @@ impl<'t, 'a> Source<'t, 'a> {
         }
     }
 
-    /// Whether the search begins behind the token at the index.
+    /// Whether the search begins after the token at the index.
     ///
     /// <https://urlpattern.spec.whatwg.org/#is-a-search-prefix>
     pub(super) fn is_search_sign(&self, index: usize) -> bool
@@ -88,7 +88,7 @@ fn is_character(kind: TokenType) -> bool
     )
 }
 
-/// Whether a question mark behind a token of the kind is a modifier.
+/// Whether a question mark after a token of the kind is a modifier.
 fn takes_modifier(kind: TokenType) -> bool
     ensures { result ≡ takes_modifier kind }
 {

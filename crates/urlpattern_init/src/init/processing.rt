@@ -1,7 +1,7 @@
 //! The processing of an init, in either mode, by one table.
 ghost use Rattle.std.specs.Prelude.{◌≡◌, ◌&&◌, None, Ok, is_none, option_map, IfOk, IfErr, IsAscii};
 ghost use Rattle.std.specs.Str.{chars};
-ghost use Rattle.urlpattern_canonical.specs.Canonical.{Tells};
+ghost use Rattle.urlpattern_canonical.specs.Canonical.{Reports};
 ghost use Rattle.urlpattern_init.specs.Inheritance as spec;
 ghost use Rattle.urlpattern_init.specs.Inheritance.{bytes_of, init_bytes, init_values, is_inheritable, missing, must_lack, up_to_last_slash, values_of, values_view};
 ghost use Rattle.urlpattern_init.specs.Processing.{IsFailureIn, IsPathnameAnswer, IsTextAnswer, IsValueAfter, bytes_in, given_values, lacking_in, optional_bytes, optional_text, value_in, values_in};
@@ -143,7 +143,7 @@ impl Processing<'_> {
     fn values(&self, protocol: Option<String>) -> Result<Eight<Option<String>>, Error>
         requires { value_in self.now None ComponentName.Protocol ≡ Ok (option_map text_of protocol) }
         ensures ok { IfOk result (λ values. values_in self.now ≡ Ok (values_of values)) }
-        ensures err { IfErr result (MemoryOr (Tells (values_in self.now) (bytes_in self.now))) }
+        ensures err { IfErr result (MemoryOr (Reports (values_in self.now) (bytes_in self.now))) }
     {
         let value = |name: ComponentName| -> Result<Option<String>, Error>
             ensures { IsValueAfter self.entry.now (option_map text_of protocol) name result }
@@ -250,7 +250,7 @@ impl Processing<'_> {
         }
     }
 
-    /// The value of a pathname of the init. A relative one is put behind the base's path.
+    /// The value of a pathname of the init. A relative one is put after the base's path.
     fn processed_pathname(&self, text: &str, protocol: Option<&str>) -> Result<String, Error>
         ensures { IsPathnameAnswer self.now protocol.entry (chars text.now) result }
     {
@@ -280,7 +280,7 @@ pub fn process(
     kind: &ProcessType,
 ) -> Result<UrlPatternInit, Error>
     ensures ok { IfOk result (λ values. init_values kind.now init.now ≡ Ok (values_view values)) }
-    ensures err { IfErr result (MemoryOr (Tells (init_values kind.now init.now) (init_bytes kind.now init.now))) }
+    ensures err { IfErr result (MemoryOr (Reports (init_values kind.now init.now) (init_bytes kind.now init.now))) }
 {
     let values = process_values(alloc, init, kind)?;
     Ok(UrlPatternInit::from_eight(values, None))
@@ -297,7 +297,7 @@ pub fn process_values(
     kind: &ProcessType,
 ) -> Result<Eight<Option<String>>, Error>
     ensures ok { IfOk result (λ values. init_values kind.now init.now ≡ Ok (values_of values)) }
-    ensures err { IfErr result (MemoryOr (Tells (init_values kind.now init.now) (init_bytes kind.now init.now))) }
+    ensures err { IfErr result (MemoryOr (Reports (init_values kind.now init.now) (init_bytes kind.now init.now))) }
 {
     let canonicalizer = match kind {
         ProcessType::Pattern => Canonicalizer::new(alloc),

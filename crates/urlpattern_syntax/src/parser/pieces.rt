@@ -4,10 +4,10 @@
 ghost use Rattle.std.specs.Prelude.{◌≡◌, ◌≢◌, ◌∷◌, ◌++◌, ◌<◌, ◌≤◌, ℕ, List, IsTrue, IfErr, IfNone, IfOk, IfSome, OnOk, length};
 ghost use Rattle.std.specs.Str.{chars};
 ghost use Rattle.urlpattern_syntax.specs.declared.tokenizer.TokenType.TheVariants as kinds;
-ghost use Rattle.urlpattern_syntax.specs.Parsing.{BeginsWithModifier, BeginsWithTexts, Gives, IsNamed, IsNext, IsNextBehind, IsNextNamed, IsShorter, Stands, StartsText, Takes, TakesClose, TakesPlaceholder, TakesRow, name_view, reader_left, reader_text};
+ghost use Rattle.urlpattern_syntax.specs.Parsing.{BeginsWithModifier, BeginsWithTexts, Gives, IsNamed, IsNext, IsNextAfter, IsNextNamed, IsShorter, Stands, StartsText, Takes, TakesClose, TakesPlaceholder, TakesRow, name_view, reader_left, reader_text};
 ghost use Rattle.urlpattern_syntax.specs.Pieces.{is_placeholder, is_text};
 ghost use Rattle.urlpattern_syntax.specs.Text.{text_of};
-ghost use Rattle.urlpattern_syntax.specs.Tokens.{TellsFault, TokenView, token_view};
+ghost use Rattle.urlpattern_syntax.specs.Tokens.{ReportsFault, TokenView, token_view};
 
 use crate::error::Error;
 use crate::parser::PartModifier;
@@ -73,7 +73,7 @@ impl<'a> Reader<'a> {
     pub(super) fn new(alloc: Global, input: &'a str) -> Result<Self, Error>
         ensures starts { IfOk result (λ reader. StartsText (chars input.now) reader) }
         ensures room { IfOk result (λ reader. reader_left reader ≤ length input.now) }
-        ensures fault { IfErr result (TellsFault (chars input.now)) }
+        ensures fault { IfErr result (ReportsFault (chars input.now)) }
     {
         let mut cursor = Cursor::new(input);
         let token = cursor.next()?;
@@ -97,7 +97,7 @@ impl<'a> Reader<'a> {
     pub(super) fn read_to_end(&self) -> Result<(), Error>
         requires { Stands self.now }
         ensures tokens { OnOk result ((tokens : List TokenView) × Gives self.now tokens) }
-        ensures fault { IfErr result (TellsFault (reader_text self.now)) }
+        ensures fault { IfErr result (ReportsFault (reader_text self.now)) }
     {
         self.cursor.read_to_end()
     }
@@ -114,7 +114,7 @@ impl<'a> Reader<'a> {
         ensures next { OnOk result (Takes self.old self.new (λ tokens rest. IsNext (chars prefix_code_point.now) tokens next.new rest)) }
         ensures named { OnOk result (IsNextNamed next.new) }
         ensures less { OnOk result (IsShorter (reader_left self.new) (reader_left self.old) next.new) }
-        ensures fault { IfErr result (TellsFault (reader_text self.old)) }
+        ensures fault { IfErr result (ReportsFault (reader_text self.old)) }
     {
         match self.token.kind {
             TokenType::Open => {
@@ -142,7 +142,7 @@ impl<'a> Reader<'a> {
         ensures token { IfOk result (λ token. token ≡ self.old.token) }
         ensures takes { OnOk result (Takes self.old self.new (λ tokens rest. tokens ≡ token_view self.old.token ∷ rest)) }
         ensures less { OnOk result (reader_left self.new < reader_left self.old) }
-        ensures fault { IfErr result (TellsFault (reader_text self.old)) }
+        ensures fault { IfErr result (ReportsFault (reader_text self.old)) }
     {
         let next = self.cursor.next()?;
         let token = self.token;
@@ -157,7 +157,7 @@ impl<'a> Reader<'a> {
         ensures next { OnOk result (Takes self.old self.new (λ tokens rest. IsNext (chars prefix_code_point.now) tokens next.new rest)) }
         ensures named { OnOk result (IsNextNamed next.new) }
         ensures less { OnOk result (reader_left self.new < reader_left self.old) }
-        ensures fault { IfErr result (TellsFault (reader_text self.old)) }
+        ensures fault { IfErr result (ReportsFault (reader_text self.old)) }
     {
         let (first, more) = self.characters()?;
         if !more.is_empty() {
@@ -178,7 +178,7 @@ impl<'a> Reader<'a> {
         ensures first { IfOk result (λ taken. taken.0 ≡ self.old.token.value) }
         ensures more { IfOk result (λ taken. TakesRow self.old self.new taken.1) }
         ensures less { OnOk result (reader_left self.new < reader_left self.old) }
-        ensures fault { IfErr result (TellsFault (reader_text self.old)) }
+        ensures fault { IfErr result (ReportsFault (reader_text self.old)) }
     {
         let more = self.cursor.characters();
         let next = self.cursor.next()?;
@@ -191,10 +191,10 @@ impl<'a> Reader<'a> {
     fn bare(&mut self, prefix: &'a str, next: &mut Next<'a>) -> Result<(), Error>
         requires stands { Stands self.old }
         requires placeholder { IsTrue (is_placeholder self.old.token.kind) }
-        ensures next { OnOk result (Takes self.old self.new (λ tokens rest. IsNextBehind (chars prefix.now) tokens next.new rest)) }
+        ensures next { OnOk result (Takes self.old self.new (λ tokens rest. IsNextAfter (chars prefix.now) tokens next.new rest)) }
         ensures named { OnOk result (IsNextNamed next.new) }
         ensures less { OnOk result (reader_left self.new < reader_left self.old) }
-        ensures fault { IfErr result (TellsFault (reader_text self.old)) }
+        ensures fault { IfErr result (ReportsFault (reader_text self.old)) }
     {
         let placeholder = self.placeholder()?;
         let modifier = self.modifier()?;
@@ -209,7 +209,7 @@ impl<'a> Reader<'a> {
         ensures next { IfOk result (λ next. Takes self.old self.new (λ tokens rest. (point : List ℕ) → IsNext point tokens next rest)) }
         ensures named { IfOk result IsNextNamed }
         ensures less { OnOk result (reader_left self.new < reader_left self.old) }
-        ensures fault { IfErr result (TellsFault (reader_text self.old)) }
+        ensures fault { IfErr result (ReportsFault (reader_text self.old)) }
     {
         let _opening = self.take()?;
         let before = self.texts()?;
@@ -231,7 +231,7 @@ impl<'a> Reader<'a> {
     fn texts(&mut self) -> Result<String, Error>
         requires { Stands self.old }
         ensures texts { IfOk result (λ text. Takes self.old self.new (λ tokens rest. BeginsWithTexts tokens (text_of text) rest)) }
-        ensures fault { IfErr result (TellsFault (reader_text self.old)) }
+        ensures fault { IfErr result (ReportsFault (reader_text self.old)) }
     {
         let mut text = String::new(self.alloc);
         while is_text(self.token.kind) {
@@ -250,7 +250,7 @@ impl<'a> Reader<'a> {
         ensures placeholder { IfOk result (TakesPlaceholder self.old self.new) }
         ensures named { IfOk result (λ placeholder. IsNamed (name_view placeholder.name)) }
         ensures less { OnOk result (reader_left self.new < reader_left self.old) }
-        ensures fault { IfErr result (TellsFault (reader_text self.old)) }
+        ensures fault { IfErr result (ReportsFault (reader_text self.old)) }
     {
         let first = self.take()?;
         match first.kind {
@@ -284,7 +284,7 @@ impl<'a> Reader<'a> {
         ensures closes { IfOk result (λ found. IfSome found (TakesClose self.old self.new)) }
         ensures lacks { IfOk result (λ found. IfNone found (Takes self.old self.new (λ tokens rest. tokens ≡ rest))) }
         ensures other { IfOk result (λ found. IfNone found (self.new.token.kind ≢ kinds.Close)) }
-        ensures fault { IfErr result (TellsFault (reader_text self.old)) }
+        ensures fault { IfErr result (ReportsFault (reader_text self.old)) }
     {
         if self.token.kind != TokenType::Close {
             return Ok(None);
@@ -300,7 +300,7 @@ impl<'a> Reader<'a> {
     fn modifier(&mut self) -> Result<PartModifier, Error>
         requires { Stands self.old }
         ensures modifier { IfOk result (λ modifier. Takes self.old self.new (λ tokens rest. BeginsWithModifier tokens modifier rest)) }
-        ensures fault { IfErr result (TellsFault (reader_text self.old)) }
+        ensures fault { IfErr result (ReportsFault (reader_text self.old)) }
     {
         match self.token.kind {
             TokenType::OtherModifier => {

@@ -3,7 +3,7 @@ ghost use Rattle.std.specs.Prelude.{◌≡◌, ◌≤◌, ◌+◌, List, length,
 ghost use Rattle.std.specs.Str.{chars};
 ghost use Rattle.urlpattern_syntax.specs.Cursors.{AreCharactersBefore, AreTokensAfter, IsPlace, IsTokenAfter, cursor_rest, cursor_text, stands_for_itself, tokens_left};
 ghost use Rattle.urlpattern_syntax.specs.Text.{BeginsAt};
-ghost use Rattle.urlpattern_syntax.specs.Tokens.{Skips, TellsFault, TokenView, token_view};
+ghost use Rattle.urlpattern_syntax.specs.Tokens.{Skips, ReportsFault, TokenView, token_view};
 
 use super::lexemes::{next_lexeme, skip_ignored};
 use super::{Token, TokenType, before, split_first};
@@ -41,7 +41,7 @@ impl<'a> Cursor<'a> {
         ensures place { OnOk result (IsPlace (cursor_text self.old) (cursor_rest self.new)) }
         ensures token { IfOk result (λ token. IsTokenAfter (cursor_text self.old) (cursor_rest self.old) (token_view token) (cursor_rest self.new)) }
         ensures len { IfOk result (λ token. length self.new.rest.now + tokens_left token.kind ≤ length self.old.rest.now) }
-        ensures fault { IfErr result (TellsFault (cursor_text self.old)) }
+        ensures fault { IfErr result (ReportsFault (cursor_text self.old)) }
     {
         let place = place_of(self.input, self.rest);
         if self.rest.is_empty() {
@@ -95,7 +95,7 @@ impl<'a> Cursor<'a> {
     pub(crate) fn read_to_end(&self) -> Result<(), Error>
         requires { IsPlace (cursor_text self.now) (cursor_rest self.now) }
         ensures tokens { OnOk result ((tokens : List TokenView) × AreTokensAfter (cursor_text self.now) (cursor_rest self.now) tokens) }
-        ensures fault { IfErr result (TellsFault (cursor_text self.now)) }
+        ensures fault { IfErr result (ReportsFault (cursor_text self.now)) }
     {
         let mut cursor = *self;
         loop {

@@ -73,7 +73,7 @@ pub(super) fn next_lexeme(text: &str) -> Result<Lexeme<'_>, TokenizerError>
     })
 }
 
-/// The character behind a backslash.
+/// The character after a backslash.
 fn escaped_char(text: &str) -> Result<Lexeme<'_>, TokenizerError>
     ensures { Lexes (codes "\\" ++ chars text.now) result }
 {
@@ -87,7 +87,7 @@ fn escaped_char(text: &str) -> Result<Lexeme<'_>, TokenizerError>
     }
 }
 
-/// The name behind a colon, with all the name characters that there are.
+/// The name after a colon, with all the name characters that there are.
 fn name(text: &str) -> Result<Lexeme<'_>, TokenizerError>
     ensures { Lexes (codes ":" ++ chars text.now) result }
 {
@@ -104,7 +104,7 @@ fn name(text: &str) -> Result<Lexeme<'_>, TokenizerError>
     }
 }
 
-/// The body behind an open bracket, up to the bracket that closes it.
+/// The body after an open bracket, up to the bracket that closes it.
 fn regexp(text: &str) -> Result<Lexeme<'_>, TokenizerError>
     ensures { Lexes (codes "(" ++ chars text.now) result }
 {
@@ -161,7 +161,7 @@ fn escaped_ascii(text: &str) -> Result<&str, TokenizerError>
     }
 }
 
-/// What follows the `?` that stands behind an inner bracket of a regular expression.
+/// What follows the `?` that stands after an inner bracket of a regular expression.
 fn nested_group(text: &str) -> Result<&str, TokenizerError>
     ensures cut { IfOk result (λ rest. chars text.now ≡ codes "?" ++ chars rest.now) }
     ensures len { IfOk result (λ rest. length rest.now < length text.now) }
@@ -205,7 +205,7 @@ impl CharKind for NamePart {
     }
 }
 
-/// The text behind the characters of the kind that it begins with.
+/// The text after the characters of the kind that it begins with.
 fn skip<K: CharKind>(text: &str) -> &str
     ensures skips { SkipsBy K.test (chars text.now) (chars result.now) }
     ensures all { ¬ BeginsWith K.test (chars result.now) }
@@ -221,7 +221,7 @@ fn skip<K: CharKind>(text: &str) -> &str
     rest
 }
 
-/// The text behind the characters that it begins with and that are skipped between tokens.
+/// The text after the characters that it begins with and that are skipped between tokens.
 pub(super) fn skip_ignored(text: &str) -> &str
     ensures skips { Skips (chars text.now) (chars result.now) }
     ensures all { ¬ BeginsWith is_ignored (chars result.now) }

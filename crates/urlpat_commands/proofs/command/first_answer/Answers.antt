@@ -1,6 +1,6 @@
 use Rattle.std.proofs.Common.{◌<◌, arith, drop, length, length-drop, rules, slice_range, take_all}
 use Rattle.std.specs.Prelude.{string_bytes}
-use Rattle.urlpat_commands.proofs.AnswerLemmas.{first_answers, tells_match, two_words_and_more}
+use Rattle.urlpat_commands.proofs.AnswerLemmas.{first_answers, answers_match, two_words_and_more}
 use Rattle.urlpat_commands.specs.Answers.{IsFirstText, IsUnmatchedByEach, base_of, words_view}
 use Rattle.urlpat_commands.proofs.command.first_answer.Goals as goal
 
@@ -14,5 +14,5 @@ returns-clause-answers c =
     let found = rw (c.deref.ensures, c.deref-2.ensures) at c.in_ok-lines.ensures.found in
     let base = base_of (string_bytes c.base-item.result) in
     first_answers words c.base-item.result c.input-item.result patterns are some _ _
-    (tells_match (IsFirstText (words_view patterns) (string_bytes c.input-item.result) base) (IsUnmatchedByEach (words_view patterns) (string_bytes c.input-item.result) base)
+    (answers_match (IsFirstText (words_view patterns) (string_bytes c.input-item.result) base) (IsUnmatchedByEach (words_view patterns) (string_bytes c.input-item.result) base)
     c.in_ok-lines.lines c.in_ok-answer_of.field-0 c.in_ok-answer_of.ensures found)

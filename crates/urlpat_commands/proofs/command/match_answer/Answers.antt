@@ -1,6 +1,6 @@
 use Rattle.std.proofs.lemmas.Result.{err_from_is_err_and}
 use Rattle.std.specs.Prelude.{string_bytes}
-use Rattle.urlpat_commands.proofs.AnswerLemmas.{match_answers, match_fails, tells_match, three_words}
+use Rattle.urlpat_commands.proofs.AnswerLemmas.{match_answers, match_fails, answers_match, three_words}
 use Rattle.urlpat_commands.specs.Answers.{IsMatchText, IsUnmatched, base_of}
 use Rattle.urlpat_commands.proofs.command.match_answer.Goals as goal
 
@@ -17,5 +17,5 @@ returns-clause-answers c =
     let found = rw (c.deref.ensures, c.deref-2.ensures, c.deref-3.ensures) at c.in_ok-lines.ensures.found in
     let base = base_of (string_bytes c.base-item.result) in
     match_answers c.args.words.now c.pattern-item.result c.base-item.result c.input-item.result are _ _
-    (tells_match (IsMatchText (string_bytes c.pattern-item.result) (string_bytes c.input-item.result) base) (IsUnmatched (string_bytes c.pattern-item.result) (string_bytes c.input-item.result) base)
+    (answers_match (IsMatchText (string_bytes c.pattern-item.result) (string_bytes c.input-item.result) base) (IsUnmatched (string_bytes c.pattern-item.result) (string_bytes c.input-item.result) base)
     c.in_ok-lines.lines c.in_ok-answer_of.field-0 c.in_ok-answer_of.ensures found)

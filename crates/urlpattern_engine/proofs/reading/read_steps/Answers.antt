@@ -9,7 +9,7 @@ use Rattle.urlpattern_engine.specs.declared.step.Step.TheVariants.{Maybe}
 use Rattle.urlpattern_engine.specs.Reading.{BeginsWithToken, EndsSegments, IsGenerated, IsGroup}
 use Rattle.urlpattern_engine.proofs.ReadingLemmas.{IsBegun, begun, begun-close, begun-ends, begun-more, begun-open, segments-spell, spells-once, spells-maybe}
 use Rattle.urlpattern_engine.proofs.TokenLemmas.{none_of}
-use Rattle.urlpattern_engine.proofs.LeftLemmas.{GoesOn, IsLeft, came, ended, left_behind}
+use Rattle.urlpattern_engine.proofs.LeftLemmas.{GoesOn, IsLeft, came, ended, left_after}
 use Rattle.urlpattern_engine.proofs.reading.read_steps.Goals as goal
 use Rattle.urlpattern_engine.proofs.reading.read_steps.Goals.{else-is_none-via-then-is_none+else-is_end, else-is_none-via-else-is_none}
 
@@ -17,7 +17,7 @@ pub loop-token-init : goal.loop-token-init
 loop-token-init c = record {
   is_text = search rules;
   so_far = subst (IsBegun (chars c.args.regexp.now) None (chars c.in-Some.rest.now)) (sym c.in_ok-steps.ensures.items) (begun (chars c.args.regexp.now) (chars c.in-Some.rest.now) c.in-Some.ensures.cut);
-  to_read = left_behind (chars c.args.regexp.now) (chars c.in-Some.rest.now) c.in-Some.ensures.cut;
+  to_read = left_after (chars c.args.regexp.now) (chars c.in-Some.rest.now) c.in-Some.ensures.cut;
 }
 
 pub loop-token-preserved-in_ok-push-in-Step : goal.loop-token-preserved-in_ok-push-in-Step

@@ -13,7 +13,7 @@ returns-clause-step c =
     (chars c.read_times-times.result.1.now) c.in_ok-single.single c.in_ok-repeated_run.field-0 c.read_times-times.result.0 c.in_ok-after.ensures.cut c.in_ok-after-2.ensures.cut single
     c.in_ok-after-3.ensures.cut c.read_times-times.ensures.times c.in_ok-repeated_run.ensures.step
 
--- the text of the runs begins behind the two characters
+-- the text of the runs begins after the two characters
 opened : (c : In_ok-after-2) → chars c.args.text.now ≡ codes "?:" ++ chars c.in_ok-after-2.field-0.now
 opened c =
     let asked = c.in_ok-after.ensures.cut in

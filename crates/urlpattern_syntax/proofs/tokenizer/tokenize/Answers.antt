@@ -5,7 +5,7 @@ use Rattle.urlpattern_syntax.specs.declared.tokenizer.TokenType.TheVariants.{End
 use Rattle.urlpattern_syntax.specs.declared.tokenizer.Token.{Token}
 use Rattle.urlpattern_syntax.specs.Tokens.{end_of, token_view}
 use Rattle.urlpattern_syntax.proofs.TextLemmas.{BeginsAt-bytes, byte_len-chars, chars-empty, chars-some}
-use Rattle.urlpattern_syntax.proofs.TokenLemmas.{AreTokensUnder-cut, IsCutUnder, IsCutUnder-more, IsLexedUnder-shorter, LexesUnder-ok, TellsFaultUnder-first, end_view}
+use Rattle.urlpattern_syntax.proofs.TokenLemmas.{AreTokensUnder-cut, IsCutUnder, IsCutUnder-more, IsLexedUnder-shorter, LexesUnder-ok, ReportsFaultUnder-first, end_view}
 use Rattle.urlpattern_syntax.proofs.tokenizer.tokenize.Goals as goal
 
 pub next_token-requires-clause-characters : goal.next_token-requires-clause-characters
@@ -43,7 +43,7 @@ loop-policy-preserved c =
 
 pub returns-in-Err-clause-fault : goal.returns-in-Err-clause-fault
 returns-in-Err-clause-fault c =
-    TellsFaultUnder-first c.args.policy (chars c.args.input.now) (chars c.loop-policy.rest.now) (map token_view c.loop-policy.tokens.items) _ _
+    ReportsFaultUnder-first c.args.policy (chars c.args.input.now) (chars c.loop-policy.rest.now) (map token_view c.loop-policy.tokens.items) _ _
     c.loop-policy.invariant.cut c.in-Err.ensures
     (BeginsAt-bytes c.args.input.now c.loop-policy.rest.now c.utf8.input c.loop-policy.invariant.is_text c.loop-policy.invariant.len)
 

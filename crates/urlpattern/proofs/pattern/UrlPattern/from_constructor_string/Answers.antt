@@ -18,5 +18,5 @@ pub returns-clause-refused : goal.returns-clause-refused
 returns-clause-refused g c =
     IfErr-weaker c.parse.result _ _ (λ error refused. elim refused [
       | inl memory ↦ inl memory
-      | inr told ↦ inr (inr (c.in_ok-init.init, c.in_ok-init.ensures.constructed, told))
+      | inr reported ↦ inr (inr (c.in_ok-init.init, c.in_ok-init.ensures.constructed, reported))
     ]) c.parse.ensures.refused

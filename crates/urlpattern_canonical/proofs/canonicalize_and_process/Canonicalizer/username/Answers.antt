@@ -4,12 +4,12 @@ use Rattle.urlpattern_canonical.proofs.SettingLemmas.{set-answered, set-refused}
 use Rattle.urlpattern_canonical.specs.Canonical.{dummy_url}
 use Rattle.urlpattern_canonical.proofs.canonicalize_and_process.Canonicalizer.username.Goals as goal
 
-pub returns-in_err-told : goal.returns-in_err-told
-returns-in_err-told c =
+pub returns-in_err-reported : goal.returns-in_err-reported
+returns-in_err-reported c =
     set-refused dummy_url (λ value url. set_username url value) (λ url. url.username) c.args.value.now _ _ _ _ _ c.utf8.value c.is_empty.ensures c.if-is_empty.false
-    c.in_ok-url.ensures.ok c.set_username.ensures.0 c.told.ensures c.in_err-told.was c.from_residual-in_err-told.ensures.1
+    c.in_ok-url.ensures.ok c.set_username.ensures.0 c.reported.ensures c.in_err-reported.was c.from_residual-in_err-reported.ensures.1
 
 pub returns : goal.returns
 returns c =
     set-answered dummy_url (λ value url. set_username url value) (λ url. url.username) c.args.value.now _ _ _ c.in_ok-from_str.field-0 c.utf8.value c.is_empty.ensures c.if-is_empty.false
-    c.in_ok-url.ensures.ok c.set_username.ensures.0 c.told.ensures c.in_ok-told.was (c.in_ok-from_str.ensures.ok ∙ c.username.ensures)
+    c.in_ok-url.ensures.ok c.set_username.ensures.0 c.reported.ensures c.in_ok-reported.was (c.in_ok-from_str.ensures.ok ∙ c.username.ensures)

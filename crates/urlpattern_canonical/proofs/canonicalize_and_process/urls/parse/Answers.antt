@@ -1,10 +1,10 @@
 use Rattle.std.proofs.Common.{None}
 use Rattle.url.specs.Parser.{parse_url}
-use Rattle.urlpattern_canonical.proofs.CanonicalLemmas.{told_parse}
+use Rattle.urlpattern_canonical.proofs.CanonicalLemmas.{reported_parse}
 use Rattle.urlpattern_canonical.proofs.canonicalize_and_process.urls.parse.Goals as goal
 
 pub returns-clause-ok : goal.returns-clause-ok
-returns-clause-ok c = (told_parse c.parse.result (parse_url None c.args.text.now) c.args.bytes c.told.result c.parse.ensures c.told.ensures).0
+returns-clause-ok c = (reported_parse c.parse.result (parse_url None c.args.text.now) c.args.bytes c.reported.result c.parse.ensures c.reported.ensures).0
 
 pub returns-clause-err : goal.returns-clause-err
-returns-clause-err c = (told_parse c.parse.result (parse_url None c.args.text.now) c.args.bytes c.told.result c.parse.ensures c.told.ensures).1
+returns-clause-err c = (reported_parse c.parse.result (parse_url None c.args.text.now) c.args.bytes c.reported.result c.parse.ensures c.reported.ensures).1

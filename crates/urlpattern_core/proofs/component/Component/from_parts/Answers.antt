@@ -15,12 +15,12 @@ returns-clause-made g c =
     let options = options_view c.args.options.now in
     let parts = map part_view c.args.part_list.now in
     let flags_are = c.engine_flags-flags.ensures in
-    let told = c.has_regexp-has_regexp_group.ensures in
+    let reported = c.has_regexp-has_regexp_group.ensures in
     record {
       is_printed = c.in_ok-generate_pattern_string.ensures.text;
-      has_engine = engine-along IsMade MayRefuse g.R.RegExp.syntax_of (engine_view c.in_ok-regexp.regexp) told flags_are
+      has_engine = engine-along IsMade MayRefuse g.R.RegExp.syntax_of (engine_view c.in_ok-regexp.regexp) reported flags_are
           (ap chars c.deref.ensures ∙ c.in_ok-text.ensures) c.in_ok-regexp.ensures;
       has_names = c.in_ok-generate_name_list.ensures;
       has_matcher = subst (λ flags. IsMadeOf IsMade (MayRefuseAtFirst MayRefuse) options flags parts (matcher_view c.in_ok-matcher.matcher)) flags_are c.in_ok-matcher.ensures;
-      tells_regexps = told;
+      regexp_flag = reported;
     }

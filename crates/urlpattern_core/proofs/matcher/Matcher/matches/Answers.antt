@@ -1,6 +1,6 @@
 use Rattle.std.proofs.Common.{◌≡◌, ap, sym, ◌∙◌, inr, subst}
 use Rattle.std.specs.Str.{chars}
-use Rattle.urlpattern_laws.specs.Matching.{CapturesOne, MayWantMemory, RegExp, SingleCapture}
+use Rattle.urlpattern_laws.specs.Matching.{CapturesOne, MayRunOutOfMemory, RegExp, SingleCapture}
 use Rattle.urlpattern_core.specs.Captured.{captures_view}
 use Rattle.urlpattern_core.specs.Matchers.{engine_view, inner_view, matcher_view}
 use Rattle.urlpattern_core.proofs.MatcherAnswers.{answers-engine, if_err, matched-single, not_matched-literal, not_matched-single, not_matched-without}
@@ -18,7 +18,7 @@ returns-in_err-captures-in-SingleCapture-clause-asked g c =
     let is_inner : matcher.inner ≡ SingleCapture c.in-SingleCapture.filter c.in-SingleCapture.allow_empty = ap inner_view c.in-SingleCapture.is in
     let matched = matched-single g.R.RegExp.answer matcher (chars c.args.input.now) middle c.in-SingleCapture.filter c.in-SingleCapture.allow_empty c.is_captured.result
     c.in-Some.ensures.some is_inner c.is_captured.ensures in
-    if_err (MayWantMemory g.R.RegExp.answer matcher (chars c.args.input.now)) c.from_residual.result
+    if_err (MayRunOutOfMemory g.R.RegExp.answer matcher (chars c.args.input.now)) c.from_residual.result
     (inr (subst CapturesOne (sym is_inner) tt, matched.0 c.if-is_captured.true))
 
 pub returns-else-is_same-clause-answer : goal.returns-else-is_same-clause-answer

@@ -12,14 +12,14 @@ returns-then-has_slashes-clause-split c = record {
   is_colon_there = c.requires.sign;
   protocol_ends = c.requires.ends;
   protocol = c.requires.protocol;
-  behind = inl (sym c.has_slashes.ensures ∙ c.if-has_slashes.true, rw c.behind.ensures.index at c.authority_from-turns.ensures.split);
+  after = inl (sym c.has_slashes.ensures ∙ c.if-has_slashes.true, rw c.after.ensures.index at c.authority_from-turns.ensures.split);
 }
 
 pub authority_from-turns-requires-then-special-clause-within : goal.authority_from-turns-requires-then-special-clause-within
 authority_from-turns-requires-then-special-clause-within c =
     let goes = sign_goes_on (codes ":") (tokens_of c.args.self.now) c.args.colon.index (source_closed c.args.self.now c.requires.source) c.requires.sign in
     let size = tokens_len c.args.self.now in
-    omega (arith, goes, c.behind-then-special.ensures.index)
+    omega (arith, goes, c.after-then-special.ensures.index)
 
 pub returns-then-special-clause-split : goal.returns-then-special-clause-split
 returns-then-special-clause-split c =
@@ -28,9 +28,9 @@ returns-then-special-clause-split c =
       is_colon_there = c.requires.sign;
       protocol_ends = c.requires.ends;
       protocol = c.requires.protocol;
-      behind = inr (inl (
+      after = inr (inl (
         and_from (not (has_slashes (tokens_of c.args.self.now) c.args.colon.index)) c.args.special no_slashes c.if-special.true,
-        rw c.behind-then-special.ensures.index at c.authority_from-turns-then-special.ensures.split,
+        rw c.after-then-special.ensures.index at c.authority_from-turns-then-special.ensures.split,
       ));
     }
 
@@ -39,9 +39,9 @@ pathname_from-turns-requires-clause-reads c =
     let goes = sign_goes_on (codes ":") (tokens_of c.args.self.now) c.args.colon.index (source_closed c.args.self.now c.requires.source) c.requires.sign in
     let size = tokens_len c.args.self.now in
     record {
-      within = omega (arith, goes, c.behind-2.ensures.index);
-      shallow = omega (arith, c.behind-2.ensures.depth);
-      turns = omega (arith, goes, c.behind-2.ensures.index, c.behind-2.ensures.turns, c.requires.turns);
+      within = omega (arith, goes, c.after-2.ensures.index);
+      shallow = omega (arith, c.after-2.ensures.depth);
+      turns = omega (arith, goes, c.after-2.ensures.index, c.after-2.ensures.turns, c.requires.turns);
     }
 
 pub returns-clause-split : goal.returns-clause-split
@@ -51,12 +51,12 @@ returns-clause-split c =
       is_colon_there = c.requires.sign;
       protocol_ends = c.requires.ends;
       protocol = c.requires.protocol;
-      behind = inr (inr (
+      after = inr (inr (
         and_from (not (has_slashes (tokens_of c.args.self.now) c.args.colon.index)) (not c.args.special) no_slashes (ap not c.if-special.false),
         c.pathname_from-turns.ensures.nothing.1,
         c.pathname_from-turns.ensures.nothing.2,
         ap Some chars-nil,
         ap Some chars-nil,
-        rw (c.behind-2.ensures.index, c.behind-2.ensures.depth) at c.pathname_from-turns.ensures.split,
+        rw (c.after-2.ensures.index, c.after-2.ensures.depth) at c.pathname_from-turns.ensures.split,
       ));
     }

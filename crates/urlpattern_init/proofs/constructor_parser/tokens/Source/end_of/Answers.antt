@@ -4,7 +4,7 @@ use Rattle.std.proofs.lemmas.List.{length-map}
 use Rattle.urlpattern_init.specs.Split.{at, ends_at, is_end, is_ending, is_open, is_sign}
 use Rattle.urlpattern_init.specs.Splitting.{is_hostname, text_of_source, tokens_of}
 use Rattle.urlpattern_init.proofs.TextBetween.{are_closed}
-use Rattle.urlpattern_init.proofs.SeenLemmas.{cond-bound, depth_behind-bound, way_ends, way_goes, way_stops}
+use Rattle.urlpattern_init.proofs.SeenLemmas.{cond-bound, depth_after-bound, way_ends, way_goes, way_stops}
 use Rattle.urlpattern_init.proofs.TokenPlaces.{at_view, no_token, view_read}
 use Rattle.urlpattern_syntax.specs.Tokens.{token_view}
 use Rattle.urlpattern_init.proofs.constructor_parser.tokens.Source.end_of.Goals as goal
@@ -44,13 +44,13 @@ loop-section-preserved c =
     c.count_bracket-opened.ensures ∙ ap (λ b. c.loop-section.opened + cond (is_hostname c.args.section && b && at (is_sign (codes "[")) (tokens_of c.args.self.now) c.loop-section.place.index) 1 0) seen in
     let closed : c.count_bracket-closed.result ≡ c.loop-section.closed + cond (is_hostname c.args.section && (not (is_open token.kind) && c.loop-section.place.depth == 0) && at (is_sign (codes "]")) (tokens_of c.args.self.now) c.loop-section.place.index) 1 0 =
     c.count_bracket-closed.ensures ∙ ap (λ b. c.loop-section.closed + cond (is_hostname c.args.section && b && at (is_sign (codes "]")) (tokens_of c.args.self.now) c.loop-section.place.index) 1 0) seen in
-    let bound = depth_behind-bound token.kind c.loop-section.place.depth in
+    let bound = depth_after-bound token.kind c.loop-section.place.depth in
     let one_opened = cond-bound (is_hostname c.args.section && (not (is_open token.kind) && c.loop-section.place.depth == 0) && at (is_sign (codes "[")) (tokens_of c.args.self.now) c.loop-section.place.index) in
     let one_closed = cond-bound (is_hostname c.args.section && (not (is_open token.kind) && c.loop-section.place.depth == 0) && at (is_sign (codes "]")) (tokens_of c.args.self.now) c.loop-section.place.index) in
     record {
       within = omega arith;
-      way = way_goes _ _ _ _ _ _ _ _ _ _ _ token c.loop-section.invariant.way is goes passes c.depth_behind.ensures opened closed;
-      shallow = omega (arith, c.loop-section.invariant.shallow, c.depth_behind.ensures);
+      way = way_goes _ _ _ _ _ _ _ _ _ _ _ token c.loop-section.invariant.way is goes passes c.depth_after.ensures opened closed;
+      shallow = omega (arith, c.loop-section.invariant.shallow, c.depth_after.ensures);
       turns = omega (arith, c.loop-section.invariant.turns);
       few_opened = omega (arith, c.loop-section.invariant.few_opened);
       few_closed = omega (arith, c.loop-section.invariant.few_closed);

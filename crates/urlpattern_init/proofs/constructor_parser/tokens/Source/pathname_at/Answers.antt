@@ -5,8 +5,8 @@ use Rattle.urlpattern_init.proofs.constructor_parser.tokens.Source.pathname_at.G
 
 pub returns-then-is_sign-clause-split : goal.returns-then-is_sign-clause-split
 returns-then-is_sign-clause-split c =
-    let here : c.behind.result.index ≡ c.args.end.index = omega (arith, c.behind.ensures.index) in
-    let split = rw (here, c.behind.ensures.depth) at c.pathname_from.ensures.split in
+    let here : c.after.result.index ≡ c.args.end.index = omega (arith, c.after.ensures.index) in
+    let split = rw (here, c.after.ensures.depth) at c.pathname_from.ensures.split in
     inl (sym c.is_sign.ensures ∙ c.if-is_sign.true, split)
 
 pub returns-then-is_search_sign-clause-split : goal.returns-then-is_search_sign-clause-split

@@ -13,12 +13,12 @@ pathname_at-turns-requires-clause-sign c = port_sign (tokens_of c.args.self.now)
 pub pathname_at-turns-requires-clause-slash : goal.pathname_at-turns-requires-clause-slash
 pathname_at-turns-requires-clause-slash c slash =
     let tokens = tokens_of c.args.self.now in
-    let ends = rw (c.behind-from.ensures.index, c.behind-from.ensures.depth) at c.end_of-end.ensures.ends in
+    let ends = rw (c.after-from.ensures.index, c.after-from.ensures.depth) at c.end_of-end.ensures.ends in
     let size = tokens_len c.args.self.now in
-    let behind : c.args.end.index < c.end_of-end.result.index = omega (arith, ends.behind) in
-    let seen = slash_seen_from_sign (codes ":") tokens c.args.end.index c.end_of-end.result.index (sym c.is_sign.ensures ∙ c.if-is_sign.true) behind (slash_is_seen Port tokens (c.args.end.index + 1) 0 c.end_of-end.result.index ends slash) in
+    let after : c.args.end.index < c.end_of-end.result.index = omega (arith, ends.after) in
+    let seen = slash_seen_from_sign (codes ":") tokens c.args.end.index c.end_of-end.result.index (sym c.is_sign.ensures ∙ c.if-is_sign.true) after (slash_is_seen Port tokens (c.args.end.index + 1) 0 c.end_of-end.result.index ends slash) in
     let left = c.requires.slash c.end_of-end.result.index (omega arith) seen slash in
-    omega (arith, left, c.end_of-end.ensures.turns, c.behind-from.ensures.index, c.behind-from.ensures.turns, ends.within)
+    omega (arith, left, c.end_of-end.ensures.turns, c.after-from.ensures.index, c.after-from.ensures.turns, ends.within)
 
 pub returns-clause-split : goal.returns-clause-split
 returns-clause-split c =

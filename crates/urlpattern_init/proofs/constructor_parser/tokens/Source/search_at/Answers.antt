@@ -4,5 +4,5 @@ use Rattle.urlpattern_init.proofs.constructor_parser.tokens.Source.search_at.Goa
 
 pub returns-then-is_sign-clause-split : goal.returns-then-is_sign-clause-split
 returns-then-is_sign-clause-split c =
-    let split = rw c.behind-then-is_sign.ensures.index at c.hash_from-turns.ensures.split in
+    let split = rw c.after-then-is_sign.ensures.index at c.hash_from-turns.ensures.split in
     inr (inl (sym c.is_sign.ensures ∙ c.if-is_sign.true, ap Some chars-nil, split))

@@ -13,7 +13,7 @@ range-requires-clause-start_le_end c =
 pub range-requires-clause-start_boundary : goal.range-requires-clause-start_boundary
 range-requires-clause-start_boundary c =
     let found = source_stretch c.args.self.now c.args.from c.args.until (search rules) c.requires.source c.requires.order c.requires.within in
-    λ behind. found.2.start
+    λ after. found.2.start
 
 pub range-requires-clause-end_boundary : goal.range-requires-clause-end_boundary
 range-requires-clause-end_boundary c =

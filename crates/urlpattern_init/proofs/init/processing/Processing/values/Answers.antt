@@ -1,11 +1,11 @@
 use Rattle.std.proofs.Common.{◌∙◌, Ok, Option, String, ap, option_map, rules, sym}
 use Rattle.std.proofs.lemmas.List.Elements.{All-weaker}
 use Rattle.std.proofs.lemmas.Result.{err_from_is_err_and}
-use Rattle.urlpattern_canonical.proofs.CanonicalLemmas.{tells-more, tells-through}
+use Rattle.urlpattern_canonical.proofs.CanonicalLemmas.{reports-more, reports-through}
 use Rattle.urlpattern_syntax.proofs.EightLemmas.{at-each}
 use Rattle.urlpattern_syntax.specs.Eight.{at}
 use Rattle.urlpattern_syntax.specs.Text.{text_of}
-use Rattle.urlpattern_init.proofs.InheritanceLemmas.{asked-le, has_value, is_value, kept, processed, refused-behind}
+use Rattle.urlpattern_init.proofs.InheritanceLemmas.{asked-le, has_value, is_value, kept, processed, refused-after}
 use Rattle.urlpattern_init.specs.Inheritance.{bytes_of, values_of}
 use Rattle.std.specs.declared.alloc.Global.{Global}
 use Rattle.urlpattern_syntax.specs.declared.eight.ComponentName.{ComponentName}
@@ -22,9 +22,9 @@ returns-in_err-values-clause-err c =
     let name = first.2 in
     let bytes = component_bytes this (bytes_of protocol) name in
     rw (p.1, p.2)
-    (tells-through (value_in this protocol name) (values_in this) (bytes_in this) error
-    (λ reason refused. refused-behind this.kind.now (given_values this) this.init.now.base_url protocol reason name first.0 first.1 first.3 c.requires (All-weaker (λ other. (value : Option (String Global)) × (ComponentName × IsValueAfter this protocol other (Ok value))) _ (λ other had. has_value this.kind.now (given_values this) this.init.now.base_url protocol c.requires other (option_map text_of had.0) had.1.1.ok) first.0 first.4) refused)
-    (tells-more (value_in this protocol name) bytes (bytes_in this) error
+    (reports-through (value_in this protocol name) (values_in this) (bytes_in this) error
+    (λ reason refused. refused-after this.kind.now (given_values this) this.init.now.base_url protocol reason name first.0 first.1 first.3 c.requires (All-weaker (λ other. (value : Option (String Global)) × (ComponentName × IsValueAfter this protocol other (Ok value))) _ (λ other had. has_value this.kind.now (given_values this) this.init.now.base_url protocol c.requires other (option_map text_of had.0) had.1.1.ok) first.0 first.4) refused)
+    (reports-more (value_in this protocol name) bytes (bytes_in this) error
     (asked-le this.kind.now (given_values this) this.init.now.base_url name protocol c.requires) first.5.1.err))
 
 pub returns-clause-ok : goal.returns-clause-ok

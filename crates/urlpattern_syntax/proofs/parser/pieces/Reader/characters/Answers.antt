@@ -2,7 +2,7 @@ use Rattle.std.proofs.Common.{◌∙◌, subst}
 use Rattle.std.specs.Str.{chars}
 use Rattle.std.proofs.lemmas.Result.{err_from_is_err_and}
 use Rattle.urlpattern_syntax.specs.Cursors.{IsPlace, IsTokenAfter}
-use Rattle.urlpattern_syntax.specs.Tokens.{TellsFault, token_view}
+use Rattle.urlpattern_syntax.specs.Tokens.{ReportsFault, token_view}
 use Rattle.urlpattern_syntax.proofs.CharacterLemmas.{row_less, takes_row}
 use Rattle.urlpattern_syntax.proofs.parser.pieces.Reader.characters.Goals as goal
 
@@ -27,4 +27,4 @@ returns-clause-less c =
 pub returns-in_err-next-clause-fault : goal.returns-in_err-next-clause-fault
 returns-in_err-next-clause-fault c =
     let p = err_from_is_err_and c.from_residual.result c.from_residual.ensures.1 in
-    rw (p.1, p.2) (subst (λ text. TellsFault (chars text) c.in_err-next.field-0.0) c.characters-more.ensures.whole c.in_err-next.ensures.fault)
+    rw (p.1, p.2) (subst (λ text. ReportsFault (chars text) c.in_err-next.field-0.0) c.characters-more.ensures.whole c.in_err-next.ensures.fault)

@@ -4,7 +4,7 @@ use Rattle.urlpattern_syntax.specs.declared.tokenizer.TokenizePolicy.TheVariants
 use Rattle.urlpattern_syntax.specs.Text.{byte_len}
 use Rattle.urlpattern_syntax.proofs.ReaderLemmas.{left_within, place_next}
 use Rattle.urlpattern_syntax.proofs.TextLemmas.{byte_len-nil, chars-empty, chars-some}
-use Rattle.urlpattern_syntax.proofs.TokenLemmas.{IsLexed-shorter, TellsFaultUnder-first, end_view}
+use Rattle.urlpattern_syntax.proofs.TokenLemmas.{IsLexed-shorter, ReportsFaultUnder-first, end_view}
 use Rattle.urlpattern_syntax.proofs.tokenizer.cursors.Cursor.next.Goals as goal
 
 pub returns-then-is_empty-clause-token : goal.returns-then-is_empty-clause-token
@@ -38,4 +38,4 @@ returns-in-Ok-clause-len c =
 
 pub returns-in-Err-clause-fault : goal.returns-in-Err-clause-fault
 returns-in-Err-clause-fault c =
-    TellsFaultUnder-first policies.Strict (chars c.args.self.now.input.now) (chars c.args.self.now.rest.now) c.requires.front _ _ c.requires.cut c.in-Err.ensures c.place_of-place.ensures
+    ReportsFaultUnder-first policies.Strict (chars c.args.self.now.input.now) (chars c.args.self.now.rest.now) c.requires.front _ _ c.requires.cut c.in-Err.ensures c.place_of-place.ensures

@@ -4,7 +4,7 @@ use Rattle.urlpattern_init.specs.Inheritance.{values_view}
 use Rattle.urlpattern.proofs.CompiledLemmas.{refused_after}
 use Rattle.urlpattern_syntax.proofs.EightLemmas.{by_name}
 use Rattle.urlpattern_syntax.specs.declared.eight.ComponentName.TheVariants.{Hostname, Pathname, Username, Password, Port, Search, Hash}
-use Rattle.urlpattern.proofs.pattern.parse.Compiler.behind_protocol.Goals as goal
+use Rattle.urlpattern.proofs.pattern.parse.Compiler.after_protocol.Goals as goal
 
 pub returns-in_err-component-clause-refused : goal.returns-in_err-component-clause-refused
 returns-in_err-component-clause-refused g c =

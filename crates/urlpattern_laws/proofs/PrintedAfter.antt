@@ -1,4 +1,4 @@
--- What stands behind a printed part, and what is to be shown of it.
+-- What stands after a printed part, and what is to be shown of it.
 use Rattle.std.proofs.Common.{◌≡◌, ◌≢◌, ℕ, Bool, true, false, List, [], ◌∷◌, ◌++◌, Option, Some, None, refl, append_assoc}
 use Rattle.std.specs.Prelude.{IsTrue, ◌&&◌}
 use Rattle.std.proofs.lemmas.Bool.{false≢true}
@@ -23,22 +23,22 @@ pub record Behind (options : OptionsView) (before : PartView) (next : Option Par
   pub no_name_part : IsTrue (is_name_alone before) → IsTrue (is_unmodified before.modifier) → takes_next before next ≡ false → ¬ BeginsWith is_name_part text
 
 -- the same, where perhaps no part stands before
-abbrev pub BehindAny : OptionsView → (before next : Option PartView) → List ℕ → List TokenView → Type 0
-BehindAny options None next text tokens = Unit {0}
-BehindAny options (Some before) next text tokens = Behind options before next text tokens
+abbrev pub AfterAny : OptionsView → (before next : Option PartView) → List ℕ → List TokenView → Type 0
+AfterAny options None next text tokens = Unit {0}
+AfterAny options (Some before) next text tokens = Behind options before next text tokens
 
-pub behind_any : (options : OptionsView) (before next : Option PartView) (text : List ℕ) (tokens : List TokenView) → ((part : PartView) → before ≡ Some part → Behind options part next text tokens) → BehindAny options before next text tokens
-behind_any options None next text tokens h = tt
-behind_any options (Some before) next text tokens h = h before refl
+pub after_any : (options : OptionsView) (before next : Option PartView) (text : List ℕ) (tokens : List TokenView) → ((part : PartView) → before ≡ Some part → Behind options part next text tokens) → AfterAny options before next text tokens
+after_any options None next text tokens h = tt
+after_any options (Some before) next text tokens h = h before refl
 
--- What is to be shown of the parts behind one, where so many groups before them have no name.
+-- What is to be shown of the parts after one, where so many groups before them have no name.
 pub record ReadsBack (options : OptionsView) (whole : List ℕ) (before : Option PartView) (number : ℕ) (parts : List PartView) : Type 0 where
   pub tokens : List TokenView
   pub pieces : List Piece
   pub run : Run (byte_len whole) [] (printed_after options before parts) tokens
   pub are_pieces : ArePieces options.prefix (tokens ++ end_of whole ∷ []) pieces (endings.Stops (end_of whole))
   pub are_items : AreItemsOf options parts (joined_items (items_from number pieces))
-  pub behind : BehindAny options before (first_part parts) (printed_after options before parts) (tokens ++ end_of whole ∷ [])
+  pub behind : AfterAny options before (first_part parts) (printed_after options before parts) (tokens ++ end_of whole ∷ [])
 
 -- ---- the end
 
@@ -57,7 +57,7 @@ reads_end options whole before number = record {
   run = done;
   are_pieces = ([], refl, refl);
   are_items = refl;
-  behind = behind_any options before None [] (end_of whole ∷ []) (λ part _. behind_end options whole part);
+  behind = after_any options before None [] (end_of whole ∷ []) (λ part _. behind_end options whole part);
 }
 
 -- ---- one more piece

@@ -1,8 +1,8 @@
 use Rattle.urlpattern.proofs.MatchLaws.{match_from-test, match-not_both, match-one, test_from-match}
-use Rattle.urlpattern.proofs.laws.tests_tell_matches.Goals as goal
+use Rattle.urlpattern.proofs.laws.tests_agree_with_matches.Goals as goal
 
-pub returns-clause-tells : goal.returns-clause-tells
-returns-clause-tells g c = λ answer pattern input.
+pub returns-clause-agree : goal.returns-clause-agree
+returns-clause-agree g c = λ answer pattern input.
     (match_from-test answer pattern input, λ (result, match). test_from-match answer pattern input result match)
 
 pub returns-clause-one : goal.returns-clause-one
