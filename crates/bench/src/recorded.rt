@@ -126,7 +126,7 @@ pub fn text<'a>(object: &'a Value, name: &str) -> Result<&'a str, Fault> {
     optional_text(object, name).ok_or(Fault::NoCase)
 }
 
-/// The text of a field, or None where it is missing or null.
+/// The text of a field. `None`: it is missing or null.
 pub fn optional_text<'a>(object: &'a Value, name: &str) -> Option<&'a str> {
     object.get(name).and_then(Value::as_str)
 }
@@ -139,7 +139,7 @@ pub fn list<'a>(object: &'a Value, name: &str) -> Result<&'a [Value], Fault> {
     }
 }
 
-/// The character of a field, or None where it is missing or null.
+/// The character of a field. `None`: it is missing or null.
 pub fn character(object: &Value, name: &str) -> Option<char> {
     match optional_text(object, name) {
         Some(text) => text.chars().next(),

@@ -76,7 +76,7 @@ impl Case<'_> {
         is_answer
     }
 
-    /// Whether each input of the question comes to the recorded result in its place.
+    /// Whether each input of the question has the recorded result in its place.
     fn are_results<F: Fn(&Value, &Value) -> Result<bool, Fault>>(
         &self,
         recorded: &Value,

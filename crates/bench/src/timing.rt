@@ -28,15 +28,15 @@ use urlpattern::{ComponentName, Error, UrlPattern, UrlPatternMatchInput, UrlPatt
 enum Call {
     /// A pattern is made of what it is given as.
     Parse,
-    /// It is asked for the groups of a text that it matches.
+    /// It captures the groups of a text that it matches.
     ExecText,
-    /// It is asked for those of a text that it does not match.
+    /// It refuses a text that it does not match.
     ExecMiss,
-    /// It is asked for the groups of a URL that it matches.
+    /// It captures the groups of a URL that it matches, in a result that owns them.
     ExecUrl,
     /// It is asked whether it matches that URL.
     TestUrl,
-    /// It is asked for the groups of that URL, which is lent, and for nothing of its own.
+    /// It captures the groups of that URL, borrowed from it.
     Captures,
     /// It is asked whether it matches that URL, which is lent.
     TestLent,

@@ -28,13 +28,13 @@ pub const NO_MATCH: u8 = 1;
 /// The status of every other run.
 pub const FAILED: u8 = 2;
 
-/// How a component is asked for.
+/// The usage of `component`.
 const COMPONENT_USAGE: &str = "usage: urlpat component default|hostname|pathname PATTERN\n";
 
-/// How a match is asked for.
+/// The usage of `match`.
 const MATCH_USAGE: &str = "       urlpat match PATTERN BASE INPUT\n";
 
-/// How the first match is asked for.
+/// The usage of `first`.
 const FIRST_USAGE: &str = "       urlpat first BASE INPUT PATTERN..\n";
 
 /// An answer: what is printed, and the status to end with.

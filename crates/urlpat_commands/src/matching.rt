@@ -24,7 +24,7 @@ use urlpattern::{
 /// The word that stands for no base URL.
 const NO_BASE: &str = "-";
 
-/// A line for each group of the match of an input, or None where the input is not matched.
+/// A line for each group of the match of an input. `None`: the input is not matched.
 ///
 /// The error is why the pattern or its base is refused, or that memory ran out.
 pub fn matched_groups(
@@ -64,7 +64,7 @@ pub fn compiled(
     UrlPattern::from_constructor_string(alloc, pattern, base, UrlPatternOptions::default())
 }
 
-/// A line for each group of the match of an input, or None where the input is not matched.
+/// A line for each group of the match of an input. `None`: the input is not matched.
 ///
 /// The error is that memory ran out.
 fn groups_of_match(
@@ -89,7 +89,7 @@ fn groups_of_match(
     Ok(Some(text))
 }
 
-/// What an input is matched as: its URL, or None where `url` refuses it.
+/// What an input is matched as: its URL. `None`: `url` refuses it.
 ///
 /// The error is that memory ran out.
 pub fn url_of(alloc: Global, base: Option<&str>, input: &str) -> Result<Option<Url>, Error>

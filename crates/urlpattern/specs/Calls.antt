@@ -70,7 +70,7 @@ captured_bytes found = None
 abbrev pub first_groups_view : {S : Type 0} → Texts → Option (ℕ × Eight (HashMap (String Global) (Option (String Global)) S)) → Option (ℕ × (ComponentName → ResultView))
 first_groups_view texts found = option_map (λ first. (first.0, results_of texts first.1)) found
 
--- the looks at the texts come to what the matchers of the pattern answer
+-- the looks at the texts result in what the matchers of the pattern answer
 abbrev pub AreLooks : {E : Type 0} → (answer : E → List ℕ → Option Captures) → PatternView E → Texts → Eight (Look E) → Type 0
 AreLooks answer pattern texts looks =
     (name : ComponentName) → Answers answer (pattern name).matcher (at texts name) (look_answer answer (Some (at looks name)))

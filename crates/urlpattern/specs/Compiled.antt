@@ -39,7 +39,7 @@ has_default_port (Some protocol) port = is_special protocol && is_same port (def
 abbrev pub without_default_port : Values → Values
 without_default_port values = if has_default_port values.protocol values.port then record values { port = Some [] } else values
 
--- what an init comes to as a pattern
+-- the values of an init as a pattern
 abbrev pub pattern_values : UrlPatternInit → Parsed Values
 pattern_values init = and_then (init_values Pattern init) (λ values. Ok (without_default_port values))
 
@@ -53,11 +53,11 @@ pub record Manner : Type 0 where
 abbrev pub manner : OptionsView → (List ℕ → Parsed (List ℕ)) → Manner
 manner options canonical = record { options = options; canonical = canonical }
 
--- options in the syntax that is asked for
+-- options in the requested syntax
 abbrev pub in_syntax : UrlPatternOptions → OptionsView → OptionsView
 in_syntax asked options = record options { syntax = asked.regex_syntax }
 
--- the same, and case is ignored where that is asked for
+-- the same, and case is ignored where that is requested
 abbrev pub with_case : UrlPatternOptions → OptionsView → OptionsView
 with_case asked options = record options { syntax = asked.regex_syntax; ignore_case = asked.ignore_case }
 

@@ -106,7 +106,7 @@ abbrev pub FindsInTexts : {E R : Type 0} → (view : R → ComponentName → Res
 FindsInTexts view answer pattern texts found =
     MatchOption found (IsRefused answer pattern texts) (λ result. IsMatchOf answer pattern texts (view result))
 
--- ---- when memory is asked for
+-- ---- when memory is allocated
 
 -- an engine is asked: between prefix and suffix of a component's text
 abbrev pub AsksAnEngine : {E : Type 0} → PatternView E → Texts → Type 0

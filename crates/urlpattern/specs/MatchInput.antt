@@ -15,7 +15,7 @@ use Rattle.urlpattern_syntax.specs.Eight.{Texts, at, each}
 abbrev pub texts_view : MatchInput → Texts
 texts_view input = each (λ name. text_of (at (matched_texts input) name))
 
--- the eight texts of a match input: those of the URL, or those that the init comes to
+-- the eight texts of a match input: those of the URL, or those that the init results in
 abbrev pub input_texts : UrlPatternMatchInput → Parsed Texts
 input_texts (Init init) = and_then (init_values Url init) (λ values. Ok (texts_of_values values))
 input_texts (UrlInput url) = Ok (texts_of_url url)

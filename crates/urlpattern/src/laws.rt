@@ -83,7 +83,7 @@ pub fn groups_by_regex_are_of_the_first_way()
         IsSameResult result other }
 {}
 
-/// A matcher that `EcmaRegexp` made answers the first way of the tree of the parts, which is a meaning of them, or None where
+/// A matcher that `EcmaRegexp` made answers the first way of the tree of the parts, which is a meaning of them, or `None` where
 /// they have none, if a value of `regex` is kept where an engine is needed.
 pub fn matchers_by_ecma_regexp_answer_the_first_way()
     ensures { EachAnswersFirst IsKeptByEcma ecma_regexp_answer }

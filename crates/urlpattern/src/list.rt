@@ -1,4 +1,4 @@
-//! Lists of patterns, of which the first that matches an input is asked for.
+//! Lists of patterns, which answer the first one that matches an input.
 //!
 //! The texts of the input are made once. An index knows the patterns that can match them, by the literal protocol and hostname
 //! and by the text that the pathname begins with. Those look at them, in the order of the list, and nothing is made of those

@@ -21,7 +21,7 @@ fn of_url(alloc: Global, url: &Url) -> Result<MatchInput, AllocError>
     copied(alloc, &url_texts(url))
 }
 
-/// The values that an init came to.
+/// The texts of an init's values.
 fn of_values(alloc: Global, values: Eight<Option<String>>) -> MatchInput
     ensures { texts_view result ≡ texts_of_values (values_of values) }
 {
@@ -38,7 +38,7 @@ fn text_or_empty(alloc: Global, text: Option<String>) -> String
     text.unwrap_or(String::new(alloc))
 }
 
-/// The texts of an input, with what an init inherits from its base URL. None if `url` refuses one of them.
+/// The texts of an input, with what an init inherits from its base URL. `None`: `url` refuses one of them.
 ///
 /// The error is that memory ran out.
 ///

@@ -14,13 +14,13 @@ use crate::regexp::RegExp;
 /// - `one_tree`: the regular expression of parts, none of them custom, has one tree.
 /// - `exactly`: the tree means each text with the same captures as the parts do.
 /// - `captures`: these captures are as many as the names.
-/// - `matches`: a matcher that is made of parts answers what they mean, captures that they have or None where they have
+/// - `matches`: a matcher that is made of parts answers what they mean, captures that they have or `None` where they have
 ///   none, to each text of characters without line feed where case is kept. If it asks an engine, this has to follow the
 ///   regular expression that it was given.
 /// - `answers`: of several captures it answers those of the first way of the parts' tree (`first_way`), which prefers an earlier
 ///   choice to a later one, if an engine that it asks answers so of the regular expression that it was given.
 /// - `one_answer`: two results that are the first way are equal.
-/// - `default_engine`: a matcher that `regex::Regex` made answers the first way, and this is what the parts mean or None where
+/// - `default_engine`: a matcher that `regex::Regex` made answers the first way, and this is what the parts mean or `None` where
 ///   they mean nothing, without a premise on the engine but that it took the regular expression where it was needed.
 /// - `pattern_engine`: the same of a matcher that `PatternRegexp` made, without any premise on the engine.
 /// - `reads_back`: the printed pattern of parts that were read under the standard's options reads as these parts,

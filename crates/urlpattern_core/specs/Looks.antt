@@ -5,7 +5,7 @@ use Rattle.urlpattern_core.specs.declared.matcher.look.Look.{Look}
 use Rattle.urlpattern_core.specs.declared.matcher.look.Look.TheVariants as looks
 use Rattle.urlpattern_laws.specs.PartMeaning.{Captures}
 
--- what it comes to where engines' values answer in this way: captures, or None where the text is not matched
+-- what it results in where engines' values answer in this way: captures, or None where the text is not matched
 abbrev pub look_answer : {E : Type 0} → (answer : E → List ℕ → Option Captures) → Option (Look E) → Option Captures
 look_answer answer None = None
 look_answer answer (Some looks.Matched) = Some []

@@ -42,17 +42,17 @@ IfMatcher result Holds = IfOk result (λ matcher. Holds (matcher_view matcher))
 abbrev pub literal_view : {E : Type 0} → (ignore_case : Bool) → (literal : List ℕ) → MatcherView E
 literal_view ignore_case literal = record { prefix = []; suffix = []; inner = Literal literal; ignore_case = ignore_case }
 
--- the texts of plain fixed parts that go off the ends of the parts, and the parts between them
+-- the texts of plain fixed parts that are removed from the ends of the parts, and the parts between them
 abbrev pub PeelsTo : List PartView → (prefix : List ℕ) → List PartView → (suffix : List ℕ) → Type 0
 PeelsTo parts prefix middle suffix =
     (front back : Option PartView) × ArePeeled parts front middle back × (prefix ≡ end_text front) × (suffix ≡ end_text back)
 
--- the text of a plain fixed part that goes off the front of the parts, and the parts after it
+-- the text of a plain fixed part that is removed from the front of the parts, and the parts after it
 abbrev pub PeelsFront : List PartView → (prefix : List ℕ) → List PartView → Type 0
 PeelsFront parts prefix rest =
     (front : Option PartView) × (parts ≡ option_to_list front ++ rest) × GoesOff front (BeginsPlain parts) × (prefix ≡ end_text front)
 
--- the text of a plain fixed part that goes off the end of the parts, and the parts before it
+-- the text of a plain fixed part that is removed from the end of the parts, and the parts before it
 abbrev pub PeelsBack : List PartView → List PartView → (suffix : List ℕ) → Type 0
 PeelsBack parts middle suffix =
     (back : Option PartView) × (parts ≡ middle ++ option_to_list back) × GoesOff back (EndsPlain parts) × (suffix ≡ end_text back)

@@ -35,7 +35,7 @@ pub fn regex_answers_the_first_way()
 {}
 
 /// A matcher that `regex::Regex` made answers the first way of the tree of the parts, without a premise on the engine but that
-/// it took the text where it was needed: a meaning of the parts, or None where they have none. Another matcher of the same
+/// it took the text where it was needed: a meaning of the parts, or `None` where they have none. Another matcher of the same
 /// parts answers nothing else.
 pub fn matchers_by_regex_answer_the_first_way()
     ensures first { EachAnswersFirst IsTakenByRegex regex_answer }

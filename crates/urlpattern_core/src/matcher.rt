@@ -52,7 +52,7 @@ pub enum InnerMatcher<R> {
 }
 
 impl<R: RegExp> Matcher<R> {
-    /// What the groups capture of a text, in their order: slices of it, with None where a group took no part. Where the
+    /// What the groups capture of a text, in their order: slices of it, with `None` where a group took no part. Where the
     /// text is not matched there is no list.
     ///
     /// The error is that memory ran out. It does not allocate where the answer is `None` before an engine is asked, nor where

@@ -50,8 +50,8 @@ pub trait RegExp: Sized + Drop {
         ensures made { IfOk result (λ engine. IsMade engine (chars pattern.now) (chars flags.now)) }
         ensures refused { result ≡ Err Pattern → MayRefuse (chars pattern.now) (chars flags.now) force_eval };
 
-    /// What the groups capture of a text, in their order and without the whole match: a slice of the text, or None where a
-    /// group was passed over. A text that is not matched gives None.
+    /// What the groups capture of a text, in their order and without the whole match: a slice of the text, or `None` for a
+    /// group that took no part. `None` as a whole: the text does not match.
     ///
     /// The error is that memory ran out.
     fn matches<'a>(

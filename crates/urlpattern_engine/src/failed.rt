@@ -32,7 +32,7 @@ impl<'s, 't> Model for Failed<'s, 't> {
 }
 
 impl<'s, 't> Failed<'s, 't> {
-    /// None, and room for each place, if there is to be room.
+    /// No place, and room for each, if there is to be room.
     pub(crate) fn new(
         alloc: Global,
         steps: &'s [Step],

@@ -51,7 +51,7 @@ pub fn pattern_regexps_take_each_generated_text()
 {}
 
 /// A matcher that the engine made answers the first way of the tree of the parts, without any premise on the engine: a meaning of
-/// the parts, or None where they have none. Another matcher of the same parts answers nothing else.
+/// the parts, or `None` where they have none. Another matcher of the same parts answers nothing else.
 pub fn matchers_by_pattern_regexp_answer_the_first_way()
     ensures first { EachAnswersFirst IsTakenByPatternRegexp pattern_answer }
     ensures one { AllAnswerAlike IsTakenByPatternRegexp pattern_answer }

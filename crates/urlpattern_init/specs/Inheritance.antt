@@ -63,7 +63,7 @@ is_inheritable Pattern Username = false
 is_inheritable Pattern Password = false
 is_inheritable mode component = true
 
--- how a text of the init is processed, the port and the pathname under the protocol that the init comes to
+-- how a text of the init is processed, the port and the pathname under the protocol that the init results in
 abbrev pub processed_text : ProcessType → (protocol : Option (List ℕ)) → ComponentName → List ℕ → Parsed (List ℕ)
 processed_text mode protocol Protocol text = processed_protocol mode text
 processed_text mode protocol Username text = processed_username mode text
@@ -96,7 +96,7 @@ put_before mode None text = []
 put_before mode (Some base) text =
     if is_absolute mode text || cannot_be_a_base base then [] else processed_base mode (chars (up_to_last_slash base.path))
 
--- ---- the values that an init comes to
+-- ---- the values that an init results in
 
 -- a text that the init has, after what is put before it
 abbrev pub given_text : ProcessType → Option Parts → ComponentName → List ℕ → List ℕ
@@ -126,7 +126,7 @@ value_given mode values base protocol component None = Ok (option_or (inherited 
 value_given mode values base protocol component (Some text) =
     and_then (processed_text mode protocol component (given_text mode base component text)) (λ value. Ok (Some value))
 
--- the value that a component comes to
+-- the value of a component
 abbrev pub processed_value : ProcessType → Values → Option Parts → (protocol : Option (List ℕ)) → ComponentName → Parsed (Option (List ℕ))
 processed_value mode values base protocol component =
     value_given mode values base protocol component (at values component)
@@ -155,7 +155,7 @@ unless_refused None values = Ok values
 abbrev pub all_values : (ComponentName → Parsed (Option (List ℕ))) → Parsed Values
 all_values answers = unless_refused (first_refusal answers components) (each (λ name. value_or_none (answers name)))
 
--- the values that an init with this base comes to, or the first refusal
+-- the values that an init with this base results in, or the first refusal
 unfoldable pub processed_values : ProcessType → Values → Option Parts → Parsed Values
 processed_values mode values base =
     and_then (processed_value mode values base None Protocol) (λ protocol. all_values (processed_value mode values base protocol))
@@ -170,7 +170,7 @@ bytes_of text = byte_len (unwrap_or text [])
 abbrev pub given_bytes : ProcessType → Values → Option Parts → ComponentName → ℕ
 given_bytes mode values base component = bytes_of (option_map (given_text mode base component) (at values component))
 
--- the bytes of the protocol that the init comes to
+-- the bytes of the protocol that the init results in
 abbrev pub protocol_bytes : Parsed (Option (List ℕ)) → ℕ
 protocol_bytes (Ok protocol) = bytes_of protocol
 protocol_bytes (Err reason) = 0
@@ -180,7 +180,7 @@ unfoldable pub asked_bytes : ProcessType → Values → Option Parts → ℕ
 asked_bytes mode values base =
     bytes_asked mode (fold max (protocol_bytes (processed_value mode values base None Protocol)) (map (given_bytes mode values base) components))
 
--- what an init comes to with its base, and the bytes about which `url` is asked for it
+-- what an init results in with its base, and the bytes about which `url` is asked
 abbrev pub init_values : ProcessType → UrlPatternInit → Parsed Values
 init_values mode init = processed_values mode (values_view init) init.base_url
 

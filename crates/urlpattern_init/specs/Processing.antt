@@ -19,12 +19,12 @@ use Rattle.urlpattern_syntax.specs.Text.{byte_len, text_of}
 abbrev pub given_values : Processing → Values
 given_values processing = values_view processing.init.now
 
--- the value that a component comes to, under this protocol
+-- the value of a component, under this protocol
 abbrev pub value_in : Processing → (protocol : Option (List ℕ)) → ComponentName → Parsed (Option (List ℕ))
 value_in processing protocol component =
     processed_value processing.kind.now (given_values processing) processing.init.now.base_url protocol component
 
--- the values that the init comes to
+-- the values that the init results in
 abbrev pub values_in : Processing → Parsed Values
 values_in processing = init_values processing.kind.now processing.init.now
 
@@ -76,7 +76,7 @@ abbrev pub IsFailureIn : Processing → (protocol : Option (List ℕ)) → (prot
 IsFailureIn processing protocol protocol_bytes component =
     MemoryOr (Reports (value_in processing protocol component) (component_bytes processing protocol_bytes component))
 
--- the value that a component after the protocol comes to, or why it comes to none
+-- the value of a component after the protocol, or why it has none
 pub record IsValueAfter (processing : Processing) (protocol : Option (List ℕ)) (component : ComponentName) (result : Result (Option (String Global)) Error) : Type 0 where
   pub ok : IfOk result (λ value. component ≢ Protocol → value_in processing protocol component ≡ Ok (option_map text_of value))
   pub err : IfErr result (IsFailureIn processing protocol (bytes_of protocol) component)

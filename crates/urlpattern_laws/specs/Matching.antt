@@ -40,17 +40,17 @@ EndsPlain [] = ⊥
 EndsPlain (part ∷ []) = IsTrue (is_plain part)
 EndsPlain (part ∷ next ∷ parts) = EndsPlain (next ∷ parts)
 
--- a plain fixed text that goes off, or none where no such part is there
+-- a plain fixed text that is removed, or none where no such part is there
 abbrev pub GoesOff : Option PartView → (IsThere : Type 0) → Type 0
 GoesOff (Some part) IsThere = IsTrue (is_plain part)
 GoesOff None IsThere = ¬ IsThere
 
--- the text of a part that goes off
+-- the text of a part that is removed
 abbrev pub end_text : Option PartView → List ℕ
 end_text (Some part) = part.value
 end_text None = []
 
--- A plain fixed text at the front goes off the parts, and one at the end of what remains.
+-- A plain fixed text at the front is removed from the parts, and one at the end of what remains.
 pub record ArePeeled (parts : List PartView) (front : Option PartView) (middle : List PartView) (back : Option PartView) : Type 0 where
   pub cut : parts ≡ option_to_list front ++ middle ++ option_to_list back
   pub front_goes : GoesOff front (BeginsPlain parts)
@@ -153,7 +153,7 @@ Answers answer matcher text None = (captures : Captures) → ¬ Matches answer m
 abbrev pub IsMatched : {E : Type 0} → (answer : E → List ℕ → Option Captures) → MatcherView E → List ℕ → Type 0
 IsMatched answer matcher text = (captures : Captures) × Matches answer matcher text captures
 
--- ---- when memory is asked for
+-- ---- when memory is allocated
 
 -- an engine stands between prefix and suffix
 abbrev pub HoldsEngine : {E : Type 0} → InnerView E → Type 0
@@ -169,7 +169,7 @@ CapturesOne other = ⊥
 abbrev pub AsksEngine : {E : Type 0} → MatcherView E → List ℕ → Type 0
 AsksEngine matcher text = (middle : List ℕ) × HasMiddle matcher text middle × HoldsEngine matcher.inner
 
--- memory is asked for: by an engine, or for the list of one capture
+-- memory is allocated: by an engine, or for the list of one capture
 abbrev pub MayRunOutOfMemory : {E : Type 0} → (answer : E → List ℕ → Option Captures) → MatcherView E → List ℕ → Type 0
 MayRunOutOfMemory answer matcher text = AsksEngine matcher text ⊎ (CapturesOne matcher.inner × IsMatched answer matcher text)
 

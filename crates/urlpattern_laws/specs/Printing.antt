@@ -143,7 +143,7 @@ abbrev pub HaveTexts : List PartView → Type 0
 HaveTexts [] = Unit {0}
 HaveTexts (part ∷ parts) = (IsTrue (is_fixed_text part.kind) → part.value ≢ []) × HaveTexts parts
 
--- the texts of parts that an encoding is asked for
+-- the texts of parts about which an encoding is asked
 abbrev pub encoded_texts : List PartView → List (List ℕ)
 encoded_texts parts = flat_map (λ part. if is_fixed_text part.kind then part.value ∷ [] else part.prefix ∷ part.suffix ∷ []) parts
 

@@ -47,7 +47,7 @@ pub fn joining_keeps_printed_text()
 {}
 
 /// Copies of a wildcard are captured as one text, which is all of them but the first prefix and the last suffix. No
-/// copies are captured by None, or by the empty text where "zero or more" has neither prefix nor suffix. There is no
+/// copies are captured by `None`, or by the empty text where "zero or more" has neither prefix nor suffix. There is no
 /// other capture.
 pub fn copies_are_one_capture()
     ensures copies { (options : OptionsView) (part : PartView) (n : ℕ) (text : List ℕ) → IsWildcard part.kind → Allows part.modifier (suc n) → AreCopies options part (suc n) text →
@@ -176,7 +176,7 @@ pub fn captures_are_as_many_as_names()
     ensures { (options : OptionsView) (parts : List PartView) (text : List ℕ) (captures : Captures) → PartsMean options parts text captures → length captures ≡ length (group_names parts) }
 {}
 
-/// A matcher of parts answers what the parts mean: captures only where they have these, and None only where they have
+/// A matcher of parts answers what the parts mean: captures only where they have these, and `None` only where they have
 /// none. Case is kept, and the text is of characters without line feed. A matcher that needs no engine asks for no more.
 /// An engine's value either follows the regular expression of the parts that are left between the ends, where no part has
 /// one of its own, or answers what those parts mean. `E` is any type of engines' values.
@@ -190,7 +190,7 @@ pub fn matchers_answer_what_parts_mean<E>()
 {}
 
 /// A matcher of parts answers the first way of the tree of their regular expression, and that is one answer, which is a
-/// meaning of the parts, or None where they have none. No part is custom, case is kept, and the text is of characters without
+/// meaning of the parts, or `None` where they have none. No part is custom, case is kept, and the text is of characters without
 /// line feed. An engine that is asked answers the first way of the tree of its own text; where none is asked, this holds of
 /// every matcher. `E` is any type of engines' values.
 pub fn matchers_answer_the_first_way<E>()

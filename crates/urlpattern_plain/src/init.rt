@@ -17,7 +17,7 @@ use std::alloc::{AllocError, Global};
 use urlpattern_syntax::eight::{ComponentName, Eight};
 use urlpattern_syntax::{Error, field_of, with_fields};
 
-/// The patterns of a URL's components, or its texts, and the text of a base URL. What is not given is None.
+/// The patterns of a URL's components, or its texts, and the text of a base URL. What is not given is `None`.
 ///
 /// <https://urlpattern.spec.whatwg.org/#dictdef-urlpatterninit>
 #[derive(Debug, Default, Clone, PartialEq, Eq, Drop, Serialize, Deserialize)]
@@ -74,7 +74,7 @@ impl UrlPatternInit {
     }
 
     /// The init that the JSON stands for: an object, in which each key may be missing or null. Other keys are passed
-    /// over. None if it stands for none.
+    /// over. `None`: the JSON has another shape.
     ///
     /// The error is that memory ran out.
     pub fn from_json_value(alloc: Global, value: &Value) -> Result<Option<Self>, Error>

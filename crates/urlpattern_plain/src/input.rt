@@ -39,8 +39,8 @@ impl<'a> StringOrInit<'a> {
         }
     }
 
-    /// The input that the JSON stands for, which owns its text: a text, or the object of an init. None if it stands for
-    /// none.
+    /// The input that the JSON stands for, which owns its text: a text, or the object of an init. `None`: the JSON
+    /// has another shape.
     ///
     /// The error is that memory ran out.
     pub fn from_json_value(alloc: Global, value: &Value) -> Result<Option<Self>, Error>

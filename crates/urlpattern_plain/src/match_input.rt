@@ -64,8 +64,8 @@ impl MatchInput {
         Ok(Value::Object(members))
     }
 
-    /// The input that the JSON stands for: an object with a text for each key. Other keys are passed over. None if it
-    /// stands for none.
+    /// The input that the JSON stands for: an object with a text for each key. Other keys are passed over. `None`: the JSON
+    /// has another shape.
     ///
     /// The error is that memory ran out.
     pub fn from_json_value(alloc: Global, value: &Value) -> Result<Option<Self>, Error>

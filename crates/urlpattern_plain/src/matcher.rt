@@ -97,7 +97,7 @@ impl Matcher {
     }
 
     /// The matcher that the JSON stands for: an object with `prefix`, `suffix` and `kind`, and the keys of its kind.
-    /// Other keys are passed over. None if it stands for none.
+    /// Other keys are passed over. `None`: the JSON has another shape.
     ///
     /// The error is that memory ran out.
     pub fn from_json_value(alloc: Global, value: &Value) -> Result<Option<Self>, Error>

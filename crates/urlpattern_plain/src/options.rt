@@ -39,7 +39,7 @@ impl UrlPatternOptions {
     }
 
     /// The options that the JSON stands for: an object with `ignoreCase`, and `regexSyntax` if it is not the default.
-    /// Other keys are passed over. None if it stands for none.
+    /// Other keys are passed over. `None`: the JSON has another shape.
     ///
     /// The error is that memory ran out.
     pub fn from_json_value(_alloc: Global, value: &Value) -> Result<Option<Self>, Error>

@@ -86,7 +86,7 @@ impl UrlPattern {
     }
 
     /// The pattern that the JSON stands for: an object with a component for each key, and `hasRegexpGroups`. Other keys
-    /// are passed over. None if it stands for none.
+    /// are passed over. `None`: the JSON has another shape.
     ///
     /// The error is that memory ran out.
     pub fn from_json_value(alloc: Global, value: &Value) -> Result<Option<Self>, Error>
@@ -163,7 +163,7 @@ impl UrlPatternComponent {
     }
 
     /// The component that the JSON stands for: an object with `patternString`, `regexpString`, `matcher` and
-    /// `groupNameList`. Other keys are passed over. None if it stands for none.
+    /// `groupNameList`. Other keys are passed over. `None`: the JSON has another shape.
     ///
     /// The error is that memory ran out.
     pub fn from_json_value(alloc: Global, value: &Value) -> Result<Option<Self>, Error>

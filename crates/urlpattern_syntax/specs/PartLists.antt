@@ -82,7 +82,7 @@ then_group list before placeholder after modifier =
 abbrev pub next_item : PartList → Piece → Item
 next_item list piece = item list.next_numeric_name (piece_view piece)
 
--- what is asked for at the last token: the encoding of the list's pending text, and that the token is the end
+-- the demands at the last token: the encoding of the list's pending text, and that the token is the end
 abbrev pub end_demands : PartList → Token → List Demand
 end_demands list token = encode_fixed (part_list_view list).pending ++ Expect End (token_view token) ∷ []
 

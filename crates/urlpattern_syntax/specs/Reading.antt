@@ -92,7 +92,7 @@ encode_fixed [] = []
 encode_fixed (c ∷ text) = Encode (c ∷ text) ∷ []
 
 -- The demands of the items and of what is left, in order, where these names stand before them. The pending text before
--- a group that lacks its Close is not asked for.
+-- a group that lacks its Close is not demanded.
 abbrev pub demands_after : List (List ℕ) → List Item → Ending → List Demand
 demands_after earlier [] (endings.Stops found) = Expect End found ∷ []
 demands_after earlier [] (endings.LacksClose found) = Expect Close found ∷ []

@@ -1,4 +1,4 @@
--- Texts that are written piece by piece, into memory that was asked for at once.
+-- Texts that are written piece by piece, into memory that was reserved at once.
 use Rattle.std.specs.Prelude.{◌≡◌, ◌+◌, ◌<◌, ◌≤◌, ◌++◌, ℕ, List, Option, Some, None, String, option_map, string_capacity, string_len}
 use Rattle.std.below.core.specs.declared.int.usize.TheConstants.{MAX}
 use Rattle.std.specs.Str.{chars}

@@ -81,7 +81,7 @@ fn regexp_of<R: RegExp>(component: &Component<R>) -> &str {
     }
 }
 
-/// The match of an input, or None. `test` has to answer the same.
+/// The match of an input, or `None`. `test` has to answer the same.
 fn found_by<R: RegExp>(
     rt: &impl Abort,
     alloc: Global,
@@ -207,7 +207,7 @@ fn expect_text(rt: &impl Abort, found: &UrlPatternComponentResult, text: &str, g
     assert_eq!(rt; found.groups.len(), groups, "at {text:?}");
 }
 
-/// Compares what a group captures. It has None where it took no part.
+/// Compares what a group captures. It has `None` where it took no part.
 fn expect_captured(
     rt: &impl Abort,
     found: &UrlPatternComponentResult,

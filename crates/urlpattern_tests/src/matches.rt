@@ -21,7 +21,7 @@ fn names_of(alloc: Global, names: &[&str]) -> Result<Vec<String>, Error> {
     Ok(copies)
 }
 
-/// A component that is put together by hand: an engine, or none, is asked for the whole text.
+/// A component that is put together by hand: an engine, or none, is asked about the whole text.
 fn by_hand<R: RegExp>(
     alloc: Global,
     group_name_list: Vec<String>,

@@ -8,7 +8,7 @@ use url::Url;
 use urlpattern::tokenizer::{TokenizePolicy, tokenize};
 use urlpattern::{Error, UrlPatternInit};
 
-/// What a constructor string comes to, with the number of turns.
+/// The init of a constructor string, with the number of turns.
 type Counted = Result<(UrlPatternInit, usize), Error>;
 
 /// Splits a constructor string by both calls.

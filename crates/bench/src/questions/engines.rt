@@ -45,7 +45,7 @@ pub fn ask(maker: &mut Maker) -> Result<Outcome, Error> {
     outcome
 }
 
-/// A regular expression: one that a pattern is made of, a changed form of it, or one of pieces. None where what was made is no
+/// A regular expression: one that a pattern is made of, a changed form of it, or one of pieces. `None` where what was made is no
 /// pattern.
 fn regular_expression(maker: &mut Maker, given: &Given) -> Result<Option<String>, Error> {
     if maker.is_one_in(4) {

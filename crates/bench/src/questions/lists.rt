@@ -14,7 +14,7 @@ use urlpattern::{
     UrlPatternResult,
 };
 
-/// The first match in a list: its index and what it comes to.
+/// The first match in a list: its index and its result.
 type First = Option<(usize, UrlPatternResult)>;
 
 /// How the patterns of a list begin.

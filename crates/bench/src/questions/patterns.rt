@@ -14,7 +14,7 @@ use urlpattern::{
     UrlPatternResult,
 };
 
-/// What a match comes to: `None` where there is none.
+/// The result of a match. `None`: there is no match.
 type Found = Option<UrlPatternResult>;
 
 /// How many inputs a pattern is asked about.

@@ -34,7 +34,7 @@ fn reads_back(alloc: Global, given: &Given, parts: &[Part]) -> Result<bool, Erro
     )
 }
 
-/// The parts as one text, in which neighbouring plain texts are joined if that is asked for.
+/// The parts as one text, in which neighbouring plain texts are joined if `joins` is set.
 fn text_of_parts(alloc: Global, parts: &[Part], joins: bool) -> Result<String, AllocError> {
     let mut text_of_parts = String::new(alloc);
     let mut is_after_plain = false;

@@ -9,7 +9,7 @@ use url::Url;
 use urlpattern::quirks::{self, StringOrInit, process_construct_pattern_input};
 use urlpattern::{Error, UrlPatternInit};
 
-/// What a constructor string comes to: its components, and the number of looks at a token.
+/// The answer to a constructor string: its components, and the number of looks at a token.
 type Counted = (UrlPatternInit, usize);
 
 /// Whether the components of a constructor string are the recorded ones, and the looks at a token as many.
@@ -24,7 +24,7 @@ pub fn is_same(case: &Case<'_>) -> Result<bool, Fault> {
     })
 }
 
-/// What a constructor string comes to under a base, or none.
+/// The answer to a constructor string under a base, or without one.
 fn constructor(alloc: Global, pattern: &str, base: Option<&str>) -> Result<Counted, Error> {
     let base = match base {
         Some(base) => Some(Url::parse(alloc, base).map_err(Error::Url)?),

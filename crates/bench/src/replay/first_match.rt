@@ -9,7 +9,7 @@ use urlpattern::quirks::process_match_input;
 use urlpattern::regexp::RegExp;
 use urlpattern::{Error, UrlPatternList, UrlPatternResult};
 
-/// What comes of an input: an index and its match, None where there is none.
+/// The first match of an input: an index and its match. `None`: there is none.
 type First = Option<(usize, UrlPatternResult)>;
 
 /// Whether the first matches of the inputs in a list over this engine are what was recorded.

@@ -63,7 +63,7 @@ fn has_same_results<R: RegExp>(
     })
 }
 
-/// The match of an input, None where there is none.
+/// The match of an input. `None`: there is none.
 fn matched<R: RegExp>(
     alloc: Global,
     pattern: &UrlPattern<R>,

@@ -83,7 +83,7 @@ pub fn is_same_match_input(case: &Case<'_>) -> Result<bool, Fault> {
     })
 }
 
-/// The texts of a match input, or None where there is none.
+/// The texts of a match input. `None`: there are none.
 fn match_input(
     alloc: Global,
     input: StringOrInit<'_>,

@@ -8,7 +8,7 @@ use std::alloc::{AllocError, Global};
 use std::collections::HashMap;
 use urlpattern_core::error::OutOfMemory;
 
-/// What groups capture, by their names. A group that took no part has None.
+/// What groups capture, by their names. A group that took no part has `None`.
 pub(crate) type Groups = HashMap<String, Option<String>>;
 
 /// What the groups with these names capture, which stand in the same order. Of equal names the last counts.

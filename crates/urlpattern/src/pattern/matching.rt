@@ -31,7 +31,7 @@ use urlpattern_plain::MatchInput;
 use urlpattern_syntax::eight::{ComponentName, Eight};
 
 impl<R: RegExp> UrlPattern<R> {
-    /// Whether the pattern matches an input. A URL's texts are its own; an init's are those that it comes to, with what it
+    /// Whether the pattern matches an input. A URL's texts are its own; an init's are those that it results in, with what it
     /// inherits. An input that `url` refuses is not matched.
     ///
     /// The error is that memory ran out. For the texts of a URL only an engine allocates.
@@ -50,8 +50,8 @@ impl<R: RegExp> UrlPattern<R> {
         }
     }
 
-    /// What the groups capture where the pattern matches an input, and None where it does not: of a URL its own texts are
-    /// matched, of an init those that it comes to, with what it inherits. An input that `url` refuses is not matched.
+    /// What the groups capture of an input. `None`: the pattern does not match it. Of a URL its own texts are
+    /// matched, of an init those that it results in, with what it inherits. An input that `url` refuses is not matched.
     ///
     /// The error is that memory ran out.
     ///
@@ -217,7 +217,7 @@ impl<R: RegExp> UrlPattern<R> {
         }
     }
 
-    /// What the components see in their texts, before an engine is asked. None if one of them does not match.
+    /// What the components see in their texts, before an engine is asked. `None`: one of them does not match.
     #[inline(always)]
     fn look<'a>(&'a self, texts: &Eight<&'a str>) -> Option<Eight<Look<'a, R>>>
         ensures some { IfSome result (AreLooks R.answer (pattern_view self.now) (borrowed_texts texts.now)) }
@@ -238,7 +238,7 @@ impl<R: RegExp> UrlPattern<R> {
         })
     }
 
-    /// What the groups capture of these texts. None if one of the texts is not matched.
+    /// What the groups capture of these texts. `None`: one of the texts is not matched.
     ///
     /// Only an engine allocates.
     pub(crate) fn captured<'a>(
@@ -258,7 +258,7 @@ impl<R: RegExp> UrlPattern<R> {
     }
 }
 
-/// What eight looks come to. None if an engine that is asked does not match.
+/// What eight looks capture. `None`: an engine that is asked does not match.
 fn captures_of_looks<'a, R: RegExp>(
     alloc: Global,
     looks: Eight<Look<'a, R>>,

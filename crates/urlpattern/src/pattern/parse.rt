@@ -74,7 +74,7 @@ fn compile_values<R: RegExp>(
     compiler.pattern()
 }
 
-/// The values that an init comes to as a pattern, where a default port is emptied.
+/// The values of an init as a pattern, where a default port is emptied.
 ///
 /// The error is that memory ran out.
 fn pattern_values(alloc: Global, init: &UrlPatternInit) -> Result<UrlPatternInit, Error>

@@ -31,7 +31,7 @@ pub type UrlPatternResult = Eight<UrlPatternComponentResult>;
 pub struct UrlPatternComponentResult {
     /// The component's text, which was matched.
     pub input: String,
-    /// What the groups capture, by their names. A group that took no part has None, and of equal names the last counts.
+    /// What the groups capture, by their names. A group that took no part has `None`, and of equal names the last counts.
     pub groups: HashMap<String, Option<String>>,
 }
 

@@ -56,7 +56,7 @@ fn init_of(alloc: Global, init: UrlPatternInit) -> Result<init::UrlPatternInit, 
     Ok(init::UrlPatternInit::from_eight(init.into_eight(), base_url))
 }
 
-/// What a pattern is matched against, and the input again with the text of the base URL beside it. None if `url` refuses
+/// What a pattern is matched against, and the input again with the text of the base URL beside it. `None`: `url` refuses
 /// the text or a base URL.
 ///
 /// The error is that a base URL is given beside an init, or that memory ran out.
@@ -79,7 +79,7 @@ pub fn process_match_input<'a>(
     }
 }
 
-/// The URL of a text, and the text again with that of its base URL. None if `url` refuses one of them.
+/// The URL of a text, and the text again with that of its base URL. `None`: `url` refuses one of them.
 ///
 /// The error is that memory ran out.
 fn match_text<'a>(
@@ -101,7 +101,7 @@ fn match_text<'a>(
     }
 }
 
-/// An init with its base URL, and the init again. None if `url` refuses the base URL.
+/// An init with its base URL, and the init again. `None`: `url` refuses the base URL.
 ///
 /// The error is that memory ran out.
 fn match_init<'a>(

@@ -9,7 +9,7 @@ use crate::error::OutOfMemory;
 use regex::Captures;
 use std::alloc::Global;
 
-/// What the groups from group 1 on span, with None for a group that took no part.
+/// What the groups from group 1 on span, with `None` for a group that took no part.
 ///
 /// The error is that memory ran out.
 pub(super) fn groups<'h>(

@@ -139,7 +139,7 @@ struct Processing<'a> {
 }
 
 impl Processing<'_> {
-    /// The values that the init comes to, with this one for the protocol.
+    /// The values that the init results in, with this one for the protocol.
     fn values(&self, protocol: Option<String>) -> Result<Eight<Option<String>>, Error>
         requires { value_in self.now None ComponentName.Protocol ≡ Ok (option_map text_of protocol) }
         ensures ok { IfOk result (λ values. values_in self.now ≡ Ok (values_of values)) }
@@ -153,7 +153,7 @@ impl Processing<'_> {
         Ok(values)
     }
 
-    /// The value that a component comes to, under the protocol that the init comes to. Of the protocol there is none.
+    /// The value of a component, under the protocol that the init results in. For the protocol itself there is none.
     fn value_after(
         &self,
         component: ComponentName,
@@ -167,7 +167,7 @@ impl Processing<'_> {
         }
     }
 
-    /// The value that a component comes to, under the protocol that the init comes to.
+    /// The value of a component, under the protocol that the init results in.
     fn value_under(
         &self,
         component: ComponentName,
@@ -182,7 +182,7 @@ impl Processing<'_> {
         }
     }
 
-    /// The value that a component comes to, under the protocol that the init comes to.
+    /// The value of a component, under the protocol that the init results in.
     fn value(
         &self,
         component: ComponentName,
@@ -197,7 +197,7 @@ impl Processing<'_> {
         }
     }
 
-    /// The value that a component comes to that the init lacks.
+    /// The value of a component that the init lacks.
     fn lacking(&self, component: ComponentName) -> Result<Option<String>, Error>
         ensures ok { IfOk result (λ value. option_map text_of value ≡ lacking_in self.now component) }
         ensures memory { IfErr result (λ error. error ≡ errors.OutOfMemory) }
@@ -269,7 +269,7 @@ impl Processing<'_> {
     }
 }
 
-/// What an init comes to, in either mode: an init of its values, without a base URL.
+/// What an init results in, in either mode: an init of its values, without a base URL.
 ///
 /// The error is the first refusal of `url`, or that memory ran out. A pattern meets no refusal.
 ///
@@ -286,7 +286,7 @@ pub fn process(
     Ok(UrlPatternInit::from_eight(values, None))
 }
 
-/// The values that an init comes to, in either mode.
+/// The values that an init results in, in either mode.
 ///
 /// The error is the first refusal of `url`, or that memory ran out. A pattern meets no refusal.
 ///
