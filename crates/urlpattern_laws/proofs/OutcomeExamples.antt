@@ -16,7 +16,7 @@ use Rattle.urlpattern_syntax.proofs.TokenExamples.{token}
 -- the pattern `a{}?b` asks about a text where each demand before it is met
 asks : (encoding : Encoding) (before : List Demand) (asked : List ℕ) (behind : List Demand) → demands (items_of apart_pieces) (Stops (token End 5 [])) ≡ before ++ Encode asked ∷ behind → AreMet encoding before → Asks (codes "a{}?b") default_options encoding asked
 asks encoding before asked behind split met =
-    record { tokens = _; pieces = apart_pieces; ending = Stops (token End 5 []); before = before; behind = behind; are_tokens = apart_tokens; are_pieces = pieces_of apart_cut; asks = split; are_met = met }
+    record { tokens = _; pieces = apart_pieces; ending = Stops (token End 5 []); before = before; later = behind; are_tokens = apart_tokens; are_pieces = pieces_of apart_cut; asks = split; are_met = met }
 
 -- it asks about `a` first
 asks_first : LacksAnswer (codes "a{}?b") default_options (listed [])
