@@ -6,4 +6,4 @@ mod command;
 mod first;
 mod matching;
 
-pub use command::{FAILED, Failure, fail, run};
+pub use command::{DONE, FAILED, Failure, NO_MATCH, fail, run};

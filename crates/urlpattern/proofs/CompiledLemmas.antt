@@ -186,7 +186,7 @@ or-second first second tested later e none is = is ∙ ap (λ test. test || seco
 pub are_compiled : {E : Type 0} (IsFrom : Compiles E) (answer : E → List ℕ → Option Captures) (asked : UrlPatternOptions) (values : Values) (hierarchical : Bool)
     (protocol : ComponentView E) (result : Result (UrlPattern E) Error)
     → (IsTrue hierarchical ↔ HasHierarchicalPath answer values protocol.matcher)
-    → IfOk result (λ pattern. component_view pattern.components.protocol ≡ protocol)
+    → IfOk result (λ pattern. component_view pattern.protocol ≡ protocol)
     → IfOk result (λ pattern. (component : Names) → IsComponentCompiled IsFrom asked values hierarchical component (pattern_view pattern component))
     → IfOk result (λ pattern. AreCompiled IsFrom answer asked values (pattern_view pattern))
 are_compiled IsFrom answer asked values hierarchical protocol (Err error) reports same compiled = tt

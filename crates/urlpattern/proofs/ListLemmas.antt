@@ -8,7 +8,7 @@ use Rattle.urlpattern_init.specs.declared.init.UrlPatternMatchInput.{UrlPatternM
 use Rattle.urlpattern_syntax.specs.declared.eight.ComponentName.{ComponentName}
 use Rattle.urlpattern_laws.specs.PartMeaning.{Captures}
 use Rattle.urlpattern.proofs.MatchLaws.{refused-unmatched}
-use Rattle.urlpattern.specs.FirstMatch.{IsFirstMatch, IsFirstMatchOf, OneAsksAnEngine, patterns_view}
+use Rattle.urlpattern.specs.FirstMatch.{IsFirstMatch, IsFirstMatchOf, AsksBeforeMatch, patterns_view}
 use Rattle.urlpattern.specs.Match.{AsksAnEngine, HasMatch, HasNoMatch, IsMatch, IsMatchOf, IsRefused, ResultView}
 use Rattle.urlpattern.specs.MatchInput.{IsNoInput, input_texts}
 use Rattle.urlpattern.specs.Patterns.{PatternView, pattern_view}
@@ -33,26 +33,28 @@ module _ {E : Type 0} (answer : E → List ℕ → Option Captures) (texts : Tex
       → All (λ pattern. IsRefused answer pattern texts) (patterns_view patterns)
   refused-views patterns refused = All-map (λ view. IsRefused answer view texts) (λ pattern. pattern_view pattern) patterns refused
 
+  -- what contracts see of the pattern at an index, and of those before it
+  there-view : (patterns : List (UrlPattern E)) (index : ℕ) (pattern : UrlPattern E) → slice_get patterns index ≡ Some pattern
+      → slice_get (patterns_view patterns) index ≡ Some (pattern_view pattern)
+  there-view patterns index pattern is_there = slice_get-map (λ pattern. pattern_view pattern) patterns index ∙ ap (option_map (λ pattern. pattern_view pattern)) is_there
+
+  earlier-views : (patterns : List (UrlPattern E)) (index : ℕ) → All (λ earlier. IsRefused answer (pattern_view earlier) texts) (take index patterns)
+      → All (λ pattern. IsRefused answer pattern texts) (take index (patterns_view patterns))
+  earlier-views patterns index refused =
+      subst (λ views. All (λ pattern. IsRefused answer pattern texts) views) (sym (take-map (λ pattern. pattern_view pattern) index patterns)) (refused-views (take index patterns) refused)
+
   -- the pattern at an index is the first where those before it were passed over
   pub first-views : (patterns : List (UrlPattern E)) (index : ℕ) (pattern : UrlPattern E) (match : ComponentName → ResultView) → slice_get patterns index ≡ Some pattern
       → All (λ earlier. IsRefused answer (pattern_view earlier) texts) (take index patterns)
       → IsMatchOf answer (pattern_view pattern) texts match
       → IsFirstMatchOf answer (patterns_view patterns) texts (Some (index, match))
-  first-views patterns index pattern match is_there refused is_match = (
-    (pattern_view pattern, slice_get-map (λ pattern. pattern_view pattern) patterns index ∙ ap (option_map (λ pattern. pattern_view pattern)) is_there, is_match),
-    subst (λ views. All (λ pattern. IsRefused answer pattern texts) views) (sym (take-map (λ pattern. pattern_view pattern) index patterns)) (refused-views (take index patterns) refused),
-  )
+  first-views patterns index pattern match is_there refused is_match = ((pattern_view pattern, there-view patterns index pattern is_there, is_match), earlier-views patterns index refused)
 
--- ---- when memory is asked for
-
--- one of the patterns asks an engine where the one at an index does
-pub one_asks-views : {E : Type 0} (texts : Texts) (patterns : List (UrlPattern E)) (index : ℕ) (pattern : UrlPattern E) → slice_get patterns index ≡ Some pattern →
-    AsksAnEngine (pattern_view pattern) texts → OneAsksAnEngine (patterns_view patterns) texts
-one_asks-views texts patterns index pattern is_there asks =
-    let views = patterns_view patterns in
-    let view = pattern_view pattern in
-    let there = slice_get-map (λ pattern. pattern_view pattern) patterns index ∙ ap (option_map (λ pattern. pattern_view pattern)) is_there in
-    (index, view, slice_get_within views index view there, get_or_from_slice_get views index view view there, asks)
+  -- the pattern at an index asks an engine where those before it were passed over
+  pub asks-views : (patterns : List (UrlPattern E)) (index : ℕ) (pattern : UrlPattern E) → slice_get patterns index ≡ Some pattern
+      → All (λ earlier. IsRefused answer (pattern_view earlier) texts) (take index patterns)
+      → AsksAnEngine answer (pattern_view pattern) texts → AsksBeforeMatch answer (patterns_view patterns) texts
+  asks-views patterns index pattern is_there refused asks = (index, pattern_view pattern, there-view patterns index pattern is_there, asks, earlier-views patterns index refused)
 
 -- ---- a first match and its result
 

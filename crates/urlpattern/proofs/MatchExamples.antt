@@ -1,5 +1,5 @@
 -- Worked examples of groups and matches.
-use Rattle.std.proofs.Common.{◌≡◌, ℕ, false, true, List, [], ◌∷◌, refl, sym, inr}
+use Rattle.std.proofs.Common.{◌≡◌, ℕ, false, true, List, [], ◌∷◌, refl, sym, inl, inr}
 use Rattle.std.proofs.lemmas.List.{append-nil}
 use Rattle.std.specs.Prelude.{codes, Option, Some, None, Ok, Err}
 use Rattle.url.specs.Parts.{Parts}
@@ -9,7 +9,7 @@ use Rattle.urlpattern_init.specs.Inheritance.{texts_of_url}
 use Rattle.urlpattern.specs.Match.{AsksAnEngine, HasMatch, HasNoMatch, IsMatchOf, group_of}
 use Rattle.urlpattern.specs.Patterns.{PatternView}
 use Rattle.urlpattern_core.specs.Compiling.{ComponentView}
-use Rattle.urlpattern_laws.specs.Matching.{InnerView, Literal, RegExp, SingleCapture}
+use Rattle.urlpattern_laws.specs.Matching.{AsksEngine, InnerView, Literal, RegExp, SingleCapture}
 use Rattle.urlpattern_laws.specs.PartMeaning.{Captures}
 use Rattle.urlpattern_laws.proofs.MatchingLaws.{middle_kept}
 use Rattle.urlpattern_syntax.specs.Errors.{ErrorView as views}
@@ -98,11 +98,11 @@ wildcards_but_path-url url other =
       ),
     )
 
--- ---- when memory is asked for
+-- ---- when memory is allocated
 
 -- no engine is asked by wildcards
-wildcards-ask_none : (texts : Texts) → ¬ AsksAnEngine wildcards texts
-wildcards-ask_none texts (component, (middle, cut, never)) = never
+wildcards-ask_none : (answer : ⊥ → List ℕ → Option Captures) (texts : Texts) → ¬ AsksAnEngine answer wildcards texts
+wildcards-ask_none answer texts asks = asks.asked.1.2
 
 -- a component with an engine between an empty prefix and an empty suffix
 abbrev engine_component : ComponentView (Unit {0})
@@ -114,6 +114,13 @@ engine_component = record {
   has_regexp_group = false;
 }
 
--- an engine that stands alone is asked about each text
-engine_alone-asked : (texts : Texts) → AsksAnEngine (λ component. engine_component) texts
-engine_alone-asked texts = (Pathname, (at texts Pathname, ([], [], sym (append-nil (at texts Pathname)), refl, refl), tt))
+-- an engine that stands alone asks about each text
+engine_alone-asks : (text : List ℕ) → AsksEngine engine_component.matcher text
+engine_alone-asks text = (text, ([], [], sym (append-nil text), refl, refl), tt)
+
+-- so a pattern of such components asks it
+engine_alone-asked : (answer : Unit {0} → List ℕ → Option Captures) (texts : Texts) → AsksAnEngine answer (λ component. engine_component) texts
+engine_alone-asked answer texts = record {
+  asked = (Pathname, engine_alone-asks (at texts Pathname));
+  others = λ component. inl (engine_alone-asks (at texts component));
+}

@@ -1,17 +1,21 @@
--- From what eight components answer to what a call tells.
-use Rattle.std.proofs.Common.{◌≡◌, ℕ, Bor, List, true, false, refl, sym, ◌∙◌, subst, inr}
+-- From what eight components answer to what a call returns.
+use Rattle.std.proofs.Common.{◌≡◌, ℕ, Bor, List, [], ◌∷◌, true, false, refl, sym, ◌∙◌, subst, inl, inr}
 use Rattle.std.specs.HashMap.{HashMap}
-use Rattle.std.specs.Prelude.{Bool, Option, Some, None, Result, Ok, Err, String, is_some, IfOk, IfNone, IfSome, MatchBool, MatchOption}
+use Rattle.std.specs.Prelude.{Bool, Option, Some, None, Result, Ok, Err, String, is_some, IfOk, IfNone, IfSome, MatchBool, MatchOption, ◌⊎◌}
 use Rattle.std.specs.Str.{chars}
 use Rattle.std.specs.declared.alloc.Global.{Global}
 use Rattle.urlpattern_syntax.specs.declared.eight.ComponentName.{ComponentName}
 use Rattle.urlpattern_init.specs.declared.init.UrlPatternMatchInput.{UrlPatternMatchInput}
 use Rattle.urlpattern_syntax.specs.declared.eight.Eight.{Eight}
 use Rattle.urlpattern_syntax.proofs.EightLemmas.{by_name}
-use Rattle.urlpattern.specs.Calls.{borrowed_texts, results_of}
-use Rattle.urlpattern.specs.Match.{AreMatched, HasMatch, HasNoMatch, IsMatch, IsMatchOf, IsRefused, IsSameResult, ResultView, group_in}
+use Rattle.urlpattern.specs.Calls.{AreLooks, AskWithCause, borrowed_texts, results_of}
+use Rattle.urlpattern.specs.Match.{AreMatched, AsksAnEngine, HasMatch, HasNoMatch, IsMatch, IsMatchOf, IsRefused, IsSameResult, ResultView, group_in}
 use Rattle.urlpattern.specs.MatchInput.{input_texts}
 use Rattle.urlpattern.specs.Patterns.{PatternView}
+use Rattle.urlpattern_core.specs.Looks.{IsAsking, look_answer}
+use Rattle.urlpattern_core.specs.declared.matcher.look.Look.{Look}
+use Rattle.urlpattern_core.specs.declared.matcher.look.Look.TheVariants as looks
+use Rattle.urlpattern_laws.specs.Matching.{Answers, AsksEngine, IsMatched, MatcherView}
 use Rattle.urlpattern_laws.specs.PartMeaning.{Captures}
 use Rattle.urlpattern_syntax.specs.declared.error.Error.{Error}
 use Rattle.urlpattern_syntax.specs.Eight.{Texts, at}
@@ -21,6 +25,21 @@ pub reports-some : {X : Type 0} (P : X → Type 0) (A B : Type 0) (found : Optio
     ((x : X) → P x → A) → IfSome found P → IfNone found B → MatchBool test A B
 reports-some P A B None test e f some none = subst (λ (b : Bool). MatchBool b A B) (sym e) none
 reports-some P A B (Some x) test e f some none = subst (λ (b : Bool). MatchBool b A B) (sym e) (f x some)
+
+-- a look that asks no engine has captures
+asks-or_matches : {E : Type 0} (answer : E → List ℕ → Option Captures) (matcher : MatcherView E) (text : List ℕ) (look : Look E) →
+    Answers answer matcher text (look_answer answer (Some look)) → (IsAsking look → AsksEngine matcher text) → AsksEngine matcher text ⊎ IsMatched answer matcher text
+asks-or_matches answer matcher text looks.Matched is asks = inr ([], is)
+asks-or_matches answer matcher text (looks.Captured middle) is asks = inr (Some (chars middle.now) ∷ [], is)
+asks-or_matches answer matcher text (looks.Asks engine middle) is asks = inl (asks tt)
+
+-- so an engine is asked where one of eight looks asks one
+pub asks-an_engine : {E : Type 0} (answer : E → List ℕ → Option Captures) (pattern : PatternView E) (texts : Texts) (looks : Eight (Look E)) →
+    AreLooks answer pattern texts looks → AskWithCause pattern texts looks → (name : ComponentName) × IsAsking (at looks name) → AsksAnEngine answer pattern texts
+asks-an_engine answer pattern texts looks are ask (name, asking) = record {
+  asked = (name, ask name asking);
+  others = λ other. asks-or_matches answer (pattern other).matcher (at texts other) (at looks other) (are other) (ask other);
+}
 
 -- a test of the input's texts tests the input
 pub test-of_texts : {E : Type 0} (answer : E → List ℕ → Option Captures) (pattern : PatternView E) (input : UrlPatternMatchInput) (texts : Texts) (result : Result Bool Error) →
@@ -38,7 +57,7 @@ found-of_texts answer pattern view input texts (Ok (Some match)) e matched = (te
 found-of_texts answer pattern view input texts (Ok None) e refused = inr (texts, e, refused)
 found-of_texts answer pattern view input texts (Err error) e h = tt
 
--- a result that tells the same as a match is one
+-- a result with the same texts and groups as a match is one
 pub match-same : {E : Type 0} (answer : E → List ℕ → Option Captures) (pattern : PatternView E) (texts : Texts) (match result : ComponentName → ResultView) →
     ((name : ComponentName) → IsSameResult (result name) (match name)) → IsMatchOf answer pattern texts match → IsMatchOf answer pattern texts result
 match-same answer pattern texts match result same is_match = record {

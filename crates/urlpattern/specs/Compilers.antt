@@ -14,8 +14,8 @@ use Rattle.urlpattern_syntax.specs.Options.{OptionsView}
 use Rattle.urlpattern_syntax.specs.Reading.{Encoding}
 
 -- the values are compiled to this pattern
-abbrev pub ComeTo : {E : Type 0} → Engine E → UrlPatternOptions → UrlPatternInit → PatternView E → Type 0
-ComeTo engine asked values = AreCompiled (IsCompiledBy engine) engine.answer asked (values_view values)
+abbrev pub AreCompiledTo : {E : Type 0} → Engine E → UrlPatternOptions → UrlPatternInit → PatternView E → Type 0
+AreCompiledTo engine asked values = AreCompiled (IsCompiledBy engine) engine.answer asked (values_view values)
 
 -- they are refused with this error
 abbrev pub AreRefused : {E : Type 0} → Engine E → UrlPatternOptions → UrlPatternInit → ErrorView → Type 0

@@ -1,5 +1,5 @@
 -- What the first match of a list of patterns is.
-use Rattle.std.specs.Prelude.{◌≡◌, ℕ, List, map, take, All, Any, Option, Some, None, option_map, slice_get}
+use Rattle.std.specs.Prelude.{◌≡◌, ℕ, List, map, take, All, Option, Some, None, option_map, slice_get}
 use Rattle.urlpattern_init.specs.declared.init.UrlPatternMatchInput.{UrlPatternMatchInput}
 use Rattle.urlpattern_syntax.specs.declared.eight.ComponentName.{ComponentName}
 use Rattle.urlpattern.specs.declared.pattern.UrlPattern.{UrlPattern}
@@ -39,6 +39,9 @@ IsFirstMatchOf {E} answer patterns texts (Some first) =
     × All (λ earlier. IsRefused answer earlier texts) (take first.0 patterns)
 IsFirstMatchOf answer patterns texts None = All (λ pattern. IsRefused answer pattern texts) patterns
 
--- one of the patterns asks an engine about eight texts
-abbrev pub OneAsksAnEngine : {E : Type 0} → List (PatternView E) → Texts → Type 0
-OneAsksAnEngine patterns texts = Any (λ pattern. AsksAnEngine pattern texts) patterns
+-- a pattern asks an engine about eight texts, and none before it matches them
+abbrev pub AsksBeforeMatch : {E : Type 0} → (answer : E → List ℕ → Option Captures) → List (PatternView E) → Texts → Type 0
+AsksBeforeMatch {E} answer patterns texts =
+    (index : ℕ) × (pattern : PatternView E) × (slice_get patterns index ≡ Some pattern)
+    × AsksAnEngine answer pattern texts
+    × All (λ earlier. IsRefused answer earlier texts) (take index patterns)

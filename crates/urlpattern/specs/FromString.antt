@@ -5,11 +5,11 @@ use Rattle.std.specs.Str.{chars}
 use Rattle.url.specs.Parser.{Parsed, and_then, parse_url}
 use Rattle.url.specs.Parts.{Parts}
 use Rattle.urlpattern_canonical.specs.Canonical.{Reports}
-use Rattle.urlpattern_core.specs.Compiling.{IsCompiledBy, MayRefuseAtFirst}
+use Rattle.urlpattern_core.specs.Compiling.{IsCompiledBy}
 use Rattle.urlpattern_core.specs.declared.regexp.RegExp.{Ghosts as Engine}
 use Rattle.urlpattern_init.specs.ConstructorString.{HasProtocolOrBase, RefusesString, SplitsInto}
 use Rattle.urlpattern_init.specs.Inheritance.{values_view}
-use Rattle.urlpattern_init.specs.SpecialProtocol.{IsSpecialBy}
+use Rattle.urlpattern_init.specs.SpecialProtocol.{IsSpecialTo}
 use Rattle.urlpattern_init.specs.declared.init.UrlPatternInit.{UrlPatternInit}
 use Rattle.urlpattern_plain.specs.declared.options.UrlPatternOptions.{UrlPatternOptions}
 use Rattle.urlpattern_laws.specs.PartMeaning.{Captures}
@@ -38,7 +38,7 @@ pub record IsInitOfText (IsSpecial : List ℕ → Bool → Type 0) (text : List 
 
 -- the same, where an engine decides which protocols are special; the text is its bytes
 abbrev pub IsInitOfTextBy : {E : Type 0} → Engine E → (text : List ℕ) → (base : Option (List ℕ)) → UrlPatternInit → Type 0
-IsInitOfTextBy engine text = IsInitOfText (IsSpecialBy engine.IsMade (MayRefuseAtFirst engine.MayRefuse) engine.answer) (chars text)
+IsInitOfTextBy engine text = IsInitOfText (IsSpecialTo engine) (chars text)
 
 -- a constructor string is refused with this error, that of its base URL or its own
 abbrev pub RefusesText : (text : List ℕ) → (base : Option (List ℕ)) → ErrorView → Type 0
@@ -63,10 +63,8 @@ RefusesPatternOfText IsFrom IsSpecial answer text base asked error =
 -- the same, where an engine compiles and decides which protocols are special; the text is its bytes
 abbrev pub IsPatternOfTextBy : {E : Type 0} → Engine E → (text : List ℕ) → (base : Option (List ℕ)) → UrlPatternOptions → UrlPattern E → Type 0
 IsPatternOfTextBy engine text base asked pattern =
-    IsPatternOfText (IsCompiledBy engine) (IsSpecialBy engine.IsMade (MayRefuseAtFirst engine.MayRefuse) engine.answer)
-    engine.answer (chars text) base asked (pattern_view pattern)
+    IsPatternOfText (IsCompiledBy engine) (IsSpecialTo engine) engine.answer (chars text) base asked (pattern_view pattern)
 
 abbrev pub RefusesPatternOfTextBy : {E : Type 0} → Engine E → (text : List ℕ) → (base : Option (List ℕ)) → UrlPatternOptions → ErrorView → Type 0
 RefusesPatternOfTextBy engine text =
-    RefusesPatternOfText (IsCompiledBy engine) (IsSpecialBy engine.IsMade (MayRefuseAtFirst engine.MayRefuse) engine.answer)
-    engine.answer (chars text)
+    RefusesPatternOfText (IsCompiledBy engine) (IsSpecialTo engine) engine.answer (chars text)

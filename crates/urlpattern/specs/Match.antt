@@ -108,9 +108,11 @@ FindsInTexts view answer pattern texts found =
 
 -- ---- when memory is allocated
 
--- an engine is asked: between prefix and suffix of a component's text
-abbrev pub AsksAnEngine : {E : Type 0} → PatternView E → Texts → Type 0
-AsksAnEngine pattern texts = (component : ComponentName) × AsksEngine (pattern component).matcher (at texts component)
+-- An engine is asked about the text of a component, and each component that asks none matches its text.
+pub record AsksAnEngine {E : Type 0} (answer : E → List ℕ → Option Captures) (pattern : PatternView E) (texts : Texts) : Type 0 where
+  pub asked : (component : ComponentName) × AsksEngine (pattern component).matcher (at texts component)
+  pub others :
+      (component : ComponentName) → AsksEngine (pattern component).matcher (at texts component) ⊎ IsMatched answer (pattern component).matcher (at texts component)
 
 -- ---- words of laws
 

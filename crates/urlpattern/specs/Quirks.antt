@@ -1,13 +1,12 @@
 -- What browsers are answered.
 use Rattle.std.specs.Prelude.{◌≡◌, ℕ, List, Result, IfErr, IfOk}
-use Rattle.std.specs.List.{list_any}
-use Rattle.urlpattern.specs.Patterns.{PatternView}
+use Rattle.urlpattern.specs.Patterns.{PatternView, has_regexp_groups}
 use Rattle.urlpattern_core.specs.Compiling.{component_view}
 use Rattle.urlpattern_core.specs.declared.component.Component.{Component}
 use Rattle.urlpattern_plain.specs.Plain.{plain_component}
 use Rattle.urlpattern_plain.specs.Values as plain
 use Rattle.urlpattern_plain.specs.declared.pattern.UrlPatternComponent.{UrlPatternComponent}
-use Rattle.urlpattern_syntax.specs.Eight.{components, each}
+use Rattle.urlpattern_syntax.specs.Eight.{each}
 use Rattle.urlpattern_syntax.specs.Text.{text_of}
 use Rattle.urlpattern_syntax.specs.declared.error.Error.{Error}
 use Rattle.urlpattern_syntax.specs.declared.error.Error.TheVariants as errors
@@ -21,5 +20,5 @@ pub record IsPlainOf {E : Type 0} (text_made_of : E → List ℕ) (component : C
 abbrev pub plain_pattern : {E : Type 0} → (text_made_of : E → List ℕ) → PatternView E → plain.PatternView
 plain_pattern text_made_of pattern = record {
   components = each (λ name. plain_component text_made_of (pattern name));
-  has_regexp_groups = list_any (λ component. (pattern component).has_regexp_group) components;
+  has_regexp_groups = has_regexp_groups pattern;
 }

@@ -8,7 +8,7 @@ ghost use Rattle.std.specs.Prelude.{◌≡◌, ◌↔◌, ℕ, Bool, List, Ok, O
 ghost use Rattle.urlpattern_syntax.specs.declared.eight.ComponentName.{ComponentName};
 ghost use Rattle.urlpattern_init.specs.declared.init.UrlPatternMatchInput.{UrlPatternMatchInput};
 ghost use Rattle.regex.specs.declared.string.regex.Regex.{Regex};
-ghost use Rattle.urlpattern_core.specs.Compiling.{IsCompiledFrom};
+ghost use Rattle.urlpattern_core.specs.Compiling.{IsCompiledBy};
 ghost use Rattle.urlpattern_core.specs.Engines.{regex_answer};
 ghost use Rattle.urlpattern_plain.specs.declared.options.UrlPatternOptions.{UrlPatternOptions};
 ghost use Rattle.urlpattern.specs.Compiled.{AreCompiled};
@@ -48,7 +48,7 @@ pub use urlpattern_plain::laws::reading_undoes_writing;
 pub fn groups_mean_the_parts<R: RegExp>()
     ensures { (asked : UrlPatternOptions) (values : Values) (pattern : PatternView R) (input : UrlPatternMatchInput) (texts : Texts)
         (found : Option (ComponentName → ResultView)) →
-        (compiled : AreCompiled (IsCompiledFrom R.IsMade R.MayRefuse R.syntax_of) R.answer asked values pattern) →
+        (compiled : AreCompiled (IsCompiledBy R.RegExp) R.answer asked values pattern) →
         input_texts input ≡ Ok texts → ¬ IsLongInput input →
         IsExecuted R.answer pattern input found → IsFoundByMeaning R.answer asked values compiled.hierarchical pattern texts found }
 {}

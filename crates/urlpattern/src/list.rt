@@ -9,7 +9,7 @@ ghost use Rattle.std.specs.Slice.Iter.{iter_rest};
 ghost use Rattle.urlpattern_init.specs.Inheritance.{texts_of_url};
 ghost use Rattle.urlpattern_init.specs.declared.init.UrlPatternMatchInput.TheVariants as inputs;
 ghost use Rattle.urlpattern.specs.Calls.{borrowed_texts, first_groups_view};
-ghost use Rattle.urlpattern.specs.FirstMatch.{first_captures_view, first_view, patterns_view, IsFirstMatch, IsFirstMatchOf, OneAsksAnEngine};
+ghost use Rattle.urlpattern.specs.FirstMatch.{first_captures_view, first_view, patterns_view, IsFirstMatch, IsFirstMatchOf, AsksBeforeMatch};
 ghost use Rattle.urlpattern.specs.MatchInput.{texts_view};
 ghost use Rattle.urlpattern.specs.declared.pattern.UrlPattern.{UrlPattern};
 ghost use Rattle.urlpattern_syntax.specs.declared.error.Error.TheVariants as errors;
@@ -147,7 +147,7 @@ impl<R: RegExp> UrlPatternList<R> {
     ) -> Result<Option<(usize, UrlPatternCaptures<'a>)>, Error>
         ensures first { IfOk result (λ found. IsFirstMatch R.answer (patterns_view self.now) (inputs.Url url.now) (first_captures_view found)) }
         ensures memory { IfErr result (λ error. error ≡ errors.OutOfMemory) }
-        ensures asked { IfErr result (λ _. OneAsksAnEngine (patterns_view self.now) (texts_of_url url.now)) }
+        ensures asked { IfErr result (λ _. AsksBeforeMatch R.answer (patterns_view self.now) (texts_of_url url.now)) }
     {
         Ok(self.first(alloc, url_texts(url))?)
     }
@@ -163,7 +163,7 @@ impl<R: RegExp> UrlPatternList<R> {
     ) -> Result<Option<(usize, UrlPatternCaptures<'a>)>, Error>
         ensures first { IfOk result (λ found. IsFirstMatchOf R.answer (patterns_view self.now) (texts_view input.now) (first_captures_view found)) }
         ensures memory { IfErr result (λ error. error ≡ errors.OutOfMemory) }
-        ensures asked { IfErr result (λ _. OneAsksAnEngine (patterns_view self.now) (texts_view input.now)) }
+        ensures asked { IfErr result (λ _. AsksBeforeMatch R.answer (patterns_view self.now) (texts_view input.now)) }
     {
         Ok(self.first(alloc, input_texts(input))?)
     }
@@ -237,7 +237,7 @@ impl<R: RegExp> UrlPatternList<R> {
     ) -> Result<Option<(usize, UrlPatternCaptures<'a>)>, OutOfMemory>
         ensures first { IfOk result (λ found.
             IsFirstMatchOf R.answer (patterns_view self.now) (borrowed_texts texts.entry) (first_captures_view found)) }
-        ensures asked { IfErr result (λ _. OneAsksAnEngine (patterns_view self.now) (borrowed_texts texts.entry)) }
+        ensures asked { IfErr result (λ _. AsksBeforeMatch R.answer (patterns_view self.now) (borrowed_texts texts.entry)) }
     {
         let candidates = self.index.candidates(Address {
             protocol: texts.protocol,

@@ -91,12 +91,12 @@ refused-protocol mode values base reason refused =
 abbrev pub HasValue : {A : Type 0} → (ComponentName → Parsed A) → ComponentName → Type 0
 HasValue {A} answers name = (value : A) × (answers name ≡ Ok value)
 
-refusal-behind : {A : Type 0} (answers : ComponentName → Parsed A) (reason : ParseError) (name : ComponentName) (before after : List ComponentName)
+refusal-after : {A : Type 0} (answers : ComponentName → Parsed A) (reason : ParseError) (name : ComponentName) (before after : List ComponentName)
     → All (HasValue answers) before → answers name ≡ Err reason → first_refusal answers (before ++ name ∷ after) ≡ Some reason
-refusal-behind answers reason name [] after values refused = ap (λ answer. refusal_or answer (first_refusal answers after)) refused
-refusal-behind answers reason name (earlier ∷ before) after values refused =
+refusal-after answers reason name [] after values refused = ap (λ answer. refusal_or answer (first_refusal answers after)) refused
+refusal-after answers reason name (earlier ∷ before) after values refused =
     ap (λ answer. refusal_or answer (first_refusal answers (before ++ name ∷ after))) (All-head (HasValue answers) earlier before values).1
-    ∙ refusal-behind answers reason name before after (All-tail (HasValue answers) earlier before values) refused
+    ∙ refusal-after answers reason name before after (All-tail (HasValue answers) earlier before values) refused
 
 no-refusal : {A : Type 0} (answers : ComponentName → Parsed A) (names : List ComponentName) → ((name : ComponentName) → HasValue answers name)
     → first_refusal answers names ≡ None
@@ -105,17 +105,17 @@ no-refusal answers (name ∷ others) values =
     ap (λ answer. refusal_or answer (first_refusal answers others)) (values name).1 ∙ no-refusal answers others values
 
 -- the component is refused, and those before it are not
-pub refused-behind : (mode : ProcessType) (values : Values) (base : Option Parts) (protocol : Option (List ℕ)) (reason : ParseError)
+pub refused-after : (mode : ProcessType) (values : Values) (base : Option Parts) (protocol : Option (List ℕ)) (reason : ParseError)
     (name : ComponentName) (before after : List ComponentName) → components ≡ before ++ name ∷ after
     → processed_value mode values base None Protocol ≡ Ok protocol
     → All (HasValue (processed_value mode values base protocol)) before
     → processed_value mode values base protocol name ≡ Err reason → processed_values mode values base ≡ Err reason
 unfolding processed_values
-refused-behind mode values base protocol reason name before after split e earlier refused =
+refused-after mode values base protocol reason name before after split e earlier refused =
     let answers = processed_value mode values base protocol in
     bind-ok _ _ _ e
     ∙ ap (λ refusal. unless_refused refusal (each (λ other. value_or_none (answers other))))
-    (ap (first_refusal answers) split ∙ refusal-behind answers reason name before after earlier refused)
+    (ap (first_refusal answers) split ∙ refusal-after answers reason name before after earlier refused)
 
 protocol-given : (mode : ProcessType) (values : Values) (base : Option Parts) (protocol given : Option (List ℕ))
     → value_given mode values base protocol Protocol given ≡ value_given mode values base None Protocol given

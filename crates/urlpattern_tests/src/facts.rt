@@ -70,7 +70,7 @@ fn component_named(name: &str) -> ComponentName {
 
 /// A component of a pattern.
 fn component<'a, R: RegExp>(pattern: &'a UrlPattern<R>, name: &str) -> &'a Component<R> {
-    pattern.components.get(component_named(name))
+    pattern.get(component_named(name))
 }
 
 /// The text of a component's regular expression.

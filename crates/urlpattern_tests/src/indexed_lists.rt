@@ -126,10 +126,10 @@ fn a_component_put_together_by_hand_is_found(rt: HostRuntime) -> Result<(), Fail
     let alloc = rt.alloc();
     let mut list = <UrlPatternList>::new(alloc);
     let mut pattern = pattern_of(alloc, &[("pathname", "/a/:x")], false)?;
-    pattern.components.pathname.matcher.ignore_case = true;
+    pattern.pathname.matcher.ignore_case = true;
     add(&mut list, pattern)?;
     let mut pattern = pattern_of(alloc, &[("hostname", "example.com")], false)?;
-    pattern.components.hostname.matcher.suffix.push_str(".org")?;
+    pattern.hostname.matcher.suffix.push_str(".org")?;
     add(&mut list, pattern)?;
     assert_eq!(rt;
         first_index(alloc, &list, "https://example.com/A/b")?,

@@ -45,7 +45,7 @@ fn by_hand<R: RegExp>(
 fn with_pathname<R: RegExp>(alloc: Global, pathname: Component<R>) -> Result<UrlPattern<R>, Error> {
     let init = UrlPatternInit::default();
     let mut pattern = UrlPattern::parse(alloc, init, UrlPatternOptions::default())?;
-    pattern.components.pathname = pathname;
+    pattern.pathname = pathname;
     Ok(pattern)
 }
 

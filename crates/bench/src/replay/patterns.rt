@@ -44,7 +44,7 @@ fn has_same_texts<R: RegExp>(pattern: &UrlPattern<R>, recorded: &Value) -> bool 
 
 /// The pattern text of a component, as it is written anew.
 fn text_of<R: RegExp>(pattern: &UrlPattern<R>, name: ComponentName) -> &str {
-    &pattern.components.get(name).pattern_string
+    &pattern.get(name).pattern_string
 }
 
 /// Whether what comes of each input of a question is the recorded result.

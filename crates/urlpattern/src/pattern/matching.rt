@@ -9,7 +9,7 @@ ghost use Rattle.urlpattern.specs.Captures.{captures_view};
 ghost use Rattle.urlpattern.specs.Match.{AreAnswers, AsksAnEngine, FindsInInput, FindsInTexts, IsRefused, TestsInput, TestsTexts, result_view};
 ghost use Rattle.urlpattern.specs.MatchInput.{texts_view};
 ghost use Rattle.urlpattern.specs.Calls.{AreCaptured, AreLooks, AskWithCause, HasCaptures, all_captures, borrowed_texts, results_of};
-ghost use Rattle.urlpattern.specs.Patterns.{pattern_view};
+ghost use Rattle.urlpattern.specs.Patterns.{components_of, pattern_view};
 ghost use Rattle.urlpattern_syntax.specs.declared.eight.ComponentName.{ComponentName as Name};
 ghost use Rattle.urlpattern_syntax.specs.declared.error.Error.TheVariants as errors;
 ghost use Rattle.urlpattern_syntax.specs.Eight.{at};
@@ -79,7 +79,7 @@ impl<R: RegExp> UrlPattern<R> {
     pub fn test_url(&self, alloc: Global, url: &Url) -> Result<bool, Error>
         ensures matched { IfOk result (TestsInput R.answer (pattern_view self.now) (inputs.Url url.now)) }
         ensures memory { IfErr result (λ error. error ≡ errors.OutOfMemory) }
-        ensures asked { IfErr result (λ _. AsksAnEngine (pattern_view self.now) (texts_of_url url.now)) }
+        ensures asked { IfErr result (λ _. AsksAnEngine R.answer (pattern_view self.now) (texts_of_url url.now)) }
     {
         Ok(self.is_matched(alloc, url_texts(url))?)
     }
@@ -115,7 +115,7 @@ impl<R: RegExp> UrlPattern<R> {
     ) -> Result<Option<UrlPatternCaptures<'a>>, Error>
         ensures matched { IfOk result (FindsInInput captures_view R.answer (pattern_view self.now) (inputs.Url url.now)) }
         ensures memory { IfErr result (λ error. error ≡ errors.OutOfMemory) }
-        ensures asked { IfErr result (λ _. AsksAnEngine (pattern_view self.now) (texts_of_url url.now)) }
+        ensures asked { IfErr result (λ _. AsksAnEngine R.answer (pattern_view self.now) (texts_of_url url.now)) }
     {
         Ok(self.captures_of_texts(alloc, url_texts(url))?)
     }
@@ -133,7 +133,7 @@ impl<R: RegExp> UrlPattern<R> {
     ) -> Result<Option<UrlPatternCaptures<'a>>, Error>
         ensures matched { IfOk result (FindsInTexts captures_view R.answer (pattern_view self.now) (texts_view input.now)) }
         ensures memory { IfErr result (λ error. error ≡ errors.OutOfMemory) }
-        ensures asked { IfErr result (λ _. AsksAnEngine (pattern_view self.now) (texts_view input.now)) }
+        ensures asked { IfErr result (λ _. AsksAnEngine R.answer (pattern_view self.now) (texts_view input.now)) }
     {
         Ok(self.captures_of_texts(alloc, input_texts(input))?)
     }
@@ -177,7 +177,7 @@ impl<R: RegExp> UrlPattern<R> {
     /// Whether these texts are matched.
     fn is_matched(&self, alloc: Global, texts: Eight<&str>) -> Result<bool, OutOfMemory>
         ensures matched { IfOk result (TestsTexts R.answer (pattern_view self.now) (borrowed_texts texts.entry)) }
-        ensures asked { IfErr result (λ _. AsksAnEngine (pattern_view self.now) (borrowed_texts texts.entry)) }
+        ensures asked { IfErr result (λ _. AsksAnEngine R.answer (pattern_view self.now) (borrowed_texts texts.entry)) }
     {
         Ok(self.captured(alloc, &texts)?.is_some())
     }
@@ -191,7 +191,7 @@ impl<R: RegExp> UrlPattern<R> {
         texts: Eight<&'a str>,
     ) -> Result<Option<UrlPatternCaptures<'a>>, OutOfMemory>
         ensures matched { IfOk result (FindsInTexts captures_view R.answer (pattern_view self.now) (borrowed_texts texts.entry)) }
-        ensures asked { IfErr result (λ _. AsksAnEngine (pattern_view self.now) (borrowed_texts texts.entry)) }
+        ensures asked { IfErr result (λ _. AsksAnEngine R.answer (pattern_view self.now) (borrowed_texts texts.entry)) }
     {
         match self.captured(alloc, &texts)? {
             Some(captures) => Ok(Some(self.with_captures(texts, captures))),
@@ -208,8 +208,8 @@ impl<R: RegExp> UrlPattern<R> {
         ensures { HasCaptures (pattern_view self.now) (borrowed_texts texts.entry) captures.entry (captures_view result) }
     {
         let names = |name: ComponentName| -> &Vec<String>
-            ensures { result.now ≡ (at self.entry.now.components name).group_name_list }
-        { &self.components.get(name).group_name_list };
+            ensures { result.now ≡ (at (components_of self.entry.now) name).group_name_list }
+        { &self.get(name).group_name_list };
         UrlPatternCaptures {
             names: Eight::from_fn(names),
             texts,
@@ -224,17 +224,16 @@ impl<R: RegExp> UrlPattern<R> {
         ensures none { IfNone result (IsRefused R.answer (pattern_view self.now) (borrowed_texts texts.now)) }
         ensures asked { IfSome result (AskWithCause (pattern_view self.now) (borrowed_texts texts.now)) }
     {
-        let components = &self.components;
         // The path refuses most, so it is the first.
         Some(Eight {
-            pathname: components.pathname.matcher.look(texts.pathname)?,
-            hostname: components.hostname.matcher.look(texts.hostname)?,
-            protocol: components.protocol.matcher.look(texts.protocol)?,
-            port: components.port.matcher.look(texts.port)?,
-            search: components.search.matcher.look(texts.search)?,
-            hash: components.hash.matcher.look(texts.hash)?,
-            username: components.username.matcher.look(texts.username)?,
-            password: components.password.matcher.look(texts.password)?,
+            pathname: self.pathname.matcher.look(texts.pathname)?,
+            hostname: self.hostname.matcher.look(texts.hostname)?,
+            protocol: self.protocol.matcher.look(texts.protocol)?,
+            port: self.port.matcher.look(texts.port)?,
+            search: self.search.matcher.look(texts.search)?,
+            hash: self.hash.matcher.look(texts.hash)?,
+            username: self.username.matcher.look(texts.username)?,
+            password: self.password.matcher.look(texts.password)?,
         })
     }
 
@@ -249,7 +248,7 @@ impl<R: RegExp> UrlPattern<R> {
         ensures refused { IfOk result (λ found. IfNone found (IsRefused R.answer (pattern_view self.now) (borrowed_texts texts.now))) }
         ensures answers { IfOk result (λ found. IfSome found (λ captures.
             AreAnswers R.answer (pattern_view self.now) (borrowed_texts texts.now) (all_captures captures))) }
-        ensures asked { IfErr result (λ _. AsksAnEngine (pattern_view self.now) (borrowed_texts texts.now)) }
+        ensures asked { IfErr result (λ _. AsksAnEngine R.answer (pattern_view self.now) (borrowed_texts texts.now)) }
     {
         let Some(looks) = self.look(texts) else {
             return Ok(None);

@@ -6,7 +6,7 @@ ghost use Rattle.urlpattern_canonical.specs.Canonical.{IsAnswer};
 ghost use Rattle.urlpattern_core.specs.Compiling.{IsCompiledBy, component_view, pattern_text};
 ghost use Rattle.urlpattern_init.specs.Inheritance.{values_view};
 ghost use Rattle.urlpattern.specs.Compiled.{HasEngine, HasHierarchicalPath, IsPatternOfInit, RefusesInit, after_protocol, canonical_in_hostname, has_default_port, is_ipv6_pattern, is_mark, is_same, pattern_of, pattern_values, without_default_port};
-ghost use Rattle.urlpattern.specs.Compilers.{AreRefused, ComeTo, CompilesComponent, RefusesComponent, RefusesFirstOf, RefusesFrom, component_manner};
+ghost use Rattle.urlpattern.specs.Compilers.{AreRefused, AreCompiledTo, CompilesComponent, RefusesComponent, RefusesFirstOf, RefusesFrom, component_manner};
 ghost use Rattle.urlpattern.specs.Patterns.{pattern_view};
 ghost use Rattle.urlpattern_syntax.specs.declared.eight.ComponentName.{ComponentName};
 ghost use Rattle.urlpattern_syntax.specs.declared.error.Error.TheVariants as errors;
@@ -26,7 +26,7 @@ use urlpattern_core::regexp::RegExp;
 use urlpattern_core::{Error, component};
 use urlpattern_init::{UrlPatternInit, accepts_special_scheme, process};
 use urlpattern_plain::UrlPatternOptions;
-use urlpattern_syntax::eight::{ComponentName, Eight};
+use urlpattern_syntax::eight::ComponentName;
 
 impl<R: RegExp> UrlPattern<R> {
     /// Compiles a pattern from an init: from its own texts, and from what they inherit from its base URL.
@@ -61,7 +61,7 @@ fn compile_values<R: RegExp>(
     values: &UrlPatternInit,
     options: &UrlPatternOptions,
 ) -> Result<UrlPattern<R>, Error>
-    ensures compiled { IfOk result (λ pattern. ComeTo R.RegExp options.now values.now (pattern_view pattern)) }
+    ensures compiled { IfOk result (λ pattern. AreCompiledTo R.RegExp options.now values.now (pattern_view pattern)) }
     ensures refused { IfErr result (MemoryOr (AreRefused R.RegExp options.now values.now)) }
 {
     let canonicalizer = Canonicalizer::shared(alloc)?;
@@ -184,7 +184,7 @@ impl Compiler<'_> {
     ///
     /// The error is that of the first component that is refused, or that memory ran out.
     fn pattern<R: RegExp>(&self) -> Result<UrlPattern<R>, Error>
-        ensures compiled { IfOk result (λ pattern. ComeTo R.RegExp self.now.options.now self.now.values.now (pattern_view pattern)) }
+        ensures compiled { IfOk result (λ pattern. AreCompiledTo R.RegExp self.now.options.now self.now.values.now (pattern_view pattern)) }
         ensures refused { IfErr result (MemoryOr (AreRefused R.RegExp self.now.options.now self.now.values.now)) }
     {
         let protocol = self.component(ComponentName::Protocol, false)?;
@@ -201,11 +201,11 @@ impl Compiler<'_> {
         hierarchical: bool,
     ) -> Result<UrlPattern<R>, Error>
         requires { CompilesComponent R.RegExp self.now hierarchical ComponentName.Protocol (component_view protocol) }
-        ensures protocol { IfOk result (λ pattern. component_view pattern.components.protocol ≡ component_view protocol) }
+        ensures protocol { IfOk result (λ pattern. component_view pattern.protocol ≡ component_view protocol) }
         ensures compiled { IfOk result (λ pattern. (component : ComponentName) → CompilesComponent R.RegExp self.now hierarchical component (pattern_view pattern component)) }
         ensures refused { IfErr result (MemoryOr (RefusesFirstOf R.RegExp self.now hierarchical after_protocol)) }
     {
-        let components = Eight {
+        Ok(UrlPattern {
             protocol,
             hostname: self.component(ComponentName::Hostname, hierarchical)?,
             pathname: self.component(ComponentName::Pathname, hierarchical)?,
@@ -214,8 +214,7 @@ impl Compiler<'_> {
             port: self.component(ComponentName::Port, hierarchical)?,
             search: self.component(ComponentName::Search, hierarchical)?,
             hash: self.component(ComponentName::Hash, hierarchical)?,
-        };
-        Ok(UrlPattern { components })
+        })
     }
 
     /// The component of the pattern.

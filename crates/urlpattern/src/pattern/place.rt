@@ -15,9 +15,9 @@ impl<R: RegExp> UrlPattern<R> {
         ensures { AreFixed (pattern_view self.now) (fixed_texts result) }
     {
         Place {
-            protocol: fixed_text(&self.components.protocol.matcher),
-            hostname: fixed_text(&self.components.hostname.matcher),
-            pathname: fixed_path(&self.components.pathname.matcher),
+            protocol: fixed_text(&self.protocol.matcher),
+            hostname: fixed_text(&self.hostname.matcher),
+            pathname: fixed_path(&self.pathname.matcher),
         }
     }
 }

@@ -59,6 +59,6 @@ fn plain_pattern<R: RegExp>(
     let plain = |component: Component<R>| -> Result<UrlPatternComponent, Error>
         ensures { IsPlainOf R.text_made_of component result }
     { UrlPatternComponent::from_component(alloc, component) };
-    let components = pattern.components.try_map(plain)?;
+    let components = pattern.into_eight().try_map(plain)?;
     Ok(UrlPattern::from_eight(components, has_regexp_groups))
 }

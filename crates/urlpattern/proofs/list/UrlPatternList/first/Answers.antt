@@ -4,11 +4,11 @@ use Rattle.std.proofs.lemmas.Option.{slice_get_read}
 use Rattle.std.specs.Prelude.{All, Contains, Some}
 use Rattle.urlpattern_index.specs.Keys.{address_keys}
 use Rattle.urlpattern.proofs.Results.{if_err}
-use Rattle.urlpattern.proofs.ListLemmas.{first-views, one_asks-views, refused-views}
+use Rattle.urlpattern.proofs.ListLemmas.{asks-views, first-views, refused-views}
 use Rattle.urlpattern.proofs.PlaceLemmas.{candidate_within, passed_over}
 use Rattle.urlpattern.specs.Captures.{captures_view}
 use Rattle.urlpattern.specs.Calls.{borrowed_texts, captures_of}
-use Rattle.urlpattern.specs.FirstMatch.{IsFirstMatchOf, OneAsksAnEngine, patterns_view}
+use Rattle.urlpattern.specs.FirstMatch.{AsksBeforeMatch, IsFirstMatchOf, patterns_view}
 use Rattle.urlpattern.specs.Match.{IsMatchOf, IsRefused}
 use Rattle.urlpattern.specs.Patterns.{pattern_view}
 use Rattle.urlpattern.specs.Places.{address_of}
@@ -84,17 +84,22 @@ returns-in-Some-2-clause-first g c =
 
 pub returns-in_err-captures-clause-asked : goal.returns-in_err-captures-clause-asked
 returns-in_err-captures-clause-asked g c =
+    let answer = g.R.RegExp.answer in
     let texts = borrowed_texts c.args.texts in
     let items = c.self.inside.patterns.items in
     let index = c.in-Some.index in
     let pattern = c.index-pattern.result.now in
+    let least = c.in-Some.ensures in
     let within : index < length items =
     candidate_within items c.self.inside.index (Contains (address_keys (address_of texts))) index c.self.invariant
-    (c.candidates-candidates.ensures.listed index c.in-Some.ensures.0.1) in
+    (c.candidates-candidates.ensures.listed index least.0.1) in
     let is_there = slice_get_read items (length items) index pattern refl within c.index-pattern.ensures in
+    let before =
+    passed_over answer texts items c.self.inside.index c.candidates-candidates.result c.self.invariant c.candidates-candidates.ensures.found c.loop-index.from index c.loop-index.invariant.refused
+    (λ number le lt among. let other : index ≤ number = least.1 number (le, among) in absurd (omega arith)) in
     if_err _ c.from_residual.result
-    (subst (λ (patterns : List (UrlPattern g.row.R.Denot)). OneAsksAnEngine (patterns_view patterns) texts) c.self.view_is
-    (one_asks-views texts items index pattern is_there c.in_err-captures.ensures.asked))
+    (subst (λ (patterns : List (UrlPattern g.row.R.Denot)). AsksBeforeMatch answer (patterns_view patterns) texts) c.self.view_is
+    (asks-views answer texts items index pattern is_there before c.in_err-captures.ensures.asked))
 
 pub returns-clause-first : goal.returns-clause-first
 returns-clause-first g c =

@@ -1,9 +1,10 @@
 use Rattle.std.proofs.Common.{subst}
 use Rattle.std.proofs.lemmas.Option.{IfSome_then}
-use Rattle.std.proofs.lemmas.Result.{IfOk-weaker}
+use Rattle.std.proofs.lemmas.Result.{IfErr-weaker, IfOk-weaker}
 use Rattle.std.specs.Prelude.{Option}
 use Rattle.urlpattern_laws.specs.Matching.{Answers}
 use Rattle.urlpattern_laws.specs.PartMeaning.{Captures}
+use Rattle.urlpattern.proofs.MatchSteps.{asks-an_engine}
 use Rattle.urlpattern.specs.Calls.{borrowed_texts}
 use Rattle.urlpattern.specs.Patterns.{pattern_view}
 use Rattle.urlpattern.proofs.pattern.UrlPattern.captured.Goals as goal
@@ -15,3 +16,9 @@ returns-clause-answers g c =
     subst
     (λ (found : Option Captures). Answers g.R.RegExp.answer (pattern_view c.args.self.now name).matcher (at (borrowed_texts c.args.texts.now) name) found)
     (answered name) (c.in-Some.ensures.some name))) c.captures_of_looks.ensures.some
+
+pub returns-clause-asked : goal.returns-clause-asked
+returns-clause-asked g c =
+    IfErr-weaker c.captures_of_looks.result _ _
+    (λ error asking. asks-an_engine g.R.RegExp.answer (pattern_view c.args.self.now) (borrowed_texts c.args.texts.now) c.in-Some.looks c.in-Some.ensures.some c.in-Some.ensures.asked asking)
+    c.captures_of_looks.ensures.asked
