@@ -76,6 +76,7 @@ is_ipv6_pattern text =
 abbrev pub canonical_in_hostname : (pattern : List ℕ) → List ℕ → Parsed (List ℕ)
 canonical_in_hostname pattern text = if is_ipv6_pattern pattern then canonical_ipv6_hostname text else canonical_hostname text
 
+-- under which options a component's pattern is read, and what is made of its fixed texts
 abbrev pub manner_of : UrlPatternOptions → Values → (hierarchical : Bool) → ComponentName → Manner
 manner_of asked values hierarchical Protocol = manner (in_syntax asked default_options) canonical_protocol
 manner_of asked values hierarchical Username = manner (in_syntax asked default_options) canonical_username

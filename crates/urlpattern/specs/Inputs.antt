@@ -74,6 +74,7 @@ RefusesInput (inputs.Init plain) (Some base) error = error ≡ views.BaseUrlWith
 
 -- ---- what a pattern is matched against
 
+-- what a pattern is matched against: the URL of a text, or an init
 abbrev pub IsMatchInput : StringOrInit → (base : Option (List ℕ)) → UrlPatternMatchInput → Type 0
 IsMatchInput (inputs.String text) base (match_inputs.Url url) = parsed_text base (cow_str_bytes text) ≡ Ok url
 IsMatchInput (inputs.Init plain) None (match_inputs.Init init) = IsInitOf plain init

@@ -133,8 +133,8 @@ canonical_hash text = canonical (λ value. after dummy_url (λ url. Ok (set_frag
 abbrev pub long_text : ℕ
 long_text = 2 ^ 24
 
--- The error that a refusal of a question about texts of this many bytes is reported as: an overflow where no text is long
--- is that memory ran out too.
+-- The error that a refusal of a question about texts of this many bytes is reported as. Where no text is long, an overflow is
+-- reported as out of memory too.
 abbrev pub reported_error : ParseError → (bytes : ℕ) → ErrorView
 reported_error OutOfMemory bytes = views.OutOfMemory
 reported_error Overflow bytes = if ltb bytes long_text then views.OutOfMemory else views.Url Overflow

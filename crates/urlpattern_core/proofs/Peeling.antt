@@ -4,7 +4,7 @@ use Rattle.std.proofs.lemmas.Bool.{false≢true}
 use Rattle.std.proofs.lemmas.List.{append-nil, length-append}
 use Rattle.std.specs.Prelude.{IsTrue, ◌≤◌, Option, Some, None, Result, Ok, Err, IfErr, IfOk, option_to_list}
 use Rattle.urlpattern_core.specs.Matchers.{PeelsBack, PeelsFront, PeelsTo, capture_of}
-use Rattle.urlpattern_laws.specs.Matching.{BeginsPlain, EndsPlain, GoesOff, IsMadeBetween, IsMadeByEngine, IsMadeOf, IsMadeOfOne, MatcherView, IsEngineOf, end_text, single_capture}
+use Rattle.urlpattern_laws.specs.Matching.{BeginsPlain, EndsPlain, IsRemoved, IsMadeBetween, IsMadeByEngine, IsMadeOf, IsMadeOfOne, MatcherView, IsEngineOf, end_text, single_capture}
 use Rattle.urlpattern_syntax.specs.declared.parser.PartModifier.{PartModifier}
 use Rattle.urlpattern_syntax.specs.declared.parser.PartModifier.TheVariants as modifiers
 use Rattle.urlpattern_syntax.specs.declared.parser.PartType.{PartType}
@@ -49,7 +49,7 @@ ends-nothing parts e h = subst EndsPlain e h
 
 -- ---- both
 
-back-goes : (rest middle : List PartView) (back : Option PartView) → rest ≡ middle ++ option_to_list back → GoesOff back (EndsPlain rest) → GoesOff back (EndsPlain middle)
+back-goes : (rest middle : List PartView) (back : Option PartView) → rest ≡ middle ++ option_to_list back → IsRemoved back (EndsPlain rest) → IsRemoved back (EndsPlain middle)
 back-goes rest middle None e goes = λ h. goes (subst EndsPlain (sym (append-nil middle) ∙ sym e) h)
 back-goes rest middle (Some part) e goes = goes
 
@@ -59,8 +59,8 @@ peels-both parts rest middle prefix suffix (front, cut, goes, is_prefix) (back, 
   back,
   record {
     cut = cut ∙ ap (λ x. option_to_list front ++ x) cut_back ∙ sym (append_assoc (option_to_list front) middle (option_to_list back));
-    front_goes = goes;
-    back_goes = back-goes rest middle back cut_back goes_back;
+    front_removed = goes;
+    back_removed = back-goes rest middle back cut_back goes_back;
   },
   is_prefix,
   is_suffix,

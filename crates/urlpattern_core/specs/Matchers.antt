@@ -3,7 +3,7 @@ use Rattle.std.specs.Prelude.{◌≡◌, ℕ, Bool, true, false, List, [], Optio
 use Rattle.urlpattern_core.specs.declared.matcher.InnerMatcher.{InnerMatcher}
 use Rattle.urlpattern_core.specs.declared.matcher.InnerMatcher.TheVariants as inners
 use Rattle.urlpattern_core.specs.declared.matcher.Matcher.{Matcher}
-use Rattle.urlpattern_laws.specs.Matching.{ArePeeled, BeginsPlain, EndsPlain, GoesOff, InnerView, IsSame, Literal, MatcherView, RegExp, SingleCapture, end_text}
+use Rattle.urlpattern_laws.specs.Matching.{ArePeeled, BeginsPlain, EndsPlain, IsRemoved, InnerView, IsSame, Literal, MatcherView, RegExp, SingleCapture, end_text}
 use Rattle.urlpattern_syntax.specs.declared.error.Error.{Error}
 use Rattle.urlpattern_syntax.specs.declared.parser.PartModifier.{PartModifier}
 use Rattle.urlpattern_syntax.specs.declared.parser.PartModifier.TheVariants as modifiers
@@ -50,12 +50,12 @@ PeelsTo parts prefix middle suffix =
 -- the text of a plain fixed part that is removed from the front of the parts, and the parts after it
 abbrev pub PeelsFront : List PartView → (prefix : List ℕ) → List PartView → Type 0
 PeelsFront parts prefix rest =
-    (front : Option PartView) × (parts ≡ option_to_list front ++ rest) × GoesOff front (BeginsPlain parts) × (prefix ≡ end_text front)
+    (front : Option PartView) × (parts ≡ option_to_list front ++ rest) × IsRemoved front (BeginsPlain parts) × (prefix ≡ end_text front)
 
 -- the text of a plain fixed part that is removed from the end of the parts, and the parts before it
 abbrev pub PeelsBack : List PartView → List PartView → (suffix : List ℕ) → Type 0
 PeelsBack parts middle suffix =
-    (back : Option PartView) × (parts ≡ middle ++ option_to_list back) × GoesOff back (EndsPlain parts) × (suffix ≡ end_text back)
+    (back : Option PartView) × (parts ≡ middle ++ option_to_list back) × IsRemoved back (EndsPlain parts) × (suffix ≡ end_text back)
 
 -- what a wildcard without modifier captures: the character that may not be in it, and whether it may be empty
 abbrev pub capture_of : OptionsView → PartType → PartModifier → Option (Option ℕ × Bool)

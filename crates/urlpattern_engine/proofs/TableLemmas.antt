@@ -12,7 +12,7 @@ use Rattle.urlpattern_engine.specs.declared.step.Step.{Step}
 use Rattle.urlpattern_engine.specs.declared.step.Step.TheVariants.{Literal, Segment, Anything, Maybe, Longest, Copies, Segments}
 use Rattle.urlpattern_engine.specs.Failed.{EndsWith}
 use Rattle.urlpattern_engine.specs.Steps.{captured, walk}
-use Rattle.urlpattern_engine.specs.Table.{AreRows, IsCapture, IsRow, IsSingle, following, given, row_at}
+use Rattle.urlpattern_engine.specs.Table.{AreRows, is_capture, IsRow, IsSingle, following, given, row_at}
 use Rattle.urlpattern_engine.specs.Taken.{Kept, with_captures}
 use Rattle.urlpattern_engine.proofs.FollowLemmas.{plus_captured}
 use Rattle.urlpattern_engine.proofs.FailedLemmas.{ends_longer}
@@ -122,9 +122,9 @@ none_of (Some x) e = absurd (false≢true (sym e))
 
 -- a front that a step takes, as it is added
 pub front_added : (step : Step) (others : List Step) (old new : Kept) (front : Bor (List ℕ)) (rest : List ℕ)
-    → new ≡ cond (IsCapture step) (old ++ Some front ∷ []) old
+    → new ≡ cond (is_capture step) (old ++ Some front ∷ []) old
     → with_captures old (given step others (chars front.now) rest) ≡ with_captures new (walk (following step others) rest)
-front_added step others old new front rest e = by (IsCapture step) e
+front_added step others old new front rest e = by (is_capture step) e
   where
     by : (b : Bool) → new ≡ cond b (old ++ Some front ∷ []) old
         → with_captures old ((cond b (captured (walk (following step others))) (λ front rest. walk (following step others) rest)) (chars front.now) rest)

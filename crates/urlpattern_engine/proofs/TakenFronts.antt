@@ -7,7 +7,7 @@ use Rattle.urlpattern_engine.specs.declared.step.Step.{Step}
 use Rattle.urlpattern_engine.specs.declared.step.Step.TheVariants.{Literal, Segment, Anything, Maybe, Longest, Copies, Segments}
 use Rattle.urlpattern_engine.specs.declared.step.Stretch.{Stretch}
 use Rattle.urlpattern_engine.specs.Steps.{Gives, after_separator, after_text, any_rounds, captured, literals, longest, longest_run, longest_some, repeated, rounds, segmented, shortest, single_run, stretch_text, walk, walk_after}
-use Rattle.urlpattern_engine.specs.Table.{IsCapture, IsSingle, begun_of, end_of, following, given, later_of, own_count, stretch_of, whole_of}
+use Rattle.urlpattern_engine.specs.Table.{is_capture, IsSingle, begun_of, end_of, following, given, later_of, own_count, stretch_of, whole_of}
 use Rattle.urlpattern_engine.specs.Taken.{IsCutFor}
 use Rattle.urlpattern_engine.proofs.EndLemmas as ends
 use Rattle.urlpattern_engine.proofs.Rounds.{advances-after, any-unrolled, keeps-any, keeps-some}
@@ -93,7 +93,7 @@ some_either true next front rest = some_mapped (λ others. Some front ∷ others
 some_either false next front rest = refl
 
 pub some_given : (step : Step) (others : List Step) (front rest : List ℕ) → is_some (given step others front rest) ≡ is_some (walk (following step others) rest)
-some_given step others front rest = some_either (IsCapture step) (walk (following step others)) front rest
+some_given step others front rest = some_either (is_capture step) (walk (following step others)) front rest
 
 alike-given : (step : Step) (others : List Step) → Alike (given step others)
 alike-given step others front other text = some_given step others front text ∙ sym (some_given step others other text)

@@ -35,15 +35,15 @@ end_of (Longest run) = run.end
 end_of (Segments segments) = segments.end
 end_of step = line_feed
 
-abbrev pub IsCapture : Step → Bool
-IsCapture (Literal c) = false
-IsCapture (Copies copies) = false
-IsCapture (Maybe group) = false
-IsCapture step = true
+abbrev pub is_capture : Step → Bool
+is_capture (Literal c) = false
+is_capture (Copies copies) = false
+is_capture (Maybe group) = false
+is_capture step = true
 
 -- what is given by a front that a step takes and the rest
 abbrev pub given : Step → List Step → Gives
-given step others = if IsCapture step then captured (walk (following step others)) else (λ front rest. walk (following step others) rest)
+given step others = if is_capture step then captured (walk (following step others)) else (λ front rest. walk (following step others) rest)
 
 -- a step that is no choice between two lists of steps
 abbrev pub IsSingle : Step → Type 0

@@ -5,7 +5,7 @@ ghost use Rattle.std.specs.Str.{chars};
 ghost use Rattle.urlpattern_core.specs.Captured.{captures_view};
 ghost use Rattle.urlpattern_engine.specs.Failed.{EndsWith};
 ghost use Rattle.urlpattern_engine.specs.Steps.{walk};
-ghost use Rattle.urlpattern_engine.specs.Table.{following, row_at, IsCapture, IsRow, IsSingle};
+ghost use Rattle.urlpattern_engine.specs.Table.{following, row_at, is_capture, IsRow, IsSingle};
 ghost use Rattle.urlpattern_engine.specs.Taken.{LeavesWalk};
 
 use crate::fronts::{following, front_of, is_capture};
@@ -119,7 +119,7 @@ fn add_front<'t>(
     step: Step,
     front: &'t str,
 ) -> Result<(), OutOfMemory>
-    ensures { OnOk result (captures.new.items ≡ (if IsCapture step then captures.old.items ++ Some front.entry ∷ [] else captures.old.items)) }
+    ensures { OnOk result (captures.new.items ≡ (if is_capture step then captures.old.items ++ Some front.entry ∷ [] else captures.old.items)) }
 {
     if is_capture(step) {
         captures.push(Some(front))?;

@@ -4,7 +4,7 @@ ghost use Rattle.std.specs.Prelude.{◌≡◌, ◌∷◌, ◌++◌, ℕ, List, B
 ghost use Rattle.std.specs.Option.{option_or};
 ghost use Rattle.std.specs.Str.{chars};
 ghost use Rattle.urlpattern_engine.specs.Steps.{literals, walk};
-ghost use Rattle.urlpattern_engine.specs.Table.{begun_of, end_of, following, given, has, later_of, own_count, stretch_of, whole_of, IsCapture, IsEntryAfter, IsRow, IsSingle};
+ghost use Rattle.urlpattern_engine.specs.Table.{begun_of, end_of, following, given, has, later_of, own_count, stretch_of, whole_of, is_capture, IsEntryAfter, IsRow, IsSingle};
 ghost use Rattle.urlpattern_engine.specs.Taken.{going_on, IsCutFor};
 
 use crate::repeats::{begun_after, first_steps, goes_on, pass};
@@ -117,7 +117,7 @@ fn end_of(step: Step) -> char
 
 /// Whether a step captures what it takes.
 pub(crate) fn is_capture(step: Step) -> bool
-    ensures { result ≡ IsCapture step }
+    ensures { result ≡ is_capture step }
 {
     match step {
         Step::Segment(_) | Step::Anything | Step::Longest(_) | Step::Segments(_) => true,

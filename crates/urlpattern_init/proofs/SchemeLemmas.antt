@@ -78,13 +78,13 @@ schemes_answer P texts (Ok false) e h = (
 
 -- the answer on special schemes, for the parts that a protocol reads as and the matcher that is made of them
 pub special_from : {E : Type 0} → (IsMade : E → (regexp flags : List ℕ) → Type 0) (MayRefuse : (regexp flags : List ℕ) → Type 0) (answer : E → List ℕ → Option Captures) (protocol flags : List ℕ) (options : OptionsView) (parts these : List PartView) (matcher : MatcherView E) (found : Result Bool Error) → options ≡ default_options → flags ≡ codes "u" → these ≡ parts → Reads protocol options protocol_encoding parts → IsMadeOf IsMade MayRefuse options flags these matcher → IfOk found (λ special. IsTrue special ↔ AcceptsSpecialScheme answer matcher) → IfOk found (IsSpecialBy IsMade MayRefuse answer protocol)
-special_from IsMade MayRefuse answer protocol flags options parts these matcher (Err error) e f same reads made reports = tt
-special_from IsMade MayRefuse answer protocol flags options parts these matcher (Ok special) e f same reads made reports = record {
+special_from IsMade MayRefuse answer protocol flags options parts these matcher (Err error) e f same reads made decides = tt
+special_from IsMade MayRefuse answer protocol flags options parts these matcher (Ok special) e f same reads made decides = record {
   parts = parts;
   matcher = matcher;
   reads = subst (λ o. Reads protocol o protocol_encoding parts) e reads;
   is_made = subst (λ o. IsMadeOf IsMade MayRefuse o (codes "u") parts matcher) e (subst (λ u. IsMadeOf IsMade MayRefuse options u parts matcher) f (subst (λ ps. IsMadeOf IsMade MayRefuse options flags ps matcher) same made));
-  reports = reports;
+  decides = decides;
 }
 
 pub chars_flags : chars (codes "u") ≡ codes "u"

@@ -39,7 +39,7 @@ pub record IsSpecialBy {E : Type 0} (IsMade : E → (regexp flags : List ℕ) �
   pub matcher : MatcherView E
   pub reads : Reads protocol default_options protocol_encoding parts
   pub is_made : IsMadeOf IsMade MayRefuse default_options (codes "u") parts matcher
-  pub reports : IsTrue special ↔ AcceptsSpecialScheme answer matcher
+  pub decides : IsTrue special ↔ AcceptsSpecialScheme answer matcher
 
 -- the answer on a protocol by a type of engines
 abbrev pub IsSpecialTo : {E : Type 0} → Engine E → (protocol : List ℕ) → (special : Bool) → Type 0

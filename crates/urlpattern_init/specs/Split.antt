@@ -149,6 +149,7 @@ pub record IsTextBetween (text : List ℕ) (tokens : List TokenView) (from until
   pub begins : IsSomeAnd (slice_get tokens from) (λ token. token.index ≡ byte_len front)
   pub ends : IsSomeAnd (slice_get tokens until) (λ token. token.index ≡ byte_len front + byte_len between)
 
+-- the component is there, and is the text between the two tokens
 abbrev pub Takes : (text : List ℕ) → List TokenView → (from until : ℕ) → Option (List ℕ) → Type 0
 Takes text tokens from until component = IsSomeAnd component (IsTextBetween text tokens from until)
 

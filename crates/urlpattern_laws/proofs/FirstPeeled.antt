@@ -1,9 +1,9 @@
--- The first way of parts is that of the parts between the ends, where plain fixed texts went off.
+-- The first way of parts is that of the parts between the ends, where plain fixed texts are removed.
 use Rattle.std.proofs.Common.{◌≡◌, ℕ, ◌+◌, List, [], ◌∷◌, ◌++◌, map, length, Option, Some, None, option_map, find, false, cond, ◌&&◌, ◌==◌, refl, sym, ap, ap₂, ◌∙◌, append_assoc, append-nil, length-append, inl, inr, arith, ne_eqb}
 use Rattle.std.proofs.lemmas.Bool.{cond-false}
 use Rattle.std.specs.Prelude.{IsTrue, option_to_list}
 use Rattle.urlpattern_laws.specs.Dialect.{Items, Nothing, AreItems, Means}
-use Rattle.urlpattern_laws.specs.Matching.{ArePeeled, GoesOff, end_text}
+use Rattle.urlpattern_laws.specs.Matching.{ArePeeled, IsRemoved, end_text}
 use Rattle.urlpattern_laws.specs.Ways.{Way, joined_way, continued, ways, first_way}
 use Rattle.urlpattern_syntax.specs.declared.parser.PartModifier.{PartModifier}
 use Rattle.urlpattern_syntax.specs.declared.parser.PartModifier.TheVariants as modifiers
@@ -116,8 +116,8 @@ plain_tree_by : (options : OptionsView) (kind : PartType) (modifier : PartModifi
 plain_tree_by options FixedText modifiers.None value name prefix suffix h = refl
 plain_tree_by options kind modifier value name prefix suffix h = absurd (no h)
 
--- the tree of what goes off at an end
-end_tree : (options : OptionsView) (end : Option PartView) (IsThere : Type 0) → GoesOff end IsThere → tree_of options (option_to_list end) ≡ put (escaped_marks options.syntax) (end_text end) Nothing
+-- the tree of what is removed at an end
+end_tree : (options : OptionsView) (end : Option PartView) (IsThere : Type 0) → IsRemoved end IsThere → tree_of options (option_to_list end) ≡ put (escaped_marks options.syntax) (end_text end) Nothing
 end_tree options None IsThere goes = refl
 end_tree options (Some part) IsThere goes = plain_tree_by options part.kind part.modifier part.value part.name part.prefix part.suffix goes
 
@@ -134,7 +134,7 @@ first_peeled options parts front middle back inner are_middle peeled =
     let split : tree_of options parts ≡ put marks (end_text front) (both_items M last) =
     ap (tree_of options) (peeled.cut ∙ append_assoc (option_to_list front) middle (option_to_list back))
     ∙ both_trees options (option_to_list front) (middle ++ option_to_list back)
-    ∙ ap₂ both_items (end_tree options front _ peeled.front_goes) (both_trees options middle (option_to_list back) ∙ ap (both_items M) (end_tree options back _ peeled.back_goes))
+    ∙ ap₂ both_items (end_tree options front _ peeled.front_removed) (both_trees options middle (option_to_list back) ∙ ap (both_items M) (end_tree options back _ peeled.back_removed))
     ∙ before_items marks (end_text front) (both_items M last) in
     ap₂ first_way split (append_assoc (end_text front) inner (end_text back))
     ∙ put_first marks (end_text front) (both_items M last) (inner ++ end_text back)

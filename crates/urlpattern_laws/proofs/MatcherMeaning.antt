@@ -39,7 +39,7 @@ scalars_middle front text back h = scalars_right front text (scalars_left (front
 
 -- ---- a matcher that asks an engine
 
--- its prefix and suffix are the texts that went off, compared as the options say
+-- its prefix and suffix are the texts that are removed, compared as the options say
 abbrev pub HasEnds : {E : Type 0} → OptionsView → MatcherView E → (front back : List ℕ) → Type 0
 HasEnds options matcher front back = (matcher.prefix ≡ front) × (matcher.suffix ≡ back) × (matcher.ignore_case ≡ options.ignore_case)
 

@@ -127,14 +127,14 @@ kept_prefix E answer = none_fits answer (wildcard_matcher E (codes "A") []) (cod
 
 -- ---- making
 
--- the pattern `ab*ba`: what is fixed at the ends goes off
+-- the pattern `ab*ba`: what is fixed at the ends is removed
 pub overlap_made : (E : Type 0) (IsMade : E → (regexp flags : List ℕ) → Type 0) (MayRefuse : (regexp flags : List ℕ) → Type 0) (flags : List ℕ) →
     IsMadeOf IsMade MayRefuse default_options flags (plain (codes "ab") ∷ wildcard (codes "0") ∷ plain (codes "ba") ∷ []) (wildcard_matcher E (codes "ab") (codes "ba"))
 overlap_made E IsMade MayRefuse flags = record {
   front = Some (plain (codes "ab"));
   middle = wildcard (codes "0") ∷ [];
   back = Some (plain (codes "ba"));
-  are_peeled = record { cut = refl; front_goes = refl; back_goes = refl };
+  are_peeled = record { cut = refl; front_removed = refl; back_removed = refl };
   is_made = refl;
 }
 
@@ -145,7 +145,7 @@ apart_made E IsMade MayRefuse flags = record {
   front = Some (plain (codes "a"));
   middle = [];
   back = Some (plain (codes "b"));
-  are_peeled = record { cut = refl; front_goes = refl; back_goes = refl };
+  are_peeled = record { cut = refl; front_removed = refl; back_removed = refl };
   is_made = refl;
 }
 
@@ -158,7 +158,7 @@ optional_made E IsMade MayRefuse flags engine is_made = record {
   front = None;
   middle = fixed_text (codes "a") modifiers.Optional ∷ [];
   back = Some (plain (codes "b"));
-  are_peeled = record { cut = refl; front_goes = no; back_goes = refl };
+  are_peeled = record { cut = refl; front_removed = no; back_removed = refl };
   is_made = (Ok engine, is_made, refl);
 }
 
@@ -171,10 +171,10 @@ optional_refused E IsMade MayRefuse flags may_refuse = record {
   front = None;
   middle = fixed_text (codes "a") modifiers.Optional ∷ [];
   back = Some (plain (codes "b"));
-  are_peeled = record { cut = refl; front_goes = no; back_goes = refl };
+  are_peeled = record { cut = refl; front_removed = no; back_removed = refl };
   is_made = (Err views.RegExp, (refl, may_refuse), refl);
 }
 
 -- a plain fixed text at the end does not stay among the parts
 pub back_goes_off : ¬ ArePeeled (plain (codes "a") ∷ plain (codes "b") ∷ []) (Some (plain (codes "a"))) (plain (codes "b") ∷ []) None
-back_goes_off h = h.back_goes refl
+back_goes_off h = h.back_removed refl

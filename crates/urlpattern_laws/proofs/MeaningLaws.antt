@@ -1,4 +1,4 @@
--- Laws of what parts mean: plain fixed texts at the ends go off, neighbouring ones are one, and what copies capture.
+-- Laws of what parts mean: plain fixed texts at the ends are removed, neighbouring ones are one, and what copies capture.
 use Rattle.std.proofs.Common.{◌≡◌, ℕ, zero, suc, List, [], ◌∷◌, ◌++◌, refl, sym, subst, ap, Bool, true, Some, None, Option, append_assoc, ◌∙◌, ◌↔◌, ◌⊎◌, inl, inr}
 use Rattle.std.proofs.lemmas.List.{append-nil}
 use Rattle.std.specs.Prelude.{IsTrue, ◌&&◌, if◌then◌else◌, option_to_list}
@@ -6,7 +6,7 @@ use Rattle.urlpattern_syntax.specs.declared.parser.PartModifier.{PartModifier}
 use Rattle.urlpattern_syntax.specs.declared.parser.PartModifier.TheVariants as modifiers
 use Rattle.urlpattern_syntax.specs.declared.parser.PartType.{PartType}
 use Rattle.urlpattern_syntax.specs.declared.parser.PartType.TheVariants.{FixedText, SegmentWildcard, FullWildcard}
-use Rattle.urlpattern_laws.specs.Matching.{ArePeeled, GoesOff, end_text}
+use Rattle.urlpattern_laws.specs.Matching.{ArePeeled, IsRemoved, end_text}
 use Rattle.urlpattern_syntax.specs.Options.{OptionsView}
 use Rattle.urlpattern_laws.specs.PartMeaning.{Allows, AreCaptures, AreCopies, Captures, IsCapture, IsCopyOf, PartMeans, PartsMean, capture_of_none}
 use Rattle.urlpattern_syntax.specs.Parts.{PartView}
@@ -85,15 +85,15 @@ plain_means part h = plain_by part.kind part.modifier part.value part.name part.
 
 -- ---- peeling
 
--- what goes off stands for its text
-end_means : (options : OptionsView) (end : Option PartView) (IsThere : Type 0) (text : List ℕ) (captures : Captures) → GoesOff end IsThere → PartsMean options (option_to_list end) text captures ↔ ((text ≡ end_text end) × (captures ≡ []))
+-- what is removed stands for its text
+end_means : (options : OptionsView) (end : Option PartView) (IsThere : Type 0) (text : List ℕ) (captures : Captures) → IsRemoved end IsThere → PartsMean options (option_to_list end) text captures ↔ ((text ≡ end_text end) × (captures ≡ []))
 end_means options None IsThere text captures goes = (λ means. means, λ means. means)
 end_means options (Some part) IsThere text captures goes = (
   λ means. (plain_means part goes).0 (part_alone means),
   λ is. (text, [], captures, [], sym (append-nil text), sym (append-nil captures), (plain_means part goes).1 is, (refl, refl)),
 )
 
--- parts of which plain fixed texts went off stand for prefix, a middle that the rest stands for, and suffix, and for
+-- parts from which plain fixed texts are removed stand for prefix, a middle that the rest stands for, and suffix, and for
 -- nothing else
 pub peeled_means : (options : OptionsView) (parts : List PartView) (front : Option PartView) (middle : List PartView) (back : Option PartView) (text : List ℕ) (captures : Captures) →
     ArePeeled parts front middle back →
@@ -103,8 +103,8 @@ peeled_means options parts front middle back text captures peeled = (
       let cut : PartsMean options (option_to_list front ++ middle ++ option_to_list back) text captures = rw peeled.cut at means in
       let two = parts_cut (option_to_list front ++ middle) (option_to_list back) cut in
       let three = parts_cut (option_to_list front) middle two.first_means in
-      let first = (end_means options front _ three.first three.own peeled.front_goes).0 three.first_means in
-      let last = (end_means options back _ two.rest two.more peeled.back_goes).0 two.rest_means in
+      let first = (end_means options front _ three.first three.own peeled.front_removed).0 three.first_means in
+      let last = (end_means options back _ two.rest two.more peeled.back_removed).0 two.rest_means in
       let same : captures ≡ three.more = two.captures_cut ∙ ap (λ t. two.own ++ t) last.1 ∙ append-nil two.own ∙ three.captures_cut ∙ ap (λ t. t ++ three.more) first.1 in (
         three.rest,
         two.text_cut ∙ ap (λ t. two.first ++ t) last.0 ∙ ap (λ t. t ++ end_text back) (three.text_cut ∙ ap (λ t. t ++ three.rest) first.0),
@@ -113,10 +113,10 @@ peeled_means options parts front middle back text captures peeled = (
   λ is.
       let before : PartsMean options (option_to_list front ++ middle) (end_text front ++ is.0) captures =
       parts-append options (option_to_list front) middle (end_text front) is.0 [] captures
-      ((end_means options front _ (end_text front) [] peeled.front_goes).1 (refl, refl)) is.2 in
+      ((end_means options front _ (end_text front) [] peeled.front_removed).1 (refl, refl)) is.2 in
       let whole : PartsMean options (option_to_list front ++ middle ++ option_to_list back) (end_text front ++ is.0 ++ end_text back) (captures ++ []) =
       parts-append options (option_to_list front ++ middle) (option_to_list back) (end_text front ++ is.0) (end_text back) captures [] before
-      ((end_means options back _ (end_text back) [] peeled.back_goes).1 (refl, refl)) in
+      ((end_means options back _ (end_text back) [] peeled.back_removed).1 (refl, refl)) in
       rw (peeled.cut, is.1) (rw (append-nil captures) at whole),
 )
 

@@ -87,7 +87,7 @@ optional_follows = agrees_follows default_options optional_parts optional_custom
 -- so it follows the middle of `{a}?b`
 pub optional_middle : (E : Type 0) (engine : E) → FollowsMiddle (λ engine. optional_answer) default_options (fixed_text (codes "a") modifiers.Optional ∷ plain (codes "b") ∷ []) (RegExp (Ok engine))
 unfolding escaped part_regexp
-optional_middle E engine = (None, optional_parts, Some (plain (codes "b")), record { cut = refl; front_goes = no; back_goes = refl }, optional_follows)
+optional_middle E engine = (None, optional_parts, Some (plain (codes "b")), record { cut = refl; front_removed = no; back_removed = refl }, optional_follows)
 
 -- one that answers nothing does not
 pub silent : ¬ Follows (codes "^(?:a)?$") (λ text. None)
@@ -116,7 +116,7 @@ custom_none text captures means = (part_alone means).are_captures
 
 -- the pattern `*` on a line feed: the matcher takes it, and the parts do not mean it
 pub feed_shape : (E : Type 0) → HasShapeOf default_options (wildcard (codes "0") ∷ []) (wildcard_matcher E [] [])
-feed_shape E = record { front = None; middle = wildcard (codes "0") ∷ []; back = None; are_peeled = record { cut = refl; front_goes = no; back_goes = no }; is_made = refl }
+feed_shape E = record { front = None; middle = wildcard (codes "0") ∷ []; back = None; are_peeled = record { cut = refl; front_removed = no; back_removed = no }; is_made = refl }
 
 pub feed_answered : (E : Type 0) (answer : E → List ℕ → Option Captures) → Answers answer (wildcard_matcher E [] []) (codes "\n") (Some (Some (codes "\n") ∷ []))
 feed_answered E answer = (codes "\n", ([], [], refl, refl, refl), (tt, tt, refl))
@@ -140,7 +140,7 @@ abbrev pub letter_matcher : (E : Type 0) → MatcherView E
 letter_matcher E = record { prefix = []; suffix = []; inner = Literal (codes "A"); ignore_case = true }
 
 pub letter_shape : (E : Type 0) → HasShapeOf ignoring_case (plain (codes "A") ∷ []) (letter_matcher E)
-letter_shape E = record { front = Some (plain (codes "A")); middle = []; back = None; are_peeled = record { cut = refl; front_goes = refl; back_goes = λ h. h }; is_made = refl }
+letter_shape E = record { front = Some (plain (codes "A")); middle = []; back = None; are_peeled = record { cut = refl; front_removed = refl; back_removed = λ h. h }; is_made = refl }
 
 pub letter_answered : (E : Type 0) (answer : E → List ℕ → Option Captures) → Answers answer (letter_matcher E) (codes "a") (Some [])
 letter_answered E answer = (codes "a", ([], [], refl, refl, refl), (refl, refl))

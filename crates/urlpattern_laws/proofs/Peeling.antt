@@ -1,8 +1,8 @@
--- Plain fixed texts go off the ends of parts in one way.
+-- Plain fixed texts are removed from the ends of parts in one way.
 use Rattle.std.proofs.Common.{◌≡◌, List, [], ◌∷◌, ◌++◌, sym, subst, Some, None, Option, ◌∙◌}
 use Rattle.std.proofs.lemmas.List.{append-nil, same_from_push}
 use Rattle.std.specs.Prelude.{IsTrue, option_to_list}
-use Rattle.urlpattern_laws.specs.Matching.{ArePeeled, BeginsPlain, EndsPlain, GoesOff}
+use Rattle.urlpattern_laws.specs.Matching.{ArePeeled, BeginsPlain, EndsPlain, IsRemoved}
 use Rattle.urlpattern_syntax.specs.Parts.{PartView}
 use Rattle.urlpattern_syntax.specs.RegexpText.{is_plain}
 
@@ -13,7 +13,7 @@ ends_plain [] last h = h
 ends_plain (part ∷ []) last h = h
 ends_plain (part ∷ next ∷ parts) last h = ends_plain (next ∷ parts) last h
 
-back_one : (middle other : List PartView) (back end : Option PartView) → GoesOff back (EndsPlain middle) → GoesOff end (EndsPlain other) →
+back_one : (middle other : List PartView) (back end : Option PartView) → IsRemoved back (EndsPlain middle) → IsRemoved end (EndsPlain other) →
     middle ++ option_to_list back ≡ other ++ option_to_list end → middle ≡ other
 back_one middle other (Some back) (Some end) goes goes_too e = (same_from_push middle other back end e).0
 back_one middle other (Some back) None goes stays e = absurd (stays (subst EndsPlain (e ∙ append-nil other) (ends_plain middle back goes)))
@@ -24,7 +24,7 @@ back_one middle other None None stays stays_too e = sym (append-nil middle) ∙ 
 
 front_one : (parts : List PartView) (front begin : Option PartView) (middle other : List PartView) (back end : Option PartView) →
     parts ≡ option_to_list front ++ middle ++ option_to_list back → parts ≡ option_to_list begin ++ other ++ option_to_list end →
-    GoesOff front (BeginsPlain parts) → GoesOff begin (BeginsPlain parts) → GoesOff back (EndsPlain middle) → GoesOff end (EndsPlain other) → middle ≡ other
+    IsRemoved front (BeginsPlain parts) → IsRemoved begin (BeginsPlain parts) → IsRemoved back (EndsPlain middle) → IsRemoved end (EndsPlain other) → middle ≡ other
 front_one parts (Some front) (Some begin) middle other back end e f goes goes_too ends ends_too =
     let both : front ∷ (middle ++ option_to_list back) ≡ begin ∷ (other ++ option_to_list end) = sym e ∙ f in
     back_one middle other back end ends ends_too (cc both)
@@ -36,4 +36,4 @@ front_one parts None None middle other back end e f stays stays_too ends ends_to
 pub middle_one : (parts : List PartView) (front begin : Option PartView) (middle other : List PartView) (back end : Option PartView) →
     ArePeeled parts front middle back → ArePeeled parts begin other end → middle ≡ other
 middle_one parts front begin middle other back end peeled peeled_too =
-    front_one parts front begin middle other back end peeled.cut peeled_too.cut peeled.front_goes peeled_too.front_goes peeled.back_goes peeled_too.back_goes
+    front_one parts front begin middle other back end peeled.cut peeled_too.cut peeled.front_removed peeled_too.front_removed peeled.back_removed peeled_too.back_removed

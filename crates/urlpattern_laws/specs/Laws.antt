@@ -94,6 +94,7 @@ LacksAnswer text options encoding = (asked : List ℕ) × Asks text options enco
 abbrev pub Outcome : Type 0
 Outcome = Result (List PartView) ErrorView
 
+-- the text reads as these parts, or is refused with this error
 abbrev pub HasOutcome : (text : List ℕ) → OptionsView → Encoding → Outcome → Type 0
 HasOutcome text options encoding (Ok parts) = Reads text options encoding parts
 HasOutcome text options encoding (Err error) = Refuses text options encoding error

@@ -31,6 +31,7 @@ pub record MatcherView (E : Type 0) : Type 0 where
 
 -- ---- making
 
+-- the first part is a plain fixed text
 abbrev pub BeginsPlain : List PartView → Type 0
 BeginsPlain [] = ⊥
 BeginsPlain (part ∷ parts) = IsTrue (is_plain part)
@@ -41,9 +42,9 @@ EndsPlain (part ∷ []) = IsTrue (is_plain part)
 EndsPlain (part ∷ next ∷ parts) = EndsPlain (next ∷ parts)
 
 -- a plain fixed text that is removed, or none where no such part is there
-abbrev pub GoesOff : Option PartView → (IsThere : Type 0) → Type 0
-GoesOff (Some part) IsThere = IsTrue (is_plain part)
-GoesOff None IsThere = ¬ IsThere
+abbrev pub IsRemoved : Option PartView → (IsThere : Type 0) → Type 0
+IsRemoved (Some part) IsThere = IsTrue (is_plain part)
+IsRemoved None IsThere = ¬ IsThere
 
 -- the text of a part that is removed
 abbrev pub end_text : Option PartView → List ℕ
@@ -53,8 +54,8 @@ end_text None = []
 -- A plain fixed text at the front is removed from the parts, and one at the end of what remains.
 pub record ArePeeled (parts : List PartView) (front : Option PartView) (middle : List PartView) (back : Option PartView) : Type 0 where
   pub cut : parts ≡ option_to_list front ++ middle ++ option_to_list back
-  pub front_goes : GoesOff front (BeginsPlain parts)
-  pub back_goes : GoesOff back (EndsPlain middle)
+  pub front_removed : IsRemoved front (BeginsPlain parts)
+  pub back_removed : IsRemoved back (EndsPlain middle)
 
 -- a value that an engine makes of the regular expression, or the error where it may refuse that
 abbrev pub IsEngineOf : {E : Type 0} → (IsMade : E → (regexp flags : List ℕ) → Type 0) → (MayRefuse : (regexp flags : List ℕ) → Type 0) → (flags regexp : List ℕ) → Result E ErrorView → Type 0
@@ -85,7 +86,7 @@ IsMadeOfOne IsEngine SegmentWildcard modifiers.None options prefix part suffix m
 IsMadeOfOne IsEngine kind modifier options prefix part suffix matcher =
     IsMadeByEngine IsEngine options prefix (part ∷ []) suffix matcher
 
--- these parts are left between the texts that went off
+-- these parts are left between the texts that are removed
 abbrev pub IsMadeBetween : {E : Type 0} → (IsEngine : (regexp : List ℕ) → Result E ErrorView → Type 0) → OptionsView → (prefix : List ℕ) → List PartView → (suffix : List ℕ) → MatcherView E → Type 0
 IsMadeBetween IsEngine options prefix [] suffix matcher =
     matcher ≡ record { prefix = []; suffix = []; inner = Literal (prefix ++ suffix); ignore_case = options.ignore_case }

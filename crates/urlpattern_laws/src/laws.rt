@@ -28,9 +28,9 @@ ghost use Rattle.urlpattern_syntax.specs.Tokens.{AreLenientTokens, AreTokens, Fa
 
 use urlpattern_syntax::Error;
 
-/// Parts of which plain fixed texts went off at the ends stand for the first of these texts, a middle that the other
+/// Parts from whose ends plain fixed texts are removed stand for the first of these texts, a middle that the other
 /// parts stand for, and the second, and for nothing else.
-pub fn plain_ends_go_off()
+pub fn plain_ends_are_removed()
     ensures { (options : OptionsView) (parts : List PartView) (front : Option PartView) (middle : List PartView) (back : Option PartView) (text : List ℕ) (captures : Captures) →
         ArePeeled parts front middle back →
         PartsMean options parts text captures ↔ ((inner : List ℕ) × (text ≡ end_text front ++ inner ++ end_text back) × PartsMean options middle inner captures) }

@@ -68,6 +68,7 @@ BeginsWithKind test (token ∷ tokens) = IsTrue (test token.kind)
 abbrev pub AreTexts : List TokenView → List ℕ → Type 0
 AreTexts tokens text = IsTrue (list_all (λ token. is_text token.kind) tokens) × (text ≡ flat_map (λ token. token.value) tokens)
 
+-- the tokens are a placeholder with this name that matches this
 abbrev pub IsPlaceholderOf : List TokenView → Option (List ℕ) → Matched → Type 0
 IsPlaceholderOf tokens (Some name) Segment = (kinds tokens ≡ Name ∷ []) × (values tokens ≡ name ∷ [])
 IsPlaceholderOf tokens (Some name) (Custom body) =
@@ -176,6 +177,7 @@ IsOpenGroup inner rest =
     × (((text : List ℕ) × AreTexts inner text × ¬ BeginsWithKind is_placeholder rest)
     ⊎ ((before after : List ℕ) × (placeholder : Placeholder) × IsFilled inner before placeholder after rest))
 
+-- what the pieces leave
 abbrev pub IsEnding : List TokenView → Ending → Type 0
 IsEnding tokens (Stops found) = (more : List TokenView) × (tokens ≡ found ∷ more) × IsTrue (is_stop found.kind)
 IsEnding tokens (LacksClose found) =

@@ -108,6 +108,7 @@ demands items ending = demands_after [] items ending
 abbrev pub Encoding : Type 1
 Encoding = List ℕ → Result (List ℕ) ErrorView → Type 0
 
+-- the demand is met
 abbrev pub IsMet : Encoding → Demand → Type 0
 IsMet encoding (Encode text) = (answer : List ℕ) × encoding text (Ok answer)
 IsMet encoding (NewName earlier name) = ¬ Contains earlier name
@@ -137,6 +138,7 @@ compared options matched.Segment = segment_wildcard options
 compared options (matched.Custom body) = body
 compared options matched.Anything = full_wildcard
 
+-- the kind of a part, by the regular expression that is compared
 abbrev pub kind_of : OptionsView → List ℕ → PartType
 kind_of options regexp =
     if bytes_eq regexp (segment_wildcard options) then SegmentWildcard
@@ -147,6 +149,7 @@ abbrev pub value_of : PartType → List ℕ → List ℕ
 value_of Regexp regexp = regexp
 value_of kind regexp = []
 
+-- the part of a group
 abbrev pub capture_part : OptionsView → (prefix name : List ℕ) → Matched → (suffix : List ℕ) → PartModifier → PartView
 capture_part options prefix name match suffix modifier =
     let regexp = compared options match in
