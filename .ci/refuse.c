@@ -4,7 +4,7 @@
 //
 // REFUSE_REPORT names a file, to which it is told in the end how many requests there were and how the copies ended. Each way to
 // end that was seen has a line with its count, the status, and the lengths of what went to standard output and to standard error,
-// and behind it these two texts and a line end.
+// and after it these two texts and a line end.
 
 typedef unsigned long size;
 
@@ -54,7 +54,7 @@ static void count(int process, int out, int err) {
 }
 
 // Runs the rest of the program with this request refused, and says in the new process that it is. With `after` all requests
-// behind it are refused too.
+// after it are refused too.
 static int refused_in_a_copy(int after) {
     int out = memfd_create("out", 0), err = memfd_create("err", 0);
     int process = fork();

@@ -1,4 +1,5 @@
-//! Matches that borrow: their texts and groups, beside the result that owns its texts, and that none asks for memory without an engine.
+//! Matches that borrow: their texts and groups, beside the result that owns its texts. Without an engine they do not
+//! allocate.
 
 use crate::inits::{init_of, url_of};
 use std::alloc::Global;

@@ -1,4 +1,4 @@
-//! Constructor strings: the base URL that is kept, long strings, and out of memory.
+//! Constructor strings: the base URL that is kept, long strings, and what runs out of memory.
 
 use crate::inits::{Texts, expect_init, url_of};
 use regex::Regex;

@@ -1,4 +1,4 @@
-//! Engines of regular expressions: what is refused only when it is asked for, and out of memory.
+//! Engines of regular expressions: what is refused only on request, and what runs out of memory.
 
 use regex::Regex;
 use std::alloc::Global;

@@ -353,8 +353,8 @@ fn a_zero_and_what_stands_for_no_character_are_kept(rt: HostRuntime) -> Result<(
     Ok(())
 }
 
-/// Holds whichever allocation is refused: `rt try --test --fail-alloc N` refuses one. The tree is made by `serde_json`,
-/// which ends when its own memory runs out.
+/// Holds whichever allocation is refused: `rt try --test --fail-alloc N` refuses one. The tree is made by `serde_json`:
+/// where that runs out of memory, the test ends.
 #[test]
 fn json_without_memory_gives_no_other_answer(rt: HostRuntime) -> Result<(), Fail> {
     let tree = Value::from_str(rt.alloc(), &pattern_text(rt.alloc())?)?;

@@ -1,12 +1,10 @@
 //! Tests of what no recorded case that `bench` replays can say: JSON, plain data, inputs that are handed back, components put
-//! together by hand, engines that answer what none should, lists of patterns, ignored case, long strings, what `urlpat` prints,
-//! the layers below whole patterns, and calls for which memory may run out. It holds tests alone.
+//! together by hand, engines that answer what none should, lists of patterns, ignored case, long strings, the layers below
+//! whole patterns, and calls for which memory may run out. It holds tests alone.
 #![tactic(auto)]
 
 #[cfg(test)]
 mod captures;
-#[cfg(test)]
-mod commands;
 #[cfg(test)]
 mod compiled;
 #[cfg(test)]

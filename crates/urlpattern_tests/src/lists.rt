@@ -1,4 +1,4 @@
-//! Lists of patterns: what they hold, which pattern is asked, and out of memory.
+//! Lists of patterns: what they hold, which pattern is asked, and what runs out of memory.
 
 use crate::inits::{init_of, url_input};
 use crate::stubborn::Wanting;

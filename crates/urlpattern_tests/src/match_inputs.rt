@@ -1,4 +1,4 @@
-//! The texts of a match input: the default ones, copies of inits, and out of memory.
+//! The texts of a match input: the default ones, copies of inits, and what runs out of memory.
 
 use crate::inits::init_under;
 use serde_json::Value;

@@ -1,4 +1,4 @@
-//! Matches of patterns with components put together by hand, of URLs and of inits, copies of results, and out of memory.
+//! Matches of patterns with components put together by hand, of URLs and of inits, copies of results, and what runs out of memory.
 
 use crate::components::path_of;
 use crate::facts::{Expected, Groups, expect_match, expect_names, expect_no_match, expect_path};

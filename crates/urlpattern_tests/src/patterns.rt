@@ -1,4 +1,4 @@
-//! Patterns that are built of an init: the components of which case is ignored, and out of memory.
+//! Patterns that are built of an init: the components of which case is ignored, and what runs out of memory.
 
 use crate::facts::{Fact, expect_facts};
 use crate::inits::init_of;
