@@ -27,8 +27,10 @@ use std::alloc::{AllocError, Global};
 
 /// What a pattern text is compiled to.
 ///
+/// It has a `Drop` of its own, so its fields are moved out together, by `into_fields`.
+///
 /// <https://urlpattern.spec.whatwg.org/#component>
-#[derive(Debug, Drop)]
+#[derive(Debug)]
 pub struct Component<R> {
     /// The pattern text, as it is written anew from the parts.
     pub pattern_string: String,
@@ -40,6 +42,35 @@ pub struct Component<R> {
     pub matcher: Matcher<R>,
     /// Whether the pattern has a regular expression of its own.
     pub has_regexp_group: bool,
+}
+
+impl<R: Drop> Component<R> {
+    /// The fields by value: pattern text, engine's value, names of the groups, and matcher.
+    pub fn into_fields(self) -> (String, Result<R, Error>, Vec<String>, Matcher<R>)
+        ensures { result ≡ (self.pattern_string, self.regexp, self.group_name_list, self.matcher) }
+    {
+        let Self {
+            pattern_string,
+            regexp,
+            group_name_list,
+            matcher,
+            has_regexp_group: _,
+        } = self;
+        (pattern_string, regexp, group_name_list, matcher)
+    }
+}
+
+impl<R: Drop> Drop for Component<R> {
+    /// Drops the fields. Where a component goes out of scope, the prover handles one call in place of each of its fields.
+    fn drop(self) {
+        let Self {
+            pattern_string: _pattern_string,
+            regexp: _regexp,
+            group_name_list: _group_name_list,
+            matcher: _matcher,
+            has_regexp_group: _,
+        } = self;
+    }
 }
 
 /// The regular expression of a list of parts, and the names of its groups in their order.

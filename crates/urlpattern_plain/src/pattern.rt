@@ -130,13 +130,12 @@ impl UrlPatternComponent {
         ensures plain { IfOk result (λ plain. component_by text_of plain ≡ plain_component R.text_made_of (compiled.component_view component)) }
         ensures memory { IfErr result (λ error. error ≡ errors.OutOfMemory) }
     {
-        let regexp_string = engine_text(alloc, &component.regexp)?;
-        let matcher = Matcher::from_matcher(alloc, component.matcher)?;
+        let (pattern_string, regexp, group_name_list, matcher) = component.into_fields();
         Ok(Self {
-            pattern_string: component.pattern_string,
-            regexp_string,
-            matcher,
-            group_name_list: component.group_name_list,
+            pattern_string,
+            regexp_string: engine_text(alloc, &regexp)?,
+            matcher: Matcher::from_matcher(alloc, matcher)?,
+            group_name_list,
         })
     }
 

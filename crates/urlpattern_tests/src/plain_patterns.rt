@@ -47,12 +47,13 @@ fn pattern_as_lib(alloc: Global, pathname: &str) -> Result<UrlPattern<Regex>, Er
 
 /// The JSON of the plain matcher of a component.
 fn matcher_tree<R: RegExp>(alloc: Global, component: Component<R>) -> Result<Value, Error> {
-    Matcher::from_matcher(alloc, component.matcher)?.to_json_value(alloc)
+    let (_, _, _, matcher) = component.into_fields();
+    Matcher::from_matcher(alloc, matcher)?.to_json_value(alloc)
 }
 
 /// What the plain matcher of a component has between prefix and suffix.
 fn plain_inner<R: RegExp>(alloc: Global, component: Component<R>) -> Result<InnerMatcher, Error> {
-    let matcher = component.matcher;
+    let (_, _, _, matcher) = component.into_fields();
     InnerMatcher::from_inner(alloc, matcher.inner)
 }
 
