@@ -30,7 +30,6 @@ pub type UrlPatternGroups<'c, 'a> = Zip<slice::Iter<'c, String>, slice::Iter<'c,
 /// A match whose texts, names and captures are borrowed from the pattern and from what it matches.
 ///
 /// `UrlPattern::captures` answers it.
-#[derive(Drop)]
 pub struct UrlPatternCaptures<'a> {
     /// The names of the groups.
     pub(super) names: Eight<&'a Vec<String>>,
@@ -38,6 +37,17 @@ pub struct UrlPatternCaptures<'a> {
     pub(super) texts: Eight<&'a str>,
     /// What the groups capture of each text.
     pub(super) captures: Eight<Captured<'a>>,
+}
+
+impl Drop for UrlPatternCaptures<'_> {
+    /// Drops the lists of captures. Where a match goes out of scope, the prover handles one call in place of eight lists.
+    fn drop(self) {
+        let Self {
+            names: _,
+            texts: _,
+            captures: _captures,
+        } = self;
+    }
 }
 
 impl<'a> UrlPatternCaptures<'a> {
