@@ -2,9 +2,6 @@
 //! shows what the pattern of one component is compiled to.
 #![tactic(auto)]
 
-#[cfg(test)]
-mod commands;
-
 use std::alloc::AllocError;
 use std::process::ExitCode;
 use std::{env, io};
