@@ -18,7 +18,7 @@ use Rattle.urlpattern_syntax.specs.declared.parser.RegexSyntax.TheVariants.{Ecma
 use Rattle.std.specs.Prelude.{IfSome}
 use Rattle.std.specs.Char.{IsScalar}
 use Rattle.serde_json.specs.View.{items_of}
-use Rattle.urlpattern_plain.specs.Json.{capture_read, character_read, component_read, component_tree, filter_tree, inner_read, matcher_read, matcher_tree, only, pattern_read, pattern_tree, texts_of_items, texts_read}
+use Rattle.urlpattern_plain.specs.Json.{capture_read, character_read, component_read, component_tree, filter_tree, inner_read, inner_tree, matcher_read, matcher_tree, only, pattern_read, pattern_tree, texts_of_items, texts_read}
 use Rattle.urlpattern_plain.specs.Values.{ComponentView, HasFilter, HasFilters, InnerView, MatcherView, PatternView, literal, regexp, single_capture}
 use Rattle.urlpattern_plain.proofs.PatternLemmas.{pattern_from}
 use Rattle.urlpattern_syntax.proofs.StringTexts.{chars-encode}
@@ -77,12 +77,19 @@ capture_from : (tree : Data) (filter : Option ℕ) (allow_empty : Bool) → opti
 unfolding capture_read
 capture_from tree filter allow_empty f a = rw (f, a) refl
 
-inner_again : (prefix suffix : List ℕ) (inner : InnerView) → HasFilter inner → inner_read (matcher_tree (record { prefix = prefix; suffix = suffix; inner = inner })) ≡ Some inner
+pub inner_again : (inner : InnerView) → HasFilter inner → inner_read (inner_tree inner) ≡ Some inner
 unfolding inner_read
-inner_again prefix suffix (literal bytes) h = refl
-inner_again prefix suffix (single_capture filter allow_empty) h =
+inner_again (literal bytes) h = refl
+inner_again (single_capture filter allow_empty) h =
+    capture_from (inner_tree (single_capture filter allow_empty)) filter allow_empty (filter_again filter h) refl
+inner_again (regexp bytes) h = refl
+
+inner_within : (prefix suffix : List ℕ) (inner : InnerView) → HasFilter inner → inner_read (matcher_tree (record { prefix = prefix; suffix = suffix; inner = inner })) ≡ Some inner
+unfolding inner_read
+inner_within prefix suffix (literal bytes) h = refl
+inner_within prefix suffix (single_capture filter allow_empty) h =
     capture_from (matcher_tree (record { prefix = prefix; suffix = suffix; inner = single_capture filter allow_empty })) filter allow_empty (filter_again filter h) refl
-inner_again prefix suffix (regexp bytes) h = refl
+inner_within prefix suffix (regexp bytes) h = refl
 
 matcher_from : (tree : Data) (matcher : MatcherView) → text_read (codes "prefix") tree ≡ Some matcher.prefix → text_read (codes "suffix") tree ≡ Some matcher.suffix → inner_read tree ≡ Some matcher.inner → matcher_read tree ≡ Some matcher
 unfolding matcher_read
@@ -103,7 +110,7 @@ matcher_again matcher h =
     matcher_from (matcher_tree matcher) matcher
     (prefix_again matcher.prefix matcher.suffix matcher.inner)
     (suffix_again matcher.prefix matcher.suffix matcher.inner)
-    (inner_again matcher.prefix matcher.suffix matcher.inner h)
+    (inner_within matcher.prefix matcher.suffix matcher.inner h)
 
 -- ---- components
 

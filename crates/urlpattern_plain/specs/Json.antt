@@ -31,6 +31,9 @@ inner_members (regexp bytes) =
     ∷ (codes "regexp", Some (string bytes))
     ∷ []
 
+abbrev pub inner_tree : InnerView → Data
+inner_tree inner = object_of (inner_members inner)
+
 abbrev pub matcher_tree : MatcherView → Data
 matcher_tree matcher = object_of (
     (codes "prefix", Some (string matcher.prefix))

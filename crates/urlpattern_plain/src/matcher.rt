@@ -2,7 +2,7 @@
 
 ghost use Rattle.std.specs.Prelude.{◌≡◌, IfErr, IfOk, OnOk, option_map};
 ghost use Rattle.serde_json.specs.View.{view};
-ghost use Rattle.urlpattern_plain.specs.Json.{capture_read, inner_members, inner_read, matcher_read, matcher_tree};
+ghost use Rattle.urlpattern_plain.specs.Json.{capture_read, inner_members, inner_read, inner_tree, matcher_read, matcher_tree};
 ghost use Rattle.urlpattern_core.specs.Matchers as compiled;
 ghost use Rattle.urlpattern_plain.specs.Steps.{Gives};
 ghost use Rattle.urlpattern_plain.specs.Trees.{GainAll};
@@ -147,6 +147,18 @@ impl InnerMatcher {
         }
     }
 
+    /// The JSON of what stands between prefix and suffix: an object with `kind`, and the keys of its kind.
+    ///
+    /// The error is that memory ran out.
+    pub fn to_json_value(&self, alloc: Global) -> Result<Value, Error>
+        ensures tree { IfOk result (λ tree. view tree ≡ inner_tree (inner_view self.now)) }
+        ensures memory { IfErr result (λ error. error ≡ errors.OutOfMemory) }
+    {
+        let mut members = Map::new(alloc);
+        self.put_members(&mut members, alloc)?;
+        Ok(Value::Object(members))
+    }
+
     /// Puts the kind, and the keys that go with it, into an object.
     fn put_members(&self, members: &mut Map<String, Value>, alloc: Global) -> Result<(), AllocError>
         ensures { OnOk result (GainAll members.old.entries members.new.entries (inner_members (inner_view self.now))) }
@@ -169,6 +181,17 @@ impl InnerMatcher {
                 put_text(members, alloc, "regexp", regexp)
             }
         }
+    }
+
+    /// What the JSON stands for: an object with `kind`, and the keys of its kind. Other keys are passed over. `None`: the
+    /// JSON has another shape.
+    ///
+    /// The error is that memory ran out.
+    pub fn from_json_value(alloc: Global, value: &Value) -> Result<Option<Self>, Error>
+        ensures read { IfOk result (λ found. option_map inner_view found ≡ inner_read (view value.now)) }
+        ensures memory { IfErr result (λ error. error ≡ errors.OutOfMemory) }
+    {
+        read_or_none(Self::read(alloc, value))
     }
 
     /// By the kind that the object names.

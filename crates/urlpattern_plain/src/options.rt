@@ -1,13 +1,11 @@
 //! How a whole pattern is built.
 
-ghost use Rattle.std.specs.Prelude.{◌≡◌, IfErr, IfOk};
+ghost use Rattle.std.specs.Prelude.{◌≡◌, IfErr, IfOk, Ok};
 ghost use Rattle.serde_json.specs.Find.{get};
 ghost use Rattle.serde_json.specs.View.{view};
 ghost use Rattle.urlpattern_plain.specs.InputJson.{options_read, options_tree, syntax_name, syntax_of, syntax_read};
-ghost use Rattle.urlpattern_plain.specs.Steps.{Gives};
 ghost use Rattle.urlpattern_syntax.specs.declared.error.Error.TheVariants as errors;
 
-use crate::reading::{Unread, flag_field, read_or_none};
 use serde::{Deserialize, Serialize};
 use serde_json::{Value, json};
 use std::alloc::Global;
@@ -41,21 +39,20 @@ impl UrlPatternOptions {
     /// The options that the JSON stands for: an object with `ignoreCase`, and `regexSyntax` if it is not the default.
     /// Other keys are passed over. `None`: the JSON has another shape.
     ///
-    /// The error is that memory ran out.
+    /// Nothing is allocated, and there is no error.
     pub fn from_json_value(_alloc: Global, value: &Value) -> Result<Option<Self>, Error>
-        ensures read { IfOk result (λ found. found ≡ options_read (view value.now)) }
-        ensures memory { IfErr result (λ error. error ≡ errors.OutOfMemory) }
+        ensures { result ≡ Ok (options_read (view value.now)) }
     {
-        read_or_none(Self::read(value))
+        Ok(Self::read(value))
     }
 
     #[tactic(auto, unfolding(crate::specs::InputJson::options_read))]
-    fn read(value: &Value) -> Result<Self, Unread>
-        ensures { Gives (λ options. options) result (options_read (view value.now)) }
+    fn read(value: &Value) -> Option<Self>
+        ensures { result ≡ options_read (view value.now) }
     {
         let regex_syntax = syntax_field(value, "regexSyntax")?;
-        let ignore_case = flag_field(value, "ignoreCase")?;
-        Ok(Self {
+        let ignore_case = value.get("ignoreCase")?.as_bool()?;
+        Some(Self {
             regex_syntax,
             ignore_case,
         })
@@ -86,14 +83,11 @@ fn syntax_of(name: &str) -> Option<RegexSyntax>
 }
 
 /// The syntax of a member, which is the default where there is none.
-fn syntax_field(tree: &Value, name: &str) -> Result<RegexSyntax, Unread>
-    ensures { Gives (λ syntax. syntax) result (syntax_read (get name.now (view tree.now))) }
+fn syntax_field(tree: &Value, name: &str) -> Option<RegexSyntax>
+    ensures { result ≡ syntax_read (get name.now (view tree.now)) }
 {
-    let Some(member) = tree.get(name) else {
-        return Ok(RegexSyntax::Rust);
-    };
-    match member.as_str().and_then(syntax_of) {
-        Some(syntax) => Ok(syntax),
-        None => Err(Unread::Shape),
+    match tree.get(name) {
+        Some(member) => member.as_str().and_then(syntax_of),
+        None => Some(RegexSyntax::Rust),
     }
 }

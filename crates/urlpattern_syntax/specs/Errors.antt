@@ -5,6 +5,8 @@ use Rattle.urlpattern_syntax.specs.declared.error.Error.{Error}
 use Rattle.urlpattern_syntax.specs.declared.error.Error.TheVariants as errors
 use Rattle.urlpattern_syntax.specs.declared.error.ParserError.{ParserError}
 use Rattle.urlpattern_syntax.specs.declared.error.ParserError.TheVariants as parser_errors
+use Rattle.urlpattern_syntax.specs.declared.error.RegExpError.{RegExpError}
+use Rattle.urlpattern_syntax.specs.declared.error.RegExpError.TheVariants as regexp_errors
 use Rattle.urlpattern_syntax.specs.declared.tokenizer.TokenType.{TokenType}
 use Rattle.urlpattern_syntax.specs.Text.{text_of}
 use Rattle.urlpattern_syntax.specs.Tokens.{FaultView, fault_view}
@@ -31,6 +33,11 @@ error_view (errors.Parser error) = parser_error_view error
 error_view (errors.Url error) = Url error
 error_view (errors.RegExp error) = RegExp
 error_view errors.OutOfMemory = OutOfMemory
+
+-- an engine's error: it refused the text of a regular expression, or memory ran out
+abbrev pub regexp_error_view : RegExpError → ErrorView
+regexp_error_view regexp_errors.Pattern = RegExp
+regexp_error_view regexp_errors.OutOfMemory = OutOfMemory
 
 -- The error is that memory ran out, or one of these.
 abbrev pub MemoryOr : (Is : ErrorView → Type 0) → Error → Type 0

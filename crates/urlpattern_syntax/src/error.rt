@@ -2,8 +2,10 @@
 
 ghost use Rattle.std.specs.Prelude.{◌≡◌, Some};
 ghost use Rattle.urlpattern_syntax.specs.declared.error.Error.TheVariants as errors;
+ghost use Rattle.urlpattern_syntax.specs.declared.error.RegExpError.TheVariants as regexp_errors;
 ghost use Rattle.urlpattern_syntax.specs.ErrorText.{error_text, fault_text, parser_error_text};
-ghost use Rattle.urlpattern_syntax.specs.Errors.{error_view};
+ghost use Rattle.urlpattern_syntax.specs.Errors as view;
+ghost use Rattle.urlpattern_syntax.specs.Errors.{error_view, regexp_error_view};
 ghost use Rattle.urlpattern_syntax.specs.Refusals.{url_error};
 ghost use Rattle.urlpattern_syntax.specs.Tokens.{fault_view};
 
@@ -194,6 +196,17 @@ impl error::Error for ParserError {}
 #[derive(Debug, Drop)]
 pub struct OutOfMemory;
 
+/// Prints the text of [`Error::OutOfMemory`].
+impl fmt::Display for OutOfMemory {
+    ghost output = { λ error. error_text view.OutOfMemory };
+
+    fn fmt<W: fmt::Write>(&self, f: &mut fmt::Formatter<W>) -> fmt::Result {
+        f.write_str("out of memory")
+    }
+}
+
+impl error::Error for OutOfMemory {}
+
 impl From<AllocError> for OutOfMemory {
     fn from(_error: AllocError) -> OutOfMemory {
         OutOfMemory
@@ -215,12 +228,32 @@ pub enum RegExpError {
     OutOfMemory,
 }
 
-impl From<AllocError> for RegExpError {
-    ghost use Rattle.urlpattern_syntax.specs.declared.error.RegExpError.TheVariants as regexp_errors;
+/// Prints the text of the [`Error`] of the same name, which for a refused text is [`Error::RegExp`].
+impl fmt::Display for RegExpError {
+    ghost output = { λ error. error_text (regexp_error_view error) };
 
+    fn fmt<W: fmt::Write>(&self, f: &mut fmt::Formatter<W>) -> fmt::Result {
+        match self {
+            Self::Pattern => f.write_str("regexp error"),
+            Self::OutOfMemory => f.write_str("out of memory"),
+        }
+    }
+}
+
+impl error::Error for RegExpError {}
+
+impl From<AllocError> for RegExpError {
     ghost from_gives = { λ _ error. error ≡ regexp_errors.OutOfMemory };
 
     fn from(_error: AllocError) -> RegExpError {
+        RegExpError::OutOfMemory
+    }
+}
+
+impl<T: Drop> From<AllocFailed<T>> for RegExpError {
+    ghost from_gives = { λ _ error. error ≡ regexp_errors.OutOfMemory };
+
+    fn from(_error: AllocFailed<T>) -> RegExpError {
         RegExpError::OutOfMemory
     }
 }

@@ -1,4 +1,4 @@
-use Rattle.urlpattern_plain.proofs.RoundTrip.{init_again, input_again, match_input_again, options_again, component_again, matcher_again, pattern_again}
+use Rattle.urlpattern_plain.proofs.RoundTrip.{init_again, input_again, match_input_again, options_again, component_again, inner_again, matcher_again, pattern_again}
 use Rattle.urlpattern_plain.proofs.laws.reading_undoes_writing.Goals as goal
 
 pub returns : goal.returns
@@ -7,6 +7,7 @@ returns c = record {
   init = init_again;
   input = input_again;
   match_input = match_input_again;
+  inner = inner_again;
   matcher = matcher_again;
   component = component_again;
   pattern = pattern_again;
