@@ -15,7 +15,7 @@ use Rattle.urlpattern_syntax.specs.declared.eight.ComponentName.{ComponentName a
 use Rattle.urlpattern_syntax.specs.declared.eight.ComponentName.TheVariants.{Protocol}
 use Rattle.urlpattern_init.specs.declared.init.UrlPatternInit.{UrlPatternInit}
 use Rattle.urlpattern.specs.declared.pattern.UrlPattern.{UrlPattern}
-use Rattle.urlpattern_plain.specs.declared.options.UrlPatternOptions.{UrlPatternOptions}
+use Rattle.urlpattern_inputs.specs.declared.options.UrlPatternOptions.{UrlPatternOptions}
 use Rattle.urlpattern_laws.specs.PartMeaning.{Captures}
 use Rattle.urlpattern_canonical.proofs.MarkLemmas.{bytes_eq-chars}
 use Rattle.urlpattern_canonical.specs.Canonical.{default_port, is_special, without_first}

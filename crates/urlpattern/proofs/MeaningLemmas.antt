@@ -8,7 +8,7 @@ use Rattle.urlpattern_core.specs.Compiling.{ComponentView, IsCompiledFrom, IsCom
 use Rattle.urlpattern_init.specs.declared.init.UrlPatternInit.{UrlPatternInit}
 use Rattle.urlpattern_init.specs.declared.init.UrlPatternMatchInput.{UrlPatternMatchInput}
 use Rattle.urlpattern_syntax.specs.declared.eight.ComponentName.{ComponentName}
-use Rattle.urlpattern_plain.specs.declared.options.UrlPatternOptions.{UrlPatternOptions}
+use Rattle.urlpattern_inputs.specs.declared.options.UrlPatternOptions.{UrlPatternOptions}
 use Rattle.urlpattern_laws.proofs.CallbackLaws.{EncodesOnce, reading_one_encoded}
 use Rattle.urlpattern_laws.proofs.MatcherMeaning.{matcher_means}
 use Rattle.urlpattern_laws.specs.Matching.{Agrees, Answers}

@@ -9,7 +9,7 @@ use Rattle.urlpattern_core.specs.Compiling.{IsComponentOf, engine_flags}
 use Rattle.urlpattern_core.specs.Engines.{IsRegexOf, IsTakenByRegex, regex_answer}
 use Rattle.urlpattern_init.specs.declared.init.UrlPatternMatchInput.{UrlPatternMatchInput}
 use Rattle.urlpattern_syntax.specs.declared.eight.ComponentName.{ComponentName}
-use Rattle.urlpattern_plain.specs.declared.options.UrlPatternOptions.{UrlPatternOptions}
+use Rattle.urlpattern_inputs.specs.declared.options.UrlPatternOptions.{UrlPatternOptions}
 use Rattle.urlpattern_laws.proofs.CallbackLaws.{reading_one_encoded}
 use Rattle.urlpattern_laws.proofs.FirstAnswers.{first_one, of_made}
 use Rattle.urlpattern_laws.proofs.OneMeaning.{is_tree_of}

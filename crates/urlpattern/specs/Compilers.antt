@@ -4,7 +4,7 @@ use Rattle.urlpattern_core.specs.Compiling.{ComponentView, IsCompiledBy}
 use Rattle.urlpattern_core.specs.declared.regexp.RegExp.{Ghosts as Engine}
 use Rattle.urlpattern_init.specs.declared.init.UrlPatternInit.{UrlPatternInit}
 use Rattle.urlpattern_init.specs.Inheritance.{values_view}
-use Rattle.urlpattern_plain.specs.declared.options.UrlPatternOptions.{UrlPatternOptions}
+use Rattle.urlpattern_inputs.specs.declared.options.UrlPatternOptions.{UrlPatternOptions}
 use Rattle.urlpattern.specs.declared.pattern.parse.Compiler.{Compiler}
 use Rattle.urlpattern.specs.Compiled.{AreCompiled, FirstRefused, IsComponentCompiled, IsComponentRefused, IsRefusedFrom, Manner, RefusesValues, manner_of}
 use Rattle.urlpattern.specs.Patterns.{PatternView}

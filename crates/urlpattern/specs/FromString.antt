@@ -11,7 +11,7 @@ use Rattle.urlpattern_init.specs.ConstructorString.{HasProtocolOrBase, RefusesSt
 use Rattle.urlpattern_init.specs.Inheritance.{values_view}
 use Rattle.urlpattern_init.specs.SpecialProtocol.{IsSpecialTo}
 use Rattle.urlpattern_init.specs.declared.init.UrlPatternInit.{UrlPatternInit}
-use Rattle.urlpattern_plain.specs.declared.options.UrlPatternOptions.{UrlPatternOptions}
+use Rattle.urlpattern_inputs.specs.declared.options.UrlPatternOptions.{UrlPatternOptions}
 use Rattle.urlpattern_laws.specs.PartMeaning.{Captures}
 use Rattle.urlpattern.specs.Compiled.{Compiles, IsCompiled, RefusesPattern}
 use Rattle.urlpattern.specs.Patterns.{PatternView, pattern_view}

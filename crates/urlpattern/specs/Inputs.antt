@@ -14,10 +14,10 @@ use Rattle.urlpattern_init.specs.declared.init.UrlPatternMatchInput.{UrlPatternM
 use Rattle.urlpattern_init.specs.declared.init.UrlPatternMatchInput.TheVariants as match_inputs
 use Rattle.urlpattern_canonical.specs.Canonical.{IsRefusedByUrl, Reports}
 use Rattle.urlpattern_core.specs.Engines.{IsRegexOf, regex_answer}
-use Rattle.urlpattern_plain.specs.declared.init.UrlPatternInit.{UrlPatternInit as PlainInit}
-use Rattle.urlpattern_plain.specs.declared.input.StringOrInit.{StringOrInit}
-use Rattle.urlpattern_plain.specs.declared.input.StringOrInit.TheVariants as inputs
-use Rattle.urlpattern_plain.specs.InputValues.{given_texts, input_view}
+use Rattle.urlpattern_inputs.specs.declared.init.UrlPatternInit.{UrlPatternInit as PlainInit}
+use Rattle.urlpattern_inputs.specs.declared.input.StringOrInit.{StringOrInit}
+use Rattle.urlpattern_inputs.specs.declared.input.StringOrInit.TheVariants as inputs
+use Rattle.urlpattern_inputs.specs.InputValues.{given_texts, input_view}
 pub use Rattle.urlpattern.specs.FromString.{RefusesText, parsed_base, text_bytes}
 use Rattle.urlpattern.specs.FromString.{IsInitOfText}
 use Rattle.urlpattern_syntax.specs.Errors.{ErrorView, ErrorView as views}

@@ -19,11 +19,11 @@ pub use Rattle.urlpattern_laws.specs.PartMeaning
 pub use Rattle.urlpattern_laws.specs.Printing
 pub use Rattle.urlpattern_laws.specs.RoundTrip
 pub use Rattle.urlpattern_laws.specs.Ways
-pub use Rattle.urlpattern_plain.specs.InputJson
-pub use Rattle.urlpattern_plain.specs.InputValues
-pub use Rattle.urlpattern_plain.specs.Json
-pub use Rattle.urlpattern_plain.specs.Plain
-pub use Rattle.urlpattern_plain.specs.Values
+pub use Rattle.urlpattern_inputs.specs.InputJson
+pub use Rattle.urlpattern_inputs.specs.InputValues
+pub use Rattle.urlpattern_compiled.specs.Json
+pub use Rattle.urlpattern_compiled.specs.Plain
+pub use Rattle.urlpattern_compiled.specs.Values
 pub use Rattle.urlpattern_syntax.specs.Eight
 pub use Rattle.urlpattern_syntax.specs.ErrorText
 pub use Rattle.urlpattern_syntax.specs.Errors

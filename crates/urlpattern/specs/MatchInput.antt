@@ -6,8 +6,8 @@ use Rattle.urlpattern_init.specs.declared.init.UrlPatternMatchInput.TheVariants.
 use Rattle.urlpattern_init.specs.Inheritance.{init_bytes, init_values, texts_of_url, texts_of_values}
 use Rattle.urlpattern_canonical.specs.Canonical.{IsRefusedByUrl}
 use Rattle.urlpattern_canonical.specs.declared.canonicalize_and_process.ProcessType.TheVariants.{Url}
-use Rattle.urlpattern_plain.specs.InputValues.{matched_texts}
-use Rattle.urlpattern_plain.specs.declared.match_input.MatchInput.{MatchInput}
+use Rattle.urlpattern_inputs.specs.InputValues.{matched_texts}
+use Rattle.urlpattern_inputs.specs.declared.match_input.MatchInput.{MatchInput}
 use Rattle.urlpattern_syntax.specs.Text.{text_of}
 use Rattle.urlpattern_syntax.specs.Eight.{Texts, at, each}
 

@@ -3,9 +3,9 @@ use Rattle.std.specs.Prelude.{◌≡◌, ℕ, List, Result, IfErr, IfOk}
 use Rattle.urlpattern.specs.Patterns.{PatternView, has_regexp_groups}
 use Rattle.urlpattern_core.specs.Compiling.{component_view}
 use Rattle.urlpattern_core.specs.declared.component.Component.{Component}
-use Rattle.urlpattern_plain.specs.Plain.{plain_component}
-use Rattle.urlpattern_plain.specs.Values as plain
-use Rattle.urlpattern_plain.specs.declared.pattern.UrlPatternComponent.{UrlPatternComponent}
+use Rattle.urlpattern_compiled.specs.Plain.{plain_component}
+use Rattle.urlpattern_compiled.specs.Values as plain
+use Rattle.urlpattern_compiled.specs.declared.pattern.UrlPatternComponent.{UrlPatternComponent}
 use Rattle.urlpattern_syntax.specs.Eight.{each}
 use Rattle.urlpattern_syntax.specs.Text.{text_of}
 use Rattle.urlpattern_syntax.specs.declared.error.Error.{Error}

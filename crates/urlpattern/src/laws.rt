@@ -10,7 +10,7 @@ ghost use Rattle.urlpattern_init.specs.declared.init.UrlPatternMatchInput.{UrlPa
 ghost use Rattle.regex.specs.declared.string.regex.Regex.{Regex};
 ghost use Rattle.urlpattern_core.specs.Compiling.{IsCompiledBy};
 ghost use Rattle.urlpattern_core.specs.Engines.{regex_answer};
-ghost use Rattle.urlpattern_plain.specs.declared.options.UrlPatternOptions.{UrlPatternOptions};
+ghost use Rattle.urlpattern_inputs.specs.declared.options.UrlPatternOptions.{UrlPatternOptions};
 ghost use Rattle.urlpattern.specs.Compiled.{AreCompiled};
 ghost use Rattle.urlpattern.specs.MatchInput.{input_texts};
 ghost use Rattle.urlpattern.specs.Meaning.{IsExecuted, IsFirstResult, IsFoundByMeaning, MeaningPremises, RegexPremises, compiles_by_regex};
@@ -37,7 +37,7 @@ pub use urlpattern_engine::laws::{
     pattern_regexps_answer_the_first_way, pattern_regexps_take_each_generated_text,
 };
 pub use urlpattern_init::laws::splits_are_one;
-pub use urlpattern_plain::laws::reading_undoes_writing;
+pub use urlpattern_compiled::laws::reading_undoes_writing;
 
 /// What a pattern answers to an input is what its pattern texts mean. In a match each component's pattern text means the
 /// component's text, and the groups are the names of its parts beside the captures of one such meaning. No match is answered

@@ -21,5 +21,5 @@ pub use pattern::{
 pub use urlpattern_canonical::canonicalize_and_process;
 pub use urlpattern_core::{Error, RegexSyntax, component, error, matcher, parser, tokenizer};
 pub use urlpattern_init::{UrlPatternInit, UrlPatternMatchInput};
-pub use urlpattern_plain::UrlPatternOptions;
+pub use urlpattern_inputs::UrlPatternOptions;
 pub use urlpattern_syntax::eight::{ComponentName, Eight};

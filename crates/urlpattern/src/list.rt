@@ -28,7 +28,7 @@ use urlpattern_core::error::OutOfMemory;
 use urlpattern_core::regexp::RegExp;
 use urlpattern_index::{Address, Index};
 use urlpattern_init::UrlPatternMatchInput;
-use urlpattern_plain::MatchInput;
+use urlpattern_inputs::MatchInput;
 use urlpattern_syntax::eight::Eight;
 
 /// Patterns in their order, as the routes of a router.

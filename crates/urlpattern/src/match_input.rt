@@ -11,7 +11,7 @@ use url::Url;
 use urlpattern_canonical::canonicalize_and_process::ProcessType;
 use urlpattern_core::Error;
 use urlpattern_init::{UrlPatternMatchInput, process_values};
-use urlpattern_plain::MatchInput;
+use urlpattern_inputs::MatchInput;
 use urlpattern_syntax::eight::Eight;
 
 /// The texts of a URL.

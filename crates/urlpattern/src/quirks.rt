@@ -11,7 +11,5 @@ pub use crate::match_input::parse_match_input;
 pub use ecma_regexp::EcmaRegexp;
 pub use inputs::{process_construct_pattern_input, process_match_input};
 pub use parsing::{parse_pattern, parse_pattern_as_lib};
-pub use urlpattern_plain::{
-    InnerMatcher, Inputs, MatchInput, Matcher, StringOrInit, UrlPattern, UrlPatternComponent,
-    UrlPatternInit,
-};
+pub use urlpattern_compiled::{InnerMatcher, Matcher, UrlPattern, UrlPatternComponent};
+pub use urlpattern_inputs::{Inputs, MatchInput, StringOrInit, UrlPatternInit};

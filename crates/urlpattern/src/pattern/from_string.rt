@@ -14,7 +14,7 @@ use urlpattern_canonical::canonicalize_and_process::reported;
 use urlpattern_core::Error;
 use urlpattern_core::regexp::RegExp;
 use urlpattern_init::UrlPatternInit;
-use urlpattern_plain::UrlPatternOptions;
+use urlpattern_inputs::UrlPatternOptions;
 
 impl<R: RegExp> UrlPattern<R> {
     /// Compiles a pattern from a constructor string, the pattern of a whole URL, with a base URL if there is one.

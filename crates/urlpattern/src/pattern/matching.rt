@@ -27,7 +27,7 @@ use urlpattern_core::error::OutOfMemory;
 use urlpattern_core::matcher::Look;
 use urlpattern_core::regexp::RegExp;
 use urlpattern_init::UrlPatternMatchInput;
-use urlpattern_plain::MatchInput;
+use urlpattern_inputs::MatchInput;
 use urlpattern_syntax::eight::{ComponentName, Eight};
 
 impl<R: RegExp> UrlPattern<R> {

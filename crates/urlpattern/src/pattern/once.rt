@@ -12,7 +12,7 @@ use std::alloc::Global;
 use urlpattern_core::Error;
 use urlpattern_core::regexp::RegExp;
 use urlpattern_init::{UrlPatternInit, UrlPatternMatchInput};
-use urlpattern_plain::UrlPatternOptions;
+use urlpattern_inputs::UrlPatternOptions;
 
 impl<R: RegExp> UrlPattern<R> {
     /// Compiles the pattern of an init and matches one input: `parse`, and then `exec`.

@@ -25,7 +25,7 @@ use urlpattern_core::parser::Options;
 use urlpattern_core::regexp::RegExp;
 use urlpattern_core::{Error, component};
 use urlpattern_init::{UrlPatternInit, accepts_special_scheme, process};
-use urlpattern_plain::UrlPatternOptions;
+use urlpattern_inputs::UrlPatternOptions;
 use urlpattern_syntax::eight::ComponentName;
 
 impl<R: RegExp> UrlPattern<R> {

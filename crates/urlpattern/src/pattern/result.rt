@@ -16,7 +16,7 @@ use super::groups::{Groups, add_groups};
 use std::alloc::{AllocError, Global};
 use std::collections::HashMap;
 use urlpattern_core::error::OutOfMemory;
-use urlpattern_plain::MatchInput;
+use urlpattern_inputs::MatchInput;
 use urlpattern_syntax::eight::{ComponentName, Eight};
 
 /// The result of a match, for each component.

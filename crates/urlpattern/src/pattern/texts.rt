@@ -10,7 +10,7 @@ ghost use Rattle.urlpattern_syntax.specs.Eight.{at};
 use std::alloc::{AllocError, Global};
 use url::Url;
 use urlpattern_init::url_text;
-use urlpattern_plain::MatchInput;
+use urlpattern_inputs::MatchInput;
 use urlpattern_syntax::eight::{ComponentName, Eight};
 
 /// The texts of a URL.

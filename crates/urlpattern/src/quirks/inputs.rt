@@ -5,7 +5,7 @@ ghost use Rattle.url.specs.Parser as url_spec;
 ghost use Rattle.urlpattern_init.specs.Inheritance.{values_view};
 ghost use Rattle.urlpattern.specs.Inputs.{IsCopyOfText, FindsInput, IsConstructedFrom, IsInitOf, IsInitOfString, RefusesInput, RefusesSecondBase, longer_bytes, RefusesText, parsed_base, parsed_text, plain_base, plain_values, text_bytes};
 ghost use Rattle.urlpattern_canonical.specs.Canonical.{Reports};
-ghost use Rattle.urlpattern_plain.specs.declared.input.StringOrInit.TheVariants as plain_inputs;
+ghost use Rattle.urlpattern_inputs.specs.declared.input.StringOrInit.TheVariants as plain_inputs;
 ghost use Rattle.urlpattern_syntax.specs.declared.error.Error.TheVariants as errors;
 ghost use Rattle.urlpattern_syntax.specs.Eight.{at};
 ghost use Rattle.urlpattern_syntax.specs.Parsing.{name_view};
@@ -21,7 +21,7 @@ use urlpattern_canonical::canonicalize_and_process::reported;
 use urlpattern_core::Error;
 use urlpattern_init as init;
 use urlpattern_init::UrlPatternMatchInput;
-use urlpattern_plain::{Inputs, StringOrInit, UrlPatternInit};
+use urlpattern_inputs::{Inputs, StringOrInit, UrlPatternInit};
 use urlpattern_syntax::eight::{ComponentName, Eight};
 
 /// The init of a pattern: of a constructor string, with a base URL if there is one, or of components one by one.

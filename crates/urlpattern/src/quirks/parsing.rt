@@ -3,7 +3,7 @@ ghost use Rattle.std.specs.Prelude.{◌≡◌, IfErr, IfOk};
 ghost use Rattle.urlpattern.specs.Compiled.{IsPatternOfInit, RefusesInit};
 ghost use Rattle.urlpattern.specs.Patterns.{PatternView, pattern_view};
 ghost use Rattle.urlpattern.specs.Quirks.{IsPlainOf, plain_pattern};
-ghost use Rattle.urlpattern_plain.specs.Values.{pattern_by};
+ghost use Rattle.urlpattern_compiled.specs.Values.{pattern_by};
 ghost use Rattle.urlpattern_syntax.specs.declared.error.Error.TheVariants as errors;
 ghost use Rattle.urlpattern_syntax.specs.Errors.{MemoryOr};
 ghost use Rattle.urlpattern_syntax.specs.Text.{text_of};
@@ -14,7 +14,8 @@ use urlpattern_core::Error;
 use urlpattern_core::component::Component;
 use urlpattern_core::regexp::RegExp;
 use urlpattern_init::UrlPatternInit;
-use urlpattern_plain::{UrlPattern, UrlPatternComponent, UrlPatternOptions};
+use urlpattern_compiled::{UrlPattern, UrlPatternComponent};
+use urlpattern_inputs::UrlPatternOptions;
 
 /// Compiles a pattern from an init, and returns it as plain data.
 ///

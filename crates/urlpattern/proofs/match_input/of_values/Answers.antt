@@ -1,6 +1,6 @@
 use Rattle.std.proofs.Common.{[], option_map, unwrap_or, ◌∙◌, ap, sym}
 use Rattle.urlpattern_init.specs.Inheritance.{values_of}
-use Rattle.urlpattern_plain.proofs.EachLemmas.{each-same}
+use Rattle.urlpattern_inputs.proofs.EachLemmas.{each-same}
 use Rattle.urlpattern_syntax.proofs.EightLemmas.{at-each}
 use Rattle.urlpattern_syntax.specs.Eight.{at, each}
 use Rattle.urlpattern_syntax.specs.Text.{text_of}

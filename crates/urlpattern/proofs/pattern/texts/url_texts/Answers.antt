@@ -1,6 +1,6 @@
 use Rattle.std.specs.Str.{chars}
 use Rattle.urlpattern_init.specs.Inheritance.{url_text}
-use Rattle.urlpattern_plain.proofs.EachLemmas.{each-same}
+use Rattle.urlpattern_inputs.proofs.EachLemmas.{each-same}
 use Rattle.urlpattern_syntax.specs.Eight.{at}
 use Rattle.urlpattern.proofs.pattern.texts.url_texts.Goals as goal
 

@@ -2,9 +2,9 @@ use Rattle.std.proofs.Common.{◌∙◌, ap}
 use Rattle.urlpattern.specs.Patterns.{pattern_view}
 use Rattle.urlpattern_core.specs.Compiling.{component_view}
 use Rattle.urlpattern_core.specs.declared.component.Component.{Component}
-use Rattle.urlpattern_plain.proofs.EachLemmas.{each-same}
-use Rattle.urlpattern_plain.specs.Plain.{plain_component}
-use Rattle.urlpattern_plain.specs.Values.{component_by}
+use Rattle.urlpattern_inputs.proofs.EachLemmas.{each-same}
+use Rattle.urlpattern_compiled.specs.Plain.{plain_component}
+use Rattle.urlpattern_compiled.specs.Values.{component_by}
 use Rattle.urlpattern_syntax.specs.Eight.{at, each}
 use Rattle.urlpattern_syntax.specs.declared.eight.Eight.{Eight}
 use Rattle.urlpattern_syntax.specs.Text.{text_of}

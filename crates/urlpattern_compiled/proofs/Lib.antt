@@ -1,0 +1,4 @@
+pub mod JsonExamples
+pub mod ItemLemmas
+pub mod PatternLemmas
+pub mod RoundTrip

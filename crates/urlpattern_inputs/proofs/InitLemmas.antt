@@ -1,0 +1,58 @@
+-- What an input and an init are read as.
+use Rattle.std.proofs.Common.{◌≡◌, ℕ, true, is_some, codes, List, Option, None, Some, refl, option_map}
+use Rattle.std.proofs.lemmas.Bool.{false≢true}
+use Rattle.serde_json.specs.Data.{Data, null, boolean, number, string, array, object, Members}
+use Rattle.serde_json.specs.Find.{as_object, as_str}
+use Rattle.urlpattern_inputs.specs.InputJson.{init_read, input_read}
+use Rattle.urlpattern_inputs.specs.InputValues.{InitView, of_init, of_text}
+use Rattle.urlpattern_inputs.specs.Steps.{Fails}
+use Rattle.urlpattern_inputs.specs.Trees.{optional_read, read_each}
+use Rattle.urlpattern_inputs.specs.declared.reading.Unread.{Unread}
+use Rattle.urlpattern_inputs.specs.declared.reading.Unread.TheVariants.{OutOfMemory, Shape}
+use Rattle.urlpattern_inputs.proofs.EachLemmas.{nothing}
+use Rattle.urlpattern_syntax.specs.Eight.{name_text}
+
+-- a tree that is no text is an init or nothing
+pub input_read-init : (tree : Data) → as_str tree ≡ None → input_read tree ≡ option_map of_init (init_read tree)
+input_read-init null e = refl
+input_read-init (boolean b) e = refl
+input_read-init (number n) e = refl
+input_read-init (string s) e = absurd cc
+input_read-init (array ds) e = refl
+input_read-init (object ms) e = refl
+
+pub input_read-text : (tree : Data) (bytes : List ℕ) → as_str tree ≡ Some bytes → input_read tree ≡ Some (of_text bytes)
+input_read-text null bytes e = absurd cc
+input_read-text (boolean b) bytes e = absurd cc
+input_read-text (number n) bytes e = absurd cc
+input_read-text (string s) bytes e = cc
+input_read-text (array ds) bytes e = absurd cc
+input_read-text (object ms) bytes e = absurd cc
+
+-- ---- inits
+
+is_there : (found : Option Members) → is_some found ≡ true → (members : Members) × (found ≡ Some members)
+is_there None e = absurd (false≢true e)
+is_there (Some members) e = (members, refl)
+
+init_among : (tree : Data) (members : Members) (values : InitView) → as_object tree ≡ Some members
+    → read_each (λ name. optional_read as_str (name_text name) tree) ≡ Some values.texts
+    → optional_read as_str (codes "baseURL") tree ≡ Some values.base_url
+    → init_read tree ≡ Some values
+unfolding init_read
+init_among tree inside values of_object of_texts of_base_url = rw (of_object, of_texts, of_base_url) refl
+
+pub init_from : (tree : Data) (values : InitView) → is_some (as_object tree) ≡ true
+    → read_each (λ name. optional_read as_str (name_text name) tree) ≡ Some values.texts
+    → optional_read as_str (codes "baseURL") tree ≡ Some values.base_url
+    → init_read tree ≡ Some values
+init_from tree values of_object =
+    let there = is_there (as_object tree) of_object in
+    init_among tree there.0 values there.1
+
+-- a component's text is not read, for this reason
+pub init_fails : (tree : Data) (reason : Unread)
+    → Fails reason (read_each (λ name. optional_read as_str (name_text name) tree)) → Fails reason (init_read tree)
+unfolding init_read
+init_fails tree Shape none = rw none (nothing (as_object tree) (λ members. None) (λ members. refl))
+init_fails tree OutOfMemory fails = tt

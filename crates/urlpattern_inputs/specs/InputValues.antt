@@ -1,0 +1,49 @@
+-- What is given, without where it lies in memory. Texts are seen as their bytes in UTF-8, which are those of JSON.
+use Rattle.std.specs.Prelude.{ℕ, List, [], Option, String, option_map, string_bytes}
+use Rattle.std.specs.Cow.{cow_str_bytes}
+use Rattle.std.specs.declared.alloc.Global.{Global}
+use Rattle.urlpattern_inputs.specs.declared.init.UrlPatternInit.{UrlPatternInit}
+use Rattle.urlpattern_inputs.specs.declared.input.StringOrInit.{StringOrInit}
+use Rattle.urlpattern_inputs.specs.declared.input.StringOrInit.TheVariants as inputs
+use Rattle.urlpattern_inputs.specs.declared.match_input.MatchInput.{MatchInput}
+use Rattle.urlpattern_syntax.specs.Eight.{at, each}
+use Rattle.urlpattern_syntax.specs.declared.eight.Eight.{Eight}
+
+-- ---- what is given
+
+-- what an init has for each component
+abbrev pub given_texts : UrlPatternInit → Eight (Option (String Global))
+given_texts given = record { protocol = given.protocol; username = given.username; password = given.password; hostname = given.hostname; port = given.port; pathname = given.pathname; search = given.search; hash = given.hash }
+
+-- An init: the text of each component, where it is given, and the base URL.
+pub record InitView : Type 0 where
+  pub texts : Eight (Option (List ℕ))
+  pub base_url : Option (List ℕ)
+
+abbrev pub init_view : UrlPatternInit → InitView
+init_view init = record {
+  texts = each (λ name. option_map string_bytes (at (given_texts init) name));
+  base_url = option_map string_bytes init.base_url;
+}
+
+-- one text, or an init
+pub data InputView : Type 0 where
+  of_text : List ℕ → InputView
+  of_init : InitView → InputView
+
+abbrev pub input_view : StringOrInit → InputView
+input_view (inputs.String string) = of_text (cow_str_bytes string)
+input_view (inputs.Init values) = of_init (init_view values)
+
+-- ---- what is matched
+
+-- the text of each component
+abbrev pub matched_texts : MatchInput → Eight (String Global)
+matched_texts input = record { protocol = input.protocol; username = input.username; password = input.password; hostname = input.hostname; port = input.port; pathname = input.pathname; search = input.search; hash = input.hash }
+
+abbrev pub match_input_view : MatchInput → Eight (List ℕ)
+match_input_view input = each (λ name. string_bytes (at (matched_texts input) name))
+
+-- eight empty texts
+abbrev pub empty_match_input : Eight (List ℕ)
+empty_match_input = each (λ name. [])

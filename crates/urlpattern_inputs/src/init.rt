@@ -1,0 +1,120 @@
+//! The patterns of a URL's components as a caller gives them.
+
+ghost use Rattle.std.specs.Prelude.{◌≡◌, IfErr, IfOk, option_map, string_bytes};
+ghost use Rattle.serde_json.specs.Data.{object};
+ghost use Rattle.serde_json.specs.View.{members_view, view};
+ghost use Rattle.urlpattern_inputs.specs.InputJson.{init_read, init_tree};
+ghost use Rattle.urlpattern_inputs.specs.Steps.{Gives};
+ghost use Rattle.urlpattern_inputs.specs.InputValues.{given_texts, init_view};
+ghost use Rattle.urlpattern_syntax.specs.Eight.{at};
+ghost use Rattle.urlpattern_syntax.specs.declared.error.Error.TheVariants as errors;
+
+use crate::reading::{Unread, optional_text_field, read_or_none};
+use crate::writing::put_optional;
+use serde::{Deserialize, Serialize};
+use serde_json::{Map, Value};
+use std::alloc::{AllocError, Global};
+use urlpattern_syntax::eight::{ComponentName, Eight};
+use urlpattern_syntax::{Error, field_of, with_fields};
+
+/// The patterns of a URL's components, or its texts, and the text of a base URL. What is not given is `None`.
+///
+/// <https://urlpattern.spec.whatwg.org/#dictdef-urlpatterninit>
+#[derive(Debug, Default, Clone, PartialEq, Eq, Drop, Serialize, Deserialize)]
+pub struct UrlPatternInit {
+    /// The scheme.
+    #[serde(skip_serializing_if = "Option::is_none")]
+    pub protocol: Option<String>,
+    /// The user name.
+    #[serde(skip_serializing_if = "Option::is_none")]
+    pub username: Option<String>,
+    /// The password.
+    #[serde(skip_serializing_if = "Option::is_none")]
+    pub password: Option<String>,
+    /// The host.
+    #[serde(skip_serializing_if = "Option::is_none")]
+    pub hostname: Option<String>,
+    /// The port.
+    #[serde(skip_serializing_if = "Option::is_none")]
+    pub port: Option<String>,
+    /// The path.
+    #[serde(skip_serializing_if = "Option::is_none")]
+    pub pathname: Option<String>,
+    /// The query.
+    #[serde(skip_serializing_if = "Option::is_none")]
+    pub search: Option<String>,
+    /// The fragment.
+    #[serde(skip_serializing_if = "Option::is_none")]
+    pub hash: Option<String>,
+    /// The base URL, which is `baseURL` in JSON.
+    #[serde(skip_serializing_if = "Option::is_none", rename = "baseURL")]
+    pub base_url: Option<String>,
+}
+
+impl UrlPatternInit {
+    /// The JSON of the init: an object with a key for each text that is given.
+    ///
+    /// The error is that memory ran out.
+    pub fn to_json_value(&self, alloc: Global) -> Result<Value, Error>
+        ensures tree { IfOk result (λ tree. view tree ≡ init_tree (init_view self.now)) }
+        ensures memory { IfErr result (λ error. error ≡ errors.OutOfMemory) }
+    {
+        Ok(Value::Object(self.members(alloc)?))
+    }
+
+    fn members(&self, alloc: Global) -> Result<Map<String, Value>, AllocError>
+        ensures { IfOk result (λ members. object (members_view members.entries) ≡ init_tree (init_view self.now)) }
+    {
+        let mut members = Map::new(alloc);
+        for name in ComponentName::all() {
+            put_optional(&mut members, alloc, name.as_str(), self.get(*name))?;
+        }
+        put_optional(&mut members, alloc, "baseURL", &self.base_url)?;
+        Ok(members)
+    }
+
+    /// The init that the JSON stands for: an object, in which each key may be missing or null. Other keys are passed
+    /// over. `None`: the JSON has another shape.
+    ///
+    /// The error is that memory ran out.
+    pub fn from_json_value(alloc: Global, value: &Value) -> Result<Option<Self>, Error>
+        ensures read { IfOk result (λ found. option_map init_view found ≡ init_read (view value.now)) }
+        ensures memory { IfErr result (λ error. error ≡ errors.OutOfMemory) }
+    {
+        read_or_none(Self::read(alloc, value))
+    }
+
+    #[tactic(auto, unfolding(crate::specs::InputJson::init_read))]
+    pub(crate) fn read(alloc: Global, value: &Value) -> Result<Self, Unread>
+        ensures { Gives init_view result (init_read (view value.now)) }
+    {
+        if !value.is_object() {
+            return Err(Unread::Shape);
+        }
+        let texts = Eight::try_from_fn(|name| optional_text_field(alloc, value, name.as_str()))?;
+        let base_url = optional_text_field(alloc, value, "baseURL")?;
+        Ok(Self::from_eight(texts, base_url))
+    }
+
+    /// The init of these texts, with this base URL.
+    pub fn from_eight(texts: Eight<Option<String>>, base_url: Option<String>) -> Self
+        ensures texts { given_texts result ≡ texts }
+        ensures base_url { result.base_url ≡ base_url }
+    {
+        with_fields!(Self, texts, base_url)
+    }
+
+    /// The text of each component, where it is given. The base URL is dropped.
+    pub fn into_eight(self) -> Eight<Option<String>>
+        ensures { result ≡ given_texts self }
+    {
+        with_fields!(Eight, self)
+    }
+
+    /// The text of a component, if it is given.
+    pub fn get(&self, name: ComponentName) -> &Option<String>
+        ensures { result.now ≡ at (given_texts self.now) name }
+    {
+        field_of!(self, name)
+    }
+}

@@ -1,0 +1,67 @@
+//! What a pattern or an input is given as.
+
+ghost use Rattle.std.specs.Prelude.{◌≡◌, IfErr, IfOk, option_map};
+ghost use Rattle.serde_json.specs.View.{view};
+ghost use Rattle.urlpattern_inputs.specs.InputJson.{input_read, input_tree};
+ghost use Rattle.urlpattern_inputs.specs.Steps.{Gives};
+ghost use Rattle.urlpattern_inputs.specs.InputValues.{input_view};
+ghost use Rattle.urlpattern_syntax.specs.declared.error.Error.TheVariants as errors;
+
+use crate::init::UrlPatternInit;
+use crate::reading::{Unread, read_or_none};
+use serde_json::Value;
+use std::alloc::Global;
+use std::borrow::CowStr;
+use urlpattern_syntax::Error;
+
+/// What a pattern, or what is matched against one, is given as.
+///
+/// <https://urlpattern.spec.whatwg.org/#typedefdef-urlpatterninput>
+#[derive(Debug, Clone, PartialEq, Eq, Drop)]
+pub enum StringOrInit<'a> {
+    /// One text: a constructor string, or a URL.
+    String(CowStr<'a>),
+    /// The components one by one.
+    Init(UrlPatternInit),
+}
+
+impl<'a> StringOrInit<'a> {
+    /// The JSON of the input: a text, or the object of an init.
+    ///
+    /// The error is that memory ran out.
+    pub fn to_json_value(&self, alloc: Global) -> Result<Value, Error>
+        ensures tree { IfOk result (λ tree. view tree ≡ input_tree (input_view self.now)) }
+        ensures memory { IfErr result (λ error. error ≡ errors.OutOfMemory) }
+    {
+        match self {
+            StringOrInit::String(text) => Ok(Value::try_from_str(alloc, text.as_str())?),
+            StringOrInit::Init(init) => init.to_json_value(alloc),
+        }
+    }
+
+    /// The input that the JSON stands for, which owns its text: a text, or the object of an init. `None`: the JSON
+    /// has another shape.
+    ///
+    /// The error is that memory ran out.
+    pub fn from_json_value(alloc: Global, value: &Value) -> Result<Option<Self>, Error>
+        ensures read { IfOk result (λ found. option_map input_view found ≡ input_read (view value.now)) }
+        ensures memory { IfErr result (λ error. error ≡ errors.OutOfMemory) }
+    {
+        read_or_none(Self::read(alloc, value))
+    }
+
+    fn read(alloc: Global, value: &Value) -> Result<Self, Unread>
+        ensures { Gives input_view result (input_read (view value.now)) }
+    {
+        match value.as_str() {
+            Some(text) => {
+                let text = String::from_str(alloc, text)?;
+                Ok(StringOrInit::String(CowStr::Owned(text)))
+            }
+            None => Ok(StringOrInit::Init(UrlPatternInit::read(alloc, value)?)),
+        }
+    }
+}
+
+/// An input as it was given, and the text of its base URL, if there was one beside it.
+pub type Inputs<'a> = (StringOrInit<'a>, Option<String>);

@@ -1,0 +1,98 @@
+//! The texts that a pattern is matched against.
+ghost use Rattle.std.specs.Prelude.{◌≡◌, IfErr, IfOk, option_map, string_bytes};
+ghost use Rattle.serde_json.specs.View.{view};
+ghost use Rattle.urlpattern_inputs.specs.InputJson.{match_input_read, match_input_tree};
+ghost use Rattle.urlpattern_inputs.specs.Steps.{Gives};
+ghost use Rattle.urlpattern_inputs.specs.InputValues.{empty_match_input, match_input_view, matched_texts};
+ghost use Rattle.urlpattern_syntax.specs.Eight.{at};
+ghost use Rattle.urlpattern_syntax.specs.declared.error.Error.TheVariants as errors;
+
+use crate::reading::{Unread, read_or_none, text_field};
+use crate::writing::put_text;
+use serde::{Deserialize, Serialize};
+use serde_json::{Map, Value};
+use std::alloc::{AllocError, Global};
+use urlpattern_syntax::eight::{ComponentName, Eight};
+use urlpattern_syntax::{Error, field_of, with_fields};
+
+/// The texts of the components that a pattern is matched against.
+#[derive(Debug, Clone, PartialEq, Eq, Drop, Serialize, Deserialize)]
+pub struct MatchInput {
+    /// The scheme, without a colon.
+    pub protocol: String,
+    /// The user name.
+    pub username: String,
+    /// The password.
+    pub password: String,
+    /// The host.
+    pub hostname: String,
+    /// The port, empty if it is the scheme's default.
+    pub port: String,
+    /// The path.
+    pub pathname: String,
+    /// The query, without a question mark.
+    pub search: String,
+    /// The fragment, without a number sign.
+    pub hash: String,
+}
+
+impl MatchInput {
+    /// Eight empty texts.
+    pub fn default(alloc: Global) -> Self
+        ensures { match_input_view result ≡ empty_match_input }
+    {
+        Self::from_eight(Eight::from_fn(|_| String::new(alloc)))
+    }
+
+    /// The JSON of the input: an object with a key for each text.
+    ///
+    /// The error is that memory ran out.
+    pub fn to_json_value(&self, alloc: Global) -> Result<Value, Error>
+        ensures tree { IfOk result (λ tree. view tree ≡ match_input_tree (match_input_view self.now)) }
+        ensures memory { IfErr result (λ error. error ≡ errors.OutOfMemory) }
+    {
+        Ok(self.tree(alloc)?)
+    }
+
+    fn tree(&self, alloc: Global) -> Result<Value, AllocError>
+        ensures { IfOk result (λ tree. view tree ≡ match_input_tree (match_input_view self.now)) }
+    {
+        let mut members = Map::new(alloc);
+        for name in ComponentName::all() {
+            put_text(&mut members, alloc, name.as_str(), self.get(*name))?;
+        }
+        Ok(Value::Object(members))
+    }
+
+    /// The input that the JSON stands for: an object with a text for each key. Other keys are passed over. `None`: the JSON
+    /// has another shape.
+    ///
+    /// The error is that memory ran out.
+    pub fn from_json_value(alloc: Global, value: &Value) -> Result<Option<Self>, Error>
+        ensures read { IfOk result (λ found. option_map match_input_view found ≡ match_input_read (view value.now)) }
+        ensures memory { IfErr result (λ error. error ≡ errors.OutOfMemory) }
+    {
+        read_or_none(Self::read(alloc, value))
+    }
+
+    fn read(alloc: Global, value: &Value) -> Result<Self, Unread>
+        ensures { Gives match_input_view result (match_input_read (view value.now)) }
+    {
+        let texts = Eight::try_from_fn(|name| text_field(alloc, value, name.as_str()))?;
+        Ok(Self::from_eight(texts))
+    }
+
+    /// The input of these texts.
+    pub fn from_eight(texts: Eight<String>) -> Self
+        ensures { matched_texts result ≡ texts }
+    {
+        with_fields!(Self, texts)
+    }
+
+    /// The text of a component.
+    pub fn get(&self, name: ComponentName) -> &str
+        ensures { result.now ≡ string_bytes (at (matched_texts self.now) name) }
+    {
+        field_of!(self, name)
+    }
+}

@@ -1,0 +1,93 @@
+//! How a whole pattern is built.
+
+ghost use Rattle.std.specs.Prelude.{◌≡◌, IfErr, IfOk, Ok};
+ghost use Rattle.serde_json.specs.Find.{get};
+ghost use Rattle.serde_json.specs.View.{view};
+ghost use Rattle.urlpattern_inputs.specs.InputJson.{options_read, options_tree, syntax_name, syntax_of, syntax_read};
+ghost use Rattle.urlpattern_syntax.specs.declared.error.Error.TheVariants as errors;
+
+use serde::{Deserialize, Serialize};
+use serde_json::{Value, json};
+use std::alloc::Global;
+use urlpattern_syntax::{Error, RegexSyntax};
+
+/// How a whole pattern is built. The default is the syntax of Rust's `regex`, with case kept.
+///
+/// <https://urlpattern.spec.whatwg.org/#dictdef-urlpatternoptions>
+#[derive(Debug, Default, Clone, PartialEq, Eq, Drop, Serialize, Deserialize)]
+#[serde(rename_all = "camelCase")]
+pub struct UrlPatternOptions {
+    /// The syntax of the generated regular expressions. In JSON it may be missing.
+    #[serde(default)]
+    pub regex_syntax: RegexSyntax,
+    /// Whether pathname, search and hash are matched without regard to the case of ASCII letters.
+    pub ignore_case: bool,
+}
+
+impl UrlPatternOptions {
+    /// The JSON of the options: `regexSyntax` and `ignoreCase`.
+    ///
+    /// The error is that memory ran out.
+    pub fn to_json_value(&self, alloc: Global) -> Result<Value, Error>
+        ensures tree { IfOk result (λ tree. view tree ≡ options_tree self.now) }
+        ensures memory { IfErr result (λ error. error ≡ errors.OutOfMemory) }
+    {
+        let syntax = syntax_name(self.regex_syntax);
+        Ok(json!(in alloc; {"regexSyntax": syntax, "ignoreCase": self.ignore_case})?)
+    }
+
+    /// The options that the JSON stands for: an object with `ignoreCase`, and `regexSyntax` if it is not the default.
+    /// Other keys are passed over. `None`: the JSON has another shape.
+    ///
+    /// Nothing is allocated, and there is no error.
+    pub fn from_json_value(_alloc: Global, value: &Value) -> Result<Option<Self>, Error>
+        ensures { result ≡ Ok (options_read (view value.now)) }
+    {
+        Ok(Self::read(value))
+    }
+
+    #[tactic(auto, unfolding(crate::specs::InputJson::options_read))]
+    fn read(value: &Value) -> Option<Self>
+        ensures { result ≡ options_read (view value.now) }
+    {
+        let regex_syntax = syntax_field(value, "regexSyntax")?;
+        let ignore_case = value.get("ignoreCase")?.as_bool()?;
+        Some(Self {
+            regex_syntax,
+            ignore_case,
+        })
+    }
+}
+
+/// The syntax's name in JSON.
+fn syntax_name(syntax: RegexSyntax) -> &'static str
+    ensures { result.now ≡ syntax_name syntax }
+{
+    match syntax {
+        RegexSyntax::Rust => "Rust",
+        RegexSyntax::EcmaScript => "EcmaScript",
+    }
+}
+
+/// The syntax of this name.
+fn syntax_of(name: &str) -> Option<RegexSyntax>
+    ensures { result ≡ syntax_of name.now }
+{
+    if name == "Rust" {
+        Some(RegexSyntax::Rust)
+    } else if name == "EcmaScript" {
+        Some(RegexSyntax::EcmaScript)
+    } else {
+        None
+    }
+}
+
+/// The syntax of a member, which is the default where there is none.
+fn syntax_field(tree: &Value, name: &str) -> Option<RegexSyntax>
+    ensures { result ≡ syntax_read (get name.now (view tree.now)) }
+{
+    match tree.get(name) {
+        Some(member) => member.as_str().and_then(syntax_of),
+        None => Some(RegexSyntax::Rust),
+    }
+}

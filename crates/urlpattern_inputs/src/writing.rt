@@ -1,0 +1,35 @@
+//! The steps of writing plain values as JSON, by which the types of this crate and those of compiled patterns are written.
+
+ghost use Rattle.std.specs.Prelude.{◌≡◌, OnOk, Some, option_map, string_bytes};
+ghost use Rattle.serde_json.specs.Data.{string};
+ghost use Rattle.urlpattern_inputs.specs.Trees.{Gain};
+
+use serde_json::{Map, Value};
+use std::alloc::{AllocError, Global};
+
+/// Puts a text member into an object.
+pub fn put_text(
+    members: &mut Map<String, Value>,
+    alloc: Global,
+    name: &str,
+    text: &str,
+) -> Result<(), AllocError>
+    ensures { OnOk result (Gain members.old.entries members.new.entries name.now (Some (string text.now))) }
+{
+    serde_json::put(members, alloc, name, Value::try_from_str(alloc, text)?)
+}
+
+/// Puts a text member into an object, if there is a text.
+pub fn put_optional(
+    members: &mut Map<String, Value>,
+    alloc: Global,
+    name: &str,
+    text: &Option<String>,
+) -> Result<(), AllocError>
+    ensures { OnOk result (Gain members.old.entries members.new.entries name.now (option_map string (option_map string_bytes text.now))) }
+{
+    match text {
+        Some(text) => put_text(members, alloc, name, text),
+        None => Ok(()),
+    }
+}
