@@ -1,7 +1,8 @@
 //! Rules for a cache: for how long a page is kept.
 
 ghost use Rattle.example.specs.FirstRule.{IsOfFirst};
-ghost use Rattle.std.specs.Prelude.{◌≡◌, length, IfErr, IfOk};
+ghost use Rattle.std.specs.Prelude.{◌≡◌, length, IfOk};
+ghost use Rattle.urlpattern.specs.Errors.{OnlyOutOfMemory};
 ghost use Rattle.urlpattern.specs.FirstMatch.{patterns_view};
 
 use std::alloc::Global;
@@ -21,7 +22,7 @@ pub fn max_age<R: RegExp>(
 ) -> Result<Option<u32>, Error>
     requires { length ages.now ≡ length patterns.now }
     ensures first { IfOk result (IsOfFirst R.answer (patterns_view patterns.now) ages.now (UrlPatternMatchInput.Url url.now)) }
-    ensures memory { IfErr result (λ error. error ≡ Error.OutOfMemory) }
+    ensures memory { OnlyOutOfMemory result }
 {
     let Some((index, found)) = patterns.first_captures(alloc, url)? else {
         return Ok(None);

@@ -1,6 +1,7 @@
 //! A permission check: which URLs may be seen.
 
-ghost use Rattle.std.specs.Prelude.{◌≡◌, IfErr, IfOk, IsTrue};
+ghost use Rattle.std.specs.Prelude.{IfOk, IsTrue};
+ghost use Rattle.urlpattern.specs.Errors.{OnlyOutOfMemory};
 ghost use Rattle.urlpattern.specs.Match.{HasMatch};
 ghost use Rattle.urlpattern.specs.Patterns.{pattern_view};
 
@@ -20,7 +21,7 @@ pub fn is_permitted<R: RegExp>(
 ) -> Result<bool, Error>
     ensures only { IfOk result (λ answer. IsTrue answer → HasMatch R.answer (pattern_view permitted.now) (UrlPatternMatchInput.Url url.now)) }
     ensures each { IfOk result (λ answer. HasMatch R.answer (pattern_view permitted.now) (UrlPatternMatchInput.Url url.now) → IsTrue answer) }
-    ensures memory { IfErr result (λ error. error ≡ Error.OutOfMemory) }
+    ensures memory { OnlyOutOfMemory result }
 {
     // A law of the library, which costs nothing to call: a test is not false where there is a match.
     tests_agree_with_matches::<R>();

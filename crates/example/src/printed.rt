@@ -1,7 +1,8 @@
 //! A pattern that is printed and read again, as one that is kept in a file.
 
 ghost use Rattle.example.specs.Same.{MeanTheSame};
-ghost use Rattle.std.specs.Prelude.{◌≡◌, string_bytes, IfErr, IfOk, MatchResult};
+ghost use Rattle.std.specs.Prelude.{◌≡◌, string_bytes, IfOk, MatchResult};
+ghost use Rattle.urlpattern.specs.Errors.{OnlyOutOfMemory};
 ghost use Rattle.urlpattern.specs.Options.{options_view};
 ghost use Rattle.urlpattern.specs.Parts.{parts_view};
 ghost use Rattle.urlpattern.specs.Printing.{joined};
@@ -28,7 +29,7 @@ pub fn printed_and_read(
     ensures same { IsPrintable (options_view options.now) (parts_view parts.now) → IfOk result (λ again. parts_view again.items ≡ joined (parts_view parts.now)) }
     ensures meaning { IsPrintable (options_view options.now) (parts_view parts.now) →
         IfOk result (λ again. MeanTheSame (options_view options.now) (parts_view again.items) (parts_view parts.now)) }
-    ensures memory { IsPrintable (options_view options.now) (parts_view parts.now) → IfErr result (λ error. error ≡ Error.OutOfMemory) }
+    ensures memory { IsPrintable (options_view options.now) (parts_view parts.now) → OnlyOutOfMemory result }
 {
     joining_keeps_meaning();
     let unchanged = |text: &str| -> Result<String, Error>

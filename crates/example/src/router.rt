@@ -1,8 +1,9 @@
 //! A router: what a URL under `/users/:id` names.
 
 ghost use Rattle.example.specs.Captured.{NamesNone, NamesUser};
-ghost use Rattle.std.specs.Prelude.{◌≡◌, IfErr, IfNone, IfOk, IfSome, Some};
+ghost use Rattle.std.specs.Prelude.{IfNone, IfOk, IfSome, Some};
 ghost use Rattle.std.specs.Str.{chars};
+ghost use Rattle.urlpattern.specs.Errors.{OnlyOutOfMemory};
 ghost use Rattle.urlpattern.specs.Patterns.{pattern_view};
 
 use std::alloc::Global;
@@ -27,7 +28,7 @@ pub fn user<'a, R: RegExp>(
 ) -> Result<Option<&'a str>, Error>
     ensures some { IfOk result (λ found. IfSome found (λ id. NamesUser R.answer (pattern_view users.now) url.now (Some (chars id.now)))) }
     ensures none { IfOk result (λ found. IfNone found (NamesNone R.answer (pattern_view users.now) url.now)) }
-    ensures memory { IfErr result (λ error. error ≡ Error.OutOfMemory) }
+    ensures memory { OnlyOutOfMemory result }
 {
     let Some(found) = users.captures(alloc, url)? else {
         return Ok(None);

@@ -8,6 +8,7 @@ ghost use Rattle.urlpat_commands.specs.Report.{component_lines, failure_lines};
 ghost use Rattle.urlpat_commands.specs.declared.command.Failure.{Failure};
 ghost use Rattle.urlpat_commands.specs.declared.command.Failure.TheVariants as failures;
 ghost use Rattle.urlpattern.specs.Options.{options_view};
+ghost use Rattle.urlpattern.specs.Errors.{OnlyOutOfMemory};
 ghost use Rattle.urlpattern_syntax.specs.declared.error.Error.TheVariants as errors;
 
 use crate::first::first_groups;
@@ -201,7 +202,7 @@ fn component(alloc: Global, kind: &str, pattern: &str) -> Result<String, Failure
 fn options_of(alloc: Global, kind: &str) -> Result<Option<Options>, Error>
     ensures some { IfOk result (λ found. IfSome found (λ options. IsNamed kind.now (options_view options))) }
     ensures none { result ≡ Ok None → ¬ IsKind kind.now }
-    ensures memory { IfErr result (λ error. error ≡ errors.OutOfMemory) }
+    ensures memory { OnlyOutOfMemory result }
 {
     match kind {
         "default" => Ok(Some(Options::default(alloc))),

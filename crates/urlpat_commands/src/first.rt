@@ -1,10 +1,9 @@
 //! The command `first`: the first of some patterns that matches a URL, and what its groups capture.
 
-ghost use Rattle.std.specs.Prelude.{◌≡◌, option_copied, IfErr, IfOk};
+ghost use Rattle.std.specs.Prelude.{option_copied, IfErr, IfOk};
 ghost use Rattle.urlpat_commands.specs.Answers.{ArePatternsOf, FindsFirst, FindsFirstBy, RefusesOneOf, base_of, words_view};
-ghost use Rattle.urlpattern.specs.Errors.{MemoryOr};
+ghost use Rattle.urlpattern.specs.Errors.{MemoryOr, OnlyOutOfMemory};
 ghost use Rattle.urlpattern.specs.FirstMatch.{patterns_view};
-ghost use Rattle.urlpattern_syntax.specs.declared.error.Error.TheVariants as errors;
 
 use crate::matching::{base_of, compiled, push_match, url_of};
 use std::alloc::Global;
@@ -64,7 +63,7 @@ fn groups_of_first(
     input: &str,
 ) -> Result<Option<String>, Error>
     ensures found { IfOk result (FindsFirstBy (patterns_view list.now) input.now (option_copied base.entry)) }
-    ensures memory { IfErr result (λ error. error ≡ errors.OutOfMemory) }
+    ensures memory { OnlyOutOfMemory result }
 {
     let Some(url) = url_of(alloc, base, input)? else {
         return Ok(None);

@@ -7,10 +7,9 @@ ghost use Rattle.urlpat_commands.specs.Answers.{AreGroupLines, AreLines, AreName
 ghost use Rattle.urlpat_commands.specs.Report.{group_line};
 ghost use Rattle.urlpattern.specs.Captures.{captures_view, groups_view};
 ghost use Rattle.urlpattern.specs.Eight.{name_text};
-ghost use Rattle.urlpattern.specs.Errors.{MemoryOr};
+ghost use Rattle.urlpattern.specs.Errors.{MemoryOr, OnlyOutOfMemory};
 ghost use Rattle.urlpattern.specs.Patterns.{pattern_view};
 ghost use Rattle.urlpattern.specs.Text.{text_of};
-ghost use Rattle.urlpattern_syntax.specs.declared.error.Error.TheVariants as errors;
 
 use std::alloc::{AllocError, Global};
 use std::borrow::CowStr;
@@ -74,7 +73,7 @@ fn groups_of_match(
     input: &str,
 ) -> Result<Option<String>, Error>
     ensures found { IfOk result (FindsMatchBy (pattern_view pattern.now) input.now (option_copied base.entry)) }
-    ensures memory { IfErr result (λ error. error ≡ errors.OutOfMemory) }
+    ensures memory { OnlyOutOfMemory result }
 {
     let Some(url) = url_of(alloc, base, input)? else {
         return Ok(None);
@@ -94,7 +93,7 @@ fn groups_of_match(
 /// The error is that memory ran out.
 pub fn url_of(alloc: Global, base: Option<&str>, input: &str) -> Result<Option<Url>, Error>
     ensures found { IfOk result (FindsUrl input.now (option_copied base.entry)) }
-    ensures memory { IfErr result (λ error. error ≡ errors.OutOfMemory) }
+    ensures memory { OnlyOutOfMemory result }
 {
     let input = StringOrInit::String(CowStr::Borrowed(input));
     match process_match_input(alloc, input, base)? {

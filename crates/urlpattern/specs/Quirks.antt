@@ -1,5 +1,5 @@
 -- What browsers are answered.
-use Rattle.std.specs.Prelude.{◌≡◌, ℕ, List, Result, IfErr, IfOk}
+use Rattle.std.specs.Prelude.{◌≡◌, ℕ, List, Result, IfOk}
 use Rattle.urlpattern.specs.Patterns.{PatternView, has_regexp_groups}
 use Rattle.urlpattern_core.specs.Compiling.{component_view}
 use Rattle.urlpattern_core.specs.declared.component.Component.{Component}
@@ -9,12 +9,12 @@ use Rattle.urlpattern_compiled.specs.declared.pattern.UrlPatternComponent.{UrlPa
 use Rattle.urlpattern_syntax.specs.Eight.{each}
 use Rattle.urlpattern_syntax.specs.Text.{text_of}
 use Rattle.urlpattern_syntax.specs.declared.error.Error.{Error}
-use Rattle.urlpattern_syntax.specs.declared.error.Error.TheVariants as errors
+use Rattle.urlpattern_syntax.specs.Errors.{OnlyOutOfMemory}
 
 -- the plain value of a component is this, unless memory ran out
 pub record IsPlainOf {E : Type 0} (text_made_of : E → List ℕ) (component : Component E) (result : Result UrlPatternComponent Error) : Type 0 where
   pub plain : IfOk result (λ value. plain.component_by text_of value ≡ plain_component text_made_of (component_view component))
-  pub memory : IfErr result (λ error. error ≡ errors.OutOfMemory)
+  pub memory : OnlyOutOfMemory result
 
 -- the plain value of a pattern: that of each component, and whether one has a regular expression of its own
 abbrev pub plain_pattern : {E : Type 0} → (text_made_of : E → List ℕ) → PatternView E → plain.PatternView

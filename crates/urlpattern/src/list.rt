@@ -12,7 +12,7 @@ ghost use Rattle.urlpattern.specs.Calls.{borrowed_texts, first_groups_view};
 ghost use Rattle.urlpattern.specs.FirstMatch.{first_captures_view, first_view, patterns_view, IsFirstMatch, IsFirstMatchOf, AsksBeforeMatch};
 ghost use Rattle.urlpattern.specs.MatchInput.{texts_view};
 ghost use Rattle.urlpattern.specs.declared.pattern.UrlPattern.{UrlPattern};
-ghost use Rattle.urlpattern_syntax.specs.declared.error.Error.TheVariants as errors;
+ghost use Rattle.urlpattern_syntax.specs.Errors.{OnlyOutOfMemory};
 
 use crate::match_input::parse_match_input;
 use crate::pattern::{
@@ -123,7 +123,7 @@ impl<R: RegExp> UrlPatternList<R> {
         input: UrlPatternMatchInput,
     ) -> Result<Option<(usize, UrlPatternResult)>, Error>
         ensures first { IfOk result (λ found. IsFirstMatch R.answer (patterns_view self.now) input (first_view found)) }
-        ensures memory { IfErr result (λ error. error ≡ errors.OutOfMemory) }
+        ensures memory { OnlyOutOfMemory result }
     {
         match input {
             UrlPatternMatchInput::Url(url) => self.first_of_url(alloc, &url),
@@ -146,7 +146,7 @@ impl<R: RegExp> UrlPatternList<R> {
         url: &'a Url,
     ) -> Result<Option<(usize, UrlPatternCaptures<'a>)>, Error>
         ensures first { IfOk result (λ found. IsFirstMatch R.answer (patterns_view self.now) (inputs.Url url.now) (first_captures_view found)) }
-        ensures memory { IfErr result (λ error. error ≡ errors.OutOfMemory) }
+        ensures memory { OnlyOutOfMemory result }
         ensures asked { IfErr result (λ _. AsksBeforeMatch R.answer (patterns_view self.now) (texts_of_url url.now)) }
     {
         Ok(self.first(alloc, url_texts(url))?)
@@ -162,7 +162,7 @@ impl<R: RegExp> UrlPatternList<R> {
         input: &'a MatchInput,
     ) -> Result<Option<(usize, UrlPatternCaptures<'a>)>, Error>
         ensures first { IfOk result (λ found. IsFirstMatchOf R.answer (patterns_view self.now) (texts_view input.now) (first_captures_view found)) }
-        ensures memory { IfErr result (λ error. error ≡ errors.OutOfMemory) }
+        ensures memory { OnlyOutOfMemory result }
         ensures asked { IfErr result (λ _. AsksBeforeMatch R.answer (patterns_view self.now) (texts_view input.now)) }
     {
         Ok(self.first(alloc, input_texts(input))?)
@@ -175,7 +175,7 @@ impl<R: RegExp> UrlPatternList<R> {
         url: &Url,
     ) -> Result<Option<(usize, UrlPatternResult)>, Error>
         ensures first { IfOk result (λ found. IsFirstMatch R.answer (patterns_view self.now) (inputs.Url url.now) (first_view found)) }
-        ensures memory { IfErr result (λ error. error ≡ errors.OutOfMemory) }
+        ensures memory { OnlyOutOfMemory result }
     {
         match self.first_captures(alloc, url)? {
             Some((index, captures)) => {
@@ -196,7 +196,7 @@ impl<R: RegExp> UrlPatternList<R> {
         texts: MatchInput,
     ) -> Result<Option<(usize, UrlPatternResult)>, Error>
         ensures first { IfOk result (λ found. IsFirstMatchOf R.answer (patterns_view self.now) (texts_view texts) (first_view found)) }
-        ensures memory { IfErr result (λ error. error ≡ errors.OutOfMemory) }
+        ensures memory { OnlyOutOfMemory result }
     {
         match self.first_groups(alloc, &texts)? {
             Some((index, groups)) => Ok(Some((index, result_of(texts, groups)))),
@@ -215,7 +215,7 @@ impl<R: RegExp> UrlPatternList<R> {
     ) -> Result<Option<(usize, Eight<Groups>)>, Error>
         ensures first { IfOk result (λ found. IsFirstMatchOf R.answer (patterns_view self.now) (texts_view input.now)
             (first_groups_view (texts_view input.now) found)) }
-        ensures memory { IfErr result (λ error. error ≡ errors.OutOfMemory) }
+        ensures memory { OnlyOutOfMemory result }
     {
         match self.first_captures_of_input(alloc, input)? {
             Some((index, captures)) => {

@@ -1,6 +1,6 @@
 //! The texts that a pattern is matched against.
-ghost use Rattle.std.specs.Prelude.{◌≡◌, [], Ok, option_map, unwrap_or, MatchOption, IfOk, IfErr};
-ghost use Rattle.urlpattern_syntax.specs.declared.error.Error.TheVariants as errors;
+ghost use Rattle.std.specs.Prelude.{◌≡◌, [], Ok, option_map, unwrap_or, MatchOption, IfOk};
+ghost use Rattle.urlpattern_syntax.specs.Errors.{OnlyOutOfMemory};
 ghost use Rattle.urlpattern_syntax.specs.Text.{text_of};
 ghost use Rattle.urlpattern_init.specs.Inheritance.{texts_of_url, texts_of_values, values_of};
 ghost use Rattle.urlpattern.specs.MatchInput.{IsNoInput, input_texts, texts_view};
@@ -49,7 +49,7 @@ pub fn parse_match_input(
 ) -> Result<Option<MatchInput>, Error>
     ensures found { IfOk result (λ found. MatchOption found (IsNoInput input)
         (λ texts. input_texts input ≡ Ok (texts_view texts))) }
-    ensures memory { IfErr result (λ error. error ≡ errors.OutOfMemory) }
+    ensures memory { OnlyOutOfMemory result }
 {
     match input {
         UrlPatternMatchInput::Url(url) => Ok(Some(of_url(alloc, &url)?)),

@@ -1,11 +1,11 @@
 //! Canonical values of the components of a URL, and the values of an init.
 //!
 //! <https://urlpattern.spec.whatwg.org/#canon>
-ghost use Rattle.std.specs.Prelude.{◌≡◌, Ok, length, IfOk, IfErr};
+ghost use Rattle.std.specs.Prelude.{◌≡◌, Ok, length, IfOk};
 ghost use Rattle.std.specs.Option.{ForSome};
 ghost use Rattle.std.specs.Str.{chars};
 ghost use Rattle.urlpattern_syntax.specs.Text.{text_of};
-ghost use Rattle.urlpattern_syntax.specs.declared.error.Error.TheVariants as errors;
+ghost use Rattle.urlpattern_syntax.specs.Errors.{OnlyOutOfMemory};
 ghost use Rattle.urlpattern_canonical.specs.Canonical.{IsAnswer, IsPathnameAnswer, IsPortAnswer, bytes_asked, canonical_hash, canonical_hostname, canonical_opaque_pathname, canonical_password, canonical_pathname, canonical_port, canonical_protocol, canonical_search, canonical_username, dummy_url, option_text, port_bytes, processed_base, processed_hash, processed_hostname, processed_password, processed_protocol, processed_search, processed_username};
 
 mod ipv6;
@@ -268,7 +268,7 @@ pub fn process_hash_init(alloc: Global, value: &str, kind: &ProcessType) -> Resu
 /// The error is that memory ran out.
 pub fn process_base_url(alloc: Global, input: &str, kind: &ProcessType) -> Result<String, Error>
     ensures ok { IfOk result (λ text. text_of text ≡ processed_base kind.now (chars input.now)) }
-    ensures memory { IfErr result (λ error. error ≡ errors.OutOfMemory) }
+    ensures memory { OnlyOutOfMemory result }
 {
     match kind {
         ProcessType::Pattern => escape_pattern_string(alloc, input),

@@ -1,6 +1,6 @@
 //! What a component is matched with, as plain data.
 
-ghost use Rattle.std.specs.Prelude.{◌≡◌, IfErr, IfOk, OnOk, option_map};
+ghost use Rattle.std.specs.Prelude.{◌≡◌, IfOk, OnOk, option_map};
 ghost use Rattle.serde_json.specs.View.{view};
 ghost use Rattle.urlpattern_compiled.specs.Json.{capture_read, inner_members, inner_read, inner_tree, matcher_read, matcher_tree};
 ghost use Rattle.urlpattern_core.specs.Matchers as compiled;
@@ -8,7 +8,7 @@ ghost use Rattle.urlpattern_inputs.specs.Steps.{Gives};
 ghost use Rattle.urlpattern_inputs.specs.Trees.{GainAll};
 ghost use Rattle.urlpattern_compiled.specs.Plain.{engine_text, plain_inner, plain_matcher};
 ghost use Rattle.urlpattern_compiled.specs.Values.{inner_by, inner_view, matcher_by, matcher_view};
-ghost use Rattle.urlpattern_syntax.specs.declared.error.Error.TheVariants as errors;
+ghost use Rattle.urlpattern_syntax.specs.Errors.{OnlyOutOfMemory};
 ghost use Rattle.urlpattern_syntax.specs.Text.{text_of};
 
 use crate::reading::optional_character_field;
@@ -66,7 +66,7 @@ impl Matcher {
         matcher: matcher::Matcher<R>,
     ) -> Result<Self, Error>
         ensures plain { IfOk result (λ plain. matcher_by text_of plain ≡ plain_matcher R.text_made_of (compiled.matcher_view matcher)) }
-        ensures memory { IfErr result (λ error. error ≡ errors.OutOfMemory) }
+        ensures memory { OnlyOutOfMemory result }
     {
         let inner = InnerMatcher::from_inner(alloc, matcher.inner)?;
         Ok(Self {
@@ -81,7 +81,7 @@ impl Matcher {
     /// The error is that memory ran out.
     pub fn to_json_value(&self, alloc: Global) -> Result<Value, Error>
         ensures tree { IfOk result (λ tree. view tree ≡ matcher_tree (matcher_view self.now)) }
-        ensures memory { IfErr result (λ error. error ≡ errors.OutOfMemory) }
+        ensures memory { OnlyOutOfMemory result }
     {
         Ok(self.tree(alloc)?)
     }
@@ -102,7 +102,7 @@ impl Matcher {
     /// The error is that memory ran out.
     pub fn from_json_value(alloc: Global, value: &Value) -> Result<Option<Self>, Error>
         ensures read { IfOk result (λ found. option_map matcher_view found ≡ matcher_read (view value.now)) }
-        ensures memory { IfErr result (λ error. error ≡ errors.OutOfMemory) }
+        ensures memory { OnlyOutOfMemory result }
     {
         read_or_none(Self::read(alloc, value))
     }
@@ -129,7 +129,7 @@ impl InnerMatcher {
         inner: matcher::InnerMatcher<R>,
     ) -> Result<Self, Error>
         ensures plain { IfOk result (λ plain. inner_by text_of plain ≡ plain_inner R.text_made_of (compiled.inner_view inner)) }
-        ensures memory { IfErr result (λ error. error ≡ errors.OutOfMemory) }
+        ensures memory { OnlyOutOfMemory result }
     {
         match inner {
             matcher::InnerMatcher::Literal { literal } => Ok(InnerMatcher::Literal { literal }),
@@ -232,7 +232,7 @@ pub(crate) fn engine_text<R: RegExp>(
     engine: &Result<R, Error>,
 ) -> Result<String, Error>
     ensures text { IfOk result (λ text. text_of text ≡ engine_text R.text_made_of (compiled.engine_view engine.now)) }
-    ensures memory { IfErr result (λ error. error ≡ errors.OutOfMemory) }
+    ensures memory { OnlyOutOfMemory result }
 {
     match engine {
         Ok(engine) => Ok(String::from_str(alloc, engine.pattern_string())?),

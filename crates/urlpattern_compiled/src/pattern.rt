@@ -1,6 +1,6 @@
 //! A whole pattern as plain data.
 
-ghost use Rattle.std.specs.Prelude.{◌≡◌, IfErr, IfOk, OnOk, Some, option_map};
+ghost use Rattle.std.specs.Prelude.{◌≡◌, IfOk, OnOk, Some, option_map};
 ghost use Rattle.serde_json.specs.View.{view};
 ghost use Rattle.urlpattern_compiled.specs.Json.{component_read, component_tree, matcher_read, pattern_read, pattern_tree};
 ghost use Rattle.urlpattern_core.specs.Compiling as compiled;
@@ -9,7 +9,7 @@ ghost use Rattle.urlpattern_inputs.specs.Steps.{Gives};
 ghost use Rattle.urlpattern_inputs.specs.Trees.{Gain, member_read};
 ghost use Rattle.urlpattern_compiled.specs.Values.{component_by, component_patterns, component_view, matcher_view, pattern_view};
 ghost use Rattle.urlpattern_syntax.specs.Eight.{at};
-ghost use Rattle.urlpattern_syntax.specs.declared.error.Error.TheVariants as errors;
+ghost use Rattle.urlpattern_syntax.specs.Errors.{OnlyOutOfMemory};
 ghost use Rattle.urlpattern_syntax.specs.Text.{text_of};
 
 use crate::matcher::{Matcher, engine_text};
@@ -70,7 +70,7 @@ impl UrlPattern {
     /// The error is that memory ran out.
     pub fn to_json_value(&self, alloc: Global) -> Result<Value, Error>
         ensures tree { IfOk result (λ tree. view tree ≡ pattern_tree (pattern_view self.now)) }
-        ensures memory { IfErr result (λ error. error ≡ errors.OutOfMemory) }
+        ensures memory { OnlyOutOfMemory result }
     {
         Ok(self.tree(alloc)?)
     }
@@ -93,7 +93,7 @@ impl UrlPattern {
     /// The error is that memory ran out.
     pub fn from_json_value(alloc: Global, value: &Value) -> Result<Option<Self>, Error>
         ensures read { IfOk result (λ found. option_map pattern_view found ≡ pattern_read (view value.now)) }
-        ensures memory { IfErr result (λ error. error ≡ errors.OutOfMemory) }
+        ensures memory { OnlyOutOfMemory result }
     {
         read_or_none(Self::read(alloc, value))
     }
@@ -130,7 +130,7 @@ impl UrlPatternComponent {
     /// The error is that memory ran out.
     pub fn from_component<R: RegExp>(alloc: Global, component: Component<R>) -> Result<Self, Error>
         ensures plain { IfOk result (λ plain. component_by text_of plain ≡ plain_component R.text_made_of (compiled.component_view component)) }
-        ensures memory { IfErr result (λ error. error ≡ errors.OutOfMemory) }
+        ensures memory { OnlyOutOfMemory result }
     {
         let (pattern_string, regexp, group_name_list, matcher) = component.into_fields();
         Ok(Self {
@@ -146,7 +146,7 @@ impl UrlPatternComponent {
     /// The error is that memory ran out.
     pub fn to_json_value(&self, alloc: Global) -> Result<Value, Error>
         ensures tree { IfOk result (λ tree. view tree ≡ component_tree (component_view self.now)) }
-        ensures memory { IfErr result (λ error. error ≡ errors.OutOfMemory) }
+        ensures memory { OnlyOutOfMemory result }
     {
         Ok(self.tree(alloc)?)
     }
@@ -169,7 +169,7 @@ impl UrlPatternComponent {
     /// The error is that memory ran out.
     pub fn from_json_value(alloc: Global, value: &Value) -> Result<Option<Self>, Error>
         ensures read { IfOk result (λ found. option_map component_view found ≡ component_read (view value.now)) }
-        ensures memory { IfErr result (λ error. error ≡ errors.OutOfMemory) }
+        ensures memory { OnlyOutOfMemory result }
     {
         read_or_none(Self::read(alloc, value))
     }

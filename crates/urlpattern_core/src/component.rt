@@ -2,9 +2,9 @@
 //!
 //! <https://urlpattern.spec.whatwg.org/#component>
 
-ghost use Rattle.std.specs.Prelude.{◌≡◌, ◌&&◌, length, map, not, IfOk, IfErr};
+ghost use Rattle.std.specs.Prelude.{◌≡◌, ◌&&◌, length, map, not, IfOk};
 ghost use Rattle.urlpattern_core.specs.Generated.{HasGeneratedMeaning, HaveCaptures};
-ghost use Rattle.urlpattern_syntax.specs.declared.error.Error.TheVariants as errors;
+ghost use Rattle.urlpattern_syntax.specs.Errors.{OnlyOutOfMemory};
 ghost use Rattle.urlpattern_syntax.specs.Options.{options_view};
 ghost use Rattle.urlpattern_syntax.specs.Parts.{parts_view};
 ghost use Rattle.urlpattern_syntax.specs.RegexpText.{group_names, is_empty, is_fixed_text, regexp_text};
@@ -90,7 +90,7 @@ pub fn generate_regular_expression_and_name_list(
     ensures names { IfOk result (λ found. map (λ name. text_of name) found.1.items ≡ group_names (parts_view part_list.now)) }
     ensures meaning { IfOk result (λ found. HasGeneratedMeaning (text_of found.0) (options_view options.now) (parts_view part_list.now)) }
     ensures captures { IfOk result (λ found. HaveCaptures (options_view options.now) (parts_view part_list.now) (length found.1.items)) }
-    ensures memory { IfErr result (λ error. error ≡ errors.OutOfMemory) }
+    ensures memory { OnlyOutOfMemory result }
 {
     let text = generate_regular_expression(alloc, part_list, options)?;
     let names = generate_name_list(alloc, part_list)?;

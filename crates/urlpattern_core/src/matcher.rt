@@ -6,7 +6,7 @@ ghost use Rattle.std.specs.Str.{chars};
 ghost use Rattle.urlpattern_core.specs.Captured.{captures_view};
 ghost use Rattle.urlpattern_core.specs.Matchers.{BeginsWithFolded, EndsWithFolded, matcher_view};
 ghost use Rattle.urlpattern_laws.specs.Matching.{Answers, AsksEngine, HasMiddle, IsMatched, IsSame, MayBeEmpty, MayRunOutOfMemory, PassesFilter};
-ghost use Rattle.urlpattern_syntax.specs.declared.error.Error.TheVariants as errors;
+ghost use Rattle.urlpattern_syntax.specs.Errors.{OnlyOutOfMemory};
 ghost use Rattle.urlpattern_syntax.specs.Text.{lacks};
 
 mod look;
@@ -63,7 +63,7 @@ impl<R: RegExp> Matcher<R> {
         input: &'a str,
     ) -> Result<Option<Vec<Option<&'a str>>>, Error>
         ensures answer { IfOk result (λ found. Answers R.answer (matcher_view self.now) (chars input.now) (captures_view found)) }
-        ensures memory { IfErr result (λ error. error ≡ errors.OutOfMemory) }
+        ensures memory { OnlyOutOfMemory result }
         ensures asked { IfErr result (λ _. MayRunOutOfMemory R.answer (matcher_view self.now) (chars input.now)) }
     {
         let Some(middle) = self.middle(input) else {
@@ -101,7 +101,7 @@ impl<R: RegExp> Matcher<R> {
     /// The error is that memory ran out. Only an engine allocates.
     pub fn accepts(&self, alloc: Global, input: &str) -> Result<bool, Error>
         ensures answer { IfOk result (λ accepted. IsTrue accepted ↔ IsMatched R.answer (matcher_view self.now) (chars input.now)) }
-        ensures memory { IfErr result (λ error. error ≡ errors.OutOfMemory) }
+        ensures memory { OnlyOutOfMemory result }
         ensures asked { IfErr result (λ _. AsksEngine (matcher_view self.now) (chars input.now)) }
     {
         let Some(middle) = self.middle(input) else {

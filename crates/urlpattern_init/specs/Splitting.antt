@@ -1,5 +1,5 @@
 -- Words of the private contracts of the splitting of a constructor string. No public contract cites them.
-use Rattle.std.specs.Prelude.{◌≡◌, ℕ, ◌+◌, ◌-◌, ◌*◌, ◌<◌, ◌≤◌, ◌||◌, Bool, true, false, List, length, None, Option, Result, String, option_map, IfErr, IfOk, IsTrue}
+use Rattle.std.specs.Prelude.{◌≡◌, ℕ, ◌+◌, ◌-◌, ◌*◌, ◌<◌, ◌≤◌, ◌||◌, Bool, true, false, List, length, None, Option, Result, String, option_map, IfOk, IsTrue}
 use Rattle.std.specs.Str.{chars}
 use Rattle.std.specs.declared.alloc.Global.{Global}
 use Rattle.urlpattern_init.specs.Split.{ends_at, is_colon_sign, is_hash_sign, is_search_sign, is_seen, is_slash_sign}
@@ -11,7 +11,7 @@ use Rattle.urlpattern_init.specs.declared.constructor_parser.components.Split.{S
 use Rattle.urlpattern_syntax.specs.Parsing.{name_view, views}
 use Rattle.urlpattern_syntax.specs.Tokens.{AreLenientTokens, TokenView}
 use Rattle.urlpattern_syntax.specs.declared.error.Error.{Error}
-use Rattle.urlpattern_syntax.specs.declared.error.Error.TheVariants as errors
+use Rattle.urlpattern_syntax.specs.Errors.{OnlyOutOfMemory}
 use Rattle.urlpattern_syntax.specs.Eight.{Values, at, each}
 use Rattle.urlpattern_syntax.specs.Text.{text_of}
 
@@ -29,7 +29,7 @@ components_of split = each (λ name. name_view (at split.values name))
 -- a text of one's own with this view, or that memory ran out
 pub record IsOwned (component : Option (List ℕ)) (result : Result (Option (String Global)) Error) : Type 0 where
   pub ok : IfOk result (λ owned. option_map text_of owned ≡ component)
-  pub memory : IfErr result (λ error. error ≡ errors.OutOfMemory)
+  pub memory : OnlyOutOfMemory result
 
 -- The tokens are those of the text.
 abbrev pub IsSource : Source → Type 0

@@ -1,13 +1,13 @@
 //! The patterns of a URL's components as a caller gives them.
 
-ghost use Rattle.std.specs.Prelude.{◌≡◌, IfErr, IfOk, option_map, string_bytes};
+ghost use Rattle.std.specs.Prelude.{◌≡◌, IfOk, option_map, string_bytes};
 ghost use Rattle.serde_json.specs.Data.{object};
 ghost use Rattle.serde_json.specs.View.{members_view, view};
 ghost use Rattle.urlpattern_inputs.specs.InputJson.{init_read, init_tree};
 ghost use Rattle.urlpattern_inputs.specs.Steps.{Gives};
 ghost use Rattle.urlpattern_inputs.specs.InputValues.{given_texts, init_view};
 ghost use Rattle.urlpattern_syntax.specs.Eight.{at};
-ghost use Rattle.urlpattern_syntax.specs.declared.error.Error.TheVariants as errors;
+ghost use Rattle.urlpattern_syntax.specs.Errors.{OnlyOutOfMemory};
 
 use crate::reading::{Unread, optional_text_field, read_or_none};
 use crate::writing::put_optional;
@@ -57,7 +57,7 @@ impl UrlPatternInit {
     /// The error is that memory ran out.
     pub fn to_json_value(&self, alloc: Global) -> Result<Value, Error>
         ensures tree { IfOk result (λ tree. view tree ≡ init_tree (init_view self.now)) }
-        ensures memory { IfErr result (λ error. error ≡ errors.OutOfMemory) }
+        ensures memory { OnlyOutOfMemory result }
     {
         Ok(Value::Object(self.members(alloc)?))
     }
@@ -79,7 +79,7 @@ impl UrlPatternInit {
     /// The error is that memory ran out.
     pub fn from_json_value(alloc: Global, value: &Value) -> Result<Option<Self>, Error>
         ensures read { IfOk result (λ found. option_map init_view found ≡ init_read (view value.now)) }
-        ensures memory { IfErr result (λ error. error ≡ errors.OutOfMemory) }
+        ensures memory { OnlyOutOfMemory result }
     {
         read_or_none(Self::read(alloc, value))
     }

@@ -1,11 +1,11 @@
 //! What a pattern or an input is given as.
 
-ghost use Rattle.std.specs.Prelude.{◌≡◌, IfErr, IfOk, option_map};
+ghost use Rattle.std.specs.Prelude.{◌≡◌, IfOk, option_map};
 ghost use Rattle.serde_json.specs.View.{view};
 ghost use Rattle.urlpattern_inputs.specs.InputJson.{input_read, input_tree};
 ghost use Rattle.urlpattern_inputs.specs.Steps.{Gives};
 ghost use Rattle.urlpattern_inputs.specs.InputValues.{input_view};
-ghost use Rattle.urlpattern_syntax.specs.declared.error.Error.TheVariants as errors;
+ghost use Rattle.urlpattern_syntax.specs.Errors.{OnlyOutOfMemory};
 
 use crate::init::UrlPatternInit;
 use crate::reading::{Unread, read_or_none};
@@ -31,7 +31,7 @@ impl<'a> StringOrInit<'a> {
     /// The error is that memory ran out.
     pub fn to_json_value(&self, alloc: Global) -> Result<Value, Error>
         ensures tree { IfOk result (λ tree. view tree ≡ input_tree (input_view self.now)) }
-        ensures memory { IfErr result (λ error. error ≡ errors.OutOfMemory) }
+        ensures memory { OnlyOutOfMemory result }
     {
         match self {
             StringOrInit::String(text) => Ok(Value::try_from_str(alloc, text.as_str())?),
@@ -45,7 +45,7 @@ impl<'a> StringOrInit<'a> {
     /// The error is that memory ran out.
     pub fn from_json_value(alloc: Global, value: &Value) -> Result<Option<Self>, Error>
         ensures read { IfOk result (λ found. option_map input_view found ≡ input_read (view value.now)) }
-        ensures memory { IfErr result (λ error. error ≡ errors.OutOfMemory) }
+        ensures memory { OnlyOutOfMemory result }
     {
         read_or_none(Self::read(alloc, value))
     }

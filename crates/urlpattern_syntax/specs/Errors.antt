@@ -1,5 +1,5 @@
 -- The errors: what a clause sees of them.
-use Rattle.std.specs.Prelude.{◌≡◌, ◌⊎◌, ℕ, List}
+use Rattle.std.specs.Prelude.{◌≡◌, ◌⊎◌, ℕ, List, Result, IsOkUnless}
 use Rattle.url.specs.declared.error.ParseError.{ParseError}
 use Rattle.urlpattern_syntax.specs.declared.error.Error.{Error}
 use Rattle.urlpattern_syntax.specs.declared.error.Error.TheVariants as errors
@@ -42,3 +42,7 @@ regexp_error_view regexp_errors.OutOfMemory = OutOfMemory
 -- The error is that memory ran out, or one of these.
 abbrev pub MemoryOr : (Is : ErrorView → Type 0) → Error → Type 0
 MemoryOr Is error = (error_view error ≡ OutOfMemory) ⊎ Is (error_view error)
+
+-- A value, or the error that memory ran out.
+abbrev pub OnlyOutOfMemory : {A : Type 0} → Result A Error → Type 0
+OnlyOutOfMemory result = IsOkUnless result errors.OutOfMemory

@@ -1,7 +1,7 @@
 //! Texts with a backslash before each character that means more than itself.
-ghost use Rattle.std.specs.Prelude.{◌≡◌, ◌∷◌, [], IfErr, IfOk};
+ghost use Rattle.std.specs.Prelude.{◌≡◌, ◌∷◌, [], IfOk};
 ghost use Rattle.std.specs.Str.{chars};
-ghost use Rattle.urlpattern_syntax.specs.declared.error.Error.TheVariants as errors;
+ghost use Rattle.urlpattern_syntax.specs.Errors.{OnlyOutOfMemory};
 ghost use Rattle.urlpattern_syntax.specs.Options.{options_view};
 ghost use Rattle.urlpattern_syntax.specs.PatternText.{escaped_pattern, pattern_marks};
 ghost use Rattle.urlpattern_syntax.specs.RegexpText.{escaped, escaped_regexp, regexp_marks, segment_wildcard};
@@ -21,7 +21,7 @@ use std::alloc::Global;
 /// <https://urlpattern.spec.whatwg.org/#escape-a-pattern-string>
 pub fn escape_pattern_string(alloc: Global, input: &str) -> Result<String, Error>
     ensures escaped { IfOk result (λ text. text_of text ≡ escaped_pattern (chars input.now)) }
-    ensures memory { IfErr result (λ error. error ≡ errors.OutOfMemory) }
+    ensures memory { OnlyOutOfMemory result }
 {
     Ok(written(alloc, &Escaped::pattern(input))?)
 }

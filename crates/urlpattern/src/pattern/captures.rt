@@ -1,6 +1,6 @@
 //! What the groups of a pattern capture, borrowed from the pattern and from the texts that it matches.
 ghost use Rattle.std.specs.Iterator.Adapters.{zip_first, zip_second};
-ghost use Rattle.std.specs.Prelude.{◌≡◌, map, option_map, zip, IfErr, IfOk};
+ghost use Rattle.std.specs.Prelude.{◌≡◌, map, option_map, zip, IfOk};
 ghost use Rattle.std.specs.Slice.Iter.{iter_rest};
 ghost use Rattle.std.specs.Str.{chars};
 ghost use Rattle.urlpattern_core.specs.Captured.{capture_view};
@@ -10,7 +10,7 @@ ghost use Rattle.urlpattern.specs.Captures.{IsGroupsAnswer, captures_view, group
 ghost use Rattle.urlpattern.specs.Calls.{AreGroupsOf, IsCapturedOf, captures_of, texts_of, HasNoGroups, IsWithoutGroups};
 ghost use Rattle.urlpattern.specs.Match.{component_result_view, group_of, result_view, IsSameResult};
 ghost use Rattle.urlpattern_syntax.specs.Text.{text_of};
-ghost use Rattle.urlpattern_syntax.specs.declared.error.Error.TheVariants as errors;
+ghost use Rattle.urlpattern_syntax.specs.Errors.{OnlyOutOfMemory};
 ghost use Rattle.urlpattern_syntax.specs.Eight.{at};
 
 use super::groups::{Groups, groups_of};
@@ -85,7 +85,7 @@ impl<'a> UrlPatternCaptures<'a> {
     /// The error is that memory ran out.
     pub fn to_result(&self, alloc: Global) -> Result<UrlPatternResult, Error>
         ensures same { IfOk result (λ copy. (name : Name) → IsSameResult (result_view copy name) (captures_view self.now name)) }
-        ensures memory { IfErr result (λ error. error ≡ errors.OutOfMemory) }
+        ensures memory { OnlyOutOfMemory result }
     {
         let mut result = empty_result(alloc);
         self.copy_to(alloc, &mut result)?;

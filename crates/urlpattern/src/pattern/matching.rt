@@ -11,7 +11,7 @@ ghost use Rattle.urlpattern.specs.MatchInput.{texts_view};
 ghost use Rattle.urlpattern.specs.Calls.{AreCaptured, AreLooks, AskWithCause, HasCaptures, all_captures, borrowed_texts, results_of};
 ghost use Rattle.urlpattern.specs.Patterns.{components_of, pattern_view};
 ghost use Rattle.urlpattern_syntax.specs.declared.eight.ComponentName.{ComponentName as Name};
-ghost use Rattle.urlpattern_syntax.specs.declared.error.Error.TheVariants as errors;
+ghost use Rattle.urlpattern_syntax.specs.Errors.{OnlyOutOfMemory};
 ghost use Rattle.urlpattern_syntax.specs.Eight.{at};
 
 use super::UrlPattern;
@@ -39,7 +39,7 @@ impl<R: RegExp> UrlPattern<R> {
     /// <https://urlpattern.spec.whatwg.org/#url-pattern-match>
     pub fn test(&self, alloc: Global, input: UrlPatternMatchInput) -> Result<bool, Error>
         ensures matched { IfOk result (TestsInput R.answer (pattern_view self.now) input) }
-        ensures memory { IfErr result (λ error. error ≡ errors.OutOfMemory) }
+        ensures memory { OnlyOutOfMemory result }
     {
         match input {
             UrlPatternMatchInput::Url(url) => self.test_url(alloc, &url),
@@ -62,7 +62,7 @@ impl<R: RegExp> UrlPattern<R> {
         input: UrlPatternMatchInput,
     ) -> Result<Option<UrlPatternResult>, Error>
         ensures matched { IfOk result (FindsInInput result_view R.answer (pattern_view self.now) input) }
-        ensures memory { IfErr result (λ error. error ≡ errors.OutOfMemory) }
+        ensures memory { OnlyOutOfMemory result }
     {
         match input {
             UrlPatternMatchInput::Url(url) => self.exec_url(alloc, &url),
@@ -78,7 +78,7 @@ impl<R: RegExp> UrlPattern<R> {
     /// The error is that memory ran out. Only an engine allocates.
     pub fn test_url(&self, alloc: Global, url: &Url) -> Result<bool, Error>
         ensures matched { IfOk result (TestsInput R.answer (pattern_view self.now) (inputs.Url url.now)) }
-        ensures memory { IfErr result (λ error. error ≡ errors.OutOfMemory) }
+        ensures memory { OnlyOutOfMemory result }
         ensures asked { IfErr result (λ _. AsksAnEngine R.answer (pattern_view self.now) (texts_of_url url.now)) }
     {
         Ok(self.is_matched(alloc, url_texts(url))?)
@@ -89,7 +89,7 @@ impl<R: RegExp> UrlPattern<R> {
     /// The error is that memory ran out.
     pub fn exec_url(&self, alloc: Global, url: &Url) -> Result<Option<UrlPatternResult>, Error>
         ensures matched { IfOk result (FindsInInput result_view R.answer (pattern_view self.now) (inputs.Url url.now)) }
-        ensures memory { IfErr result (λ error. error ≡ errors.OutOfMemory) }
+        ensures memory { OnlyOutOfMemory result }
     {
         match self.captures(alloc, url)? {
             Some(captures) => {
@@ -114,7 +114,7 @@ impl<R: RegExp> UrlPattern<R> {
         url: &'a Url,
     ) -> Result<Option<UrlPatternCaptures<'a>>, Error>
         ensures matched { IfOk result (FindsInInput captures_view R.answer (pattern_view self.now) (inputs.Url url.now)) }
-        ensures memory { IfErr result (λ error. error ≡ errors.OutOfMemory) }
+        ensures memory { OnlyOutOfMemory result }
         ensures asked { IfErr result (λ _. AsksAnEngine R.answer (pattern_view self.now) (texts_of_url url.now)) }
     {
         Ok(self.captures_of_texts(alloc, url_texts(url))?)
@@ -132,7 +132,7 @@ impl<R: RegExp> UrlPattern<R> {
         input: &'a MatchInput,
     ) -> Result<Option<UrlPatternCaptures<'a>>, Error>
         ensures matched { IfOk result (FindsInTexts captures_view R.answer (pattern_view self.now) (texts_view input.now)) }
-        ensures memory { IfErr result (λ error. error ≡ errors.OutOfMemory) }
+        ensures memory { OnlyOutOfMemory result }
         ensures asked { IfErr result (λ _. AsksAnEngine R.answer (pattern_view self.now) (texts_view input.now)) }
     {
         Ok(self.captures_of_texts(alloc, input_texts(input))?)
@@ -145,7 +145,7 @@ impl<R: RegExp> UrlPattern<R> {
         texts: MatchInput,
     ) -> Result<Option<UrlPatternResult>, Error>
         ensures matched { IfOk result (FindsInTexts result_view R.answer (pattern_view self.now) (texts_view texts)) }
-        ensures memory { IfErr result (λ error. error ≡ errors.OutOfMemory) }
+        ensures memory { OnlyOutOfMemory result }
     {
         match self.matched_groups(alloc, &texts)? {
             Some(groups) => Ok(Some(result_of(texts, groups))),
@@ -162,7 +162,7 @@ impl<R: RegExp> UrlPattern<R> {
         input: &MatchInput,
     ) -> Result<Option<Eight<Groups>>, Error>
         ensures matched { IfOk result (FindsInTexts (results_of (texts_view input.now)) R.answer (pattern_view self.now) (texts_view input.now)) }
-        ensures memory { IfErr result (λ error. error ≡ errors.OutOfMemory) }
+        ensures memory { OnlyOutOfMemory result }
     {
         match self.captures_of_input(alloc, input)? {
             Some(captures) => {

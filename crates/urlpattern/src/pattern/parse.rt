@@ -9,8 +9,7 @@ ghost use Rattle.urlpattern.specs.Compiled.{HasEngine, HasHierarchicalPath, IsPa
 ghost use Rattle.urlpattern.specs.Compilers.{AreRefused, AreCompiledTo, CompilesComponent, RefusesComponent, RefusesFirstOf, RefusesFrom, component_manner};
 ghost use Rattle.urlpattern.specs.Patterns.{pattern_view};
 ghost use Rattle.urlpattern_syntax.specs.declared.eight.ComponentName.{ComponentName};
-ghost use Rattle.urlpattern_syntax.specs.declared.error.Error.TheVariants as errors;
-ghost use Rattle.urlpattern_syntax.specs.Errors.{MemoryOr};
+ghost use Rattle.urlpattern_syntax.specs.Errors.{MemoryOr, OnlyOutOfMemory};
 ghost use Rattle.urlpattern_syntax.specs.Options.{options_view};
 ghost use Rattle.urlpattern_syntax.specs.Reading.{encoding_by};
 ghost use Rattle.urlpattern_syntax.specs.Text.{begins_with, text_of};
@@ -79,7 +78,7 @@ fn compile_values<R: RegExp>(
 /// The error is that memory ran out.
 fn pattern_values(alloc: Global, init: &UrlPatternInit) -> Result<UrlPatternInit, Error>
     ensures ok { IfOk result (λ values. pattern_values init.now ≡ Ok (values_view values)) }
-    ensures memory { IfErr result (λ error. error ≡ errors.OutOfMemory) }
+    ensures memory { OnlyOutOfMemory result }
 {
     let values = process(alloc, init, &ProcessType::Pattern)?;
     Ok(without_default_port(alloc, values))
@@ -241,7 +240,7 @@ impl Compiler<'_> {
     /// The error is that memory ran out.
     fn options_of(&self, component: ComponentName, hierarchical: bool) -> Result<Options, Error>
         ensures ok { IfOk result (λ options. options_view options ≡ (component_manner self.now hierarchical component).options) }
-        ensures memory { IfErr result (λ error. error ≡ errors.OutOfMemory) }
+        ensures memory { OnlyOutOfMemory result }
     {
         let standard = match component {
             ComponentName::Hostname => Options::hostname(self.alloc),
@@ -303,7 +302,7 @@ impl Compiler<'_> {
     /// The error is that memory ran out.
     fn is_hierarchical<R: RegExp>(&self, protocol: &component::Component<R>) -> Result<bool, Error>
         ensures path_kind { IfOk result (λ hierarchical. IsTrue hierarchical ↔ HasHierarchicalPath R.answer (values_view self.now.values.now) (component_view protocol.now).matcher) }
-        ensures memory { IfErr result (λ error. error ≡ errors.OutOfMemory) }
+        ensures memory { OnlyOutOfMemory result }
     {
         if is_there_and_empty(&self.values.protocol) || is_there_with_slash(&self.values.pathname) {
             return Ok(true);

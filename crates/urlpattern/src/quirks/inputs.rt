@@ -6,10 +6,9 @@ ghost use Rattle.urlpattern_init.specs.Inheritance.{values_view};
 ghost use Rattle.urlpattern.specs.Inputs.{IsCopyOfText, FindsInput, IsConstructedFrom, IsInitOf, IsInitOfString, RefusesInput, RefusesSecondBase, longer_bytes, RefusesText, parsed_base, parsed_text, plain_base, plain_values, text_bytes};
 ghost use Rattle.urlpattern_canonical.specs.Canonical.{Reports};
 ghost use Rattle.urlpattern_inputs.specs.declared.input.StringOrInit.TheVariants as plain_inputs;
-ghost use Rattle.urlpattern_syntax.specs.declared.error.Error.TheVariants as errors;
 ghost use Rattle.urlpattern_syntax.specs.Eight.{at};
 ghost use Rattle.urlpattern_syntax.specs.Parsing.{name_view};
-ghost use Rattle.urlpattern_syntax.specs.Errors.{MemoryOr};
+ghost use Rattle.urlpattern_syntax.specs.Errors.{MemoryOr, OnlyOutOfMemory};
 ghost use Rattle.urlpattern_syntax.specs.Text.{text_of};
 
 use crate::pattern::{init_of_text, parse_base, parse_url};
@@ -88,7 +87,7 @@ fn match_text<'a>(
     base_url: Option<&str>,
 ) -> Result<Option<(UrlPatternMatchInput, Inputs<'a>)>, Error>
     ensures found { IfOk result (FindsInput (plain_inputs.String text.entry) (option_copied base_url.entry)) }
-    ensures memory { IfErr result (λ error. error ≡ errors.OutOfMemory) }
+    ensures memory { OnlyOutOfMemory result }
 {
     match parse_text(alloc, text.as_str(), base_url) {
         Ok(url) => {
@@ -109,7 +108,7 @@ fn match_init<'a>(
     init: UrlPatternInit,
 ) -> Result<Option<(UrlPatternMatchInput, Inputs<'a>)>, Error>
     ensures found { IfOk result (FindsInput (plain_inputs.Init init) None) }
-    ensures memory { IfErr result (λ error. error ≡ errors.OutOfMemory) }
+    ensures memory { OnlyOutOfMemory result }
 {
     match parse_base(alloc, borrowed(&init.base_url)) {
         Ok(base_url) => {
@@ -132,7 +131,7 @@ fn copied_init(
 ) -> Result<init::UrlPatternInit, Error>
     ensures texts { IfOk result (λ copy. values_view copy ≡ plain_values init.now) }
     ensures base { IfOk result (λ copy. copy.base_url ≡ base_url) }
-    ensures memory { IfErr result (λ error. error ≡ errors.OutOfMemory) }
+    ensures memory { OnlyOutOfMemory result }
 {
     let text = |name: ComponentName| -> Result<Option<String>, AllocError>
         ensures { IsCopyOfText (at (plain_values init.entry.now) name) result }

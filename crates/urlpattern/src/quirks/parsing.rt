@@ -4,8 +4,7 @@ ghost use Rattle.urlpattern.specs.Compiled.{IsPatternOfInit, RefusesInit};
 ghost use Rattle.urlpattern.specs.Patterns.{PatternView, pattern_view};
 ghost use Rattle.urlpattern.specs.Quirks.{IsPlainOf, plain_pattern};
 ghost use Rattle.urlpattern_compiled.specs.Values.{pattern_by};
-ghost use Rattle.urlpattern_syntax.specs.declared.error.Error.TheVariants as errors;
-ghost use Rattle.urlpattern_syntax.specs.Errors.{MemoryOr};
+ghost use Rattle.urlpattern_syntax.specs.Errors.{MemoryOr, OnlyOutOfMemory};
 ghost use Rattle.urlpattern_syntax.specs.Text.{text_of};
 
 use crate::pattern;
@@ -54,7 +53,7 @@ fn plain_pattern<R: RegExp>(
     pattern: pattern::UrlPattern<R>,
 ) -> Result<UrlPattern, Error>
     ensures plain { IfOk result (λ plain. pattern_by text_of plain ≡ plain_pattern R.text_made_of (pattern_view pattern)) }
-    ensures memory { IfErr result (λ error. error ≡ errors.OutOfMemory) }
+    ensures memory { OnlyOutOfMemory result }
 {
     let has_regexp_groups = pattern.has_regexp_groups();
     let plain = |component: Component<R>| -> Result<UrlPatternComponent, Error>

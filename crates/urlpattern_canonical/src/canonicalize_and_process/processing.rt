@@ -1,8 +1,8 @@
 //! The values of an init: kept for a pattern, and made canonical for a URL.
-ghost use Rattle.std.specs.Prelude.{◌≡◌, Some, length, IfOk, IfErr};
+ghost use Rattle.std.specs.Prelude.{◌≡◌, Some, length, IfOk};
 ghost use Rattle.std.specs.Str.{chars};
 ghost use Rattle.urlpattern_syntax.specs.Text.{text_of};
-ghost use Rattle.urlpattern_syntax.specs.declared.error.Error.TheVariants as errors;
+ghost use Rattle.urlpattern_syntax.specs.Errors.{OnlyOutOfMemory};
 ghost use Rattle.urlpattern_canonical.specs.Canonical.{IsAnswer, IsPathnameAnswer, IsPortAnswer, bytes_asked, is_hierarchical, is_hierarchical_under, option_text, processed_hash, processed_hostname, processed_password, processed_protocol, processed_search, processed_username};
 
 use super::marks::{begins_with_slash, without_colon, without_first};
@@ -134,7 +134,7 @@ impl Canonicalizer {
     /// A copy of the value.
     fn kept(&self, value: &str) -> Result<String, Error>
         ensures ok { IfOk result (λ text. text_of text ≡ chars value.now) }
-        ensures memory { IfErr result (λ error. error ≡ errors.OutOfMemory) }
+        ensures memory { OnlyOutOfMemory result }
     {
         Ok(String::from_str(self.alloc, value)?)
     }

@@ -1,8 +1,7 @@
 //! The URLs on which values are set.
 ghost use Rattle.std.specs.Prelude.{◌≡◌, None, Ok, IfOk, IfErr, MatchResult};
 ghost use Rattle.url.specs.Parser.{parse_url};
-ghost use Rattle.urlpattern_syntax.specs.Errors.{MemoryOr};
-ghost use Rattle.urlpattern_syntax.specs.declared.error.Error.TheVariants as errors;
+ghost use Rattle.urlpattern_syntax.specs.Errors.{MemoryOr, OnlyOutOfMemory};
 ghost use Rattle.urlpattern_canonical.specs.Canonical.{Reports, dummy_of_scheme, dummy_url, opaque_url, path_of};
 
 use super::Canonicalizer;
@@ -27,7 +26,7 @@ impl Canonicalizer {
     ///
     /// The error is that memory ran out.
     pub fn shared(alloc: Global) -> Result<Self, Error>
-        ensures { IfErr result (λ error. error ≡ errors.OutOfMemory) }
+        ensures { OnlyOutOfMemory result }
     {
         let url = parse_dummy(alloc)?;
         Ok(Self {
@@ -39,7 +38,7 @@ impl Canonicalizer {
     /// The URL on which a value is set.
     pub(super) fn dummy(&self) -> Result<Url, Error>
         ensures ok { IfOk result (λ url. dummy_url ≡ Ok url) }
-        ensures memory { IfErr result (λ error. error ≡ errors.OutOfMemory) }
+        ensures memory { OnlyOutOfMemory result }
     {
         match &self.dummy {
             Some(url) => Ok(url.clone()?),
@@ -61,7 +60,7 @@ impl Canonicalizer {
 /// Parses the URL on which opaque paths are set.
 pub(super) fn parse_opaque(alloc: Global) -> Result<Url, Error>
     ensures ok { IfOk result (λ url. opaque_url ≡ Ok url) }
-    ensures memory { IfErr result (λ error. error ≡ errors.OutOfMemory) }
+    ensures memory { OnlyOutOfMemory result }
 {
     parse(alloc, OPAQUE_URL, 0)
 }
@@ -69,7 +68,7 @@ pub(super) fn parse_opaque(alloc: Global) -> Result<Url, Error>
 /// Parses the URL on which values are set.
 fn parse_dummy(alloc: Global) -> Result<Url, Error>
     ensures ok { IfOk result (λ url. dummy_url ≡ Ok url) }
-    ensures memory { IfErr result (λ error. error ≡ errors.OutOfMemory) }
+    ensures memory { OnlyOutOfMemory result }
 {
     parse(alloc, DUMMY_URL, 0)
 }

@@ -4,7 +4,7 @@ ghost use Rattle.std.specs.Prelude.{◌≡◌, IfErr, IfOk};
 ghost use Rattle.std.specs.Str.{chars};
 ghost use Rattle.urlpattern_core.specs.Compiling.{AnswersByItsParts, FailsToRead, IsAskedEngineBy, IsCompiledBy, IsComponentBy, component_view, engine_flags, has_regexp, pattern_text};
 ghost use Rattle.urlpattern_core.specs.Matchers.{engine_view};
-ghost use Rattle.urlpattern_syntax.specs.declared.error.Error.TheVariants as errors;
+ghost use Rattle.urlpattern_syntax.specs.Errors.{OnlyOutOfMemory};
 ghost use Rattle.urlpattern_syntax.specs.Options.{options_view};
 ghost use Rattle.urlpattern_syntax.specs.Parts.{parts_view};
 ghost use Rattle.urlpattern_syntax.specs.Reading.{encoding_by};
@@ -51,7 +51,7 @@ impl<R: RegExp> Component<R> {
     /// The component of a list of parts.
     fn from_parts(alloc: Global, part_list: &[Part], options: &Options) -> Result<Self, Error>
         ensures made { IfOk result (λ made. IsComponentBy R.RegExp (options_view options.now) (parts_view part_list.now) (component_view made)) }
-        ensures memory { IfErr result (λ error. error ≡ errors.OutOfMemory) }
+        ensures memory { OnlyOutOfMemory result }
     {
         let flags = engine_flags(options);
         let has_regexp_group = has_regexp(part_list);

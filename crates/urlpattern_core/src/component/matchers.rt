@@ -1,11 +1,11 @@
 //! The matcher of a list of parts.
 
-ghost use Rattle.std.specs.Prelude.{◌≡◌, false, ◌++◌, IfErr, IfOk, IfSome};
+ghost use Rattle.std.specs.Prelude.{◌≡◌, false, ◌++◌, IfOk, IfSome};
 ghost use Rattle.std.specs.Str.{chars};
 ghost use Rattle.urlpattern_core.specs.Compiling.{IsAskingMatcherBy, IsEngineBy, IsMatcherBy};
 ghost use Rattle.urlpattern_core.specs.Matchers.{IfMatcher, PeelsBack, PeelsFront, PeelsTo, capture_of, engine_view, literal_view};
 ghost use Rattle.urlpattern_laws.specs.Matching.{AnswersByMeaning, single_capture};
-ghost use Rattle.urlpattern_syntax.specs.declared.error.Error.TheVariants as errors;
+ghost use Rattle.urlpattern_syntax.specs.Errors.{OnlyOutOfMemory};
 ghost use Rattle.urlpattern_syntax.specs.Options.{options_view};
 ghost use Rattle.urlpattern_syntax.specs.Parts.{part_view, parts_view};
 ghost use Rattle.urlpattern_syntax.specs.RegexpText.{is_plain, regexp_text};
@@ -33,7 +33,7 @@ pub fn generate_matcher<R: RegExp>(
 ) -> Result<Matcher<R>, Error>
     ensures made { IfMatcher result (IsMatcherBy R.RegExp (options_view options.now) (chars flags.now) (parts_view part_list.now)) }
     ensures means { IfMatcher result (AnswersByMeaning R.answer (options_view options.now) (parts_view part_list.now)) }
-    ensures memory { IfErr result (λ error. error ≡ errors.OutOfMemory) }
+    ensures memory { OnlyOutOfMemory result }
 {
     Ok(generate_matcher_knowing(alloc, part_list, options, flags, None)?)
 }

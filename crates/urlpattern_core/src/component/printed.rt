@@ -2,13 +2,13 @@
 //!
 //! <https://urlpattern.spec.whatwg.org/#converting-part-lists-to-pattern-strings>
 
-ghost use Rattle.std.specs.Prelude.{◌≡◌, ◌&&◌, ◌||◌, false, not, IfOk, IfErr};
+ghost use Rattle.std.specs.Prelude.{◌≡◌, ◌&&◌, ◌||◌, false, not, IfOk};
 ghost use Rattle.std.specs.Str.{chars};
 ghost use Rattle.urlpattern_core.specs.Neighbours.{ends_with_prefix, neighbour};
 ghost use Rattle.urlpattern_core.specs.NormalForms.{ReadsBackIfKept};
 ghost use Rattle.urlpattern_core.specs.PartTexts.{group_part};
 ghost use Rattle.urlpattern_laws.specs.Printing.{goes_on, has_custom_name, has_other_prefix, has_suffix, in_braces, is_asterisk, is_name_alone, needs_braces, printed, printed_fixed, printed_match, printed_name, printed_part, printed_suffix, takes_before, takes_next, admits_asterisk};
-ghost use Rattle.urlpattern_syntax.specs.declared.error.Error.TheVariants as errors;
+ghost use Rattle.urlpattern_syntax.specs.Errors.{OnlyOutOfMemory};
 ghost use Rattle.urlpattern_syntax.specs.Options.{options_view};
 ghost use Rattle.urlpattern_syntax.specs.Parts.{part_view, parts_view};
 ghost use Rattle.urlpattern_syntax.specs.RegexpText.{is_fixed_text};
@@ -38,7 +38,7 @@ pub fn generate_pattern_string(
 ) -> Result<String, Error>
     ensures text { IfOk result (λ text. text_of text ≡ printed (options_view options.now) (parts_view part_list.now)) }
     ensures reads_back { IfOk result (λ text. ReadsBackIfKept (text_of text) (options_view options.now) (parts_view part_list.now)) }
-    ensures memory { IfErr result (λ error. error ≡ errors.OutOfMemory) }
+    ensures memory { OnlyOutOfMemory result }
 {
     Ok(written(alloc, &PrintedText { part_list, options })?)
 }

@@ -1,12 +1,12 @@
 //! The components that are found in a constructor string.
-ghost use Rattle.std.specs.Prelude.{◌≡◌, IfErr, IfOk, Some, ◌+◌, ◌*◌, ◌<◌, ◌≤◌, length, IsTrue, None};
+ghost use Rattle.std.specs.Prelude.{◌≡◌, IfOk, Some, ◌+◌, ◌*◌, ◌<◌, ◌≤◌, length, IsTrue, None};
 ghost use Rattle.std.specs.Str.{chars};
 ghost use Rattle.urlpattern_init.specs.Inheritance.{values_view};
 ghost use Rattle.urlpattern_init.specs.Split.{AuthorityFrom, EndsAt, HashAt, HashFrom, HostnameFrom, IsAbsoluteSplit, IsRelativeSplit, IsTextBetween, PathnameAt, PathnameFrom, PortAt, SearchAt, SearchFrom, UserinfoFrom, depth_before, ends_at, implied_pathname, is_at_sign, is_colon_sign, is_slash_sign};
 ghost use Rattle.urlpattern_init.specs.Splitting.{CanRead, HasRead, HasTurnForSlash, HasTurns, IsOwned, IsSource, NoAuthority, NoPathname, NoSearch, components_of, may_follow_hostname, may_follow_pathname, may_follow_port, may_follow_search, text_of_source, tokens_of};
 ghost use Rattle.urlpattern_syntax.specs.Parsing.{name_view};
 ghost use Rattle.urlpattern_syntax.specs.Eight.{at};
-ghost use Rattle.urlpattern_syntax.specs.declared.error.Error.TheVariants as errors;
+ghost use Rattle.urlpattern_syntax.specs.Errors.{OnlyOutOfMemory};
 
 use super::sections::{Place, Section};
 use super::tokens::Source;
@@ -34,7 +34,7 @@ impl<'a> Split<'a> {
     ) -> Result<UrlPatternInit, Error>
         ensures components { IfOk result (λ init. values_view init ≡ components_of self.now) }
         ensures base { IfOk result (λ init. init.base_url ≡ base_url) }
-        ensures memory { IfErr result (λ error. error ≡ errors.OutOfMemory) }
+        ensures memory { OnlyOutOfMemory result }
     {
         let value = |name: ComponentName| -> Result<Option<String>, Error>
             ensures { IsOwned (at (components_of self.entry.now) name) result }

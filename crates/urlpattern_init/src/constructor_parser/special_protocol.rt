@@ -1,10 +1,9 @@
 //! Whether a protocol is special.
-ghost use Rattle.std.specs.Prelude.{◌≡◌, ◌↔◌, IfErr, IfOk, MatchBool, IsTrue};
+ghost use Rattle.std.specs.Prelude.{◌↔◌, IfErr, IfOk, MatchBool, IsTrue};
 ghost use Rattle.std.specs.Str.{chars};
 ghost use Rattle.urlpattern_init.specs.SpecialProtocol.{AcceptsAny, AcceptsSpecialScheme, CanonicalizesProtocol, IsSpecialTo, RefusesProtocol};
 ghost use Rattle.urlpattern_core.specs.Matchers.{matcher_view};
-ghost use Rattle.urlpattern_syntax.specs.Errors.{MemoryOr};
-ghost use Rattle.urlpattern_syntax.specs.declared.error.Error.TheVariants as errors;
+ghost use Rattle.urlpattern_syntax.specs.Errors.{MemoryOr, OnlyOutOfMemory};
 
 use std::alloc::Global;
 use urlpattern_canonical::canonicalize_and_process::canonicalize_protocol;
@@ -37,7 +36,7 @@ pub(super) fn is_special_protocol<R: RegExp>(alloc: Global, protocol: &str) -> R
 /// The error is that memory ran out.
 pub fn accepts_special_scheme<R: RegExp>(alloc: Global, matcher: &Matcher<R>) -> Result<bool, Error>
     ensures answer { IfOk result (λ accepted. IsTrue accepted ↔ AcceptsSpecialScheme R.answer (matcher_view matcher.now)) }
-    ensures memory { IfErr result (λ error. error ≡ errors.OutOfMemory) }
+    ensures memory { OnlyOutOfMemory result }
 {
     accepts_any(
         alloc,
@@ -54,7 +53,7 @@ fn accepts_any<R: RegExp>(
 ) -> Result<bool, Error>
     ensures answer { let Accepts = AcceptsAny R.answer matcher.now texts.now in
         IfOk result (λ found. MatchBool found Accepts (¬ Accepts)) }
-    ensures memory { IfErr result (λ error. error ≡ errors.OutOfMemory) }
+    ensures memory { OnlyOutOfMemory result }
 {
     for text in texts {
         if matcher.accepts(alloc, text)? {

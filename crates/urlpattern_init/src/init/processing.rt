@@ -6,9 +6,8 @@ ghost use Rattle.urlpattern_init.specs.Inheritance as spec;
 ghost use Rattle.urlpattern_init.specs.Inheritance.{bytes_of, init_bytes, init_values, is_inheritable, missing, must_lack, up_to_last_slash, values_of, values_view};
 ghost use Rattle.urlpattern_init.specs.Processing.{IsFailureIn, IsPathnameAnswer, IsTextAnswer, IsValueAfter, bytes_in, given_values, lacking_in, optional_bytes, optional_text, value_in, values_in};
 ghost use Rattle.urlpattern_syntax.specs.declared.eight.ComponentName.{ComponentName};
-ghost use Rattle.urlpattern_syntax.specs.declared.error.Error.TheVariants as errors;
 ghost use Rattle.urlpattern_syntax.specs.Eight.{at};
-ghost use Rattle.urlpattern_syntax.specs.Errors.{MemoryOr};
+ghost use Rattle.urlpattern_syntax.specs.Errors.{MemoryOr, OnlyOutOfMemory};
 ghost use Rattle.urlpattern_syntax.specs.Text.{text_of};
 
 use crate::init::UrlPatternInit;
@@ -200,7 +199,7 @@ impl Processing<'_> {
     /// The value of a component that the init lacks.
     fn lacking(&self, component: ComponentName) -> Result<Option<String>, Error>
         ensures ok { IfOk result (λ value. option_map text_of value ≡ lacking_in self.now component) }
-        ensures memory { IfErr result (λ error. error ≡ errors.OutOfMemory) }
+        ensures memory { OnlyOutOfMemory result }
     {
         match &self.init.base_url {
             Some(base) if self.inherits(component) => {

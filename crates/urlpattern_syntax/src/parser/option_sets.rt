@@ -1,7 +1,7 @@
 //! The options of the components, and the texts that go by them.
-ghost use Rattle.std.specs.Prelude.{◌≡◌, IfErr, IfOk};
+ghost use Rattle.std.specs.Prelude.{◌≡◌, IfOk};
 ghost use Rattle.std.specs.Str.{chars};
-ghost use Rattle.urlpattern_syntax.specs.declared.error.Error.TheVariants as errors;
+ghost use Rattle.urlpattern_syntax.specs.Errors.{OnlyOutOfMemory};
 ghost use Rattle.urlpattern_syntax.specs.Options.{default_options, hostname_options, options_view, pathname_options};
 ghost use Rattle.urlpattern_syntax.specs.RegexpText.{escaped_regexp, segment_wildcard};
 ghost use Rattle.urlpattern_syntax.specs.Text.{text_of};
@@ -46,7 +46,7 @@ impl Options {
     /// <https://urlpattern.spec.whatwg.org/#pathname-options>
     pub fn pathname(alloc: Global) -> Result<Self, Error>
         ensures ok { IfOk result (λ options. options_view options ≡ pathname_options) }
-        ensures memory { IfErr result (λ error. error ≡ errors.OutOfMemory) }
+        ensures memory { OnlyOutOfMemory result }
     {
         Ok(Self {
             delimiter_code_point: Some('/'),
@@ -63,7 +63,7 @@ impl Options {
     /// <https://urlpattern.spec.whatwg.org/#escape-a-regexp-string>
     pub fn escape_regexp_string(&self, alloc: Global, input: &str) -> Result<String, Error>
         ensures escaped { IfOk result (λ text. text_of text ≡ escaped_regexp (options_view self.now) (chars input.now)) }
-        ensures memory { IfErr result (λ error. error ≡ errors.OutOfMemory) }
+        ensures memory { OnlyOutOfMemory result }
     {
         Ok(written(alloc, &Escaped::regexp(input, self))?)
     }
@@ -75,7 +75,7 @@ impl Options {
     /// <https://urlpattern.spec.whatwg.org/#generate-a-segment-wildcard-regexp>
     pub fn generate_segment_wildcard_regexp(&self, alloc: Global) -> Result<String, Error>
         ensures wildcard { IfOk result (λ text. text_of text ≡ segment_wildcard (options_view self.now)) }
-        ensures memory { IfErr result (λ error. error ≡ errors.OutOfMemory) }
+        ensures memory { OnlyOutOfMemory result }
     {
         Ok(written(alloc, &SegmentWildcard(self))?)
     }
