@@ -1,9 +1,9 @@
 -- Which of the meanings of parts is answered: that of the first way.
-use Rattle.std.specs.Prelude.{◌≡◌, ℕ, List, Option, Ok, Err, IsTrue}
+use Rattle.std.specs.Prelude.{◌≡◌, ℕ, false, List, Option, Ok, Err, IsTrue}
 use Rattle.std.specs.Str.{all_scalars}
 use Rattle.urlpattern_laws.specs.Dialect.{IsTreeOf, Items}
-use Rattle.urlpattern_laws.specs.Matching.{InnerView, IsOfMiddle, RegExp}
-use Rattle.urlpattern_laws.specs.PartMeaning.{Captures}
+use Rattle.urlpattern_laws.specs.Matching.{EachAnswerIs, InnerView, IsOfMiddle, MatcherView, RegExp}
+use Rattle.urlpattern_laws.specs.PartMeaning.{AreGenerated, Captures}
 use Rattle.urlpattern_laws.specs.Ways.{first_way}
 use Rattle.urlpattern_syntax.specs.Options.{OptionsView}
 use Rattle.urlpattern_syntax.specs.Parts.{PartView}
@@ -23,6 +23,13 @@ AnswersFirst regexp answer = (tree : Items) (text : List ℕ) → IsTreeOf regex
 -- an engine's value that is asked answers so of the parts that are left to it
 abbrev pub AnswersFirstInMiddle : {E : Type 0} → (answer : E → List ℕ → Option Captures) → OptionsView → List PartView → InnerView E → Type 0
 AnswersFirstInMiddle answer options parts inner = IsOfMiddle (λ engine middle. AnswersFirst (regexp_text options middle) (answer engine)) parts inner
+
+-- The matcher answers the first way of the tree of the parts, where none of them is custom and case is kept, if an engine that
+-- is asked answers so of the parts that are left to it.
+abbrev pub AnswersByFirstWay : {E : Type 0} → (answer : E → List ℕ → Option Captures) → OptionsView → List PartView → MatcherView E → Type 0
+AnswersByFirstWay answer options parts matcher =
+    AreGenerated parts → options.ignore_case ≡ false → AnswersFirstInMiddle answer options parts matcher.inner →
+    EachAnswerIs answer matcher (IsFirstOf options parts)
 
 -- an engine that is needed took its text: no error is kept, and `Holds` is true of the value
 abbrev pub TookText : {E : Type 0} → (Holds : E → Type 0) → InnerView E → Type 0

@@ -1,6 +1,8 @@
 pub mod Dialect
 pub mod FirstAnswers
 pub mod Laws
+pub mod LawsOfMeaning
+pub mod LawsOfReading
 pub mod Matching
 pub mod PartMeaning
 pub mod Printing

@@ -1,16 +1,16 @@
 -- Which matcher is made of a list of parts, what a matcher answers to a text, and when that is what the parts mean.
-use Rattle.std.specs.Prelude.{◌≡◌, ◌≢◌, ◌⊎◌, ℕ, Bool, true, false, List, [], ◌∷◌, ◌++◌, map, Option, Some, None, Result, Ok, Err, IsTrue, if◌then◌else◌, option_to_list, All}
+use Rattle.std.specs.Prelude.{◌≡◌, ◌≢◌, ◌⊎◌, ℕ, Bool, true, false, List, [], ◌∷◌, ◌++◌, map, Option, Some, None, Result, Ok, Err, IsTrue, if◌then◌else◌, option_to_list}
 use Rattle.std.specs.Char.{to_ascii_lowercase}
 use Rattle.std.specs.Str.{all_scalars}
 use Rattle.urlpattern_laws.specs.Dialect.{Follows}
 use Rattle.urlpattern_syntax.specs.declared.parser.PartModifier.{PartModifier}
 use Rattle.urlpattern_syntax.specs.declared.parser.PartModifier.TheVariants as modifiers
 use Rattle.urlpattern_syntax.specs.declared.parser.PartType.{PartType}
-use Rattle.urlpattern_syntax.specs.declared.parser.PartType.TheVariants.{Regexp, SegmentWildcard, FullWildcard}
+use Rattle.urlpattern_syntax.specs.declared.parser.PartType.TheVariants.{SegmentWildcard, FullWildcard}
 use Rattle.urlpattern_syntax.specs.Errors.{ErrorView}
 use Rattle.urlpattern_syntax.specs.Errors.{ErrorView as views}
 use Rattle.urlpattern_syntax.specs.Options.{OptionsView}
-use Rattle.urlpattern_laws.specs.PartMeaning.{Captures, PartsMean}
+use Rattle.urlpattern_laws.specs.PartMeaning.{AreGenerated, Captures, PartsMean}
 use Rattle.urlpattern_syntax.specs.Parts.{PartView}
 use Rattle.urlpattern_syntax.specs.RegexpText.{is_plain, regexp_text}
 use Rattle.urlpattern_syntax.specs.Text.{lacks, line_feed}
@@ -197,10 +197,15 @@ abbrev pub AgreesInMiddle : {E : Type 0} → (answer : E → List ℕ → Option
 AgreesInMiddle answer options parts inner =
     IsOfMiddle (λ engine middle. (text : List ℕ) → IsTrue (all_scalars text) → Agrees options middle text (answer engine text)) parts inner
 
--- The matcher answers what the parts mean, where none of them is custom and case is kept: to each text of characters
--- without line feed, if an engine that is asked follows the regular expression of the parts that are left to it.
+-- each answer of the matcher to a text of characters without line feed is such a result
+abbrev pub EachAnswerIs : {E : Type 0} → (answer : E → List ℕ → Option Captures) → MatcherView E → (Is : (text : List ℕ) → Option Captures → Type 0) → Type 0
+EachAnswerIs answer matcher Is =
+    (text : List ℕ) (result : Option Captures) → IsTrue (lacks line_feed text) → IsTrue (all_scalars text) →
+    Answers answer matcher text result → Is text result
+
+-- The matcher answers what the parts mean, where none of them is custom and case is kept, if an engine that is asked follows
+-- the regular expression of the parts that are left to it.
 abbrev pub AnswersByMeaning : {E : Type 0} → (answer : E → List ℕ → Option Captures) → OptionsView → List PartView → MatcherView E → Type 0
 AnswersByMeaning answer options parts matcher =
-    All (λ part. part.kind ≢ Regexp) parts → options.ignore_case ≡ false → FollowsMiddle answer options parts matcher.inner →
-    (text : List ℕ) (result : Option Captures) → IsTrue (lacks line_feed text) → IsTrue (all_scalars text) →
-    Answers answer matcher text result → Agrees options parts text result
+    AreGenerated parts → options.ignore_case ≡ false → FollowsMiddle answer options parts matcher.inner →
+    EachAnswerIs answer matcher (Agrees options parts)

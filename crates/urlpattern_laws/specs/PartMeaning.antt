@@ -1,6 +1,6 @@
 -- What parts mean: the texts that they stand for, with what their groups capture. Custom regular expressions have no
 -- meaning here.
-use Rattle.std.specs.Prelude.{◌≡◌, ◌≢◌, ℕ, zero, suc, ◌≤◌, Bool, true, ◌&&◌, List, [], ◌∷◌, ◌++◌, Option, Some, None, IsTrue, unwrap_or}
+use Rattle.std.specs.Prelude.{◌≡◌, ◌≢◌, ◌↔◌, All, ℕ, zero, suc, ◌≤◌, Bool, true, ◌&&◌, List, [], ◌∷◌, ◌++◌, Option, Some, None, IsTrue, unwrap_or}
 use Rattle.urlpattern_syntax.specs.declared.parser.PartModifier.{PartModifier}
 use Rattle.urlpattern_syntax.specs.declared.parser.PartModifier.TheVariants as modifiers
 use Rattle.urlpattern_syntax.specs.declared.parser.PartType.{PartType}
@@ -47,9 +47,12 @@ abbrev pub capture_of_none : PartModifier → (is_bare : Bool) → Option (List 
 capture_of_none modifiers.ZeroOrMore true = Some []
 capture_of_none modifier is_bare = None
 
+abbrev pub capture_of_no_copies : PartView → Option (List ℕ)
+capture_of_no_copies part = capture_of_none part.modifier (is_empty part.prefix && is_empty part.suffix)
+
 -- the capture of n copies with this text: all but the first prefix and the last suffix
 abbrev pub IsCapture : PartView → ℕ → List ℕ → Option (List ℕ) → Type 0
-IsCapture part zero text capture = capture ≡ capture_of_none part.modifier (is_empty part.prefix && is_empty part.suffix)
+IsCapture part zero text capture = capture ≡ capture_of_no_copies part
 IsCapture part (suc n) text capture = (inner : List ℕ) × (text ≡ part.prefix ++ inner ++ part.suffix) × (capture ≡ Some inner)
 
 -- what n copies of a part of this kind capture: nothing for a fixed text, and one text for a wildcard
@@ -73,3 +76,12 @@ PartsMean options [] text captures = (text ≡ []) × (captures ≡ [])
 PartsMean options (part ∷ parts) text captures =
     (first rest : List ℕ) × (own others : Captures) × (text ≡ first ++ rest) × (captures ≡ own ++ others)
     × PartMeans options part first own × PartsMean options parts rest others
+
+-- both mean the same texts with the same captures
+abbrev pub MeanTheSame : OptionsView → (parts others : List PartView) → Type 0
+MeanTheSame options parts others =
+    (text : List ℕ) (captures : Captures) → PartsMean options parts text captures ↔ PartsMean options others text captures
+
+-- none of the parts is a custom regular expression
+abbrev pub AreGenerated : List PartView → Type 0
+AreGenerated parts = All (λ part. part.kind ≢ Regexp) parts

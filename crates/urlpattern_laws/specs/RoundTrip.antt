@@ -110,9 +110,25 @@ FailsText encoding texts error = (text : List ℕ) × Contains texts text × enc
 
 -- ---- the theorem of one text
 
--- The text reads as the joined parts and as nothing else, it is not refused, and what it reads as prints as this text.
+-- the text reads as the joined parts
+abbrev pub ReadsAsJoined : (text : List ℕ) → OptionsView → Encoding → List PartView → Type 0
+ReadsAsJoined text options encoding parts = Reads text options encoding (joined parts)
+
+-- it reads as nothing else
+abbrev pub ReadsOnlyAsJoined : (text : List ℕ) → OptionsView → Encoding → List PartView → Type 0
+ReadsOnlyAsJoined text options encoding parts = (others : List PartView) → Reads text options encoding others → others ≡ joined parts
+
+-- it is not refused
+abbrev pub IsNotRefused : (text : List ℕ) → OptionsView → Encoding → List PartView → Type 0
+IsNotRefused text options encoding parts = (error : ErrorView) → ¬ Refuses text options encoding error
+
+-- what it reads as prints as this text
+abbrev pub PrintsTheSame : (text : List ℕ) → OptionsView → Encoding → List PartView → Type 0
+PrintsTheSame text options encoding parts = (others : List PartView) → Reads text options encoding others → printed options others ≡ text
+
+-- All four.
 pub record ReadsBack (text : List ℕ) (options : OptionsView) (encoding : Encoding) (parts : List PartView) : Type 0 where
-  pub reads : Reads text options encoding (joined parts)
-  pub only : (others : List PartView) → Reads text options encoding others → others ≡ joined parts
-  pub not_refused : (error : ErrorView) → ¬ Refuses text options encoding error
-  pub same : (others : List PartView) → Reads text options encoding others → printed options others ≡ text
+  pub reads : ReadsAsJoined text options encoding parts
+  pub only : ReadsOnlyAsJoined text options encoding parts
+  pub not_refused : IsNotRefused text options encoding parts
+  pub same : PrintsTheSame text options encoding parts

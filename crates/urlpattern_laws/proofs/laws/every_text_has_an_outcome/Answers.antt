@@ -1,14 +1,13 @@
 use Rattle.urlpattern_laws.specs.Laws.{listed}
-use Rattle.std.specs.Fn.{FnReturnsAt}
-use Rattle.urlpattern_syntax.specs.Reading.{encoding_of}
+use Rattle.urlpattern_syntax.specs.Reading.{encoding_by}
 use Rattle.urlpattern_laws.proofs.OutcomesExist.{outcome_answered, outcome_listed}
 use Rattle.urlpattern_laws.proofs.laws.every_text_has_an_outcome.Goals as goal
 
 pub returns-clause-listed : goal.returns-clause-listed
-returns-clause-listed g c = outcome_listed
+returns-clause-listed g c = λ answers text options. outcome_listed text options answers
 
 pub returns-clause-answered : goal.returns-clause-answered
-returns-clause-answered g c = λ text options answers. outcome_answered text options (listed answers)
+returns-clause-answered g c = λ answers text options. outcome_answered text options (listed answers)
 
 pub returns-clause-called : goal.returns-clause-called
-returns-clause-called g c = λ text options callback. outcome_answered text options (encoding_of (FnReturnsAt g.F.Fn callback))
+returns-clause-called g c = λ callback text options. outcome_answered text options (encoding_by g.F.Fn callback)

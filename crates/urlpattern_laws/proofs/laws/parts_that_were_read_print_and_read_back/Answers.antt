@@ -3,17 +3,17 @@ use Rattle.urlpattern_laws.proofs.ReadsBack.{kept_reads, kept_reads_only, kept_s
 use Rattle.urlpattern_laws.proofs.laws.parts_that_were_read_print_and_read_back.Goals as goal
 
 pub returns-clause-reads : goal.returns-clause-reads
-returns-clause-reads c = λ text options first answers parts read keeps.
-    kept_reads options (listed answers) parts (were_read_printable text options (listed first) parts read) keeps
+returns-clause-reads c = λ text options first answers parts read.
+    kept_reads options (listed answers) parts (were_read_printable text options (listed first) parts read)
 
 pub returns-clause-only : goal.returns-clause-only
-returns-clause-only c = λ text options first answers parts others read keeps reads.
-    kept_reads_only options (listed answers) parts (were_read_printable text options (listed first) parts read) keeps others reads
+returns-clause-only c = λ text options first answers parts read.
+    kept_reads_only options (listed answers) parts (were_read_printable text options (listed first) parts read)
 
 pub returns-clause-not_refused : goal.returns-clause-not_refused
-returns-clause-not_refused c = λ text options first answers parts error read keeps refuses.
-    kept_unrefused options (listed answers) parts (were_read_printable text options (listed first) parts read) keeps error refuses
+returns-clause-not_refused c = λ text options first answers parts read.
+    kept_unrefused options (listed answers) parts (were_read_printable text options (listed first) parts read)
 
 pub returns-clause-same : goal.returns-clause-same
-returns-clause-same c = λ text options first answers parts others read keeps reads.
-    kept_same options (listed answers) parts (were_read_printable text options (listed first) parts read) keeps others reads
+returns-clause-same c = λ text options first answers parts read.
+    kept_same options (listed answers) parts (were_read_printable text options (listed first) parts read)

@@ -3,7 +3,7 @@ use Rattle.urlpattern_laws.proofs.ReadsBack.{answered_only, answered_refused}
 use Rattle.urlpattern_laws.proofs.laws.printed_patterns_fail_by_the_encoding_alone.Goals as goal
 
 pub returns-clause-only : goal.returns-clause-only
-returns-clause-only c = λ options answers parts others printable kept reads. answered_only options (listed answers) parts printable kept others reads
+returns-clause-only c = λ answers options. answered_only options (listed answers)
 
 pub returns-clause-refused : goal.returns-clause-refused
-returns-clause-refused c = λ options answers parts error printable refuses. answered_refused options (listed answers) parts printable error refuses
+returns-clause-refused c = λ answers options parts error printable. answered_refused options (listed answers) parts printable error

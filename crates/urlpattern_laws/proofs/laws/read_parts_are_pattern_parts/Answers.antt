@@ -3,4 +3,4 @@ use Rattle.urlpattern_laws.proofs.ReadParts.{read_parts_are_pattern_parts}
 use Rattle.urlpattern_laws.proofs.laws.read_parts_are_pattern_parts.Goals as goal
 
 pub returns : goal.returns
-returns c = λ text options answers. read_parts_are_pattern_parts text options (listed answers)
+returns c = λ answers text options. read_parts_are_pattern_parts text options (listed answers)

@@ -4,7 +4,7 @@ use Rattle.urlpattern_laws.proofs.laws.readings_are_one.Goals as goal
 
 pub returns : goal.returns
 returns c = record {
-  readings = λ text options answers. reading_one text options (listed answers);
-  refusals = λ text options answers. refusal_one text options (listed answers);
-  not_both = λ text options answers. reading_or_refusal text options (listed answers);
+  readings = λ answers text options. reading_one text options (listed answers);
+  refusals = λ answers text options. refusal_one text options (listed answers);
+  not_both = λ answers text options. reading_or_refusal text options (listed answers);
 }

@@ -1,7 +1,6 @@
-use Rattle.std.specs.Fn.{FnReturnsAt}
 use Rattle.urlpattern_laws.proofs.CallbackLaws.{outcome_one_given_memory}
-use Rattle.urlpattern_syntax.specs.Reading.{encoding_of}
+use Rattle.urlpattern_syntax.specs.Reading.{encoding_by}
 use Rattle.urlpattern_laws.proofs.laws.readings_by_callbacks_are_one.Goals as goal
 
 pub returns : goal.returns
-returns g c = λ callback text options. outcome_one_given_memory text options (encoding_of (FnReturnsAt g.F.Fn callback))
+returns g c = λ callback text options. outcome_one_given_memory text options (encoding_by g.F.Fn callback)
