@@ -1,6 +1,8 @@
 -- What an index lists, and what it answers.
-use Rattle.std.specs.Prelude.{◌≡◌, ℕ, ◌+◌, ◌<◌, ◌≤◌, ◌==◌, if◌then◌else◌, List, [], ◌∷◌, Contains, min, length, nat_eq, option_map, slice_index_or, unwrap_or, Option, None, Some, Vec}
+use Rattle.std.specs.Prelude.{◌≡◌, ℕ, ◌+◌, ◌<◌, ◌≤◌, ◌==◌, if◌then◌else◌, List, [], ◌∷◌, Contains, min, length, nat_eq, option_map, slice_get, slice_index_or, unwrap_or, Option, None, Some, Vec}
 use Rattle.std.specs.HashMap.{HashMap, get}
+use Rattle.urlpattern_index.specs.Keys.{address_keys, key_of}
+use Rattle.urlpattern_index.specs.Places.{AddressTexts, FixedTexts, HasTexts}
 
 -- ---- numbers by key
 
@@ -41,3 +43,15 @@ abbrev pub lesser : Option ℕ → Option ℕ → Option ℕ
 lesser (Some a) (Some b) = Some (min a b)
 lesser (Some a) None = Some a
 lesser None b = b
+
+-- ---- what an address finds
+
+-- the numbers are those of each place whose fixed texts the address has, where the places have these keys
+abbrev pub FindsEachPlace : (keys : List ℕ) → AddressTexts → (lists : List (List ℕ)) → Type 0
+FindsEachPlace keys address lists = (number : ℕ) (fixed : FixedTexts) →
+    slice_get keys number ≡ Some (key_of fixed) → HasTexts fixed address → IsAmong lists number
+
+-- and of no places but those with a key of the address
+abbrev pub FindsOnlyKeys : (keys : List ℕ) → AddressTexts → (lists : List (List ℕ)) → Type 0
+FindsOnlyKeys keys address lists = (number : ℕ) → IsAmong lists number →
+    (key : ℕ) × (slice_get keys number ≡ Some key) × Contains (address_keys address) key

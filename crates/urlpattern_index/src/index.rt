@@ -1,8 +1,7 @@
 //! Places, by number, and the numbers of those at which an address lies.
-ghost use Rattle.std.specs.Prelude.{◌≡◌, ℕ, ◌++◌, ◌∷◌, [], Contains, OnErr, OnOk, slice_get};
-ghost use Rattle.urlpattern_index.specs.Keys.{address_keys, key_of};
-ghost use Rattle.urlpattern_index.specs.Listed.{IsAmong};
-ghost use Rattle.urlpattern_index.specs.Places.{FixedTexts, HasTexts};
+ghost use Rattle.std.specs.Prelude.{◌≡◌, ◌++◌, ◌∷◌, [], OnErr, OnOk};
+ghost use Rattle.urlpattern_index.specs.Keys.{key_of};
+ghost use Rattle.urlpattern_index.specs.Listed.{FindsEachPlace, FindsOnlyKeys};
 ghost use Rattle.urlpattern_index.specs.Views.{address_texts, fixed_texts};
 
 use crate::candidates::Candidates;
@@ -62,8 +61,8 @@ impl Index {
 
     /// The numbers of the places at which an address lies. Some others may be among them. It does not allocate.
     pub fn candidates(&self, address: Address<'_>) -> Candidates<'_>
-        ensures found { (number : ℕ) (fixed : FixedTexts) → slice_get self.now number ≡ Some (key_of fixed) → HasTexts fixed (address_texts address.entry) → IsAmong result number }
-        ensures listed { (number : ℕ) → IsAmong result number → (key : ℕ) × (slice_get self.now number ≡ Some key) × Contains (address_keys (address_texts address.entry)) key }
+        ensures found { FindsEachPlace self.now (address_texts address.entry) result }
+        ensures listed { FindsOnlyKeys self.now (address_texts address.entry) result }
     {
         let mut lists = ArrayVec::new();
         for key in address.keys().as_slice() {
