@@ -2,7 +2,7 @@
 use Rattle.std.specs.Prelude.{◌≡◌, ℕ, List, Option, IsTrue}
 use Rattle.std.specs.Str.{all_scalars}
 use Rattle.urlpattern_laws.specs.FirstAnswers.{IsFirstOf}
-use Rattle.urlpattern_laws.specs.Matching.{Agrees, Answers, MatcherView}
+use Rattle.urlpattern_laws.specs.Matching.{Agrees, Answers, EachAnswerIs, MatcherView}
 use Rattle.urlpattern_laws.specs.PartMeaning.{Captures}
 use Rattle.urlpattern_syntax.specs.Options.{OptionsView}
 use Rattle.urlpattern_syntax.specs.Parts.{PartView}
@@ -12,8 +12,7 @@ use Rattle.urlpattern_syntax.specs.Text.{lacks, line_feed}
 -- of the parts, or None where they have none
 abbrev pub AnswersFirstWays : {E : Type 0} → (answer : E → List ℕ → Option Captures) → OptionsView → List PartView → MatcherView E → Type 0
 AnswersFirstWays answer options parts matcher =
-    (text : List ℕ) (result : Option Captures) → IsTrue (lacks line_feed text) → IsTrue (all_scalars text) →
-    Answers answer matcher text result → IsFirstOf options parts text result × Agrees options parts text result
+    EachAnswerIs answer matcher (λ text result. IsFirstOf options parts text result × Agrees options parts text result)
 
 -- two matchers answer the same to each such text
 abbrev pub AnswerAlike : {E : Type 0} → (answer : E → List ℕ → Option Captures) → (matcher another : MatcherView E) → Type 0
