@@ -36,22 +36,16 @@ loop-key-preserved-in_default c =
           (candidates-pass places (take index items) lists key c.loop-key.invariant.1 none),
     )
 
-pub returns-clause-found : goal.returns-clause-found
-returns-clause-found c =
+pub returns : goal.returns
+returns c =
     let places = c.self.inside.keys.items in
     let address = address_texts c.args.address in
     let lists = map (λ list. list.now) c.loop-key.lists.items in
     let all = take_all c.loop-key.key-index c.as_slice-key-items.result.now c.loop-key-test.false ∙ c.as_slice-key-items.ensures.value ∙ c.keys.ensures in
     let are = subst (λ keys. AreCandidates places keys lists) all c.loop-key.invariant.1 in
-    λ number fixed is has.
-    subst (λ lists. IsAmong lists number) (sym c.new.ensures) (candidates-found places address lists are number fixed (rw (← c.self.view_is) at is) has)
-
-pub returns-clause-listed : goal.returns-clause-listed
-returns-clause-listed c =
-    let places = c.self.inside.keys.items in
-    let address = address_texts c.args.address in
-    let lists = map (λ list. list.now) c.loop-key.lists.items in
-    let all = take_all c.loop-key.key-index c.as_slice-key-items.result.now c.loop-key-test.false ∙ c.as_slice-key-items.ensures.value ∙ c.keys.ensures in
-    let are = subst (λ keys. AreCandidates places keys lists) all c.loop-key.invariant.1 in
-    λ number among.
-    rw (← c.self.view_is) (candidates-listed places address lists are number (subst (λ lists. IsAmong lists number) c.new.ensures among))
+    record {
+      found = λ number fixed is has.
+          subst (λ lists. IsAmong lists number) (sym c.new.ensures) (candidates-found places address lists are number fixed (rw (← c.self.view_is) at is) has);
+      listed = λ number among.
+          rw (← c.self.view_is) (candidates-listed places address lists are number (subst (λ lists. IsAmong lists number) c.new.ensures among));
+    }
