@@ -7,7 +7,8 @@ use std::alloc::{AllocError, Global};
 use std::process::Abort;
 use std::test::Fail;
 use urlpattern::quirks::{
-    MatchInput, Matcher, StringOrInit, UrlPattern, UrlPatternComponent, UrlPatternInit,
+    InnerMatcher, MatchInput, Matcher, StringOrInit, UrlPattern, UrlPatternComponent,
+    UrlPatternInit,
 };
 use urlpattern::{Error, RegexSyntax, UrlPatternOptions};
 
@@ -75,6 +76,16 @@ impl Plain for StringOrInit<'_> {
 impl Plain for MatchInput {
     fn read(alloc: Global, tree: &Value) -> Result<Option<Self>, Error> {
         MatchInput::from_json_value(alloc, tree)
+    }
+
+    fn write(&self, alloc: Global) -> Result<Value, Error> {
+        self.to_json_value(alloc)
+    }
+}
+
+impl Plain for InnerMatcher {
+    fn read(alloc: Global, tree: &Value) -> Result<Option<Self>, Error> {
+        InnerMatcher::from_json_value(alloc, tree)
     }
 
     fn write(&self, alloc: Global) -> Result<Value, Error> {
@@ -201,6 +212,22 @@ fn a_matcher_writes_its_kind(rt: HostRuntime) -> Result<(), Fail> {
         expect_written::<Matcher>(&rt, rt.alloc(), text, text)?;
     }
     Ok(())
+}
+
+#[test]
+fn an_inner_matcher_writes_its_own_keys(rt: HostRuntime) -> Result<(), Fail> {
+    let rows = [
+        (
+            SEGMENT,
+            r#"{"kind":"singleCapture","allowEmpty":false,"filter":"/"}"#,
+        ),
+        (LITERAL, r#"{"kind":"literal","literal":"me"}"#),
+        (REGEXP, r#"{"kind":"regExp","regexp":"^a$"}"#),
+    ];
+    for (text, written) in rows {
+        expect_written::<InnerMatcher>(&rt, rt.alloc(), text, written)?;
+    }
+    expect_none::<InnerMatcher>(&rt, rt.alloc(), "{}")
 }
 
 #[test]
