@@ -16,8 +16,6 @@ use Rattle.urlpat_commands.specs.declared.command.Printed.{Printed}
 use Rattle.urlpat_commands.specs.declared.command.TheConstants.{DONE, NO_MATCH}
 use Rattle.urlpat_commands.specs.Kinds.{IsKind, IsNamed}
 use Rattle.urlpat_commands.specs.Report.{component_lines, first_line, group_line}
-use Rattle.urlpattern.specs.Compiled.{Compiles}
-use Rattle.urlpattern.specs.Compiling.{IsCompiledFrom}
 use Rattle.urlpattern.specs.Eight.{components, name_text}
 use Rattle.urlpattern.specs.Dialect.{HasMeaningOf}
 use Rattle.urlpattern.specs.Errors.{ErrorView}
@@ -35,9 +33,7 @@ use Rattle.urlpattern.specs.Printing.{Keeps, printed}
 use Rattle.urlpattern.specs.Reading.{Encoding, Reads, Refuses, encoding_of}
 use Rattle.urlpattern.specs.RegexpText.{group_names, regexp_text}
 use Rattle.urlpattern.specs.RoundTrip.{IsPrintable, ReadsBack}
-use Rattle.urlpattern.specs.SpecialProtocol.{IsSpecialBy}
-use Rattle.urlpattern_engine.specs.Engine.{IsPatternRegexpOf, pattern_answer}
-use Rattle.urlpattern_engine.specs.Reading.{IsGenerated}
+use Rattle.urlpattern_engine.specs.Engine.{pattern_answer, pattern_engine}
 use Rattle.urlpattern_engine.specs.declared.pattern_regexp.PatternRegexp.{PatternRegexp}
 use Rattle.urlpattern_syntax.specs.declared.eight.ComponentName.{ComponentName}
 use Rattle.urlpattern_init.specs.declared.init.UrlPatternMatchInput.TheVariants as match_inputs
@@ -94,21 +90,13 @@ base_of word = if bytes_eq word (codes "-") then None else Some word
 abbrev pub default_pattern_options : UrlPatternOptions
 default_pattern_options = record { regex_syntax = Rust; ignore_case = false }
 
--- they are compiled by the engine `PatternRegexp`
-abbrev pub compiles_by_pattern_regexp : Compiles PatternRegexp
-compiles_by_pattern_regexp = IsCompiledFrom (λ value regexp flags. IsPatternRegexpOf regexp value) (λ regexp flags force_eval. ¬ IsGenerated regexp) Rust
-
--- whether the pattern of a protocol is that of a special scheme, as this engine answers
-abbrev pub IsSpecial : (protocol : List ℕ) → Bool → Type 0
-IsSpecial = IsSpecialBy (λ value regexp flags. IsPatternRegexpOf regexp value) (λ regexp flags. ¬ IsGenerated regexp) pattern_answer
-
--- the constructor string with this base URL is compiled to the pattern
+-- the constructor string with this base URL is compiled to the pattern, by the engine `PatternRegexp`
 abbrev pub IsPatternOf : (text : List ℕ) → (base : Option (List ℕ)) → PatternView PatternRegexp → Type 0
-IsPatternOf text base pattern = IsPatternOfText compiles_by_pattern_regexp IsSpecial pattern_answer (chars text) base default_pattern_options pattern
+IsPatternOf text base pattern = IsPatternOfText pattern_engine (chars text) base default_pattern_options pattern
 
 -- it is refused with this error, as a constructor string or when it is compiled
 abbrev pub RefusesPatternOf : (text : List ℕ) → (base : Option (List ℕ)) → ErrorView → Type 0
-RefusesPatternOf text base error = RefusesPatternOfText compiles_by_pattern_regexp IsSpecial pattern_answer (chars text) base default_pattern_options error
+RefusesPatternOf text base error = RefusesPatternOfText pattern_engine (chars text) base default_pattern_options error
 
 -- the bytes that a group captured, if it took part
 abbrev pub capture_of : Option (Option (List ℕ)) → Option (List ℕ)

@@ -9,20 +9,19 @@ use Rattle.std.specs.Str.{chars, IsAscii, IsUtf8}
 use Rattle.std.specs.declared.alloc.Global.{Global}
 use Rattle.std.proofs.lemmas.Str.{IsUtf8-string_bytes}
 use Rattle.urlpattern_laws.proofs.Encodings.{Weakens, reads_weaker, refuses_weaker}
-use Rattle.urlpattern.specs.Compiled.{AreCompiled, Compiles, FirstRefused, HasEngine, HasHierarchicalPath, IsCompiled, IsComponentCompiled, IsComponentRefused, IsRefusedFrom, RefusesPattern, RefusesValues, after_protocol, has_default_port, is_ipv6_pattern, is_mark, is_same, pattern_values, without_default_port}
+use Rattle.urlpattern.specs.Compiled.{AreCompiled, FirstRefused, HasEngine, HasHierarchicalPath, IsComponentCompiled, IsComponentRefused, IsPatternOfInit, IsRefusedFrom, Manner, RefusesInit, RefusesValues, after_protocol, has_default_port, is_ipv6_pattern, is_mark, is_same, manner_of, pattern_values, without_default_port}
 use Rattle.urlpattern.specs.Patterns.{pattern_view}
 use Rattle.urlpattern_syntax.specs.declared.eight.ComponentName.{ComponentName as Names}
 use Rattle.urlpattern_syntax.specs.declared.eight.ComponentName.TheVariants.{Protocol}
 use Rattle.urlpattern_init.specs.declared.init.UrlPatternInit.{UrlPatternInit}
 use Rattle.urlpattern.specs.declared.pattern.UrlPattern.{UrlPattern}
 use Rattle.urlpattern_inputs.specs.declared.options.UrlPatternOptions.{UrlPatternOptions}
-use Rattle.urlpattern_laws.specs.PartMeaning.{Captures}
 use Rattle.urlpattern_canonical.proofs.MarkLemmas.{bytes_eq-chars}
 use Rattle.urlpattern_canonical.specs.Canonical.{default_port, is_special, without_first}
 use Rattle.urlpattern_core.specs.Compiling.{ComponentView, IsCompiledFrom, component_view}
 use Rattle.urlpattern_core.specs.declared.component.Component.{Component}
+use Rattle.urlpattern_core.specs.declared.regexp.RegExp.{Ghosts as Engine}
 use Rattle.urlpattern_syntax.specs.declared.error.Error.{Error}
-use Rattle.urlpattern_syntax.specs.declared.parser.RegexSyntax.{RegexSyntax}
 use Rattle.urlpattern_syntax.specs.Errors.{ErrorView, MemoryOr}
 use Rattle.urlpattern_syntax.specs.Options.{OptionsView}
 use Rattle.urlpattern_syntax.specs.Reading.{Encoding}
@@ -98,66 +97,65 @@ refused_later (Ok value) error Refuses Later same reported later = tt
 refused_later (Err passed) error Refuses Later same reported later =
     subst (MemoryOr Later) (sym same) (memory_or-map Refuses Later error later reported)
 
-first_refused : {E : Type 0} (IsFrom : Compiles E) (asked : UrlPatternOptions) (values : Values) (hierarchical : Bool)
+first_refused : {E : Type 0} (engine : Engine E) (manner : Names → Manner)
     (before after : List Names) (component : Names) (view : ErrorView)
-    → AllByRecursion (λ earlier. (compiled : ComponentView E) × IsComponentCompiled IsFrom asked values hierarchical earlier compiled) before
-    → IsComponentRefused IsFrom asked values hierarchical component view
-    → FirstRefused IsFrom asked values hierarchical (before ++ component ∷ after) view
-first_refused IsFrom asked values hierarchical [] after component view compiled refused = inl refused
-first_refused IsFrom asked values hierarchical (earlier ∷ before) after component view (first, compiled) refused =
-    inr (first, first_refused IsFrom asked values hierarchical before after component view compiled refused)
+    → AllByRecursion (λ earlier. (compiled : ComponentView E) × IsComponentCompiled engine (manner earlier) compiled) before
+    → IsComponentRefused engine (manner component) view
+    → FirstRefused engine manner (before ++ component ∷ after) view
+first_refused engine manner [] after component view compiled refused = inl refused
+first_refused engine manner (earlier ∷ before) after component view (first, compiled) refused =
+    inr (first, first_refused engine manner before after component view compiled refused)
 
 -- a refusal that is passed on is the first, where the components before its own are compiled
-pub refused_after : {E T : Type 0} (IsFrom : Compiles E) (asked : UrlPatternOptions) (values : Values) (hierarchical : Bool) (result : Result T Error)
+pub refused_after : {E T : Type 0} (engine : Engine E) (manner : Names → Manner) (result : Result T Error)
     (error : Error) (before after : List Names) (component : Names)
     → IsErrAnd result (λ passed. passed ≡ error)
-    → MemoryOr (IsComponentRefused IsFrom asked values hierarchical component) error
-    → AllByRecursion (λ earlier. (compiled : ComponentView E) × IsComponentCompiled IsFrom asked values hierarchical earlier compiled) before
-    → IfErr result (MemoryOr (FirstRefused IsFrom asked values hierarchical (before ++ component ∷ after)))
-refused_after IsFrom asked values hierarchical result error before after component same reported compiled =
-    refused_later result error (IsComponentRefused IsFrom asked values hierarchical component)
-    (FirstRefused IsFrom asked values hierarchical (before ++ component ∷ after)) same reported
-    (λ view. first_refused IsFrom asked values hierarchical before after component view compiled)
+    → MemoryOr (IsComponentRefused engine (manner component)) error
+    → AllByRecursion (λ earlier. (compiled : ComponentView E) × IsComponentCompiled engine (manner earlier) compiled) before
+    → IfErr result (MemoryOr (FirstRefused engine manner (before ++ component ∷ after)))
+refused_after engine manner result error before after component same reported compiled =
+    refused_later result error (IsComponentRefused engine (manner component))
+    (FirstRefused engine manner (before ++ component ∷ after)) same reported
+    (λ view. first_refused engine manner before after component view compiled)
 
 -- ---- a component under an encoding that answers no less
 
-pub compiled_weaker : {E : Type 0} (IsMade : E → List ℕ → List ℕ → Type 0) (MayRefuse : List ℕ → List ℕ → Bool → Type 0) (syntax : RegexSyntax)
+pub compiled_weaker : {E : Type 0} (engine : Engine E)
     (strong weak : Encoding) → Weakens strong weak → (text pattern : List ℕ) (options manner : OptionsView) (result : Result (Component E) Error)
     → text ≡ pattern → options ≡ manner
-    → IfOk result (λ compiled. IsCompiledFrom IsMade MayRefuse syntax text options strong (component_view compiled))
+    → IfOk result (λ compiled. IsCompiledFrom engine text options strong (component_view compiled))
     → IfOk result (λ compiled. HasEngine (component_view compiled))
-    → IfOk result (λ compiled. IsCompiledFrom IsMade MayRefuse syntax pattern manner weak (component_view compiled) × HasEngine (component_view compiled))
-compiled_weaker IsMade MayRefuse syntax strong weak h text pattern options manner (Err error) e f compiled engine = tt
-compiled_weaker {E} IsMade MayRefuse syntax strong weak h text pattern options manner (Ok made) e f compiled engine = (
-  subst (λ o. IsCompiledFrom IsMade MayRefuse syntax pattern o weak (component_view made)) f
-      (subst (λ t. IsCompiledFrom IsMade MayRefuse syntax t options weak (component_view made)) e
+    → IfOk result (λ compiled. IsCompiledFrom engine pattern manner weak (component_view compiled) × HasEngine (component_view compiled))
+compiled_weaker engine strong weak h text pattern options manner (Err error) e f compiled engine = tt
+compiled_weaker engine strong weak h text pattern options manner (Ok made) e f compiled engine = (
+  subst (λ o. IsCompiledFrom engine pattern o weak (component_view made)) f
+      (subst (λ t. IsCompiledFrom engine t options weak (component_view made)) e
       (compiled.0, reads_weaker strong weak h text options compiled.0 compiled.1, compiled.2)),
   engine,
 )
 
-refused_weaker-view : {E : Type 0} (IsMade : E → List ℕ → List ℕ → Type 0) (MayRefuse : List ℕ → List ℕ → Bool → Type 0) (syntax : RegexSyntax)
+refused_weaker-view : {E : Type 0} (engine : Engine E)
     (strong weak : Encoding) → Weakens strong weak → (text pattern : List ℕ) (options manner : OptionsView) (error : ErrorView)
     → text ≡ pattern → options ≡ manner
-    → IsRefusedFrom (IsCompiledFrom IsMade MayRefuse syntax) text options strong error
-    → IsRefusedFrom (IsCompiledFrom IsMade MayRefuse syntax) pattern manner weak error
-refused_weaker-view {E} IsMade MayRefuse syntax strong weak h text pattern options manner error e f refused =
-    let From : List ℕ → OptionsView → Encoding → ComponentView E → Type 0 = IsCompiledFrom IsMade MayRefuse syntax in
-    subst (λ o. IsRefusedFrom From pattern o weak error) f
-    (subst (λ t. IsRefusedFrom From t options weak error) e
+    → IsRefusedFrom engine text options strong error
+    → IsRefusedFrom engine pattern manner weak error
+refused_weaker-view engine strong weak h text pattern options manner error e f refused =
+    subst (λ o. IsRefusedFrom engine pattern o weak error) f
+    (subst (λ t. IsRefusedFrom engine t options weak error) e
     (elim refused [
       | inl text_refused ↦ inl (refuses_weaker strong weak h text options error text_refused)
       | inr by_engine ↦ inr (by_engine.0, (by_engine.1.0, reads_weaker strong weak h text options by_engine.1.0 by_engine.1.1, by_engine.1.2), by_engine.2, by_engine.3)
     ]))
 
-pub refused_weaker : {E T : Type 0} (IsMade : E → List ℕ → List ℕ → Type 0) (MayRefuse : List ℕ → List ℕ → Bool → Type 0) (syntax : RegexSyntax)
+pub refused_weaker : {E T : Type 0} (engine : Engine E)
     (strong weak : Encoding) → Weakens strong weak → (text pattern : List ℕ) (options manner : OptionsView) (result : Result T Error)
     → text ≡ pattern → options ≡ manner
-    → IfErr result (MemoryOr (IsRefusedFrom (IsCompiledFrom IsMade MayRefuse syntax) text options strong))
-    → IfErr result (MemoryOr (IsRefusedFrom (IsCompiledFrom IsMade MayRefuse syntax) pattern manner weak))
-refused_weaker IsMade MayRefuse syntax strong weak h text pattern options manner (Ok made) e f refused = tt
-refused_weaker IsMade MayRefuse syntax strong weak h text pattern options manner (Err error) e f refused = elim refused [
+    → IfErr result (MemoryOr (IsRefusedFrom engine text options strong))
+    → IfErr result (MemoryOr (IsRefusedFrom engine pattern manner weak))
+refused_weaker engine strong weak h text pattern options manner (Ok made) e f refused = tt
+refused_weaker engine strong weak h text pattern options manner (Err error) e f refused = elim refused [
   | inl memory ↦ inl memory
-  | inr reported ↦ inr (refused_weaker-view IsMade MayRefuse syntax strong weak h text pattern options manner _ e f reported)
+  | inr reported ↦ inr (refused_weaker-view engine strong weak h text pattern options manner _ e f reported)
 ]
 
 -- ---- patterns that begin as an IPv6 address does
@@ -183,43 +181,43 @@ or-second first second tested later e none is = is ∙ ap (λ test. test || seco
 
 -- ---- the pattern after its protocol
 
-pub are_compiled : {E : Type 0} (IsFrom : Compiles E) (answer : E → List ℕ → Option Captures) (asked : UrlPatternOptions) (values : Values) (hierarchical : Bool)
+pub are_compiled : {E : Type 0} (engine : Engine E) (asked : UrlPatternOptions) (values : Values) (hierarchical : Bool)
     (protocol : ComponentView E) (result : Result (UrlPattern E) Error)
-    → (IsTrue hierarchical ↔ HasHierarchicalPath answer values protocol.matcher)
+    → (IsTrue hierarchical ↔ HasHierarchicalPath engine.answer values protocol.matcher)
     → IfOk result (λ pattern. component_view pattern.protocol ≡ protocol)
-    → IfOk result (λ pattern. (component : Names) → IsComponentCompiled IsFrom asked values hierarchical component (pattern_view pattern component))
-    → IfOk result (λ pattern. AreCompiled IsFrom answer asked values (pattern_view pattern))
-are_compiled IsFrom answer asked values hierarchical protocol (Err error) reports same compiled = tt
-are_compiled {E} IsFrom answer asked values hierarchical protocol (Ok pattern) reports same compiled = record {
+    → IfOk result (λ pattern. (component : Names) → IsComponentCompiled engine (manner_of asked values hierarchical component) (pattern_view pattern component))
+    → IfOk result (λ pattern. AreCompiled engine asked values (pattern_view pattern))
+are_compiled engine asked values hierarchical protocol (Err error) reports same compiled = tt
+are_compiled {E} engine asked values hierarchical protocol (Ok pattern) reports same compiled = record {
   hierarchical = hierarchical;
-  path_kind = subst (λ (view : ComponentView E). IsTrue hierarchical ↔ HasHierarchicalPath answer values view.matcher) (sym same) reports;
+  path_kind = subst (λ (view : ComponentView E). IsTrue hierarchical ↔ HasHierarchicalPath engine.answer values view.matcher) (sym same) reports;
   are_compiled = compiled;
 }
 
-pub refused_behind : {E T : Type 0} (IsFrom : Compiles E) (answer : E → List ℕ → Option Captures) (asked : UrlPatternOptions) (values : Values) (hierarchical : Bool)
+pub refused_behind : {E T : Type 0} (engine : Engine E) (asked : UrlPatternOptions) (values : Values) (hierarchical : Bool)
     (protocol : ComponentView E) (result : Result T Error)
-    → IsComponentCompiled IsFrom asked values hierarchical Protocol protocol
-    → (IsTrue hierarchical ↔ HasHierarchicalPath answer values protocol.matcher)
-    → IfErr result (MemoryOr (FirstRefused IsFrom asked values hierarchical after_protocol))
-    → IfErr result (MemoryOr (RefusesValues IsFrom answer asked values))
-refused_behind IsFrom answer asked values hierarchical protocol (Ok found) compiled reports refused = tt
-refused_behind IsFrom answer asked values hierarchical protocol (Err error) compiled reports refused =
-    memory_or-map (FirstRefused IsFrom asked values hierarchical after_protocol) (RefusesValues IsFrom answer asked values) error
+    → IsComponentCompiled engine (manner_of asked values hierarchical Protocol) protocol
+    → (IsTrue hierarchical ↔ HasHierarchicalPath engine.answer values protocol.matcher)
+    → IfErr result (MemoryOr (FirstRefused engine (manner_of asked values hierarchical) after_protocol))
+    → IfErr result (MemoryOr (RefusesValues engine asked values))
+refused_behind engine asked values hierarchical protocol (Ok found) compiled reports refused = tt
+refused_behind engine asked values hierarchical protocol (Err error) compiled reports refused =
+    memory_or-map (FirstRefused engine (manner_of asked values hierarchical) after_protocol) (RefusesValues engine asked values) error
     (λ view first. inr (record { protocol = protocol; hierarchical = hierarchical; is_compiled = compiled; path_kind = reports; refused = first })) refused
 
 -- ---- the pattern of an init
 
-pub is_compiled : {E : Type 0} (IsFrom : Compiles E) (answer : E → List ℕ → Option Captures) (init : UrlPatternInit) (asked : UrlPatternOptions) (values : Values)
+pub is_compiled : {E : Type 0} (engine : Engine E) (init : UrlPatternInit) (asked : UrlPatternOptions) (values : Values)
     (result : Result (UrlPattern E) Error) → pattern_values init ≡ Ok values
-    → IfOk result (λ pattern. AreCompiled IsFrom answer asked values (pattern_view pattern))
-    → IfOk result (λ pattern. IsCompiled IsFrom answer init asked (pattern_view pattern))
-is_compiled IsFrom answer init asked values (Err error) are compiled = tt
-is_compiled IsFrom answer init asked values (Ok pattern) are compiled = (values, are, compiled)
+    → IfOk result (λ pattern. AreCompiled engine asked values (pattern_view pattern))
+    → IfOk result (λ pattern. IsPatternOfInit engine init asked (pattern_view pattern))
+is_compiled engine init asked values (Err error) are compiled = tt
+is_compiled engine init asked values (Ok pattern) are compiled = (values, are, compiled)
 
-pub is_refused : {E T : Type 0} (IsFrom : Compiles E) (answer : E → List ℕ → Option Captures) (init : UrlPatternInit) (asked : UrlPatternOptions) (values : Values)
+pub is_refused : {E T : Type 0} (engine : Engine E) (init : UrlPatternInit) (asked : UrlPatternOptions) (values : Values)
     (result : Result T Error) → pattern_values init ≡ Ok values
-    → IfErr result (MemoryOr (RefusesValues IsFrom answer asked values))
-    → IfErr result (MemoryOr (RefusesPattern IsFrom answer init asked))
-is_refused IsFrom answer init asked values (Ok found) are refused = tt
-is_refused IsFrom answer init asked values (Err error) are refused =
-    memory_or-map (RefusesValues IsFrom answer asked values) (RefusesPattern IsFrom answer init asked) error (λ view reported. (values, are, reported)) refused
+    → IfErr result (MemoryOr (RefusesValues engine asked values))
+    → IfErr result (MemoryOr (RefusesInit engine init asked))
+is_refused engine init asked values (Ok found) are refused = tt
+is_refused engine init asked values (Err error) are refused =
+    memory_or-map (RefusesValues engine asked values) (RefusesInit engine init asked) error (λ view reported. (values, are, reported)) refused

@@ -4,7 +4,8 @@ use Rattle.std.proofs.lemmas.Bool.{or_parts}
 use Rattle.std.proofs.lemmas.List.Elements.{All-cons}
 use Rattle.std.specs.Prelude.{All, MatchOption, Option, Some, None, option_map, Ok}
 use Rattle.url.specs.Parser.{Parsed}
-use Rattle.urlpattern_core.specs.Compiling.{ComponentView, IsCompiledFrom, IsComponentOf, MayRefuseAtFirst, engine_flags, has_regexp, is_regexp}
+use Rattle.urlpattern_core.specs.Compiling.{ComponentView, IsComponentOf, IsEngineOf, engine_flags, has_regexp, is_regexp}
+use Rattle.urlpattern_core.specs.declared.regexp.RegExp.{Ghosts as Engine}
 use Rattle.urlpattern_init.specs.declared.init.UrlPatternInit.{UrlPatternInit}
 use Rattle.urlpattern_init.specs.declared.init.UrlPatternMatchInput.{UrlPatternMatchInput}
 use Rattle.urlpattern_syntax.specs.declared.eight.ComponentName.{ComponentName}
@@ -14,14 +15,13 @@ use Rattle.urlpattern_laws.proofs.MatcherMeaning.{matcher_means}
 use Rattle.urlpattern_laws.specs.Matching.{Agrees, Answers}
 use Rattle.urlpattern_laws.specs.PartMeaning.{Captures, PartsMean}
 use Rattle.urlpattern.proofs.MatchLaws.{no_input-long, texts-one}
-use Rattle.urlpattern.specs.Compiled.{AreCompiled, IsCompiled, canonical_encoding, manner_of, pattern_of}
+use Rattle.urlpattern.specs.Compiled.{AreCompiled, IsPatternOfInit, Manner, canonical_encoding, manner_of}
 use Rattle.urlpattern.specs.Match.{HasNoMatch, IsLongInput, IsMatch, IsResultOf, ResultView, group_of, result_view, UrlPatternResult}
 use Rattle.urlpattern.specs.MatchInput.{input_texts}
-use Rattle.urlpattern.specs.Meaning.{IsExecuted, IsExecutedByMeaning, IsFoundByMeaning, IsMeant, MeaningPremises, ReadsAs, options_of}
+use Rattle.urlpattern.specs.Meaning.{IsExecuted, IsExecutedByMeaning, IsFoundByMeaning, IsMeant, MeaningPremises, ReadsAs}
 use Rattle.urlpattern.specs.Patterns.{PatternView}
 use Rattle.urlpattern_syntax.specs.declared.parser.PartType.{PartType}
 use Rattle.urlpattern_syntax.specs.declared.parser.PartType.TheVariants.{Regexp}
-use Rattle.urlpattern_syntax.specs.declared.parser.RegexSyntax.{RegexSyntax}
 use Rattle.urlpattern_syntax.specs.Parts.{PartView}
 use Rattle.urlpattern_syntax.specs.RegexpText.{group_names}
 use Rattle.urlpattern_syntax.specs.Text.{text_of}
@@ -48,35 +48,41 @@ canonical_once canonical text answer other (Ok string, is_answer, same) (Ok anot
     one ∙ both ∙ sym two
 canonical_once canonical text answer other found more = absurd cc
 
+-- one list of parts is read
+pub read_once : (manner : Manner) (parts others : List PartView) → ReadsAs manner parts → ReadsAs manner others → parts ≡ others
+read_once manner parts others reads also =
+    reading_one_encoded manner.text manner.options (canonical_encoding manner.canonical) parts others (canonical_once manner.canonical) reads also
+
 -- ---- one component
 
 -- its matcher answers what the parts mean that its pattern text reads as
-component_agrees : {E : Type 0} (answer : E → List ℕ → Option Captures) (IsMade : E → List ℕ → List ℕ → Type 0) (MayRefuse : List ℕ → List ℕ → Bool → Type 0)
-    (syntax : RegexSyntax) (asked : UrlPatternOptions) (values : Values) (hierarchical : Bool) (component : ComponentName) (compiled : ComponentView E)
+component_agrees : {E : Type 0} (engine : Engine E) (manner : Manner) (compiled : ComponentView E)
     (text : List ℕ) (parts : List PartView) (result : Option Captures) →
-    ReadsAs asked values hierarchical component parts →
-    IsComponentOf IsMade MayRefuse syntax (options_of asked values hierarchical component) parts compiled →
-    MeaningPremises answer asked values hierarchical component compiled text →
-    Answers answer compiled.matcher text result →
-    Agrees (options_of asked values hierarchical component) parts text result
-component_agrees answer IsMade MayRefuse syntax asked values hierarchical component compiled text parts result reads is_component premises answers =
-    let options = options_of asked values hierarchical component in
-    matcher_means answer IsMade (MayRefuseAtFirst MayRefuse) options (engine_flags options) parts compiled.matcher text result is_component.has_matcher
+    ReadsAs manner parts →
+    IsComponentOf engine manner.options parts compiled →
+    MeaningPremises engine.answer manner compiled text →
+    Answers engine.answer compiled.matcher text result →
+    Agrees manner.options parts text result
+component_agrees engine manner compiled text parts result reads is_component premises answers =
+    matcher_means engine.answer (IsEngineOf engine false (engine_flags manner.options)) manner.options parts compiled.matcher text result is_component.has_matcher
     (none_custom parts (sym is_component.regexp_flag ∙ premises.generated)) premises.case_kept premises.no_line_feed premises.characters
     (premises.follows parts reads) answers
 
 -- ---- a whole pattern
 
-module _ {E : Type 0} (answer : E → List ℕ → Option Captures) (IsMade : E → List ℕ → List ℕ → Type 0) (MayRefuse : List ℕ → List ℕ → Bool → Type 0)
-    (syntax : RegexSyntax) (asked : UrlPatternOptions) (values : Values) (pattern : PatternView E)
-    (compiled : AreCompiled (IsCompiledFrom IsMade MayRefuse syntax) answer asked values pattern) (texts : Texts) where
-  -- what is asked of a component
+module _ {E : Type 0} (engine : Engine E) (asked : UrlPatternOptions) (values : Values) (pattern : PatternView E)
+    (compiled : AreCompiled engine asked values pattern) (texts : Texts) where
+  -- how a component is read
+  abbrev manner : ComponentName → Manner
+  manner = manner_of asked values compiled.hierarchical
+
+  -- what is asked of it
   abbrev Premises : ComponentName → Type 0
-  Premises component = MeaningPremises answer asked values compiled.hierarchical component (pattern component) (at texts component)
+  Premises component = MeaningPremises engine.answer (manner component) (pattern component) (at texts component)
 
   -- what is matched is meant
-  found_meant : (component : ComponentName) (captures : Captures) → Premises component → Answers answer (pattern component).matcher (at texts component) (Some captures) →
-      (meant : IsMeant asked values compiled.hierarchical component (at texts component))
+  found_meant : (component : ComponentName) (captures : Captures) → Premises component → Answers engine.answer (pattern component).matcher (at texts component) (Some captures) →
+      (meant : IsMeant (manner component) (at texts component))
       × (group_names meant.parts ≡ (pattern component).group_name_list) × (meant.captures ≡ captures)
   found_meant component captures premises answers =
       let (parts, reads, is_component) = (compiled.are_compiled component).0 in (
@@ -84,28 +90,25 @@ module _ {E : Type 0} (answer : E → List ℕ → Option Captures) (IsMade : E 
           parts = parts;
           captures = captures;
           reads = reads;
-          means = component_agrees answer IsMade MayRefuse syntax asked values compiled.hierarchical component (pattern component) (at texts component) parts (Some captures) reads is_component premises answers;
+          means = component_agrees engine (manner component) (pattern component) (at texts component) parts (Some captures) reads is_component premises answers;
         },
         sym is_component.has_names,
         refl,
       )
 
   -- what is not matched is not meant
-  refused_unmeant : (component : ComponentName) → Premises component → Answers answer (pattern component).matcher (at texts component) None →
-      ¬ IsMeant asked values compiled.hierarchical component (at texts component)
+  refused_unmeant : (component : ComponentName) → Premises component → Answers engine.answer (pattern component).matcher (at texts component) None →
+      ¬ IsMeant (manner component) (at texts component)
   refused_unmeant component premises answers meant =
       let (parts, reads, is_component) = (compiled.are_compiled component).0 in
-      let manner = manner_of asked values compiled.hierarchical component in
-      let same : meant.parts ≡ parts =
-      reading_one_encoded (pattern_of values component) manner.options (canonical_encoding manner.canonical) meant.parts parts (canonical_once manner.canonical) meant.reads reads
-      in
-      component_agrees answer IsMade MayRefuse syntax asked values compiled.hierarchical component (pattern component) (at texts component) parts None reads is_component premises answers
-      meant.captures (subst (λ (of : List PartView). PartsMean manner.options of (at texts component) meant.captures) same meant.means)
+      let same : meant.parts ≡ parts = read_once (manner component) meant.parts parts meant.reads reads in
+      component_agrees engine (manner component) (pattern component) (at texts component) parts None reads is_component premises answers
+      meant.captures (subst (λ (of : List PartView). PartsMean (manner component).options of (at texts component) meant.captures) same meant.means)
 
   result_meant : (component : ComponentName) (captures : Captures) (result : ResultView) → Premises component →
-      Answers answer (pattern component).matcher (at texts component) (Some captures) →
+      Answers engine.answer (pattern component).matcher (at texts component) (Some captures) →
       IsResultOf (pattern component).group_name_list captures (at texts component) result →
-      (meant : IsMeant asked values compiled.hierarchical component (at texts component))
+      (meant : IsMeant (manner component) (at texts component))
       × IsResultOf (group_names meant.parts) meant.captures (at texts component) result
   result_meant component captures result premises answers is_result =
       let (meant, names, captured) = found_meant component captures premises answers in (
@@ -118,16 +121,16 @@ module _ {E : Type 0} (answer : E → List ℕ → Option Captures) (IsMade : E 
       )
 
   pub executed_means : (input : UrlPatternMatchInput) (found : Option (ComponentName → ResultView)) → input_texts input ≡ Ok texts → ¬ IsLongInput input →
-      IsExecuted answer pattern input found → IsFoundByMeaning answer asked values compiled.hierarchical pattern texts found
+      IsExecuted engine.answer pattern input found → IsFoundByMeaning engine.answer manner pattern texts found
   executed_means input (Some result) are_texts short (others, are_others, match) = λ component premises.
       let same = texts-one input others texts are_others are_texts in
       result_meant component (match.captures component) (result component) premises
-      (subst (λ (t : Texts). Answers answer (pattern component).matcher (at t component) (Some (match.captures component))) same (match.are_answers component))
+      (subst (λ (t : Texts). Answers engine.answer (pattern component).matcher (at t component) (Some (match.captures component))) same (match.are_answers component))
       (subst (λ (t : Texts). IsResultOf (pattern component).group_name_list (match.captures component) (at t component) (result component)) same (match.are_results component))
   executed_means input None are_texts short (inl no_input) = absurd (short (no_input-long input texts are_texts no_input))
   executed_means input None are_texts short (inr (others, are_others, (component, refused))) = λ premises meant.
       let same = texts-one input others texts are_others are_texts in
-      refused_unmeant component (premises component) (subst (λ (t : Texts). Answers answer (pattern component).matcher (at t component) None) same refused) (meant component)
+      refused_unmeant component (premises component) (subst (λ (t : Texts). Answers engine.answer (pattern component).matcher (at t component) None) same refused) (meant component)
 
 -- ---- a pattern that is matched once
 
@@ -137,15 +140,14 @@ pub executed_of : {E : Type 0} (answer : E → List ℕ → Option Captures) (pa
 executed_of answer pattern input None unmatched = unmatched
 executed_of answer pattern input (Some result) match = match
 
-pub executed_by_meaning : {E : Type 0} (answer : E → List ℕ → Option Captures) (IsMade : E → List ℕ → List ℕ → Type 0) (MayRefuse : List ℕ → List ℕ → Bool → Type 0)
-    (syntax : RegexSyntax) (init : UrlPatternInit) (asked : UrlPatternOptions) (input : UrlPatternMatchInput) (pattern : PatternView E) (found : Option (ComponentName → ResultView)) →
-    IsCompiled (IsCompiledFrom IsMade MayRefuse syntax) answer init asked pattern → IsExecuted answer pattern input found →
-    IsExecutedByMeaning (IsCompiledFrom IsMade MayRefuse syntax) answer init asked input found
-executed_by_meaning answer IsMade MayRefuse syntax init asked input pattern found (values, are_values, compiled) executed = record {
+pub executed_by_meaning : {E : Type 0} (engine : Engine E) (init : UrlPatternInit) (asked : UrlPatternOptions) (input : UrlPatternMatchInput) (pattern : PatternView E) (found : Option (ComponentName → ResultView)) →
+    IsPatternOfInit engine init asked pattern → IsExecuted engine.answer pattern input found →
+    IsExecutedByMeaning engine init asked input found
+executed_by_meaning engine init asked input pattern found (values, are_values, compiled) executed = record {
   values = values;
   pattern = pattern;
   are_values = are_values;
   compiled = compiled;
   executed = executed;
-  means = λ texts are_texts short. executed_means answer IsMade MayRefuse syntax asked values pattern compiled texts input found are_texts short executed;
+  means = λ texts are_texts short. executed_means engine asked values pattern compiled texts input found are_texts short executed;
 }

@@ -1,47 +1,39 @@
 -- The groups of a match by `regex::Regex` are those of the first way.
-use Rattle.std.proofs.Common.{◌≡◌, ℕ, Bool, List, ap, subst, sym, ◌∙◌}
+use Rattle.std.proofs.Common.{◌≡◌, ℕ, Bool, false, List, ap, subst, sym, ◌∙◌}
 use Rattle.std.proofs.lemmas.Option.{same_Some}
 use Rattle.std.specs.Prelude.{⊤, Some, Ok}
 use Rattle.regex.specs.declared.string.regex.Regex.{Regex}
 use Rattle.urlpattern_core.proofs.RegexMatchers.{taken_first}
 use Rattle.urlpattern_core.proofs.RegexWays.{regex_follows}
-use Rattle.urlpattern_core.specs.Compiling.{IsComponentOf, engine_flags}
-use Rattle.urlpattern_core.specs.Engines.{IsRegexOf, IsTakenByRegex, regex_answer}
+use Rattle.urlpattern_core.specs.Compiling.{ComponentView, IsComponentOf, IsEngineOf, engine_flags}
+use Rattle.urlpattern_core.specs.Engines.{regex_answer, regex_engine}
+use Rattle.urlpattern_core.specs.FirstWays.{IsTakenBy}
 use Rattle.urlpattern_init.specs.declared.init.UrlPatternMatchInput.{UrlPatternMatchInput}
 use Rattle.urlpattern_syntax.specs.declared.eight.ComponentName.{ComponentName}
 use Rattle.urlpattern_inputs.specs.declared.options.UrlPatternOptions.{UrlPatternOptions}
-use Rattle.urlpattern_laws.proofs.CallbackLaws.{reading_one_encoded}
 use Rattle.urlpattern_laws.proofs.FirstAnswers.{first_one, of_made}
 use Rattle.urlpattern_laws.proofs.OneMeaning.{is_tree_of}
 use Rattle.urlpattern_laws.proofs.PartTrees.{tree_of}
 use Rattle.urlpattern_laws.specs.Dialect.{Follows}
-use Rattle.urlpattern_laws.specs.FirstAnswers.{IsFirstOf}
+use Rattle.urlpattern_laws.specs.FirstAnswers.{IsFirstOf, TookText}
 use Rattle.urlpattern_laws.specs.Matching.{Answers, FollowsMiddle}
 use Rattle.urlpattern_laws.specs.PartMeaning.{Captures}
 use Rattle.urlpattern.proofs.MatchLaws.{texts-one}
-use Rattle.urlpattern.proofs.MeaningLemmas.{canonical_once, none_custom}
-use Rattle.urlpattern.specs.Compiled.{AreCompiled, canonical_encoding, manner_of, pattern_of}
+use Rattle.urlpattern.proofs.MeaningLemmas.{none_custom, read_once}
+use Rattle.urlpattern.specs.Compiled.{AreCompiled, IsComponentCompiled, Manner, manner_of}
 use Rattle.urlpattern.specs.Match.{IsMatch, IsResultOf, IsSameResult, ResultView, group_of}
 use Rattle.urlpattern.specs.MatchInput.{input_texts}
-use Rattle.urlpattern.specs.Meaning.{IsFirstResult, MeaningPremises, ReadsAs, RegexPremises, compiles_by_regex, options_of}
+use Rattle.urlpattern.specs.Meaning.{IsFirstResult, MeaningPremises, RegexPremises}
 use Rattle.urlpattern.specs.Patterns.{PatternView}
-use Rattle.urlpattern_syntax.specs.declared.parser.RegexSyntax.TheVariants.{Rust}
 use Rattle.urlpattern_syntax.specs.Parts.{PartView}
 use Rattle.urlpattern_syntax.specs.RegexpText.{group_names, regexp_text}
 use Rattle.urlpattern_syntax.specs.Eight.{Texts, Values, at}
 
--- one list of parts is read
-read_once : (asked : UrlPatternOptions) (values : Values) (hierarchical : Bool) (component : ComponentName) (parts others : List PartView) →
-    ReadsAs asked values hierarchical component parts → ReadsAs asked values hierarchical component others → parts ≡ others
-read_once asked values hierarchical component parts others reads also =
-    let manner = manner_of asked values hierarchical component in
-    reading_one_encoded (pattern_of values component) manner.options (canonical_encoding manner.canonical) parts others (canonical_once manner.canonical) reads also
-
-module _ (asked : UrlPatternOptions) (values : Values) (pattern : PatternView Regex) (compiled : AreCompiled compiles_by_regex regex_answer asked values pattern)
-    (component : ComponentName) (text : List ℕ) (premises : RegexPremises asked values compiled.hierarchical component (pattern component) text) where
+module _ (manner : Manner) (compiled : ComponentView Regex) (is_compiled : IsComponentCompiled regex_engine manner compiled)
+    (text : List ℕ) (premises : RegexPremises manner compiled text) where
   -- the matcher is one that `regex` took
-  taken : (parts : List PartView) → IsComponentOf (λ regex regexp flags. IsRegexOf regexp regex) (λ regexp flags force_eval. ⊤) Rust (options_of asked values compiled.hierarchical component) parts (pattern component) →
-      IsTakenByRegex (options_of asked values compiled.hierarchical component) (engine_flags (options_of asked values compiled.hierarchical component)) parts (pattern component).matcher
+  taken : (parts : List PartView) → IsComponentOf regex_engine manner.options parts compiled →
+      IsTakenBy regex_engine (TookText (λ regex. ⊤)) manner.options (engine_flags manner.options) parts compiled.matcher
   taken parts is_component = record {
     is_made = is_component.has_matcher;
     generated = none_custom parts (sym is_component.regexp_flag ∙ premises.generated);
@@ -49,13 +41,13 @@ module _ (asked : UrlPatternOptions) (values : Values) (pattern : PatternView Re
     took = premises.took;
   }
 
-  pub regex_premises : MeaningPremises regex_answer asked values compiled.hierarchical component (pattern component) text
+  pub regex_premises : MeaningPremises regex_answer manner compiled text
   regex_premises =
-      let (parts, reads, is_component) = (compiled.are_compiled component).0 in
-      let options = options_of asked values compiled.hierarchical component in
+      let (parts, reads, is_component) = is_compiled.0 in
+      let options = manner.options in
       let is = taken parts is_component in
-      let follows : FollowsMiddle regex_answer options parts (pattern component).matcher.inner =
-      of_made (λ regex middle. Follows (regexp_text options middle) (regex_answer regex)) (λ regex. ⊤) (λ regex regexp flags. IsRegexOf regexp regex) (λ regexp flags. ⊤) options (engine_flags options) parts (pattern component).matcher
+      let follows : FollowsMiddle regex_answer options parts compiled.matcher.inner =
+      of_made (IsEngineOf regex_engine false (engine_flags options)) options (λ regex middle. Follows (regexp_text options middle) (regex_answer regex)) (λ regex. ⊤) parts compiled.matcher
       is.is_made is.generated is.took (λ regex middle plain made took. regex_follows (regexp_text options middle) (tree_of options middle) regex (is_tree_of options middle plain) made) in
       record {
         generated = premises.generated;
@@ -63,40 +55,39 @@ module _ (asked : UrlPatternOptions) (values : Values) (pattern : PatternView Re
         no_line_feed = premises.no_line_feed;
         characters = premises.characters;
         follows = λ others also.
-            subst (λ (ps : List PartView). FollowsMiddle regex_answer options ps (pattern component).matcher.inner) (read_once asked values compiled.hierarchical component parts others reads also) follows;
+            subst (λ (ps : List PartView). FollowsMiddle regex_answer options ps compiled.matcher.inner) (read_once manner parts others reads also) follows;
       }
 
-  pub first_result : (captures : Captures) (result : ResultView) → Answers regex_answer (pattern component).matcher text (Some captures) →
-      IsResultOf (pattern component).group_name_list captures text result → IsFirstResult asked values compiled.hierarchical component text result
+  pub first_result : (captures : Captures) (result : ResultView) → Answers regex_answer compiled.matcher text (Some captures) →
+      IsResultOf compiled.group_name_list captures text result → IsFirstResult manner text result
   first_result captures result answers is_result =
-      let (parts, reads, is_component) = (compiled.are_compiled component).0 in
-      let options = options_of asked values compiled.hierarchical component in
+      let (parts, reads, is_component) = is_compiled.0 in
+      let options = manner.options in
       record {
         parts = parts;
         captures = captures;
         reads = reads;
-        is_first = (taken_first options (engine_flags options) parts (pattern component).matcher (taken parts is_component) text (Some captures) premises.no_line_feed premises.characters answers).0;
+        is_first = (taken_first options (engine_flags options) parts compiled.matcher (taken parts is_component) text (Some captures) premises.no_line_feed premises.characters answers).0;
         is_result = subst (λ (names : List (List ℕ)). IsResultOf names captures text result) is_component.has_names is_result;
       }
 
 pub matched_first : (asked : UrlPatternOptions) (values : Values) (pattern : PatternView Regex) (input : UrlPatternMatchInput) (texts : Texts) (result : ComponentName → ResultView) (component : ComponentName) →
-    (compiled : AreCompiled compiles_by_regex regex_answer asked values pattern) → input_texts input ≡ Ok texts → IsMatch regex_answer pattern input result →
-    RegexPremises asked values compiled.hierarchical component (pattern component) (at texts component) →
-    IsFirstResult asked values compiled.hierarchical component (at texts component) (result component)
+    (compiled : AreCompiled regex_engine asked values pattern) → input_texts input ≡ Ok texts → IsMatch regex_answer pattern input result →
+    RegexPremises (manner_of asked values compiled.hierarchical component) (pattern component) (at texts component) →
+    IsFirstResult (manner_of asked values compiled.hierarchical component) (at texts component) (result component)
 matched_first asked values pattern input texts result component compiled are_texts (others, are_others, match) premises =
     let same = texts-one input others texts are_others are_texts in
-    first_result asked values pattern compiled component (at texts component) premises (match.captures component) (result component)
+    first_result (manner_of asked values compiled.hierarchical component) (pattern component) (compiled.are_compiled component) (at texts component) premises (match.captures component) (result component)
     (subst (λ (t : Texts). Answers regex_answer (pattern component).matcher (at t component) (Some (match.captures component))) same (match.are_answers component))
     (subst (λ (t : Texts). IsResultOf (pattern component).group_name_list (match.captures component) (at t component) (result component)) same (match.are_results component))
 
-pub first_result_one : (asked : UrlPatternOptions) (values : Values) (hierarchical : Bool) (component : ComponentName) (text : List ℕ) (result other : ResultView) →
-    IsFirstResult asked values hierarchical component text result → IsFirstResult asked values hierarchical component text other → IsSameResult result other
-first_result_one asked values hierarchical component text result other first last =
-    let options = options_of asked values hierarchical component in
-    let parts : first.parts ≡ last.parts = read_once asked values hierarchical component first.parts last.parts first.reads last.reads in
+pub first_result_one : (manner : Manner) (text : List ℕ) (result other : ResultView) →
+    IsFirstResult manner text result → IsFirstResult manner text other → IsSameResult result other
+first_result_one manner text result other first last =
+    let parts : first.parts ≡ last.parts = read_once manner first.parts last.parts first.reads last.reads in
     let captures : first.captures ≡ last.captures =
-    same_Some _ _ (first_one options last.parts text (Some first.captures) (Some last.captures)
-    (subst (λ (ps : List PartView). IsFirstOf options ps text (Some first.captures)) parts first.is_first) last.is_first) in (
+    same_Some _ _ (first_one manner.options last.parts text (Some first.captures) (Some last.captures)
+    (subst (λ (ps : List PartView). IsFirstOf manner.options ps text (Some first.captures)) parts first.is_first) last.is_first) in (
       first.is_result.has_input ∙ sym last.is_result.has_input,
       λ name.
           first.is_result.has_groups name ∙ ap (λ (ps : List PartView). group_of (group_names ps) first.captures name) parts

@@ -11,7 +11,7 @@ use Rattle.urlpattern_syntax.specs.declared.eight.ComponentName.{ComponentName}
 use Rattle.urlpattern_syntax.specs.declared.eight.ComponentName.TheVariants.{Protocol, Username, Password, Hostname, Port, Pathname, Search, Hash}
 use Rattle.urlpattern_inputs.specs.declared.options.UrlPatternOptions.{UrlPatternOptions}
 use Rattle.urlpattern_canonical.specs.Canonical.{IsAnswer, canonical_hash, canonical_hostname, canonical_ipv6_hostname, canonical_opaque_pathname, canonical_password, canonical_pathname, canonical_port, canonical_protocol, canonical_search, canonical_username, default_port, is_special, without_first}
-use Rattle.urlpattern_core.specs.Compiling.{ComponentView, IsCompiledBy}
+use Rattle.urlpattern_core.specs.Compiling.{ComponentView, IsCompiledFrom}
 use Rattle.urlpattern_core.specs.declared.regexp.RegExp.{Ghosts as Engine}
 use Rattle.urlpattern_canonical.specs.declared.canonicalize_and_process.ProcessType.TheVariants.{Pattern}
 use Rattle.urlpattern_laws.specs.Matching.{MatcherView}
@@ -45,13 +45,15 @@ pattern_values init = and_then (init_values Pattern init) (λ values. Ok (withou
 
 -- ---- how the pattern of a component is read
 
--- The options, and the canonical value of a fixed text.
+-- The text, the options under which it is read, and the canonical value of a fixed text.
 pub record Manner : Type 0 where
+  pub text : List ℕ
   pub options : OptionsView
   pub canonical : List ℕ → Parsed (List ℕ)
 
-abbrev pub manner : OptionsView → (List ℕ → Parsed (List ℕ)) → Manner
-manner options canonical = record { options = options; canonical = canonical }
+-- the pattern text of a component, an asterisk where it is missing
+abbrev pub pattern_of : Values → ComponentName → List ℕ
+pattern_of values component = unwrap_or (at values component) (codes "*")
 
 -- options in the requested syntax
 abbrev pub in_syntax : UrlPatternOptions → OptionsView → OptionsView
@@ -76,17 +78,23 @@ is_ipv6_pattern text =
 abbrev pub canonical_in_hostname : (pattern : List ℕ) → List ℕ → Parsed (List ℕ)
 canonical_in_hostname pattern text = if is_ipv6_pattern pattern then canonical_ipv6_hostname text else canonical_hostname text
 
--- under which options a component's pattern is read, and what is made of its fixed texts
+-- the options of a component's pattern, and what is made of its fixed texts
+abbrev pub rules_of : UrlPatternOptions → Values → (hierarchical : Bool) → ComponentName → OptionsView × (List ℕ → Parsed (List ℕ))
+rules_of asked values hierarchical Protocol = (in_syntax asked default_options, canonical_protocol)
+rules_of asked values hierarchical Username = (in_syntax asked default_options, canonical_username)
+rules_of asked values hierarchical Password = (in_syntax asked default_options, canonical_password)
+rules_of asked values hierarchical Hostname = (in_syntax asked hostname_options, canonical_in_hostname (unwrap_or values.hostname []))
+rules_of asked values hierarchical Port = (in_syntax asked default_options, canonical_port None)
+rules_of asked values hierarchical Pathname =
+    if hierarchical then (with_case asked pathname_options, canonical_pathname) else (with_case asked default_options, canonical_opaque_pathname)
+rules_of asked values hierarchical Search = (with_case asked default_options, canonical_search)
+rules_of asked values hierarchical Hash = (with_case asked default_options, canonical_hash)
+
+-- how the pattern of a component is read, of those that are compiled
 abbrev pub manner_of : UrlPatternOptions → Values → (hierarchical : Bool) → ComponentName → Manner
-manner_of asked values hierarchical Protocol = manner (in_syntax asked default_options) canonical_protocol
-manner_of asked values hierarchical Username = manner (in_syntax asked default_options) canonical_username
-manner_of asked values hierarchical Password = manner (in_syntax asked default_options) canonical_password
-manner_of asked values hierarchical Hostname = manner (in_syntax asked hostname_options) (canonical_in_hostname (unwrap_or values.hostname []))
-manner_of asked values hierarchical Port = manner (in_syntax asked default_options) (canonical_port None)
-manner_of asked values hierarchical Pathname =
-    if hierarchical then manner (with_case asked pathname_options) canonical_pathname else manner (with_case asked default_options) canonical_opaque_pathname
-manner_of asked values hierarchical Search = manner (with_case asked default_options) canonical_search
-manner_of asked values hierarchical Hash = manner (with_case asked default_options) canonical_hash
+manner_of asked values hierarchical component =
+    let rules = rules_of asked values hierarchical component in
+    record { text = pattern_of values component; options = rules.0; canonical = rules.1 }
 
 -- what `canonical` makes of fixed texts
 abbrev pub canonical_encoding : (List ℕ → Parsed (List ℕ)) → Encoding
@@ -94,35 +102,24 @@ canonical_encoding canonical = encoding_of (λ bytes returned. IsAnswer (canonic
 
 -- ---- one component
 
--- Which components are compiled from a text, under options and an encoding, over an engine.
-abbrev pub Compiles : Type 0 → Type 1
-Compiles E = (text : List ℕ) → OptionsView → Encoding → ComponentView E → Type 0
-
--- the pattern text of a component, an asterisk where it is missing
-abbrev pub pattern_of : Values → ComponentName → List ℕ
-pattern_of values component = unwrap_or (at values component) (codes "*")
-
 -- the engine took the component's regular expression
 abbrev pub HasEngine : {E : Type 0} → ComponentView E → Type 0
 HasEngine compiled = IsOk compiled.regexp
 
 -- the text is refused with this error, or its regular expression is, by the engine
-abbrev pub IsRefusedFrom : {E : Type 0} → Compiles E → (text : List ℕ) → OptionsView → Encoding → ErrorView → Type 0
-IsRefusedFrom {E} IsFrom text options encoding error =
+abbrev pub IsRefusedFrom : {E : Type 0} → Engine E → (text : List ℕ) → OptionsView → Encoding → ErrorView → Type 0
+IsRefusedFrom {E} engine text options encoding error =
     Refuses text options encoding error
-    ⊎ ((compiled : ComponentView E) × IsFrom text options encoding compiled × (compiled.regexp ≡ Err views.RegExp) × (error ≡ views.RegExp))
+    ⊎ ((compiled : ComponentView E) × IsCompiledFrom engine text options encoding compiled × (compiled.regexp ≡ Err views.RegExp) × (error ≡ views.RegExp))
 
--- the component of a pattern is compiled from its pattern text in its manner, and the engine took its regular expression
-abbrev pub IsComponentCompiled : {E : Type 0} → Compiles E → UrlPatternOptions → Values → (hierarchical : Bool) → ComponentName → ComponentView E → Type 0
-IsComponentCompiled IsFrom asked values hierarchical component compiled =
-    let manner = manner_of asked values hierarchical component in
-    IsFrom (pattern_of values component) manner.options (canonical_encoding manner.canonical) compiled × HasEngine compiled
+-- a component is compiled in this manner, and the engine took its regular expression
+abbrev pub IsComponentCompiled : {E : Type 0} → Engine E → Manner → ComponentView E → Type 0
+IsComponentCompiled engine manner compiled =
+    IsCompiledFrom engine manner.text manner.options (canonical_encoding manner.canonical) compiled × HasEngine compiled
 
--- the component of a pattern is refused with this error
-abbrev pub IsComponentRefused : {E : Type 0} → Compiles E → UrlPatternOptions → Values → (hierarchical : Bool) → ComponentName → ErrorView → Type 0
-IsComponentRefused IsFrom asked values hierarchical component error =
-    let manner = manner_of asked values hierarchical component in
-    IsRefusedFrom IsFrom (pattern_of values component) manner.options (canonical_encoding manner.canonical) error
+-- it is refused with this error
+abbrev pub IsComponentRefused : {E : Type 0} → Engine E → Manner → ErrorView → Type 0
+IsComponentRefused engine manner = IsRefusedFrom engine manner.text manner.options (canonical_encoding manner.canonical)
 
 -- ---- a whole pattern
 
@@ -132,15 +129,15 @@ HasHierarchicalPath answer values protocol =
     (values.protocol ≡ Some []) ⊎ AcceptsSpecialScheme answer protocol ⊎ IsTrue (begins_with (is_mark (codes "/")) (unwrap_or values.pathname []))
 
 -- The values are compiled to this pattern: by its protocol the pathname is hierarchical or not, and each component is compiled.
-pub record AreCompiled {E : Type 0} (IsFrom : Compiles E) (answer : E → List ℕ → Option Captures) (asked : UrlPatternOptions) (values : Values) (pattern : PatternView E) : Type 0 where
+pub record AreCompiled {E : Type 0} (engine : Engine E) (asked : UrlPatternOptions) (values : Values) (pattern : PatternView E) : Type 0 where
   pub hierarchical : Bool
-  pub path_kind : IsTrue hierarchical ↔ HasHierarchicalPath answer values (pattern Protocol).matcher
-  pub are_compiled : (component : ComponentName) → IsComponentCompiled IsFrom asked values hierarchical component (pattern component)
+  pub path_kind : IsTrue hierarchical ↔ HasHierarchicalPath engine.answer values (pattern Protocol).matcher
+  pub are_compiled : (component : ComponentName) → IsComponentCompiled engine (manner_of asked values hierarchical component) (pattern component)
 
 -- the init is compiled to this pattern
-abbrev pub IsCompiled : {E : Type 0} → Compiles E → (answer : E → List ℕ → Option Captures) → UrlPatternInit → UrlPatternOptions → PatternView E → Type 0
-IsCompiled IsFrom answer init asked pattern =
-    (values : Values) × (pattern_values init ≡ Ok values) × AreCompiled IsFrom answer asked values pattern
+abbrev pub IsPatternOfInit : {E : Type 0} → Engine E → UrlPatternInit → UrlPatternOptions → PatternView E → Type 0
+IsPatternOfInit engine init asked pattern =
+    (values : Values) × (pattern_values init ≡ Ok values) × AreCompiled engine asked values pattern
 
 -- ---- refusals
 
@@ -149,37 +146,26 @@ abbrev pub after_protocol : List ComponentName
 after_protocol = Hostname ∷ Pathname ∷ Username ∷ Password ∷ Port ∷ Search ∷ Hash ∷ []
 
 -- one of these components is refused with this error, and those before it are compiled
-abbrev pub FirstRefused : {E : Type 0} → Compiles E → UrlPatternOptions → Values → (hierarchical : Bool) → List ComponentName → ErrorView → Type 0
-FirstRefused IsFrom asked values hierarchical [] error = ⊥
-FirstRefused {E} IsFrom asked values hierarchical (component ∷ components) error =
-    IsComponentRefused IsFrom asked values hierarchical component error
-    ⊎ (((compiled : ComponentView E) × IsComponentCompiled IsFrom asked values hierarchical component compiled)
-    × FirstRefused IsFrom asked values hierarchical components error)
+abbrev pub FirstRefused : {E : Type 0} → Engine E → (manner : ComponentName → Manner) → List ComponentName → ErrorView → Type 0
+FirstRefused engine manner [] error = ⊥
+FirstRefused {E} engine manner (component ∷ components) error =
+    IsComponentRefused engine (manner component) error
+    ⊎ (((compiled : ComponentView E) × IsComponentCompiled engine (manner component) compiled) × FirstRefused engine manner components error)
 
 -- The protocol is compiled, and of the components after it one is refused with this error.
-pub record RefusesAfterProtocol {E : Type 0} (IsFrom : Compiles E) (answer : E → List ℕ → Option Captures) (asked : UrlPatternOptions) (values : Values) (error : ErrorView) : Type 0 where
+pub record RefusesAfterProtocol {E : Type 0} (engine : Engine E) (asked : UrlPatternOptions) (values : Values) (error : ErrorView) : Type 0 where
   pub protocol : ComponentView E
   pub hierarchical : Bool
-  pub is_compiled : IsComponentCompiled IsFrom asked values hierarchical Protocol protocol
-  pub path_kind : IsTrue hierarchical ↔ HasHierarchicalPath answer values protocol.matcher
-  pub refused : FirstRefused IsFrom asked values hierarchical after_protocol error
+  pub is_compiled : IsComponentCompiled engine (manner_of asked values hierarchical Protocol) protocol
+  pub path_kind : IsTrue hierarchical ↔ HasHierarchicalPath engine.answer values protocol.matcher
+  pub refused : FirstRefused engine (manner_of asked values hierarchical) after_protocol error
 
 -- the values are refused with this error, that of the first component that is refused
-abbrev pub RefusesValues : {E : Type 0} → Compiles E → (answer : E → List ℕ → Option Captures) → UrlPatternOptions → Values → ErrorView → Type 0
-RefusesValues IsFrom answer asked values error =
-    IsComponentRefused IsFrom asked values false Protocol error ⊎ RefusesAfterProtocol IsFrom answer asked values error
+abbrev pub RefusesValues : {E : Type 0} → Engine E → UrlPatternOptions → Values → ErrorView → Type 0
+RefusesValues engine asked values error =
+    IsComponentRefused engine (manner_of asked values false Protocol) error ⊎ RefusesAfterProtocol engine asked values error
 
 -- the init is refused with this error
-abbrev pub RefusesPattern : {E : Type 0} → Compiles E → (answer : E → List ℕ → Option Captures) → UrlPatternInit → UrlPatternOptions → ErrorView → Type 0
-RefusesPattern IsFrom answer init asked error =
-    (values : Values) × (pattern_values init ≡ Ok values) × RefusesValues IsFrom answer asked values error
-
--- ---- by an engine
-
--- the init is compiled to this pattern
-abbrev pub IsPatternOfInit : {E : Type 0} → Engine E → UrlPatternInit → UrlPatternOptions → PatternView E → Type 0
-IsPatternOfInit engine = IsCompiled (IsCompiledBy engine) engine.answer
-
--- it is refused with this error
 abbrev pub RefusesInit : {E : Type 0} → Engine E → UrlPatternInit → UrlPatternOptions → ErrorView → Type 0
-RefusesInit engine = RefusesPattern (IsCompiledBy engine) engine.answer
+RefusesInit engine init asked error =
+    (values : Values) × (pattern_values init ≡ Ok values) × RefusesValues engine asked values error

@@ -8,12 +8,11 @@ use Rattle.std.specs.declared.alloc.Global.{Global}
 use Rattle.url.specs.Parser.{Parsed, and_then, parse_url}
 use Rattle.url.specs.Parts.{Parts}
 use Rattle.urlpattern_init.specs.Inheritance.{values_of, values_view}
-use Rattle.urlpattern_init.specs.SpecialProtocol.{IsSpecialBy}
 use Rattle.urlpattern_init.specs.declared.init.UrlPatternInit.{UrlPatternInit}
 use Rattle.urlpattern_init.specs.declared.init.UrlPatternMatchInput.{UrlPatternMatchInput}
 use Rattle.urlpattern_init.specs.declared.init.UrlPatternMatchInput.TheVariants as match_inputs
 use Rattle.urlpattern_canonical.specs.Canonical.{IsRefusedByUrl, Reports}
-use Rattle.urlpattern_core.specs.Engines.{IsRegexOf, regex_answer}
+use Rattle.urlpattern_core.specs.Engines.{regex_engine}
 use Rattle.urlpattern_inputs.specs.declared.init.UrlPatternInit.{UrlPatternInit as PlainInit}
 use Rattle.urlpattern_inputs.specs.declared.input.StringOrInit.{StringOrInit}
 use Rattle.urlpattern_inputs.specs.declared.input.StringOrInit.TheVariants as inputs
@@ -55,14 +54,9 @@ HasInitAndBase input base = ⊥
 
 -- ---- what a pattern is constructed from
 
--- the init of a constructor string with this base URL, where the protocol's engine is the crate `regex`
-abbrev pub IsInitOfString : (text : List ℕ) → (base : Option (List ℕ)) → UrlPatternInit → Type 0
-IsInitOfString text base init =
-    IsInitOfText (IsSpecialBy (λ regex regexp flags. IsRegexOf regexp regex) (λ regexp flags. ⊤) regex_answer) text base init
-
--- the init that a pattern is constructed from
+-- the init that a pattern is constructed from; the crate `regex` decides which protocols are special
 abbrev pub IsConstructedFrom : StringOrInit → (base : Option (List ℕ)) → UrlPatternInit → Type 0
-IsConstructedFrom (inputs.String text) base init = IsInitOfString (chars (cow_str_bytes text)) base init
+IsConstructedFrom (inputs.String text) base init = IsInitOfText regex_engine (chars (cow_str_bytes text)) base init
 IsConstructedFrom (inputs.Init plain) None init = IsInitOf plain init
 IsConstructedFrom (inputs.Init plain) (Some base) init = ⊥
 

@@ -48,6 +48,7 @@ pub mod Inputs
 pub mod Match
 pub mod MatchInput
 pub mod Meaning
+pub mod PatternLaws
 pub mod Patterns
 pub mod Places
 pub mod Quirks

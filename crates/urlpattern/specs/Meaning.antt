@@ -7,18 +7,15 @@ use Rattle.urlpattern_init.specs.declared.init.UrlPatternMatchInput.{UrlPatternM
 use Rattle.urlpattern_syntax.specs.declared.eight.ComponentName.{ComponentName}
 use Rattle.urlpattern_inputs.specs.declared.options.UrlPatternOptions.{UrlPatternOptions}
 use Rattle.regex.specs.declared.string.regex.Regex.{Regex}
-use Rattle.urlpattern_core.specs.Compiling.{ComponentView, IsCompiledBy, IsCompiledFrom}
+use Rattle.urlpattern_core.specs.Compiling.{ComponentView}
 use Rattle.urlpattern_core.specs.declared.regexp.RegExp.{Ghosts as Engine}
-use Rattle.urlpattern_core.specs.Engines.{IsRegexOf}
 use Rattle.urlpattern_laws.specs.FirstAnswers.{IsFirstOf, TookText}
 use Rattle.urlpattern_laws.specs.Matching.{FollowsMiddle}
 use Rattle.urlpattern_laws.specs.PartMeaning.{Captures, PartsMean}
-use Rattle.urlpattern.specs.Compiled.{AreCompiled, Compiles, canonical_encoding, manner_of, pattern_of, pattern_values}
+use Rattle.urlpattern.specs.Compiled.{AreCompiled, Manner, canonical_encoding, manner_of, pattern_values}
 use Rattle.urlpattern.specs.Match.{HasNoMatch, IsLongInput, IsMatch, IsResultOf, ResultView}
 use Rattle.urlpattern.specs.MatchInput.{input_texts}
 use Rattle.urlpattern.specs.Patterns.{PatternView}
-use Rattle.urlpattern_syntax.specs.declared.parser.RegexSyntax.TheVariants.{Rust}
-use Rattle.urlpattern_syntax.specs.Options.{OptionsView}
 use Rattle.urlpattern_syntax.specs.Parts.{PartView}
 use Rattle.urlpattern_syntax.specs.Reading.{Reads}
 use Rattle.urlpattern_syntax.specs.RegexpText.{group_names}
@@ -27,46 +24,40 @@ use Rattle.urlpattern_syntax.specs.Eight.{Texts, Values, at}
 
 -- ---- what a pattern text means
 
--- the options under which the pattern text of a component is read
-abbrev pub options_of : UrlPatternOptions → Values → (hierarchical : Bool) → ComponentName → OptionsView
-options_of asked values hierarchical component = (manner_of asked values hierarchical component).options
+-- the pattern text reads as these parts, in this manner
+abbrev pub ReadsAs : Manner → List PartView → Type 0
+ReadsAs manner parts = Reads manner.text manner.options (canonical_encoding manner.canonical) parts
 
--- the pattern text of a component reads as these parts
-abbrev pub ReadsAs : UrlPatternOptions → Values → (hierarchical : Bool) → ComponentName → List PartView → Type 0
-ReadsAs asked values hierarchical component parts =
-    let manner = manner_of asked values hierarchical component in
-    Reads (pattern_of values component) manner.options (canonical_encoding manner.canonical) parts
-
--- The pattern text of a component means the text: the parts that it reads as mean it, with these captures.
-pub record IsMeant (asked : UrlPatternOptions) (values : Values) (hierarchical : Bool) (component : ComponentName) (text : List ℕ) : Type 0 where
+-- The pattern text means the text: the parts that it reads as mean it, with these captures.
+pub record IsMeant (manner : Manner) (text : List ℕ) : Type 0 where
   pub parts : List PartView
   pub captures : Captures
-  pub reads : ReadsAs asked values hierarchical component parts
-  pub means : PartsMean (options_of asked values hierarchical component) parts text captures
+  pub reads : ReadsAs manner parts
+  pub means : PartsMean manner.options parts text captures
 
 -- ---- where matchers answer it
 
 -- What is asked of a compiled component and a text: no custom regular expression, case that is kept, characters without
 -- line feed, and that an engine, where one is needed, took the regular expression it was given and follows it.
-pub record MeaningPremises {E : Type 0} (answer : E → List ℕ → Option Captures) (asked : UrlPatternOptions) (values : Values) (hierarchical : Bool) (component : ComponentName) (compiled : ComponentView E) (text : List ℕ) : Type 0 where
+pub record MeaningPremises {E : Type 0} (answer : E → List ℕ → Option Captures) (manner : Manner) (compiled : ComponentView E) (text : List ℕ) : Type 0 where
   pub generated : compiled.has_regexp_group ≡ false
-  pub case_kept : (options_of asked values hierarchical component).ignore_case ≡ false
+  pub case_kept : manner.options.ignore_case ≡ false
   pub no_line_feed : IsTrue (lacks line_feed text)
   pub characters : IsTrue (all_scalars text)
-  pub follows : (parts : List PartView) → ReadsAs asked values hierarchical component parts
-      → FollowsMiddle answer (options_of asked values hierarchical component) parts compiled.matcher.inner
+  pub follows : (parts : List PartView) → ReadsAs manner parts
+      → FollowsMiddle answer manner.options parts compiled.matcher.inner
 
 -- What is found of eight texts. Where they are matched, the result of each component that meets the premises is a meaning
 -- of its text: as groups the names of the parts beside the captures. Where they are not, and all components meet the
 -- premises, the pattern texts do not mean all eight.
-abbrev pub IsFoundByMeaning : {E : Type 0} → (answer : E → List ℕ → Option Captures) → UrlPatternOptions → Values → (hierarchical : Bool) → PatternView E → Texts → Option (ComponentName → ResultView) → Type 0
-IsFoundByMeaning answer asked values hierarchical pattern texts (Some result) =
-    (component : ComponentName) → MeaningPremises answer asked values hierarchical component (pattern component) (at texts component) →
-    (meant : IsMeant asked values hierarchical component (at texts component))
+abbrev pub IsFoundByMeaning : {E : Type 0} → (answer : E → List ℕ → Option Captures) → (manner : ComponentName → Manner) → PatternView E → Texts → Option (ComponentName → ResultView) → Type 0
+IsFoundByMeaning answer manner pattern texts (Some result) =
+    (component : ComponentName) → MeaningPremises answer (manner component) (pattern component) (at texts component) →
+    (meant : IsMeant (manner component) (at texts component))
     × IsResultOf (group_names meant.parts) meant.captures (at texts component) (result component)
-IsFoundByMeaning answer asked values hierarchical pattern texts None =
-    ((component : ComponentName) → MeaningPremises answer asked values hierarchical component (pattern component) (at texts component)) →
-    ¬ ((component : ComponentName) → IsMeant asked values hierarchical component (at texts component))
+IsFoundByMeaning answer manner pattern texts None =
+    ((component : ComponentName) → MeaningPremises answer (manner component) (pattern component) (at texts component)) →
+    ¬ ((component : ComponentName) → IsMeant (manner component) (at texts component))
 
 -- ---- what `exec` answers
 
@@ -75,39 +66,31 @@ abbrev pub IsExecuted : {E : Type 0} → (answer : E → List ℕ → Option Cap
 IsExecuted answer pattern input found = MatchOption found (HasNoMatch answer pattern input) (IsMatch answer pattern input)
 
 -- The init is compiled to a pattern of which this is found on the input, and it is what the pattern texts mean.
-pub record IsExecutedByMeaning {E : Type 0} (IsFrom : Compiles E) (answer : E → List ℕ → Option Captures) (init : UrlPatternInit) (asked : UrlPatternOptions) (input : UrlPatternMatchInput) (found : Option (ComponentName → ResultView)) : Type 0 where
+pub record IsExecutedByMeaning {E : Type 0} (engine : Engine E) (init : UrlPatternInit) (asked : UrlPatternOptions) (input : UrlPatternMatchInput) (found : Option (ComponentName → ResultView)) : Type 0 where
   pub values : Values
   pub pattern : PatternView E
   pub are_values : pattern_values init ≡ Ok values
-  pub compiled : AreCompiled IsFrom answer asked values pattern
-  pub executed : IsExecuted answer pattern input found
+  pub compiled : AreCompiled engine asked values pattern
+  pub executed : IsExecuted engine.answer pattern input found
   pub means : (texts : Texts) → input_texts input ≡ Ok texts → ¬ IsLongInput input
-      → IsFoundByMeaning answer asked values compiled.hierarchical pattern texts found
-
--- the same, by an engine
-abbrev pub IsExecutedBy : {E : Type 0} → Engine E → UrlPatternInit → UrlPatternOptions → UrlPatternMatchInput → Option (ComponentName → ResultView) → Type 0
-IsExecutedBy engine = IsExecutedByMeaning (IsCompiledBy engine) engine.answer
+      → IsFoundByMeaning engine.answer (manner_of asked values compiled.hierarchical) pattern texts found
 
 -- ---- the default engine
 
 -- What is asked of a component that was compiled by `regex::Regex`, and of a text: as above, but of the engine no more than
 -- that it took the regular expression it was given, where one is needed.
-pub record RegexPremises (asked : UrlPatternOptions) (values : Values) (hierarchical : Bool) (component : ComponentName) (compiled : ComponentView Regex) (text : List ℕ) : Type 0 where
+pub record RegexPremises (manner : Manner) (compiled : ComponentView Regex) (text : List ℕ) : Type 0 where
   pub generated : compiled.has_regexp_group ≡ false
-  pub case_kept : (options_of asked values hierarchical component).ignore_case ≡ false
+  pub case_kept : manner.options.ignore_case ≡ false
   pub took : TookText (λ regex. ⊤) compiled.matcher.inner
   pub no_line_feed : IsTrue (lacks line_feed text)
   pub characters : IsTrue (all_scalars text)
 
 -- The result of a component is the first way of its text: as groups the names of the parts that its pattern text reads as,
 -- beside what the first way captures.
-pub record IsFirstResult (asked : UrlPatternOptions) (values : Values) (hierarchical : Bool) (component : ComponentName) (text : List ℕ) (result : ResultView) : Type 0 where
+pub record IsFirstResult (manner : Manner) (text : List ℕ) (result : ResultView) : Type 0 where
   pub parts : List PartView
   pub captures : Captures
-  pub reads : ReadsAs asked values hierarchical component parts
-  pub is_first : IsFirstOf (options_of asked values hierarchical component) parts text (Some captures)
+  pub reads : ReadsAs manner parts
+  pub is_first : IsFirstOf manner.options parts text (Some captures)
   pub is_result : IsResultOf (group_names parts) captures text result
-
--- patterns are compiled by `regex::Regex`
-abbrev pub compiles_by_regex : Compiles Regex
-compiles_by_regex = IsCompiledFrom (λ regex regexp flags. IsRegexOf regexp regex) (λ regexp flags force_eval. ⊤) Rust

@@ -1,21 +1,20 @@
 -- The sentences of the main theorem. Where one speaks of an encoding, it is any list of texts with their answers.
-use Rattle.std.specs.Prelude.{◌≡◌, ◌↔◌, ◌⊎◌, ℕ, false, List, length, Option, IsTrue}
+use Rattle.std.specs.Prelude.{◌≡◌, ◌↔◌, ◌⊎◌, ⊤, ℕ, false, List, length, Option, IsTrue}
 use Rattle.std.specs.Str.{all_scalars}
-use Rattle.urlpattern_core.specs.Engines.{IsTakenByRegex, regex_answer}
+use Rattle.urlpattern_core.specs.Compiling.{IsEngineOf}
+use Rattle.urlpattern_core.specs.declared.regexp.RegExp.{Ghosts as Engine}
+use Rattle.urlpattern_core.specs.Engines.{regex_engine}
 use Rattle.urlpattern_core.specs.FirstWays.{EachAnswersFirst}
 use Rattle.urlpattern_core.specs.Generated.{AreGenerated}
-use Rattle.urlpattern_engine.specs.Engine.{IsTakenByPatternRegexp, pattern_answer}
-use Rattle.urlpattern_init.specs.declared.init.UrlPatternMatchInput.{UrlPatternMatchInput}
-use Rattle.urlpattern_syntax.specs.declared.eight.ComponentName.{ComponentName}
+use Rattle.urlpattern_engine.specs.Engine.{pattern_engine}
 use Rattle.urlpattern_laws.specs.Dialect.{IsOnlyTreeOf, IsTreeOf, Items, Means}
-use Rattle.urlpattern_laws.specs.FirstAnswers.{AnswersFirstInMiddle, IsFirstOf}
+use Rattle.urlpattern_laws.specs.FirstAnswers.{AnswersFirstInMiddle, IsFirstOf, TookText}
 use Rattle.urlpattern_laws.specs.Laws.{Answered, AnswersOnce, HasOutcome, HasSomeOutcome, LacksAnswer, Outcome, listed}
 use Rattle.urlpattern_laws.specs.Matching.{Answers, AnswersByMeaning, IsMadeOf, MatcherView}
 use Rattle.urlpattern_laws.specs.PartMeaning.{Captures, PartsMean}
 use Rattle.urlpattern_laws.specs.Printing.{Keeps, joined, printed}
 use Rattle.urlpattern_laws.specs.RoundTrip.{WereRead}
-use Rattle.urlpattern.specs.Match.{HasMatch, HasNoMatch, IsLongInput, IsMatch, ResultView}
-use Rattle.urlpattern.specs.Patterns.{PatternView}
+use Rattle.urlpattern.specs.PatternLaws.{TestsAgree, TestsAreOne}
 use Rattle.urlpattern_syntax.specs.Errors.{ErrorView}
 use Rattle.urlpattern_syntax.specs.Options.{OptionsView}
 use Rattle.urlpattern_syntax.specs.Parts.{PartView}
@@ -48,26 +47,26 @@ CapturesHaveNames = (options : OptionsView) (parts : List PartView) (text : List
     PartsMean options parts text captures → length captures ≡ length (group_names parts)
 
 -- A matcher that is made of parts answers what they mean.
-abbrev pub MatchersAnswerByMeaning : {E : Type 0} → (IsMade : E → (regexp flags : List ℕ) → Type 0) → (MayRefuse : (regexp flags : List ℕ) → Type 0) → (answer : E → List ℕ → Option Captures) → Type 0
-MatchersAnswerByMeaning {E} IsMade MayRefuse answer =
+abbrev pub MatchersAnswerByMeaning : {E : Type 0} → Engine E → Type 0
+MatchersAnswerByMeaning {E} engine =
     (options : OptionsView) (flags : List ℕ) (parts : List PartView) (matcher : MatcherView E) →
-    IsMadeOf IsMade MayRefuse options flags parts matcher → AnswersByMeaning answer options parts matcher
+    IsMadeOf (IsEngineOf engine false flags) options parts matcher → AnswersByMeaning engine.answer options parts matcher
 
 -- A matcher that is made of parts answers the first way of their tree, if an engine that it asks answers that of its text's.
-abbrev pub MatchersAnswerTheFirstWay : {E : Type 0} → (IsMade : E → (regexp flags : List ℕ) → Type 0) → (MayRefuse : (regexp flags : List ℕ) → Type 0) → (answer : E → List ℕ → Option Captures) → Type 0
-MatchersAnswerTheFirstWay {E} IsMade MayRefuse answer =
+abbrev pub MatchersAnswerTheFirstWay : {E : Type 0} → Engine E → Type 0
+MatchersAnswerTheFirstWay {E} engine =
     (options : OptionsView) (flags : List ℕ) (parts : List PartView) (matcher : MatcherView E) (text : List ℕ) (result : Option Captures) →
-    IsMadeOf IsMade MayRefuse options flags parts matcher → AreGenerated parts → options.ignore_case ≡ false →
-    AnswersFirstInMiddle answer options parts matcher.inner → IsTrue (lacks line_feed text) → IsTrue (all_scalars text) →
-    Answers answer matcher text result → IsFirstOf options parts text result
+    IsMadeOf (IsEngineOf engine false flags) options parts matcher → AreGenerated parts → options.ignore_case ≡ false →
+    AnswersFirstInMiddle engine.answer options parts matcher.inner → IsTrue (lacks line_feed text) → IsTrue (all_scalars text) →
+    Answers engine.answer matcher text result → IsFirstOf options parts text result
 
 -- One that `regex::Regex` made does so by itself, if `regex` took the text where it was needed, and this is what the parts mean.
 abbrev pub DefaultEngineAnswersTheFirstWay : Type 0
-DefaultEngineAnswersTheFirstWay = EachAnswersFirst IsTakenByRegex regex_answer
+DefaultEngineAnswersTheFirstWay = EachAnswersFirst regex_engine (TookText (λ regex. ⊤))
 
 -- One that `PatternRegexp` made does so too, without any premise on that.
 abbrev pub PatternEngineAnswersTheFirstWay : Type 0
-PatternEngineAnswersTheFirstWay = EachAnswersFirst IsTakenByPatternRegexp pattern_answer
+PatternEngineAnswersTheFirstWay = EachAnswersFirst pattern_engine (λ inner. ⊤)
 
 -- There is one such answer.
 abbrev pub FirstWayIsOne : Type 0
@@ -90,6 +89,4 @@ PrintedReadsAsNothingElse = (text : List ℕ) (options : OptionsView) (first ans
 -- A pattern has a match on an input exactly where there are eight texts and each matcher accepts its own. Where there is
 -- one, no match is only found of an input that is longer than `url` is sure to take.
 abbrev pub ExecutesByMatchers : {E : Type 0} → (answer : E → List ℕ → Option Captures) → Type 0
-ExecutesByMatchers {E} answer = (pattern : PatternView E) (input : UrlPatternMatchInput) →
-    (((result : ComponentName → ResultView) × IsMatch answer pattern input result) ↔ HasMatch answer pattern input)
-    × (HasMatch answer pattern input → HasNoMatch answer pattern input → IsLongInput input)
+ExecutesByMatchers answer = TestsAgree answer × TestsAreOne answer

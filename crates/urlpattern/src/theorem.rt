@@ -1,7 +1,6 @@
 //! The main theorem of the whole: what a pattern text is read as, what its parts mean, what is matched and what is printed.
 
 ghost use Rattle.urlpattern.specs.Theorem.{CapturesHaveNames, DefaultEngineAnswersTheFirstWay, ExecutesByMatchers, FirstWayIsOne, MatchersAnswerByMeaning, MatchersAnswerTheFirstWay, OneReading, OneTree, PatternEngineAnswersTheFirstWay, PrintedReadsAsNothingElse, PrintedReadsBack, TreesMeanTheParts};
-ghost use Rattle.urlpattern_core.specs.Compiling.{MayRefuseAtFirst};
 
 use crate::regexp::RegExp;
 
@@ -35,8 +34,8 @@ pub fn main_theorem<R: RegExp>()
     ensures one_tree { OneTree }
     ensures exactly { TreesMeanTheParts }
     ensures captures { CapturesHaveNames }
-    ensures matches { MatchersAnswerByMeaning R.IsMade (MayRefuseAtFirst R.MayRefuse) R.answer }
-    ensures answers { MatchersAnswerTheFirstWay R.IsMade (MayRefuseAtFirst R.MayRefuse) R.answer }
+    ensures matches { MatchersAnswerByMeaning R.RegExp }
+    ensures answers { MatchersAnswerTheFirstWay R.RegExp }
     ensures one_answer { FirstWayIsOne }
     ensures default_engine { DefaultEngineAnswersTheFirstWay }
     ensures pattern_engine { PatternEngineAnswersTheFirstWay }

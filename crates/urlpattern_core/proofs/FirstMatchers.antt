@@ -1,11 +1,12 @@
 -- Engines whose values answer the first way of the tree of the text that they were made of, and matchers that ask them.
 use Rattle.std.proofs.Common.{◌≡◌, ℕ, List, Option, false, sym}
-use Rattle.std.specs.Prelude.{⊤}
-use Rattle.urlpattern_core.specs.FirstWays.{AllAnswerAlike, AnswersFirstWays, EachAnswersFirst}
+use Rattle.urlpattern_core.specs.Compiling.{IsEngineOf}
+use Rattle.urlpattern_core.specs.FirstWays.{AllAnswerAlike, EachAnswersFirst, IsTakenBy, ValuesAnswerFirst, ValuesFollowParts, ValuesFollowTexts}
 use Rattle.urlpattern_core.specs.Generated.{AreGenerated}
+use Rattle.urlpattern_core.specs.declared.regexp.RegExp.{Ghosts as Engine}
 use Rattle.urlpattern_laws.specs.Dialect.{Follows, IsTreeOf, Items}
 use Rattle.urlpattern_laws.specs.FirstAnswers.{AnswersFirst, AnswersFirstInMiddle, TookText}
-use Rattle.urlpattern_laws.specs.Matching.{IsMadeOf, MatcherView}
+use Rattle.urlpattern_laws.specs.Matching.{InnerView, MatcherView}
 use Rattle.urlpattern_laws.specs.PartMeaning.{Captures}
 use Rattle.urlpattern_syntax.specs.Options.{OptionsView}
 use Rattle.urlpattern_syntax.specs.Parts.{PartView}
@@ -24,24 +25,29 @@ first_follows regexp answer first tree is = record {
   answers = λ text scalars. meant_or_none tree is.1 text (answer text) (sym (first tree text is scalars));
 }
 
--- what is true of each text of the dialect is true of what is generated of parts
-pub of_generated : (Is : List ℕ → Type 0) → ((regexp : List ℕ) (tree : Items) → IsTreeOf regexp tree → Is regexp) → (options : OptionsView) (parts : List PartView) →
-    AreGenerated parts → Is (regexp_text options parts)
-of_generated Is each options parts generated = each (regexp_text options parts) (tree_of options parts) (is_tree_of options parts generated)
+-- such values follow their texts, and so the regular expressions of parts
+pub values_follow : {E : Type 0} (engine : Engine E) → ValuesAnswerFirst engine → ValuesFollowTexts engine
+values_follow engine first regexp flags tree value is made = first_follows regexp (engine.answer value) (first regexp flags value made) tree is
 
-pub made_first : {E : Type 0} (answer : E → List ℕ → Option Captures) (IsMade : E → (regexp flags : List ℕ) → Type 0) (MayRefuse : (regexp flags : List ℕ) → Type 0) →
-    ((value : E) (regexp flags : List ℕ) → IsMade value regexp flags → AnswersFirst regexp (answer value)) →
-    (options : OptionsView) (flags : List ℕ) (parts : List PartView) (matcher : MatcherView E) → IsMadeOf IsMade MayRefuse options flags parts matcher →
-    AreGenerated parts → options.ignore_case ≡ false → TookText (λ value. ⊤) matcher.inner → AnswersFirstWays answer options parts matcher
-made_first answer IsMade MayRefuse values_first options flags parts matcher made generated case_kept took text result no_feed scalars answers =
-    let firsts : AnswersFirstInMiddle answer options parts matcher.inner =
-    of_made (λ value middle. AnswersFirst (regexp_text options middle) (answer value)) (λ value. ⊤) IsMade MayRefuse options flags parts matcher
-    made generated took (λ value middle plain of took. values_first value (regexp_text options middle) flags of) in
-    let first = matcher_first answer IsMade MayRefuse options flags parts matcher text result made generated case_kept no_feed scalars firsts answers in
-    (first, first_agrees options parts text result generated first)
+pub values_follow_parts : {E : Type 0} (engine : Engine E) → ValuesAnswerFirst engine → ValuesFollowParts engine
+values_follow_parts engine first options flags parts value generated made =
+    values_follow engine first (regexp_text options parts) flags (tree_of options parts) value (is_tree_of options parts generated) made
+
+-- where the engine took its text with a value of which this holds, and the answers of such values are the first way, the
+-- answers of matchers are
+pub made_first : {E : Type 0} (engine : Engine E) (Took : InnerView E → Type 0) (Holds : E → Type 0) →
+    ((options : OptionsView) (flags : List ℕ) (parts : List PartView) (matcher : MatcherView E) → IsTakenBy engine Took options flags parts matcher → TookText Holds matcher.inner) →
+    ((regexp flags : List ℕ) (value : E) → engine.IsMade value regexp flags → Holds value → AnswersFirst regexp (engine.answer value)) →
+    EachAnswersFirst engine Took
+made_first engine Took Holds takes values_first options flags parts matcher taken text result no_feed scalars answers =
+    let IsEngine = IsEngineOf engine false flags in
+    let firsts : AnswersFirstInMiddle engine.answer options parts matcher.inner =
+    of_made IsEngine options (λ value middle. AnswersFirst (regexp_text options middle) (engine.answer value)) Holds parts matcher
+    taken.is_made taken.generated (takes options flags parts matcher taken) (λ value middle plain of holds. values_first (regexp_text options middle) flags value of holds) in
+    let first = matcher_first engine.answer IsEngine options parts matcher text result taken.is_made taken.generated taken.case_kept no_feed scalars firsts answers in
+    (first, first_agrees options parts text result taken.generated first)
 
 -- what two matchers of the same parts answer is the same then
-pub first_alike : {E : Type 0} (IsTaken : OptionsView → (flags : List ℕ) → List PartView → MatcherView E → Type 0) (answer : E → List ℕ → Option Captures) →
-    EachAnswersFirst IsTaken answer → AllAnswerAlike IsTaken answer
-first_alike IsTaken answer firsts options flags parts matcher another taken also text result other no_feed scalars answers replies =
+pub first_alike : {E : Type 0} (engine : Engine E) (Took : InnerView E → Type 0) → EachAnswersFirst engine Took → AllAnswerAlike engine Took
+first_alike engine Took firsts options flags parts matcher another taken also text result other no_feed scalars answers replies =
     first_one options parts text result other (firsts options flags parts matcher taken text result no_feed scalars answers).0 (firsts options flags parts another also text other no_feed scalars replies).0

@@ -4,7 +4,7 @@ use Rattle.std.proofs.lemmas.Bool.{false≢true}
 use Rattle.std.proofs.lemmas.List.{append-nil, length-append}
 use Rattle.std.specs.Prelude.{IsTrue, ◌≤◌, Option, Some, None, Result, Ok, Err, IfErr, IfOk, option_to_list}
 use Rattle.urlpattern_core.specs.Matchers.{PeelsBack, PeelsFront, PeelsTo, capture_of}
-use Rattle.urlpattern_laws.specs.Matching.{BeginsPlain, EndsPlain, IsRemoved, IsMadeBetween, IsMadeByEngine, IsMadeOf, IsMadeOfOne, MatcherView, IsEngineOf, end_text, single_capture}
+use Rattle.urlpattern_laws.specs.Matching.{BeginsPlain, EndsPlain, IsRemoved, IsMadeBetween, IsMadeByEngine, IsMadeOf, IsMadeOfOne, MatcherView, end_text, single_capture}
 use Rattle.urlpattern_syntax.specs.declared.parser.PartModifier.{PartModifier}
 use Rattle.urlpattern_syntax.specs.declared.parser.PartModifier.TheVariants as modifiers
 use Rattle.urlpattern_syntax.specs.declared.parser.PartType.{PartType}
@@ -69,17 +69,17 @@ peels-both parts rest middle prefix suffix (front, cut, goes, is_prefix) (back, 
 -- ---- what is made of the middle
 
 -- the matcher of parts, by the middle that is left
-pub made-of : {E : Type 0} (IsMade : E → (regexp flags : List ℕ) → Type 0) (MayRefuse : (regexp flags : List ℕ) → Type 0) (options : OptionsView) (flags : List ℕ) (parts middle : List PartView) (prefix suffix : List ℕ) (matcher : MatcherView E) →
-    PeelsTo parts prefix middle suffix → IsMadeBetween (IsEngineOf IsMade MayRefuse flags) options prefix middle suffix matcher →
-    IsMadeOf IsMade MayRefuse options flags parts matcher
-made-of IsMade MayRefuse options flags parts middle prefix suffix matcher (front, back, peeled, is_prefix, is_suffix) made = record {
+pub made-of : {E : Type 0} (IsEngine : (regexp : List ℕ) → Result E ErrorView → Type 0) (options : OptionsView) (parts middle : List PartView) (prefix suffix : List ℕ) (matcher : MatcherView E) →
+    PeelsTo parts prefix middle suffix → IsMadeBetween IsEngine options prefix middle suffix matcher →
+    IsMadeOf IsEngine options parts matcher
+made-of IsEngine options parts middle prefix suffix matcher (front, back, peeled, is_prefix, is_suffix) made = record {
   front = front;
   middle = middle;
   back = back;
   are_peeled = peeled;
   is_made =
-      subst (λ x. IsMadeBetween (IsEngineOf IsMade MayRefuse flags) options x middle (end_text back) matcher) is_prefix
-      (subst (λ x. IsMadeBetween (IsEngineOf IsMade MayRefuse flags) options prefix middle x matcher) is_suffix made);
+      subst (λ x. IsMadeBetween IsEngine options x middle (end_text back) matcher) is_prefix
+      (subst (λ x. IsMadeBetween IsEngine options prefix middle x matcher) is_suffix made);
 }
 
 -- one part that is no single capture is left to an engine

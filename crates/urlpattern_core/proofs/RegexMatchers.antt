@@ -1,14 +1,16 @@
 -- Matchers that `regex::Regex` made answer the first way of their parts.
 use Rattle.std.specs.Prelude.{⊤}
-use Rattle.urlpattern_core.specs.Engines.{IsRegexOf, IsTakenByRegex, regex_answer}
-use Rattle.urlpattern_core.specs.FirstWays.{AllAnswerAlike, EachAnswersFirst}
+use Rattle.urlpattern_core.specs.Engines.{regex_engine}
+use Rattle.urlpattern_core.specs.FirstWays.{AllAnswerAlike, EachAnswersFirst, ValuesAnswerFirst}
 use Rattle.urlpattern_core.proofs.FirstMatchers.{first_alike, made_first}
 use Rattle.urlpattern_core.proofs.RegexWays.{answers_first_of}
+use Rattle.urlpattern_laws.specs.FirstAnswers.{TookText}
 
-pub taken_first : EachAnswersFirst IsTakenByRegex regex_answer
-taken_first options flags parts matcher taken =
-    made_first regex_answer (λ regex regexp flags. IsRegexOf regexp regex) (λ regexp flags. ⊤) (λ regex regexp flags made. answers_first_of regexp regex made)
-    options flags parts matcher taken.is_made taken.generated taken.case_kept taken.took
+pub values_first : ValuesAnswerFirst regex_engine
+values_first regexp flags regex made = answers_first_of regexp regex made
 
-pub taken_one : AllAnswerAlike IsTakenByRegex regex_answer
-taken_one = first_alike IsTakenByRegex regex_answer taken_first
+pub taken_first : EachAnswersFirst regex_engine (TookText (λ regex. ⊤))
+taken_first = made_first regex_engine _ (λ regex. ⊤) (λ options flags parts matcher taken. taken.took) (λ regexp flags regex made took. values_first regexp flags regex made)
+
+pub taken_one : AllAnswerAlike regex_engine (TookText (λ regex. ⊤))
+taken_one = first_alike regex_engine _ taken_first

@@ -1,5 +1,5 @@
 -- What a value of the crate `regex` is made of, and what it answers.
-use Rattle.std.specs.Prelude.{◌≡◌, ⊤, false, ℕ, ◌-◌, ◌^◌, ◌<◌, IsTrue, List, map, length, Option, option_map, encode_utf8_all, slice_range}
+use Rattle.std.specs.Prelude.{◌≡◌, ⊤, ℕ, ◌-◌, ◌^◌, ◌<◌, IsTrue, List, map, length, Option, option_map, encode_utf8_all, slice_range}
 use Rattle.std.specs.List.{range_with_len}
 use Rattle.std.specs.Str.{all_scalars, chars}
 use Rattle.regex.specs.Patterns.{default_config, find_str}
@@ -11,12 +11,13 @@ use Rattle.regex_syntax.specs.Verdict.{Refuses, default_config as default_syntax
 use Rattle.regex_syntax.specs.declared.error.ErrorKind.{ErrorKind}
 use Rattle.regex_syntax.specs.declared.error.ErrorKind.TheVariants.{OutOfMemory}
 use Rattle.urlpattern_core.specs.Generated.{AreGenerated}
-use Rattle.urlpattern_laws.specs.Dialect.{Follows, IsTreeOf, Items, group_count}
-use Rattle.urlpattern_laws.specs.FirstAnswers.{TookText}
-use Rattle.urlpattern_laws.specs.Matching.{IsMadeOf, MatcherView}
+use Rattle.urlpattern_core.specs.declared.regexp.RegExp.{Ghosts as Engine}
+use Rattle.urlpattern_laws.specs.Dialect.{IsTreeOf, Items, group_count}
 use Rattle.urlpattern_laws.specs.PartMeaning.{Captures}
+use Rattle.urlpattern_syntax.specs.declared.parser.RegexSyntax.TheVariants.{Rust}
 use Rattle.urlpattern_syntax.specs.Options.{OptionsView}
 use Rattle.urlpattern_syntax.specs.Parts.{PartView}
+use Rattle.urlpattern_syntax.specs.RegexpText.{regexp_text}
 
 -- the text that it was built from
 abbrev pub regex_text : Regex → List ℕ
@@ -47,10 +48,6 @@ regex_answer regex text =
     let count = length (regex_names regex) - 1 in
     option_map (λ found. group_texts bytes count (group_of found)) (find_str (regex_pattern regex) bytes 0)
 
--- each value that was made of the text follows it
-abbrev pub RegexFollows : (regexp : List ℕ) → Type 0
-RegexFollows regexp = (regex : Regex) → IsRegexOf regexp regex → Follows regexp (regex_answer regex)
-
 -- a text of characters whose tree has fewer groups than the grammar counts
 abbrev pub HasFewGroups : (regexp : List ℕ) → Type 0
 HasFewGroups regexp = IsTrue (all_scalars regexp) × ((tree : Items) × IsTreeOf regexp tree × (group_count tree < 2 ^ 32 - 1))
@@ -59,13 +56,17 @@ HasFewGroups regexp = IsTrue (all_scalars regexp) × ((tree : Items) × IsTreeOf
 abbrev pub IsRefusedForMemory : (regexp : List ℕ) → Type 0
 IsRefusedForMemory regexp = (kind : ErrorKind) → Refuses default_syntax (encode_utf8_all regexp) kind → kind ≡ OutOfMemory
 
--- the matcher is made of the parts by `regex::Regex`, which takes no notice of flags and may refuse any text
-abbrev pub IsMadeByRegex : OptionsView → (flags : List ℕ) → List PartView → MatcherView Regex → Type 0
-IsMadeByRegex options flags parts matcher = IsMadeOf (λ regex regexp flags. IsRegexOf regexp regex) (λ regexp flags. ⊤) options flags parts matcher
+-- the regular expression of parts, none of them custom, is refused only as memory ran out, if it has few groups
+abbrev pub TakesGeneratedSyntax : Type 0
+TakesGeneratedSyntax = (options : OptionsView) (parts : List PartView) →
+    AreGenerated parts → HasFewGroups (regexp_text options parts) → IsRefusedForMemory (regexp_text options parts)
 
--- it is such a matcher, of parts of which none is custom, case is kept, and `regex` took the text where it was needed
-pub record IsTakenByRegex (options : OptionsView) (flags : List ℕ) (parts : List PartView) (matcher : MatcherView Regex) : Type 0 where
-  pub is_made : IsMadeByRegex options flags parts matcher
-  pub generated : AreGenerated parts
-  pub case_kept : options.ignore_case ≡ false
-  pub took : TookText (λ regex. ⊤) matcher.inner
+-- What the engine means: it takes no notice of flags, and may refuse any text.
+abbrev pub regex_engine : Engine Regex
+regex_engine = record {
+  syntax_of = Rust;
+  IsMade = λ regex regexp flags. IsRegexOf regexp regex;
+  MayRefuse = λ regexp flags force_eval. ⊤;
+  answer = regex_answer;
+  text_made_of = regex_text;
+}

@@ -1,12 +1,51 @@
--- Matchers that answer by the first way: words of laws, of any engine whose values answer in this way.
-use Rattle.std.specs.Prelude.{◌≡◌, ℕ, List, Option, IsTrue}
+-- Values and matchers that answer by the first way: words of laws, of any engine.
+use Rattle.std.specs.Prelude.{◌≡◌, ⊤, ℕ, false, List, Option, IsOk, IsTrue}
 use Rattle.std.specs.Str.{all_scalars}
-use Rattle.urlpattern_laws.specs.FirstAnswers.{IsFirstOf}
-use Rattle.urlpattern_laws.specs.Matching.{Agrees, Answers, EachAnswerIs, MatcherView}
+use Rattle.urlpattern_laws.specs.FirstAnswers.{IsFirstOf, AnswersFirst, TookText}
+use Rattle.urlpattern_laws.specs.Matching.{Agrees, Answers, EachAnswerIs, MatcherView, InnerView, IsMadeOf}
+use Rattle.urlpattern_core.specs.Compiling.{ComponentView, IsComponentOf, IsEngineOf}
+use Rattle.urlpattern_core.specs.declared.regexp.RegExp.{Ghosts as Engine}
+use Rattle.urlpattern_core.specs.Generated.{AreGenerated}
+use Rattle.urlpattern_laws.specs.Dialect.{Follows, IsTreeOf, Items}
 use Rattle.urlpattern_laws.specs.PartMeaning.{Captures}
 use Rattle.urlpattern_syntax.specs.Options.{OptionsView}
 use Rattle.urlpattern_syntax.specs.Parts.{PartView}
+use Rattle.urlpattern_syntax.specs.RegexpText.{regexp_text}
 use Rattle.urlpattern_syntax.specs.Text.{lacks, line_feed}
+
+-- ---- values
+
+-- each value of the engine answers the first way of the tree of the text that it was made of
+abbrev pub ValuesAnswerFirst : {E : Type 0} → Engine E → Type 0
+ValuesAnswerFirst {E} engine =
+    (regexp flags : List ℕ) (value : E) → engine.IsMade value regexp flags → AnswersFirst regexp (engine.answer value)
+
+-- each follows that text, if it has a tree
+abbrev pub ValuesFollowTexts : {E : Type 0} → Engine E → Type 0
+ValuesFollowTexts {E} engine =
+    (regexp flags : List ℕ) (tree : Items) (value : E) → IsTreeOf regexp tree → engine.IsMade value regexp flags → Follows regexp (engine.answer value)
+
+-- each that was made of the regular expression of parts, none of them custom, follows it
+abbrev pub ValuesFollowParts : {E : Type 0} → Engine E → Type 0
+ValuesFollowParts {E} engine =
+    (options : OptionsView) (flags : List ℕ) (parts : List PartView) (value : E) → AreGenerated parts →
+    engine.IsMade value (regexp_text options parts) flags → Follows (regexp_text options parts) (engine.answer value)
+
+-- a value of the one engine and a value of the other that were made of the same text answer the same to texts of characters
+abbrev pub ValuesAnswerAlike : {E F : Type 0} → Engine E → (other : Engine F) → Type 0
+ValuesAnswerAlike {E} {F} engine other =
+    (regexp flags : List ℕ) (value : E) (another : F) (text : List ℕ) → engine.IsMade value regexp flags → other.IsMade another regexp flags →
+    IsTrue (all_scalars text) → engine.answer value text ≡ other.answer another text
+
+-- ---- matchers
+
+-- The matcher is made by the engine of parts of which none is custom, case is kept, and the engine took the text, in this
+-- sense, where it was needed.
+pub record IsTakenBy {E : Type 0} (engine : Engine E) (Took : InnerView E → Type 0) (options : OptionsView) (flags : List ℕ) (parts : List PartView) (matcher : MatcherView E) : Type 0 where
+  pub is_made : IsMadeOf (IsEngineOf engine false flags) options parts matcher
+  pub generated : AreGenerated parts
+  pub case_kept : options.ignore_case ≡ false
+  pub took : Took matcher.inner
 
 -- each answer of the matcher, to a text of characters without line feed, is the first way of the tree of the parts: a meaning
 -- of the parts, or None where they have none
@@ -20,14 +59,29 @@ AnswerAlike answer matcher another =
     (text : List ℕ) (result other : Option Captures) → IsTrue (lacks line_feed text) → IsTrue (all_scalars text) →
     Answers answer matcher text result → Answers answer another text other → result ≡ other
 
--- each matcher of which `IsTaken` is true, with options, flags and parts, answers so
-abbrev pub EachAnswersFirst : {E : Type 0} → (IsTaken : OptionsView → (flags : List ℕ) → List PartView → MatcherView E → Type 0) → (answer : E → List ℕ → Option Captures) → Type 0
-EachAnswersFirst {E} IsTaken answer =
+-- each matcher that the engine made, and took in this sense, answers so
+abbrev pub EachAnswersFirst : {E : Type 0} → (engine : Engine E) → (Took : InnerView E → Type 0) → Type 0
+EachAnswersFirst {E} engine Took =
     (options : OptionsView) (flags : List ℕ) (parts : List PartView) (matcher : MatcherView E) →
-    IsTaken options flags parts matcher → AnswersFirstWays answer options parts matcher
+    IsTakenBy engine Took options flags parts matcher → AnswersFirstWays engine.answer options parts matcher
 
 -- and two such matchers of the same parts answer the same
-abbrev pub AllAnswerAlike : {E : Type 0} → (IsTaken : OptionsView → (flags : List ℕ) → List PartView → MatcherView E → Type 0) → (answer : E → List ℕ → Option Captures) → Type 0
-AllAnswerAlike {E} IsTaken answer =
+abbrev pub AllAnswerAlike : {E : Type 0} → (engine : Engine E) → (Took : InnerView E → Type 0) → Type 0
+AllAnswerAlike {E} engine Took =
     (options : OptionsView) (flags : List ℕ) (parts : List PartView) (matcher another : MatcherView E) →
-    IsTaken options flags parts matcher → IsTaken options flags parts another → AnswerAlike answer matcher another
+    IsTakenBy engine Took options flags parts matcher → IsTakenBy engine Took options flags parts another → AnswerAlike engine.answer matcher another
+
+-- ---- texts that are taken
+
+-- the engine has a value wherever a matcher of parts needs one, if none of them is custom
+abbrev pub MatchersTakeGenerated : {E : Type 0} → Engine E → Type 0
+MatchersTakeGenerated {E} engine =
+    (options : OptionsView) (flags : List ℕ) (parts : List PartView) (matcher : MatcherView E) →
+    IsMadeOf (IsEngineOf engine false flags) options parts matcher → AreGenerated parts → TookText (λ value. ⊤) matcher.inner
+
+-- it has one for a component of such parts, and where the component's matcher needs one
+abbrev pub ComponentsTakeGenerated : {E : Type 0} → Engine E → Type 0
+ComponentsTakeGenerated {E} engine =
+    (options : OptionsView) (parts : List PartView) (component : ComponentView E) →
+    IsComponentOf engine options parts component → AreGenerated parts →
+    IsOk component.regexp × TookText (λ value. ⊤) component.matcher.inner

@@ -3,16 +3,10 @@
 //!
 //! Each function here does nothing; what it promises is a theorem.
 
-ghost use Rattle.std.specs.Prelude.{ℕ, List};
-ghost use Rattle.regex.specs.declared.string.regex.Regex.{Regex};
-ghost use Rattle.urlpattern_core.specs.Engines.{HasFewGroups, IsRefusedForMemory, IsRegexOf, IsTakenByRegex, RegexFollows, regex_answer};
-ghost use Rattle.urlpattern_core.specs.FirstWays.{AllAnswerAlike, EachAnswersFirst};
-ghost use Rattle.urlpattern_core.specs.Generated.{AreGenerated};
-ghost use Rattle.urlpattern_laws.specs.Dialect.{IsTreeOf, Items};
-ghost use Rattle.urlpattern_laws.specs.FirstAnswers.{AnswersFirst};
-ghost use Rattle.urlpattern_syntax.specs.Options.{OptionsView};
-ghost use Rattle.urlpattern_syntax.specs.Parts.{PartView};
-ghost use Rattle.urlpattern_syntax.specs.RegexpText.{regexp_text};
+ghost use Rattle.std.specs.Prelude.{⊤};
+ghost use Rattle.urlpattern_core.specs.Engines.{TakesGeneratedSyntax, regex_engine};
+ghost use Rattle.urlpattern_core.specs.FirstWays.{AllAnswerAlike, EachAnswersFirst, ValuesAnswerFirst, ValuesFollowParts, ValuesFollowTexts};
+ghost use Rattle.urlpattern_laws.specs.FirstAnswers.{TookText};
 
 pub use urlpattern_laws::laws::{
     captures_are_as_many_as_names, copies_are_one_capture, dialect_trees_are_one,
@@ -29,22 +23,21 @@ pub use urlpattern_laws::laws::{
 /// it follows that text; and for each list of parts, none of them custom, it follows their regular expression, in both
 /// syntaxes.
 pub fn regex_answers_the_first_way()
-    ensures first { (regexp : List ℕ) (regex : Regex) → IsRegexOf regexp regex → AnswersFirst regexp (regex_answer regex) }
-    ensures follows { (regexp : List ℕ) (tree : Items) → IsTreeOf regexp tree → RegexFollows regexp }
-    ensures generated { (options : OptionsView) (parts : List PartView) → AreGenerated parts → RegexFollows (regexp_text options parts) }
+    ensures first { ValuesAnswerFirst regex_engine }
+    ensures follows { ValuesFollowTexts regex_engine }
+    ensures generated { ValuesFollowParts regex_engine }
 {}
 
 /// A matcher that `regex::Regex` made answers the first way of the tree of the parts, without a premise on the engine but that
 /// it took the text where it was needed: a meaning of the parts, or `None` where they have none. Another matcher of the same
 /// parts answers nothing else.
 pub fn matchers_by_regex_answer_the_first_way()
-    ensures first { EachAnswersFirst IsTakenByRegex regex_answer }
-    ensures one { AllAnswerAlike IsTakenByRegex regex_answer }
+    ensures first { EachAnswersFirst regex_engine (TookText (λ regex. ⊤)) }
+    ensures one { AllAnswerAlike regex_engine (TookText (λ regex. ⊤)) }
 {}
 
 /// `regex` does not refuse the regular expression of parts for its syntax, where none is custom and they have fewer groups
 /// than it counts: an error that its grammar allows says that memory ran out. How large a pattern may be is not said.
 pub fn regex_refuses_no_generated_syntax()
-    ensures { (options : OptionsView) (parts : List PartView) → AreGenerated parts →
-        HasFewGroups (regexp_text options parts) → IsRefusedForMemory (regexp_text options parts) }
+    ensures { TakesGeneratedSyntax }
 {}

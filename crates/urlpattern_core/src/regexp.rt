@@ -2,14 +2,12 @@
 
 mod rust;
 
-ghost use Rattle.std.specs.Prelude.{◌≡◌, ⊤, Bool, ℕ, List, Option, Err, IfOk};
+ghost use Rattle.std.specs.Prelude.{◌≡◌, Bool, ℕ, List, Option, Err, IfOk};
 ghost use Rattle.std.specs.Str.{chars};
 ghost use Rattle.urlpattern_core.specs.Captured.{captures_view};
-ghost use Rattle.urlpattern_core.specs.Engines.{regex_answer, regex_text, IsRegexOf};
 ghost use Rattle.urlpattern_laws.specs.PartMeaning.{Captures};
 ghost use Rattle.urlpattern_syntax.specs.declared.error.RegExpError.TheVariants.{Pattern};
 ghost use Rattle.urlpattern_syntax.specs.declared.parser.RegexSyntax.{RegexSyntax};
-ghost use Rattle.urlpattern_syntax.specs.declared.parser.RegexSyntax.TheVariants.{Rust};
 
 use crate::error::{OutOfMemory, RegExpError};
 use crate::parser::RegexSyntax;
@@ -70,15 +68,17 @@ pub trait RegExp: Sized + Drop {
 ///
 /// It may refuse any text. What it matches and captures is said by the contracts of that crate.
 impl RegExp for Regex {
-    ghost syntax_of = { Rust };
+    ghost use Rattle.urlpattern_core.specs.Engines.{regex_engine};
 
-    ghost IsMade = { λ regex regexp flags. IsRegexOf regexp regex };
+    ghost syntax_of = { regex_engine.syntax_of };
 
-    ghost MayRefuse = { λ regexp flags force_eval. ⊤ };
+    ghost IsMade = { regex_engine.IsMade };
 
-    ghost answer = { regex_answer };
+    ghost MayRefuse = { regex_engine.MayRefuse };
 
-    ghost text_made_of = { regex_text };
+    ghost answer = { regex_engine.answer };
+
+    ghost text_made_of = { regex_engine.text_made_of };
 
     fn syntax() -> RegexSyntax {
         RegexSyntax::Rust

@@ -24,6 +24,5 @@ pub mod TakenFronts
 pub mod PlaceLemmas
 pub mod TableLemmas
 pub mod TwoRegexes
-pub mod Refusals
-pub mod EngineLaws
+pub pub mod EngineLaws
 pub mod StepExamples

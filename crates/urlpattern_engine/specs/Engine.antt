@@ -1,16 +1,14 @@
 -- What a value of the engine is made of, and what it answers.
-use Rattle.std.specs.Prelude.{◌≡◌, ◌≢◌, false, All, ℕ, List, Option}
+use Rattle.std.specs.Prelude.{◌≡◌, ℕ, List, Option}
+use Rattle.urlpattern_core.specs.declared.regexp.RegExp.{Ghosts as Engine}
 use Rattle.urlpattern_core.specs.Engines.{IsRegexOf, regex_answer, regex_text}
 use Rattle.urlpattern_engine.specs.declared.pattern_regexp.Expression.{Expression}
 use Rattle.urlpattern_engine.specs.declared.pattern_regexp.Expression.TheVariants.{Own, Other}
 use Rattle.urlpattern_engine.specs.declared.pattern_regexp.PatternRegexp.{PatternRegexp}
 use Rattle.urlpattern_engine.specs.Reading.{AreStepsOf, IsGenerated}
 use Rattle.urlpattern_engine.specs.Steps.{walk}
-use Rattle.urlpattern_laws.specs.Matching.{IsMadeOf, MatcherView}
 use Rattle.urlpattern_laws.specs.PartMeaning.{Captures}
-use Rattle.urlpattern_syntax.specs.declared.parser.PartType.TheVariants.{Regexp}
-use Rattle.urlpattern_syntax.specs.Options.{OptionsView}
-use Rattle.urlpattern_syntax.specs.Parts.{PartView}
+use Rattle.urlpattern_syntax.specs.declared.parser.RegexSyntax.TheVariants.{Rust}
 use Rattle.urlpattern_syntax.specs.Text.{text_of}
 
 -- the text that it was made of
@@ -38,14 +36,12 @@ pattern_answer value text = expression_answer value.expression text
 pub record IsPatternRegexpOf (regexp : List ℕ) (value : PatternRegexp) : Type 0 where
   pub of_text : IsExpressionOf regexp value.expression
 
--- the matcher is made of the parts by this engine, which takes no notice of flags and refuses no generated text
-abbrev pub IsMadeByPatternRegexp : OptionsView → (flags : List ℕ) → List PartView → MatcherView PatternRegexp → Type 0
-IsMadeByPatternRegexp options flags parts matcher =
-    IsMadeOf (λ value regexp flags. IsPatternRegexpOf regexp value) (λ regexp flags. ¬ IsGenerated regexp) options flags parts matcher
-
--- it is such a matcher, of parts of which none is custom, and case is kept
-pub record IsTakenByPatternRegexp (options : OptionsView) (flags : List ℕ) (parts : List PartView)
-    (matcher : MatcherView PatternRegexp) : Type 0 where
-  pub is_made : IsMadeByPatternRegexp options flags parts matcher
-  pub generated : All (λ part. part.kind ≢ Regexp) parts
-  pub case_kept : options.ignore_case ≡ false
+-- What the engine means: it takes no notice of flags, and refuses no generated text.
+abbrev pub pattern_engine : Engine PatternRegexp
+pattern_engine = record {
+  syntax_of = Rust;
+  IsMade = λ value regexp flags. IsPatternRegexpOf regexp value;
+  MayRefuse = λ regexp flags force_eval. ¬ IsGenerated regexp;
+  answer = pattern_answer;
+  text_made_of = pattern_text;
+}

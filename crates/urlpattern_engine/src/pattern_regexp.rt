@@ -3,10 +3,8 @@
 ghost use Rattle.std.specs.Prelude.{◌≡◌, IfOk};
 ghost use Rattle.std.specs.Str.{chars};
 ghost use Rattle.urlpattern_core.specs.Captured.{captures_view};
-ghost use Rattle.urlpattern_engine.specs.Engine.{pattern_answer, pattern_text, IsPatternRegexpOf};
-ghost use Rattle.urlpattern_engine.specs.Reading.{IsGenerated};
+ghost use Rattle.urlpattern_engine.specs.Engine.{pattern_engine};
 ghost use Rattle.urlpattern_engine.specs.Steps.{walk};
-ghost use Rattle.urlpattern_syntax.specs.declared.parser.RegexSyntax.TheVariants.{Rust};
 
 use crate::by_table::walk_by_table;
 use crate::choices::{Way, way_of};
@@ -44,15 +42,15 @@ struct Steps {
 
 /// It takes no notice of flags, and reads each text at once. It refuses none that is generated of parts, none of them custom.
 impl RegExp for PatternRegexp {
-    ghost syntax_of = { Rust };
+    ghost syntax_of = { pattern_engine.syntax_of };
 
-    ghost IsMade = { λ value regexp flags. IsPatternRegexpOf regexp value };
+    ghost IsMade = { pattern_engine.IsMade };
 
-    ghost MayRefuse = { λ regexp flags force_eval. ¬ IsGenerated regexp };
+    ghost MayRefuse = { pattern_engine.MayRefuse };
 
-    ghost answer = { pattern_answer };
+    ghost answer = { pattern_engine.answer };
 
-    ghost text_made_of = { pattern_text };
+    ghost text_made_of = { pattern_engine.text_made_of };
 
     fn syntax() -> RegexSyntax {
         RegexSyntax::Rust

@@ -6,9 +6,10 @@ use Rattle.std.specs.List.{Any}
 use Rattle.std.specs.Prelude.{◌↔◌, IfOk, IsTrue, MatchBool}
 use Rattle.std.specs.Str.{chars}
 use Rattle.urlpattern_canonical.specs.Canonical.{special_schemes}
-use Rattle.urlpattern_init.specs.SpecialProtocol.{AcceptsSpecialScheme, IsSpecialBy, protocol_encoding}
+use Rattle.urlpattern_init.specs.SpecialProtocol.{AcceptsSpecialScheme, IsSpecialTo, protocol_encoding}
 use Rattle.urlpattern_laws.specs.Matching.{IsMadeOf, MatcherView}
-use Rattle.urlpattern_laws.specs.PartMeaning.{Captures}
+use Rattle.urlpattern_core.specs.Compiling.{IsEngineOf}
+use Rattle.urlpattern_core.specs.declared.regexp.RegExp.{Ghosts as Engine}
 use Rattle.urlpattern_syntax.specs.declared.error.Error.{Error}
 use Rattle.urlpattern_syntax.specs.Options.{OptionsView, default_options}
 use Rattle.urlpattern_syntax.specs.Parts.{PartView}
@@ -77,13 +78,14 @@ schemes_answer P texts (Ok false) e h = (
 )
 
 -- the answer on special schemes, for the parts that a protocol reads as and the matcher that is made of them
-pub special_from : {E : Type 0} → (IsMade : E → (regexp flags : List ℕ) → Type 0) (MayRefuse : (regexp flags : List ℕ) → Type 0) (answer : E → List ℕ → Option Captures) (protocol flags : List ℕ) (options : OptionsView) (parts these : List PartView) (matcher : MatcherView E) (found : Result Bool Error) → options ≡ default_options → flags ≡ codes "u" → these ≡ parts → Reads protocol options protocol_encoding parts → IsMadeOf IsMade MayRefuse options flags these matcher → IfOk found (λ special. IsTrue special ↔ AcceptsSpecialScheme answer matcher) → IfOk found (IsSpecialBy IsMade MayRefuse answer protocol)
-special_from IsMade MayRefuse answer protocol flags options parts these matcher (Err error) e f same reads made decides = tt
-special_from IsMade MayRefuse answer protocol flags options parts these matcher (Ok special) e f same reads made decides = record {
+pub special_from : {E : Type 0} → (engine : Engine E) (protocol flags : List ℕ) (options : OptionsView) (parts these : List PartView) (matcher : MatcherView E) (found : Result Bool Error) → options ≡ default_options → flags ≡ codes "u" → these ≡ parts → Reads protocol options protocol_encoding parts → IsMadeOf (IsEngineOf engine false flags) options these matcher → IfOk found (λ special. IsTrue special ↔ AcceptsSpecialScheme engine.answer matcher) → IfOk found (IsSpecialTo engine protocol)
+special_from engine protocol flags options parts these matcher (Err error) e f same reads made decides = tt
+special_from engine protocol flags options parts these matcher (Ok special) e f same reads made decides = record {
   parts = parts;
   matcher = matcher;
   reads = subst (λ o. Reads protocol o protocol_encoding parts) e reads;
-  is_made = subst (λ o. IsMadeOf IsMade MayRefuse o (codes "u") parts matcher) e (subst (λ u. IsMadeOf IsMade MayRefuse options u parts matcher) f (subst (λ ps. IsMadeOf IsMade MayRefuse options flags ps matcher) same made));
+  is_made = subst (λ o. IsMadeOf (IsEngineOf engine false (codes "u")) o parts matcher) e
+      (subst (λ u. IsMadeOf (IsEngineOf engine false u) options parts matcher) f (subst (λ ps. IsMadeOf (IsEngineOf engine false flags) options ps matcher) same made));
   decides = decides;
 }
 

@@ -1,6 +1,6 @@
 -- Whether the protocol of a constructor string is special, after the URLPattern Standard, section "Compute protocol
 -- matches a special scheme flag".
-use Rattle.std.specs.Prelude.{ℕ, ◌↔◌, Bool, List, Any, IsTrue, Option, Result, String, codes, length}
+use Rattle.std.specs.Prelude.{ℕ, ◌↔◌, Bool, false, List, Any, IsTrue, Option, Result, String, codes, length}
 use Rattle.std.specs.Borrow.{Bor}
 use Rattle.std.specs.Str.{chars}
 use Rattle.std.specs.declared.alloc.Global.{Global}
@@ -8,7 +8,7 @@ use Rattle.urlpattern_canonical.specs.Canonical.{IsAnswer, canonical_protocol, s
 use Rattle.urlpattern_core.specs.Matchers.{matcher_view}
 use Rattle.urlpattern_core.specs.declared.matcher.Matcher.{Matcher}
 use Rattle.urlpattern_core.specs.declared.regexp.RegExp.{Ghosts as Engine}
-use Rattle.urlpattern_core.specs.Compiling.{MayRefuseAtFirst}
+use Rattle.urlpattern_core.specs.Compiling.{IsEngineOf}
 use Rattle.urlpattern_laws.specs.Matching.{IsMadeOf, IsMatched, MatcherView}
 use Rattle.urlpattern_laws.specs.PartMeaning.{Captures}
 use Rattle.urlpattern_syntax.specs.declared.error.Error.{Error}
@@ -32,18 +32,13 @@ AcceptsAny answer matcher texts = Any (λ text. IsMatched answer (matcher_view m
 abbrev pub AcceptsSpecialScheme : {E : Type 0} → (answer : E → List ℕ → Option Captures) → MatcherView E → Type 0
 AcceptsSpecialScheme answer matcher = Any (λ scheme. IsMatched answer matcher scheme.0) special_schemes
 
--- The pattern of a protocol is compiled under the default options, and its matcher decides whether it is special. Engines'
--- values are made, regular expressions refused, and texts answered in this way.
-pub record IsSpecialBy {E : Type 0} (IsMade : E → (regexp flags : List ℕ) → Type 0) (MayRefuse : (regexp flags : List ℕ) → Type 0) (answer : E → List ℕ → Option Captures) (protocol : List ℕ) (special : Bool) : Type 0 where
+-- The engine compiles the pattern of a protocol under the default options, and the matcher decides whether it is special.
+pub record IsSpecialTo {E : Type 0} (engine : Engine E) (protocol : List ℕ) (special : Bool) : Type 0 where
   pub parts : List PartView
   pub matcher : MatcherView E
   pub reads : Reads protocol default_options protocol_encoding parts
-  pub is_made : IsMadeOf IsMade MayRefuse default_options (codes "u") parts matcher
-  pub decides : IsTrue special ↔ AcceptsSpecialScheme answer matcher
-
--- the answer on a protocol by a type of engines
-abbrev pub IsSpecialTo : {E : Type 0} → Engine E → (protocol : List ℕ) → (special : Bool) → Type 0
-IsSpecialTo engine = IsSpecialBy engine.IsMade (MayRefuseAtFirst engine.MayRefuse) engine.answer
+  pub is_made : IsMadeOf (IsEngineOf engine false (codes "u")) default_options parts matcher
+  pub decides : IsTrue special ↔ AcceptsSpecialScheme engine.answer matcher
 
 -- the pattern of a protocol is refused with this error
 abbrev pub RefusesProtocol : List ℕ → ErrorView → Type 0

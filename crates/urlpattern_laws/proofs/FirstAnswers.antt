@@ -1,10 +1,10 @@
 -- A matcher that is made of parts answers the first way of their tree, and this is one answer.
 use Rattle.std.proofs.Common.{◌≡◌, ℕ, false, true, List, [], ◌∷◌, ◌++◌, refl, sym, subst, ap, Some, None, Option, Result, ◌∙◌, ◌↔◌}
-use Rattle.std.specs.Prelude.{All, IsTrue, Ok, Err, option_to_list}
+use Rattle.std.specs.Prelude.{⊤, All, IsTrue, Ok, Err, option_to_list}
 use Rattle.std.specs.Str.{all_scalars}
 use Rattle.urlpattern_laws.specs.Dialect.{IsTreeOf, Items}
 use Rattle.urlpattern_laws.specs.FirstAnswers.{AnswersFirst, AnswersFirstInMiddle, IsFirstOf, TookText}
-use Rattle.urlpattern_laws.specs.Matching.{Accepts, Agrees, Answers, ArePeeled, InnerView, IsEngineOf, IsMadeBetween, IsMadeOf, IsMadeOfOne, IsOfMiddle, Literal, MatcherView, Matches, RegExp, SingleCapture, end_text}
+use Rattle.urlpattern_laws.specs.Matching.{Accepts, Agrees, Answers, ArePeeled, InnerView, IsMadeBetween, IsMadeOf, IsMadeOfOne, IsOfMiddle, Literal, MatcherView, Matches, RegExp, SingleCapture, end_text}
 use Rattle.urlpattern_laws.specs.PartMeaning.{Captures, PartsMean}
 use Rattle.urlpattern_laws.specs.Ways.{first_way}
 use Rattle.urlpattern_syntax.specs.declared.parser.PartModifier.{PartModifier}
@@ -110,15 +110,15 @@ engine_by answer options parts front middle back matcher engine text None plain 
 
 -- ---- every matcher
 
-pub matcher_first : {E : Type 0} (answer : E → List ℕ → Option Captures) (IsMade : E → (regexp flags : List ℕ) → Type 0) (MayRefuse : (regexp flags : List ℕ) → Type 0) (options : OptionsView) (flags : List ℕ) (parts : List PartView) (matcher : MatcherView E) (text : List ℕ) (result : Option Captures) →
-    IsMadeOf IsMade MayRefuse options flags parts matcher → All IsNotCustom parts → options.ignore_case ≡ false → IsTrue (lacks line_feed text) → IsTrue (all_scalars text) →
+pub matcher_first : {E : Type 0} (answer : E → List ℕ → Option Captures) (IsEngine : List ℕ → Result E ErrorView → Type 0) (options : OptionsView) (parts : List PartView) (matcher : MatcherView E) (text : List ℕ) (result : Option Captures) →
+    IsMadeOf IsEngine options parts matcher → All IsNotCustom parts → options.ignore_case ≡ false → IsTrue (lacks line_feed text) → IsTrue (all_scalars text) →
     AnswersFirstInMiddle answer options parts matcher.inner → Answers answer matcher text result → IsFirstOf options parts text result
-matcher_first {E} answer IsMade MayRefuse options flags parts matcher text result made plain case no_feed scalars firsts answers =
+matcher_first {E} answer IsEngine options parts matcher text result made plain case no_feed scalars firsts answers =
     record { tree = tree_of options parts; is_tree = is_tree_of options parts plain; is_first = by_inner matcher.inner refl firsts }
   where
     fast : IsFast matcher.inner → result ≡ first_way (tree_of options parts) text
     fast is =
-        fast_by answer options parts matcher text is (λ captures. fast_means answer IsMade MayRefuse options flags parts matcher text captures made case no_feed is) result
+        fast_by answer options parts matcher text is (λ captures. fast_means answer IsEngine options parts matcher text captures made case no_feed is) result
         (first_way (tree_of options parts) text) answers (agrees_of options parts (tree_of options parts) text (first_way (tree_of options parts) text) plain (is_tree_of options parts plain) refl)
 
     by_inner : (inner : InnerView E) → matcher.inner ≡ inner → AnswersFirstInMiddle answer options parts inner → result ≡ first_way (tree_of options parts) text
@@ -128,43 +128,55 @@ matcher_first {E} answer IsMade MayRefuse options flags parts matcher text resul
     by_inner (RegExp (Ok engine)) e (front, middle, back, peeled, firsts) =
         let same : middle ≡ made.middle = middle_one parts front made.front middle made.middle back made.back peeled made.are_peeled in
         engine_by answer options parts made.front made.middle made.back matcher engine text result plain (middle_plain parts made.front made.middle made.back made.are_peeled plain) made.are_peeled
-        (ends_of (IsEngineOf IsMade MayRefuse flags) options (end_text made.front) made.middle (end_text made.back) matcher (Ok engine) made.is_made e) e case
+        (ends_of IsEngine options (end_text made.front) made.middle (end_text made.back) matcher (Ok engine) made.is_made e) e case
         (subst (λ m. AnswersFirst (regexp_text options m) (answer engine)) same firsts) scalars answers
 
 -- ---- what is true of each value that is made
 
-made_value : {E : Type 0} (IsMade : E → (regexp flags : List ℕ) → Type 0) (MayRefuse : (regexp flags : List ℕ) → Type 0) (flags regexp : List ℕ) (engine : E) (value : Result E ErrorView) →
-    IsEngineOf IsMade MayRefuse flags regexp value → RegExp (Ok engine) ≡ RegExp value → IsMade engine regexp flags
-made_value IsMade MayRefuse flags regexp engine (Ok other) is e = let same : engine ≡ other = cc e in subst (λ made. IsMade made regexp flags) (sym same) is
-made_value IsMade MayRefuse flags regexp engine (Err error) is e = absurd cc
+module _ {E : Type 0} (IsEngine : List ℕ → Result E ErrorView → Type 0) (options : OptionsView) where
+  made_value : (regexp : List ℕ) (value other : Result E ErrorView) → IsEngine regexp other → RegExp value ≡ RegExp other → IsEngine regexp value
+  made_value regexp value other is e = let same : value ≡ other = cc e in subst (λ made. IsEngine regexp made) (sym same) is
 
-made_one : {E : Type 0} (IsMade : E → (regexp flags : List ℕ) → Type 0) (MayRefuse : (regexp flags : List ℕ) → Type 0) (flags : List ℕ) (options : OptionsView) (kind : PartType) (modifier : PartModifier) (front : List ℕ) (part : PartView) (back : List ℕ) (matcher : MatcherView E) (engine : E) →
-    IsMadeOfOne (IsEngineOf IsMade MayRefuse flags) kind modifier options front part back matcher → matcher.inner ≡ RegExp (Ok engine) → IsMade engine (regexp_text options (part ∷ [])) flags
-made_one IsMade MayRefuse flags options FullWildcard modifiers.None front part back matcher engine made e = absurd (not_fast matcher.inner (SingleCapture None true) (Ok engine) (ap (λ m. m.inner) made) tt e)
-made_one IsMade MayRefuse flags options SegmentWildcard modifiers.None front part back matcher engine made e = absurd (not_fast matcher.inner (SingleCapture options.delimiter false) (Ok engine) (ap (λ m. m.inner) made) tt e)
-made_one IsMade MayRefuse flags options kind modifier front part back matcher engine (value, is, made) e = made_value IsMade MayRefuse flags _ engine value is (sym e ∙ ap (λ m. m.inner) made)
+  made_one : (kind : PartType) (modifier : PartModifier) (front : List ℕ) (part : PartView) (back : List ℕ) (matcher : MatcherView E) (value : Result E ErrorView) →
+      IsMadeOfOne IsEngine kind modifier options front part back matcher → matcher.inner ≡ RegExp value → IsEngine (regexp_text options (part ∷ [])) value
+  made_one FullWildcard modifiers.None front part back matcher value made e = absurd (not_fast matcher.inner (SingleCapture None true) value (ap (λ m. m.inner) made) tt e)
+  made_one SegmentWildcard modifiers.None front part back matcher value made e = absurd (not_fast matcher.inner (SingleCapture options.delimiter false) value (ap (λ m. m.inner) made) tt e)
+  made_one kind modifier front part back matcher value (other, is, made) e = made_value _ value other is (sym e ∙ ap (λ m. m.inner) made)
 
-made_between : {E : Type 0} (IsMade : E → (regexp flags : List ℕ) → Type 0) (MayRefuse : (regexp flags : List ℕ) → Type 0) (flags : List ℕ) (options : OptionsView) (front : List ℕ) (middle : List PartView) (back : List ℕ) (matcher : MatcherView E) (engine : E) →
-    IsMadeBetween (IsEngineOf IsMade MayRefuse flags) options front middle back matcher → matcher.inner ≡ RegExp (Ok engine) → IsMade engine (regexp_text options middle) flags
-made_between IsMade MayRefuse flags options front [] back matcher engine made e = absurd (not_fast matcher.inner (Literal (front ++ back)) (Ok engine) (ap (λ m. m.inner) made) tt e)
-made_between IsMade MayRefuse flags options front (part ∷ []) back matcher engine made e = made_one IsMade MayRefuse flags options part.kind part.modifier front part back matcher engine made e
-made_between IsMade MayRefuse flags options front (part ∷ next ∷ parts) back matcher engine (value, is, made) e = made_value IsMade MayRefuse flags _ engine value is (sym e ∙ ap (λ m. m.inner) made)
+  made_between : (front : List ℕ) (middle : List PartView) (back : List ℕ) (matcher : MatcherView E) (value : Result E ErrorView) →
+      IsMadeBetween IsEngine options front middle back matcher → matcher.inner ≡ RegExp value → IsEngine (regexp_text options middle) value
+  made_between front [] back matcher value made e = absurd (not_fast matcher.inner (Literal (front ++ back)) value (ap (λ m. m.inner) made) tt e)
+  made_between front (part ∷ []) back matcher value made e = made_one part.kind part.modifier front part back matcher value made e
+  made_between front (part ∷ next ∷ parts) back matcher value (other, is, made) e = made_value _ value other is (sym e ∙ ap (λ m. m.inner) made)
 
--- where an engine took its text, that is true of the matcher's value which is true of each value made of such a text
-pub of_made : {E : Type 0} (Is : E → List PartView → Type 0) (Holds : E → Type 0) (IsMade : E → (regexp flags : List ℕ) → Type 0) (MayRefuse : (regexp flags : List ℕ) → Type 0) (options : OptionsView) (flags : List ℕ) (parts : List PartView) (matcher : MatcherView E) →
-    IsMadeOf IsMade MayRefuse options flags parts matcher → All IsNotCustom parts → TookText Holds matcher.inner →
-    ((engine : E) (middle : List PartView) → All IsNotCustom middle → IsMade engine (regexp_text options middle) flags → Holds engine → Is engine middle) → IsOfMiddle Is parts matcher.inner
-of_made {E} Is Holds IsMade MayRefuse options flags parts matcher made plain took is = by_inner matcher.inner refl took
-  where
-    by_inner : (inner : InnerView E) → matcher.inner ≡ inner → TookText Holds inner → IsOfMiddle Is parts inner
-    by_inner (Literal literal) e took = tt
-    by_inner (SingleCapture filter allow_empty) e took = tt
-    by_inner (RegExp (Err error)) e took = absurd took
-    by_inner (RegExp (Ok engine)) e took = (
-      made.front,
-      made.middle,
-      made.back,
-      made.are_peeled,
-      is engine made.middle (middle_plain parts made.front made.middle made.back made.are_peeled plain)
-          (made_between IsMade MayRefuse flags options (end_text made.front) made.middle (end_text made.back) matcher engine made.is_made e) took,
-    )
+  -- where an engine took its text, that is true of the matcher's value which is true of each value made of such a text
+  pub of_made : (Is : E → List PartView → Type 0) (Holds : E → Type 0) (parts : List PartView) (matcher : MatcherView E) →
+      IsMadeOf IsEngine options parts matcher → All IsNotCustom parts → TookText Holds matcher.inner →
+      ((engine : E) (middle : List PartView) → All IsNotCustom middle → IsEngine (regexp_text options middle) (Ok engine) → Holds engine → Is engine middle) → IsOfMiddle Is parts matcher.inner
+  of_made Is Holds parts matcher made plain took is = by_inner matcher.inner refl took
+    where
+      by_inner : (inner : InnerView E) → matcher.inner ≡ inner → TookText Holds inner → IsOfMiddle Is parts inner
+      by_inner (Literal literal) e took = tt
+      by_inner (SingleCapture filter allow_empty) e took = tt
+      by_inner (RegExp (Err error)) e took = absurd took
+      by_inner (RegExp (Ok engine)) e took = (
+        made.front,
+        made.middle,
+        made.back,
+        made.are_peeled,
+        is engine made.middle (middle_plain parts made.front made.middle made.back made.are_peeled plain)
+            (made_between (end_text made.front) made.middle (end_text made.back) matcher (Ok engine) made.is_made e) took,
+      )
+
+  -- an engine that makes no error of such a text took it
+  pub took_all : (parts : List PartView) (matcher : MatcherView E) → IsMadeOf IsEngine options parts matcher → All IsNotCustom parts →
+      ((middle : List PartView) (error : ErrorView) → All IsNotCustom middle → ¬ IsEngine (regexp_text options middle) (Err error)) → TookText (λ engine. ⊤) matcher.inner
+  took_all parts matcher made plain takes = by_inner matcher.inner refl
+    where
+      by_inner : (inner : InnerView E) → matcher.inner ≡ inner → TookText (λ (engine : E). ⊤) inner
+      by_inner (Literal literal) e = tt
+      by_inner (SingleCapture filter allow_empty) e = tt
+      by_inner (RegExp (Ok engine)) e = tt
+      by_inner (RegExp (Err error)) e =
+          takes made.middle error (middle_plain parts made.front made.middle made.back made.are_peeled plain)
+          (made_between (end_text made.front) made.middle (end_text made.back) matcher (Err error) made.is_made e)

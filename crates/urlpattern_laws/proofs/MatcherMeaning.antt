@@ -3,7 +3,7 @@ use Rattle.std.proofs.Common.{◌≡◌, ℕ, List, [], ◌∷◌, ◌++◌, ref
 use Rattle.std.proofs.lemmas.List.Elements.{All-cons, All-head, All-nil, All-tail}
 use Rattle.std.specs.Prelude.{◌≢◌, ◌&&◌, All, IsTrue, Ok, Err, option_to_list}
 use Rattle.std.specs.Str.{all_scalars}
-use Rattle.urlpattern_laws.specs.Matching.{Accepts, Agrees, AgreesInMiddle, Answers, ArePeeled, FollowsMiddle, InnerView, IsEngineOf, IsMadeBetween, IsMadeOf, IsMadeOfOne, Literal, MatcherView, Matches, RegExp, SingleCapture, end_text}
+use Rattle.urlpattern_laws.specs.Matching.{Accepts, Agrees, AgreesInMiddle, Answers, ArePeeled, FollowsMiddle, InnerView, IsMadeBetween, IsMadeOf, IsMadeOfOne, Literal, MatcherView, Matches, RegExp, SingleCapture, end_text}
 use Rattle.urlpattern_laws.specs.PartMeaning.{Captures, PartsMean}
 use Rattle.urlpattern_syntax.specs.declared.parser.PartModifier.{PartModifier}
 use Rattle.urlpattern_syntax.specs.declared.parser.PartModifier.TheVariants as modifiers
@@ -90,13 +90,13 @@ fast_agrees answer options parts matcher text (Some captures) same matches = (sa
 
 -- A matcher answers what its parts mean, in texts of characters without line feed where case is kept, if what its engine
 -- answers is what the parts between the ends mean.
-pub matcher_agrees : {E : Type 0} (answer : E → List ℕ → Option Captures) (IsMade : E → (regexp flags : List ℕ) → Type 0) (MayRefuse : (regexp flags : List ℕ) → Type 0) (options : OptionsView) (flags : List ℕ) (parts : List PartView) (matcher : MatcherView E) (text : List ℕ) (result : Option Captures) →
-    IsMadeOf IsMade MayRefuse options flags parts matcher → options.ignore_case ≡ false → IsTrue (lacks line_feed text) → IsTrue (all_scalars text) → AgreesInMiddle answer options parts matcher.inner →
+pub matcher_agrees : {E : Type 0} (answer : E → List ℕ → Option Captures) (IsEngine : List ℕ → Result E ErrorView → Type 0) (options : OptionsView) (parts : List PartView) (matcher : MatcherView E) (text : List ℕ) (result : Option Captures) →
+    IsMadeOf IsEngine options parts matcher → options.ignore_case ≡ false → IsTrue (lacks line_feed text) → IsTrue (all_scalars text) → AgreesInMiddle answer options parts matcher.inner →
     Answers answer matcher text result → Agrees options parts text result
-matcher_agrees {E} answer IsMade MayRefuse options flags parts matcher text result made case no_feed scalars agrees answers = by_inner matcher.inner refl agrees
+matcher_agrees {E} answer IsEngine options parts matcher text result made case no_feed scalars agrees answers = by_inner matcher.inner refl agrees
   where
     fast : IsFast matcher.inner → Agrees options parts text result
-    fast is = fast_agrees answer options parts matcher text result (λ captures. fast_means answer IsMade MayRefuse options flags parts matcher text captures made case no_feed is) answers
+    fast is = fast_agrees answer options parts matcher text result (λ captures. fast_means answer IsEngine options parts matcher text captures made case no_feed is) answers
 
     by_inner : (inner : InnerView E) → matcher.inner ≡ inner → AgreesInMiddle answer options parts inner → Agrees options parts text result
     by_inner (Literal literal) e agrees = fast (subst (λ i. IsFast i) (sym e) tt)
@@ -105,7 +105,7 @@ matcher_agrees {E} answer IsMade MayRefuse options flags parts matcher text resu
     by_inner (RegExp (Ok engine)) e (front, middle, back, peeled, agrees) =
         let same : middle ≡ made.middle = middle_one parts front made.front middle made.middle back made.back peeled made.are_peeled in
         engine_agrees answer options parts made.front made.middle made.back matcher engine text result made.are_peeled
-        (ends_of (IsEngineOf IsMade MayRefuse flags) options (end_text made.front) made.middle (end_text made.back) matcher (Ok engine) made.is_made e) e case
+        (ends_of IsEngine options (end_text made.front) made.middle (end_text made.back) matcher (Ok engine) made.is_made e) e case
         (subst (λ m. (t : List ℕ) → IsTrue (all_scalars t) → Agrees options m t (answer engine t)) same agrees) scalars answers
 
 -- ---- engines that follow
@@ -130,8 +130,8 @@ follows_in_middle answer options parts (RegExp (Ok engine)) h (front, middle, ba
 
 -- A matcher answers what its parts mean, in texts of characters without line feed where case is kept and no part has a
 -- regular expression of its own, if its engine follows the regular expression of the parts between the ends.
-pub matcher_means : {E : Type 0} (answer : E → List ℕ → Option Captures) (IsMade : E → (regexp flags : List ℕ) → Type 0) (MayRefuse : (regexp flags : List ℕ) → Type 0) (options : OptionsView) (flags : List ℕ) (parts : List PartView) (matcher : MatcherView E) (text : List ℕ) (result : Option Captures) →
-    IsMadeOf IsMade MayRefuse options flags parts matcher → All (λ part. part.kind ≢ Regexp) parts → options.ignore_case ≡ false → IsTrue (lacks line_feed text) → IsTrue (all_scalars text) →
+pub matcher_means : {E : Type 0} (answer : E → List ℕ → Option Captures) (IsEngine : List ℕ → Result E ErrorView → Type 0) (options : OptionsView) (parts : List PartView) (matcher : MatcherView E) (text : List ℕ) (result : Option Captures) →
+    IsMadeOf IsEngine options parts matcher → All (λ part. part.kind ≢ Regexp) parts → options.ignore_case ≡ false → IsTrue (lacks line_feed text) → IsTrue (all_scalars text) →
     FollowsMiddle answer options parts matcher.inner → Answers answer matcher text result → Agrees options parts text result
-matcher_means answer IsMade MayRefuse options flags parts matcher text result made not_custom case no_feed scalars follows answers =
-    matcher_agrees answer IsMade MayRefuse options flags parts matcher text result made case no_feed scalars (follows_in_middle answer options parts matcher.inner not_custom follows) answers
+matcher_means answer IsEngine options parts matcher text result made not_custom case no_feed scalars follows answers =
+    matcher_agrees answer IsEngine options parts matcher text result made case no_feed scalars (follows_in_middle answer options parts matcher.inner not_custom follows) answers

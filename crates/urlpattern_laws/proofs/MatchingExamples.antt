@@ -1,9 +1,10 @@
 -- Worked examples of matchers: how they are made, and what they answer.
-use Rattle.std.proofs.Common.{◌≡◌, ℕ, true, false, List, [], ◌∷◌, ◌++◌, refl, sym, ap, ◌∙◌, Some, None, Option, Ok, Err}
+use Rattle.std.proofs.Common.{◌≡◌, ℕ, true, false, List, [], ◌∷◌, ◌++◌, refl, sym, ap, ◌∙◌, Some, None, Option, Ok, Err, Result}
 use Rattle.std.proofs.lemmas.List.{append_cancel_left, append_cancel_right}
 use Rattle.std.specs.Char.{to_ascii_lowercase}
 use Rattle.std.specs.Prelude.{◌==◌, codes, slice_index}
 use Rattle.urlpattern_syntax.specs.declared.parser.PartModifier.TheVariants as modifiers
+use Rattle.urlpattern_syntax.specs.Errors.{ErrorView}
 use Rattle.urlpattern_syntax.specs.Errors.{ErrorView as views}
 use Rattle.urlpattern_laws.specs.Matching.{ArePeeled, IsSame, Literal, SingleCapture, RegExp, MatcherView, IsMadeOf, Answers}
 use Rattle.urlpattern_syntax.specs.Options.{default_options, pathname_options}
@@ -128,9 +129,9 @@ kept_prefix E answer = none_fits answer (wildcard_matcher E (codes "A") []) (cod
 -- ---- making
 
 -- the pattern `ab*ba`: what is fixed at the ends is removed
-pub overlap_made : (E : Type 0) (IsMade : E → (regexp flags : List ℕ) → Type 0) (MayRefuse : (regexp flags : List ℕ) → Type 0) (flags : List ℕ) →
-    IsMadeOf IsMade MayRefuse default_options flags (plain (codes "ab") ∷ wildcard (codes "0") ∷ plain (codes "ba") ∷ []) (wildcard_matcher E (codes "ab") (codes "ba"))
-overlap_made E IsMade MayRefuse flags = record {
+pub overlap_made : (E : Type 0) (IsEngine : List ℕ → Result E ErrorView → Type 0) →
+    IsMadeOf IsEngine default_options (plain (codes "ab") ∷ wildcard (codes "0") ∷ plain (codes "ba") ∷ []) (wildcard_matcher E (codes "ab") (codes "ba"))
+overlap_made E IsEngine = record {
   front = Some (plain (codes "ab"));
   middle = wildcard (codes "0") ∷ [];
   back = Some (plain (codes "ba"));
@@ -139,9 +140,9 @@ overlap_made E IsMade MayRefuse flags = record {
 }
 
 -- the pattern `a{}?b`: nothing is left, and the two texts are one
-pub apart_made : (E : Type 0) (IsMade : E → (regexp flags : List ℕ) → Type 0) (MayRefuse : (regexp flags : List ℕ) → Type 0) (flags : List ℕ) →
-    IsMadeOf IsMade MayRefuse default_options flags (plain (codes "a") ∷ plain (codes "b") ∷ []) (record { prefix = []; suffix = []; inner = Literal (codes "ab"); ignore_case = false })
-apart_made E IsMade MayRefuse flags = record {
+pub apart_made : (E : Type 0) (IsEngine : List ℕ → Result E ErrorView → Type 0) →
+    IsMadeOf IsEngine default_options (plain (codes "a") ∷ plain (codes "b") ∷ []) (record { prefix = []; suffix = []; inner = Literal (codes "ab"); ignore_case = false })
+apart_made E IsEngine = record {
   front = Some (plain (codes "a"));
   middle = [];
   back = Some (plain (codes "b"));
@@ -150,11 +151,11 @@ apart_made E IsMade MayRefuse flags = record {
 }
 
 -- the pattern `{a}?b`: an engine takes the regular expression of what is left
-pub optional_made : (E : Type 0) (IsMade : E → (regexp flags : List ℕ) → Type 0) (MayRefuse : (regexp flags : List ℕ) → Type 0) (flags : List ℕ) (engine : E) →
-    IsMade engine (codes "^(?:a)?$") flags →
-    IsMadeOf IsMade MayRefuse default_options flags (fixed_text (codes "a") modifiers.Optional ∷ plain (codes "b") ∷ []) (record { prefix = []; suffix = codes "b"; inner = RegExp (Ok engine); ignore_case = false })
+pub optional_made : (E : Type 0) (IsEngine : List ℕ → Result E ErrorView → Type 0) (engine : E) →
+    IsEngine (codes "^(?:a)?$") (Ok engine) →
+    IsMadeOf IsEngine default_options (fixed_text (codes "a") modifiers.Optional ∷ plain (codes "b") ∷ []) (record { prefix = []; suffix = codes "b"; inner = RegExp (Ok engine); ignore_case = false })
 unfolding escaped part_regexp
-optional_made E IsMade MayRefuse flags engine is_made = record {
+optional_made E IsEngine engine is_made = record {
   front = None;
   middle = fixed_text (codes "a") modifiers.Optional ∷ [];
   back = Some (plain (codes "b"));
@@ -163,16 +164,16 @@ optional_made E IsMade MayRefuse flags engine is_made = record {
 }
 
 -- the same where the engine refuses it
-pub optional_refused : (E : Type 0) (IsMade : E → (regexp flags : List ℕ) → Type 0) (MayRefuse : (regexp flags : List ℕ) → Type 0) (flags : List ℕ) →
-    MayRefuse (codes "^(?:a)?$") flags →
-    IsMadeOf IsMade MayRefuse default_options flags (fixed_text (codes "a") modifiers.Optional ∷ plain (codes "b") ∷ []) (record { prefix = []; suffix = codes "b"; inner = RegExp (Err views.RegExp); ignore_case = false })
+pub optional_refused : (E : Type 0) (IsEngine : List ℕ → Result E ErrorView → Type 0) →
+    IsEngine (codes "^(?:a)?$") (Err views.RegExp) →
+    IsMadeOf IsEngine default_options (fixed_text (codes "a") modifiers.Optional ∷ plain (codes "b") ∷ []) (record { prefix = []; suffix = codes "b"; inner = RegExp (Err views.RegExp); ignore_case = false })
 unfolding escaped part_regexp
-optional_refused E IsMade MayRefuse flags may_refuse = record {
+optional_refused E IsEngine may_refuse = record {
   front = None;
   middle = fixed_text (codes "a") modifiers.Optional ∷ [];
   back = Some (plain (codes "b"));
   are_peeled = record { cut = refl; front_removed = no; back_removed = refl };
-  is_made = (Err views.RegExp, (refl, may_refuse), refl);
+  is_made = (Err views.RegExp, may_refuse, refl);
 }
 
 -- a plain fixed text at the end does not stay among the parts

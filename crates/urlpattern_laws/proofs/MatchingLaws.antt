@@ -8,7 +8,7 @@ use Rattle.urlpattern_syntax.specs.declared.parser.PartModifier.TheVariants as m
 use Rattle.urlpattern_syntax.specs.declared.parser.PartType.{PartType}
 use Rattle.urlpattern_syntax.specs.declared.parser.PartType.TheVariants.{SegmentWildcard, FullWildcard}
 use Rattle.urlpattern_syntax.specs.Errors.{ErrorView}
-use Rattle.urlpattern_laws.specs.Matching.{HasMiddle, IsSame, MayBeEmpty, PassesFilter, InnerView, Literal, SingleCapture, RegExp, MatcherView, IsEngineOf, IsMadeBetween, IsMadeOf, IsMadeOfOne, Matches, end_text, single_capture}
+use Rattle.urlpattern_laws.specs.Matching.{HasMiddle, IsSame, MayBeEmpty, PassesFilter, InnerView, Literal, SingleCapture, RegExp, MatcherView, IsMadeBetween, IsMadeOf, IsMadeOfOne, Matches, end_text, single_capture}
 use Rattle.urlpattern_syntax.specs.Options.{OptionsView}
 use Rattle.urlpattern_laws.specs.PartMeaning.{Allows, Captures, IsCapture, IsWildcardText, PartMeans, PartsMean}
 use Rattle.urlpattern_syntax.specs.Parts.{PartView}
@@ -227,10 +227,10 @@ between answer IsEngine options front (part ∷ next ∷ parts) back matcher tex
 
 -- a matcher that needs no engine accepts what its parts stand for, and captures the same, in texts without line feed
 -- where case is kept
-pub fast_means : {E : Type 0} (answer : E → List ℕ → Option Captures) (IsMade : E → (regexp flags : List ℕ) → Type 0) (MayRefuse : (regexp flags : List ℕ) → Type 0) (options : OptionsView) (flags : List ℕ) (parts : List PartView) (matcher : MatcherView E) (text : List ℕ) (captures : Captures) →
-    IsMadeOf IsMade MayRefuse options flags parts matcher → options.ignore_case ≡ false → IsTrue (lacks line_feed text) → IsFast matcher.inner →
+pub fast_means : {E : Type 0} (answer : E → List ℕ → Option Captures) (IsEngine : List ℕ → Result E ErrorView → Type 0) (options : OptionsView) (parts : List PartView) (matcher : MatcherView E) (text : List ℕ) (captures : Captures) →
+    IsMadeOf IsEngine options parts matcher → options.ignore_case ≡ false → IsTrue (lacks line_feed text) → IsFast matcher.inner →
     Matches answer matcher text captures ↔ PartsMean options parts text captures
-fast_means answer IsMade MayRefuse options flags parts matcher text captures made case no_feed fast =
+fast_means answer IsEngine options parts matcher text captures made case no_feed fast =
     let peeled = peeled_means options parts made.front made.middle made.back text captures made.are_peeled in
-    let accepted = between answer (IsEngineOf IsMade MayRefuse flags) options (end_text made.front) made.middle (end_text made.back) matcher text captures case no_feed made.is_made fast in
+    let accepted = between answer IsEngine options (end_text made.front) made.middle (end_text made.back) matcher text captures case no_feed made.is_made fast in
     (λ h. peeled.1 (accepted.0 h), λ means. accepted.1 (peeled.0 means))

@@ -118,4 +118,4 @@ CountFrom number (name ∷ names) = (name ≡ decimal number) × CountFrom (suc 
 
 -- the matcher is made of the parts, whatever its engine makes or refuses
 abbrev pub HasShapeOf : {E : Type 0} → OptionsView → List PartView → MatcherView E → Type 0
-HasShapeOf options parts matcher = IsMadeOf (λ engine regexp flags. Unit {0}) (λ regexp flags. Unit {0}) options [] parts matcher
+HasShapeOf options parts matcher = IsMadeOf (λ regexp engine. Unit {0}) options parts matcher

@@ -8,7 +8,6 @@ use Rattle.urlpattern_syntax.specs.declared.parser.PartModifier.TheVariants as m
 use Rattle.urlpattern_syntax.specs.declared.parser.PartType.{PartType}
 use Rattle.urlpattern_syntax.specs.declared.parser.PartType.TheVariants.{SegmentWildcard, FullWildcard}
 use Rattle.urlpattern_syntax.specs.Errors.{ErrorView}
-use Rattle.urlpattern_syntax.specs.Errors.{ErrorView as views}
 use Rattle.urlpattern_syntax.specs.Options.{OptionsView}
 use Rattle.urlpattern_laws.specs.PartMeaning.{AreGenerated, Captures, PartsMean}
 use Rattle.urlpattern_syntax.specs.Parts.{PartView}
@@ -57,11 +56,6 @@ pub record ArePeeled (parts : List PartView) (front : Option PartView) (middle :
   pub front_removed : IsRemoved front (BeginsPlain parts)
   pub back_removed : IsRemoved back (EndsPlain middle)
 
--- a value that an engine makes of the regular expression, or the error where it may refuse that
-abbrev pub IsEngineOf : {E : Type 0} → (IsMade : E → (regexp flags : List ℕ) → Type 0) → (MayRefuse : (regexp flags : List ℕ) → Type 0) → (flags regexp : List ℕ) → Result E ErrorView → Type 0
-IsEngineOf IsMade MayRefuse flags regexp (Ok engine) = IsMade engine regexp flags
-IsEngineOf IsMade MayRefuse flags regexp (Err error) = (error ≡ views.RegExp) × MayRefuse regexp flags
-
 -- parts are left to an engine, by their regular expression
 abbrev pub IsMadeByEngine : {E : Type 0} → (IsEngine : (regexp : List ℕ) → Result E ErrorView → Type 0) → OptionsView → (prefix : List ℕ) → List PartView → (suffix : List ℕ) → MatcherView E → Type 0
 IsMadeByEngine {E} IsEngine options prefix middle suffix matcher =
@@ -95,13 +89,13 @@ IsMadeBetween IsEngine options prefix (part ∷ []) suffix matcher =
 IsMadeBetween IsEngine options prefix (part ∷ next ∷ parts) suffix matcher =
     IsMadeByEngine IsEngine options prefix (part ∷ next ∷ parts) suffix matcher
 
--- The matcher is made of the parts, where engines' values are made, and regular expressions refused, in this way.
-pub record IsMadeOf {E : Type 0} (IsMade : E → (regexp flags : List ℕ) → Type 0) (MayRefuse : (regexp flags : List ℕ) → Type 0) (options : OptionsView) (flags : List ℕ) (parts : List PartView) (matcher : MatcherView E) : Type 0 where
+-- The matcher is made of the parts, where of a regular expression an engine makes such a value, or such an error.
+pub record IsMadeOf {E : Type 0} (IsEngine : (regexp : List ℕ) → Result E ErrorView → Type 0) (options : OptionsView) (parts : List PartView) (matcher : MatcherView E) : Type 0 where
   pub front : Option PartView
   pub middle : List PartView
   pub back : Option PartView
   pub are_peeled : ArePeeled parts front middle back
-  pub is_made : IsMadeBetween (IsEngineOf IsMade MayRefuse flags) options (end_text front) middle (end_text back) matcher
+  pub is_made : IsMadeBetween IsEngine options (end_text front) middle (end_text back) matcher
 
 -- ---- answering
 

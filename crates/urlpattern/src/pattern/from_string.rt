@@ -4,7 +4,8 @@ ghost use Rattle.std.specs.Prelude.{◌≡◌, None, Ok, length, option_copied, 
 ghost use Rattle.std.specs.Str.{chars};
 ghost use Rattle.url.specs.Parser.{parse_url};
 ghost use Rattle.urlpattern_canonical.specs.Canonical.{Reports};
-ghost use Rattle.urlpattern.specs.FromString.{parsed_base, text_bytes, IsInitOfTextBy, IsPatternOfTextBy, RefusesPatternOfTextBy, RefusesText};
+ghost use Rattle.urlpattern.specs.FromString.{parsed_base, text_bytes, IsInitOfText, IsPatternOfText, RefusesPatternOfText, RefusesText};
+ghost use Rattle.urlpattern.specs.Patterns.{pattern_view};
 ghost use Rattle.urlpattern_syntax.specs.Errors.{MemoryOr};
 
 use super::UrlPattern;
@@ -29,8 +30,10 @@ impl<R: RegExp> UrlPattern<R> {
         base_url: Option<&str>,
         options: UrlPatternOptions,
     ) -> Result<Self, Error>
-        ensures compiled { IfOk result (IsPatternOfTextBy R.RegExp pattern.now (option_copied base_url.entry) options) }
-        ensures refused { IfErr result (MemoryOr (RefusesPatternOfTextBy R.RegExp pattern.now (option_copied base_url.entry) options)) }
+        ensures compiled { IfOk result (λ compiled. IsPatternOfText R.RegExp (chars pattern.now) (option_copied base_url.entry)
+            options (pattern_view compiled)) }
+        ensures refused { IfErr result (MemoryOr (RefusesPatternOfText R.RegExp (chars pattern.now) (option_copied base_url.entry)
+            options)) }
     {
         let init = init_of_text::<R>(alloc, pattern, base_url)?;
         Self::parse(alloc, init, options)
@@ -45,7 +48,7 @@ pub fn init_of_text<R: RegExp>(
     text: &str,
     base_url: Option<&str>,
 ) -> Result<UrlPatternInit, Error>
-    ensures constructed { IfOk result (IsInitOfTextBy R.RegExp text.now (option_copied base_url.entry)) }
+    ensures constructed { IfOk result (IsInitOfText R.RegExp (chars text.now) (option_copied base_url.entry)) }
     ensures refused { IfErr result (MemoryOr (RefusesText (chars text.now) (option_copied base_url.entry))) }
 {
     let base_url = parse_base(alloc, base_url)?;

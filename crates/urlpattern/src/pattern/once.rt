@@ -3,7 +3,7 @@
 ghost use Rattle.std.specs.Prelude.{option_map, IfErr, IfOk};
 ghost use Rattle.urlpattern.specs.Compiled.{RefusesInit};
 ghost use Rattle.urlpattern.specs.Match.{result_view};
-ghost use Rattle.urlpattern.specs.Meaning.{IsExecutedBy};
+ghost use Rattle.urlpattern.specs.Meaning.{IsExecutedByMeaning};
 ghost use Rattle.urlpattern_syntax.specs.Errors.{MemoryOr};
 
 use super::UrlPattern;
@@ -28,7 +28,7 @@ impl<R: RegExp> UrlPattern<R> {
         options: UrlPatternOptions,
         input: UrlPatternMatchInput,
     ) -> Result<Option<UrlPatternResult>, Error>
-        ensures executed { IfOk result (λ found. IsExecutedBy R.RegExp init options input (option_map result_view found)) }
+        ensures executed { IfOk result (λ found. IsExecutedByMeaning R.RegExp init options input (option_map result_view found)) }
         ensures refused { IfErr result (MemoryOr (RefusesInit R.RegExp init options)) }
     {
         let pattern = Self::parse(alloc, init, options)?;

@@ -3,10 +3,10 @@
 ghost use Rattle.std.specs.Prelude.{◌≡◌, ◌↔◌, [], codes, length, option_copied, option_map, unwrap_or, IfErr, IfOk, IfSome, IsAscii, IsTrue, Some};
 ghost use Rattle.std.specs.Str.{chars};
 ghost use Rattle.urlpattern_canonical.specs.Canonical.{IsAnswer};
-ghost use Rattle.urlpattern_core.specs.Compiling.{IsCompiledBy, component_view, pattern_text};
+ghost use Rattle.urlpattern_core.specs.Compiling.{IsCompiledFrom, component_view, pattern_text};
 ghost use Rattle.urlpattern_init.specs.Inheritance.{values_view};
-ghost use Rattle.urlpattern.specs.Compiled.{HasEngine, HasHierarchicalPath, IsPatternOfInit, RefusesInit, after_protocol, canonical_in_hostname, has_default_port, is_ipv6_pattern, is_mark, is_same, pattern_of, pattern_values, without_default_port};
-ghost use Rattle.urlpattern.specs.Compilers.{AreRefused, AreCompiledTo, CompilesComponent, RefusesComponent, RefusesFirstOf, RefusesFrom, component_manner};
+ghost use Rattle.urlpattern.specs.Compiled.{AreCompiled, FirstRefused, HasEngine, HasHierarchicalPath, IsComponentCompiled, IsComponentRefused, IsPatternOfInit, IsRefusedFrom, RefusesInit, RefusesValues, after_protocol, canonical_in_hostname, has_default_port, is_ipv6_pattern, is_mark, is_same, pattern_of, pattern_values, without_default_port};
+ghost use Rattle.urlpattern.specs.Compilers.{manner_by, values_of};
 ghost use Rattle.urlpattern.specs.Patterns.{pattern_view};
 ghost use Rattle.urlpattern_syntax.specs.declared.eight.ComponentName.{ComponentName};
 ghost use Rattle.urlpattern_syntax.specs.Errors.{MemoryOr, OnlyOutOfMemory};
@@ -60,8 +60,8 @@ fn compile_values<R: RegExp>(
     values: &UrlPatternInit,
     options: &UrlPatternOptions,
 ) -> Result<UrlPattern<R>, Error>
-    ensures compiled { IfOk result (λ pattern. AreCompiledTo R.RegExp options.now values.now (pattern_view pattern)) }
-    ensures refused { IfErr result (MemoryOr (AreRefused R.RegExp options.now values.now)) }
+    ensures compiled { IfOk result (λ pattern. AreCompiled R.RegExp options.now (values_view values.now) (pattern_view pattern)) }
+    ensures refused { IfErr result (MemoryOr (RefusesValues R.RegExp options.now (values_view values.now))) }
 {
     let canonicalizer = Canonicalizer::shared(alloc)?;
     let compiler = Compiler {
@@ -155,10 +155,10 @@ fn compile_component<R: RegExp, F: Fn(&str) -> Result<String, Error> + Drop>(
     options: Options,
 ) -> Result<component::Component<R>, Error>
     requires { F.IsAlwaysCallable encoding_callback }
-    ensures compiled { IfOk result (λ compiled. IsCompiledBy R.RegExp (pattern_text pattern.entry) (options_view options)
+    ensures compiled { IfOk result (λ compiled. IsCompiledFrom R.RegExp (pattern_text pattern.entry) (options_view options)
         (encoding_by F.Fn encoding_callback) (component_view compiled)) }
     ensures engine { IfOk result (λ compiled. HasEngine (component_view compiled)) }
-    ensures refused { IfErr result (MemoryOr (RefusesFrom R.RegExp (pattern_text pattern.entry) (options_view options)
+    ensures refused { IfErr result (MemoryOr (IsRefusedFrom R.RegExp (pattern_text pattern.entry) (options_view options)
         (encoding_by F.Fn encoding_callback))) }
 {
     let compiled = component::Component::compile(alloc, pattern, encoding_callback, options)?;
@@ -183,8 +183,8 @@ impl Compiler<'_> {
     ///
     /// The error is that of the first component that is refused, or that memory ran out.
     fn pattern<R: RegExp>(&self) -> Result<UrlPattern<R>, Error>
-        ensures compiled { IfOk result (λ pattern. AreCompiledTo R.RegExp self.now.options.now self.now.values.now (pattern_view pattern)) }
-        ensures refused { IfErr result (MemoryOr (AreRefused R.RegExp self.now.options.now self.now.values.now)) }
+        ensures compiled { IfOk result (λ pattern. AreCompiled R.RegExp self.now.options.now (values_of self.now) (pattern_view pattern)) }
+        ensures refused { IfErr result (MemoryOr (RefusesValues R.RegExp self.now.options.now (values_of self.now))) }
     {
         let protocol = self.component(ComponentName::Protocol, false)?;
         let hierarchical = self.is_hierarchical(&protocol)?;
@@ -199,10 +199,10 @@ impl Compiler<'_> {
         protocol: component::Component<R>,
         hierarchical: bool,
     ) -> Result<UrlPattern<R>, Error>
-        requires { CompilesComponent R.RegExp self.now hierarchical ComponentName.Protocol (component_view protocol) }
+        requires { IsComponentCompiled R.RegExp (manner_by self.now hierarchical ComponentName.Protocol) (component_view protocol) }
         ensures protocol { IfOk result (λ pattern. component_view pattern.protocol ≡ component_view protocol) }
-        ensures compiled { IfOk result (λ pattern. (component : ComponentName) → CompilesComponent R.RegExp self.now hierarchical component (pattern_view pattern component)) }
-        ensures refused { IfErr result (MemoryOr (RefusesFirstOf R.RegExp self.now hierarchical after_protocol)) }
+        ensures compiled { IfOk result (λ pattern. (component : ComponentName) → IsComponentCompiled R.RegExp (manner_by self.now hierarchical component) (pattern_view pattern component)) }
+        ensures refused { IfErr result (MemoryOr (FirstRefused R.RegExp (manner_by self.now hierarchical) after_protocol)) }
     {
         Ok(UrlPattern {
             protocol,
@@ -224,12 +224,12 @@ impl Compiler<'_> {
         component: ComponentName,
         hierarchical: bool,
     ) -> Result<component::Component<R>, Error>
-        ensures compiled { IfOk result (λ compiled. CompilesComponent R.RegExp self.now hierarchical component (component_view compiled)) }
-        ensures refused { IfErr result (MemoryOr (RefusesComponent R.RegExp self.now hierarchical component)) }
+        ensures compiled { IfOk result (λ compiled. IsComponentCompiled R.RegExp (manner_by self.now hierarchical component) (component_view compiled)) }
+        ensures refused { IfErr result (MemoryOr (IsComponentRefused R.RegExp (manner_by self.now hierarchical component))) }
     {
         let options = self.options_of(component, hierarchical)?;
         let canonicalize = |text: &str| -> Result<String, Error>
-            ensures { IsAnswer ((component_manner self.entry.now hierarchical component).canonical (chars text.now)) (length text.now) result }
+            ensures { IsAnswer ((manner_by self.entry.now hierarchical component).canonical (chars text.now)) (length text.now) result }
         { self.canonical(component, hierarchical, text) };
         let pattern = pattern_of(self.values, component);
         compile_component(self.alloc, pattern, canonicalize, options)
@@ -239,7 +239,7 @@ impl Compiler<'_> {
     ///
     /// The error is that memory ran out.
     fn options_of(&self, component: ComponentName, hierarchical: bool) -> Result<Options, Error>
-        ensures ok { IfOk result (λ options. options_view options ≡ (component_manner self.now hierarchical component).options) }
+        ensures ok { IfOk result (λ options. options_view options ≡ (manner_by self.now hierarchical component).options) }
         ensures memory { OnlyOutOfMemory result }
     {
         let standard = match component {
@@ -267,7 +267,7 @@ impl Compiler<'_> {
         hierarchical: bool,
         text: &str,
     ) -> Result<String, Error>
-        ensures { IsAnswer ((component_manner self.now hierarchical component).canonical (chars text.now)) (length text.now) result }
+        ensures { IsAnswer ((manner_by self.now hierarchical component).canonical (chars text.now)) (length text.now) result }
     {
         let values = &self.canonicalizer;
         match component {
@@ -287,7 +287,7 @@ impl Compiler<'_> {
     ///
     /// The error is the refusal of `url`, or that memory ran out.
     fn canonical_in_hostname(&self, text: &str) -> Result<String, Error>
-        ensures { IsAnswer (canonical_in_hostname (unwrap_or (values_view self.now.values.now).hostname []) (chars text.now)) (length text.now) result }
+        ensures { IsAnswer (canonical_in_hostname (unwrap_or (values_of self.now).hostname []) (chars text.now)) (length text.now) result }
     {
         match &self.values.hostname {
             Some(pattern) if is_ipv6_pattern(pattern) => {
@@ -301,7 +301,7 @@ impl Compiler<'_> {
     ///
     /// The error is that memory ran out.
     fn is_hierarchical<R: RegExp>(&self, protocol: &component::Component<R>) -> Result<bool, Error>
-        ensures path_kind { IfOk result (λ hierarchical. IsTrue hierarchical ↔ HasHierarchicalPath R.answer (values_view self.now.values.now) (component_view protocol.now).matcher) }
+        ensures path_kind { IfOk result (λ hierarchical. IsTrue hierarchical ↔ HasHierarchicalPath R.answer (values_of self.now) (component_view protocol.now).matcher) }
         ensures memory { OnlyOutOfMemory result }
     {
         if is_there_and_empty(&self.values.protocol) || is_there_with_slash(&self.values.pathname) {

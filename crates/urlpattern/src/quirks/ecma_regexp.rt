@@ -15,19 +15,17 @@ pub struct EcmaRegexp(String, String, Option<Regex>);
 
 /// The text is refused only with `force_eval`.
 impl RegExp for EcmaRegexp {
-    ghost use Rattle.std.specs.Prelude.{IsTrue};
-    ghost use Rattle.urlpattern.specs.EcmaRegexps.{IsEcmaRegexpOf, ecma_regexp_answer, ecma_regexp_text};
-    ghost use Rattle.urlpattern_syntax.specs.declared.parser.RegexSyntax.TheVariants.{EcmaScript};
+    ghost use Rattle.urlpattern.specs.EcmaRegexps.{ecma_engine};
 
-    ghost syntax_of = { EcmaScript };
+    ghost syntax_of = { ecma_engine.syntax_of };
 
-    ghost IsMade = { λ ecma regexp flags. IsEcmaRegexpOf regexp flags ecma };
+    ghost IsMade = { ecma_engine.IsMade };
 
-    ghost MayRefuse = { λ regexp flags force_eval. IsTrue force_eval };
+    ghost MayRefuse = { ecma_engine.MayRefuse };
 
-    ghost answer = { ecma_regexp_answer };
+    ghost answer = { ecma_engine.answer };
 
-    ghost text_made_of = { ecma_regexp_text };
+    ghost text_made_of = { ecma_engine.text_made_of };
 
     fn syntax() -> RegexSyntax {
         RegexSyntax::EcmaScript

@@ -2,7 +2,7 @@
 
 ghost use Rattle.std.specs.Prelude.{◌≡◌, IfErr, IfOk};
 ghost use Rattle.std.specs.Str.{chars};
-ghost use Rattle.urlpattern_core.specs.Compiling.{AnswersByItsParts, FailsToRead, IsAskedEngineBy, IsCompiledBy, IsComponentBy, component_view, engine_flags, has_regexp, pattern_text};
+ghost use Rattle.urlpattern_core.specs.Compiling.{AnswersByItsParts, FailsToRead, IsCompiledFrom, IsComponentOf, IsWholeEngineOf, component_view, engine_flags, has_regexp, pattern_text};
 ghost use Rattle.urlpattern_core.specs.Matchers.{engine_view};
 ghost use Rattle.urlpattern_syntax.specs.Errors.{OnlyOutOfMemory};
 ghost use Rattle.urlpattern_syntax.specs.Options.{options_view};
@@ -38,7 +38,7 @@ impl<R: RegExp> Component<R> {
         options: Options,
     ) -> Result<Self, Error>
         requires { F.IsAlwaysCallable encoding_callback }
-        ensures compiled { IfOk result (λ component. IsCompiledBy R.RegExp (pattern_text pattern.entry) (options_view options)
+        ensures compiled { IfOk result (λ component. IsCompiledFrom R.RegExp (pattern_text pattern.entry) (options_view options)
             (encoding_by F.Fn encoding_callback) (component_view component)) }
         ensures means { IfOk result (λ component. AnswersByItsParts R.RegExp (options_view options) (component_view component)) }
         ensures refuses { IfErr result (FailsToRead (pattern_text pattern.entry) (options_view options) (encoding_by F.Fn encoding_callback)) }
@@ -50,7 +50,7 @@ impl<R: RegExp> Component<R> {
 
     /// The component of a list of parts.
     fn from_parts(alloc: Global, part_list: &[Part], options: &Options) -> Result<Self, Error>
-        ensures made { IfOk result (λ made. IsComponentBy R.RegExp (options_view options.now) (parts_view part_list.now) (component_view made)) }
+        ensures made { IfOk result (λ made. IsComponentOf R.RegExp (options_view options.now) (parts_view part_list.now) (component_view made)) }
         ensures memory { OnlyOutOfMemory result }
     {
         let flags = engine_flags(options);
@@ -92,7 +92,7 @@ fn engine_of<R: RegExp>(
     flags: &str,
     has_regexp_group: bool,
 ) -> Result<Result<R, Error>, AllocError>
-    ensures { IfOk result (λ engine. IsAskedEngineBy R.RegExp has_regexp_group (chars flags.now) (chars regexp.now) (engine_view engine)) }
+    ensures { IfOk result (λ engine. IsWholeEngineOf R.RegExp has_regexp_group (chars flags.now) (chars regexp.now) (engine_view engine)) }
 {
     let engine: Result<R, Error> = ask_engine(alloc, regexp, flags, false)?;
     if has_regexp_group && engine.is_ok() && R::syntax() == RegexSyntax::EcmaScript {

@@ -2,9 +2,9 @@
 
 ghost use Rattle.std.specs.Prelude.{◌≡◌, false, ◌++◌, IfOk, IfSome};
 ghost use Rattle.std.specs.Str.{chars};
-ghost use Rattle.urlpattern_core.specs.Compiling.{IsAskingMatcherBy, IsEngineBy, IsMatcherBy};
+ghost use Rattle.urlpattern_core.specs.Compiling.{IsEngineOf};
 ghost use Rattle.urlpattern_core.specs.Matchers.{IfMatcher, PeelsBack, PeelsFront, PeelsTo, capture_of, engine_view, literal_view};
-ghost use Rattle.urlpattern_laws.specs.Matching.{AnswersByMeaning, single_capture};
+ghost use Rattle.urlpattern_laws.specs.Matching.{AnswersByMeaning, single_capture, IsMadeByEngine, IsMadeOf};
 ghost use Rattle.urlpattern_syntax.specs.Errors.{OnlyOutOfMemory};
 ghost use Rattle.urlpattern_syntax.specs.Options.{options_view};
 ghost use Rattle.urlpattern_syntax.specs.Parts.{part_view, parts_view};
@@ -31,7 +31,7 @@ pub fn generate_matcher<R: RegExp>(
     options: &Options,
     flags: &str,
 ) -> Result<Matcher<R>, Error>
-    ensures made { IfMatcher result (IsMatcherBy R.RegExp (options_view options.now) (chars flags.now) (parts_view part_list.now)) }
+    ensures made { IfMatcher result (IsMadeOf (IsEngineOf R.RegExp false (chars flags.now)) (options_view options.now) (parts_view part_list.now)) }
     ensures means { IfMatcher result (AnswersByMeaning R.answer (options_view options.now) (parts_view part_list.now)) }
     ensures memory { OnlyOutOfMemory result }
 {
@@ -47,7 +47,7 @@ pub(crate) fn generate_matcher_knowing<R: RegExp>(
     whole: Option<&str>,
 ) -> Result<Matcher<R>, AllocError>
     requires { IfSome whole (λ text. chars text.now ≡ regexp_text (options_view options.now) (parts_view part_list.now)) }
-    ensures { IfMatcher result (IsMatcherBy R.RegExp (options_view options.now) (chars flags.now) (parts_view part_list.now)) }
+    ensures { IfMatcher result (IsMadeOf (IsEngineOf R.RegExp false (chars flags.now)) (options_view options.now) (parts_view part_list.now)) }
 {
     let (prefix, middle, suffix) = peel(part_list);
     let known = if middle.len() == part_list.len() {
@@ -173,7 +173,7 @@ fn engine_matcher<R: RegExp>(
     known: Option<&str>,
 ) -> Result<Matcher<R>, AllocError>
     requires { IfSome known (λ text. chars text.now ≡ regexp_text (options_view options.now) (parts_view middle.now)) }
-    ensures { IfMatcher result (IsAskingMatcherBy R.RegExp (options_view options.now) (chars flags.now)
+    ensures { IfMatcher result (IsMadeByEngine (IsEngineOf R.RegExp false (chars flags.now)) (options_view options.now)
         (chars prefix.now) (parts_view middle.now) (chars suffix.now)) }
 {
     let regexp = match known {
@@ -198,7 +198,7 @@ pub(crate) fn ask_engine<R: RegExp>(
     flags: &str,
     force_eval: bool,
 ) -> Result<Result<R, Error>, AllocError>
-    ensures { IfOk result (λ engine. IsEngineBy R.RegExp force_eval (chars flags.now) (chars regexp.now) (engine_view engine)) }
+    ensures { IfOk result (λ engine. IsEngineOf R.RegExp force_eval (chars flags.now) (chars regexp.now) (engine_view engine)) }
 {
     match R::parse(alloc, regexp, flags, force_eval) {
         Ok(engine) => Ok(Ok(engine)),

@@ -2,7 +2,7 @@ use Rattle.urlpattern.proofs.RegexGroups.{first_result_one, matched_first, regex
 use Rattle.urlpattern.proofs.laws.groups_by_regex_are_of_the_first_way.Goals as goal
 
 pub returns-clause-premises : goal.returns-clause-premises
-returns-clause-premises c = λ asked values pattern component text compiled premises. regex_premises asked values pattern compiled component text premises
+returns-clause-premises c = λ asked values pattern component text compiled premises. regex_premises _ (pattern component) (compiled.are_compiled component) text premises
 
 pub returns-clause-first : goal.returns-clause-first
 returns-clause-first c = matched_first

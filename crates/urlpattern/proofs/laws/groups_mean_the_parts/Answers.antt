@@ -3,4 +3,4 @@ use Rattle.urlpattern.proofs.laws.groups_mean_the_parts.Goals as goal
 
 pub returns : goal.returns
 returns g c = λ asked values pattern input texts found compiled are_texts short executed.
-    executed_means g.R.RegExp.answer g.R.RegExp.IsMade g.R.RegExp.MayRefuse g.R.RegExp.syntax_of asked values pattern compiled texts input found are_texts short executed
+    executed_means g.R.RegExp asked values pattern compiled texts input found are_texts short executed

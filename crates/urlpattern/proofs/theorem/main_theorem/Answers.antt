@@ -1,4 +1,5 @@
-use Rattle.urlpattern_core.specs.Compiling.{MayRefuseAtFirst}
+use Rattle.std.specs.Prelude.{false}
+use Rattle.urlpattern_core.specs.Compiling.{IsEngineOf}
 use Rattle.urlpattern_laws.proofs.CallbackLaws.{outcome_one}
 use Rattle.urlpattern_laws.proofs.CaptureCount.{captures_counted}
 use Rattle.urlpattern_core.proofs.RegexMatchers.{taken_first}
@@ -27,11 +28,11 @@ returns-clause-captures g c = captures_counted
 
 pub returns-clause-matches : goal.returns-clause-matches
 returns-clause-matches g c = λ options flags parts matcher made plain kept follows text answered lacks scalars answers.
-    matcher_means g.R.RegExp.answer g.R.RegExp.IsMade (MayRefuseAtFirst g.R.RegExp.MayRefuse) options flags parts matcher text answered made plain kept lacks scalars follows answers
+    matcher_means g.R.RegExp.answer (IsEngineOf g.R.RegExp false flags) options parts matcher text answered made plain kept lacks scalars follows answers
 
 pub returns-clause-answers : goal.returns-clause-answers
 returns-clause-answers g c = λ options flags parts matcher text result made plain kept firsts lacks scalars answers.
-    matcher_first g.R.RegExp.answer g.R.RegExp.IsMade (MayRefuseAtFirst g.R.RegExp.MayRefuse) options flags parts matcher text result made plain kept lacks scalars firsts answers
+    matcher_first g.R.RegExp.answer (IsEngineOf g.R.RegExp false flags) options parts matcher text result made plain kept lacks scalars firsts answers
 
 pub returns-clause-one_answer : goal.returns-clause-one_answer
 returns-clause-one_answer g c = first_one
@@ -52,10 +53,10 @@ returns-clause-nothing_else g c = λ text options first answers parts read keeps
     (kept_reads_only options (listed answers) parts printable keeps, kept_unrefused options (listed answers) parts printable keeps)
 
 pub returns-clause-executes : goal.returns-clause-executes
-returns-clause-executes g c = λ pattern input. (
-  (
-    λ (result, match). test_from-match g.R.RegExp.answer pattern input result match,
+returns-clause-executes g c = (
+  λ pattern input. (
     match_from-test g.R.RegExp.answer pattern input,
+    λ (result, match). test_from-match g.R.RegExp.answer pattern input result match,
   ),
-  match-not_both g.R.RegExp.answer pattern input,
+  match-not_both g.R.RegExp.answer,
 )

@@ -1,13 +1,13 @@
-use Rattle.urlpattern_core.specs.Engines.{RegexFollows}
-use Rattle.urlpattern_core.proofs.FirstMatchers.{of_generated}
-use Rattle.urlpattern_core.proofs.RegexWays.{answers_first_of, regex_follows}
+use Rattle.urlpattern_core.specs.Engines.{regex_engine}
+use Rattle.urlpattern_core.proofs.FirstMatchers.{values_follow, values_follow_parts}
+use Rattle.urlpattern_core.proofs.RegexMatchers.{values_first}
 use Rattle.urlpattern_core.proofs.laws.regex_answers_the_first_way.Goals as goal
 
 pub returns-clause-first : goal.returns-clause-first
-returns-clause-first c = answers_first_of
+returns-clause-first c = values_first
 
 pub returns-clause-follows : goal.returns-clause-follows
-returns-clause-follows c = λ regexp tree is regex made. regex_follows regexp tree regex is made
+returns-clause-follows c = values_follow regex_engine values_first
 
 pub returns-clause-generated : goal.returns-clause-generated
-returns-clause-generated c = of_generated RegexFollows (λ regexp tree is regex made. regex_follows regexp tree regex is made)
+returns-clause-generated c = values_follow_parts regex_engine values_first

@@ -1,15 +1,13 @@
-use Rattle.urlpattern_laws.proofs.OneMeaning.{is_tree_of}
-use Rattle.urlpattern_laws.proofs.PartTrees.{tree_of}
-use Rattle.urlpattern_syntax.specs.RegexpText.{regexp_text}
-use Rattle.urlpattern_engine.proofs.EngineLaws.{answers_first_of, pattern_regexp_follows}
+use Rattle.urlpattern_core.proofs.FirstMatchers.{values_follow, values_follow_parts}
+use Rattle.urlpattern_engine.specs.Engine.{pattern_engine}
+use Rattle.urlpattern_engine.proofs.EngineLaws.{values_first}
 use Rattle.urlpattern_engine.proofs.laws.pattern_regexps_answer_the_first_way.Goals as goal
 
 pub returns-clause-first : goal.returns-clause-first
-returns-clause-first c = answers_first_of
+returns-clause-first c = values_first
 
 pub returns-clause-follows : goal.returns-clause-follows
-returns-clause-follows c = pattern_regexp_follows
+returns-clause-follows c = values_follow pattern_engine values_first
 
 pub returns-clause-generated : goal.returns-clause-generated
-returns-clause-generated c = λ options parts value plain made.
-    pattern_regexp_follows (regexp_text options parts) (tree_of options parts) value (is_tree_of options parts plain) made
+returns-clause-generated c = values_follow_parts pattern_engine values_first

@@ -9,6 +9,6 @@ pub returns-clause-executed : goal.returns-clause-executed
 returns-clause-executed g c =
     let pattern = pattern_view c.in_ok-pattern.pattern in
     if_ok-map _ _ c.exec-found.result
-    (λ found matched. executed_by_meaning g.R.RegExp.answer g.R.RegExp.IsMade g.R.RegExp.MayRefuse g.R.RegExp.syntax_of c.args.init c.args.options c.args.input pattern
+    (λ found matched. executed_by_meaning g.R.RegExp c.args.init c.args.options c.args.input pattern
     (option_map result_view found) c.in_ok-pattern.ensures.compiled (executed_of g.R.RegExp.answer pattern c.args.input found matched))
     c.exec-found.ensures.matched

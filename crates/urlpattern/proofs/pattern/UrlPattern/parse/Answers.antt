@@ -1,14 +1,13 @@
 use Rattle.urlpattern.proofs.CompiledLemmas.{is_compiled, is_refused}
 use Rattle.urlpattern_init.specs.Inheritance.{values_view}
-use Rattle.urlpattern_core.specs.Compiling.{IsCompiledFrom}
 use Rattle.urlpattern.proofs.pattern.UrlPattern.parse.Goals as goal
 
 pub returns-clause-compiled : goal.returns-clause-compiled
 returns-clause-compiled g c =
-    is_compiled (IsCompiledFrom g.R.RegExp.IsMade g.R.RegExp.MayRefuse g.R.RegExp.syntax_of) g.R.RegExp.answer c.args.init c.args.options
+    is_compiled g.R.RegExp c.args.init c.args.options
     (values_view c.in_ok-values.values) c.compile_values-pattern.result c.in_ok-values.ensures.ok c.compile_values-pattern.ensures.compiled
 
 pub returns-clause-refused : goal.returns-clause-refused
 returns-clause-refused g c =
-    is_refused (IsCompiledFrom g.R.RegExp.IsMade g.R.RegExp.MayRefuse g.R.RegExp.syntax_of) g.R.RegExp.answer c.args.init c.args.options
+    is_refused g.R.RegExp c.args.init c.args.options
     (values_view c.in_ok-values.values) c.compile_values-pattern.result c.in_ok-values.ensures.ok c.compile_values-pattern.ensures.refused

@@ -1,8 +1,8 @@
-use Rattle.std.proofs.Common.{map, refl, subst}
+use Rattle.std.proofs.Common.{false, map, refl, subst}
 use Rattle.std.proofs.lemmas.Result.{err_from_is_err_and}
 use Rattle.urlpattern_core.proofs.CompileLemmas.{text-or_asterisk}
 use Rattle.urlpattern_core.proofs.Peeling.{if_ok-map}
-use Rattle.urlpattern_core.specs.Compiling.{IsComponentOf, MayRefuseAtFirst, component_view, engine_flags}
+use Rattle.urlpattern_core.specs.Compiling.{IsComponentOf, IsEngineOf, component_view, engine_flags}
 use Rattle.urlpattern_core.specs.Matchers.{matcher_view}
 use Rattle.urlpattern_laws.proofs.MatcherMeaning.{matcher_means}
 use Rattle.urlpattern_syntax.specs.Options.{options_view}
@@ -22,16 +22,14 @@ returns-clause-compiled g c =
     (λ component made. (
       map part_view c.in_ok-part_list.part_list.items,
       rw (← text) c.in_ok-part_list.ensures.reads,
-      subst (λ parts. IsComponentOf g.R.RegExp.IsMade g.R.RegExp.MayRefuse g.R.RegExp.syntax_of (options_view c.args.options) (map part_view parts) (component_view component)) c.deref.ensures.value made,
+      subst (λ parts. IsComponentOf g.R.RegExp (options_view c.args.options) (map part_view parts) (component_view component)) c.deref.ensures.value made,
     ))
     c.from_parts.ensures.made
 
 pub returns-clause-means : goal.returns-clause-means
 returns-clause-means g c =
-    let IsMade = g.R.RegExp.IsMade in
-    let MayRefuse = MayRefuseAtFirst g.R.RegExp.MayRefuse in
     let options = options_view c.args.options in
     if_ok-map _ _ c.from_parts.result
     (λ component made parts of plain kept follows text answered lacks scalars answers.
-    matcher_means g.R.RegExp.answer IsMade MayRefuse options (engine_flags options) parts (matcher_view component.matcher) text answered of.has_matcher plain kept lacks scalars follows answers)
+    matcher_means g.R.RegExp.answer (IsEngineOf g.R.RegExp false (engine_flags options)) options parts (matcher_view component.matcher) text answered of.has_matcher plain kept lacks scalars follows answers)
     c.from_parts.ensures.made

@@ -1,7 +1,7 @@
-use Rattle.std.proofs.Common.{map, ap, ◌∙◌, subst}
+use Rattle.std.proofs.Common.{false, map, ap, ◌∙◌, subst}
 use Rattle.std.specs.Str.{chars}
 use Rattle.urlpattern_core.proofs.CompileLemmas.{engine-along}
-use Rattle.urlpattern_core.specs.Compiling.{MayRefuseAtFirst}
+use Rattle.urlpattern_core.specs.Compiling.{IsEngineOf}
 use Rattle.urlpattern_core.specs.Matchers.{engine_view, matcher_view}
 use Rattle.urlpattern_laws.specs.Matching.{IsMadeOf}
 use Rattle.urlpattern_syntax.specs.Options.{options_view}
@@ -10,17 +10,15 @@ use Rattle.urlpattern_core.proofs.component.Component.from_parts.Goals as goal
 
 pub returns-clause-made : goal.returns-clause-made
 returns-clause-made g c =
-    let IsMade = g.R.RegExp.IsMade in
-    let MayRefuse = g.R.RegExp.MayRefuse in
     let options = options_view c.args.options.now in
     let parts = map part_view c.args.part_list.now in
     let flags_are = c.engine_flags-flags.ensures in
     let reported = c.has_regexp-has_regexp_group.ensures in
     record {
       is_printed = c.in_ok-generate_pattern_string.ensures.text;
-      has_engine = engine-along IsMade MayRefuse g.R.RegExp.syntax_of (engine_view c.in_ok-regexp.regexp) reported flags_are
+      has_engine = engine-along g.R.RegExp (engine_view c.in_ok-regexp.regexp) reported flags_are
           (ap chars c.deref.ensures ∙ c.in_ok-text.ensures) c.in_ok-regexp.ensures;
       has_names = c.in_ok-generate_name_list.ensures;
-      has_matcher = subst (λ flags. IsMadeOf IsMade (MayRefuseAtFirst MayRefuse) options flags parts (matcher_view c.in_ok-matcher.matcher)) flags_are c.in_ok-matcher.ensures;
+      has_matcher = subst (λ flags. IsMadeOf (IsEngineOf g.R.RegExp false flags) options parts (matcher_view c.in_ok-matcher.matcher)) flags_are c.in_ok-matcher.ensures;
       regexp_flag = reported;
     }

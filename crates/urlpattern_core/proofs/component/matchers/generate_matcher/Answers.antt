@@ -1,6 +1,6 @@
-use Rattle.std.proofs.Common.{map}
+use Rattle.std.proofs.Common.{false, map}
 use Rattle.std.specs.Str.{chars}
-use Rattle.urlpattern_core.specs.Compiling.{MayRefuseAtFirst}
+use Rattle.urlpattern_core.specs.Compiling.{IsEngineOf}
 use Rattle.urlpattern_core.specs.Matchers.{matcher_view}
 use Rattle.urlpattern_laws.proofs.MatcherMeaning.{matcher_means}
 use Rattle.urlpattern_syntax.specs.Options.{options_view}
@@ -10,5 +10,5 @@ use Rattle.urlpattern_core.proofs.component.matchers.generate_matcher.Goals as g
 pub returns-clause-means : goal.returns-clause-means
 returns-clause-means g c = λ plain kept follows text answered lacks scalars answers.
     let made = c.in_ok-generate_matcher_knowing in
-    matcher_means g.R.RegExp.answer g.R.RegExp.IsMade (MayRefuseAtFirst g.R.RegExp.MayRefuse) (options_view c.args.options.now) (chars c.args.flags.now)
+    matcher_means g.R.RegExp.answer (IsEngineOf g.R.RegExp false (chars c.args.flags.now)) (options_view c.args.options.now)
     (map part_view c.args.part_list.now) (matcher_view made.field-0) text answered made.ensures plain kept lacks scalars follows answers

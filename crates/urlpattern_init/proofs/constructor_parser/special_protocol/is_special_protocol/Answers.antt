@@ -11,7 +11,7 @@ use Rattle.urlpattern_init.proofs.constructor_parser.special_protocol.is_special
 
 pub returns-clause-special : goal.returns-clause-special
 returns-clause-special g c =
-    special_from g.R.RegExp.IsMade _ g.R.RegExp.answer (chars c.args.protocol.now) _ (options_view c.default-options.result)
+    special_from g.R.RegExp (chars c.args.protocol.now) _ (options_view c.default-options.result)
     (map part_view c.in_ok-part_list.part_list.items) (map part_view c.deref.result.now) (matcher_view c.in_ok-matcher.matcher) c.accepts_special_scheme.result
     c.default-options.ensures chars_flags (ap (map part_view) c.deref.ensures.value)
     (reads_weaker _ protocol_encoding (λ text answer h. (h.0, search rules, h.2)) _ _ _ c.in_ok-part_list.ensures.reads)

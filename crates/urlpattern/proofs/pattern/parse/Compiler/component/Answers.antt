@@ -1,23 +1,21 @@
 use Rattle.std.proofs.Common.{rules}
 use Rattle.urlpattern.proofs.CompiledLemmas.{compiled_weaker, refused_weaker}
-use Rattle.urlpattern.specs.Compiled.{canonical_encoding, manner_of, pattern_of}
-use Rattle.urlpattern_init.specs.Inheritance.{values_view}
+use Rattle.urlpattern.specs.Compiled.{canonical_encoding}
+use Rattle.urlpattern.specs.Compilers.{manner_by}
 use Rattle.urlpattern_core.specs.Compiling.{pattern_text}
 use Rattle.urlpattern_syntax.specs.Options.{options_view}
 use Rattle.urlpattern.proofs.pattern.parse.Compiler.component.Goals as goal
 
 pub returns-clause-compiled : goal.returns-clause-compiled
 returns-clause-compiled g c =
-    let values = values_view c.args.self.now.values.now in
-    let manner = manner_of c.args.self.now.options.now values c.args.hierarchical c.args.component in
-    compiled_weaker g.R.RegExp.IsMade g.R.RegExp.MayRefuse g.R.RegExp.syntax_of _ (canonical_encoding manner.canonical) (λ text answer h. (h.0, search rules, h.2))
-    (pattern_text c.pattern_of-pattern.result) (pattern_of values c.args.component) (options_view c.in_ok-options.options) manner.options c.compile_component.result
+    let manner = manner_by c.args.self.now c.args.hierarchical c.args.component in
+    compiled_weaker g.R.RegExp _ (canonical_encoding manner.canonical) (λ text answer h. (h.0, search rules, h.2))
+    (pattern_text c.pattern_of-pattern.result) manner.text (options_view c.in_ok-options.options) manner.options c.compile_component.result
     c.pattern_of-pattern.ensures c.in_ok-options.ensures.ok c.compile_component.ensures.compiled c.compile_component.ensures.engine
 
 pub returns-clause-refused : goal.returns-clause-refused
 returns-clause-refused g c =
-    let values = values_view c.args.self.now.values.now in
-    let manner = manner_of c.args.self.now.options.now values c.args.hierarchical c.args.component in
-    refused_weaker g.R.RegExp.IsMade g.R.RegExp.MayRefuse g.R.RegExp.syntax_of _ (canonical_encoding manner.canonical) (λ text answer h. (h.0, search rules, h.2))
-    (pattern_text c.pattern_of-pattern.result) (pattern_of values c.args.component) (options_view c.in_ok-options.options) manner.options c.compile_component.result
+    let manner = manner_by c.args.self.now c.args.hierarchical c.args.component in
+    refused_weaker g.R.RegExp _ (canonical_encoding manner.canonical) (λ text answer h. (h.0, search rules, h.2))
+    (pattern_text c.pattern_of-pattern.result) manner.text (options_view c.in_ok-options.options) manner.options c.compile_component.result
     c.pattern_of-pattern.ensures c.in_ok-options.ensures.ok c.compile_component.ensures.refused
