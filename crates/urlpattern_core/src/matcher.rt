@@ -66,33 +66,11 @@ impl<R: RegExp> Matcher<R> {
         ensures memory { OnlyOutOfMemory result }
         ensures asked { IfErr result (λ _. MayRunOutOfMemory R.answer (matcher_view self.now) (chars input.now)) }
     {
-        let Some(middle) = self.middle(input) else {
-            return Ok(None);
-        };
-        match &self.inner {
-            InnerMatcher::Literal { literal } => {
-                if self.is_same(middle, literal) {
-                    Ok(Some(Vec::new(alloc)))
-                } else {
-                    Ok(None)
-                }
-            }
-            InnerMatcher::SingleCapture {
-                filter,
-                allow_empty,
-            } => {
-                if self.is_captured(middle, *filter, *allow_empty) {
-                    let mut captures = Vec::with_capacity(alloc, 1)?;
-                    captures.push(Some(middle))?;
-                    Ok(Some(captures))
-                } else {
-                    Ok(None)
-                }
-            }
-            InnerMatcher::RegExp { regexp } => match regexp {
-                Ok(engine) => Ok(engine.matches(alloc, middle)?),
-                Err(_) => Ok(None),
-            },
+        match self.look(input) {
+            None => Ok(None),
+            Some(Look::Matched) => Ok(Some(Vec::new(alloc))),
+            Some(Look::Captured(text)) => Ok(Some(vec![in alloc; Some(text)]?)),
+            Some(Look::Asks { engine, middle }) => Ok(engine.matches(alloc, middle)?),
         }
     }
 
@@ -104,19 +82,10 @@ impl<R: RegExp> Matcher<R> {
         ensures memory { OnlyOutOfMemory result }
         ensures asked { IfErr result (λ _. AsksEngine (matcher_view self.now) (chars input.now)) }
     {
-        let Some(middle) = self.middle(input) else {
-            return Ok(false);
-        };
-        match &self.inner {
-            InnerMatcher::Literal { literal } => Ok(self.is_same(middle, literal)),
-            InnerMatcher::SingleCapture {
-                filter,
-                allow_empty,
-            } => Ok(self.is_captured(middle, *filter, *allow_empty)),
-            InnerMatcher::RegExp { regexp } => match regexp {
-                Ok(engine) => Ok(engine.matches(alloc, middle)?.is_some()),
-                Err(_) => Ok(false),
-            },
+        match self.look(input) {
+            None => Ok(false),
+            Some(Look::Matched | Look::Captured(_)) => Ok(true),
+            Some(Look::Asks { engine, middle }) => Ok(engine.matches(alloc, middle)?.is_some()),
         }
     }
 }

@@ -199,7 +199,7 @@ pub(crate) enum Captured<'a> {
 impl<'a> Captured<'a> {
     /// What a look at a text results in, once an engine is asked that has to be.
     #[inline(always)]
-    pub(super) fn of_look<R: RegExp>(alloc: Global, look: Look<'a, R>) -> Result<Self, Missed>
+    pub(super) fn of_look<R: RegExp>(alloc: Global, look: Look<'_, 'a, R>) -> Result<Self, Missed>
         ensures { IsCapturedOf R.answer look.entry result }
     {
         match look {

@@ -219,7 +219,7 @@ impl<R: RegExp> UrlPattern<R> {
 
     /// What the components see in their texts, before an engine is asked. `None`: one of them does not match.
     #[inline(always)]
-    fn look<'a>(&'a self, texts: &Eight<&'a str>) -> Option<Eight<Look<'a, R>>>
+    fn look<'a>(&'a self, texts: &Eight<&'a str>) -> Option<Eight<Look<'a, 'a, R>>>
         ensures some { IfSome result (AreLooks R.answer (pattern_view self.now) (borrowed_texts texts.now)) }
         ensures none { IfNone result (IsRefused R.answer (pattern_view self.now) (borrowed_texts texts.now)) }
         ensures asked { IfSome result (AskWithCause (pattern_view self.now) (borrowed_texts texts.now)) }
@@ -260,7 +260,7 @@ impl<R: RegExp> UrlPattern<R> {
 /// What eight looks capture. `None`: an engine that is asked does not match.
 fn captures_of_looks<'a, R: RegExp>(
     alloc: Global,
-    looks: Eight<Look<'a, R>>,
+    looks: Eight<Look<'a, 'a, R>>,
 ) -> Result<Option<Eight<Captured<'a>>>, OutOfMemory>
     ensures some { IfOk result (λ found. IfSome found (AreCaptured R.answer looks.entry)) }
     ensures none { IfOk result (λ found. IfNone found ((name : Name) × (look_answer R.answer (Some (at looks.entry name)) ≡ None))) }

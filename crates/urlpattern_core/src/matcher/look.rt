@@ -11,7 +11,7 @@ use crate::regexp::RegExp;
 
 /// What a matcher sees in a text before an engine is asked.
 #[derive(Drop)]
-pub enum Look<'a, R> {
+pub enum Look<'m, 'a, R> {
     /// The text is matched, and there are no groups.
     Matched,
     /// The text is matched, and the one group captures this.
@@ -19,7 +19,7 @@ pub enum Look<'a, R> {
     /// The text is matched if an engine matches what stands between prefix and suffix.
     Asks {
         /// The value of the engine.
-        engine: &'a R,
+        engine: &'m R,
         /// What stands between prefix and suffix.
         middle: &'a str,
     },
@@ -28,7 +28,7 @@ pub enum Look<'a, R> {
 impl<R: RegExp> Matcher<R> {
     /// What is seen in a text. It does not allocate and asks no engine. `None`: the text is not
     /// matched. An engine is left to be asked only where one stands between the text's prefix and suffix.
-    pub fn look<'a>(&'a self, input: &'a str) -> Option<Look<'a, R>>
+    pub fn look<'m, 'a>(&'m self, input: &'a str) -> Option<Look<'m, 'a, R>>
         ensures answer { Answers R.answer (matcher_view self.now) (chars input.now) (look_answer R.answer result) }
         ensures asked { IfSome result (λ look. IsAsking look → AsksEngine (matcher_view self.now) (chars input.now)) }
     {
