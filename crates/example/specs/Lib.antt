@@ -1,3 +1,3 @@
-pub mod Captured
+pub mod NamedUsers
 pub mod FirstRule
 pub mod Same

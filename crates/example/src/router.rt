@@ -1,6 +1,6 @@
 //! A router: what a URL under `/users/:id` names.
 
-ghost use Rattle.example.specs.Captured.{NamesNone, NamesUser};
+ghost use Rattle.example.specs.NamedUsers.{NamesNone, NamesUser};
 ghost use Rattle.std.specs.Prelude.{IfNone, IfOk, IfSome, Some};
 ghost use Rattle.std.specs.Str.{chars};
 ghost use Rattle.urlpattern.specs.Errors.{OnlyOutOfMemory};

@@ -1,6 +1,6 @@
 -- Worked examples of what the program prints.
 use Rattle.std.proofs.Common.{◌≡◌, [], ◌∷◌, Some, None, codes, refl}
-use Rattle.urlpat_commands.specs.Answers.{base_of, capture_of}
+use Rattle.urlpat_commands.specs.Answers.{base_of, group_bytes}
 use Rattle.urlpat_commands.specs.Report.{component_lines, group_line}
 
 -- the answer to `component pathname /users/:id`
@@ -13,7 +13,7 @@ component_without_groups : component_lines [] (codes "^/users$") (codes "/users"
 component_without_groups = refl
 
 -- of a group that took no part the line ends after its name
-optional_group_that_took_no_part : group_line (codes "pathname") (codes "lang") (capture_of (Some None)) ≡ codes "pathname lang\n"
+optional_group_that_took_no_part : group_line (codes "pathname") (codes "lang") (group_bytes (Some None)) ≡ codes "pathname lang\n"
 optional_group_that_took_no_part = refl
 
 -- one that captured the empty text has a mark

@@ -14,10 +14,10 @@ use Rattle.std.specs.Prelude.{◌⊎◌, IsSome, Option, String, encode_utf8_all
 use Rattle.std.specs.Str.{chars}
 use Rattle.std.specs.declared.alloc.Global.{Global}
 use Rattle.urlpat_commands.proofs.AnswerLemmas.{bytes_of_text}
-use Rattle.urlpat_commands.specs.Answers.{AreNames, capture_of, line_of}
+use Rattle.urlpat_commands.specs.Answers.{AreNames, group_bytes, line_of}
 use Rattle.urlpat_commands.specs.Report.{group_line}
-use Rattle.urlpattern.specs.Captured.{capture_view}
-use Rattle.urlpattern.specs.Captures.{captures_view, groups_view}
+use Rattle.urlpattern.specs.CaptureTexts.{capture_view}
+use Rattle.urlpattern.specs.BorrowedMatches.{pattern_captures_view, groups_view}
 use Rattle.urlpattern.specs.Match.{ResultView}
 use Rattle.urlpattern.specs.Text.{text_of}
 use Rattle.urlpattern_syntax.specs.declared.eight.ComponentName.{ComponentName}
@@ -60,7 +60,7 @@ names-end names captures gathered all ends was =
 
 -- a name is among those of the groups where there is a group of it
 pub named-group : (found : UrlPatternCaptures) (component : ComponentName) (name : List ℕ) →
-    Contains (keys_of (groups_view found component)) name ↔ IsSome ((captures_view found component).group name)
+    Contains (keys_of (groups_view found component)) name ↔ IsSome ((pattern_captures_view found component).group name)
 named-group found component name =
     let groups = groups_view found component in
     let turned = IsPermutation-map (λ (group : List ℕ × Option (List ℕ)). group.0) groups (reverse groups) (IsPermutation-reverse groups) in (
@@ -104,7 +104,7 @@ abbrev pub name_cmp : Bor (String Global) → Bor (String Global) → Ordering
 name_cmp name other = slice_cmp nat_cmp (string_bytes name.now) (string_bytes other.now)
 
 pub names-in_order : (found : UrlPatternCaptures) (component : ComponentName) (gathered sorted : List (Bor (String Global))) → texts gathered ≡ keys_of (groups_view found component) →
-    IsPermutation gathered sorted → IsSorted name_cmp sorted → AreNames (captures_view found component) (texts (dedup is_same_name sorted))
+    IsPermutation gathered sorted → IsSorted name_cmp sorted → AreNames (pattern_captures_view found component) (texts (dedup is_same_name sorted))
 names-in_order found component gathered sorted are_all permuted in_order =
     let once = dedup is_same_name sorted in
     record {
@@ -128,9 +128,9 @@ names-in_order found component gathered sorted are_all permuted in_order =
 
 -- the lines by the bytes of names are those by their characters
 pub lines-of_texts : (component : List ℕ) (found : ResultView) (names : List (Bor (String Global))) →
-    flat_map (λ name. group_line component name (capture_of (found.group (chars name)))) (map bytes_at names) ≡ flat_map (line_of component found) (texts names)
+    flat_map (λ name. group_line component name (group_bytes (found.group (chars name)))) (map bytes_at names) ≡ flat_map (line_of component found) (texts names)
 lines-of_texts component found [] = refl
 lines-of_texts component found (name ∷ names) =
     ap₂ (λ first rest. first ++ rest)
-    (ap (λ bytes. group_line component bytes (capture_of (found.group (text_at name)))) (bytes_of_text name.now (text_at name) refl))
+    (ap (λ bytes. group_line component bytes (group_bytes (found.group (text_at name)))) (bytes_of_text name.now (text_at name) refl))
     (lines-of_texts component found names)

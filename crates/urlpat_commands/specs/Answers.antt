@@ -14,7 +14,7 @@ use Rattle.urlpat_commands.specs.declared.command.Failure.{Failure}
 use Rattle.urlpat_commands.specs.declared.command.Failure.TheVariants as failures
 use Rattle.urlpat_commands.specs.declared.command.Printed.{Printed}
 use Rattle.urlpat_commands.specs.declared.command.TheConstants.{DONE, NO_MATCH}
-use Rattle.urlpat_commands.specs.Kinds.{IsKind, IsNamed}
+use Rattle.urlpat_commands.specs.Kinds.{IsKind, NamesOptions}
 use Rattle.urlpat_commands.specs.Report.{component_lines, first_line, group_line}
 use Rattle.urlpattern.specs.Eight.{components, name_text}
 use Rattle.urlpattern.specs.Dialect.{HasMeaningOf}
@@ -33,7 +33,7 @@ use Rattle.urlpattern.specs.Printing.{Keeps, printed}
 use Rattle.urlpattern.specs.Reading.{Encoding, Reads, Refuses, encoding_of}
 use Rattle.urlpattern.specs.RegexpText.{group_names, regexp_text}
 use Rattle.urlpattern.specs.RoundTrip.{IsPrintable, ReadsBack}
-use Rattle.urlpattern_engine.specs.Engine.{pattern_answer, pattern_engine}
+use Rattle.urlpattern_engine.specs.PatternRegexps.{pattern_answer, pattern_engine}
 use Rattle.urlpattern_engine.specs.declared.pattern_regexp.PatternRegexp.{PatternRegexp}
 use Rattle.urlpattern_syntax.specs.declared.eight.ComponentName.{ComponentName}
 use Rattle.urlpattern_init.specs.declared.init.UrlPatternMatchInput.TheVariants as match_inputs
@@ -62,7 +62,7 @@ kept = encoding_of IsCopy
 pub record IsComponentText (kind pattern text : List ℕ) : Type 0 where
   pub options : OptionsView
   pub parts : List PartView
-  pub is_named : IsNamed kind options
+  pub is_named : NamesOptions kind options
   pub reads : Reads (chars pattern) options kept parts
   pub means : All (λ part. part.kind ≢ Regexp) parts → HasMeaningOf (regexp_text options parts) options parts
   pub reads_back : (answers : Answered) → IsPrintable options parts → Keeps (listed answers) parts
@@ -70,15 +70,15 @@ pub record IsComponentText (kind pattern text : List ℕ) : Type 0 where
   pub is_text : text ≡ component_lines (map encode_utf8_all (group_names parts)) (encode_utf8_all (regexp_text options parts)) (encode_utf8_all (printed options parts))
 
 -- The pattern is refused with this error under the options of that name.
-pub record RefusesComponent (kind pattern : List ℕ) (error : ErrorView) : Type 0 where
+pub record RefusesComponentText (kind pattern : List ℕ) (error : ErrorView) : Type 0 where
   pub options : OptionsView
-  pub is_named : IsNamed kind options
+  pub is_named : NamesOptions kind options
   pub refuses : Refuses (chars pattern) options kept error
 
 -- why there is no such text: the word names no options, the pattern is refused, or memory ran out
 abbrev pub FailsComponent : (kind pattern : List ℕ) → Failure → Type 0
 FailsComponent kind pattern failures.Usage = ¬ IsKind kind
-FailsComponent kind pattern (failures.Refused error) = MemoryOr (RefusesComponent kind pattern) error
+FailsComponent kind pattern (failures.Refused error) = MemoryOr (RefusesComponentText kind pattern) error
 
 -- ---- what a pattern captures
 
@@ -99,9 +99,9 @@ abbrev pub RefusesPatternOf : (text : List ℕ) → (base : Option (List ℕ)) �
 RefusesPatternOf text base error = RefusesPatternOfText pattern_engine (chars text) base default_pattern_options error
 
 -- the bytes that a group captured, if it took part
-abbrev pub capture_of : Option (Option (List ℕ)) → Option (List ℕ)
-capture_of (Some (Some text)) = Some (encode_utf8_all text)
-capture_of capture = None
+abbrev pub group_bytes : Option (Option (List ℕ)) → Option (List ℕ)
+group_bytes (Some (Some text)) = Some (encode_utf8_all text)
+group_bytes capture = None
 
 -- These are the names of the component's groups, each once, in the order of their bytes.
 pub record AreNames (found : ResultView) (names : List (List ℕ)) : Type 0 where
@@ -110,7 +110,7 @@ pub record AreNames (found : ResultView) (names : List (List ℕ)) : Type 0 wher
 
 -- the line of the component's group of this name
 abbrev pub line_of : (component : List ℕ) → ResultView → (name : List ℕ) → List ℕ
-line_of component found name = group_line component (encode_utf8_all name) (capture_of (found.group name))
+line_of component found name = group_line component (encode_utf8_all name) (group_bytes (found.group name))
 
 -- the text has a line for each group of the component
 abbrev pub AreGroupLines : (component : List ℕ) → ResultView → (text : List ℕ) → Type 0
@@ -130,8 +130,8 @@ GetsLines AreSuch old new = (lines : List ℕ) × (string_bytes new ≡ string_b
 abbrev pub named_results : (ComponentName → ResultView) → List ComponentName → List (List ℕ × ResultView)
 named_results result names = map (λ name. (name_text name, result name)) names
 
-abbrev pub components_of : (ComponentName → ResultView) → List (List ℕ × ResultView)
-components_of result = named_results result components
+abbrev pub all_named_results : (ComponentName → ResultView) → List (List ℕ × ResultView)
+all_named_results result = named_results result components
 
 -- the input is this URL, under the base URL
 abbrev pub IsUrlOf : (input : List ℕ) → (base : Option (List ℕ)) → (url : Parts) → Type 0
@@ -151,7 +151,7 @@ pub record IsMatchTextBy (compiled : PatternView PatternRegexp) (input : List �
   pub result : ComponentName → ResultView
   pub is_url : IsUrlOf input base url
   pub is_match : IsMatch pattern_answer compiled (match_inputs.Url url) result
-  pub are_lines : AreLines (components_of result) text
+  pub are_lines : AreLines (all_named_results result) text
 
 abbrev pub IsMatchText : (pattern input : List ℕ) → (base : Option (List ℕ)) → (text : List ℕ) → Type 0
 IsMatchText pattern input base text =
@@ -199,7 +199,7 @@ pub record IsFirstTextBy (compiled : List (PatternView PatternRegexp)) (input : 
   pub lines : List ℕ
   pub is_url : IsUrlOf input base url
   pub is_first : IsFirstMatch pattern_answer compiled (match_inputs.Url url) (Some (index, result))
-  pub are_lines : AreLines (components_of result) lines
+  pub are_lines : AreLines (all_named_results result) lines
   pub is_text : text ≡ first_line index ++ lines
 
 abbrev pub IsFirstText : (patterns : List (List ℕ)) → (input : List ℕ) → (base : Option (List ℕ)) → (text : List ℕ) → Type 0
@@ -268,9 +268,9 @@ IsFirstFailure words failure = failure ≡ failures.Usage
 -- ---- commands
 
 -- the answer to the words, and the status of the run: 0, or 1 where an input is not matched
-abbrev pub IsAnswer : (words : List (List ℕ)) → (text : List ℕ) → (status : ℕ) → Type 0
-IsAnswer [] text status = ⊥
-IsAnswer (command ∷ words) text status =
+abbrev pub IsCommandAnswer : (words : List (List ℕ)) → (text : List ℕ) → (status : ℕ) → Type 0
+IsCommandAnswer [] text status = ⊥
+IsCommandAnswer (command ∷ words) text status =
     ((command ≡ codes "component") × IsComponentAnswer words text status)
     ⊎ ((command ≡ codes "match") × IsMatchAnswer words text status)
     ⊎ ((command ≡ codes "first") × IsFirstAnswer words text status)
@@ -291,11 +291,11 @@ IsFailure (command ∷ words) failure =
 
 -- what is printed answers the words, with this status
 abbrev pub Prints : (words : List (List ℕ)) → (status : ℕ) → (old new : Option (List ℕ)) → Type 0
-Prints words status old new = (text : List ℕ) × IsAnswer words text status × Appends old new text
+Prints words status old new = (text : List ℕ) × IsCommandAnswer words text status × Appends old new text
 
 -- the words have an answer, which is not printed or only in part
-abbrev pub HasAnswer : (words : List (List ℕ)) → Type 0
-HasAnswer words = (text : List ℕ) × (status : ℕ) × IsAnswer words text status
+abbrev pub AreAnswered : (words : List (List ℕ)) → Type 0
+AreAnswered words = (text : List ℕ) × (status : ℕ) × IsCommandAnswer words text status
 
 -- the words have none, and this is so
 abbrev pub FailsWhere : (words : List (List ℕ)) → (IsSo : Type 0) → Type 0

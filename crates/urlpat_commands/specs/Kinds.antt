@@ -3,8 +3,8 @@ use Rattle.std.specs.Prelude.{◌≡◌, ◌⊎◌, ℕ, List, codes}
 use Rattle.urlpattern.specs.Options.{OptionsView, default_options, hostname_options, pathname_options}
 
 -- the word names these options
-abbrev pub IsNamed : (word : List ℕ) → OptionsView → Type 0
-IsNamed word options =
+abbrev pub NamesOptions : (word : List ℕ) → OptionsView → Type 0
+NamesOptions word options =
     ((word ≡ codes "default") × (options ≡ default_options))
     ⊎ ((word ≡ codes "hostname") × (options ≡ hostname_options))
     ⊎ ((word ≡ codes "pathname") × (options ≡ pathname_options))

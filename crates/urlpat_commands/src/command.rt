@@ -2,8 +2,8 @@
 
 ghost use Rattle.std.specs.Io.KnownBytes.{Appends};
 ghost use Rattle.std.specs.Prelude.{◌≡◌, ◌≢◌, ◌⊎◌, map, string_bytes, IfErr, IfOk, IfSome, OnOk, Ok, None};
-ghost use Rattle.urlpat_commands.specs.Answers.{FailsComponent, FailsWhere, HasAnswer, IsAnswer, IsComponentAnswer, IsComponentFailure, IsComponentText, IsCopy, IsFailure, IsPrintedOf, Prints, IsFirstAnswer, IsFirstFailure, IsMatchAnswer, IsMatchFailure, words_view};
-ghost use Rattle.urlpat_commands.specs.Kinds.{IsKind, IsNamed};
+ghost use Rattle.urlpat_commands.specs.Answers.{FailsComponent, FailsWhere, AreAnswered, IsCommandAnswer, IsComponentAnswer, IsComponentFailure, IsComponentText, IsCopy, IsFailure, IsPrintedOf, Prints, IsFirstAnswer, IsFirstFailure, IsMatchAnswer, IsMatchFailure, words_view};
+ghost use Rattle.urlpat_commands.specs.Kinds.{IsKind, NamesOptions};
 ghost use Rattle.urlpat_commands.specs.Report.{component_lines, failure_lines};
 ghost use Rattle.urlpat_commands.specs.declared.command.Failure.{Failure};
 ghost use Rattle.urlpat_commands.specs.declared.command.Failure.TheVariants as failures;
@@ -82,7 +82,7 @@ pub fn run<Out: Write, Err: Write>(
     ensures status { (result ≡ DONE) ⊎ (result ≡ NO_MATCH) ⊎ (result ≡ FAILED) }
     ensures answers { result ≢ FAILED → Prints (words_view words.now) result (Out.contents out.old) (Out.contents out.new) }
     ensures quiet { result ≢ FAILED → err.new ≡ err.old }
-    ensures fails { result ≡ FAILED → FailsWhere (words_view words.now) (out.new ≡ out.old) ⊎ HasAnswer (words_view words.now) }
+    ensures fails { result ≡ FAILED → FailsWhere (words_view words.now) (out.new ≡ out.old) ⊎ AreAnswered (words_view words.now) }
 {
     match answer(alloc, words) {
         Ok(answer) => match out.write_all(answer.text.as_bytes()) {
@@ -113,7 +113,7 @@ fn report<Err: Write>(failure: &Failure, err: &mut Err) -> io::Result<()>
 
 /// What the words ask for.
 fn answer(alloc: Global, words: &[String]) -> Result<Printed, Failure>
-    ensures answers { IfOk result (λ answer. IsAnswer (words_view words.now) (string_bytes answer.text) answer.status) }
+    ensures answers { IfOk result (λ answer. IsCommandAnswer (words_view words.now) (string_bytes answer.text) answer.status) }
     ensures fails { IfErr result (IsFailure (words_view words.now)) }
 {
     let [command, rest @ ..] = words else {
@@ -200,7 +200,7 @@ fn component(alloc: Global, kind: &str, pattern: &str) -> Result<String, Failure
 
 /// The options of this name, if there are such.
 fn options_of(alloc: Global, kind: &str) -> Result<Option<Options>, Error>
-    ensures some { IfOk result (λ found. IfSome found (λ options. IsNamed kind.now (options_view options))) }
+    ensures some { IfOk result (λ found. IfSome found (λ options. NamesOptions kind.now (options_view options))) }
     ensures none { result ≡ Ok None → ¬ IsKind kind.now }
     ensures memory { OnlyOutOfMemory result }
 {

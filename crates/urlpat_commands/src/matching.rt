@@ -3,9 +3,9 @@
 ghost use Rattle.std.specs.Map.{keys_of};
 ghost use Rattle.std.specs.Prelude.{◌≡◌, ◌++◌, ℕ, List, map, option_copied, string_bytes, IfErr, IfOk, OnOk};
 ghost use Rattle.std.specs.Str.{chars};
-ghost use Rattle.urlpat_commands.specs.Answers.{AreGroupLines, AreLines, AreNames, FindsMatch, FindsMatchBy, FindsUrl, GetsLines, IsPatternOf, RefusesPatternOf, base_of, capture_of, components_of};
+ghost use Rattle.urlpat_commands.specs.Answers.{AreGroupLines, AreLines, AreNames, FindsMatch, FindsMatchBy, FindsUrl, GetsLines, IsPatternOf, RefusesPatternOf, base_of, group_bytes, all_named_results};
 ghost use Rattle.urlpat_commands.specs.Report.{group_line};
-ghost use Rattle.urlpattern.specs.Captures.{captures_view, groups_view};
+ghost use Rattle.urlpattern.specs.BorrowedMatches.{pattern_captures_view, groups_view};
 ghost use Rattle.urlpattern.specs.Eight.{name_text};
 ghost use Rattle.urlpattern.specs.Errors.{MemoryOr, OnlyOutOfMemory};
 ghost use Rattle.urlpattern.specs.Patterns.{pattern_view};
@@ -114,7 +114,7 @@ pub fn push_match(
     text: &mut String,
     found: &UrlPatternCaptures<'_>,
 ) -> Result<(), AllocError>
-    ensures { OnOk result (GetsLines (AreLines (components_of (captures_view found.now))) text.old text.new) }
+    ensures { OnOk result (GetsLines (AreLines (all_named_results (pattern_captures_view found.now))) text.old text.new) }
 {
     for &name in ComponentName::all() {
         push_groups(alloc, text, found, name)?;
@@ -129,7 +129,7 @@ fn push_groups(
     found: &UrlPatternCaptures<'_>,
     name: ComponentName,
 ) -> Result<(), AllocError>
-    ensures { OnOk result (GetsLines (AreGroupLines (name_text name) (captures_view found.now name)) text.old text.new) }
+    ensures { OnOk result (GetsLines (AreGroupLines (name_text name) (pattern_captures_view found.now name)) text.old text.new) }
 {
     let groups = sorted_names(alloc, found, name)?;
     for group in &groups {
@@ -144,7 +144,7 @@ fn sorted_names<'c>(
     found: &'c UrlPatternCaptures<'_>,
     name: ComponentName,
 ) -> Result<Vec<&'c String>, AllocError>
-    ensures { IfOk result (λ names. AreNames (captures_view found.now name) (map (λ name. text_of name.now) names.items)) }
+    ensures { IfOk result (λ names. AreNames (pattern_captures_view found.now name) (map (λ name. text_of name.now) names.items)) }
 {
     let mut names = names_of(alloc, found, name)?;
     names.sort_unstable();
@@ -173,7 +173,7 @@ fn capture_of<'a>(
     name: ComponentName,
     group: &str,
 ) -> Option<&'a str>
-    ensures { option_copied result ≡ capture_of ((captures_view found.now name).group (chars group.now)) }
+    ensures { option_copied result ≡ group_bytes ((pattern_captures_view found.now name).group (chars group.now)) }
 {
     match found.get(name, group) {
         Some(Some(capture)) => Some(capture),

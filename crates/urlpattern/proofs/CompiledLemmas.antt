@@ -8,7 +8,7 @@ use Rattle.std.specs.Result.{IsErrAnd}
 use Rattle.std.specs.Str.{chars, IsAscii, IsUtf8}
 use Rattle.std.specs.declared.alloc.Global.{Global}
 use Rattle.std.proofs.lemmas.Str.{IsUtf8-string_bytes}
-use Rattle.urlpattern_laws.proofs.Encodings.{Weakens, reads_weaker, refuses_weaker}
+use Rattle.urlpattern_meaning.proofs.Encodings.{Weakens, reads_weaker, refuses_weaker}
 use Rattle.urlpattern.specs.Compiled.{AreCompiled, FirstRefused, HasEngine, HasHierarchicalPath, IsComponentCompiled, IsComponentRefused, IsPatternOfInit, IsRefusedFrom, Manner, RefusesInit, RefusesValues, after_protocol, has_default_port, is_ipv6_pattern, is_mark, is_same, manner_of, pattern_values, without_default_port}
 use Rattle.urlpattern.specs.Patterns.{pattern_view}
 use Rattle.urlpattern_syntax.specs.declared.eight.ComponentName.{ComponentName as Names}
@@ -18,7 +18,7 @@ use Rattle.urlpattern.specs.declared.pattern.UrlPattern.{UrlPattern}
 use Rattle.urlpattern_inputs.specs.declared.options.UrlPatternOptions.{UrlPatternOptions}
 use Rattle.urlpattern_canonical.proofs.MarkLemmas.{bytes_eq-chars}
 use Rattle.urlpattern_canonical.specs.Canonical.{default_port, is_special, without_first}
-use Rattle.urlpattern_core.specs.Compiling.{ComponentView, IsCompiledFrom, component_view}
+use Rattle.urlpattern_core.specs.Components.{ComponentView, IsCompiledFrom, component_view}
 use Rattle.urlpattern_core.specs.declared.component.Component.{Component}
 use Rattle.urlpattern_core.specs.declared.regexp.RegExp.{Ghosts as Engine}
 use Rattle.urlpattern_syntax.specs.declared.error.Error.{Error}

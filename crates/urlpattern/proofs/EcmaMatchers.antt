@@ -4,11 +4,11 @@ use Rattle.std.specs.Prelude.{IfSome, IsTrue, is_some, option_and_then}
 use Rattle.std.specs.Str.{all_scalars}
 use Rattle.regex.specs.declared.string.regex.Regex.{Regex}
 use Rattle.urlpattern.specs.EcmaRegexps.{KeepsRegex, ecma_engine}
-use Rattle.urlpattern_core.specs.Engines.{IsRegexOf, regex_answer}
+use Rattle.urlpattern_core.specs.Regexes.{IsRegexOf, regex_answer}
 use Rattle.urlpattern_core.specs.FirstWays.{EachAnswersFirst}
-use Rattle.urlpattern_laws.specs.Dialect.{IsTreeOf, Items}
-use Rattle.urlpattern_laws.specs.FirstAnswers.{TookText}
-use Rattle.urlpattern_laws.specs.Ways.{first_way}
+use Rattle.urlpattern_meaning.specs.Dialect.{IsTreeOf, Items}
+use Rattle.urlpattern_meaning.specs.FirstAnswers.{TookText}
+use Rattle.urlpattern_meaning.specs.Ways.{first_way}
 use Rattle.urlpattern_syntax.proofs.TokenExamples.{no}
 use Rattle.urlpattern_core.proofs.FirstMatchers.{made_first}
 use Rattle.urlpattern_core.proofs.RegexWays.{regex_answers_first}

@@ -13,8 +13,8 @@ use Rattle.std.specs.String.{string_eq}
 use Rattle.std.specs.declared.alloc.Global.{Global}
 use Rattle.urlpattern.specs.Calls.{captured_bytes}
 use Rattle.urlpattern.specs.Match.{group_in, group_of}
-use Rattle.urlpattern_core.specs.Captured.{capture_view}
-use Rattle.urlpattern_laws.specs.PartMeaning.{Captures}
+use Rattle.urlpattern_core.specs.CaptureTexts.{capture_view}
+use Rattle.urlpattern_meaning.specs.PartMeaning.{Captures}
 use Rattle.urlpattern_syntax.proofs.StringTexts.{text_bytes}
 use Rattle.urlpattern_syntax.specs.Text.{text_of}
 

@@ -1,3 +1,4 @@
+pub mod Addresses
 pub mod InputLemmas
 pub mod EcmaMatchers
 pub mod MatchInputLemmas
@@ -11,4 +12,4 @@ pub mod CompiledLemmas
 pub mod MeaningLemmas
 pub mod RegexGroups
 pub mod NameOrder
-pub mod PlaceLemmas
+pub mod FixedLemmas

@@ -6,7 +6,7 @@ use Rattle.std.proofs.lemmas.Option.{get_or_from_slice_get, slice_get-map, slice
 use Rattle.std.specs.Prelude.{All, IfOk, IfSome, MatchOption, Option, Some, None, Result, Ok, Err, option_copied, option_map, slice_get}
 use Rattle.urlpattern_init.specs.declared.init.UrlPatternMatchInput.{UrlPatternMatchInput}
 use Rattle.urlpattern_syntax.specs.declared.eight.ComponentName.{ComponentName}
-use Rattle.urlpattern_laws.specs.PartMeaning.{Captures}
+use Rattle.urlpattern_meaning.specs.PartMeaning.{Captures}
 use Rattle.urlpattern.proofs.MatchLaws.{refused-unmatched}
 use Rattle.urlpattern.specs.FirstMatch.{IsFirstMatch, IsFirstMatchOf, AsksBeforeMatch, patterns_view}
 use Rattle.urlpattern.specs.Match.{AsksAnEngine, HasMatch, HasNoMatch, IsMatch, IsMatchOf, IsRefused, ResultView}

@@ -8,10 +8,10 @@ use Rattle.urlpattern_init.specs.declared.init.UrlPatternMatchInput.TheVariants.
 use Rattle.urlpattern_init.specs.Inheritance.{texts_of_url}
 use Rattle.urlpattern.specs.Match.{AsksAnEngine, HasMatch, HasNoMatch, IsMatchOf, group_of}
 use Rattle.urlpattern.specs.Patterns.{PatternView}
-use Rattle.urlpattern_core.specs.Compiling.{ComponentView}
-use Rattle.urlpattern_laws.specs.Matching.{AsksEngine, InnerView, Literal, RegExp, SingleCapture}
-use Rattle.urlpattern_laws.specs.PartMeaning.{Captures}
-use Rattle.urlpattern_laws.proofs.MatchingLaws.{middle_kept}
+use Rattle.urlpattern_core.specs.Components.{ComponentView}
+use Rattle.urlpattern_meaning.specs.Matching.{AsksEngine, InnerView, Literal, RegExp, SingleCapture}
+use Rattle.urlpattern_meaning.specs.PartMeaning.{Captures}
+use Rattle.urlpattern_meaning.proofs.MatchingLaws.{middle_kept}
 use Rattle.urlpattern_syntax.specs.Errors.{ErrorView as views}
 use Rattle.urlpattern_syntax.specs.Eight.{Texts, at}
 

@@ -7,8 +7,8 @@ use Rattle.urlpattern.specs.Match.{HasMatch, HasNoMatch, IsLongInput, IsMatch, I
 use Rattle.urlpattern.specs.MatchInput.{IsNoInput, input_texts}
 use Rattle.urlpattern.specs.Patterns.{PatternView}
 use Rattle.urlpattern_core.proofs.MatcherAnswers.{matches-accepts}
-use Rattle.urlpattern_laws.specs.Matching.{Accepts, InnerView, Literal, Matches, MatcherView, RegExp, SingleCapture}
-use Rattle.urlpattern_laws.specs.PartMeaning.{Captures}
+use Rattle.urlpattern_meaning.specs.Matching.{Accepts, InnerView, Literal, Matches, MatcherView, RegExp, SingleCapture}
+use Rattle.urlpattern_meaning.specs.PartMeaning.{Captures}
 use Rattle.urlpattern_syntax.specs.Eight.{Texts, at}
 
 -- ---- a test tells a match

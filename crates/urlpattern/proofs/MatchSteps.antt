@@ -15,8 +15,8 @@ use Rattle.urlpattern.specs.Patterns.{PatternView}
 use Rattle.urlpattern_core.specs.Looks.{IsAsking, look_answer}
 use Rattle.urlpattern_core.specs.declared.matcher.look.Look.{Look}
 use Rattle.urlpattern_core.specs.declared.matcher.look.Look.TheVariants as looks
-use Rattle.urlpattern_laws.specs.Matching.{Answers, AsksEngine, IsMatched, MatcherView}
-use Rattle.urlpattern_laws.specs.PartMeaning.{Captures}
+use Rattle.urlpattern_meaning.specs.Matching.{Answers, AsksEngine, IsMatched, MatcherView}
+use Rattle.urlpattern_meaning.specs.PartMeaning.{Captures}
 use Rattle.urlpattern_syntax.specs.declared.error.Error.{Error}
 use Rattle.urlpattern_syntax.specs.Eight.{Texts, at}
 

@@ -4,16 +4,16 @@ use Rattle.std.proofs.lemmas.Bool.{or_parts}
 use Rattle.std.proofs.lemmas.List.Elements.{All-cons}
 use Rattle.std.specs.Prelude.{All, MatchOption, Option, Some, None, option_map, Ok}
 use Rattle.url.specs.Parser.{Parsed}
-use Rattle.urlpattern_core.specs.Compiling.{ComponentView, IsComponentOf, IsEngineOf, engine_flags, has_regexp, is_regexp}
+use Rattle.urlpattern_core.specs.Components.{ComponentView, IsComponentOf, IsEngineOf, engine_flags, has_regexp, is_custom}
 use Rattle.urlpattern_core.specs.declared.regexp.RegExp.{Ghosts as Engine}
 use Rattle.urlpattern_init.specs.declared.init.UrlPatternInit.{UrlPatternInit}
 use Rattle.urlpattern_init.specs.declared.init.UrlPatternMatchInput.{UrlPatternMatchInput}
 use Rattle.urlpattern_syntax.specs.declared.eight.ComponentName.{ComponentName}
 use Rattle.urlpattern_inputs.specs.declared.options.UrlPatternOptions.{UrlPatternOptions}
-use Rattle.urlpattern_laws.proofs.CallbackLaws.{EncodesOnce, reading_one_encoded}
-use Rattle.urlpattern_laws.proofs.MatcherMeaning.{matcher_means}
-use Rattle.urlpattern_laws.specs.Matching.{Agrees, Answers}
-use Rattle.urlpattern_laws.specs.PartMeaning.{Captures, PartsMean}
+use Rattle.urlpattern_meaning.proofs.CallbackLaws.{EncodesOnce, reading_one_encoded}
+use Rattle.urlpattern_meaning.proofs.MatcherMeaning.{matcher_means}
+use Rattle.urlpattern_meaning.specs.Matching.{Agrees, Answers}
+use Rattle.urlpattern_meaning.specs.PartMeaning.{Captures, PartsMean}
 use Rattle.urlpattern.proofs.MatchLaws.{no_input-long, texts-one}
 use Rattle.urlpattern.specs.Compiled.{AreCompiled, IsPatternOfInit, Manner, canonical_encoding, manner_of}
 use Rattle.urlpattern.specs.Match.{HasNoMatch, IsLongInput, IsMatch, IsResultOf, ResultView, group_of, result_view, UrlPatternResult}
@@ -29,13 +29,13 @@ use Rattle.urlpattern_syntax.specs.Eight.{Texts, Values, at}
 
 -- ---- no custom regular expression
 
-not_regexp : (kind : PartType) → is_regexp kind ≡ false → kind ≢ Regexp
-not_regexp kind other is = let e : true ≡ false = ap is_regexp (sym is) ∙ other in cc e
+not_regexp : (kind : PartType) → is_custom kind ≡ false → kind ≢ Regexp
+not_regexp kind other is = let e : true ≡ false = ap is_custom (sym is) ∙ other in cc e
 
 pub none_custom : (parts : List PartView) → has_regexp parts ≡ false → All (λ part. part.kind ≢ Regexp) parts
 none_custom [] none = λ k d lt. absurd (omega (arith, lt))
 none_custom (part ∷ parts) none =
-    let split = or_parts (is_regexp part.kind) (has_regexp parts) none in
+    let split = or_parts (is_custom part.kind) (has_regexp parts) none in
     All-cons (λ (other : PartView). other.kind ≢ Regexp) part parts (not_regexp part.kind split.0) (none_custom parts split.1)
 
 -- ---- canonical values are one

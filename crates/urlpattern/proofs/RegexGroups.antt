@@ -5,19 +5,19 @@ use Rattle.std.specs.Prelude.{⊤, Some, Ok}
 use Rattle.regex.specs.declared.string.regex.Regex.{Regex}
 use Rattle.urlpattern_core.proofs.RegexMatchers.{taken_first}
 use Rattle.urlpattern_core.proofs.RegexWays.{regex_follows}
-use Rattle.urlpattern_core.specs.Compiling.{ComponentView, IsComponentOf, IsEngineOf, engine_flags}
-use Rattle.urlpattern_core.specs.Engines.{regex_answer, regex_engine}
+use Rattle.urlpattern_core.specs.Components.{ComponentView, IsComponentOf, IsEngineOf, engine_flags}
+use Rattle.urlpattern_core.specs.Regexes.{regex_answer, regex_engine}
 use Rattle.urlpattern_core.specs.FirstWays.{IsTakenBy}
 use Rattle.urlpattern_init.specs.declared.init.UrlPatternMatchInput.{UrlPatternMatchInput}
 use Rattle.urlpattern_syntax.specs.declared.eight.ComponentName.{ComponentName}
 use Rattle.urlpattern_inputs.specs.declared.options.UrlPatternOptions.{UrlPatternOptions}
-use Rattle.urlpattern_laws.proofs.FirstAnswers.{first_one, of_made}
-use Rattle.urlpattern_laws.proofs.OneMeaning.{is_tree_of}
-use Rattle.urlpattern_laws.proofs.PartTrees.{tree_of}
-use Rattle.urlpattern_laws.specs.Dialect.{Follows}
-use Rattle.urlpattern_laws.specs.FirstAnswers.{IsFirstOf, TookText}
-use Rattle.urlpattern_laws.specs.Matching.{Answers, FollowsMiddle}
-use Rattle.urlpattern_laws.specs.PartMeaning.{Captures}
+use Rattle.urlpattern_meaning.proofs.FirstAnswers.{first_one, of_made}
+use Rattle.urlpattern_meaning.proofs.OneMeaning.{is_tree_of}
+use Rattle.urlpattern_meaning.proofs.PartTrees.{tree_of}
+use Rattle.urlpattern_meaning.specs.Dialect.{Follows}
+use Rattle.urlpattern_meaning.specs.FirstAnswers.{IsFirstOf, TookText}
+use Rattle.urlpattern_meaning.specs.Matching.{Answers, FollowsMiddle}
+use Rattle.urlpattern_meaning.specs.PartMeaning.{Captures}
 use Rattle.urlpattern.proofs.MatchLaws.{texts-one}
 use Rattle.urlpattern.proofs.MeaningLemmas.{none_custom, read_once}
 use Rattle.urlpattern.specs.Compiled.{AreCompiled, IsComponentCompiled, Manner, manner_of}

@@ -1,4 +1,4 @@
--- Words of the private contracts of matching, and of the view of captures.
+-- What groups capture while a match is made: captures, looks at the eight texts, and maps of groups.
 use Rattle.std.specs.Prelude.{◌≡◌, ℕ, List, [], ◌∷◌, map, Option, None, Some, Result, Ok, Err, IfOk, String, string_bytes, option_map}
 use Rattle.std.specs.Borrow.{Bor}
 use Rattle.std.specs.HashMap.{HashMap}
@@ -7,16 +7,16 @@ use Rattle.std.specs.declared.alloc.AllocError.{AllocError}
 use Rattle.std.specs.declared.alloc.Global.{Global}
 use Rattle.urlpattern_syntax.specs.declared.eight.ComponentName.{ComponentName}
 use Rattle.urlpattern_syntax.specs.declared.eight.Eight.{Eight}
-use Rattle.urlpattern.specs.declared.pattern.captures.Captured.{Captured}
-use Rattle.urlpattern.specs.declared.pattern.captures.Captured.TheVariants as captured
+use Rattle.urlpattern.specs.declared.pattern.captures.GroupCaptures.{GroupCaptures}
+use Rattle.urlpattern.specs.declared.pattern.captures.GroupCaptures.TheVariants as captured
 use Rattle.urlpattern.specs.declared.pattern.captures.Missed.{Missed}
 use Rattle.urlpattern.specs.declared.pattern.captures.Missed.TheVariants as missed
 use Rattle.urlpattern.specs.Match.{IsResultOf, ResultView, UrlPatternResult, group_in, group_of, result_view}
-use Rattle.urlpattern_core.specs.Captured.{capture_view}
+use Rattle.urlpattern_core.specs.CaptureTexts.{capture_view}
 use Rattle.urlpattern_core.specs.Looks.{look_answer, IsAsking}
 use Rattle.urlpattern_core.specs.declared.matcher.look.Look.{Look}
-use Rattle.urlpattern_laws.specs.Matching.{Answers, AsksEngine}
-use Rattle.urlpattern_laws.specs.PartMeaning.{Captures}
+use Rattle.urlpattern_meaning.specs.Matching.{Answers, AsksEngine}
+use Rattle.urlpattern_meaning.specs.PartMeaning.{Captures}
 use Rattle.urlpattern.specs.Patterns.{PatternView}
 use Rattle.urlpattern_syntax.specs.Text.{text_of}
 use Rattle.urlpattern_syntax.specs.Eight.{Texts, at, each}
@@ -26,20 +26,20 @@ abbrev pub borrowed_texts : Eight (Bor (List ℕ)) → Texts
 borrowed_texts texts = each (λ name. chars (at texts name).now)
 
 -- what the groups of a component capture
-abbrev pub captures_of : Captured → Captures
+abbrev pub captures_of : GroupCaptures → Captures
 captures_of captured.Nothing = []
 captures_of (captured.One capture) = capture_view capture ∷ []
 captures_of (captured.Groups captures) = map capture_view captures.items
 
 -- what is captured of what was looked at, where an engine that is asked matches and has memory
-abbrev pub IsCapturedOf : {E : Type 0} → (answer : E → List ℕ → Option Captures) → Look E → Result Captured Missed → Type 0
+abbrev pub IsCapturedOf : {E : Type 0} → (answer : E → List ℕ → Option Captures) → Look E → Result GroupCaptures Missed → Type 0
 IsCapturedOf answer look (Ok captured) = look_answer answer (Some look) ≡ Some (captures_of captured)
 IsCapturedOf answer look (Err missed.Unmatched) = look_answer answer (Some look) ≡ None
 IsCapturedOf answer look (Err missed.OutOfMemory) = IsAsking look
 
 -- a text is copied, unless memory ran out
-abbrev pub IsCopyOf : List ℕ → Result (String Global) AllocError → Type 0
-IsCopyOf text copied = IfOk copied (λ copy. text_of copy ≡ text)
+abbrev pub IsTextCopied : List ℕ → Result (String Global) AllocError → Type 0
+IsTextCopied text copied = IfOk copied (λ copy. text_of copy ≡ text)
 
 -- the map has the groups of these names, which capture this, and no others
 abbrev pub AreGroups : {S : Type 0} → (names : List (List ℕ)) → Captures → HashMap (String Global) (Option (String Global)) S → Type 0
@@ -81,16 +81,16 @@ AskWithCause pattern texts looks =
     (name : ComponentName) → IsAsking (at looks name) → AsksEngine (pattern name).matcher (at texts name)
 
 -- the groups of the components capture this of what was looked at
-abbrev pub AreCaptured : {E : Type 0} → (answer : E → List ℕ → Option Captures) → Eight (Look E) → Eight Captured → Type 0
+abbrev pub AreCaptured : {E : Type 0} → (answer : E → List ℕ → Option Captures) → Eight (Look E) → Eight GroupCaptures → Type 0
 AreCaptured answer looks captures =
     (name : ComponentName) → look_answer answer (Some (at looks name)) ≡ Some (captures_of (at captures name))
 
 -- the captures of each component, as they are answered
-abbrev pub all_captures : Eight Captured → ComponentName → Captures
+abbrev pub all_captures : Eight GroupCaptures → ComponentName → Captures
 all_captures captures name = captures_of (at captures name)
 
 -- the match has these texts, and what the groups of the pattern capture
-abbrev pub HasCaptures : {E : Type 0} → PatternView E → Texts → Eight Captured → (result : ComponentName → ResultView) → Type 0
+abbrev pub HasCaptures : {E : Type 0} → PatternView E → Texts → Eight GroupCaptures → (result : ComponentName → ResultView) → Type 0
 HasCaptures pattern texts captures result =
     (name : ComponentName) → IsResultOf (pattern name).group_name_list (all_captures captures name) (at texts name) (result name)
 

@@ -2,8 +2,8 @@
 use Rattle.std.specs.Prelude.{◌≡◌, ℕ, List, Option, IfSome, IsTrue, is_some, option_and_then}
 use Rattle.urlpattern.specs.declared.quirks.ecma_regexp.EcmaRegexp.{EcmaRegexp}
 use Rattle.urlpattern_core.specs.declared.regexp.RegExp.{Ghosts as Engine}
-use Rattle.urlpattern_core.specs.Engines.{IsRegexOf, regex_answer}
-use Rattle.urlpattern_laws.specs.PartMeaning.{Captures}
+use Rattle.urlpattern_core.specs.Regexes.{IsRegexOf, regex_answer}
+use Rattle.urlpattern_meaning.specs.PartMeaning.{Captures}
 use Rattle.urlpattern_syntax.specs.declared.parser.RegexSyntax.TheVariants.{EcmaScript}
 use Rattle.urlpattern_syntax.specs.Text.{text_of}
 

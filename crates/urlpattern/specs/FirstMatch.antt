@@ -4,10 +4,10 @@ use Rattle.urlpattern_init.specs.declared.init.UrlPatternMatchInput.{UrlPatternM
 use Rattle.urlpattern_syntax.specs.declared.eight.ComponentName.{ComponentName}
 use Rattle.urlpattern.specs.declared.pattern.UrlPattern.{UrlPattern}
 use Rattle.urlpattern.specs.declared.pattern.captures.UrlPatternCaptures.{UrlPatternCaptures}
-use Rattle.urlpattern.specs.Captures.{captures_view}
+use Rattle.urlpattern.specs.BorrowedMatches.{pattern_captures_view}
 use Rattle.urlpattern.specs.Match.{AsksAnEngine, HasMatch, HasNoMatch, IsMatch, IsMatchOf, IsRefused, ResultView, result_view, UrlPatternResult}
 use Rattle.urlpattern.specs.Patterns.{PatternView, pattern_view}
-use Rattle.urlpattern_laws.specs.PartMeaning.{Captures}
+use Rattle.urlpattern_meaning.specs.PartMeaning.{Captures}
 use Rattle.urlpattern_syntax.specs.Eight.{Texts}
 
 -- A `UrlPatternList`: what the components of each pattern are compiled to.
@@ -22,7 +22,7 @@ abbrev pub first_view : Option (ℕ × UrlPatternResult) → Option FirstView
 first_view found = option_map (λ first. (first.0, result_view first.1)) found
 
 abbrev pub first_captures_view : Option (ℕ × UrlPatternCaptures) → Option FirstView
-first_captures_view found = option_map (λ first. (first.0, captures_view first.1)) found
+first_captures_view found = option_map (λ first. (first.0, pattern_captures_view first.1)) found
 
 -- what is found of a list on an input: the least index whose pattern has a match of it, with that match, and none where no
 -- pattern has one

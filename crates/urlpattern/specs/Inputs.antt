@@ -12,11 +12,11 @@ use Rattle.urlpattern_init.specs.declared.init.UrlPatternInit.{UrlPatternInit}
 use Rattle.urlpattern_init.specs.declared.init.UrlPatternMatchInput.{UrlPatternMatchInput}
 use Rattle.urlpattern_init.specs.declared.init.UrlPatternMatchInput.TheVariants as match_inputs
 use Rattle.urlpattern_canonical.specs.Canonical.{IsRefusedByUrl, Reports}
-use Rattle.urlpattern_core.specs.Engines.{regex_engine}
+use Rattle.urlpattern_core.specs.Regexes.{regex_engine}
 use Rattle.urlpattern_inputs.specs.declared.init.UrlPatternInit.{UrlPatternInit as PlainInit}
 use Rattle.urlpattern_inputs.specs.declared.input.StringOrInit.{StringOrInit}
 use Rattle.urlpattern_inputs.specs.declared.input.StringOrInit.TheVariants as inputs
-use Rattle.urlpattern_inputs.specs.InputValues.{given_texts, input_view}
+use Rattle.urlpattern_inputs.specs.InputValues.{plain_init_texts, input_view}
 pub use Rattle.urlpattern.specs.FromString.{RefusesText, parsed_base, text_bytes}
 use Rattle.urlpattern.specs.FromString.{IsInitOfText}
 use Rattle.urlpattern_syntax.specs.Errors.{ErrorView, ErrorView as views}
@@ -33,7 +33,7 @@ parsed_text base text = and_then (parsed_base base) (λ url. parse_url url text)
 
 -- the texts that a plain init gives
 abbrev pub plain_values : PlainInit → Values
-plain_values init = values_of (given_texts init)
+plain_values init = values_of (plain_init_texts init)
 
 abbrev pub plain_base : PlainInit → Option (List ℕ)
 plain_base init = option_map string_bytes init.base_url

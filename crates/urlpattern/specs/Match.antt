@@ -11,8 +11,8 @@ use Rattle.urlpattern.specs.declared.pattern.result.UrlPatternComponentResult.{U
 use Rattle.urlpattern.specs.MatchInput.{IsNoInput, input_bytes, input_texts}
 use Rattle.urlpattern.specs.Patterns.{PatternView}
 use Rattle.urlpattern_canonical.specs.Canonical.{long_text}
-use Rattle.urlpattern_laws.specs.Matching.{Answers, AsksEngine, IsMatched}
-use Rattle.urlpattern_laws.specs.PartMeaning.{Captures}
+use Rattle.urlpattern_meaning.specs.Matching.{Answers, AsksEngine, IsMatched}
+use Rattle.urlpattern_meaning.specs.PartMeaning.{Captures}
 use Rattle.urlpattern_syntax.specs.Text.{text_of}
 use Rattle.urlpattern_syntax.specs.Eight.{Texts, at}
 

@@ -7,11 +7,11 @@ use Rattle.urlpattern_init.specs.declared.init.UrlPatternMatchInput.{UrlPatternM
 use Rattle.urlpattern_syntax.specs.declared.eight.ComponentName.{ComponentName}
 use Rattle.urlpattern_inputs.specs.declared.options.UrlPatternOptions.{UrlPatternOptions}
 use Rattle.regex.specs.declared.string.regex.Regex.{Regex}
-use Rattle.urlpattern_core.specs.Compiling.{ComponentView}
+use Rattle.urlpattern_core.specs.Components.{ComponentView}
 use Rattle.urlpattern_core.specs.declared.regexp.RegExp.{Ghosts as Engine}
-use Rattle.urlpattern_laws.specs.FirstAnswers.{IsFirstOf, TookText}
-use Rattle.urlpattern_laws.specs.Matching.{FollowsMiddle}
-use Rattle.urlpattern_laws.specs.PartMeaning.{Captures, PartsMean}
+use Rattle.urlpattern_meaning.specs.FirstAnswers.{IsFirstOf, TookText}
+use Rattle.urlpattern_meaning.specs.Matching.{FollowsMiddle}
+use Rattle.urlpattern_meaning.specs.PartMeaning.{Captures, PartsMean}
 use Rattle.urlpattern.specs.Compiled.{AreCompiled, Manner, canonical_encoding, manner_of, pattern_values}
 use Rattle.urlpattern.specs.Match.{HasNoMatch, IsLongInput, IsMatch, IsResultOf, ResultView}
 use Rattle.urlpattern.specs.MatchInput.{input_texts}

@@ -6,7 +6,7 @@ use Rattle.urlpattern_syntax.specs.declared.eight.Eight.{Eight}
 use Rattle.urlpattern_syntax.specs.Eight.{at, components}
 use Rattle.urlpattern_core.specs.declared.component.Component.{Component}
 use Rattle.urlpattern.specs.declared.pattern.UrlPattern.{UrlPattern}
-use Rattle.urlpattern_core.specs.Compiling.{ComponentView, component_view}
+use Rattle.urlpattern_core.specs.Components.{ComponentView, component_view}
 
 -- A `UrlPattern`: what each component is compiled to.
 abbrev pub PatternView : Type 0 → Type 0

@@ -1,19 +1,19 @@
 -- The sentences of the main theorem. Where one speaks of an encoding, it is any list of texts with their answers.
 use Rattle.std.specs.Prelude.{◌≡◌, ◌↔◌, ◌⊎◌, ⊤, ℕ, false, List, length, Option, IsTrue}
 use Rattle.std.specs.Str.{all_scalars}
-use Rattle.urlpattern_core.specs.Compiling.{IsEngineOf}
+use Rattle.urlpattern_core.specs.Components.{IsEngineOf}
 use Rattle.urlpattern_core.specs.declared.regexp.RegExp.{Ghosts as Engine}
-use Rattle.urlpattern_core.specs.Engines.{regex_engine}
+use Rattle.urlpattern_core.specs.Regexes.{regex_engine}
 use Rattle.urlpattern_core.specs.FirstWays.{EachAnswersFirst}
 use Rattle.urlpattern_core.specs.Generated.{AreGenerated}
-use Rattle.urlpattern_engine.specs.Engine.{pattern_engine}
-use Rattle.urlpattern_laws.specs.Dialect.{IsOnlyTreeOf, IsTreeOf, Items, Means}
-use Rattle.urlpattern_laws.specs.FirstAnswers.{AnswersFirstInMiddle, IsFirstOf, TookText}
-use Rattle.urlpattern_laws.specs.Laws.{Answered, AnswersOnce, HasOutcome, HasSomeOutcome, LacksAnswer, Outcome, listed}
-use Rattle.urlpattern_laws.specs.Matching.{Answers, AnswersByMeaning, IsMadeOf, MatcherView}
-use Rattle.urlpattern_laws.specs.PartMeaning.{Captures, PartsMean}
-use Rattle.urlpattern_laws.specs.Printing.{Keeps, joined, printed}
-use Rattle.urlpattern_laws.specs.RoundTrip.{WereRead}
+use Rattle.urlpattern_engine.specs.PatternRegexps.{pattern_engine}
+use Rattle.urlpattern_meaning.specs.Dialect.{IsOnlyTreeOf, IsTreeOf, Items, Means}
+use Rattle.urlpattern_meaning.specs.FirstAnswers.{AnswersFirstInMiddle, IsFirstOf, TookText}
+use Rattle.urlpattern_meaning.specs.Laws.{Answered, AnswersOnce, HasOutcome, HasSomeOutcome, LacksAnswer, Outcome, listed}
+use Rattle.urlpattern_meaning.specs.Matching.{Answers, AnswersByMeaning, IsMadeOf, MatcherView}
+use Rattle.urlpattern_meaning.specs.PartMeaning.{Captures, PartsMean}
+use Rattle.urlpattern_meaning.specs.Printing.{Keeps, joined, printed}
+use Rattle.urlpattern_meaning.specs.RoundTrip.{WereRead}
 use Rattle.urlpattern.specs.PatternLaws.{TestsAgree, TestsAreOne}
 use Rattle.urlpattern_syntax.specs.Errors.{ErrorView}
 use Rattle.urlpattern_syntax.specs.Options.{OptionsView}

@@ -6,9 +6,10 @@ ghost use Rattle.std.specs.Prelude.{ℕ, List, Option};
 ghost use Rattle.urlpattern.specs.EcmaRegexps.{KeepsRegex, ecma_engine};
 ghost use Rattle.urlpattern.specs.PatternLaws.{AnswersMeanTheParts, FirstResultsAreOne, MatchesAreOne, RegexMeetsPremises, RegexResultsAreFirst, TestsAgree, TestsAreOne};
 ghost use Rattle.urlpattern_core.specs.FirstWays.{EachAnswersFirst};
-ghost use Rattle.urlpattern_laws.specs.FirstAnswers.{TookText};
-ghost use Rattle.urlpattern_laws.specs.PartMeaning.{Captures};
+ghost use Rattle.urlpattern_meaning.specs.FirstAnswers.{TookText};
+ghost use Rattle.urlpattern_meaning.specs.PartMeaning.{Captures};
 
+pub use urlpattern_compiled::laws::reading_undoes_writing;
 pub use urlpattern_core::laws::{
     captures_are_as_many_as_names, copies_are_one_capture, dialect_trees_are_one,
     every_text_has_an_outcome, every_text_has_tokens, first_ways_are_meant, joining_keeps_meaning,
@@ -27,7 +28,6 @@ pub use urlpattern_engine::laws::{
     pattern_regexps_answer_the_first_way, pattern_regexps_take_each_generated_text,
 };
 pub use urlpattern_init::laws::splits_are_one;
-pub use urlpattern_compiled::laws::reading_undoes_writing;
 
 /// What a pattern answers to an input is what its pattern texts mean. In a match each component's pattern text means the
 /// component's text, and the groups are the names of its parts beside the captures of one such meaning. No match is answered

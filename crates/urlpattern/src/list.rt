@@ -41,7 +41,7 @@ pub struct UrlPatternList<R: RegExp = regex::Regex> {
 
 impl<R: RegExp> Model for UrlPatternList<R> {
     ghost use Rattle.std.specs.Prelude.{List};
-    ghost use Rattle.urlpattern.specs.Places.{AreKeys};
+    ghost use Rattle.urlpattern.specs.PatternKeys.{AreKeys};
     ghost use Rattle.urlpattern.specs.declared.pattern.UrlPattern.{UrlPattern};
 
     ghost Value = { List (UrlPattern R) };
@@ -73,7 +73,7 @@ impl<R: RegExp> UrlPatternList<R> {
         let Ok(()) = self.patterns.reserve(1) else {
             return Err(pattern);
         };
-        let Ok(()) = self.index.push(pattern.place()) else {
+        let Ok(()) = self.index.push(pattern.fixed()) else {
             return Err(pattern);
         };
         match self.patterns.push(pattern) {

@@ -6,12 +6,12 @@ ghost use Rattle.urlpattern_syntax.specs.declared.eight.ComponentName.TheVariant
 ghost use Rattle.urlpattern_syntax.specs.Eight.{at};
 
 mod captures;
+mod fixed;
 mod from_string;
 mod groups;
 mod matching;
 mod once;
 mod parse;
-mod place;
 mod result;
 mod texts;
 

@@ -1,4 +1,4 @@
--- Words of the private step that reports every refusal of `url` as one.
+-- Refusals of `url` that are reported as one reason.
 use Rattle.std.specs.Prelude.{◌≡◌, ℕ, Result, Ok, IsErrAnd, MatchResult}
 use Rattle.url.specs.declared.error.ParseError.{ParseError}
 use Rattle.url.specs.declared.error.ParseError.TheVariants.{Overflow, OutOfMemory}

@@ -5,7 +5,7 @@ use Rattle.serde_json.specs.Data.{Data, null, boolean, string, array, Items, no_
 use Rattle.serde_json.specs.Find.{as_array, as_str}
 use Rattle.serde_json.specs.View.{items_of}
 use Rattle.urlpattern_inputs.specs.Trees.{◌>>=◌, each_member, flag_read, member_read, object_of, optional_read, read_each, text_read}
-use Rattle.urlpattern_compiled.specs.Values.{ComponentView, InnerView, MatcherView, PatternView, literal, single_capture, regexp}
+use Rattle.urlpattern_compiled.specs.Values.{PlainComponentView, PlainInnerView, PlainMatcherView, PlainPatternView, literal, single_capture, regexp}
 use Rattle.urlpattern_syntax.specs.Eight.{at, name_text}
 
 -- ---- the trees
@@ -16,7 +16,7 @@ filter_tree None = null
 filter_tree (Some character) = string (encode_utf8 character)
 
 -- the members for what is between prefix and suffix
-abbrev pub inner_members : InnerView → List (List ℕ × Option Data)
+abbrev pub inner_members : PlainInnerView → List (List ℕ × Option Data)
 inner_members (literal bytes) =
     (codes "kind", Some (string (codes "literal")))
     ∷ (codes "literal", Some (string bytes))
@@ -31,16 +31,16 @@ inner_members (regexp bytes) =
     ∷ (codes "regexp", Some (string bytes))
     ∷ []
 
-abbrev pub inner_tree : InnerView → Data
+abbrev pub inner_tree : PlainInnerView → Data
 inner_tree inner = object_of (inner_members inner)
 
-abbrev pub matcher_tree : MatcherView → Data
+abbrev pub matcher_tree : PlainMatcherView → Data
 matcher_tree matcher = object_of (
     (codes "prefix", Some (string matcher.prefix))
     ∷ (codes "suffix", Some (string matcher.suffix))
     ∷ inner_members matcher.inner)
 
-abbrev pub component_tree : ComponentView → Data
+abbrev pub component_tree : PlainComponentView → Data
 component_tree component = object_of (
     (codes "patternString", Some (string component.pattern_string))
     ∷ (codes "regexpString", Some (string component.regexp_string))
@@ -48,7 +48,7 @@ component_tree component = object_of (
     ∷ (codes "groupNameList", Some (array (items_of (map string component.group_name_list))))
     ∷ [])
 
-abbrev pub pattern_tree : PatternView → Data
+abbrev pub pattern_tree : PlainPatternView → Data
 pattern_tree pattern = object_of (
     each_member (λ name. Some (component_tree (at pattern.components name)))
     ++ (codes "hasRegexpGroups", Some (boolean pattern.has_regexp_groups)) ∷ [])
@@ -64,24 +64,24 @@ only (character ∷ other ∷ rest) = None
 abbrev pub character_read : Data → Option ℕ
 character_read tree = as_str tree >>= λ bytes. only (chars bytes)
 
-unfoldable pub capture_read : Data → Option InnerView
+unfoldable pub capture_read : Data → Option PlainInnerView
 capture_read tree = do
   filter ← optional_read character_read (codes "filter") tree
   allow_empty ← flag_read (codes "allowEmpty") tree
   Some (single_capture filter allow_empty)
 
 -- what stands between prefix and suffix, of this kind
-abbrev pub kind_read : Data → List ℕ → Option InnerView
+abbrev pub kind_read : Data → List ℕ → Option PlainInnerView
 kind_read tree kind =
     if bytes_eq kind (codes "literal") then option_map literal (text_read (codes "literal") tree)
     else if bytes_eq kind (codes "singleCapture") then capture_read tree
     else if bytes_eq kind (codes "regExp") then option_map regexp (text_read (codes "regexp") tree)
     else None
 
-unfoldable pub inner_read : Data → Option InnerView
+unfoldable pub inner_read : Data → Option PlainInnerView
 inner_read tree = text_read (codes "kind") tree >>= kind_read tree
 
-unfoldable pub matcher_read : Data → Option MatcherView
+unfoldable pub matcher_read : Data → Option PlainMatcherView
 matcher_read tree = do
   prefix ← text_read (codes "prefix") tree
   suffix ← text_read (codes "suffix") tree
@@ -99,7 +99,7 @@ texts_of_items (item tree rest) = do
 abbrev pub texts_read : Data → Option (List (List ℕ))
 texts_read tree = as_array tree >>= texts_of_items
 
-unfoldable pub component_read : Data → Option ComponentView
+unfoldable pub component_read : Data → Option PlainComponentView
 component_read tree = do
   pattern_string ← text_read (codes "patternString") tree
   regexp_string ← text_read (codes "regexpString") tree
@@ -107,7 +107,7 @@ component_read tree = do
   group_name_list ← member_read texts_read (codes "groupNameList") tree
   Some (record { pattern_string = pattern_string; regexp_string = regexp_string; matcher = matcher; group_name_list = group_name_list })
 
-unfoldable pub pattern_read : Data → Option PatternView
+unfoldable pub pattern_read : Data → Option PlainPatternView
 pattern_read tree = do
   has_regexp_groups ← flag_read (codes "hasRegexpGroups") tree
   components ← read_each (λ name. member_read component_read (name_text name) tree)

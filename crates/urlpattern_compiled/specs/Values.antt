@@ -13,42 +13,42 @@ use Rattle.urlpattern_syntax.specs.declared.eight.Eight.{Eight}
 
 -- ---- what a pattern is
 
-pub data InnerView : Type 0 where
-  literal : List ℕ → InnerView
-  single_capture : (filter : Option ℕ) → (allow_empty : Bool) → InnerView
-  regexp : List ℕ → InnerView
+pub data PlainInnerView : Type 0 where
+  literal : List ℕ → PlainInnerView
+  single_capture : (filter : Option ℕ) → (allow_empty : Bool) → PlainInnerView
+  regexp : List ℕ → PlainInnerView
 
 -- the value, with each text seen by this function
-abbrev pub inner_by : (String Global → List ℕ) → InnerMatcher → InnerView
+abbrev pub inner_by : (String Global → List ℕ) → InnerMatcher → PlainInnerView
 inner_by seen (matchers.Literal string) = literal (seen string)
 inner_by seen (matchers.SingleCapture filter allow_empty) = single_capture filter allow_empty
 inner_by seen (matchers.RegExp string) = regexp (seen string)
 
-abbrev pub inner_view : InnerMatcher → InnerView
-inner_view inner = inner_by string_bytes inner
+abbrev pub plain_inner_view : InnerMatcher → PlainInnerView
+plain_inner_view inner = inner_by string_bytes inner
 
-pub record MatcherView : Type 0 where
+pub record PlainMatcherView : Type 0 where
   pub prefix : List ℕ
   pub suffix : List ℕ
-  pub inner : InnerView
+  pub inner : PlainInnerView
 
-abbrev pub matcher_by : (String Global → List ℕ) → Matcher → MatcherView
+abbrev pub matcher_by : (String Global → List ℕ) → Matcher → PlainMatcherView
 matcher_by seen matcher = record {
   prefix = seen matcher.prefix;
   suffix = seen matcher.suffix;
   inner = inner_by seen matcher.inner;
 }
 
-abbrev pub matcher_view : Matcher → MatcherView
-matcher_view matcher = matcher_by string_bytes matcher
+abbrev pub plain_matcher_view : Matcher → PlainMatcherView
+plain_matcher_view matcher = matcher_by string_bytes matcher
 
-pub record ComponentView : Type 0 where
+pub record PlainComponentView : Type 0 where
   pub pattern_string : List ℕ
   pub regexp_string : List ℕ
-  pub matcher : MatcherView
+  pub matcher : PlainMatcherView
   pub group_name_list : List (List ℕ)
 
-abbrev pub component_by : (String Global → List ℕ) → UrlPatternComponent → ComponentView
+abbrev pub component_by : (String Global → List ℕ) → UrlPatternComponent → PlainComponentView
 component_by seen component = record {
   pattern_string = seen component.pattern_string;
   regexp_string = seen component.regexp_string;
@@ -56,35 +56,35 @@ component_by seen component = record {
   group_name_list = map seen component.group_name_list.items;
 }
 
-abbrev pub component_view : UrlPatternComponent → ComponentView
-component_view component = component_by string_bytes component
+abbrev pub plain_component_view : UrlPatternComponent → PlainComponentView
+plain_component_view component = component_by string_bytes component
 
 -- the pattern of each component
 abbrev pub component_patterns : UrlPattern → Eight UrlPatternComponent
 component_patterns pattern = record { protocol = pattern.protocol; username = pattern.username; password = pattern.password; hostname = pattern.hostname; port = pattern.port; pathname = pattern.pathname; search = pattern.search; hash = pattern.hash }
 
 -- A pattern: its components, and whether one of them has a custom regular expression.
-pub record PatternView : Type 0 where
-  pub components : Eight ComponentView
+pub record PlainPatternView : Type 0 where
+  pub components : Eight PlainComponentView
   pub has_regexp_groups : Bool
 
-abbrev pub pattern_by : (String Global → List ℕ) → UrlPattern → PatternView
+abbrev pub pattern_by : (String Global → List ℕ) → UrlPattern → PlainPatternView
 pattern_by seen pattern = record {
   components = each (λ name. component_by seen (at (component_patterns pattern) name));
   has_regexp_groups = pattern.has_regexp_groups;
 }
 
-abbrev pub pattern_view : UrlPattern → PatternView
-pattern_view pattern = pattern_by string_bytes pattern
+abbrev pub plain_pattern_view : UrlPattern → PlainPatternView
+plain_pattern_view pattern = pattern_by string_bytes pattern
 
 -- ---- numbers that are characters
 
 -- the filter, if there is one, is a character
-abbrev pub HasFilter : InnerView → Type 0
+abbrev pub HasFilter : PlainInnerView → Type 0
 HasFilter (literal bytes) = ⊤
 HasFilter (single_capture filter allow_empty) = IfSome filter IsScalar
 HasFilter (regexp bytes) = ⊤
 
 -- each filter is a character
-abbrev pub HasFilters : PatternView → Type 0
+abbrev pub HasFilters : PlainPatternView → Type 0
 HasFilters pattern = (name : ComponentName) → HasFilter (at pattern.components name).matcher.inner

@@ -8,7 +8,7 @@ ghost use Rattle.urlpattern_inputs.specs.InputJson.{init_read, init_tree, input_
 ghost use Rattle.urlpattern_inputs.specs.InputValues.{InitView, InputView};
 ghost use Rattle.urlpattern_inputs.specs.Trees.{IsReadBack};
 ghost use Rattle.urlpattern_compiled.specs.Json.{component_read, component_tree, inner_read, inner_tree, matcher_read, matcher_tree, pattern_read, pattern_tree};
-ghost use Rattle.urlpattern_compiled.specs.Values.{ComponentView, HasFilter, HasFilters, InnerView, MatcherView, PatternView};
+ghost use Rattle.urlpattern_compiled.specs.Values.{PlainComponentView, HasFilter, HasFilters, PlainInnerView, PlainMatcherView, PlainPatternView};
 ghost use Rattle.urlpattern_syntax.specs.declared.eight.Eight.{Eight};
 
 /// The tree of a value is read as this value. A filter has to be a character, as it is in each value of a program.
@@ -17,8 +17,8 @@ pub fn reading_undoes_writing()
     ensures init { (values : InitView) → IsReadBack init_tree init_read values }
     ensures input { (input : InputView) → IsReadBack input_tree input_read input }
     ensures match_input { (input : Eight (List ℕ)) → IsReadBack match_input_tree match_input_read input }
-    ensures inner { (inner : InnerView) → HasFilter inner → IsReadBack inner_tree inner_read inner }
-    ensures matcher { (matcher : MatcherView) → HasFilter matcher.inner → IsReadBack matcher_tree matcher_read matcher }
-    ensures component { (component : ComponentView) → HasFilter component.matcher.inner → IsReadBack component_tree component_read component }
-    ensures pattern { (pattern : PatternView) → HasFilters pattern → IsReadBack pattern_tree pattern_read pattern }
+    ensures inner { (inner : PlainInnerView) → HasFilter inner → IsReadBack inner_tree inner_read inner }
+    ensures matcher { (matcher : PlainMatcherView) → HasFilter matcher.inner → IsReadBack matcher_tree matcher_read matcher }
+    ensures component { (component : PlainComponentView) → HasFilter component.matcher.inner → IsReadBack component_tree component_read component }
+    ensures pattern { (pattern : PlainPatternView) → HasFilters pattern → IsReadBack pattern_tree pattern_read pattern }
 {}

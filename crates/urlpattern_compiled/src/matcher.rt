@@ -4,10 +4,10 @@ ghost use Rattle.std.specs.Prelude.{◌≡◌, IfOk, OnOk, option_map};
 ghost use Rattle.serde_json.specs.View.{view};
 ghost use Rattle.urlpattern_compiled.specs.Json.{capture_read, inner_members, inner_read, inner_tree, matcher_read, matcher_tree};
 ghost use Rattle.urlpattern_core.specs.Matchers as compiled;
-ghost use Rattle.urlpattern_inputs.specs.Steps.{Gives};
+ghost use Rattle.urlpattern_inputs.specs.ReadResults.{ReturnsRead};
 ghost use Rattle.urlpattern_inputs.specs.Trees.{GainAll};
 ghost use Rattle.urlpattern_compiled.specs.Plain.{engine_text, plain_inner, plain_matcher};
-ghost use Rattle.urlpattern_compiled.specs.Values.{inner_by, inner_view, matcher_by, matcher_view};
+ghost use Rattle.urlpattern_compiled.specs.Values.{inner_by, plain_inner_view, matcher_by, plain_matcher_view};
 ghost use Rattle.urlpattern_syntax.specs.Errors.{OnlyOutOfMemory};
 ghost use Rattle.urlpattern_syntax.specs.Text.{text_of};
 
@@ -80,14 +80,14 @@ impl Matcher {
     ///
     /// The error is that memory ran out.
     pub fn to_json_value(&self, alloc: Global) -> Result<Value, Error>
-        ensures tree { IfOk result (λ tree. view tree ≡ matcher_tree (matcher_view self.now)) }
+        ensures tree { IfOk result (λ tree. view tree ≡ matcher_tree (plain_matcher_view self.now)) }
         ensures memory { OnlyOutOfMemory result }
     {
         Ok(self.tree(alloc)?)
     }
 
     pub(crate) fn tree(&self, alloc: Global) -> Result<Value, AllocError>
-        ensures { IfOk result (λ tree. view tree ≡ matcher_tree (matcher_view self.now)) }
+        ensures { IfOk result (λ tree. view tree ≡ matcher_tree (plain_matcher_view self.now)) }
     {
         let mut members = Map::new(alloc);
         put_text(&mut members, alloc, "prefix", &self.prefix)?;
@@ -101,7 +101,7 @@ impl Matcher {
     ///
     /// The error is that memory ran out.
     pub fn from_json_value(alloc: Global, value: &Value) -> Result<Option<Self>, Error>
-        ensures read { IfOk result (λ found. option_map matcher_view found ≡ matcher_read (view value.now)) }
+        ensures read { IfOk result (λ found. option_map plain_matcher_view found ≡ matcher_read (view value.now)) }
         ensures memory { OnlyOutOfMemory result }
     {
         read_or_none(Self::read(alloc, value))
@@ -109,7 +109,7 @@ impl Matcher {
 
     #[tactic(auto, unfolding(crate::specs::Json::matcher_read))]
     pub(crate) fn read(alloc: Global, value: &Value) -> Result<Self, Unread>
-        ensures { Gives matcher_view result (matcher_read (view value.now)) }
+        ensures { ReturnsRead plain_matcher_view result (matcher_read (view value.now)) }
     {
         Ok(Self {
             prefix: text_field(alloc, value, "prefix")?,
@@ -151,7 +151,7 @@ impl InnerMatcher {
     ///
     /// The error is that memory ran out.
     pub fn to_json_value(&self, alloc: Global) -> Result<Value, Error>
-        ensures tree { IfOk result (λ tree. view tree ≡ inner_tree (inner_view self.now)) }
+        ensures tree { IfOk result (λ tree. view tree ≡ inner_tree (plain_inner_view self.now)) }
         ensures memory { IfErr result (λ error. error ≡ errors.OutOfMemory) }
     {
         let mut members = Map::new(alloc);
@@ -161,7 +161,7 @@ impl InnerMatcher {
 
     /// Puts the kind, and the keys that go with it, into an object.
     fn put_members(&self, members: &mut Map<String, Value>, alloc: Global) -> Result<(), AllocError>
-        ensures { OnOk result (GainAll members.old.entries members.new.entries (inner_members (inner_view self.now))) }
+        ensures { OnOk result (GainAll members.old.entries members.new.entries (inner_members (plain_inner_view self.now))) }
     {
         match self {
             InnerMatcher::Literal { literal } => {
@@ -188,7 +188,7 @@ impl InnerMatcher {
     ///
     /// The error is that memory ran out.
     pub fn from_json_value(alloc: Global, value: &Value) -> Result<Option<Self>, Error>
-        ensures read { IfOk result (λ found. option_map inner_view found ≡ inner_read (view value.now)) }
+        ensures read { IfOk result (λ found. option_map plain_inner_view found ≡ inner_read (view value.now)) }
         ensures memory { IfErr result (λ error. error ≡ errors.OutOfMemory) }
     {
         read_or_none(Self::read(alloc, value))
@@ -197,7 +197,7 @@ impl InnerMatcher {
     /// By the kind that the object names.
     #[tactic(auto, unfolding(crate::specs::Json::inner_read))]
     fn read(alloc: Global, value: &Value) -> Result<Self, Unread>
-        ensures { Gives inner_view result (inner_read (view value.now)) }
+        ensures { ReturnsRead plain_inner_view result (inner_read (view value.now)) }
     {
         let kind = text_of(value, "kind")?;
         if kind == "literal" {
@@ -215,7 +215,7 @@ impl InnerMatcher {
 
     #[tactic(auto, unfolding(crate::specs::Json::capture_read))]
     fn read_capture(value: &Value) -> Result<Self, Unread>
-        ensures { Gives inner_view result (capture_read (view value.now)) }
+        ensures { ReturnsRead plain_inner_view result (capture_read (view value.now)) }
     {
         let filter = optional_character_field(value, "filter")?;
         let allow_empty = flag_field(value, "allowEmpty")?;

@@ -3,11 +3,11 @@
 ghost use Rattle.std.specs.Prelude.{◌≡◌, IfOk, OnOk, Some, option_map};
 ghost use Rattle.serde_json.specs.View.{view};
 ghost use Rattle.urlpattern_compiled.specs.Json.{component_read, component_tree, matcher_read, pattern_read, pattern_tree};
-ghost use Rattle.urlpattern_core.specs.Compiling as compiled;
+ghost use Rattle.urlpattern_core.specs.Components as compiled;
 ghost use Rattle.urlpattern_compiled.specs.Plain.{plain_component};
-ghost use Rattle.urlpattern_inputs.specs.Steps.{Gives};
+ghost use Rattle.urlpattern_inputs.specs.ReadResults.{ReturnsRead};
 ghost use Rattle.urlpattern_inputs.specs.Trees.{Gain, member_read};
-ghost use Rattle.urlpattern_compiled.specs.Values.{component_by, component_patterns, component_view, matcher_view, pattern_view};
+ghost use Rattle.urlpattern_compiled.specs.Values.{component_by, component_patterns, plain_component_view, plain_matcher_view, plain_pattern_view};
 ghost use Rattle.urlpattern_syntax.specs.Eight.{at};
 ghost use Rattle.urlpattern_syntax.specs.Errors.{OnlyOutOfMemory};
 ghost use Rattle.urlpattern_syntax.specs.Text.{text_of};
@@ -69,14 +69,14 @@ impl UrlPattern {
     ///
     /// The error is that memory ran out.
     pub fn to_json_value(&self, alloc: Global) -> Result<Value, Error>
-        ensures tree { IfOk result (λ tree. view tree ≡ pattern_tree (pattern_view self.now)) }
+        ensures tree { IfOk result (λ tree. view tree ≡ pattern_tree (plain_pattern_view self.now)) }
         ensures memory { OnlyOutOfMemory result }
     {
         Ok(self.tree(alloc)?)
     }
 
     fn tree(&self, alloc: Global) -> Result<Value, AllocError>
-        ensures { IfOk result (λ tree. view tree ≡ pattern_tree (pattern_view self.now)) }
+        ensures { IfOk result (λ tree. view tree ≡ pattern_tree (plain_pattern_view self.now)) }
     {
         let mut members = Map::new(alloc);
         for name in ComponentName::all() {
@@ -92,7 +92,7 @@ impl UrlPattern {
     ///
     /// The error is that memory ran out.
     pub fn from_json_value(alloc: Global, value: &Value) -> Result<Option<Self>, Error>
-        ensures read { IfOk result (λ found. option_map pattern_view found ≡ pattern_read (view value.now)) }
+        ensures read { IfOk result (λ found. option_map plain_pattern_view found ≡ pattern_read (view value.now)) }
         ensures memory { OnlyOutOfMemory result }
     {
         read_or_none(Self::read(alloc, value))
@@ -100,7 +100,7 @@ impl UrlPattern {
 
     #[tactic(auto, unfolding(crate::specs::Json::pattern_read))]
     fn read(alloc: Global, value: &Value) -> Result<Self, Unread>
-        ensures { Gives pattern_view result (pattern_read (view value.now)) }
+        ensures { ReturnsRead plain_pattern_view result (pattern_read (view value.now)) }
     {
         let has_regexp_groups = flag_field(value, "hasRegexpGroups")?;
         let components = Eight::try_from_fn(|name| component_field(alloc, value, name.as_str()))?;
@@ -145,14 +145,14 @@ impl UrlPatternComponent {
     ///
     /// The error is that memory ran out.
     pub fn to_json_value(&self, alloc: Global) -> Result<Value, Error>
-        ensures tree { IfOk result (λ tree. view tree ≡ component_tree (component_view self.now)) }
+        ensures tree { IfOk result (λ tree. view tree ≡ component_tree (plain_component_view self.now)) }
         ensures memory { OnlyOutOfMemory result }
     {
         Ok(self.tree(alloc)?)
     }
 
     fn tree(&self, alloc: Global) -> Result<Value, AllocError>
-        ensures { IfOk result (λ tree. view tree ≡ component_tree (component_view self.now)) }
+        ensures { IfOk result (λ tree. view tree ≡ component_tree (plain_component_view self.now)) }
     {
         let mut members = Map::new(alloc);
         put_text(&mut members, alloc, "patternString", &self.pattern_string)?;
@@ -168,7 +168,7 @@ impl UrlPatternComponent {
     ///
     /// The error is that memory ran out.
     pub fn from_json_value(alloc: Global, value: &Value) -> Result<Option<Self>, Error>
-        ensures read { IfOk result (λ found. option_map component_view found ≡ component_read (view value.now)) }
+        ensures read { IfOk result (λ found. option_map plain_component_view found ≡ component_read (view value.now)) }
         ensures memory { OnlyOutOfMemory result }
     {
         read_or_none(Self::read(alloc, value))
@@ -176,7 +176,7 @@ impl UrlPatternComponent {
 
     #[tactic(auto, unfolding(crate::specs::Json::component_read))]
     fn read(alloc: Global, value: &Value) -> Result<Self, Unread>
-        ensures { Gives component_view result (component_read (view value.now)) }
+        ensures { ReturnsRead plain_component_view result (component_read (view value.now)) }
     {
         Ok(Self {
             pattern_string: text_field(alloc, value, "patternString")?,
@@ -194,21 +194,21 @@ fn put_component(
     name: &str,
     component: &UrlPatternComponent,
 ) -> Result<(), AllocError>
-    ensures { OnOk result (Gain members.old.entries members.new.entries name.now (Some (component_tree (component_view component.now)))) }
+    ensures { OnOk result (Gain members.old.entries members.new.entries name.now (Some (component_tree (plain_component_view component.now)))) }
 {
     serde_json::put(members, alloc, name, component.tree(alloc)?)
 }
 
 /// The component of a member.
 fn component_field(alloc: Global, tree: &Value, name: &str) -> Result<UrlPatternComponent, Unread>
-    ensures { Gives component_view result (member_read component_read name.now (view tree.now)) }
+    ensures { ReturnsRead plain_component_view result (member_read component_read name.now (view tree.now)) }
 {
     UrlPatternComponent::read(alloc, member(tree, name)?)
 }
 
 /// The matcher of a member.
 fn matcher_field(alloc: Global, tree: &Value, name: &str) -> Result<Matcher, Unread>
-    ensures { Gives matcher_view result (member_read matcher_read name.now (view tree.now)) }
+    ensures { ReturnsRead plain_matcher_view result (member_read matcher_read name.now (view tree.now)) }
 {
     Matcher::read(alloc, member(tree, name)?)
 }

@@ -4,7 +4,7 @@ ghost use Rattle.std.specs.Prelude.{◌≡◌, map, string_bytes};
 ghost use Rattle.std.specs.Str.{chars};
 ghost use Rattle.serde_json.specs.View.{items_view, view};
 ghost use Rattle.urlpattern_compiled.specs.Json.{character_read, only, texts_of_items, texts_read};
-ghost use Rattle.urlpattern_inputs.specs.Steps.{Gives};
+ghost use Rattle.urlpattern_inputs.specs.ReadResults.{ReturnsRead};
 ghost use Rattle.urlpattern_inputs.specs.Trees.{member_read, optional_read};
 
 use serde_json::Value;
@@ -13,7 +13,7 @@ use urlpattern_inputs::reading::{Unread, member};
 
 /// The character of a member that may be missing.
 pub(crate) fn optional_character_field(tree: &Value, name: &str) -> Result<Option<char>, Unread>
-    ensures { Gives (λ found. found) result (optional_read character_read name.now (view tree.now)) }
+    ensures { ReturnsRead (λ found. found) result (optional_read character_read name.now (view tree.now)) }
 {
     let Some(member) = tree.get(name) else {
         return Ok(None);
@@ -44,7 +44,7 @@ fn only(text: &str) -> Option<char>
 
 /// The texts of a member.
 pub(crate) fn texts_field(alloc: Global, tree: &Value, name: &str) -> Result<Vec<String>, Unread>
-    ensures { Gives (λ texts. map string_bytes texts.items) result (member_read texts_read name.now (view tree.now)) }
+    ensures { ReturnsRead (λ texts. map string_bytes texts.items) result (member_read texts_read name.now (view tree.now)) }
 {
     match member(tree, name)?.as_array() {
         Some(items) => texts_of(alloc, items),
@@ -54,7 +54,7 @@ pub(crate) fn texts_field(alloc: Global, tree: &Value, name: &str) -> Result<Vec
 
 /// The texts of the items.
 fn texts_of(alloc: Global, items: &Vec<Value>) -> Result<Vec<String>, Unread>
-    ensures { Gives (λ texts. map string_bytes texts.items) result (texts_of_items (items_view items.now.items)) }
+    ensures { ReturnsRead (λ texts. map string_bytes texts.items) result (texts_of_items (items_view items.now.items)) }
 {
     let mut texts = Vec::with_capacity(alloc, items.len())?;
     for item in items {

@@ -14,7 +14,7 @@ use Rattle.regex_syntax.specs.Sets.{verbatim, dot, one_of, negate, negate_if, ca
 use Rattle.regex_syntax.specs.Verdict.{default_config}
 use Rattle.urlpattern_syntax.specs.RegexpText.{regexp_marks}
 use Rattle.urlpattern_syntax.specs.Text.{is_among}
-use Rattle.urlpattern_laws.specs.Dialect.{Character, Plain, Escaped, character_of, character_text, IsCharacter, IsClassCharacter}
+use Rattle.urlpattern_meaning.specs.Dialect.{Character, Plain, Escaped, character_of, character_text, IsCharacter, IsClassCharacter}
 
 -- ---- marks
 

@@ -4,7 +4,7 @@ use Rattle.std.proofs.lemmas.Bool.{and_parts, cond_both, ltb-true}
 use Rattle.std.specs.Char.{IsScalar}
 use Rattle.regex_hir.proofs.Utf8Lemmas.{InScalarRange-of_IsScalar}
 use lib.Utf8.{encode, encodes, next, scalars}
-use Rattle.urlpattern_laws.proofs.WayLists.{Every, every-append}
+use Rattle.urlpattern_meaning.proofs.WayLists.{Every, every-append}
 
 abbrev IsByte : ℕ → Type 0
 IsByte b = b < 256

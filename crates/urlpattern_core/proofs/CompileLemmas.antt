@@ -2,7 +2,7 @@
 use Rattle.std.proofs.Common.{◌≡◌, ℕ, Bool, List, codes, Option, Some, None, Result, unwrap_or, ap, ◌∙◌, subst}
 use Rattle.std.specs.Borrow.{Bor}
 use Rattle.std.specs.Str.{chars}
-use Rattle.urlpattern_core.specs.Compiling.{IsWholeEngineOf, pattern_text}
+use Rattle.urlpattern_core.specs.Components.{IsWholeEngineOf, pattern_text}
 use Rattle.urlpattern_core.specs.declared.regexp.RegExp.{Ghosts as Engine}
 use Rattle.urlpattern_syntax.specs.Errors.{ErrorView}
 

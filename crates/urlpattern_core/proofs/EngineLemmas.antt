@@ -8,8 +8,8 @@ use Rattle.regex.specs.Strings.{IsCapturesOf, captures_haystack, captures_names,
 use Rattle.regex.specs.Writes.{group_of}
 use Rattle.regex.specs.declared.string.captures.Captures.{Captures}
 use Rattle.regex.specs.declared.string.regex.Regex.{Regex}
-use Rattle.urlpattern_core.specs.Engines.{group_texts, regex_answer, text_between}
-use Rattle.urlpattern_laws.specs.PartMeaning as meaning
+use Rattle.urlpattern_core.specs.Regexes.{group_texts, regex_answer, text_between}
+use Rattle.urlpattern_meaning.specs.PartMeaning as meaning
 
 -- from group 1 on, groups of equal spans have equal texts
 texts_from-same : (bytes : List ℕ) (first count : ℕ) (f g : ℕ → Option (ℕ × ℕ)) → 1 ≤ first → ((n : ℕ) → 1 ≤ n → f n ≡ g n)

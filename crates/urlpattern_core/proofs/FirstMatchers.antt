@@ -1,21 +1,21 @@
 -- Engines whose values answer the first way of the tree of the text that they were made of, and matchers that ask them.
 use Rattle.std.proofs.Common.{◌≡◌, ℕ, List, Option, false, sym}
-use Rattle.urlpattern_core.specs.Compiling.{IsEngineOf}
+use Rattle.urlpattern_core.specs.Components.{IsEngineOf}
 use Rattle.urlpattern_core.specs.FirstWays.{AllAnswerAlike, EachAnswersFirst, IsTakenBy, ValuesAnswerFirst, ValuesFollowParts, ValuesFollowTexts}
 use Rattle.urlpattern_core.specs.Generated.{AreGenerated}
 use Rattle.urlpattern_core.specs.declared.regexp.RegExp.{Ghosts as Engine}
-use Rattle.urlpattern_laws.specs.Dialect.{Follows, IsTreeOf, Items}
-use Rattle.urlpattern_laws.specs.FirstAnswers.{AnswersFirst, AnswersFirstInMiddle, TookText}
-use Rattle.urlpattern_laws.specs.Matching.{InnerView, MatcherView}
-use Rattle.urlpattern_laws.specs.PartMeaning.{Captures}
+use Rattle.urlpattern_meaning.specs.Dialect.{Follows, IsTreeOf, Items}
+use Rattle.urlpattern_meaning.specs.FirstAnswers.{AnswersFirst, AnswersFirstInMiddle, TookText}
+use Rattle.urlpattern_meaning.specs.Matching.{InnerView, MatcherView}
+use Rattle.urlpattern_meaning.specs.PartMeaning.{Captures}
 use Rattle.urlpattern_syntax.specs.Options.{OptionsView}
 use Rattle.urlpattern_syntax.specs.Parts.{PartView}
 use Rattle.urlpattern_syntax.specs.RegexpText.{regexp_text}
-use Rattle.urlpattern_laws.proofs.DialectUnique.{only_tree}
-use Rattle.urlpattern_laws.proofs.FirstWay.{meant_or_none}
-use Rattle.urlpattern_laws.proofs.OneMeaning.{is_tree_of}
-use Rattle.urlpattern_laws.proofs.PartTrees.{tree_of}
-use Rattle.urlpattern_laws.proofs.FirstAnswers.{first_agrees, first_one, matcher_first, of_made}
+use Rattle.urlpattern_meaning.proofs.DialectUnique.{only_tree}
+use Rattle.urlpattern_meaning.proofs.FirstWay.{meant_or_none}
+use Rattle.urlpattern_meaning.proofs.OneMeaning.{is_tree_of}
+use Rattle.urlpattern_meaning.proofs.PartTrees.{tree_of}
+use Rattle.urlpattern_meaning.proofs.FirstAnswers.{first_agrees, first_one, matcher_first, of_made}
 
 -- such a value follows its text
 pub first_follows : (regexp : List ℕ) (answer : List ℕ → Option Captures) → AnswersFirst regexp answer → (tree : Items) → IsTreeOf regexp tree → Follows regexp answer

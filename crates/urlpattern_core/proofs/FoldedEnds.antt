@@ -8,8 +8,8 @@ use Rattle.std.specs.Char.{to_ascii_lowercase}
 use Rattle.std.specs.Prelude.{encode_utf8_all, IfNone, IfSome, Option, Some, None}
 use Rattle.std.specs.Str.{IsCharBoundary, IsUtf8, chars}
 use Rattle.urlpattern_core.specs.Matchers.{BeginsWithFolded, EndsWithFolded}
-use Rattle.urlpattern_laws.specs.Matching.{HasMiddle, IsSame, MatcherView}
-use Rattle.urlpattern_laws.proofs.Middles.{rest_one, same-length}
+use Rattle.urlpattern_meaning.specs.Matching.{HasMiddle, IsSame, MatcherView}
+use Rattle.urlpattern_meaning.proofs.Middles.{rest_one, same-length}
 use Rattle.urlpattern_core.proofs.MatcherTexts.{lower-bytes, lower-encodes, same_but_case}
 use lib.Utf8.{scalar, scalars}
 

@@ -8,9 +8,9 @@ use lib.Utf8.{scalars, encodes}
 use Rattle.regex_hir.specs.Find.{last_write}
 use Rattle.regex_hir.proofs.OptionLemmas.{option_or-None, option_or_assoc}
 use Rattle.regex.specs.Writes.{both}
-use Rattle.urlpattern_laws.specs.PartMeaning.{Captures}
-use Rattle.urlpattern_laws.specs.Ways.{Way, idle}
-use Rattle.urlpattern_laws.proofs.WayLists.{Every, every-append, every-weaker}
+use Rattle.urlpattern_meaning.specs.PartMeaning.{Captures}
+use Rattle.urlpattern_meaning.specs.Ways.{Way, idle}
+use Rattle.urlpattern_meaning.proofs.WayLists.{Every, every-append, every-weaker}
 use Rattle.urlpattern_core.proofs.WayAnswers.{Writes, at}
 
 last-append : (xs ys : Writes) (slot : ℕ) → last_write (xs ++ ys) slot ≡ option_or (last_write ys slot) (last_write xs slot)

@@ -12,7 +12,7 @@ use Rattle.regex_syntax.specs.Verdict.{default_config}
 use Rattle.regex_syntax.specs.Same.{SameTree}
 use lib.Utf8.{scalars}
 use Rattle.urlpattern_core.proofs.TreesRead.{re_of, same_whole, tree_is_read}
-use Rattle.urlpattern_laws.specs.Dialect.{Quantifier, quantifier_text, Items, Nothing, Item, Atom, Literal, Dot, AnyBut, Captured, Grouped, items_text, atom_text, group_count, atom_group_count, AreItems, IsAtom}
+use Rattle.urlpattern_meaning.specs.Dialect.{Quantifier, quantifier_text, Items, Nothing, Item, Atom, Literal, Dot, AnyBut, Captured, Grouped, items_text, atom_text, group_count, atom_group_count, AreItems, IsAtom}
 use Rattle.urlpattern_core.proofs.AtomsRead.{full}
 use Rattle.urlpattern_core.proofs.ItemsRead.{place, Free, repeated_as, opens_item, first_item, item_splits, free_items, part, opens_as, opens_captured, opens_grouped, atom-read}
 use Rattle.urlpattern_core.proofs.TreeTextsRead.{whole, first_line, leaf_passes}

@@ -11,7 +11,7 @@ use Rattle.regex_syntax.specs.Grammar.{Names, Place, atom, bounds, repetitions, 
 use Rattle.regex_syntax.specs.Reading.{Text, first, skip, is_at, ◌>>=◌}
 use Rattle.regex_syntax.specs.Verdict.{default_config}
 use Rattle.urlpattern_syntax.specs.RegexpText.{regexp_marks}
-use Rattle.urlpattern_laws.specs.Dialect.{Character, Plain, Escaped, character_of, character_text, IsCharacter, Quantifier, Once, Optional, ZeroOrMore, OneOrMore, LazyOneOrMore, quantifier_text, Items, Nothing, Item, Atom, Literal, Dot, AnyBut, Captured, Grouped, items_text, atom_text, group_count, atom_group_count, AreItems, IsAtom}
+use Rattle.urlpattern_meaning.specs.Dialect.{Character, Plain, Escaped, character_of, character_text, IsCharacter, Quantifier, Once, Optional, ZeroOrMore, OneOrMore, LazyOneOrMore, quantifier_text, Items, Nothing, Item, Atom, Literal, Dot, AnyBut, Captured, Grouped, items_text, atom_text, group_count, atom_group_count, AreItems, IsAtom}
 use Rattle.urlpattern_core.proofs.TreeAttempts.{re_taken}
 use Rattle.urlpattern_core.proofs.AtomsRead.{differs, itself, any_character, any_but, read_character, read_dot, read_class, full}
 

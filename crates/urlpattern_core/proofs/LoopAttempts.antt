@@ -10,9 +10,9 @@ use Rattle.regex_hir.specs.Text.{char_at}
 use Rattle.regex_hir.specs.Re.{Re, char_in, plus, Trace, Rest, rounds as trace_rounds, more_rounds as trace_more_rounds, attempt}
 use Rattle.regex_hir.proofs.AttemptLemmas.{more_rounds_unfold}
 use Rattle.regex_hir.proofs.TextLemmas.{char_at_from, char_at_past}
-use Rattle.urlpattern_laws.specs.PartMeaning.{Captures}
-use Rattle.urlpattern_laws.specs.Ways.{Way, Choice, idle, continued, one_that, is_shorter, more_rounds, looped}
-use Rattle.urlpattern_laws.proofs.WayLists.{Every, every-weaker}
+use Rattle.urlpattern_meaning.specs.PartMeaning.{Captures}
+use Rattle.urlpattern_meaning.specs.Ways.{Way, Choice, idle, continued, one_that, is_shorter, more_rounds, looped}
+use Rattle.urlpattern_meaning.proofs.WayLists.{Every, every-weaker}
 use Rattle.urlpattern_core.proofs.WayAnswers.{Writes, at, Gave, gave-continued, gave-idle, gave-ordered}
 
 no_round : (greedy : Bool) (body : Rest → Rest) (k : Rest) (j : ℕ) → trace_rounds greedy body k zero j ≡ k j

@@ -2,9 +2,9 @@
 use Rattle.std.proofs.Common.{◌≡◌, ◌↔◌, ℕ, Bool, true, false, List, [], refl, sym, ◌∙◌, subst}
 use Rattle.std.proofs.lemmas.Bool.{false≢true}
 use Rattle.std.specs.Prelude.{IsTrue, Option, Some, None, Ok, is_some, option_map}
-use Rattle.urlpattern_laws.specs.Matching.{Accepts, Answers, HasMiddle, InnerView, IsMatched, IsSame, Literal, Matches, MatcherView, MayBeEmpty, PassesFilter, RegExp, SingleCapture}
-use Rattle.urlpattern_laws.specs.PartMeaning.{Captures}
-use Rattle.urlpattern_laws.proofs.Middles.{middle-one}
+use Rattle.urlpattern_meaning.specs.Matching.{Accepts, Answers, HasMiddle, InnerView, IsMatched, IsSame, Literal, Matches, MatcherView, MayBeEmpty, PassesFilter, RegExp, SingleCapture}
+use Rattle.urlpattern_meaning.specs.PartMeaning.{Captures}
+use Rattle.urlpattern_meaning.proofs.Middles.{middle-one}
 
 -- a text with this middle is matched where the middle is accepted
 pub matches-accepts : {E : Type 0} (answer : E → List ℕ → Option Captures) (matcher : MatcherView E) (text middle : List ℕ) (captures : Captures) →

@@ -6,7 +6,7 @@ use Rattle.regex_syntax.specs.declared.error.ErrorKind.{ErrorKind}
 use Rattle.regex_syntax.specs.declared.error.ErrorKind.TheVariants.{OutOfMemory}
 use Rattle.regex_syntax.specs.Verdict.{default_config, Refuses}
 use lib.Utf8.{scalars}
-use Rattle.urlpattern_laws.specs.Dialect.{Captured, Grouped, Items, Item, Nothing, Quantifier, Once, Optional, ZeroOrMore, OneOrMore, LazyOneOrMore, IsTreeOf, items_text, group_count}
+use Rattle.urlpattern_meaning.specs.Dialect.{Captured, Grouped, Items, Item, Nothing, Quantifier, Once, Optional, ZeroOrMore, OneOrMore, LazyOneOrMore, IsTreeOf, items_text, group_count}
 use Rattle.urlpattern_syntax.specs.declared.parser.PartModifier.{PartModifier}
 use Rattle.urlpattern_syntax.specs.declared.parser.PartModifier.TheVariants as modifiers
 use Rattle.urlpattern_syntax.specs.declared.parser.PartType.{PartType}
@@ -14,9 +14,9 @@ use Rattle.urlpattern_syntax.specs.declared.parser.PartType.TheVariants.{FixedTe
 use Rattle.urlpattern_syntax.specs.Options.{OptionsView}
 use Rattle.urlpattern_syntax.specs.Parts.{PartView}
 use Rattle.urlpattern_syntax.specs.RegexpText.{escaped_marks, is_empty, regexp_text}
-use Rattle.urlpattern_laws.proofs.DialectUnique.{trees_are_one}
-use Rattle.urlpattern_laws.proofs.OneMeaning.{is_tree_of}
-use Rattle.urlpattern_laws.proofs.PartTrees.{IsNotCustom, affixed_core, alone, bare_core, between, copies, fixed_tree, further, group_atom, group_quantifier, part_tree_by, put, segment_atom, tree_of, wildcard_items}
+use Rattle.urlpattern_meaning.proofs.DialectUnique.{trees_are_one}
+use Rattle.urlpattern_meaning.proofs.OneMeaning.{is_tree_of}
+use Rattle.urlpattern_meaning.proofs.PartTrees.{IsNotCustom, affixed_core, alone, bare_core, between, copies, fixed_tree, further, group_atom, group_quantifier, part_tree_by, put, segment_atom, tree_of, wildcard_items}
 use Rattle.urlpattern_core.proofs.TreeDepths.{atom_depth, items_depth, quantifier_depth, refused_tree}
 use Rattle.urlpattern_core.proofs.TreesRead.{scalars_parts}
 

@@ -4,7 +4,7 @@ use Rattle.std.proofs.lemmas.Bool.{false≢true}
 use Rattle.std.proofs.lemmas.List.{append-nil, length-append}
 use Rattle.std.specs.Prelude.{IsTrue, ◌≤◌, Option, Some, None, Result, Ok, Err, IfErr, IfOk, option_to_list}
 use Rattle.urlpattern_core.specs.Matchers.{PeelsBack, PeelsFront, PeelsTo, capture_of}
-use Rattle.urlpattern_laws.specs.Matching.{BeginsPlain, EndsPlain, IsRemoved, IsMadeBetween, IsMadeByEngine, IsMadeOf, IsMadeOfOne, MatcherView, end_text, single_capture}
+use Rattle.urlpattern_meaning.specs.Matching.{BeginsPlain, EndsPlain, IsRemoved, IsMadeBetween, IsMadeByEngine, IsMadeOf, IsMadeOfOne, MatcherView, end_text, single_capture_matcher}
 use Rattle.urlpattern_syntax.specs.declared.parser.PartModifier.{PartModifier}
 use Rattle.urlpattern_syntax.specs.declared.parser.PartModifier.TheVariants as modifiers
 use Rattle.urlpattern_syntax.specs.declared.parser.PartType.{PartType}
@@ -92,18 +92,18 @@ one-by_engine IsEngine kind modifier options prefix part suffix matcher e made =
 
 -- one part that is a single capture
 pub one-captured : {E : Type 0} (IsEngine : (regexp : List ℕ) → Result E ErrorView → Type 0) (kind : PartType) (modifier : PartModifier) (options : OptionsView) (prefix : List ℕ) (part : PartView) (suffix : List ℕ) (filter : Option ℕ) (allow_empty : Bool) (matcher : MatcherView E) →
-    capture_of options kind modifier ≡ Some (filter, allow_empty) → matcher ≡ single_capture options prefix part suffix filter allow_empty →
+    capture_of options kind modifier ≡ Some (filter, allow_empty) → matcher ≡ single_capture_matcher options prefix part suffix filter allow_empty →
     IsMadeOfOne IsEngine kind modifier options prefix part suffix matcher
 one-captured IsEngine FullWildcard modifiers.None options prefix part suffix filter allow_empty matcher e made =
     let pair : (None, true) ≡ (filter, allow_empty) = cc in
     let is_filter : None ≡ filter = ap (λ (p : Option ℕ × Bool). p.0) pair in
     let may : true ≡ allow_empty = ap (λ (p : Option ℕ × Bool). p.1) pair in
-    made ∙ ap (λ f. single_capture options prefix part suffix f allow_empty) (sym is_filter) ∙ ap (λ b. single_capture options prefix part suffix None b) (sym may)
+    made ∙ ap (λ f. single_capture_matcher options prefix part suffix f allow_empty) (sym is_filter) ∙ ap (λ b. single_capture_matcher options prefix part suffix None b) (sym may)
 one-captured IsEngine SegmentWildcard modifiers.None options prefix part suffix filter allow_empty matcher e made =
     let pair : (options.delimiter, false) ≡ (filter, allow_empty) = cc in
     let is_filter : options.delimiter ≡ filter = ap (λ (p : Option ℕ × Bool). p.0) pair in
     let may : false ≡ allow_empty = ap (λ (p : Option ℕ × Bool). p.1) pair in
-    made ∙ ap (λ f. single_capture options prefix part suffix f allow_empty) (sym is_filter) ∙ ap (λ b. single_capture options prefix part suffix options.delimiter b) (sym may)
+    made ∙ ap (λ f. single_capture_matcher options prefix part suffix f allow_empty) (sym is_filter) ∙ ap (λ b. single_capture_matcher options prefix part suffix options.delimiter b) (sym may)
 one-captured IsEngine kind modifier options prefix part suffix filter allow_empty matcher e made = let never : ⊥ = cc in absurd never
 
 -- no part has gone off where as many are left

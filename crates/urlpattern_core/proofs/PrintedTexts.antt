@@ -14,7 +14,7 @@ use Rattle.std.specs.Str.{chars, IsUtf8}
 use Rattle.std.specs.declared.alloc.Global.{Global}
 use Rattle.urlpattern_core.proofs.RegexpTexts.{not-fixed}
 use Rattle.urlpattern_core.specs.Neighbours.{neighbour}
-use Rattle.urlpattern_laws.specs.Printing.{escaped_pattern, first_part, in_braces, is_asterisk, last_of, needs_braces, printed_fixed, printed_group, printed_match, printed_after, printed_name, printed_part, printed_suffix}
+use Rattle.urlpattern_meaning.specs.Printing.{escaped_pattern, first_part, in_braces, is_asterisk, last_of, needs_braces, printed_fixed, printed_group, printed_match, printed_after, printed_name, printed_part, printed_suffix}
 use Rattle.urlpattern_syntax.proofs.StringTexts.{chars-encode}
 use Rattle.urlpattern_syntax.proofs.TextLemmas.{bytes_same, chars-some}
 use Rattle.urlpattern_syntax.specs.declared.parser.Part.{Part}

@@ -1,10 +1,10 @@
 -- Matchers that `regex::Regex` made answer the first way of their parts.
 use Rattle.std.specs.Prelude.{⊤}
-use Rattle.urlpattern_core.specs.Engines.{regex_engine}
+use Rattle.urlpattern_core.specs.Regexes.{regex_engine}
 use Rattle.urlpattern_core.specs.FirstWays.{AllAnswerAlike, EachAnswersFirst, ValuesAnswerFirst}
 use Rattle.urlpattern_core.proofs.FirstMatchers.{first_alike, made_first}
 use Rattle.urlpattern_core.proofs.RegexWays.{answers_first_of}
-use Rattle.urlpattern_laws.specs.FirstAnswers.{TookText}
+use Rattle.urlpattern_meaning.specs.FirstAnswers.{TookText}
 
 pub values_first : ValuesAnswerFirst regex_engine
 values_first regexp flags regex made = answers_first_of regexp regex made

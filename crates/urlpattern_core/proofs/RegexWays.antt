@@ -14,10 +14,10 @@ use Rattle.regex.specs.Strings.{regex_names, regex_pattern, regex_source}
 use Rattle.regex.specs.declared.string.regex.Regex.{Regex}
 use Rattle.regex.specs.Writes.{both}
 use Rattle.regex.proofs.ForCallers.{alike_as_written, names_as_written, found_alike, is_match_alike}
-use Rattle.urlpattern_core.specs.Engines.{IsRegexOf, regex_answer}
-use Rattle.urlpattern_laws.specs.Dialect.{Follows, IsTreeOf, Items, items_text, group_count, AreItems}
-use Rattle.urlpattern_laws.specs.FirstAnswers.{AnswersFirst}
-use Rattle.urlpattern_laws.specs.Ways.{first_way}
+use Rattle.urlpattern_core.specs.Regexes.{IsRegexOf, regex_answer}
+use Rattle.urlpattern_meaning.specs.Dialect.{Follows, IsTreeOf, Items, items_text, group_count, AreItems}
+use Rattle.urlpattern_meaning.specs.FirstAnswers.{AnswersFirst}
+use Rattle.urlpattern_meaning.specs.Ways.{first_way}
 use Rattle.urlpattern_core.proofs.FirstMatchers.{first_follows}
 use Rattle.urlpattern_core.proofs.Bytes.{bytes_below}
 use Rattle.urlpattern_core.proofs.TreeSearch.{texts_from, found_is_first}

@@ -6,12 +6,12 @@ use Rattle.regex_hir.specs.Re.{Re, empty, char_in, cat, alt, group, plus, Trace,
 use Rattle.regex_hir.proofs.Utf8Lemmas.{InScalarRange-of_IsScalar}
 use Rattle.regex_syntax.specs.Sets.{members}
 use Rattle.regex_syntax.proofs.SetLemmas.{in_ranges-members}
-use Rattle.urlpattern_laws.specs.PartMeaning.{Captures}
-use Rattle.urlpattern_laws.specs.Dialect.{character_of, Quantifier, Once, Optional, ZeroOrMore, OneOrMore, LazyOneOrMore, Items, Nothing, Item, Atom, Literal, Dot, AnyBut, Captured, Grouped, atom_group_count, AllowsGroups, AreItems, IsAtom, IsTaken, Means, AtomMeans}
+use Rattle.urlpattern_meaning.specs.PartMeaning.{Captures}
+use Rattle.urlpattern_meaning.specs.Dialect.{character_of, Quantifier, Once, Optional, ZeroOrMore, OneOrMore, LazyOneOrMore, Items, Nothing, Item, Atom, Literal, Dot, AnyBut, Captured, Grouped, atom_group_count, AllowsGroups, AreItems, IsAtom, IsTaken, Means, AtomMeans}
 use Rattle.urlpattern_syntax.specs.Text.{line_feed}
-use Rattle.urlpattern_laws.specs.Ways.{Way, Choice, idle, one_that, looped, quantified_ways, ways, atom_ways}
-use Rattle.urlpattern_laws.proofs.WayLists.{Every, every-weaker}
-use Rattle.urlpattern_laws.proofs.WaysSound.{IsSound, AreSound, nil_of_zero, taken-count, atom-count, taken-sound, ways-sound, atom-sound}
+use Rattle.urlpattern_meaning.specs.Ways.{Way, Choice, idle, one_that, looped, quantified_ways, ways, atom_ways}
+use Rattle.urlpattern_meaning.proofs.WayLists.{Every, every-weaker}
+use Rattle.urlpattern_meaning.proofs.WaysSound.{IsSound, AreSound, nil_of_zero, taken-count, atom-count, taken-sound, ways-sound, atom-sound}
 use Rattle.urlpattern_core.proofs.WayAnswers.{Writes, at, Gave, gave-append, gave-continued, gave-idle, gave-capturing}
 use Rattle.urlpattern_core.proofs.LoopAttempts.{Suits, leaf, looped-suits}
 

@@ -10,7 +10,7 @@ use Rattle.regex_syntax.specs.declared.error.ErrorKind.{ErrorKind}
 use Rattle.regex_syntax.specs.declared.error.ErrorKind.TheVariants.{OutOfMemory}
 use Rattle.regex_syntax.specs.Grammar.{read}
 use Rattle.regex_syntax.specs.Verdict.{default_config, Refuses}
-use Rattle.urlpattern_laws.specs.Dialect.{Quantifier, Once, Optional, ZeroOrMore, OneOrMore, LazyOneOrMore, Items, Nothing, Item, Atom, Literal, Dot, AnyBut, Captured, Grouped, items_text, group_count, atom_group_count, AreItems}
+use Rattle.urlpattern_meaning.specs.Dialect.{Quantifier, Once, Optional, ZeroOrMore, OneOrMore, LazyOneOrMore, Items, Nothing, Item, Atom, Literal, Dot, AnyBut, Captured, Grouped, items_text, group_count, atom_group_count, AreItems}
 use Rattle.urlpattern_core.proofs.ItemsRead.{repeated_as, parts, part}
 use Rattle.urlpattern_core.proofs.TreeTextsRead.{whole, first_line, last_line}
 use Rattle.urlpattern_core.proofs.TreesRead.{scalars-append, tree_is_read}

@@ -16,11 +16,11 @@ use Rattle.regex_hir.proofs.FindLemmas.{first_between_here, first_between_none}
 use Rattle.regex_hir.proofs.OptionLemmas.{option_or-None}
 use Rattle.regex_hir.proofs.TextLemmas.{byte_before-zero, byte_before-add-one}
 use Rattle.regex.specs.Writes.{both, group_of}
-use Rattle.urlpattern_laws.specs.PartMeaning.{Captures}
-use Rattle.urlpattern_laws.specs.Dialect.{Items, group_count, AreItems, Means}
-use Rattle.urlpattern_laws.specs.Ways.{Way, ways, first_way}
-use Rattle.urlpattern_laws.proofs.WayLists.{Every}
-use Rattle.urlpattern_laws.proofs.WaysSound.{IsSound, ways-sound, means-count}
+use Rattle.urlpattern_meaning.specs.PartMeaning.{Captures}
+use Rattle.urlpattern_meaning.specs.Dialect.{Items, group_count, AreItems, Means}
+use Rattle.urlpattern_meaning.specs.Ways.{Way, ways, first_way}
+use Rattle.urlpattern_meaning.proofs.WayLists.{Every}
+use Rattle.urlpattern_meaning.proofs.WaysSound.{IsSound, ways-sound, means-count}
 use Rattle.urlpattern_core.proofs.WayAnswers.{at, Gave}
 use Rattle.urlpattern_core.proofs.GroupSlots.{Shown, Spans, text_at, shown-append, shown-idle, shown-capturing}
 use Rattle.urlpattern_core.proofs.TreeAttempts.{re_items, items-fit}

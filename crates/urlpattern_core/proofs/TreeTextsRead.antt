@@ -11,7 +11,7 @@ use Rattle.regex_syntax.specs.Grammar.{atom, char_meaning, items, read, names_be
 use Rattle.regex_syntax.specs.Grammar as grammar
 use Rattle.regex_syntax.specs.Reading.{Text, first, skip, is_at, ◌>>=◌}
 use Rattle.regex_syntax.specs.Verdict.{default_config}
-use Rattle.urlpattern_laws.specs.Dialect.{Once, Items, items_text, group_count, AreItems}
+use Rattle.urlpattern_meaning.specs.Dialect.{Once, Items, items_text, group_count, AreItems}
 use Rattle.urlpattern_core.proofs.AtomsRead.{full}
 use Rattle.urlpattern_core.proofs.ItemsRead.{place, Free, item_of_atom, free_items, parts, alone_in, items-read}
 

@@ -19,7 +19,7 @@ use Rattle.regex_syntax.specs.Grammar as grammar
 use Rattle.regex_syntax.specs.Same.{SameTree}
 use Rattle.regex_syntax.specs.Sets.{Set, members, negate, one_of}
 use Rattle.regex_syntax.specs.Verdict.{default_config}
-use Rattle.urlpattern_laws.specs.Dialect.{Character, Plain, Escaped, character_of, character_text, Quantifier, Once, Optional, ZeroOrMore, OneOrMore, LazyOneOrMore, quantifier_text, Items, Nothing, Item, Atom, Literal, Dot, AnyBut, Captured, Grouped, items_text, atom_text, group_count, atom_group_count, AreItems}
+use Rattle.urlpattern_meaning.specs.Dialect.{Character, Plain, Escaped, character_of, character_text, Quantifier, Once, Optional, ZeroOrMore, OneOrMore, LazyOneOrMore, quantifier_text, Items, Nothing, Item, Atom, Literal, Dot, AnyBut, Captured, Grouped, items_text, atom_text, group_count, atom_group_count, AreItems}
 use Rattle.urlpattern_syntax.specs.Text.{line_feed}
 use Rattle.urlpattern_core.proofs.TreeAttempts.{re_taken, re_items, re_atom}
 use Rattle.urlpattern_core.proofs.AtomsRead.{any_character, any_but}

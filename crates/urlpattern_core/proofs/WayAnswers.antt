@@ -5,9 +5,9 @@ use Rattle.std.specs.Option.{option_or}
 use lib.Utf8.{encodes}
 use Rattle.regex_hir.specs.Re.{Trace, Rest, write, prefer as prefer_trace}
 use Rattle.regex_hir.proofs.OptionLemmas.{write_cases}
-use Rattle.urlpattern_laws.specs.PartMeaning.{Captures}
-use Rattle.urlpattern_laws.specs.Ways.{Way, Choice, idle, joined_way, continued, ordered, capturing}
-use Rattle.urlpattern_laws.proofs.WayLists.{Every}
+use Rattle.urlpattern_meaning.specs.PartMeaning.{Captures}
+use Rattle.urlpattern_meaning.specs.Ways.{Way, Choice, idle, joined_way, continued, ordered, capturing}
+use Rattle.urlpattern_meaning.proofs.WayLists.{Every}
 
 abbrev pub Writes : Type 0
 Writes = List (ℕ × ℕ)

@@ -1,13 +1,13 @@
 -- Values and matchers that answer by the first way: words of laws, of any engine.
 use Rattle.std.specs.Prelude.{◌≡◌, ⊤, ℕ, false, List, Option, IsOk, IsTrue}
 use Rattle.std.specs.Str.{all_scalars}
-use Rattle.urlpattern_laws.specs.FirstAnswers.{IsFirstOf, AnswersFirst, TookText}
-use Rattle.urlpattern_laws.specs.Matching.{Agrees, Answers, EachAnswerIs, MatcherView, InnerView, IsMadeOf}
-use Rattle.urlpattern_core.specs.Compiling.{ComponentView, IsComponentOf, IsEngineOf}
+use Rattle.urlpattern_meaning.specs.FirstAnswers.{IsFirstOf, AnswersFirst, TookText}
+use Rattle.urlpattern_meaning.specs.Matching.{Agrees, Answers, EachAnswerIs, MatcherView, InnerView, IsMadeOf}
+use Rattle.urlpattern_core.specs.Components.{ComponentView, IsComponentOf, IsEngineOf}
 use Rattle.urlpattern_core.specs.declared.regexp.RegExp.{Ghosts as Engine}
 use Rattle.urlpattern_core.specs.Generated.{AreGenerated}
-use Rattle.urlpattern_laws.specs.Dialect.{Follows, IsTreeOf, Items}
-use Rattle.urlpattern_laws.specs.PartMeaning.{Captures}
+use Rattle.urlpattern_meaning.specs.Dialect.{Follows, IsTreeOf, Items}
+use Rattle.urlpattern_meaning.specs.PartMeaning.{Captures}
 use Rattle.urlpattern_syntax.specs.Options.{OptionsView}
 use Rattle.urlpattern_syntax.specs.Parts.{PartView}
 use Rattle.urlpattern_syntax.specs.RegexpText.{regexp_text}

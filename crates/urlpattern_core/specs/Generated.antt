@@ -1,8 +1,8 @@
 -- The regular expression that is generated of parts, and what these capture.
 use Rattle.std.specs.Prelude.{◌≡◌, ℕ, List, length}
-use Rattle.urlpattern_laws.specs.Dialect.{HasMeaningOf}
-use Rattle.urlpattern_laws.specs.PartMeaning.{Captures, PartsMean}
-pub use Rattle.urlpattern_laws.specs.PartMeaning.{AreGenerated}
+use Rattle.urlpattern_meaning.specs.Dialect.{HasMeaningOf}
+use Rattle.urlpattern_meaning.specs.PartMeaning.{Captures, PartsMean}
+pub use Rattle.urlpattern_meaning.specs.PartMeaning.{AreGenerated}
 use Rattle.urlpattern_syntax.specs.Options.{OptionsView}
 use Rattle.urlpattern_syntax.specs.Parts.{PartView}
 

@@ -1,6 +1,6 @@
-pub mod Captured
-pub mod Compiling
-pub mod Engines
+pub mod CaptureTexts
+pub mod Components
+pub mod Regexes
 pub mod FirstWays
 pub mod Generated
 pub mod Looks

@@ -3,7 +3,7 @@ use Rattle.std.specs.Prelude.{ℕ, List, [], ◌∷◌, Option, Some, None}
 use Rattle.std.specs.Str.{chars}
 use Rattle.urlpattern_core.specs.declared.matcher.look.Look.{Look}
 use Rattle.urlpattern_core.specs.declared.matcher.look.Look.TheVariants as looks
-use Rattle.urlpattern_laws.specs.PartMeaning.{Captures}
+use Rattle.urlpattern_meaning.specs.PartMeaning.{Captures}
 
 -- what it results in where engines' values answer in this way: captures, or None where the text is not matched
 abbrev pub look_answer : {E : Type 0} → (answer : E → List ℕ → Option Captures) → Option (Look E) → Option Captures

@@ -3,7 +3,7 @@ use Rattle.std.specs.Prelude.{◌≡◌, ℕ, Bool, true, false, List, [], Optio
 use Rattle.urlpattern_core.specs.declared.matcher.InnerMatcher.{InnerMatcher}
 use Rattle.urlpattern_core.specs.declared.matcher.InnerMatcher.TheVariants as inners
 use Rattle.urlpattern_core.specs.declared.matcher.Matcher.{Matcher}
-use Rattle.urlpattern_laws.specs.Matching.{ArePeeled, BeginsPlain, EndsPlain, IsRemoved, InnerView, IsSame, Literal, MatcherView, RegExp, SingleCapture, end_text}
+use Rattle.urlpattern_meaning.specs.Matching.{ArePeeled, BeginsPlain, EndsPlain, IsRemoved, InnerView, IsSame, Literal, MatcherView, RegExp, SingleCapture, end_text}
 use Rattle.urlpattern_syntax.specs.declared.error.Error.{Error}
 use Rattle.urlpattern_syntax.specs.declared.parser.PartModifier.{PartModifier}
 use Rattle.urlpattern_syntax.specs.declared.parser.PartModifier.TheVariants as modifiers
@@ -36,7 +36,7 @@ matcher_view matcher = record {
 abbrev pub IfMatcher : {E Fault : Type 0} → Result (Matcher E) Fault → (MatcherView E → Type 0) → Type 0
 IfMatcher result Holds = IfOk result (λ matcher. Holds (matcher_view matcher))
 
--- ---- words of private contracts
+-- ---- ends of parts and of texts
 
 -- a matcher of this text alone
 abbrev pub literal_view : {E : Type 0} → (ignore_case : Bool) → (literal : List ℕ) → MatcherView E

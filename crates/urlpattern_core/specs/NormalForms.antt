@@ -2,9 +2,9 @@
 use Rattle.std.specs.Prelude.{◌≡◌, ℕ, List}
 use Rattle.std.specs.declared.alloc.Global.{Global}
 use Rattle.std.specs.declared.vec.Vec.{Vec}
-use Rattle.urlpattern_laws.specs.Laws.{Answered, listed}
-use Rattle.urlpattern_laws.specs.Printing.{Keeps, encoded_texts, joined, printed}
-use Rattle.urlpattern_laws.specs.RoundTrip.{FailsText, IsPrintable, KeepsAnswered, ReadsBack}
+use Rattle.urlpattern_meaning.specs.Laws.{Answered, listed}
+use Rattle.urlpattern_meaning.specs.Printing.{Keeps, encoded_texts, joined, printed}
+use Rattle.urlpattern_meaning.specs.RoundTrip.{FailsText, IsPrintable, KeepsAnswered, ReadsBack}
 use Rattle.urlpattern_syntax.specs.declared.error.Error.{Error}
 use Rattle.urlpattern_syntax.specs.declared.parser.Part.{Part}
 use Rattle.urlpattern_syntax.specs.Errors.{MemoryOr}

@@ -3,7 +3,7 @@ use Rattle.std.specs.Prelude.{ℕ, Bool, List}
 use Rattle.urlpattern_core.specs.declared.component.printed.PrintedPart.{PrintedPart}
 use Rattle.urlpattern_core.specs.declared.component.regexp_text.PartRegexp.{PartRegexp}
 use Rattle.urlpattern_core.specs.Neighbours.{neighbour}
-use Rattle.urlpattern_laws.specs.Printing.{printed_group}
+use Rattle.urlpattern_meaning.specs.Printing.{printed_group}
 use Rattle.urlpattern_syntax.specs.Options.{options_view}
 use Rattle.urlpattern_syntax.specs.Parts.{part_view}
 use Rattle.urlpattern_syntax.specs.RegexpText.{affixed_regexp, bare_regexp, escaped_regexp, fixed_regexp, matched_by}

@@ -4,11 +4,11 @@
 //! Each function here does nothing; what it promises is a theorem.
 
 ghost use Rattle.std.specs.Prelude.{⊤};
-ghost use Rattle.urlpattern_core.specs.Engines.{TakesGeneratedSyntax, regex_engine};
+ghost use Rattle.urlpattern_core.specs.Regexes.{TakesGeneratedSyntax, regex_engine};
 ghost use Rattle.urlpattern_core.specs.FirstWays.{AllAnswerAlike, EachAnswersFirst, ValuesAnswerFirst, ValuesFollowParts, ValuesFollowTexts};
-ghost use Rattle.urlpattern_laws.specs.FirstAnswers.{TookText};
+ghost use Rattle.urlpattern_meaning.specs.FirstAnswers.{TookText};
 
-pub use urlpattern_laws::laws::{
+pub use urlpattern_meaning::laws::{
     captures_are_as_many_as_names, copies_are_one_capture, dialect_trees_are_one,
     every_text_has_an_outcome, every_text_has_tokens, first_ways_are_meant, joining_keeps_meaning,
     joining_keeps_printed_text, joining_keeps_regexp, matchers_answer_the_first_way,

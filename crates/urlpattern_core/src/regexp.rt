@@ -4,8 +4,8 @@ mod rust;
 
 ghost use Rattle.std.specs.Prelude.{◌≡◌, Bool, ℕ, List, Option, Err, IfOk};
 ghost use Rattle.std.specs.Str.{chars};
-ghost use Rattle.urlpattern_core.specs.Captured.{captures_view};
-ghost use Rattle.urlpattern_laws.specs.PartMeaning.{Captures};
+ghost use Rattle.urlpattern_core.specs.CaptureTexts.{captures_view};
+ghost use Rattle.urlpattern_meaning.specs.PartMeaning.{Captures};
 ghost use Rattle.urlpattern_syntax.specs.declared.error.RegExpError.TheVariants.{Pattern};
 ghost use Rattle.urlpattern_syntax.specs.declared.parser.RegexSyntax.{RegexSyntax};
 
@@ -68,7 +68,7 @@ pub trait RegExp: Sized + Drop {
 ///
 /// It may refuse any text. What it matches and captures is said by the contracts of that crate.
 impl RegExp for Regex {
-    ghost use Rattle.urlpattern_core.specs.Engines.{regex_engine};
+    ghost use Rattle.urlpattern_core.specs.Regexes.{regex_engine};
 
     ghost syntax_of = { regex_engine.syntax_of };
 

@@ -7,15 +7,15 @@ use Rattle.std.specs.Borrow.{Bor}
 use Rattle.std.specs.Char.{IsScalar, encode_utf8}
 use Rattle.std.specs.Prelude.{IfOk}
 use Rattle.std.specs.Str.{chars, IsUtf8}
-use Rattle.urlpattern_laws.specs.PartMeaning.{Captures}
+use Rattle.urlpattern_meaning.specs.PartMeaning.{Captures}
 use Rattle.urlpattern_syntax.proofs.TextLemmas.{chars-empty}
 use Rattle.urlpattern_engine.specs.declared.step.Group.{Group}
 use Rattle.urlpattern_engine.specs.declared.step.Step.{Step}
 use Rattle.urlpattern_engine.specs.declared.step.Step.TheVariants.{Maybe}
 use Rattle.urlpattern_engine.specs.declared.walk.Attempt.{Attempt}
-use Rattle.urlpattern_engine.specs.Failed.{IsPlace}
-use Rattle.urlpattern_engine.specs.Steps.{captured, walk}
-use Rattle.urlpattern_engine.specs.Taken.{Extends, Follows, FollowsOn, Untouched, with_captures}
+use Rattle.urlpattern_engine.specs.Failed.{IsStateOf}
+use Rattle.urlpattern_engine.specs.Walk.{captured_front, walk}
+use Rattle.urlpattern_engine.specs.Taken.{Extends, FollowsSteps, FollowsOn, Untouched, with_captures}
 use Rattle.urlpattern_engine.proofs.FailedLemmas.{place_within}
 use Rattle.urlpattern_engine.proofs.FollowLemmas.{plus, adds_none, end_taken, extends_more, front_shortened, plus_captured, plus_maybe, taken_adds}
 
@@ -28,16 +28,16 @@ pub untouched-then : (old now new : Attempt) → Untouched old now → Untouched
 untouched-then old now new first second = record { same = second.same ∙ first.same; whole = second.whole ∙ first.whole }
 
 -- steps that were followed, and do not take the text, give nothing
-pub follows_none : (old new : Attempt) (is_taken : Bool) (found : Option Captures) → is_taken ≡ false → Follows old new is_taken found → found ≡ None
+pub follows_none : (old new : Attempt) (is_taken : Bool) (found : Option Captures) → is_taken ≡ false → FollowsSteps old new is_taken found → found ≡ None
 follows_none old new is_taken found missed follows = adds_none old.captures.items new.captures.items is_taken found missed follows.adds
 
 -- and nothing is captured then
-pub follows_untouched : (old now new : Attempt) (is_taken : Bool) (found : Option Captures) → Untouched old now → is_taken ≡ false → Follows now new is_taken found → Untouched old new
+pub follows_untouched : (old now new : Attempt) (is_taken : Bool) (found : Option Captures) → Untouched old now → is_taken ≡ false → FollowsSteps now new is_taken found → Untouched old new
 follows_untouched old now new is_taken found before missed follows = untouched-then old now new before (record { same = follows.same missed; whole = follows.whole })
 
 -- the steps take the text where a part of their work does that was tried
-pub follows_taken : (old now new : Attempt) (is_taken : Bool) (part whole : Option Captures) → Untouched old now → is_taken ≡ true → Follows now new is_taken part
-    → ((found : Captures) → part ≡ Some found → whole ≡ Some found) → Follows old new true whole
+pub follows_taken : (old now new : Attempt) (is_taken : Bool) (part whole : Option Captures) → Untouched old now → is_taken ≡ true → FollowsSteps now new is_taken part
+    → ((found : Captures) → part ≡ Some found → whole ≡ Some found) → FollowsSteps old new true whole
 follows_taken old now new is_taken part whole before taken follows leads = record {
   adds = taken_adds old.captures.items now.captures.items new.captures.items is_taken part whole before.same taken follows.adds leads;
   same = λ e. absurd (false≢true (sym e));
@@ -45,12 +45,12 @@ follows_taken old now new is_taken part whole before taken follows leads = recor
 }
 
 -- they do not where nothing leads on
-pub follows_missed : (old now : Attempt) (found : Option Captures) → Untouched old now → found ≡ None → Follows old now false found
+pub follows_missed : (old now : Attempt) (found : Option Captures) → Untouched old now → found ≡ None → FollowsSteps old now false found
 follows_missed old now found before none = record { adds = sym (ap (plus old.captures.items) none); same = λ e. before.same; whole = before.whole }
 
 -- what a call does is what is done in all
 pub follows_later : {E : Type 0} (old now new : Attempt) (whole part : Option Captures) (result : Result Bool E) → Untouched old now → whole ≡ part
-    → IfOk result (λ is_taken. Follows now new is_taken part) → IfOk result (λ is_taken. Follows old new is_taken whole)
+    → IfOk result (λ is_taken. FollowsSteps now new is_taken part) → IfOk result (λ is_taken. FollowsSteps old new is_taken whole)
 follows_later old now new whole part (Ok is_taken) before same follows = record {
   adds = follows.adds ∙ ap (λ l. plus l part) before.same ∙ ap (plus old.captures.items) (sym same);
   same = λ e. follows.same e ∙ before.same;
@@ -60,7 +60,7 @@ follows_later old now new whole part (Err error) before same follows = tt
 
 -- ---- where some captures may be added though the text is not taken
 
-pub follows_on : (old new : Attempt) (is_taken : Bool) (found : Option Captures) → Follows old new is_taken found → FollowsOn old new is_taken found
+pub follows_on : (old new : Attempt) (is_taken : Bool) (found : Option Captures) → FollowsSteps old new is_taken found → FollowsOn old new is_taken found
 follows_on old new is_taken found follows = record {
   adds = follows.adds;
   more = λ e. ([], follows.same e ∙ sym (append-nil old.captures.items));
@@ -69,13 +69,13 @@ follows_on old new is_taken found follows = record {
 
 -- a call that adds nothing where the text is not taken
 pub call_follows_on : {E : Type 0} (old new : Attempt) (whole part : Option Captures) (result : Result Bool E) → whole ≡ part
-    → IfOk result (λ is_taken. Follows old new is_taken part) → IfOk result (λ is_taken. FollowsOn old new is_taken whole)
+    → IfOk result (λ is_taken. FollowsSteps old new is_taken part) → IfOk result (λ is_taken. FollowsOn old new is_taken whole)
 call_follows_on old new whole part (Ok is_taken) same follows = subst (FollowsOn old new is_taken) (sym same) (follows_on old new is_taken part follows)
 call_follows_on old new whole part (Err error) same follows = tt
 
 -- the steps of a group that may be missing do not lead on, and those after it are followed
 pub maybe_left : {E : Type 0} (old now added new : Attempt) (group : Group) (others left : List Step) (text : List ℕ) (is_taken : Bool) (result : Result Bool E) → is_taken ≡ false
-    → Follows old now is_taken (walk others text) → added.captures.items ≡ now.captures.items ++ replicate group.captures None → added.failed ≡ now.failed → left ≡ drop group.steps others
+    → FollowsSteps old now is_taken (walk others text) → added.captures.items ≡ now.captures.items ++ replicate group.captures None → added.failed ≡ now.failed → left ≡ drop group.steps others
     → IfOk result (λ is_left. FollowsOn added new is_left (walk left text)) → IfOk result (λ is_left. FollowsOn old new is_left (walk (Maybe group ∷ others) text))
 maybe_left old now added new group others left text is_taken (Ok is_left) missed follows missing whole passed later =
     let none = follows_none old now is_taken (walk others text) missed follows in
@@ -94,7 +94,7 @@ maybe_left old now added new group others left text is_taken (Err error) missed 
 
 -- what the steps that are left capture of what is left is what the steps do of the text, with what was captured before each
 pub record Leaves (old now : Attempt) (steps left : List Step) (text rest : List ℕ) : Type 0 where
-  pub place : IsPlace now.failed left rest
+  pub place : IsStateOf now.failed left rest
   pub so_far : with_captures old.captures.items (walk steps text) ≡ with_captures now.captures.items (walk left rest)
   pub more : Extends old.captures.items now.captures.items
   pub whole : now.failed ≡ old.failed
@@ -113,7 +113,7 @@ module _ (old now : Attempt) (steps left : List Step) (text rest : List ℕ) (le
 
   -- a step captures the front
   pub leaves_captured : (new : Attempt) (step : Step) (others : List Step) (front : Bor (List ℕ)) (remaining : List ℕ) → left ≡ step ∷ others → rest ≡ chars front.now ++ remaining
-      → walk (step ∷ others) rest ≡ captured (walk others) (chars front.now) remaining
+      → walk (step ∷ others) rest ≡ captured_front (walk others) (chars front.now) remaining
       → new.captures.items ≡ now.captures.items ++ Some front ∷ [] → new.failed ≡ now.failed → Leaves old new steps others text remaining
   leaves_captured new step others front remaining first cut found pushed whole =
       leaves_passed new step others (chars front.now) remaining first cut

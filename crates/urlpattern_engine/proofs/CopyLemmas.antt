@@ -5,25 +5,25 @@ use Rattle.std.proofs.lemmas.Str.{chars-append}
 use Rattle.std.proofs.Math.Seq.{take-append_seam}
 use Rattle.std.specs.Option.{option_or}
 use Rattle.std.specs.Str.{chars, IsUtf8}
-use Rattle.urlpattern_laws.specs.PartMeaning.{Captures}
+use Rattle.urlpattern_meaning.specs.PartMeaning.{Captures}
 use Rattle.urlpattern_engine.specs.declared.step.Copies.{Copies as Copied}
 use Rattle.urlpattern_engine.specs.declared.step.Step.{Step}
 use Rattle.urlpattern_engine.specs.declared.step.Step.TheVariants.{Copies}
-use Rattle.urlpattern_engine.specs.Steps.{Gives, after_text, any_rounds, copies_of, literal_text, literals, repeated, rounds, some_rounds, walk, walk_after, walk_copies}
+use Rattle.urlpattern_engine.specs.Walk.{Continuation, after_text, any_rounds, copies_of, literal_text, literals, repeated, rounds, some_rounds, walk, walk_after, walk_copies}
 use Rattle.urlpattern_engine.proofs.Rounds.{advances-after, any-unrolled, keeps-any, keeps-some}
 use Rattle.urlpattern_engine.proofs.StepLemmas.{walk_after-drop}
 use Rattle.urlpattern_engine.proofs.Tried.{Next, option_or-assoc}
 
 -- ---- a text at the front
 
-pub after-found : (characters rest : List ℕ) (gives : Gives) (front : List ℕ) → after_text characters gives front (characters ++ rest) ≡ gives (front ++ characters) rest
+pub after-found : (characters rest : List ℕ) (gives : Continuation) (front : List ℕ) → after_text characters gives front (characters ++ rest) ≡ gives (front ++ characters) rest
 after-found [] rest gives front = ap (λ f. gives f rest) (sym (append-nil front))
 after-found (c ∷ characters) rest gives front =
     ap (λ b. cond b (after_text characters gives (front ++ c ∷ []) (characters ++ rest)) None) (eq-eqb c c refl)
     ∙ after-found characters rest gives (front ++ c ∷ [])
     ∙ ap (λ f. gives f rest) (append_assoc front (c ∷ []) characters)
 
-pub after-other : (characters text : List ℕ) (gives : Gives) (front : List ℕ) → ((rest : List ℕ) → ¬ (text ≡ characters ++ rest)) → after_text characters gives front text ≡ None
+pub after-other : (characters text : List ℕ) (gives : Continuation) (front : List ℕ) → ((rest : List ℕ) → ¬ (text ≡ characters ++ rest)) → after_text characters gives front text ≡ None
 after-other [] text gives front other = absurd (other text refl)
 after-other (c ∷ characters) [] gives front other = refl
 after-other (c ∷ characters) (d ∷ text) gives front other =
@@ -34,7 +34,7 @@ after-other (c ∷ characters) (d ∷ text) gives front other =
     by false e later = refl
 
 -- fronts do not matter where what is given does not depend on them
-after-fronts : (characters : List ℕ) (f g : Gives) → ((before other rest : List ℕ) → f before rest ≡ g other rest) → (front another text : List ℕ)
+after-fronts : (characters : List ℕ) (f g : Continuation) → ((before other rest : List ℕ) → f before rest ≡ g other rest) → (front another text : List ℕ)
     → after_text characters f front text ≡ after_text characters g another text
 after-fronts [] f g same front another text = same front another text
 after-fronts (c ∷ characters) f g same front another [] = refl
@@ -78,7 +78,7 @@ module _ (c : ℕ) (literal : List ℕ) (next : Next) where
   abbrev copy : List ℕ
   copy = c ∷ literal
 
-  abbrev going_on : Gives
+  abbrev going_on : Continuation
   going_on front rest = next rest
 
   pub copies_fewer : (n : ℕ) (front rest : List ℕ) → ((end : List ℕ) → ¬ (rest ≡ copy ++ end))

@@ -10,11 +10,11 @@ use Rattle.std.specs.Char.{IsScalar, encode_utf8}
 use Rattle.std.specs.Option.{option_or}
 use Rattle.std.specs.Prelude.{is_some}
 use Rattle.std.specs.Str.{chars, IsUtf8}
-use Rattle.urlpattern_laws.specs.PartMeaning.{Captures}
+use Rattle.urlpattern_meaning.specs.PartMeaning.{Captures}
 use Rattle.urlpattern_engine.specs.declared.step.Segments.{Segments as Segmented}
 use Rattle.urlpattern_engine.specs.declared.step.Step.{Step}
 use Rattle.urlpattern_engine.specs.declared.step.Step.TheVariants.{Segments}
-use Rattle.urlpattern_engine.specs.Steps.{Gives, after_separator, after_text, any_rounds, captured, literal_text, literals, segmented, single_run, walk, walk_after}
+use Rattle.urlpattern_engine.specs.Walk.{Continuation, after_separator, after_text, any_rounds, captured_front, literal_text, literals, segmented, single_run, walk, walk_after}
 use Rattle.urlpattern_engine.specs.Taken.{IsCutFor, IsEndHere, IsEndOfSegments, going_on}
 use Rattle.urlpattern_engine.proofs.CopyLemmas.{after-found, after-other}
 use Rattle.urlpattern_engine.proofs.Rounds.{any-unrolled}
@@ -23,7 +23,7 @@ use Rattle.urlpattern_engine.proofs.StepLemmas.{walk_after-drop}
 use Rattle.urlpattern_engine.proofs.Tried.{Next}
 
 -- what is first found is cut first
-pub cut-or : (gives : Gives) (text : List ℕ) (n m : Option ℕ) (a b : Option Captures) → IsCutFor gives text n a → IsCutFor gives text m b → IsCutFor gives text (option_or n m) (option_or a b)
+pub cut-or : (gives : Continuation) (text : List ℕ) (n m : Option ℕ) (a b : Option Captures) → IsCutFor gives text n a → IsCutFor gives text m b → IsCutFor gives text (option_or n m) (option_or a b)
 cut-or gives text None m a b one two = subst (λ o. IsCutFor gives text m (option_or o b)) (sym one) two
 cut-or gives text (Some n) m None b (front, rest, u, v, e, f, g, some) two = absurd (some refl)
 cut-or gives text (Some n) m (Some x) b one two = one
@@ -46,24 +46,24 @@ begins_or_not (c ∷ characters) (d ∷ text) = by (d == c) refl (begins_or_not 
     by true e (inr other) = inr (λ rest f. other rest (tail rest f))
     by false e choice = inr (λ rest f. let g : (d == c) ≡ true = eq-eqb d c (head rest f) in false≢true (sym e ∙ g))
 
-module _ (c : ℕ) (literal : List ℕ) (is_greedy : Bool) (end : ℕ) (gives : Gives) where
+module _ (c : ℕ) (literal : List ℕ) (is_greedy : Bool) (end : ℕ) (gives : Continuation) where
   abbrev pub separator : List ℕ
   separator = c ∷ literal
 
   -- what is given where a run may end here
-  abbrev pub stops : Gives
+  abbrev pub stops : Continuation
   stops front text = any_rounds (after_separator separator (single_run is_greedy end)) gives front text
 
   -- where a run begins here
-  abbrev pub begins : Gives
+  abbrev pub begins : Continuation
   begins front text = segmented separator (single_run is_greedy end) gives front text
 
   -- where a run may end here or later
-  abbrev pub either : Gives
+  abbrev pub either : Continuation
   either front text = cond is_greedy (begins front text) (option_or (stops front text) (begins front text))
 
   -- where a run goes on with the first character
-  abbrev pub onward : Gives
+  abbrev pub onward : Continuation
   onward front [] = None
   onward front (d ∷ text) = cond (d == end) None (either (front ++ d ∷ []) text)
 
@@ -117,7 +117,7 @@ module _ (c : ℕ) (literal : List ℕ) (is_greedy : Bool) (end : ℕ) (gives : 
       by false cut = cut
 
 -- the parts of a run, by its kind
-pub begins_parts : (c : ℕ) (literal : List ℕ) (is_greedy : Bool) (end : ℕ) (gives : Gives) (front text : List ℕ)
+pub begins_parts : (c : ℕ) (literal : List ℕ) (is_greedy : Bool) (end : ℕ) (gives : Continuation) (front text : List ℕ)
     → begins c literal is_greedy end gives front text
     ≡ cond is_greedy (option_or (onward c literal is_greedy end gives front text) (stops c literal is_greedy end gives front text)) (onward c literal is_greedy end gives front text)
 begins_parts c literal true end gives front [] = refl
@@ -130,24 +130,24 @@ begins_parts c literal true end gives front (d ∷ text) = by (d == end)
 begins_parts c literal false end gives front [] = refl
 begins_parts c literal false end gives front (d ∷ text) = refl
 
-pub either_parts : (c : ℕ) (literal : List ℕ) (is_greedy : Bool) (end : ℕ) (gives : Gives) (front text : List ℕ)
+pub either_parts : (c : ℕ) (literal : List ℕ) (is_greedy : Bool) (end : ℕ) (gives : Continuation) (front text : List ℕ)
     → either c literal is_greedy end gives front text
     ≡ cond is_greedy (option_or (onward c literal is_greedy end gives front text) (stops c literal is_greedy end gives front text))
     (option_or (stops c literal is_greedy end gives front text) (onward c literal is_greedy end gives front text))
 either_parts c literal true end gives front text = begins_parts c literal true end gives front text
 either_parts c literal false end gives front text = ap (option_or (stops c literal false end gives front text)) (begins_parts c literal false end gives front text)
 
-cut_either : (is_greedy : Bool) (gives : Gives) (text : List ℕ) (n m : Option ℕ) (a b : Option Captures) → IsCutFor gives text n a → IsCutFor gives text m b
+cut_either : (is_greedy : Bool) (gives : Continuation) (text : List ℕ) (n m : Option ℕ) (a b : Option Captures) → IsCutFor gives text n a → IsCutFor gives text m b
     → IsCutFor gives text (cond is_greedy (option_or n m) (option_or m n)) (cond is_greedy (option_or a b) (option_or b a))
 cut_either true gives text n m a b one two = cut-or gives text n m a b one two
 cut_either false gives text n m a b one two = cut-or gives text m n b a two one
 
-cut_beginning : (is_greedy : Bool) (gives : Gives) (text : List ℕ) (n m : Option ℕ) (a b : Option Captures) → IsCutFor gives text n a → IsCutFor gives text m b
+cut_beginning : (is_greedy : Bool) (gives : Continuation) (text : List ℕ) (n m : Option ℕ) (a b : Option Captures) → IsCutFor gives text n a → IsCutFor gives text m b
     → IsCutFor gives text (cond is_greedy (option_or n m) n) (cond is_greedy (option_or a b) a)
 cut_beginning true gives text n m a b one two = cut-or gives text n m a b one two
 cut_beginning false gives text n m a b one two = one
 
-module _ (c : ℕ) (literal : List ℕ) (is_greedy : Bool) (end : ℕ) (gives : Gives) (text : List ℕ) where
+module _ (c : ℕ) (literal : List ℕ) (is_greedy : Bool) (end : ℕ) (gives : Continuation) (text : List ℕ) where
   -- where segments end that begin here
   pub beginning_cut : (front rest : List ℕ) (forward stopping beginning : Option ℕ)
       → IsCutFor gives text forward (onward c literal is_greedy end gives front rest) → IsCutFor gives text stopping (stops c literal is_greedy end gives front rest)
@@ -209,10 +209,10 @@ module _ (c : ℕ) (literal : List ℕ) (is_greedy : Bool) (end : ℕ) (gives : 
 -- where a run may end, by where it ends here
 pub here_cut : (next : Next) (text front rest : List ℕ) (following end : Option ℕ) (n : ℕ) → IsUtf8 front → IsUtf8 rest → text ≡ front ++ rest → length front ≡ n
     → IsEndHere following n (next (chars rest)) end
-    → (here : Option ℕ) × (end ≡ option_or following here) × IsCutFor (captured next) text here (captured next (chars front) (chars rest))
+    → (here : Option ℕ) × (end ≡ option_or following here) × IsCutFor (captured_front next) text here (captured_front next (chars front) (chars rest))
 here_cut next text front rest (Some m) end n u v e same is = by (next (chars rest)) refl
   where
-    by : (o : Option Captures) → next (chars rest) ≡ o → (here : Option ℕ) × (end ≡ Some m) × IsCutFor (captured next) text here (captured next (chars front) (chars rest))
+    by : (o : Option Captures) → next (chars rest) ≡ o → (here : Option ℕ) × (end ≡ Some m) × IsCutFor (captured_front next) text here (captured_front next (chars front) (chars rest))
     by None none = (None, is, ap (option_map (λ others. Some (chars front) ∷ others)) none)
     by (Some x) some = (Some n, is, (front, rest, u, v, e, same, refl, λ none. let f = sym (ap (option_map (λ others. Some (chars front) ∷ others)) some) ∙ none in cc))
 here_cut next text front rest None None n u v e same is = (None, refl, ap (option_map (λ others. Some (chars front) ∷ others)) is)
@@ -226,47 +226,47 @@ here_cut next text front rest None (Some m) n u v e same (is, some) =
 -- what is known at a place: where segments end that begin here, and where a run ends that may end here
 pub place_cuts : (c : ℕ) (literal : List ℕ) (is_greedy : Bool) (end : ℕ) (next : Next) (text front rest : List ℕ) (table : List (Option ℕ)) (later following stopping forward beginning both : Option ℕ) (n : ℕ)
     → IsUtf8 front → IsUtf8 rest → text ≡ front ++ rest → length front ≡ n
-    → IsTable c literal is_greedy end (captured next) text (chars front) (chars rest) table later
+    → IsTable c literal is_greedy end (captured_front next) text (chars front) (chars rest) table later
     → ((left : List ℕ) → chars rest ≡ (c ∷ literal) ++ left → length table ≡ length (chars rest) → following ≡ get_or table (length left) None)
     → (((left : List ℕ) → ¬ (chars rest ≡ (c ∷ literal) ++ left)) → following ≡ None)
     → IsEndHere following n (next (chars rest)) stopping
     → forward ≡ going_on end later (chars rest)
     → beginning ≡ cond is_greedy (option_or forward stopping) forward
     → both ≡ cond is_greedy (option_or forward stopping) (option_or stopping forward)
-    → IsCutFor (captured next) text beginning (begins c literal is_greedy end (captured next) (chars front) (chars rest))
-    × IsCutFor (captured next) text both (either c literal is_greedy end (captured next) (chars front) (chars rest))
+    → IsCutFor (captured_front next) text beginning (begins c literal is_greedy end (captured_front next) (chars front) (chars rest))
+    × IsCutFor (captured_front next) text both (either c literal is_greedy end (captured_front next) (chars front) (chars rest))
 place_cuts c literal is_greedy end next text front rest table later following stopping forward beginning both n u v e same is there other stop onwards one two =
     let here = here_cut next text front rest following stopping n u v e same stop in
-    let after : IsCutFor (captured next) text following (after_text (c ∷ literal) (begins c literal is_greedy end (captured next)) (chars front) (chars rest)) =
-    next_cut c literal is_greedy end (captured next) text (chars front) (chars rest) table later following is there other in
-    let stopped : IsCutFor (captured next) text stopping (stops c literal is_greedy end (captured next) (chars front) (chars rest)) =
-    subst (λ o. IsCutFor (captured next) text o (stops c literal is_greedy end (captured next) (chars front) (chars rest))) (sym here.1)
-    (stop_cut c literal is_greedy end (captured next) text (chars front) (chars rest) following here.0 after here.2) in
-    let went : IsCutFor (captured next) text forward (onward c literal is_greedy end (captured next) (chars front) (chars rest)) =
-    subst (λ o. IsCutFor (captured next) text o (onward c literal is_greedy end (captured next) (chars front) (chars rest))) (sym onwards)
-    (onward_cut c literal is_greedy end (captured next) text (chars front) (chars rest) table later is) in (
-      beginning_cut c literal is_greedy end (captured next) text (chars front) (chars rest) forward stopping beginning went stopped one,
-      either_cut c literal is_greedy end (captured next) text (chars front) (chars rest) forward stopping both went stopped two,
+    let after : IsCutFor (captured_front next) text following (after_text (c ∷ literal) (begins c literal is_greedy end (captured_front next)) (chars front) (chars rest)) =
+    next_cut c literal is_greedy end (captured_front next) text (chars front) (chars rest) table later following is there other in
+    let stopped : IsCutFor (captured_front next) text stopping (stops c literal is_greedy end (captured_front next) (chars front) (chars rest)) =
+    subst (λ o. IsCutFor (captured_front next) text o (stops c literal is_greedy end (captured_front next) (chars front) (chars rest))) (sym here.1)
+    (stop_cut c literal is_greedy end (captured_front next) text (chars front) (chars rest) following here.0 after here.2) in
+    let went : IsCutFor (captured_front next) text forward (onward c literal is_greedy end (captured_front next) (chars front) (chars rest)) =
+    subst (λ o. IsCutFor (captured_front next) text o (onward c literal is_greedy end (captured_front next) (chars front) (chars rest))) (sym onwards)
+    (onward_cut c literal is_greedy end (captured_front next) text (chars front) (chars rest) table later is) in (
+      beginning_cut c literal is_greedy end (captured_front next) text (chars front) (chars rest) forward stopping beginning went stopped one,
+      either_cut c literal is_greedy end (captured_front next) text (chars front) (chars rest) forward stopping both went stopped two,
     )
 
 -- the same with the table of the place, by the table that is kept and what is left
 pub place_ends : (c : ℕ) (literal : List ℕ) (is_greedy : Bool) (end : ℕ) (next : Next) (text front rest left : List ℕ) (table kept : List (Option ℕ)) (later following stopping forward beginning both : Option ℕ)
     → IsUtf8 front → IsUtf8 left → text ≡ front ++ rest → text ≡ front ++ left
-    → IsTable c literal is_greedy end (captured next) text (chars front) (chars left) kept later → table ≡ kept
+    → IsTable c literal is_greedy end (captured_front next) text (chars front) (chars left) kept later → table ≡ kept
     → ((behind : List ℕ) → chars rest ≡ (c ∷ literal) ++ behind → length table ≡ length (chars rest) → following ≡ get_or table (length behind) None)
     → (((behind : List ℕ) → ¬ (chars rest ≡ (c ∷ literal) ++ behind)) → following ≡ None)
     → IsEndHere following (length front) (next (chars rest)) stopping
     → forward ≡ going_on end later (chars rest)
     → beginning ≡ cond is_greedy (option_or forward stopping) forward
     → both ≡ cond is_greedy (option_or forward stopping) (option_or stopping forward)
-    → IsTable c literal is_greedy end (captured next) text (chars front) (chars rest) table later
-    × IsCutFor (captured next) text beginning (begins c literal is_greedy end (captured next) (chars front) (chars rest))
-    × IsCutFor (captured next) text both (either c literal is_greedy end (captured next) (chars front) (chars rest))
+    → IsTable c literal is_greedy end (captured_front next) text (chars front) (chars rest) table later
+    × IsCutFor (captured_front next) text beginning (begins c literal is_greedy end (captured_front next) (chars front) (chars rest))
+    × IsCutFor (captured_front next) text both (either c literal is_greedy end (captured_front next) (chars front) (chars rest))
 place_ends c literal is_greedy end next text front rest left table kept later following stopping forward beginning both u v e f is same there other stop onwards one two =
     let behind : rest ≡ left = append_cancel_left front rest left (sym e ∙ f) in
-    let placed : IsTable c literal is_greedy end (captured next) text (chars front) (chars rest) table later =
-    subst (λ t. IsTable c literal is_greedy end (captured next) text (chars front) (chars rest) t later) (sym same)
-    (subst (λ r. IsTable c literal is_greedy end (captured next) text (chars front) (chars r) kept later) (sym behind) is) in
+    let placed : IsTable c literal is_greedy end (captured_front next) text (chars front) (chars rest) table later =
+    subst (λ t. IsTable c literal is_greedy end (captured_front next) text (chars front) (chars rest) t later) (sym same)
+    (subst (λ r. IsTable c literal is_greedy end (captured_front next) text (chars front) (chars r) kept later) (sym behind) is) in
     let cuts = place_cuts c literal is_greedy end next text front rest table later following stopping forward beginning both (length front) u (subst IsUtf8 (sym behind) v) e refl placed there other stop onwards one two in
     (placed, cuts.0, cuts.1)
 
@@ -286,10 +286,10 @@ end_none (Some n) here found e none = absurd (false≢true (sym e))
 
 -- the step of segments, by its parts
 pub segments_step : (segments : Segmented) (steps literal others : List Step) (text : List ℕ) → literal ≡ take segments.separator.others steps → others ≡ drop segments.separator.others steps
-    → walk (Segments segments ∷ steps) text ≡ segmented (segments.separator.first ∷ literals literal) (single_run segments.is_greedy segments.end) (captured (walk others)) [] text
+    → walk (Segments segments ∷ steps) text ≡ segmented (segments.separator.first ∷ literals literal) (single_run segments.is_greedy segments.end) (captured_front (walk others)) [] text
 segments_step segments steps literal others text e f =
-    ap (λ l. segmented (segments.separator.first ∷ literals l) (single_run segments.is_greedy segments.end) (captured (walk_after segments.separator.others steps)) [] text) (sym e)
-    ∙ (keeps-segmented segments.separator.first (literals literal) segments.is_greedy segments.end).same (captured (walk_after segments.separator.others steps)) (captured (walk others)) [] text
+    ap (λ l. segmented (segments.separator.first ∷ literals l) (single_run segments.is_greedy segments.end) (captured_front (walk_after segments.separator.others steps)) [] text) (sym e)
+    ∙ (keeps-segmented segments.separator.first (literals literal) segments.is_greedy segments.end).same (captured_front (walk_after segments.separator.others steps)) (captured_front (walk others)) [] text
     (λ before rest le.
     ap (option_map (λ more. Some before ∷ more)) (walk_after-drop segments.separator.others steps rest ∙ ap (λ l. walk l rest) (sym f)))
 
@@ -304,22 +304,22 @@ same_fronts front rest front' rest' e n =
 -- the steps of segments, by where these end
 module _ (segments : Segmented) (steps literal others : List Step) (text : List ℕ) (own : literal ≡ take segments.separator.others steps) (passed : others ≡ drop segments.separator.others steps) where
   pub segments_some : (end : Option ℕ) (n : ℕ) (front rest : List ℕ) → IsEndOfSegments segments literal others text end → end ≡ Some n → text ≡ front ++ rest → length front ≡ n
-      → walk (Segments segments ∷ steps) (chars text) ≡ captured (walk others) (chars front) (chars rest)
+      → walk (Segments segments ∷ steps) (chars text) ≡ captured_front (walk others) (chars front) (chars rest)
   segments_some end n front rest is some e count =
-      let found = segmented (literal_text segments.separator.first literal) (single_run segments.is_greedy segments.end) (captured (walk others)) [] (chars text) in
-      let cut : IsCutFor (captured (walk others)) text (Some n) found = subst (λ o. IsCutFor (captured (walk others)) text o found) some is in
+      let found = segmented (literal_text segments.separator.first literal) (single_run segments.is_greedy segments.end) (captured_front (walk others)) [] (chars text) in
+      let cut : IsCutFor (captured_front (walk others)) text (Some n) found = subst (λ o. IsCutFor (captured_front (walk others)) text o found) some is in
       let parts = same_fronts front rest cut.0 cut.1 (sym e ∙ cut.4) (count ∙ sym cut.5) in
       segments_step segments steps literal others (chars text) own passed
-      ∙ cut.6 ∙ ap (λ f. captured (walk others) (chars f) (chars cut.1)) (sym parts.0) ∙ ap (λ r. captured (walk others) (chars front) (chars r)) (sym parts.1)
+      ∙ cut.6 ∙ ap (λ f. captured_front (walk others) (chars f) (chars cut.1)) (sym parts.0) ∙ ap (λ r. captured_front (walk others) (chars front) (chars r)) (sym parts.1)
 
   pub segments_none : (end : Option ℕ) → IsEndOfSegments segments literal others text end → end ≡ None → walk (Segments segments ∷ steps) (chars text) ≡ None
   segments_none end is none =
-      let found = segmented (literal_text segments.separator.first literal) (single_run segments.is_greedy segments.end) (captured (walk others)) [] (chars text) in
-      let nothing : found ≡ None = subst (λ o. IsCutFor (captured (walk others)) text o found) none is in
+      let found = segmented (literal_text segments.separator.first literal) (single_run segments.is_greedy segments.end) (captured_front (walk others)) [] (chars text) in
+      let nothing : found ≡ None = subst (λ o. IsCutFor (captured_front (walk others)) text o found) none is in
       segments_step segments steps literal others (chars text) own passed ∙ nothing
 
 -- the table at the character before
-pub table_next : (c : ℕ) (literal : List ℕ) (is_greedy : Bool) (end : ℕ) (gives : Gives) (text front shorter rest : List ℕ) (d : ℕ) (table more : List (Option ℕ)) (later beginning both : Option ℕ)
+pub table_next : (c : ℕ) (literal : List ℕ) (is_greedy : Bool) (end : ℕ) (gives : Continuation) (text front shorter rest : List ℕ) (d : ℕ) (table more : List (Option ℕ)) (later beginning both : Option ℕ)
     → IsUtf8 shorter → IsUtf8 rest → IsScalar d → IsUtf8 (encode_utf8 d) → front ≡ shorter ++ encode_utf8 d → more ≡ table ++ beginning ∷ []
     → IsTable c literal is_greedy end gives text (chars front) (chars rest) table later
     → IsCutFor gives text beginning (begins c literal is_greedy end gives (chars front) (chars rest))

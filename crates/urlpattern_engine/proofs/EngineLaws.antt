@@ -3,16 +3,16 @@ use Rattle.std.proofs.Common.{◌≡◌, ℕ, Bool, false, true, List, refl, sym
 use Rattle.std.specs.Prelude.{⊤, IsOk, IsTrue, Ok, Err, Result}
 use Rattle.std.specs.Str.{all_scalars}
 use Rattle.regex.specs.declared.string.regex.Regex.{Regex}
-use Rattle.urlpattern_core.specs.Engines.{IsRegexOf, regex_answer}
+use Rattle.urlpattern_core.specs.Regexes.{IsRegexOf, regex_answer}
 use Rattle.urlpattern_core.specs.FirstWays.{AllAnswerAlike, ComponentsTakeGenerated, EachAnswersFirst, MatchersTakeGenerated, ValuesAnswerFirst}
 use Rattle.urlpattern_core.specs.Generated.{AreGenerated}
 use Rattle.urlpattern_core.proofs.FirstMatchers.{first_alike, made_first}
 use Rattle.urlpattern_core.proofs.RegexWays.{regex_answers_first}
-use Rattle.urlpattern_laws.specs.Dialect.{IsTreeOf, Items}
-use Rattle.urlpattern_laws.specs.FirstAnswers.{AnswersFirst}
-use Rattle.urlpattern_laws.specs.Ways.{first_way}
-use Rattle.urlpattern_laws.proofs.DialectUnique.{trees_are_one}
-use Rattle.urlpattern_core.specs.Compiling.{IsEngineOf, IsWholeEngineOf, engine_flags, has_regexp}
+use Rattle.urlpattern_meaning.specs.Dialect.{IsTreeOf, Items}
+use Rattle.urlpattern_meaning.specs.FirstAnswers.{AnswersFirst}
+use Rattle.urlpattern_meaning.specs.Ways.{first_way}
+use Rattle.urlpattern_meaning.proofs.DialectUnique.{trees_are_one}
+use Rattle.urlpattern_core.specs.Components.{IsEngineOf, IsWholeEngineOf, engine_flags, has_regexp}
 use Rattle.urlpattern_syntax.specs.declared.parser.RegexSyntax.{RegexSyntax}
 use Rattle.urlpattern_syntax.specs.Errors.{ErrorView}
 use Rattle.urlpattern_syntax.specs.Options.{OptionsView}
@@ -21,8 +21,8 @@ use Rattle.urlpattern_syntax.specs.RegexpText.{regexp_text}
 use Rattle.urlpattern_engine.specs.declared.pattern_regexp.Expression.{Expression}
 use Rattle.urlpattern_engine.specs.declared.pattern_regexp.Expression.TheVariants.{Own, Other}
 use Rattle.urlpattern_engine.specs.declared.pattern_regexp.PatternRegexp.{PatternRegexp}
-use Rattle.urlpattern_engine.specs.Engine.{IsExpressionOf, IsPatternRegexpOf, expression_answer, pattern_answer, pattern_engine}
-use Rattle.urlpattern_laws.proofs.FirstAnswers.{took_all}
+use Rattle.urlpattern_engine.specs.PatternRegexps.{IsExpressionOf, IsPatternRegexpOf, expression_answer, pattern_answer, pattern_engine}
+use Rattle.urlpattern_meaning.proofs.FirstAnswers.{took_all}
 use Rattle.urlpattern_engine.proofs.TwoRegexes.{regexes_same}
 
 expression_first : (regexp : List ℕ) (tree : Items) (expression : Expression) (text : List ℕ) → IsTreeOf regexp tree → IsExpressionOf regexp expression → IsTrue (all_scalars text)

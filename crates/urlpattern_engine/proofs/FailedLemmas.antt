@@ -1,4 +1,4 @@
--- Places in a match, and their bits.
+-- States of a match, and their bits.
 use Rattle.std.proofs.Common.{◌≡◌, ◌≢◌, ℕ, ◌+◌, ◌*◌, ◌/◌, ◌%◌, ◌^◌, ◌<◌, ◌⊎◌, List, [], ◌∷◌, ◌++◌, length, get_or, set, None, refl, sym, ap, ◌∙◌, subst, inl, inr, arith, append_assoc, length-append, drop, take, bit_and, bit_or, w64, replicate, zero, suc}
 use Rattle.std.specs.Int.{bit_at}
 use Rattle.std.proofs.lemmas.Nat.Bits.{bit_at-zero, shr_and_one, bit_at_set_other}
@@ -7,8 +7,8 @@ use Rattle.std.proofs.lemmas.List.{get_or-set_same, get_or-set_other, take-appen
 use Rattle.std.proofs.Math.Seq.{drop-append_seam, take-length}
 use Rattle.std.proofs.lemmas.Nat.{div-mul-add}
 use Rattle.urlpattern_engine.specs.declared.step.Step.{Step}
-use Rattle.urlpattern_engine.specs.Failed.{AreDead, EndsWith, HasBit, IsPlace, Whole, bit_of}
-use Rattle.urlpattern_engine.specs.Steps.{walk}
+use Rattle.urlpattern_engine.specs.Failed.{AreDead, EndsWith, HasBit, IsStateOf, Whole, bit_of}
+use Rattle.urlpattern_engine.specs.Walk.{walk}
 use Rattle.urlpattern_syntax.proofs.TextLemmas.{byte_len-append, length-le-byte_len}
 use Rattle.urlpattern_syntax.specs.Text.{byte_len}
 
@@ -24,8 +24,8 @@ pub ends_drop : {A : Type 0} (n : ℕ) (whole : List A) → EndsWith whole (drop
 ends_drop n whole = (take n whole, sym (take-append-drop n whole))
 
 -- less of both is left
-pub place_within : (whole now : Whole) (steps others : List Step) (text rest : List ℕ) → now ≡ whole → IsPlace whole steps text → EndsWith steps others → EndsWith text rest → IsPlace now others rest
-place_within whole now steps others text rest same place first second = subst (λ w. IsPlace w others rest) (sym same) (record {
+pub place_within : (whole now : Whole) (steps others : List Step) (text rest : List ℕ) → now ≡ whole → IsStateOf whole steps text → EndsWith steps others → EndsWith text rest → IsStateOf now others rest
+place_within whole now steps others text rest same place first second = subst (λ w. IsStateOf w others rest) (sym same) (record {
   of_steps = ends_longer whole.steps steps others place.of_steps first;
   of_text = ends_longer whole.text text rest place.of_text second;
 })
@@ -55,8 +55,8 @@ dead_without whole bits zeros = λ steps text place has. absurd (no_bit bits zer
 short_text : (whole text : List ℕ) → EndsWith whole text → byte_len text < byte_len whole + 1
 short_text whole text end = omega (arith, ap byte_len end.1, byte_len-append end.0 text)
 
--- the place of a bit is one
-same_place : (whole : Whole) (steps others : List Step) (text other : List ℕ) → IsPlace whole steps text → IsPlace whole others other → bit_of whole.text steps text ≡ bit_of whole.text others other → (steps ≡ others) × (text ≡ other)
+-- the state of a bit is one
+same_place : (whole : Whole) (steps others : List Step) (text other : List ℕ) → IsStateOf whole steps text → IsStateOf whole others other → bit_of whole.text steps text ≡ bit_of whole.text others other → (steps ≡ others) × (text ≡ other)
 same_place whole steps others text other place also e =
     let width : ℕ = byte_len whole.text + 1 in
     let rows : length steps ≡ length others =
@@ -67,8 +67,8 @@ same_place whole steps others text other place also e =
       same_text place.of_text.0 also.of_text.0 text other (sym place.of_text.1 ∙ also.of_text.1) (omega arith),
     )
 
--- a place more
-pub dead_more : (whole : Whole) (old new : List ℕ) (bit : ℕ) (steps : List Step) (text : List ℕ) → IsPlace whole steps text → walk steps text ≡ None → bit ≡ bit_of whole.text steps text
+-- a state more
+pub dead_more : (whole : Whole) (old new : List ℕ) (bit : ℕ) (steps : List Step) (text : List ℕ) → IsStateOf whole steps text → walk steps text ≡ None → bit ≡ bit_of whole.text steps text
     → ((other : ℕ) → HasBit new other → HasBit old other ⊎ (other ≡ bit)) → AreDead whole old → AreDead whole new
 dead_more whole old new bit steps text place none is more dead = λ others other also has.
     elim (more (bit_of whole.text others other) has) [

@@ -4,18 +4,18 @@ use Rattle.std.proofs.lemmas.Str.{chars-append, chars_past_char, IsUtf8-append}
 use Rattle.std.specs.Char.{IsScalar, encode_utf8}
 use Rattle.std.specs.Option.{option_or}
 use Rattle.std.specs.Str.{chars, IsUtf8}
-use Rattle.urlpattern_laws.specs.PartMeaning.{Captures}
+use Rattle.urlpattern_meaning.specs.PartMeaning.{Captures}
 use Rattle.urlpattern_syntax.proofs.StringTexts.{chars-encode}
-use Rattle.urlpattern_engine.specs.Steps.{Gives, up_to_first, from_first, longest}
+use Rattle.urlpattern_engine.specs.Walk.{Continuation, up_to_first, from_first, longest}
 use Rattle.urlpattern_engine.proofs.RunLemmas.{both_ends}
 use Rattle.urlpattern_engine.proofs.Tried.{option_or-assoc}
 
 -- what the longest front of these characters gives that gives something
-abbrev pub falling : Gives → (taken front rest : List ℕ) → Option Captures
+abbrev pub falling : Continuation → (taken front rest : List ℕ) → Option Captures
 falling gives taken [] rest = gives taken rest
 falling gives taken (c ∷ front) rest = option_or (falling gives (taken ++ c ∷ []) front rest) (gives taken (c ∷ (front ++ rest)))
 
-pub longest_falling : (end : ℕ) (gives : Gives) (taken text : List ℕ) → longest end gives taken text ≡ falling gives taken (up_to_first end text) (from_first end text)
+pub longest_falling : (end : ℕ) (gives : Continuation) (taken text : List ℕ) → longest end gives taken text ≡ falling gives taken (up_to_first end text) (from_first end text)
 longest_falling end gives taken [] = refl
 longest_falling end gives taken (c ∷ text) = by (c == end) (longest_falling end gives (taken ++ c ∷ []) text)
   where
@@ -26,7 +26,7 @@ longest_falling end gives taken (c ∷ text) = by (c == end) (longest_falling en
     by false later = ap₂ option_or later (ap (λ t. gives taken (c ∷ t)) (sym (both_ends end text)))
 
 -- the longest of all comes first, and then those without its last character
-pub falling-last : (gives : Gives) (taken front : List ℕ) (c : ℕ) (rest : List ℕ)
+pub falling-last : (gives : Continuation) (taken front : List ℕ) (c : ℕ) (rest : List ℕ)
     → falling gives taken (front ++ c ∷ []) rest ≡ option_or (gives (taken ++ (front ++ c ∷ [])) rest) (falling gives taken front (c ∷ rest))
 falling-last gives taken [] c rest = refl
 falling-last gives taken (d ∷ front) c rest =
@@ -37,13 +37,13 @@ falling-last gives taken (d ∷ front) c rest =
     ∙ ap (λ f. option_or (gives f rest) (falling gives taken (d ∷ front) (c ∷ rest))) (append_assoc taken (d ∷ []) (front ++ c ∷ []))
 
 -- what the longest of all gives comes first
-pub falling-found : (gives : Gives) (taken front rest : List ℕ) (found : Captures) → gives (taken ++ front) rest ≡ Some found → falling gives taken front rest ≡ Some found
+pub falling-found : (gives : Continuation) (taken front rest : List ℕ) (found : Captures) → gives (taken ++ front) rest ≡ Some found → falling gives taken front rest ≡ Some found
 falling-found gives taken [] rest found e = ap (λ f. gives f rest) (sym (append-nil taken)) ∙ e
 falling-found gives taken (c ∷ front) rest found e =
     ap (λ o. option_or o (gives taken (c ∷ (front ++ rest)))) (falling-found gives (taken ++ c ∷ []) front rest found (ap (λ f. gives f rest) (append_assoc taken (c ∷ []) front) ∙ e))
 
 -- the last character of a front goes to the rest
-pub front_shrinks : (gives : Gives) (front shorter rest : List ℕ) (c : ℕ) → IsUtf8 shorter → IsUtf8 rest → IsScalar c → IsUtf8 (encode_utf8 c) → front ≡ shorter ++ encode_utf8 c
+pub front_shrinks : (gives : Continuation) (front shorter rest : List ℕ) (c : ℕ) → IsUtf8 shorter → IsUtf8 rest → IsScalar c → IsUtf8 (encode_utf8 c) → front ≡ shorter ++ encode_utf8 c
     → gives (chars front) (chars rest) ≡ None → falling gives [] (chars front) (chars rest) ≡ falling gives [] (chars shorter) (chars (encode_utf8 c ++ rest))
 front_shrinks gives front shorter rest c u v scalar w e none =
     let spelled : chars front ≡ chars shorter ++ c ∷ [] = ap chars e ∙ chars-append shorter (encode_utf8 c) u ∙ ap (λ l. chars shorter ++ l) (chars-encode c scalar) in

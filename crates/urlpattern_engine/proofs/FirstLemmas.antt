@@ -1,20 +1,20 @@
--- The places that are left of a match, and the first of the steps.
+-- The states of a match, and the first of the steps.
 use Rattle.std.proofs.Common.{◌≡◌, ℕ, ◌≤◌, List, [], ◌∷◌, ◌++◌, length, drop, refl, sym, ap, subst, arith}
 use Rattle.std.proofs.lemmas.List.{length-drop}
 use Rattle.std.specs.Str.{chars, IsUtf8}
 use Rattle.urlpattern_engine.specs.declared.step.Step.{Step}
-use Rattle.urlpattern_engine.specs.Failed.{EndsWith, IsPlace, Whole}
+use Rattle.urlpattern_engine.specs.Failed.{EndsWith, IsStateOf, Whole}
 use Rattle.urlpattern_engine.proofs.FailedLemmas.{ends_drop, ends_same, place_within}
 use Rattle.urlpattern_engine.proofs.FollowLemmas.{chars_end}
 
 -- what stands after a front may be left too
-pub rest_place : (whole now : Whole) (steps others : List Step) (text front rest : List ℕ) → now ≡ whole → IsPlace whole steps (chars text) → EndsWith steps others → IsUtf8 front → text ≡ front ++ rest
-    → IsPlace now others (chars rest)
+pub rest_place : (whole now : Whole) (steps others : List Step) (text front rest : List ℕ) → now ≡ whole → IsStateOf whole steps (chars text) → EndsWith steps others → IsUtf8 front → text ≡ front ++ rest
+    → IsStateOf now others (chars rest)
 rest_place whole now steps others text front rest same place end u e = place_within whole now steps others (chars text) (chars rest) same place end (chars_end text front rest u e)
 
 module _ (step : Step) (steps others : List Step) (first : steps ≡ step ∷ others) where
   -- the others and the same text may be left too
-  pub others_place : (whole : Whole) (text : List ℕ) → IsPlace whole steps text → IsPlace whole others text
+  pub others_place : (whole : Whole) (text : List ℕ) → IsStateOf whole steps text → IsStateOf whole others text
   others_place whole text place = place_within whole whole steps others text text refl place (step ∷ [], first) (ends_same text)
 
 module _ (count : ℕ) (steps others : List Step) (passed : others ≡ drop count steps) where

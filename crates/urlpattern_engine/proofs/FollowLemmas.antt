@@ -7,14 +7,14 @@ use Rattle.std.specs.Char.{IsScalar, encode_utf8}
 use Rattle.std.specs.Option.{option_or}
 use Rattle.std.specs.Prelude.{encode_utf8_all}
 use Rattle.std.specs.Str.{chars, IsUtf8}
-use Rattle.urlpattern_core.specs.Captured.{capture_view}
-use Rattle.urlpattern_laws.specs.PartMeaning.{Captures}
+use Rattle.urlpattern_core.specs.CaptureTexts.{capture_view}
+use Rattle.urlpattern_meaning.specs.PartMeaning.{Captures}
 use Rattle.urlpattern_syntax.proofs.StringTexts.{chars-encode}
 use Rattle.urlpattern_engine.specs.declared.step.Group.{Group}
 use Rattle.urlpattern_engine.specs.declared.step.Step.{Step}
 use Rattle.urlpattern_engine.specs.declared.step.Step.TheVariants.{Anything, Literal, Maybe, Segment}
 use Rattle.urlpattern_engine.specs.Failed.{EndsWith, HasEnded}
-use Rattle.urlpattern_engine.specs.Steps.{Gives, captured, longest, shortest, up_to_first, walk}
+use Rattle.urlpattern_engine.specs.Walk.{Continuation, captured_front, longest, shortest, up_to_first, walk}
 use Rattle.urlpattern_engine.specs.Taken.{AreAdded, Extends, Kept}
 use Rattle.urlpattern_engine.proofs.RunLemmas.{longest_found, longest_no_more, shortest_ended}
 use Rattle.urlpattern_engine.proofs.StepLemmas.{maybe_missing}
@@ -92,7 +92,7 @@ end_taken now left rest is_empty is_taken none full some same =
 -- ---- the shortest front
 
 -- a character is passed, and then there is a front that ends here
-shortest_passed : (end : ℕ) (gives : Gives) (front : List ℕ) (c : ℕ) (rest : List ℕ) → (c == end) ≡ false
+shortest_passed : (end : ℕ) (gives : Continuation) (front : List ℕ) (c : ℕ) (rest : List ℕ) → (c == end) ≡ false
     → shortest end gives front (c ∷ rest) ≡ option_or (gives (front ++ c ∷ []) rest) (shortest end gives (front ++ c ∷ []) rest)
 shortest_passed end gives front c rest e = ap (λ b. cond b None (option_or (gives (front ++ c ∷ []) rest) (shortest end gives (front ++ c ∷ []) rest))) e
 
@@ -106,7 +106,7 @@ pub run_passed : (front text rest : List ℕ) (c : ℕ) (remaining : List ℕ) �
 run_passed front text rest c remaining e f = e ∙ ap (λ r. front ++ r) f ∙ sym (append_assoc front (c ∷ []) remaining)
 
 -- a front with a character more is tried before those that are longer
-pub shortest_grown : (end : ℕ) (gives : Gives) (text front before rest remaining : List ℕ) (c : ℕ) → text ≡ front ++ rest → rest ≡ c ∷ remaining → ¬ (c ≡ end) → text ≡ before ++ remaining
+pub shortest_grown : (end : ℕ) (gives : Continuation) (text front before rest remaining : List ℕ) (c : ℕ) → text ≡ front ++ rest → rest ≡ c ∷ remaining → ¬ (c ≡ end) → text ≡ before ++ remaining
     → shortest end gives front rest ≡ option_or (gives before remaining) (shortest end gives (front ++ c ∷ []) remaining)
 shortest_grown end gives text front before rest remaining c e f other g =
     ap (shortest end gives front) f
@@ -114,7 +114,7 @@ shortest_grown end gives text front before rest remaining c e f other g =
     ∙ ap (λ b. option_or (gives b remaining) (shortest end gives (front ++ c ∷ []) remaining)) (sym (front_grows text front before rest remaining c e f g))
 
 -- where the run has ended, no longer front leads on
-pub run_ended : (end : ℕ) (steps others : List Step) (front rest : List ℕ) → steps ≡ Segment end ∷ others → HasEnded end steps rest → shortest end (captured (walk others)) front rest ≡ None
+pub run_ended : (end : ℕ) (steps others : List Step) (front rest : List ℕ) → steps ≡ Segment end ∷ others → HasEnded end steps rest → shortest end (captured_front (walk others)) front rest ≡ None
 run_ended end steps others front rest first ended = shortest_ended end (walk others) front rest (subst (λ s. HasEnded end s rest) first ended)
 
 -- ---- the longest front
@@ -143,26 +143,26 @@ front_shortened text front shorter rest c scalar u e f =
 
 -- where no longer front leads on, and this one does not, none from this one on does
 pub longest_missed : (others : List Step) (text front rest left : List ℕ) (old new : Kept) (is_taken : Bool) → text ≡ front ++ rest → text ≡ front ++ left
-    → longest line_feed (captured (walk others)) (chars front) (chars left) ≡ captured (walk others) (chars front) (chars left)
-    → is_taken ≡ false → AreAdded old new is_taken (captured (walk others) (chars front) (chars rest))
-    → longest line_feed (captured (walk others)) (chars front) (chars rest) ≡ None
+    → longest line_feed (captured_front (walk others)) (chars front) (chars left) ≡ captured_front (walk others) (chars front) (chars left)
+    → is_taken ≡ false → AreAdded old new is_taken (captured_front (walk others) (chars front) (chars rest))
+    → longest line_feed (captured_front (walk others)) (chars front) (chars rest) ≡ None
 longest_missed others text front rest left old new is_taken e f no_longer missed adds =
-    let gives : Gives = captured (walk others) in
+    let gives : Continuation = captured_front (walk others) in
     let behind : rest ≡ left = append_cancel_left front rest left (sym e ∙ f) in
     subst (λ r. longest line_feed gives (chars front) (chars r) ≡ gives (chars front) (chars r)) (sym behind) no_longer
     ∙ adds_none old new is_taken (gives (chars front) (chars rest)) missed adds
 
 module _ (steps others : List Step) (first : steps ≡ Anything ∷ others) where
   -- no front from this one on leads on
-  pub longest_dead : (front rest : List ℕ) → longest line_feed (captured (walk others)) front rest ≡ None → walk steps rest ≡ None
+  pub longest_dead : (front rest : List ℕ) → longest line_feed (captured_front (walk others)) front rest ≡ None → walk steps rest ≡ None
   longest_dead front rest none = ap (λ s. walk s rest) first ∙ longest_no_more line_feed (walk others) front [] rest none
 
   -- this front is the longest that leads on
   pub longest_taken : (text front rest left : List ℕ) (found : Captures) → IsUtf8 front → text ≡ front ++ rest → text ≡ front ++ left → up_to_first line_feed (chars front) ≡ chars front
-      → longest line_feed (captured (walk others)) (chars front) (chars left) ≡ captured (walk others) (chars front) (chars left)
-      → captured (walk others) (chars front) (chars rest) ≡ Some found → walk steps (chars text) ≡ Some found
+      → longest line_feed (captured_front (walk others)) (chars front) (chars left) ≡ captured_front (walk others) (chars front) (chars left)
+      → captured_front (walk others) (chars front) (chars rest) ≡ Some found → walk steps (chars text) ≡ Some found
   longest_taken text front rest left found u e f lacks no_longer some =
-      let gives : Gives = captured (walk others) in
+      let gives : Continuation = captured_front (walk others) in
       let behind : rest ≡ left = append_cancel_left front rest left (sym e ∙ f) in
       ap (λ s. walk s (chars text)) first
       ∙ ap (walk (Anything ∷ others)) (ap chars e ∙ chars-append front rest u)

@@ -3,9 +3,9 @@ use Rattle.std.proofs.Common.{◌≡◌, ℕ, Bool, true, false, List, [], ◌�
 use Rattle.std.proofs.lemmas.Bool.{eqb-false}
 use Rattle.std.specs.Prelude.{◌≢◌, ◌⊎◌, IfNone, IfSome, IsTrue}
 use Rattle.std.specs.Str.{chars}
-use Rattle.urlpattern_laws.specs.Dialect.{AnyBut, AreItems, Atom, Captured, Character, Plain, Escaped, Dot, Grouped, IsAtom, IsCharacter, IsClassCharacter, Item, Items, LazyOneOrMore, Nothing, Once, OneOrMore, Optional, Quantifier, ZeroOrMore, atom_text, character_of, character_text, items_text}
-use Rattle.urlpattern_laws.specs.Dialect as dialect
-use Rattle.urlpattern_laws.proofs.DialectLeads.{first}
+use Rattle.urlpattern_meaning.specs.Dialect.{AnyBut, AreItems, Atom, Captured, Character, Plain, Escaped, Dot, Grouped, IsAtom, IsCharacter, IsClassCharacter, Item, Items, LazyOneOrMore, Nothing, Once, OneOrMore, Optional, Quantifier, ZeroOrMore, atom_text, character_of, character_text, items_text}
+use Rattle.urlpattern_meaning.specs.Dialect as dialect
+use Rattle.urlpattern_meaning.proofs.DialectLeads.{first}
 use Rattle.urlpattern_syntax.specs.RegexpText.{regexp_marks}
 use Rattle.urlpattern_syntax.specs.Text.{is_among, line_feed}
 use Rattle.urlpattern_engine.specs.declared.tokens.Times.{Times}
@@ -15,8 +15,8 @@ use Rattle.urlpattern_engine.specs.declared.tokens.Token.TheVariants.{Open, Clos
 use Rattle.urlpattern_engine.specs.declared.step.Run.{Run}
 use Rattle.urlpattern_engine.specs.declared.step.Step.{Step}
 use Rattle.urlpattern_engine.specs.declared.step.Step.TheVariants.{Literal, Segment, Anything, Maybe, Longest, Copies, Segments}
-use Rattle.urlpattern_engine.specs.Steps.{capture_count}
-use Rattle.urlpattern_engine.specs.Reading.{BeginsWithCaptured, BeginsWithCharacter, BeginsWithToken, IsAllBut, IsRead, IsRunOf, IsRunStep, IsStepOf, IsUnquantified, MayBeEmpty, RepeatsRuns, quantifier_of, times_text}
+use Rattle.urlpattern_engine.specs.Walk.{capture_count}
+use Rattle.urlpattern_engine.specs.ReadSteps.{BeginsWithCaptured, BeginsWithCharacter, BeginsWithRegexpToken, IsAllBut, IsRead, IsRunOf, IsRunStep, IsStepOf, IsUnquantified, AllowsEmptyRun, RepeatsRuns, quantifier_of, times_text}
 use Rattle.urlpattern_engine.proofs.TokenLemmas.{captured_literal}
 
 -- ---- first characters
@@ -122,7 +122,7 @@ pub record RepeatedRun (step : Step) (text rest : List ℕ) : Type 0 where
   pub inner : List ℕ
   pub same : step ≡ Longest (record { end = end; may_be_empty = may_be_empty })
   pub is_run : IsRunStep end is_greedy run
-  pub may : MayBeEmpty is_greedy (quantifier_of times) may_be_empty
+  pub may : AllowsEmptyRun is_greedy (quantifier_of times) may_be_empty
   pub opened : text ≡ codes "?:" ++ inner
   pub begins : BeginsWithCaptured inner run (codes ")" ++ (times_text times ++ rest))
 
@@ -141,7 +141,7 @@ repeated_text times items rest =
     ∙ append_assoc (codes "(?:" ++ (items_text items ++ codes ")")) (times_text times) rest
     ∙ ap (λ t. codes "(?:" ++ t) (append_assoc (items_text items) (codes ")") (times_text times ++ rest))
 
-repeated_of : (run : Run) (items : Items) (is_greedy : Bool) (times : Times) (text rest : List ℕ) → IsRunOf run.end is_greedy items → MayBeEmpty is_greedy (quantifier_of times) run.may_be_empty → AreItems items
+repeated_of : (run : Run) (items : Items) (is_greedy : Bool) (times : Times) (text rest : List ℕ) → IsRunOf run.end is_greedy items → AllowsEmptyRun is_greedy (quantifier_of times) run.may_be_empty → AreItems items
     → text ≡ items_text (Item (Grouped items) (quantifier_of times) Nothing) ++ rest → (behind : List ℕ) × (text ≡ codes "(" ++ behind) × RepeatedRun (Longest run) behind rest
 repeated_of run items is_greedy times text rest is may are e =
     let inner : List ℕ = items_text items ++ (codes ")" ++ (times_text times ++ rest)) in
@@ -163,7 +163,7 @@ repeated_of run items is_greedy times text rest is may are e =
       },
     )
 
-repeated_by : (run : Run) (items : Items) (is_greedy : Bool) (quantifier : Quantifier) (text rest : List ℕ) → IsRunOf run.end is_greedy items → MayBeEmpty is_greedy quantifier run.may_be_empty → AreItems items
+repeated_by : (run : Run) (items : Items) (is_greedy : Bool) (quantifier : Quantifier) (text rest : List ℕ) → IsRunOf run.end is_greedy items → AllowsEmptyRun is_greedy quantifier run.may_be_empty → AreItems items
     → text ≡ items_text (Item (Grouped items) quantifier Nothing) ++ rest → (behind : List ℕ) × (text ≡ codes "(" ++ behind) × RepeatedRun (Longest run) behind rest
 repeated_by run items is_greedy ZeroOrMore text rest is may are e = repeated_of run items is_greedy often.ZeroOrMore text rest is may are e
 repeated_by run items is_greedy OneOrMore text rest is may are e = repeated_of run items is_greedy often.OneOrMore text rest is may are e
@@ -222,13 +222,13 @@ times_one often.OneOrMore often.OneOrMore s t e h g = (refl, cc)
 times_one a b s t e h g = absurd (eqb-false (first (times_text a ++ s)) (first (times_text b ++ t)) refl (ap first e))
 
 -- what is repeated is not taken once
-pub repeated_more : (is_greedy : Bool) (times : Times) (may_be_empty : Bool) → MayBeEmpty is_greedy (quantifier_of times) may_be_empty → ¬ (times ≡ often.Once)
-repeated_more is_greedy times may_be_empty may once = subst (λ t. MayBeEmpty is_greedy (quantifier_of t) may_be_empty) once may
+pub repeated_more : (is_greedy : Bool) (times : Times) (may_be_empty : Bool) → AllowsEmptyRun is_greedy (quantifier_of times) may_be_empty → ¬ (times ≡ often.Once)
+repeated_more is_greedy times may_be_empty may once = subst (λ t. AllowsEmptyRun is_greedy (quantifier_of t) may_be_empty) once may
 
 -- ---- brackets
 
 -- segments begin with an opening group and a run
-pub segments_opened : (end : ℕ) (is_greedy : Bool) (text rest : List ℕ) → BeginsWithToken (codes "(" ++ text) (FirstSegment end is_greedy) rest
+pub segments_opened : (end : ℕ) (is_greedy : Bool) (text rest : List ℕ) → BeginsWithRegexpToken (codes "(" ++ text) (FirstSegment end is_greedy) rest
     → (inner : List ℕ) × (run : Step) × (text ≡ codes "(?:" ++ inner) × IsRunStep end is_greedy run × BeginsWithCaptured inner run (codes ")" ++ (codes "(?:" ++ rest))
 segments_opened end is_greedy text rest (front, (items, are, is, same), e) =
     let step = run_step_is end is_greedy items is in
@@ -242,7 +242,7 @@ InBracket Open text rest = text ≡ codes "?:" ++ rest
 InBracket (Close times) text rest = ⊥
 InBracket (One step) text rest = BeginsWithCaptured text step (codes ")" ++ rest)
 InBracket (MaybeStep step) text rest = BeginsWithCaptured text step (codes ")" ++ (codes "?" ++ rest))
-InBracket (FirstSegment end is_greedy) text rest = BeginsWithToken (codes "(" ++ text) (FirstSegment end is_greedy) rest
+InBracket (FirstSegment end is_greedy) text rest = BeginsWithRegexpToken (codes "(" ++ text) (FirstSegment end is_greedy) rest
 
 no_step_of_group : (step : Step) (items : Items) → ¬ IsStepOf step (Grouped items)
 no_step_of_group (Literal c) items is = let e : Grouped items ≡ dialect.Literal is.0 = is.2 in cc
@@ -261,7 +261,7 @@ atom_in step (AnyBut character) text rest is of e = absurd (eqb-false 40 91 refl
 atom_in step (Captured items) text rest is of e = (items, is, of, after_same 40 text _ e ∙ append_assoc (items_text items) (codes ")") rest)
 atom_in step (Grouped items) text rest is of e = absurd (no_step_of_group step items of)
 
-pub bracket_in : (token : Token) (text rest : List ℕ) → BeginsWithToken (codes "(" ++ text) token rest → InBracket token text rest
+pub bracket_in : (token : Token) (text rest : List ℕ) → BeginsWithRegexpToken (codes "(" ++ text) token rest → InBracket token text rest
 bracket_in Open text rest (front, is, e) = after_same 40 text (codes "?:" ++ rest) (e ∙ ap (λ t. t ++ rest) is)
 bracket_in (Close times) text rest (front, is, e) = apart 40 41 text (times_text times ++ rest) refl (e ∙ ap (λ t. t ++ rest) is)
 bracket_in (One step) text rest (front, (atom, is, of, f), e) = atom_in step atom text rest is of (e ∙ ap (λ t. t ++ rest) f)
@@ -273,8 +273,8 @@ bracket_in (FirstSegment end is_greedy) text rest begins = begins
 pub by_bracket : (P : Token → List ℕ → Type 0) (text : List ℕ) → ((rest : List ℕ) → text ≡ codes "?:" ++ rest → P Open rest)
     → ((step : Step) (rest : List ℕ) → BeginsWithCaptured text step (codes ")" ++ rest) → P (One step) rest)
     → ((step : Step) (rest : List ℕ) → BeginsWithCaptured text step (codes ")" ++ (codes "?" ++ rest)) → P (MaybeStep step) rest)
-    → ((end : ℕ) (is_greedy : Bool) (rest : List ℕ) → BeginsWithToken (codes "(" ++ text) (FirstSegment end is_greedy) rest → P (FirstSegment end is_greedy) rest)
-    → (token : Token) (rest : List ℕ) → BeginsWithToken (codes "(" ++ text) token rest → P token rest
+    → ((end : ℕ) (is_greedy : Bool) (rest : List ℕ) → BeginsWithRegexpToken (codes "(" ++ text) (FirstSegment end is_greedy) rest → P (FirstSegment end is_greedy) rest)
+    → (token : Token) (rest : List ℕ) → BeginsWithRegexpToken (codes "(" ++ text) token rest → P token rest
 by_bracket P text opens one maybe segments token rest begins = by token (bracket_in token text rest begins)
   where
     by : (token : Token) → InBracket token text rest → P token rest
@@ -303,7 +303,7 @@ step_opens (Segments segments) atom text rest is of e = absurd of
 pub by_token : (P : Token → List ℕ → Type 0) (text : List ℕ) → ((times : Times) (rest : List ℕ) → text ≡ codes ")" ++ (times_text times ++ rest) → P (Close times) rest)
     → ((c : ℕ) (rest : List ℕ) → BeginsWithCharacter IsCharacter text c rest → P (One (Literal c)) rest)
     → ((token : Token) (rest behind : List ℕ) → text ≡ codes "(" ++ behind → P token rest)
-    → (token : Token) (rest : List ℕ) → BeginsWithToken text token rest → P token rest
+    → (token : Token) (rest : List ℕ) → BeginsWithRegexpToken text token rest → P token rest
 by_token P text close literal bracket Open rest (front, is, e) = bracket Open rest (codes "?:" ++ rest) (e ∙ ap (λ t. t ++ rest) is)
 by_token P text close literal bracket (Close times) rest (front, is, e) = close times rest (e ∙ ap (λ t. t ++ rest) is)
 by_token P text close literal bracket (One step) rest (front, (atom, is, of, f), e) = by (step_opens step atom text rest is of (e ∙ ap (λ t. t ++ rest) f))
@@ -329,7 +329,7 @@ ReadsRun text single rest =
     (end : ℕ) (is_greedy : Bool) (step : Step) (behind : List ℕ) → IsRunStep end is_greedy step → BeginsWithCaptured text step behind → (single ≡ step) × (rest ≡ behind)
 
 -- the first run of segments
-pub segments_run : (end : ℕ) (is_greedy : Bool) (text rest inner : List ℕ) → BeginsWithToken (codes "(" ++ text) (FirstSegment end is_greedy) rest → text ≡ codes "(?:" ++ inner
+pub segments_run : (end : ℕ) (is_greedy : Bool) (text rest inner : List ℕ) → BeginsWithRegexpToken (codes "(" ++ text) (FirstSegment end is_greedy) rest → text ≡ codes "(?:" ++ inner
     → (run : Step) × IsRunStep end is_greedy run × BeginsWithCaptured inner run (codes ")" ++ (codes "(?:" ++ rest))
 segments_run end is_greedy text rest inner begins e = by (segments_opened end is_greedy text rest begins)
   where
@@ -337,7 +337,7 @@ segments_run end is_greedy text rest inner begins e = by (segments_opened end is
         → (run : Step) × IsRunStep end is_greedy run × BeginsWithCaptured inner run (codes ")" ++ (codes "(?:" ++ rest))
     by (own, run, f, is, found) = let same : own ≡ inner = cc in (run, is, subst (λ t. BeginsWithCaptured t run (codes ")" ++ (codes "(?:" ++ rest))) same found)
 
-pub segments_read : (end : ℕ) (is_greedy : Bool) (text rest inner : List ℕ) (single : Step) (behind : List ℕ) → BeginsWithToken (codes "(" ++ text) (FirstSegment end is_greedy) rest
+pub segments_read : (end : ℕ) (is_greedy : Bool) (text rest inner : List ℕ) (single : Step) (behind : List ℕ) → BeginsWithRegexpToken (codes "(" ++ text) (FirstSegment end is_greedy) rest
     → text ≡ codes "(?:" ++ inner → ReadsRun inner single behind → IsRunStep end is_greedy single × (behind ≡ codes ")" ++ (codes "(?:" ++ rest))
 segments_read end is_greedy text rest inner single behind begins e reads =
     let found = segments_run end is_greedy text rest inner begins e in
@@ -373,7 +373,7 @@ repeated_made step text rest inner single behind remaining left times made begin
     let repeated = captured_repeated step text rest begins in
     let found = repeated_read step text rest inner repeated single behind e reads in
     let read = repeated_times step text rest repeated behind remaining left times found.1 f g longest in
-    let may = subst (λ t. MayBeEmpty repeated.is_greedy (quantifier_of t) repeated.may_be_empty) (sym read.0) repeated.may in
+    let may = subst (λ t. AllowsEmptyRun repeated.is_greedy (quantifier_of t) repeated.may_be_empty) (sym read.0) repeated.may in
     (repeats repeated.end repeated.is_greedy repeated.may_be_empty found.0 may ∙ ap Some (sym repeated.same), read.1)
 
 -- how often does not begin with a bracket

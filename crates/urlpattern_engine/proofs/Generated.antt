@@ -3,10 +3,10 @@ use Rattle.std.proofs.Common.{◌≡◌, ℕ, Bool, true, false, List, [], ◌�
 use Rattle.std.proofs.lemmas.Bool.{true≢false}
 use Rattle.std.proofs.lemmas.List.Elements.{All-head, All-tail}
 use Rattle.std.specs.Prelude.{◌≢◌, ◌⊎◌, ◌&&◌, All}
-use Rattle.urlpattern_laws.specs.Dialect.{AnyBut, Atom, Captured, Character, Dot, Grouped, Item, Items, LazyOneOrMore, Nothing, Once, OneOrMore, Optional, Quantifier, ZeroOrMore, character_of}
-use Rattle.urlpattern_laws.specs.Dialect as dialect
-use Rattle.urlpattern_laws.proofs.MatchingLaws.{part_of}
-use Rattle.urlpattern_laws.proofs.PartTrees.{IsNotCustom, affixed_core, affixed_quantifier, alone, bare_core, bare_quantifier, between, character, copies, fixed_tree, group_atom, group_quantifier, part_tree, put, segment_atom, tree_of, wildcard_items}
+use Rattle.urlpattern_meaning.specs.Dialect.{AnyBut, Atom, Captured, Character, Dot, Grouped, Item, Items, LazyOneOrMore, Nothing, Once, OneOrMore, Optional, Quantifier, ZeroOrMore, character_of}
+use Rattle.urlpattern_meaning.specs.Dialect as dialect
+use Rattle.urlpattern_meaning.proofs.MatchingLaws.{part_of}
+use Rattle.urlpattern_meaning.proofs.PartTrees.{IsNotCustom, affixed_core, affixed_quantifier, alone, bare_core, bare_quantifier, between, character, copies, fixed_tree, group_atom, group_quantifier, part_tree, put, segment_atom, tree_of, wildcard_items}
 use Rattle.urlpattern_syntax.specs.declared.parser.PartModifier.{PartModifier}
 use Rattle.urlpattern_syntax.specs.declared.parser.PartModifier.TheVariants as modifiers
 use Rattle.urlpattern_syntax.specs.declared.parser.PartType.{PartType}
@@ -19,8 +19,8 @@ use Rattle.urlpattern_engine.specs.declared.tokens.Times.{Times}
 use Rattle.urlpattern_engine.specs.declared.tokens.Times.TheVariants as often
 use Rattle.urlpattern_engine.specs.declared.step.Step.{Step}
 use Rattle.urlpattern_engine.specs.declared.step.Step.TheVariants.{Literal, Longest}
-use Rattle.urlpattern_engine.specs.Reading.{IsRunOf, IsStepOf, quantifier_of}
-use Rattle.urlpattern_engine.specs.Steps.{capture_count}
+use Rattle.urlpattern_engine.specs.ReadSteps.{IsRunOf, IsStepOf, quantifier_of}
+use Rattle.urlpattern_engine.specs.Walk.{capture_count}
 use Rattle.urlpattern_engine.proofs.FrontLemmas.{run_step, run_step_is}
 use Rattle.urlpattern_engine.proofs.SegmentLemmas.{in_order, segment_items}
 use Rattle.urlpattern_engine.proofs.TokenLemmas.{captures_one}

@@ -8,8 +8,8 @@ use Rattle.urlpattern_engine.specs.declared.step.Group.{Group}
 use Rattle.urlpattern_engine.specs.declared.step.Stretch.{Stretch}
 use Rattle.urlpattern_engine.specs.declared.step.Step.{Step}
 use Rattle.urlpattern_engine.specs.declared.step.Step.TheVariants.{Literal, Maybe, Copies}
-use Rattle.urlpattern_engine.specs.Reading.{AreCopies, IsGroup, IsSomeGroup, MakeUp}
-use Rattle.urlpattern_engine.specs.Steps.{capture_count}
+use Rattle.urlpattern_engine.specs.ReadSteps.{AreCopySteps, IsGroup, IsSomeGroup, MakeUp}
+use Rattle.urlpattern_engine.specs.Walk.{capture_count}
 
 -- as many of the steps from a place on as there are
 pub take_rest : (steps : List Step) (first : ℕ) → take (length steps - first) (drop first steps) ≡ drop first steps
@@ -34,7 +34,7 @@ drop-one (suc n) (other ∷ steps) step rest e = drop-one n steps step rest e
 -- the first of the steps of copies is put where the copies begin
 pub copies_set : (done now : List Step) (first : ℕ) (may_be_missing : Bool) (text : Stretch) → first ≤ length done → now ≡ done
     → MakeUp (take (length now - first) (drop first now)) text
-    → (group : List Step) × AreCopies may_be_missing (drop first done) group × (set done first (Copies (record { text = text; may_be_missing = may_be_missing })) ≡ take first done ++ group)
+    → (group : List Step) × AreCopySteps may_be_missing (drop first done) group × (set done first (Copies (record { text = text; may_be_missing = may_be_missing })) ≡ take first done ++ group)
 copies_set done now first may_be_missing text le same (others, own, plain, count) =
     let whole : drop first done ≡ Literal text.first ∷ others = ap (drop first) (sym same) ∙ sym (take_rest now first) ∙ own in
     let copies : Step = Copies (record { text = text; may_be_missing = may_be_missing }) in

@@ -3,13 +3,13 @@ use Rattle.std.proofs.Common.{◌≡◌, ℕ, suc, zero, Bool, true, false, List
 use Rattle.std.proofs.Math.Seq.{drop-length}
 use Rattle.std.proofs.lemmas.Bool.{false≢true}
 use Rattle.std.specs.Prelude.{◌⊎◌}
-use Rattle.urlpattern_laws.specs.Dialect.{AreItems, Atom, Captured, Character, Plain, Escaped, Grouped, IsAtom, IsCharacter, Item, Items, LazyOneOrMore, Nothing, Once, OneOrMore, Optional, Quantifier, ZeroOrMore, AllowsGroups, atom_text, character_of, character_text, items_text, quantifier_text}
-use Rattle.urlpattern_laws.specs.Dialect as dialect
-use Rattle.urlpattern_laws.proofs.DialectLeads.{Ends, IsFree, passed, spelled_free}
-use Rattle.urlpattern_laws.proofs.DialectSpelled.{spelled, items-spelled}
-use Rattle.urlpattern_laws.proofs.PartTrees.{tree_of}
-use Rattle.urlpattern_laws.proofs.PartTreeAllowed.{tree_allowed}
-use Rattle.urlpattern_laws.proofs.PartTreeTexts.{tree_text}
+use Rattle.urlpattern_meaning.specs.Dialect.{AreItems, Atom, Captured, Character, Plain, Escaped, Grouped, IsAtom, IsCharacter, Item, Items, LazyOneOrMore, Nothing, Once, OneOrMore, Optional, Quantifier, ZeroOrMore, AllowsGroups, atom_text, character_of, character_text, items_text, quantifier_text}
+use Rattle.urlpattern_meaning.specs.Dialect as dialect
+use Rattle.urlpattern_meaning.proofs.DialectLeads.{Ends, IsFree, passed, spelled_free}
+use Rattle.urlpattern_meaning.proofs.DialectSpelled.{spelled, items-spelled}
+use Rattle.urlpattern_meaning.proofs.PartTrees.{tree_of}
+use Rattle.urlpattern_meaning.proofs.PartTreeAllowed.{tree_allowed}
+use Rattle.urlpattern_meaning.proofs.PartTreeTexts.{tree_text}
 use Rattle.urlpattern_syntax.specs.RegexpText.{regexp_marks}
 use Rattle.urlpattern_syntax.specs.Text.{is_among}
 use Rattle.urlpattern_engine.specs.declared.tokens.Times.{Times}
@@ -18,7 +18,7 @@ use Rattle.urlpattern_engine.specs.declared.tokens.Token.{Token}
 use Rattle.urlpattern_engine.specs.declared.tokens.Token.TheVariants.{Open, Close, Step as One, MaybeStep, FirstSegment}
 use Rattle.urlpattern_engine.specs.declared.step.Step.{Step}
 use Rattle.urlpattern_engine.specs.declared.step.Step.TheVariants.{Literal, Segments}
-use Rattle.urlpattern_engine.specs.Reading.{AreCharacters, AreCopies, AreLiterals, BeginsWithToken, EndsSegments, IsGenerated, IsGroup, IsUnquantified, characters_text, literal_steps, times_text}
+use Rattle.urlpattern_engine.specs.ReadSteps.{AreCharacters, AreCopySteps, AreLiterals, BeginsWithRegexpToken, EndsSegments, IsGenerated, IsGroup, IsUnquantified, characters_text, literal_steps, times_text}
 use Rattle.urlpattern_engine.proofs.FrontLemmas.{apart, by_token, character_kind, ByItself, IsEscapedAt}
 use Rattle.urlpattern_engine.proofs.Generated.{AreInside, AreReadable, AreSingle, IsGroupAtom, IsSegmentGroup, IsStep, StandInside, tree_readable}
 use Rattle.urlpattern_engine.proofs.SegmentTextLemmas.{in_order_text, spelled_segments}
@@ -66,7 +66,7 @@ GoesOn (FirstSegment end is_greedy) opened rest done =
 pub record Comes (opened : Option ℕ) (rest : List ℕ) (done : List Step) : Type 0 where
   pub token : Token
   pub remaining : List ℕ
-  pub begins : BeginsWithToken rest token remaining
+  pub begins : BeginsWithRegexpToken rest token remaining
   pub unquantified : IsUnquantified remaining
   pub goes_on : GoesOn token opened remaining done
 
@@ -186,7 +186,7 @@ segments_come opened atom rest tail done is group e more =
 
 -- ---- the end of a group
 
-copied : (may_be_missing : Bool) (own : List Step) → AreLiterals own → (group : List Step) × (((own ≡ []) × (group ≡ [])) ⊎ AreCopies may_be_missing own group)
+copied : (may_be_missing : Bool) (own : List Step) → AreLiterals own → (group : List Step) × (((own ≡ []) × (group ≡ [])) ⊎ AreCopySteps may_be_missing own group)
 copied may_be_missing [] plain = ([], inl (refl, refl))
 copied may_be_missing (Literal c ∷ others) plain = (_, inr (c, others, refl, plain, refl))
 copied may_be_missing (step ∷ others) plain = absurd plain
@@ -290,7 +290,7 @@ comes None rest done (Item atom quantifier items, (is, allows, are), (captured, 
 
 -- ---- what is read next
 
-no_token : (token : Token) (remaining : List ℕ) → ¬ BeginsWithToken (codes "$") token remaining
+no_token : (token : Token) (remaining : List ℕ) → ¬ BeginsWithRegexpToken (codes "$") token remaining
 no_token token remaining begins =
     by_token (λ token rest. ⊥) (codes "$")
     (λ times rest e. apart 36 41 [] (times_text times ++ rest) refl e)
@@ -303,18 +303,18 @@ no_token token remaining begins =
     by c rest (inr (is, e)) = apart 36 92 [] (c ∷ rest) refl e
 
 -- the token that is read is the one that comes
-pub came : (opened : Option ℕ) (rest : List ℕ) (done : List Step) (token : Token) (remaining : List ℕ) → IsLeft opened rest done → BeginsWithToken rest token remaining
-    → ((next : Token) (left : List ℕ) → BeginsWithToken rest next left → IsUnquantified left → (token ≡ next) × (remaining ≡ left)) → GoesOn token opened remaining done
+pub came : (opened : Option ℕ) (rest : List ℕ) (done : List Step) (token : Token) (remaining : List ℕ) → IsLeft opened rest done → BeginsWithRegexpToken rest token remaining
+    → ((next : Token) (left : List ℕ) → BeginsWithRegexpToken rest next left → IsUnquantified left → (token ≡ next) × (remaining ≡ left)) → GoesOn token opened remaining done
 came opened rest done token remaining left begins reads = by (comes opened rest done left)
   where
     by : ((opened ≡ None) × (rest ≡ codes "$")) ⊎ Comes opened rest done → GoesOn token opened remaining done
-    by (inl (none, e)) = absurd (no_token token remaining (subst (λ t. BeginsWithToken t token remaining) e begins))
+    by (inl (none, e)) = absurd (no_token token remaining (subst (λ t. BeginsWithRegexpToken t token remaining) e begins))
     by (inr next) =
         let same = reads next.token next.remaining next.begins next.unquantified in
         subst (λ t. GoesOn t opened remaining done) (sym same.0) (subst (λ r. GoesOn next.token opened r done) (sym same.1) next.goes_on)
 
 -- where no token is read, it is at its end
-pub ended : (opened : Option ℕ) (rest : List ℕ) (done : List Step) → IsLeft opened rest done → ((next : Token) (left : List ℕ) → BeginsWithToken rest next left → ¬ IsUnquantified left)
+pub ended : (opened : Option ℕ) (rest : List ℕ) (done : List Step) → IsLeft opened rest done → ((next : Token) (left : List ℕ) → BeginsWithRegexpToken rest next left → ¬ IsUnquantified left)
     → (opened ≡ None) × (rest ≡ codes "$")
 ended opened rest done left none = by (comes opened rest done left)
   where

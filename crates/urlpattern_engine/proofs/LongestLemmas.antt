@@ -8,19 +8,19 @@ use Rattle.std.specs.Option.{option_or}
 use Rattle.std.specs.Str.{chars, IsUtf8}
 use Rattle.urlpattern_syntax.proofs.StringTexts.{chars-encode}
 use Rattle.regex_hir.proofs.OptionLemmas.{option_or-None}
-use Rattle.urlpattern_laws.specs.Dialect.{Quantifier, Once, Optional, ZeroOrMore, OneOrMore, LazyOneOrMore, Items, Nothing, Item, Atom, Dot, AnyBut, Captured, Grouped, Literal, character_of, group_count}
-use Rattle.urlpattern_laws.specs.PartMeaning.{Captures}
-use Rattle.urlpattern_laws.specs.Ways.{Choice, idle, capturing, continued, is_shorter, more_rounds, looped, quantified_ways, ways}
+use Rattle.urlpattern_meaning.specs.Dialect.{Quantifier, Once, Optional, ZeroOrMore, OneOrMore, LazyOneOrMore, Items, Nothing, Item, Atom, Dot, AnyBut, Captured, Grouped, Literal, character_of, group_count}
+use Rattle.urlpattern_meaning.specs.PartMeaning.{Captures}
+use Rattle.urlpattern_meaning.specs.Ways.{Choice, idle, capturing, continued, is_shorter, more_rounds, looped, quantified_ways, ways}
 use Rattle.urlpattern_syntax.specs.Text.{line_feed}
-use Rattle.urlpattern_engine.specs.Reading.{IsAllBut, IsRunOf, MayBeEmpty}
-use Rattle.urlpattern_engine.specs.Steps.{Gives, after_text, any_rounds, captured, from_first, longest, longest_run, longest_some, rounds, shortest, single_run, some_rounds, up_to_first}
+use Rattle.urlpattern_engine.specs.ReadSteps.{IsAllBut, IsRunOf, AllowsEmptyRun}
+use Rattle.urlpattern_engine.specs.Walk.{Continuation, after_text, any_rounds, captured_front, from_first, longest, longest_run, longest_some, rounds, shortest, single_run, some_rounds, up_to_first}
 use Rattle.urlpattern_engine.proofs.Rounds.{Advances, Keeps, Takes, beyond, takes-looped, takes-looped_or_not, takes-nothing, takes-then, then, tried-then, tried_idle}
 use Rattle.urlpattern_engine.proofs.FallingLemmas.{falling, longest_falling}
 use Rattle.urlpattern_engine.proofs.Tried.{Given, Next, given, bare, before_next, one, tried, tried-append, tried-map, lazy_loop, greedy_loop}
 
 -- ---- runs
 
-keeps_shortest : (end : ℕ) (f g : Gives) (front text : List ℕ) → ((before rest : List ℕ) → length rest < length text → f before rest ≡ g before rest) → shortest end f front text ≡ shortest end g front text
+keeps_shortest : (end : ℕ) (f g : Continuation) (front text : List ℕ) → ((before rest : List ℕ) → length rest < length text → f before rest ≡ g before rest) → shortest end f front text ≡ shortest end g front text
 keeps_shortest end f g front [] same = refl
 keeps_shortest end f g front (c ∷ text) same =
     ap₂ (λ o p. cond (c == end) None (option_or o p)) (same (front ++ c ∷ []) text (omega arith))
@@ -32,7 +32,7 @@ advances-shortest end = record { same = keeps_shortest end; none = λ gives fron
 pub keeps-shortest : (end : ℕ) → Keeps (shortest end)
 keeps-shortest end = record { same = λ f g front text same. keeps_shortest end f g front text (λ before rest lt. same before rest (omega (arith, lt))) }
 
-keeps_longest : (end : ℕ) (f g : Gives) (front text : List ℕ) → ((before rest : List ℕ) → length rest ≤ length text → f before rest ≡ g before rest) → longest end f front text ≡ longest end g front text
+keeps_longest : (end : ℕ) (f g : Continuation) (front text : List ℕ) → ((before rest : List ℕ) → length rest ≤ length text → f before rest ≡ g before rest) → longest end f front text ≡ longest end g front text
 keeps_longest end f g front [] same = same front [] (omega arith)
 keeps_longest end f g front (c ∷ text) same =
     ap₂ (λ o p. cond (c == end) o (option_or p o)) (same front (c ∷ text) (omega arith))
@@ -42,13 +42,13 @@ pub keeps-longest : (end : ℕ) → Keeps (longest end)
 keeps-longest end = record { same = keeps_longest end }
 
 -- the same after a front
-shortest-beyond : (end : ℕ) (gives : Gives) (before front text : List ℕ) → shortest end (λ front rest. gives (before ++ front) rest) front text ≡ shortest end gives (before ++ front) text
+shortest-beyond : (end : ℕ) (gives : Continuation) (before front text : List ℕ) → shortest end (λ front rest. gives (before ++ front) rest) front text ≡ shortest end gives (before ++ front) text
 shortest-beyond end gives before front [] = refl
 shortest-beyond end gives before front (c ∷ text) =
     ap (λ o. cond (c == end) None (option_or (gives (before ++ (front ++ c ∷ [])) text) o)) (shortest-beyond end gives before (front ++ c ∷ []) text)
     ∙ ap (λ f. cond (c == end) None (option_or (gives f text) (shortest end gives f text))) (sym (append_assoc before front (c ∷ [])))
 
-longest-beyond : (end : ℕ) (gives : Gives) (before front text : List ℕ) → longest end (λ front rest. gives (before ++ front) rest) front text ≡ longest end gives (before ++ front) text
+longest-beyond : (end : ℕ) (gives : Continuation) (before front text : List ℕ) → longest end (λ front rest. gives (before ++ front) rest) front text ≡ longest end gives (before ++ front) text
 longest-beyond end gives before front [] = refl
 longest-beyond end gives before front (c ∷ text) =
     ap (λ o. cond (c == end) (gives (before ++ front) (c ∷ text)) (option_or o (gives (before ++ front) (c ∷ text)))) (longest-beyond end gives before (front ++ c ∷ []) text)
@@ -101,7 +101,7 @@ run_uncaptured end false items (atom, but, is) = ap group_count is ∙ by atom b
 -- ---- runs of runs
 
 -- what the longest gives comes before what is given later
-longest_before : (end : ℕ) (gives : Gives) (front text : List ℕ) → option_or (longest end gives front text) (gives front text) ≡ longest end gives front text
+longest_before : (end : ℕ) (gives : Continuation) (front text : List ℕ) → option_or (longest end gives front text) (gives front text) ≡ longest end gives front text
 longest_before end gives front [] = twice (gives front [])
   where
     twice : (o : Option Captures) → option_or o o ≡ o
@@ -117,7 +117,7 @@ longest_before end gives front (c ∷ text) = by (c == end) (longest end gives (
     by false (Some x) p = refl
 
 -- shorter ends of the first round give nothing more
-shortest_absorbed : (end : ℕ) (gives : Gives) (front text : List ℕ)
+shortest_absorbed : (end : ℕ) (gives : Continuation) (front text : List ℕ)
     → option_or (longest end gives front text) (shortest end (longest end gives) front text) ≡ longest end gives front text
 shortest_absorbed end gives front [] = option_or-None _
 shortest_absorbed end gives front (c ∷ text) =
@@ -129,7 +129,7 @@ shortest_absorbed end gives front (c ∷ text) =
     by false None None q e = e
     by false None (Some x) q e = refl
 
-longest_twice : (end : ℕ) (gives : Gives) (front text : List ℕ) → longest end (longest end gives) front text ≡ longest end gives front text
+longest_twice : (end : ℕ) (gives : Continuation) (front text : List ℕ) → longest end (longest end gives) front text ≡ longest end gives front text
 longest_twice end gives front [] = refl
 longest_twice end gives front (c ∷ text) =
     ap (λ o. cond (c == end) (longest end gives front (c ∷ text)) (option_or o (longest end gives front (c ∷ text)))) (longest_twice end gives (front ++ c ∷ []) text)
@@ -141,7 +141,7 @@ longest_twice end gives front (c ∷ text) =
     by false (Some x) p = refl
 
 -- rounds of shortest runs
-shortest_rounds : (end n : ℕ) (gives : Gives) (front text : List ℕ) → length text ≤ n → rounds (shortest end) n gives front text ≡ longest end gives front text
+shortest_rounds : (end n : ℕ) (gives : Continuation) (front text : List ℕ) → length text ≤ n → rounds (shortest end) n gives front text ≡ longest end gives front text
 shortest_rounds end zero gives front [] le = refl
 shortest_rounds end zero gives front (c ∷ text) le = absurd (omega arith)
 shortest_rounds end (suc n) gives front [] le = refl
@@ -154,10 +154,10 @@ shortest_rounds end (suc n) gives front (c ∷ text) le =
     by true o p q e = refl
     by false o p q e = ap (λ r. option_or r p) e
 
-shortest_any : (end : ℕ) (gives : Gives) (front text : List ℕ) → any_rounds (shortest end) gives front text ≡ longest end gives front text
+shortest_any : (end : ℕ) (gives : Continuation) (front text : List ℕ) → any_rounds (shortest end) gives front text ≡ longest end gives front text
 shortest_any end gives front text = shortest_rounds end (length text) gives front text (omega arith)
 
-shortest_some : (end : ℕ) (gives : Gives) (front text : List ℕ) → some_rounds (shortest end) gives front text ≡ longest_some end gives front text
+shortest_some : (end : ℕ) (gives : Continuation) (front text : List ℕ) → some_rounds (shortest end) gives front text ≡ longest_some end gives front text
 shortest_some end gives front text =
     keeps_shortest end (any_rounds (shortest end) gives) (longest end gives) front text (λ before rest lt. shortest_any end gives before rest) ∙ at text
   where
@@ -168,7 +168,7 @@ shortest_some end gives front text =
 -- rounds of longest runs, of which the later take nothing: an empty round is not tried again
 module _ (end : ℕ) (atom : Choice) (takes : Takes atom (longest end)) where
   -- what a round gives where the text that is left is shorter
-  longest_round : (gives f : Gives) (front text : List ℕ)
+  longest_round : (gives f : Continuation) (front text : List ℕ)
       → ((before rest : List ℕ) → length rest < length text → f before rest ≡ longest end gives before rest) → f front text ≡ None
       → option_or (longest end f front text) (gives front text) ≡ longest end gives front text
   longest_round gives f front [] same stop = ap (λ o. option_or o (gives front [])) stop
@@ -184,7 +184,7 @@ module _ (end : ℕ) (atom : Choice) (takes : Takes atom (longest end)) where
       by false (Some x) p = refl
 
   -- the same where a round that takes nothing is the last
-  longest_first : (gives f : Gives) (front text : List ℕ) → ((before rest : List ℕ) → length rest < length text → f before rest ≡ longest end gives before rest)
+  longest_first : (gives f : Continuation) (front text : List ℕ) → ((before rest : List ℕ) → length rest < length text → f before rest ≡ longest end gives before rest)
       → f front text ≡ gives front text → longest end f front text ≡ longest end gives front text
   longest_first gives f front [] same stop = stop
   longest_first gives f front (c ∷ text) same stop =
@@ -244,15 +244,15 @@ keeps-longest_run : (may_be_empty : Bool) (end : ℕ) → Keeps (longest_run may
 keeps-longest_run true end = keeps-longest end
 keeps-longest_run false end = record { same = by }
   where
-    by : (f g : Gives) (front text : List ℕ) → ((before rest : List ℕ) → length rest ≤ length text → f before rest ≡ g before rest) → longest_some end f front text ≡ longest_some end g front text
+    by : (f g : Continuation) (front text : List ℕ) → ((before rest : List ℕ) → length rest ≤ length text → f before rest ≡ g before rest) → longest_some end f front text ≡ longest_some end g front text
     by f g front [] same = refl
     by f g front (c ∷ text) same = ap (λ o. cond (c == end) None o) (keeps_longest end f g (front ++ c ∷ []) text (λ before rest le. same before rest (omega (arith, le))))
 
 -- the same choice, and what is the same after it
-takes_as : (choice : Choice) (round other : Gives → Gives) → ((gives : Gives) (front text : List ℕ) → round gives front text ≡ other gives front text) → Takes choice round → Takes choice other
+takes_as : (choice : Choice) (round other : Continuation → Continuation) → ((gives : Continuation) (front text : List ℕ) → round gives front text ≡ other gives front text) → Takes choice round → Takes choice other
 takes_as choice round other same takes = record { takes = λ h front text. takes.takes h front text ∙ same (bare h) front text }
 
-runs_take : (end : ℕ) (is_greedy : Bool) (items : Items) (quantifier : Quantifier) (may_be_empty : Bool) → IsRunOf end is_greedy items → MayBeEmpty is_greedy quantifier may_be_empty
+runs_take : (end : ℕ) (is_greedy : Bool) (items : Items) (quantifier : Quantifier) (may_be_empty : Bool) → IsRunOf end is_greedy items → AllowsEmptyRun is_greedy quantifier may_be_empty
     → Takes (quantified_ways quantifier 0 (ways items)) (longest_run may_be_empty end)
 runs_take end true items ZeroOrMore may_be_empty run is =
     subst (λ b. Takes (quantified_ways ZeroOrMore 0 (ways items)) (longest_run b end)) (sym is) (takes_longest_looped_or_not end (ways items) (takes-run end true items run))
@@ -268,7 +268,7 @@ runs_take end is_greedy items Once may_be_empty run is = absurd is
 runs_take end is_greedy items Optional may_be_empty run is = absurd is
 runs_take end is_greedy items LazyOneOrMore may_be_empty run is = absurd is
 
-pub takes-runs : (end : ℕ) (is_greedy : Bool) (items : Items) (quantifier : Quantifier) (may_be_empty : Bool) → IsRunOf end is_greedy items → MayBeEmpty is_greedy quantifier may_be_empty
+pub takes-runs : (end : ℕ) (is_greedy : Bool) (items : Items) (quantifier : Quantifier) (may_be_empty : Bool) → IsRunOf end is_greedy items → AllowsEmptyRun is_greedy quantifier may_be_empty
     → Takes (ways (Item (Grouped items) quantifier Nothing)) (longest_run may_be_empty end)
 takes-runs end is_greedy items quantifier may_be_empty run is =
     subst (λ n. Takes (λ text. continued (ways Nothing) (quantified_ways quantifier n (ways items) text)) (longest_run may_be_empty end)) (sym (run_uncaptured end is_greedy items run))
@@ -279,32 +279,32 @@ takes-runs end is_greedy items quantifier may_be_empty run is =
 abbrev capture_before : Next → Given
 capture_before next taken captures rest = option_map (λ others. (Some taken ∷ captures) ++ others) (next rest)
 
-pub captured_takes : (choice : Choice) (round : Gives → Gives) → Takes choice round → (next : Next) (text : List ℕ)
-    → tried (before_next next) (map capturing (choice text)) ≡ round (captured next) [] text
+pub captured_takes : (choice : Choice) (round : Continuation → Continuation) → Takes choice round → (next : Next) (text : List ℕ)
+    → tried (before_next next) (map capturing (choice text)) ≡ round (captured_front next) [] text
 captured_takes choice round takes next text = tried-map (before_next next) capturing (choice text) ∙ takes.takes (capture_before next) [] text
 
 -- ---- one character at least
 
 -- what is given, but nothing of an empty front where there may be none
-abbrev pub at_least : (may_be_empty : Bool) → Gives → Gives
+abbrev pub at_least : (may_be_empty : Bool) → Continuation → Continuation
 at_least true gives front rest = gives front rest
 at_least false gives [] rest = None
 at_least false gives (c ∷ front) rest = gives (c ∷ front) rest
 
-pub at_least_some : (may_be_empty : Bool) (gives : Gives) (front rest : List ℕ) → ¬ (front ≡ []) → at_least may_be_empty gives front rest ≡ gives front rest
+pub at_least_some : (may_be_empty : Bool) (gives : Continuation) (front rest : List ℕ) → ¬ (front ≡ []) → at_least may_be_empty gives front rest ≡ gives front rest
 at_least_some true gives front rest some = refl
 at_least_some false gives [] rest some = absurd (some refl)
 at_least_some false gives (c ∷ front) rest some = refl
 
-longest_at_least : (end : ℕ) (gives : Gives) (d : ℕ) (front text : List ℕ) → longest end gives (d ∷ front) text ≡ longest end (at_least false gives) (d ∷ front) text
+longest_at_least : (end : ℕ) (gives : Continuation) (d : ℕ) (front text : List ℕ) → longest end gives (d ∷ front) text ≡ longest end (at_least false gives) (d ∷ front) text
 longest_at_least end gives d front [] = refl
 longest_at_least end gives d front (c ∷ text) = ap (λ o. cond (c == end) (gives (d ∷ front) (c ∷ text)) (option_or o (gives (d ∷ front) (c ∷ text)))) (longest_at_least end gives d (front ++ c ∷ []) text)
 
-longest_some_at_least : (end : ℕ) (gives : Gives) (text : List ℕ) → longest_some end gives [] text ≡ longest end (at_least false gives) [] text
+longest_some_at_least : (end : ℕ) (gives : Continuation) (text : List ℕ) → longest_some end gives [] text ≡ longest end (at_least false gives) [] text
 longest_some_at_least end gives [] = refl
 longest_some_at_least end gives (c ∷ text) = ap (λ o. cond (c == end) None o) (longest_at_least end gives c [] text ∙ sym (option_or-None _))
 
-pub longest_run_falling : (may_be_empty : Bool) (end : ℕ) (gives : Gives) (text : List ℕ)
+pub longest_run_falling : (may_be_empty : Bool) (end : ℕ) (gives : Continuation) (text : List ℕ)
     → longest_run may_be_empty end gives [] text ≡ falling (at_least may_be_empty gives) [] (up_to_first end text) (from_first end text)
 longest_run_falling true end gives text = longest_falling end gives [] text
 longest_run_falling false end gives text = longest_some_at_least end gives text ∙ longest_falling end (at_least false gives) [] text
@@ -316,15 +316,15 @@ front_some front shorter c u scalar e empty =
     absurd (omega (arith, ap length (sym empty ∙ spelled), length-append (chars shorter) (c ∷ [])))
 
 -- a front that is not empty gives what it may give
-pub front_given : (may_be_empty : Bool) (gives : Gives) (text front shorter rest left : List ℕ) (c : ℕ) → IsUtf8 shorter → IsScalar c → front ≡ shorter ++ encode_utf8 c → text ≡ front ++ rest → text ≡ front ++ left
+pub front_given : (may_be_empty : Bool) (gives : Continuation) (text front shorter rest left : List ℕ) (c : ℕ) → IsUtf8 shorter → IsScalar c → front ≡ shorter ++ encode_utf8 c → text ≡ front ++ rest → text ≡ front ++ left
     → at_least may_be_empty gives (chars front) (chars left) ≡ gives (chars front) (chars rest)
 front_given may_be_empty gives text front shorter rest left c u scalar e f g =
     at_least_some may_be_empty gives (chars front) (chars left) (front_some front shorter c u scalar e)
     ∙ ap (λ r. gives (chars front) (chars r)) (append_cancel_left front left rest (sym g ∙ f))
 
 -- where only the empty front is left
-pub falling_empty : (gives : Gives) (front rest : List ℕ) → front ≡ [] → falling (at_least true gives) [] front rest ≡ gives front rest
+pub falling_empty : (gives : Continuation) (front rest : List ℕ) → front ≡ [] → falling (at_least true gives) [] front rest ≡ gives front rest
 falling_empty gives front rest e = ap (λ f. falling (at_least true gives) [] f rest) e ∙ ap (λ f. gives f rest) (sym e)
 
-pub falling_none : (gives : Gives) (front rest : List ℕ) → front ≡ [] → falling (at_least false gives) [] front rest ≡ None
+pub falling_none : (gives : Continuation) (front rest : List ℕ) → front ≡ [] → falling (at_least false gives) [] front rest ≡ None
 falling_none gives front rest e = ap (λ f. falling (at_least false gives) [] f rest) e

@@ -8,12 +8,12 @@ use Rattle.std.proofs.lemmas.Str.{chars-append, chars_past_char, IsUtf8-append}
 use Rattle.std.specs.Char.{IsScalar, encode_utf8}
 use Rattle.std.specs.Prelude.{is_some}
 use Rattle.std.specs.Str.{chars, IsUtf8}
-use Rattle.urlpattern_laws.specs.PartMeaning.{Captures}
+use Rattle.urlpattern_meaning.specs.PartMeaning.{Captures}
 use Rattle.urlpattern_syntax.proofs.StringTexts.{chars-encode}
 use Rattle.urlpattern_engine.specs.declared.step.Step.{Step}
 use Rattle.urlpattern_engine.specs.declared.step.Stretch.{Stretch}
-use Rattle.urlpattern_engine.specs.Steps.{Gives, after_text, literals, walk}
-use Rattle.urlpattern_engine.specs.Table.{IsEntryAfter, IsRow, IsSingle, begun_of, end_of, following, given, later_of, own_count, stretch_of, whole_of}
+use Rattle.urlpattern_engine.specs.Walk.{Continuation, after_text, literals, walk}
+use Rattle.urlpattern_engine.specs.Table.{IsEntryAfter, IsRow, IsSingle, begun_of, run_end, following, given, later_of, own_count, stretch_of, whole_of}
 use Rattle.urlpattern_engine.specs.Taken.{IsCutFor, going_on}
 use Rattle.urlpattern_engine.proofs.CopyLemmas.{after-found, after-other}
 use Rattle.urlpattern_engine.proofs.EndLemmas.{begins_or_not}
@@ -70,13 +70,13 @@ module _ {A : Type 0} (Entry : (before left : List ℕ) → A → Type 0) (defau
 
 -- ---- what is known at a place
 
-some_cut : (gives : Gives) (text : List ℕ) (n : Option ℕ) (found : Option Captures) → IsCutFor gives text n found → is_some n ≡ is_some found
+some_cut : (gives : Continuation) (text : List ℕ) (n : Option ℕ) (found : Option Captures) → IsCutFor gives text n found → is_some n ≡ is_some found
 some_cut gives text None found cut = ap is_some (sym cut)
 some_cut gives text (Some n) None cut = absurd (cut.7 refl)
 some_cut gives text (Some n) (Some x) cut = refl
 
 -- the entry for what follows some characters
-next_cut : (gives begun : Gives) (text front rest : List ℕ) (entries : List (Option ℕ)) (own : Option Stretch) (literal : List ℕ) (next : Option ℕ)
+next_cut : (gives begun : Continuation) (text front rest : List ℕ) (entries : List (Option ℕ)) (own : Option Stretch) (literal : List ℕ) (next : Option ℕ)
     → IsFilled (λ before left n. IsCutFor gives text n (begun before left)) None front rest entries
     → IsEntryAfter entries (option_map (λ (stretch : Stretch). stretch.first ∷ literal) own) rest next
     → IsCutFor gives text next (after_own (option_map (λ (stretch : Stretch). stretch.first ∷ literal) own) begun front rest)
@@ -95,7 +95,7 @@ next_cut gives begun text front rest entries (Some own) literal next is (there, 
         (subst (λ n. IsCutFor gives text n None) (sym (other none)) refl)
 
 -- the end here
-here_cut : (gives : Gives) (text front rest : List ℕ) (b : Bool) → IsUtf8 front → IsUtf8 rest → text ≡ front ++ rest
+here_cut : (gives : Continuation) (text front rest : List ℕ) (b : Bool) → IsUtf8 front → IsUtf8 rest → text ≡ front ++ rest
     → b ≡ is_some (gives (chars front) (chars rest)) → IsCutFor gives text (cond b (Some (length front)) None) (gives (chars front) (chars rest))
 here_cut gives text front rest true u v e is = (front, rest, u, v, e, refl, refl, λ none. false≢true (sym (is ∙ ap is_some none)))
 here_cut gives text front rest false u v e is = nothing (gives (chars front) (chars rest)) is
@@ -104,7 +104,7 @@ here_cut gives text front rest false u v e is = nothing (gives (chars front) (ch
     nothing None e = refl
     nothing (Some x) e = absurd (false≢true e)
 
-onward_cut : (gives later : Gives) (text front rest : List ℕ) (end : ℕ) (n : Option ℕ) → ((d : ℕ) (left : List ℕ) → rest ≡ d ∷ left → IsCutFor gives text n (later (front ++ d ∷ []) left))
+onward_cut : (gives later : Continuation) (text front rest : List ℕ) (end : ℕ) (n : Option ℕ) → ((d : ℕ) (left : List ℕ) → rest ≡ d ∷ left → IsCutFor gives text n (later (front ++ d ∷ []) left))
     → IsCutFor gives text (going_on end n rest) (onward end later front rest)
 onward_cut gives later text front [] end n is = refl
 onward_cut gives later text front (d ∷ rest) end n is = by (d == end) (is d rest refl)
@@ -163,7 +163,7 @@ module _ (step : Step) (others : List Step) (text : List ℕ) where
       → IsEntryAfter begun (own_text step (literals (take (own_count (stretch_of step)) others))) (chars rest) next
       → get_or after (length (chars rest)) false ≡ is_some (walk (following step others) (chars rest))
       → here ≡ cond (get_or after (length row) false) (Some (length front)) None
-      → forward ≡ going_on (end_of step) later (chars rest)
+      → forward ≡ going_on (run_end step) later (chars rest)
       → IsPlaced (chars front) (chars rest) (begun_of step next here forward) (later_of step next here forward) (whole_of step next here forward)
   placed front rest begun row after later next here forward single u v e so_far entry has stops goes_on =
       let bit : get_or after (length row) false ≡ is_some (given step others (chars front) (chars rest)) =
@@ -173,7 +173,7 @@ module _ (step : Step) (others : List Step) (text : List ℕ) where
       (subst (λ n. IsCutFor (given step others) text n (given step others (chars front) (chars rest))) (sym stops)
       (here_cut (given step others) text front rest (get_or after (length row) false) u v e bit))
       (subst (λ n. IsCutFor (given step others) text n (onward_of step others (chars front) (chars rest))) (sym goes_on)
-      (onward_cut (given step others) (goes step others) text (chars front) (chars rest) (end_of step) later so_far.is_later))
+      (onward_cut (given step others) (goes step others) text (chars front) (chars rest) (run_end step) later so_far.is_later))
 
   -- by what the calls answer
   pub placed_at : (front rest : List ℕ) (begun : List (Option ℕ)) (row after : List Bool) (literal : List Step) (stretch : Option Stretch) (later next here forward first run whole : Option ℕ)
@@ -183,7 +183,7 @@ module _ (step : Step) (others : List Step) (text : List ℕ) where
       → stretch ≡ stretch_of step → literal ≡ take (own_count (stretch_of step)) others
       → IsEntryAfter begun (option_map (λ (own : Stretch). own.first ∷ literals literal) stretch) (chars rest) next
       → here ≡ cond (get_or after (length row) false) (Some (length front)) None
-      → forward ≡ going_on (end_of step) later (chars rest)
+      → forward ≡ going_on (run_end step) later (chars rest)
       → first ≡ begun_of step next here forward → run ≡ later_of step next here forward → whole ≡ whole_of step next here forward
       → IsPlaced (chars front) (chars rest) first run whole
   placed_at front rest begun row after literal stretch later next here forward first run whole single u v e so_far is_after own literals_are entry stops goes_on f g h =
@@ -203,7 +203,7 @@ module _ (step : Step) (others : List Step) (text : List ℕ) where
       → stretch ≡ stretch_of step → literal ≡ take (own_count (stretch_of step)) others
       → IsEntryAfter begun (option_map (λ (own : Stretch). own.first ∷ literals literal) stretch) (chars rest) next
       → count ≡ length row → here ≡ cond (get_or after count false) (Some (length front)) None
-      → stop ≡ end_of step → forward ≡ going_on stop later (chars rest)
+      → stop ≡ run_end step → forward ≡ going_on stop later (chars rest)
       → first ≡ begun_of step next here forward → run ≡ later_of step next here forward → whole ≡ whole_of step next here forward
       → IsSoFar (chars front) (chars rest) begun row later × IsPlaced (chars front) (chars rest) first run whole
   placed_now front rest left begun kept row after literal stretch count stop later next here forward first run whole single u v e f so_far same is_after own literals_are entry len stops ends goes_on one two three =

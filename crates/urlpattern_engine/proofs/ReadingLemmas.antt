@@ -3,15 +3,15 @@ use Rattle.std.proofs.Common.{◌≡◌, ℕ, ◌≤◌, List, [], ◌∷◌, �
 use Rattle.std.proofs.lemmas.List.{take-append-le, drop-append-le}
 use Rattle.std.proofs.Math.Nat.{le_refl}
 use Rattle.std.proofs.Math.Seq.{take-length, drop-length}
-use Rattle.urlpattern_laws.specs.Dialect.{AreItems, AllowsGroups, Atom, Captured, Grouped, IsAtom, IsTreeOf, Item, Items, Nothing, Once, Optional, Quantifier, atom_group_count, group_count, atom_text, items_text, quantifier_text}
+use Rattle.urlpattern_meaning.specs.Dialect.{AreItems, AllowsGroups, Atom, Captured, Grouped, IsAtom, IsTreeOf, Item, Items, Nothing, Once, Optional, Quantifier, atom_group_count, group_count, atom_text, items_text, quantifier_text}
 use Rattle.urlpattern_engine.specs.declared.tokens.Times.{Times}
 use Rattle.urlpattern_engine.specs.declared.tokens.Times.TheVariants as often
 use Rattle.urlpattern_engine.specs.declared.tokens.Token.TheVariants.{MaybeStep}
 use Rattle.urlpattern_engine.specs.declared.step.Group.{Group}
 use Rattle.urlpattern_engine.specs.declared.step.Step.{Step}
 use Rattle.urlpattern_engine.specs.declared.step.Step.TheVariants.{Literal, Maybe}
-use Rattle.urlpattern_engine.specs.Reading.{quantifier_of, AreCopies, AreStepsOf, BeginsSegments, EndsSegments, characters_text, IsGroup, IsSomeGroup, IsToken, Spells, times_text}
-use Rattle.urlpattern_engine.specs.Steps.{capture_count}
+use Rattle.urlpattern_engine.specs.ReadSteps.{quantifier_of, AreCopySteps, AreStepsOf, BeginsSegments, EndsSegments, characters_text, IsGroup, IsSomeGroup, IsToken, SpellsStep, times_text}
+use Rattle.urlpattern_engine.specs.Walk.{capture_count}
 use Rattle.urlpattern_engine.proofs.LongestLemmas.{run_uncaptured}
 use Rattle.urlpattern_engine.proofs.RepeatLemmas.{copied, walks-copies, walks-nothing_grouped}
 use Rattle.urlpattern_engine.proofs.SegmentLemmas.{in_order, in_order_count, segment_items, walks-segments}
@@ -64,7 +64,7 @@ before-more own remaining text front rest steps spells e (tree, f, are, walks) =
   spells.walks tree steps walks,
 )
 
-pub spells-once : (step : Step) (front : List ℕ) → Spells step front → SpellsAll (step ∷ []) front
+pub spells-once : (step : Step) (front : List ℕ) → SpellsStep step front → SpellsAll (step ∷ []) front
 spells-once step front (atom, is, of, f) = record {
   atom = atom;
   quantifier = Once;
@@ -106,7 +106,7 @@ nothing-spells times inner are walks = record {
     allowed often.ZeroOrMore none = none
     allowed often.OneOrMore none = none
 
-copies-spell : (may_be_missing : Bool) (inner : Items) (own group : List Step) → AreItems inner → Walks inner own → AreCopies may_be_missing own group
+copies-spell : (may_be_missing : Bool) (inner : Items) (own group : List Step) → AreItems inner → Walks inner own → AreCopySteps may_be_missing own group
     → SpellsAll group (codes "(?:" ++ (items_text inner ++ (codes ")" ++ quantifier_text (copied may_be_missing))))
 copies-spell may_be_missing inner own group are walks (c, others, first, plain, is) =
     let inside = walks-inside inner (Literal c ∷ others) (subst (Walks inner) first walks) in

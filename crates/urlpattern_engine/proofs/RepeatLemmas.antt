@@ -3,14 +3,14 @@ use Rattle.std.proofs.Common.{◌≡◌, ℕ, ◌+◌, List, [], ◌∷◌, ◌+
 use Rattle.std.proofs.lemmas.Bool.{le-ltb}
 use Rattle.std.specs.Option.{option_or}
 use Rattle.std.proofs.Math.Seq.{take-append_seam}
-use Rattle.urlpattern_laws.specs.Dialect.{Quantifier, ZeroOrMore, OneOrMore, Items, Item, Atom, Grouped, atom_group_count, group_count}
-use Rattle.urlpattern_laws.specs.Ways.{Choice, idle, is_shorter, looped, more_rounds, quantified_ways, atom_ways, ways}
+use Rattle.urlpattern_meaning.specs.Dialect.{Quantifier, ZeroOrMore, OneOrMore, Items, Item, Atom, Grouped, atom_group_count, group_count}
+use Rattle.urlpattern_meaning.specs.Ways.{Choice, idle, is_shorter, looped, more_rounds, quantified_ways, atom_ways, ways}
 use Rattle.urlpattern_engine.specs.declared.tokens.Times.{Times}
 use Rattle.urlpattern_engine.specs.declared.tokens.Times.TheVariants as often
 use Rattle.urlpattern_engine.specs.declared.step.Step.{Step}
 use Rattle.urlpattern_engine.specs.declared.step.Step.TheVariants.{Literal, Copies}
-use Rattle.urlpattern_engine.specs.Reading.{AreLiterals, quantifier_of}
-use Rattle.urlpattern_engine.specs.Steps.{Gives, capture_count, literals, after_text, repeated, walk, walk_after}
+use Rattle.urlpattern_engine.specs.ReadSteps.{AreLiterals, quantifier_of}
+use Rattle.urlpattern_engine.specs.Walk.{Continuation, capture_count, literals, after_text, repeated, walk, walk_after}
 use Rattle.urlpattern_engine.proofs.Tried.{Next, Given, given, bare, tried, tried-append, before_next, option_map-still}
 use Rattle.urlpattern_engine.proofs.Rounds.{Takes, Keeps, Advances, advances-after, beyond, keeps-after, keeps-any, keeps-some, takes-looped, takes-looped_or_not, takes-then, then, tried-then, tried_idle}
 use Rattle.urlpattern_engine.proofs.Walks.{AtomWalks, Walks, after_atom, capture_count-append, literals_uncaptured, walk_after-own}
@@ -24,7 +24,7 @@ copied false = OneOrMore
 abbrev led_on : Next → Given
 led_on next taken captures rest = option_map (λ others. captures ++ others) (next rest)
 
-looped_takes : (may_be_missing : Bool) (groups : ℕ) (atom : Choice) (round : Gives → Gives) → groups ≡ 0 → Takes atom round → Advances round
+looped_takes : (may_be_missing : Bool) (groups : ℕ) (atom : Choice) (round : Continuation → Continuation) → groups ≡ 0 → Takes atom round → Advances round
     → Takes (quantified_ways (copied may_be_missing) groups atom) (repeated may_be_missing round)
 looped_takes true groups atom round none takes advances =
     let all = takes-looped_or_not atom round takes advances in
@@ -33,12 +33,12 @@ looped_takes true groups atom round none takes advances =
     }
 looped_takes false groups atom round none takes advances = takes-looped atom round takes advances
 
-keeps_repeated : (may_be_missing : Bool) (round : Gives → Gives) → Advances round → Keeps (repeated may_be_missing round)
+keeps_repeated : (may_be_missing : Bool) (round : Continuation → Continuation) → Advances round → Keeps (repeated may_be_missing round)
 keeps_repeated true round advances = keeps-any round advances
 keeps_repeated false round advances = keeps-some round advances
 
 -- where nothing is captured, the steps that follow go on with the rest
-taken_next : (choice : Choice) (round : Gives → Gives) → Takes choice round → Keeps round → (next : Next) (text : List ℕ)
+taken_next : (choice : Choice) (round : Continuation → Continuation) → Takes choice round → Keeps round → (next : Next) (text : List ℕ)
     → tried (before_next next) (choice text) ≡ round (λ front rest. next rest) [] text
 taken_next choice round takes keeps next text =
     takes.takes (led_on next) [] text
@@ -49,7 +49,7 @@ pub walks-copies : (may_be_missing : Bool) (atom : Atom) (items : Items) (c : �
     (Copies (record { text = record { first = c; others = length own }; may_be_missing = may_be_missing }) ∷ (own ++ others))
 walks-copies may_be_missing atom items c own others first plain next =
     let none : atom_group_count atom ≡ 0 = first.count ∙ literals_uncaptured own plain in
-    let round : Gives → Gives = after_text (c ∷ literals own) in
+    let round : Continuation → Continuation = after_text (c ∷ literals own) in
     let takes = looped_takes may_be_missing (atom_group_count atom) (atom_ways atom) round none (first.text plain) (advances-after c (literals own)) in
     let keeps = keeps_repeated may_be_missing round (advances-after c (literals own)) in
     record {

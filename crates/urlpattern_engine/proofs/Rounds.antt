@@ -2,9 +2,9 @@
 use Rattle.std.proofs.Common.{◌≡◌, ℕ, zero, suc, ◌<◌, ◌≤◌, List, [], ◌∷◌, ◌++◌, length, None, Bool, true, false, cond, ◌==◌, refl, sym, ap, ap₂, ◌∙◌, append-nil, append_assoc, arith, lt-ltb}
 use Rattle.std.specs.Option.{option_or}
 use Rattle.regex_hir.proofs.OptionLemmas.{option_or-None}
-use Rattle.urlpattern_laws.specs.Dialect.{Nothing}
-use Rattle.urlpattern_laws.specs.Ways.{Way, Choice, idle, continued, one_that, is_shorter, more_rounds, looped, ways}
-use Rattle.urlpattern_engine.specs.Steps.{Gives, after_text, rounds, any_rounds, some_rounds}
+use Rattle.urlpattern_meaning.specs.Dialect.{Nothing}
+use Rattle.urlpattern_meaning.specs.Ways.{Way, Choice, idle, continued, one_that, is_shorter, more_rounds, looped, ways}
+use Rattle.urlpattern_engine.specs.Walk.{Continuation, after_text, rounds, any_rounds, some_rounds}
 use Rattle.urlpattern_engine.proofs.Tried.{Given, given, bare, tried, tried-append, tried-same, tried-continued}
 
 -- the same after this front
@@ -12,21 +12,21 @@ abbrev pub beyond : List ℕ → Given → Given
 beyond front h taken captures rest = h (front ++ taken) captures rest
 
 -- What is given after the ways of the choice is what is given after a round.
-pub record Takes (choice : Choice) (round : Gives → Gives) : Type 0 where
+pub record Takes (choice : Choice) (round : Continuation → Continuation) : Type 0 where
   pub takes : (h : Given) (front text : List ℕ) → tried (given (beyond front h)) (choice text) ≡ round (bare h) front text
 
 -- What is given after a round is found out of what ends of the text give.
-pub record Keeps (round : Gives → Gives) : Type 0 where
-  pub same : (f g : Gives) (front text : List ℕ) → ((before rest : List ℕ) → length rest ≤ length text → f before rest ≡ g before rest) → round f front text ≡ round g front text
+pub record Keeps (round : Continuation → Continuation) : Type 0 where
+  pub same : (f g : Continuation) (front text : List ℕ) → ((before rest : List ℕ) → length rest ≤ length text → f before rest ≡ g before rest) → round f front text ≡ round g front text
 
 -- A round takes a character or more.
-pub record Advances (round : Gives → Gives) : Type 0 where
-  pub same : (f g : Gives) (front text : List ℕ) → ((before rest : List ℕ) → length rest < length text → f before rest ≡ g before rest) → round f front text ≡ round g front text
-  pub none : (gives : Gives) (front : List ℕ) → round gives front [] ≡ None
+pub record Advances (round : Continuation → Continuation) : Type 0 where
+  pub same : (f g : Continuation) (front text : List ℕ) → ((before rest : List ℕ) → length rest < length text → f before rest ≡ g before rest) → round f front text ≡ round g front text
+  pub none : (gives : Continuation) (front : List ℕ) → round gives front [] ≡ None
 
 -- ---- texts
 
-keeps_after : (characters : List ℕ) (f g : Gives) (front text : List ℕ) → ((before rest : List ℕ) → length rest ≤ length text → f before rest ≡ g before rest)
+keeps_after : (characters : List ℕ) (f g : Continuation) (front text : List ℕ) → ((before rest : List ℕ) → length rest ≤ length text → f before rest ≡ g before rest)
     → after_text characters f front text ≡ after_text characters g front text
 keeps_after [] f g front text same = same front text (omega arith)
 keeps_after (c ∷ characters) f g front [] same = refl
@@ -36,7 +36,7 @@ keeps_after (c ∷ characters) f g front (other ∷ text) same =
 pub keeps-after : (characters : List ℕ) → Keeps (after_text characters)
 keeps-after characters = record { same = keeps_after characters }
 
-advances_after : (c : ℕ) (characters : List ℕ) (f g : Gives) (front text : List ℕ) → ((before rest : List ℕ) → length rest < length text → f before rest ≡ g before rest)
+advances_after : (c : ℕ) (characters : List ℕ) (f g : Continuation) (front text : List ℕ) → ((before rest : List ℕ) → length rest < length text → f before rest ≡ g before rest)
     → after_text (c ∷ characters) f front text ≡ after_text (c ∷ characters) g front text
 advances_after c characters f g front [] same = refl
 advances_after c characters f g front (other ∷ text) same =
@@ -45,20 +45,20 @@ advances_after c characters f g front (other ∷ text) same =
 pub advances-after : (c : ℕ) (characters : List ℕ) → Advances (after_text (c ∷ characters))
 advances-after c characters = record { same = advances_after c characters; none = λ gives front. refl }
 
-pub after-append : (own others : List ℕ) (gives : Gives) (front text : List ℕ) → after_text own (after_text others gives) front text ≡ after_text (own ++ others) gives front text
+pub after-append : (own others : List ℕ) (gives : Continuation) (front text : List ℕ) → after_text own (after_text others gives) front text ≡ after_text (own ++ others) gives front text
 after-append [] others gives front text = refl
 after-append (c ∷ own) others gives front [] = refl
 after-append (c ∷ own) others gives front (other ∷ text) = ap (λ o. cond (other == c) o None) (after-append own others gives (front ++ other ∷ []) text)
 
 -- ---- one after the other
 
-pub keeps-then : (first second : Gives → Gives) → Keeps first → Keeps second → Keeps (λ gives. first (second gives))
+pub keeps-then : (first second : Continuation → Continuation) → Keeps first → Keeps second → Keeps (λ gives. first (second gives))
 keeps-then first second one two = record {
   same = λ f g front text same.
       one.same (second f) (second g) front text (λ before rest le. two.same f g before rest (λ b r lower. same b r (omega (arith, le, lower))));
 }
 
-pub advances-then : (first second : Gives → Gives) → Advances first → Keeps second → Advances (λ gives. first (second gives))
+pub advances-then : (first second : Continuation → Continuation) → Advances first → Keeps second → Advances (λ gives. first (second gives))
 advances-then first second one two = record {
   same = λ f g front text same.
       one.same (second f) (second g) front text (λ before rest lt. two.same f g before rest (λ b r lower. same b r (omega (arith, lt, lower))));
@@ -76,7 +76,7 @@ tried-then h front next xs =
     (λ way. tried-same _ _ (λ more. ap (λ f. h f (way.captures ++ more.captures) more.rest) (sym (append_assoc front way.taken more.taken))) (next way.rest))
     xs
 
-pub takes-then : (choice next : Choice) (first second : Gives → Gives) → Takes choice first → Keeps first → Takes next second
+pub takes-then : (choice next : Choice) (first second : Continuation → Continuation) → Takes choice first → Keeps first → Takes next second
     → Takes (λ text. continued next (choice text)) (λ gives. first (second gives))
 takes-then choice next first second one keeps two = record {
   takes = λ h front text.
@@ -104,7 +104,7 @@ takes-one c = record { takes = by }
 
 -- ---- rounds
 
-pub rounds-enough : (round : Gives → Gives) → Advances round → (m n : ℕ) (gives : Gives) (front text : List ℕ) → length text ≤ m → length text ≤ n
+pub rounds-enough : (round : Continuation → Continuation) → Advances round → (m n : ℕ) (gives : Continuation) (front text : List ℕ) → length text ≤ m → length text ≤ n
     → rounds round m gives front text ≡ rounds round n gives front text
 rounds-enough round advances zero zero gives front text below above = refl
 rounds-enough round advances zero (suc n) gives front [] below above = ap (λ o. option_or o (gives front [])) (sym (advances.none (rounds round n gives) front))
@@ -117,7 +117,7 @@ rounds-enough round advances (suc m) (suc n) gives front text below above =
     (λ before rest lt. rounds-enough round advances m n gives before rest (omega (arith, lt)) (omega (arith, lt))))
 
 -- a round and then any number of them, or none
-pub any-unrolled : (round : Gives → Gives) → Advances round → (gives : Gives) (front text : List ℕ)
+pub any-unrolled : (round : Continuation → Continuation) → Advances round → (gives : Continuation) (front text : List ℕ)
     → any_rounds round gives front text ≡ option_or (some_rounds round gives front text) (gives front text)
 any-unrolled round advances gives front text =
     rounds-enough round advances (length text) (suc (length text)) gives front text (omega arith) (omega arith)
@@ -125,7 +125,7 @@ any-unrolled round advances gives front text =
     (advances.same (rounds round (length text) gives) (any_rounds round gives) front text
     (λ before rest lt. rounds-enough round advances (length text) (length rest) gives before rest (omega (arith, lt)) (omega arith)))
 
-rounds-same : (round : Gives → Gives) → Advances round → (n : ℕ) (f g : Gives) (front text : List ℕ) → ((before rest : List ℕ) → length rest ≤ length text → f before rest ≡ g before rest)
+rounds-same : (round : Continuation → Continuation) → Advances round → (n : ℕ) (f g : Continuation) (front text : List ℕ) → ((before rest : List ℕ) → length rest ≤ length text → f before rest ≡ g before rest)
     → rounds round n f front text ≡ rounds round n g front text
 rounds-same round advances zero f g front text same = same front text (omega arith)
 rounds-same round advances (suc n) f g front text same =
@@ -134,17 +134,17 @@ rounds-same round advances (suc n) f g front text same =
     (λ before rest lt. rounds-same round advances n f g before rest (λ b r le. same b r (omega (arith, lt, le)))))
     (same front text (omega arith))
 
-pub keeps-any : (round : Gives → Gives) → Advances round → Keeps (any_rounds round)
+pub keeps-any : (round : Continuation → Continuation) → Advances round → Keeps (any_rounds round)
 keeps-any round advances = record { same = λ f g front text same. rounds-same round advances (length text) f g front text same }
 
-pub keeps-some : (round : Gives → Gives) → Advances round → Keeps (some_rounds round)
+pub keeps-some : (round : Continuation → Continuation) → Advances round → Keeps (some_rounds round)
 keeps-some round advances = record {
   same = λ f g front text same.
       advances.same (any_rounds round f) (any_rounds round g) front text
       (λ before rest lt. rounds-same round advances (length rest) f g before rest (λ b r le. same b r (omega (arith, lt, le))));
 }
 
-module _ (atom : Choice) (round : Gives → Gives) (takes : Takes atom round) (advances : Advances round) where
+module _ (atom : Choice) (round : Continuation → Continuation) (takes : Takes atom round) (advances : Advances round) where
   more_rounds-tried : (n : ℕ) (h : Given) (front text : List ℕ) → tried (given (beyond front h)) (more_rounds true atom n text) ≡ rounds round n (bare h) front text
   more_rounds-tried zero h front text = tried_idle h front text
   more_rounds-tried (suc n) h front text =

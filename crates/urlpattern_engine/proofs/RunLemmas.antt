@@ -2,8 +2,8 @@
 use Rattle.std.proofs.Common.{◌≡◌, ℕ, List, [], ◌∷◌, ◌++◌, Option, Some, None, Bool, true, false, cond, ◌==◌, ◌⊎◌, inl, inr, option_map, refl, sym, ap, ap₂, ◌∙◌, append-nil, append_assoc}
 use Rattle.std.specs.Option.{option_or}
 use Rattle.regex_hir.proofs.OptionLemmas.{option_or-None}
-use Rattle.urlpattern_laws.specs.PartMeaning.{Captures}
-use Rattle.urlpattern_engine.specs.Steps.{Gives, captured, up_to_first, from_first, shortest, longest}
+use Rattle.urlpattern_meaning.specs.PartMeaning.{Captures}
+use Rattle.urlpattern_engine.specs.Walk.{Continuation, captured_front, up_to_first, from_first, shortest, longest}
 
 pub both_ends : (c : ℕ) (text : List ℕ) → (up_to_first c text ++ from_first c text) ≡ text
 both_ends c [] = refl
@@ -16,10 +16,10 @@ both_ends c (other ∷ text) = by (other == c) (both_ends c text)
 -- ---- runs with one end
 
 -- nothing is given before another character
-abbrev pub GivesAt : (end : ℕ) → Gives → Type 0
+abbrev pub GivesAt : (end : ℕ) → Continuation → Type 0
 GivesAt end gives = (front : List ℕ) (c : ℕ) (rest : List ℕ) → (c == end) ≡ false → gives front (c ∷ rest) ≡ None
 
-module _ (end : ℕ) (gives : Gives) (at : GivesAt end gives) where
+module _ (end : ℕ) (gives : Continuation) (at : GivesAt end gives) where
   one_end : (front text : List ℕ) → option_or (gives front text) (shortest end gives front text) ≡ gives (front ++ up_to_first end text) (from_first end text)
   one_end front [] = option_or-None _ ∙ ap (λ f. gives f []) (sym (append-nil front))
   one_end front (c ∷ text) = by (c == end) refl (one_end (front ++ c ∷ []) text)
@@ -100,7 +100,7 @@ lacks_less end (d ∷ front) c e = by (d == end) e (lacks_less end front c)
 
 -- ---- the longest front from the end
 
-module _ (end : ℕ) (gives : Gives) where
+module _ (end : ℕ) (gives : Continuation) where
   -- what is found after a front, is found after its characters
   pub longest_found : (taken front rest : List ℕ) (found : Captures) → up_to_first end front ≡ front → longest end gives (taken ++ front) rest ≡ Some found
       → longest end gives taken (front ++ rest) ≡ Some found
@@ -128,77 +128,77 @@ either_none None p e = (refl, e)
 either_none (Some x) p e = let g : ⊥ = cc in absurd g
 
 module _ (end : ℕ) (next : List ℕ → Option Captures) where
-  captured_none : (front other rest : List ℕ) → captured next front rest ≡ None → captured next other rest ≡ None
+  captured_none : (front other rest : List ℕ) → captured_front next front rest ≡ None → captured_front next other rest ≡ None
   captured_none front other rest e = by (next rest) e
     where
       by : (o : Option Captures) → option_map (λ others. Some front ∷ others) o ≡ None → option_map (λ others. Some other ∷ others) o ≡ None
       by None e = refl
       by (Some x) e = cc
 
-  pub shortest_no_more : (front other text : List ℕ) → shortest end (captured next) front text ≡ None → shortest end (captured next) other text ≡ None
+  pub shortest_no_more : (front other text : List ℕ) → shortest end (captured_front next) front text ≡ None → shortest end (captured_front next) other text ≡ None
   shortest_no_more front other [] e = refl
   shortest_no_more front other (c ∷ text) e = by (c == end) e (shortest_no_more (front ++ c ∷ []) (other ++ c ∷ []) text)
     where
-      by : (b : Bool) → cond b None (option_or (captured next (front ++ c ∷ []) text) (shortest end (captured next) (front ++ c ∷ []) text)) ≡ None
-          → (shortest end (captured next) (front ++ c ∷ []) text ≡ None → shortest end (captured next) (other ++ c ∷ []) text ≡ None)
-          → cond b None (option_or (captured next (other ++ c ∷ []) text) (shortest end (captured next) (other ++ c ∷ []) text)) ≡ None
+      by : (b : Bool) → cond b None (option_or (captured_front next (front ++ c ∷ []) text) (shortest end (captured_front next) (front ++ c ∷ []) text)) ≡ None
+          → (shortest end (captured_front next) (front ++ c ∷ []) text ≡ None → shortest end (captured_front next) (other ++ c ∷ []) text ≡ None)
+          → cond b None (option_or (captured_front next (other ++ c ∷ []) text) (shortest end (captured_front next) (other ++ c ∷ []) text)) ≡ None
       by true e later = refl
       by false e later =
-          let none = either_none (captured next (front ++ c ∷ []) text) (shortest end (captured next) (front ++ c ∷ []) text) e in
+          let none = either_none (captured_front next (front ++ c ∷ []) text) (shortest end (captured_front next) (front ++ c ∷ []) text) e in
           ap₂ option_or (captured_none (front ++ c ∷ []) (other ++ c ∷ []) text none.0) (later none.1)
 
-  pub longest_no_more : (front other text : List ℕ) → longest end (captured next) front text ≡ None → longest end (captured next) other text ≡ None
+  pub longest_no_more : (front other text : List ℕ) → longest end (captured_front next) front text ≡ None → longest end (captured_front next) other text ≡ None
   longest_no_more front other [] e = captured_none front other [] e
   longest_no_more front other (c ∷ text) e = by (c == end) e (longest_no_more (front ++ c ∷ []) (other ++ c ∷ []) text)
     where
-      by : (b : Bool) → cond b (captured next front (c ∷ text)) (option_or (longest end (captured next) (front ++ c ∷ []) text) (captured next front (c ∷ text))) ≡ None
-          → (longest end (captured next) (front ++ c ∷ []) text ≡ None → longest end (captured next) (other ++ c ∷ []) text ≡ None)
-          → cond b (captured next other (c ∷ text)) (option_or (longest end (captured next) (other ++ c ∷ []) text) (captured next other (c ∷ text))) ≡ None
+      by : (b : Bool) → cond b (captured_front next front (c ∷ text)) (option_or (longest end (captured_front next) (front ++ c ∷ []) text) (captured_front next front (c ∷ text))) ≡ None
+          → (longest end (captured_front next) (front ++ c ∷ []) text ≡ None → longest end (captured_front next) (other ++ c ∷ []) text ≡ None)
+          → cond b (captured_front next other (c ∷ text)) (option_or (longest end (captured_front next) (other ++ c ∷ []) text) (captured_front next other (c ∷ text))) ≡ None
       by true e later = captured_none front other (c ∷ text) e
       by false e later =
-          let none = either_none (longest end (captured next) (front ++ c ∷ []) text) (captured next front (c ∷ text)) e in
+          let none = either_none (longest end (captured_front next) (front ++ c ∷ []) text) (captured_front next front (c ∷ text)) e in
           ap₂ option_or (later none.0) (captured_none front other (c ∷ text) none.1)
 
   -- nor does the front itself
-  longest_nor : (front text : List ℕ) → longest end (captured next) front text ≡ None → captured next front text ≡ None
+  longest_nor : (front text : List ℕ) → longest end (captured_front next) front text ≡ None → captured_front next front text ≡ None
   longest_nor front [] e = e
   longest_nor front (c ∷ text) e = by (c == end) e
     where
-      by : (b : Bool) → cond b (captured next front (c ∷ text)) (option_or (longest end (captured next) (front ++ c ∷ []) text) (captured next front (c ∷ text))) ≡ None
-          → captured next front (c ∷ text) ≡ None
+      by : (b : Bool) → cond b (captured_front next front (c ∷ text)) (option_or (longest end (captured_front next) (front ++ c ∷ []) text) (captured_front next front (c ∷ text))) ≡ None
+          → captured_front next front (c ∷ text) ≡ None
       by true e = e
-      by false e = (either_none (longest end (captured next) (front ++ c ∷ []) text) (captured next front (c ∷ text)) e).1
+      by false e = (either_none (longest end (captured_front next) (front ++ c ∷ []) text) (captured_front next front (c ∷ text)) e).1
 
-  longest_at_end : (front text : List ℕ) → up_to_first end text ≡ [] → longest end (captured next) front text ≡ captured next front text
+  longest_at_end : (front text : List ℕ) → up_to_first end text ≡ [] → longest end (captured_front next) front text ≡ captured_front next front text
   longest_at_end front [] e = refl
   longest_at_end front (c ∷ text) e = by (c == end) e
     where
       by : (b : Bool) → cond b [] (c ∷ up_to_first end text) ≡ []
-          → cond b (captured next front (c ∷ text)) (option_or (longest end (captured next) (front ++ c ∷ []) text) (captured next front (c ∷ text))) ≡ captured next front (c ∷ text)
+          → cond b (captured_front next front (c ∷ text)) (option_or (longest end (captured_front next) (front ++ c ∷ []) text) (captured_front next front (c ∷ text))) ≡ captured_front next front (c ∷ text)
       by true e = refl
       by false e = cc
 
   -- no longer front gives anything where the run has ended
-  pub longest_ended : (front text : List ℕ) → (up_to_first end text ≡ []) ⊎ (longest end (captured next) [] text ≡ None) → longest end (captured next) front text ≡ captured next front text
+  pub longest_ended : (front text : List ℕ) → (up_to_first end text ≡ []) ⊎ (longest end (captured_front next) [] text ≡ None) → longest end (captured_front next) front text ≡ captured_front next front text
   longest_ended front text (inl e) = longest_at_end front text e
   longest_ended front text (inr e) = let none = longest_no_more [] front text e in none ∙ sym (longest_nor front text none)
 
-  shortest_at_end : (front text : List ℕ) → up_to_first end text ≡ [] → shortest end (captured next) front text ≡ None
+  shortest_at_end : (front text : List ℕ) → up_to_first end text ≡ [] → shortest end (captured_front next) front text ≡ None
   shortest_at_end front [] e = refl
   shortest_at_end front (c ∷ text) e = by (c == end) e
     where
       by : (b : Bool) → cond b [] (c ∷ up_to_first end text) ≡ []
-          → cond b None (option_or (captured next (front ++ c ∷ []) text) (shortest end (captured next) (front ++ c ∷ []) text)) ≡ None
+          → cond b None (option_or (captured_front next (front ++ c ∷ []) text) (shortest end (captured_front next) (front ++ c ∷ []) text)) ≡ None
       by true e = refl
       by false e = cc
 
-  pub shortest_ended : (front text : List ℕ) → (up_to_first end text ≡ []) ⊎ (shortest end (captured next) [] text ≡ None) → shortest end (captured next) front text ≡ None
+  pub shortest_ended : (front text : List ℕ) → (up_to_first end text ≡ []) ⊎ (shortest end (captured_front next) [] text ≡ None) → shortest end (captured_front next) front text ≡ None
   shortest_ended front text (inl e) = shortest_at_end front text e
   shortest_ended front text (inr e) = shortest_no_more [] front text e
 
   -- a run that failed fails from its next character on
-  pub shortest_later : (c : ℕ) (text : List ℕ) → (c == end) ≡ false → shortest end (captured next) [] (c ∷ text) ≡ None → shortest end (captured next) [] text ≡ None
+  pub shortest_later : (c : ℕ) (text : List ℕ) → (c == end) ≡ false → shortest end (captured_front next) [] (c ∷ text) ≡ None → shortest end (captured_front next) [] text ≡ None
   shortest_later c text e none =
       shortest_no_more (c ∷ []) [] text
-      (either_none (captured next (c ∷ []) text) (shortest end (captured next) (c ∷ []) text)
-      (sym (ap (λ b. cond b None (option_or (captured next (c ∷ []) text) (shortest end (captured next) (c ∷ []) text))) e) ∙ none)).1
+      (either_none (captured_front next (c ∷ []) text) (shortest end (captured_front next) (c ∷ []) text)
+      (sym (ap (λ b. cond b None (option_or (captured_front next (c ∷ []) text) (shortest end (captured_front next) (c ∷ []) text))) e) ∙ none)).1

@@ -1,11 +1,11 @@
 -- Runs of characters with a text between each two: their ways and their steps.
 use Rattle.std.proofs.Common.{◌≡◌, ℕ, List, [], ◌∷◌, ◌++◌, map, length, Some, option_map, Bool, ◌==◌, refl, sym, ap, ◌∙◌, subst, arith}
 use Rattle.std.proofs.Math.Seq.{take-append_seam}
-use Rattle.urlpattern_laws.specs.Dialect.{Captured, Character, Grouped, Item, Items, Literal, Nothing, Once, ZeroOrMore, character_of, group_count}
-use Rattle.urlpattern_laws.specs.Ways.{one_that, quantified_ways, ways}
+use Rattle.urlpattern_meaning.specs.Dialect.{Captured, Character, Grouped, Item, Items, Literal, Nothing, Once, ZeroOrMore, character_of, group_count}
+use Rattle.urlpattern_meaning.specs.Ways.{one_that, quantified_ways, ways}
 use Rattle.urlpattern_engine.specs.declared.step.Step.{Step}
-use Rattle.urlpattern_engine.specs.Reading.{AreLiterals, AreSegments, IsRunOf, literal_steps}
-use Rattle.urlpattern_engine.specs.Steps.{Gives, after_separator, after_text, any_rounds, captured, literals, segmented, single_run, walk, walk_after}
+use Rattle.urlpattern_engine.specs.ReadSteps.{AreLiterals, AreSegments, IsRunOf, literal_steps}
+use Rattle.urlpattern_engine.specs.Walk.{Continuation, after_separator, after_text, any_rounds, captured_front, literals, segmented, single_run, walk, walk_after}
 use Rattle.urlpattern_engine.proofs.LongestLemmas.{captured_takes, keeps-run, run_uncaptured, takes-run}
 use Rattle.urlpattern_engine.proofs.Rounds.{Advances, Keeps, Takes, advances-after, advances-then, after-append, keeps-after, keeps-any, keeps-then, takes-looped_or_not, takes-nothing, takes-one, takes-then}
 use Rattle.urlpattern_engine.proofs.Walks.{AtomWalks, literals_uncaptured, walk_after-own}
@@ -29,12 +29,12 @@ literal_steps-text : (characters : List Character) → literals (literal_steps c
 literal_steps-text [] = refl
 literal_steps-text (character ∷ characters) = ap (λ l. character_of character ∷ l) (literal_steps-text characters)
 
-takes-in_order : (characters : List Character) (items : Items) (round : Gives → Gives) → Takes (ways items) round
+takes-in_order : (characters : List Character) (items : Items) (round : Continuation → Continuation) → Takes (ways items) round
     → Takes (ways (in_order characters items)) (after_separator (map character_of characters) round)
 takes-in_order [] items round takes = takes
 takes-in_order (character ∷ characters) items round takes =
     let c = character_of character in
-    let others : Gives → Gives = after_separator (map character_of characters) round in
+    let others : Continuation → Continuation = after_separator (map character_of characters) round in
     let both = takes-then (one_that (λ other. other == c)) (ways (in_order characters items)) (after_text (c ∷ [])) others (takes-one c) (keeps-after (c ∷ [])) (takes-in_order characters items round takes) in
     record { takes = λ h front text. both.takes h front text ∙ after-append (c ∷ []) (map character_of characters) (round (λ front rest. h front [] rest)) front text }
 
@@ -62,8 +62,8 @@ pub takes-segments : (end : ℕ) (is_greedy : Bool) (first : Items) (characters 
     → IsRunOf end is_greedy first → IsRunOf end is_greedy second → map character_of characters ≡ c ∷ literal
     → Takes (ways (segment_items first characters second)) (segmented (c ∷ literal) (single_run is_greedy end))
 takes-segments end is_greedy first characters second c literal one two e =
-    let single : Gives → Gives = single_run is_greedy end in
-    let round : Gives → Gives = after_separator (c ∷ literal) single in
+    let single : Continuation → Continuation = single_run is_greedy end in
+    let round : Continuation → Continuation = after_separator (c ∷ literal) single in
     let inner : Items = in_order characters (Item (Grouped second) Once Nothing) in
     let advances = advances-separator c literal is_greedy end in
     let last : Takes (ways (Item (Grouped second) Once Nothing)) single =
@@ -82,7 +82,7 @@ pub walks-segments : (end : ℕ) (is_greedy : Bool) (first : Items) (characters 
 walks-segments end is_greedy first characters second own one two (c, others, e, is) =
     let plain : AreLiterals others = subst AreLiterals e (literal_steps-plain characters) in
     let spelled : map character_of characters ≡ c ∷ literals others = sym (literal_steps-text characters) ∙ ap literals e in
-    let single : Gives → Gives = single_run is_greedy end in
+    let single : Continuation → Continuation = single_run is_greedy end in
     let takes = takes-segments end is_greedy first characters second c (literals others) one two spelled in
     let keeps = keeps-segmented c (literals others) is_greedy end in
     subst (λ (steps : List Step). AtomWalks (Captured (segment_items first characters second)) steps) (sym is)
@@ -96,7 +96,7 @@ walks-segments end is_greedy first characters second own one two (c, others, e, 
       walks = λ after text.
           let all = others ++ after in
           captured_takes (ways (segment_items first characters second)) (segmented (c ∷ literals others) single) takes (walk after) text
-          ∙ keeps.same (captured (walk after)) (captured (walk_after (length others) all)) [] text
+          ∙ keeps.same (captured_front (walk after)) (captured_front (walk_after (length others) all)) [] text
           (λ before rest le. ap (option_map (λ more. Some before ∷ more)) (sym (walk_after-own others after rest)))
-          ∙ ap (λ l. segmented (c ∷ literals l) single (captured (walk_after (length others) all)) [] text) (sym (take-append_seam others after));
+          ∙ ap (λ l. segmented (c ∷ literals l) single (captured_front (walk_after (length others) all)) [] text) (sym (take-append_seam others after));
     })

@@ -6,11 +6,11 @@ use Rattle.std.specs.Prelude.{◌≢◌, ◌⊎◌, IfNone, IfSome, IsSomeAnd, s
 use Rattle.std.specs.Str.{chars}
 use Rattle.urlpattern_syntax.specs.RegexpText.{regexp_marks}
 use Rattle.urlpattern_syntax.specs.Text.{is_among}
-use Rattle.urlpattern_laws.specs.Dialect.{AreItems, Character, IsCharacter, Items, character_of, character_text, items_text}
+use Rattle.urlpattern_meaning.specs.Dialect.{AreItems, Character, IsCharacter, Items, character_of, character_text, items_text}
 use Rattle.urlpattern_engine.specs.declared.step.Stretch.{Stretch}
 use Rattle.urlpattern_engine.specs.declared.step.Step.{Step}
 use Rattle.urlpattern_engine.specs.declared.step.Step.TheVariants.{Literal, Segments}
-use Rattle.urlpattern_engine.specs.Reading.{AreCharacters, AreLiterals, AreSegments, BeginsWithCaptured, EndsSegments, characters_text, literal_steps, BeginsWithCharacter, IsRunOf, IsRunStep, ClosesSegments, MakeUp, last_text}
+use Rattle.urlpattern_engine.specs.ReadSteps.{AreCharacters, AreLiterals, AreSegments, BeginsWithCaptured, EndsSegments, characters_text, literal_steps, BeginsWithCharacter, IsRunOf, IsRunStep, ClosesSegments, MakeUp, last_text}
 use Rattle.urlpattern_engine.proofs.FrontLemmas.{ReadsRun, ByItself, IsEscapedAt, apart, character_kind, run_step, run_step_is}
 use Rattle.urlpattern_engine.proofs.SegmentLemmas.{in_order, literal_steps-plain}
 use Rattle.urlpattern_engine.proofs.GroupLemmas.{take_rest, drop-one}

@@ -5,7 +5,7 @@ use Rattle.urlpattern_engine.specs.declared.step.Group.{Group}
 use Rattle.urlpattern_engine.specs.declared.step.Step.{Step}
 use Rattle.urlpattern_engine.specs.declared.step.Step.TheVariants.{Maybe, Copies}
 use Rattle.urlpattern_engine.specs.declared.step.Copies.{Copies as Copied}
-use Rattle.urlpattern_engine.specs.Steps.{Gives, after_text, any_rounds, captured, repeated, some_rounds, stretch_text, walk, walk_after, StopAt}
+use Rattle.urlpattern_engine.specs.Walk.{Continuation, after_text, any_rounds, captured_front, repeated, some_rounds, stretch_text, walk, walk_after, StopAt}
 use Rattle.urlpattern_engine.proofs.Rounds.{advances-after, any-unrolled}
 use Rattle.urlpattern_engine.proofs.RunLemmas.{GivesAt}
 
@@ -25,7 +25,7 @@ maybe_missing group steps text e =
 
 -- ---- steps that stop
 
-pub stop-gives : (end : ℕ) (steps : List Step) → StopAt end steps → GivesAt end (captured (walk steps))
+pub stop-gives : (end : ℕ) (steps : List Step) → StopAt end steps → GivesAt end (captured_front (walk steps))
 stop-gives end steps stops front c rest e = ap (option_map (λ others. Some front ∷ others)) (stops c rest e)
 
 pub stop-maybe : (end : ℕ) (group : Group) (steps : List Step) → StopAt end steps → StopAt end (drop group.steps steps) → StopAt end (Maybe group ∷ steps)
@@ -33,7 +33,7 @@ stop-maybe end group steps first other c rest e =
     maybe_missing group steps (c ∷ rest) (first c rest e) ∙ ap (option_map (λ others. replicate group.captures None ++ others)) (other c rest e)
 
 -- copies do not begin with another character
-some_stop : (end first : ℕ) (literal : List ℕ) (gives : Gives) (front : List ℕ) (c : ℕ) (rest : List ℕ) → first ≡ end → (c == end) ≡ false
+some_stop : (end first : ℕ) (literal : List ℕ) (gives : Continuation) (front : List ℕ) (c : ℕ) (rest : List ℕ) → first ≡ end → (c == end) ≡ false
     → some_rounds (after_text (first ∷ literal)) gives front (c ∷ rest) ≡ None
 some_stop end first literal gives front c rest same other =
     ap (λ b. cond b (after_text literal (any_rounds (after_text (first ∷ literal)) gives) (front ++ c ∷ []) rest) None) (ap (λ d. c == d) same ∙ other)
@@ -46,7 +46,7 @@ stop-copies end copies steps first some c rest e =
 pub stop-any_copies : (end : ℕ) (copies : Copied) (steps : List Step) → copies.text.first ≡ end → copies.may_be_missing ≡ true → StopAt end (drop copies.text.others steps)
     → StopAt end (Copies copies ∷ steps)
 stop-any_copies end copies steps first any stops c rest e =
-    let gives : Gives = λ front rest. walk_after copies.text.others steps rest in
+    let gives : Continuation = λ front rest. walk_after copies.text.others steps rest in
     ap (λ b. repeated b (after_text (stretch_text copies.text steps)) gives [] (c ∷ rest)) any
     ∙ any-unrolled (after_text (stretch_text copies.text steps)) (advances-after copies.text.first _) gives [] (c ∷ rest)
     ∙ ap (λ o. option_or o (gives [] (c ∷ rest))) (some_stop end copies.text.first _ gives [] c rest first e)

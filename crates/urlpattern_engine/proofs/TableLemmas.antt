@@ -11,7 +11,7 @@ use Rattle.urlpattern_engine.specs.declared.step.Group.{Group}
 use Rattle.urlpattern_engine.specs.declared.step.Step.{Step}
 use Rattle.urlpattern_engine.specs.declared.step.Step.TheVariants.{Literal, Segment, Anything, Maybe, Longest, Copies, Segments}
 use Rattle.urlpattern_engine.specs.Failed.{EndsWith}
-use Rattle.urlpattern_engine.specs.Steps.{captured, walk}
+use Rattle.urlpattern_engine.specs.Walk.{captured_front, walk}
 use Rattle.urlpattern_engine.specs.Table.{AreRows, is_capture, IsRow, IsSingle, following, given, row_at}
 use Rattle.urlpattern_engine.specs.Taken.{Kept, with_captures}
 use Rattle.urlpattern_engine.proofs.FollowLemmas.{plus_captured}
@@ -127,7 +127,7 @@ pub front_added : (step : Step) (others : List Step) (old new : Kept) (front : B
 front_added step others old new front rest e = by (is_capture step) e
   where
     by : (b : Bool) → new ≡ cond b (old ++ Some front ∷ []) old
-        → with_captures old ((cond b (captured (walk (following step others))) (λ front rest. walk (following step others) rest)) (chars front.now) rest)
+        → with_captures old ((cond b (captured_front (walk (following step others))) (λ front rest. walk (following step others) rest)) (chars front.now) rest)
         ≡ with_captures new (walk (following step others) rest)
     by true e = plus_captured old front (walk (following step others) rest) ∙ ap (λ k. with_captures k (walk (following step others) rest)) (sym e)
     by false e = ap (λ k. with_captures k (walk (following step others) rest)) (sym e)

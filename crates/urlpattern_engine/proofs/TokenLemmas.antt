@@ -2,15 +2,15 @@
 use Rattle.std.proofs.Common.{◌≡◌, ℕ, List, [], ◌∷◌, ◌++◌, Option, Some, None, Bool, true, false, refl, sym, ap, ◌∙◌, append-nil, append_assoc, codes, ◌==◌, ne_eqb}
 use Rattle.std.proofs.lemmas.Bool.{false≢true}
 use Rattle.std.specs.Prelude.{◌≢◌, IfSome, is_some}
-use Rattle.urlpattern_laws.specs.Dialect.{AnyBut, AreItems, AllowsGroups, Atom, Captured, Character, Plain, Escaped, Dot, Grouped, IsAtom, IsCharacter, IsClassCharacter, IsTreeOf, Item, Items, LazyOneOrMore, Nothing, Once, OneOrMore, Optional, Quantifier, ZeroOrMore, atom_group_count, group_count, atom_text, character_of, character_text, items_text, quantifier_text}
-use Rattle.urlpattern_laws.specs.Dialect as dialect
+use Rattle.urlpattern_meaning.specs.Dialect.{AnyBut, AreItems, AllowsGroups, Atom, Captured, Character, Plain, Escaped, Dot, Grouped, IsAtom, IsCharacter, IsClassCharacter, IsTreeOf, Item, Items, LazyOneOrMore, Nothing, Once, OneOrMore, Optional, Quantifier, ZeroOrMore, atom_group_count, group_count, atom_text, character_of, character_text, items_text, quantifier_text}
+use Rattle.urlpattern_meaning.specs.Dialect as dialect
 use Rattle.urlpattern_syntax.specs.RegexpText.{captured}
 use Rattle.urlpattern_engine.specs.declared.tokens.Times.{Times}
 use Rattle.urlpattern_engine.specs.declared.tokens.Token.TheVariants.{Close, FirstSegment, MaybeStep}
 use Rattle.urlpattern_engine.specs.declared.step.Step.{Step}
 use Rattle.urlpattern_engine.specs.declared.step.Step.TheVariants.{Literal, Segment, Anything, Maybe, Longest, Copies, Segments}
-use Rattle.urlpattern_engine.specs.Reading.{BeginsWithCaptured, BeginsWithCharacter, BeginsWithToken, IsRunOf, IsStepOf, MayBeEmpty, Spells, quantifier_of, times_text}
-use Rattle.urlpattern_engine.specs.Steps.{capture_count}
+use Rattle.urlpattern_engine.specs.ReadSteps.{BeginsWithCaptured, BeginsWithCharacter, BeginsWithRegexpToken, IsRunOf, IsStepOf, AllowsEmptyRun, SpellsStep, quantifier_of, times_text}
+use Rattle.urlpattern_engine.specs.Walk.{capture_count}
 use Rattle.urlpattern_syntax.specs.Text.{line_feed}
 use Rattle.urlpattern_engine.proofs.LongestLemmas.{run_uncaptured}
 
@@ -67,7 +67,7 @@ pub anything_run : (items : Items) → IsStepOf Anything (Captured items) → Is
 anything_run items e = (refl, cc)
 
 -- runs of which each may be empty or not may be taken more than once
-pub runs_allowed : (end : ℕ) (is_greedy : Bool) (items : Items) (quantifier : Quantifier) (may_be_empty : Bool) → IsRunOf end is_greedy items → MayBeEmpty is_greedy quantifier may_be_empty
+pub runs_allowed : (end : ℕ) (is_greedy : Bool) (items : Items) (quantifier : Quantifier) (may_be_empty : Bool) → IsRunOf end is_greedy items → AllowsEmptyRun is_greedy quantifier may_be_empty
     → AllowsGroups quantifier (group_count items)
 runs_allowed end is_greedy items ZeroOrMore may_be_empty run is = run_uncaptured end is_greedy items run
 runs_allowed end is_greedy items OneOrMore may_be_empty run is = run_uncaptured end is_greedy items run
@@ -92,7 +92,7 @@ repeated_run text inner run_text bracket behind rest run step times e f (items, 
     (Item (Grouped items) (quantifier_of times) Nothing, (are, repeated.0, tt), repeated.1, whole ∙ sym spelled)
 
 pub captured-spells : (text behind rest : List ℕ) (step : Step) → BeginsWithCaptured text step behind → behind ≡ codes ")" ++ rest
-    → (front : List ℕ) × Spells step front × (codes "(" ++ text ≡ front ++ rest)
+    → (front : List ℕ) × SpellsStep step front × (codes "(" ++ text ≡ front ++ rest)
 captured-spells text behind rest step (items, are, is, e) f = (
   captured (items_text items),
   (Captured items, are, is, refl),
@@ -112,20 +112,20 @@ captures_one (Copies copies) items is = absurd is
 captures_one (Segments segments) items is = absurd is
 
 pub captured-maybe : (text bracket behind rest : List ℕ) (step : Step) → BeginsWithCaptured text step bracket → bracket ≡ codes ")" ++ behind → behind ≡ codes "?" ++ rest
-    → BeginsWithToken (codes "(" ++ text) (MaybeStep step) rest
+    → BeginsWithRegexpToken (codes "(" ++ text) (MaybeStep step) rest
 captured-maybe text bracket behind rest step begins e f =
     let once = captured-spells text bracket behind step begins e in
     (once.0 ++ codes "?", (once.0, captures_one step begins.0 begins.2, once.1, refl), once.2 ∙ ap (λ t. once.0 ++ t) f ∙ sym (append_assoc once.0 (codes "?") rest))
 
-pub close-spells : (text behind rest : List ℕ) (times : Times) → text ≡ codes ")" ++ behind → behind ≡ times_text times ++ rest → BeginsWithToken text (Close times) rest
+pub close-spells : (text behind rest : List ℕ) (times : Times) → text ≡ codes ")" ++ behind → behind ≡ times_text times ++ rest → BeginsWithRegexpToken text (Close times) rest
 close-spells text behind rest times e f = (codes ")" ++ times_text times, refl, e ∙ ap (λ t. codes ")" ++ t) f ∙ sym (append_assoc (codes ")") (times_text times) rest))
 
-pub literal-spells : (text rest : List ℕ) (c : ℕ) → BeginsWithCharacter IsCharacter text c rest → (front : List ℕ) × Spells (Literal c) front × (text ≡ front ++ rest)
+pub literal-spells : (text rest : List ℕ) (c : ℕ) → BeginsWithCharacter IsCharacter text c rest → (front : List ℕ) × SpellsStep (Literal c) front × (text ≡ front ++ rest)
 literal-spells text rest c (character, is, same, e) = (character_text character, (dialect.Literal character, is, (character, same, refl), refl), e)
 
 pub first_segment-begins : (text run_text bracket behind rest : List ℕ) (single : Step) (end : ℕ) (is_greedy : Bool) → text ≡ codes "(?:" ++ run_text → BeginsWithCaptured run_text single bracket
     → bracket ≡ codes ")" ++ behind → behind ≡ codes "(?:" ++ rest → ((items : Items) → IsStepOf single (Captured items) → IsRunOf end is_greedy items)
-    → BeginsWithToken (codes "(" ++ text) (FirstSegment end is_greedy) rest
+    → BeginsWithRegexpToken (codes "(" ++ text) (FirstSegment end is_greedy) rest
 first_segment-begins text run_text bracket behind rest single end is_greedy e (items, are, is, f) g h run = (
   codes "((?:" ++ (items_text items ++ codes ")(?:"),
   (items, are, run items is, refl),

@@ -2,9 +2,9 @@
 use Rattle.std.proofs.Common.{◌≡◌, ℕ, zero, suc, ◌≤◌, List, [], ◌∷◌, ◌++◌, map, length, Option, Some, None, option_map, Bool, true, false, cond, ◌==◌, not, refl, sym, ap, ap₂, ◌∙◌, append_assoc, arith, lt-ltb}
 use Rattle.std.specs.Option.{option_or}
 use Rattle.regex_hir.proofs.OptionLemmas.{option_or-None}
-use Rattle.urlpattern_laws.specs.PartMeaning.{Captures}
-use Rattle.urlpattern_laws.specs.Ways.{Way, Choice, idle, joined_way, continued, one_that, is_shorter, more_rounds, looped}
-use Rattle.urlpattern_engine.specs.Steps.{shortest, longest, Gives}
+use Rattle.urlpattern_meaning.specs.PartMeaning.{Captures}
+use Rattle.urlpattern_meaning.specs.Ways.{Way, Choice, idle, joined_way, continued, one_that, is_shorter, more_rounds, looped}
+use Rattle.urlpattern_engine.specs.Walk.{shortest, longest, Continuation}
 
 abbrev pub Next : Type 0
 Next = List ℕ → Option Captures
@@ -87,7 +87,7 @@ abbrev pub given : Given → Way → Option Captures
 given h way = h way.taken way.captures way.rest
 
 -- what is given where there are no captures
-abbrev pub bare : Given → Gives
+abbrev pub bare : Given → Continuation
 bare h front rest = h front [] rest
 
 -- the same after one character more

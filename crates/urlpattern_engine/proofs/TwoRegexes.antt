@@ -12,9 +12,9 @@ use Rattle.regex.specs.Strings.{regex_names, regex_pattern}
 use Rattle.regex.specs.Writes.{both, group_of}
 use Rattle.regex.specs.declared.string.regex.Regex.{Regex}
 use Rattle.regex.proofs.ForCallers.{found_alike, is_match_alike}
-use Rattle.urlpattern_core.specs.Engines.{IsRegexOf, group_texts, regex_answer, text_between}
+use Rattle.urlpattern_core.specs.Regexes.{IsRegexOf, group_texts, regex_answer, text_between}
 use Rattle.urlpattern_core.proofs.Bytes.{bytes_below}
-use Rattle.urlpattern_laws.specs.PartMeaning.{Captures}
+use Rattle.urlpattern_meaning.specs.PartMeaning.{Captures}
 
 both_hold : {A B : Type 0} (o : Option A) (P Q : A → Type 0) → ((x : A) → P x → Q x → B) → IsSomeAnd o P → IsSomeAnd o Q → B
 both_hold None P Q f p q = absurd p

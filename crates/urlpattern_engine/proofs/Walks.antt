@@ -3,16 +3,16 @@ use Rattle.std.proofs.Common.{◌≡◌, ℕ, ◌+◌, List, [], ◌∷◌, ◌+
 use Rattle.std.proofs.lemmas.Bool.{cond-false}
 use Rattle.std.specs.Option.{option_or}
 use Rattle.regex_hir.proofs.OptionLemmas.{option_or-None}
-use Rattle.urlpattern_laws.specs.Dialect.{character_of, Character, Once, Optional, ZeroOrMore, LazyOneOrMore, Items, Nothing, Item, Atom, Dot, AnyBut, Captured, Grouped, atom_group_count, group_count}
-use Rattle.urlpattern_laws.specs.Dialect as dialect
-use Rattle.urlpattern_laws.specs.Ways.{Way, idle, continued, one_that, looped, capturing, ways, atom_ways, first_way}
+use Rattle.urlpattern_meaning.specs.Dialect.{character_of, Character, Once, Optional, ZeroOrMore, LazyOneOrMore, Items, Nothing, Item, Atom, Dot, AnyBut, Captured, Grouped, atom_group_count, group_count}
+use Rattle.urlpattern_meaning.specs.Dialect as dialect
+use Rattle.urlpattern_meaning.specs.Ways.{Way, idle, continued, one_that, looped, capturing, ways, atom_ways, first_way}
 use Rattle.urlpattern_syntax.specs.Text.{line_feed}
 use Rattle.urlpattern_engine.specs.declared.step.Group.{Group}
 use Rattle.urlpattern_engine.specs.declared.step.Run.{Run}
 use Rattle.urlpattern_engine.specs.declared.step.Step.{Step}
 use Rattle.urlpattern_engine.specs.declared.step.Step.TheVariants.{Literal, Segment, Anything, Maybe, Longest, Copies, Segments}
-use Rattle.urlpattern_engine.specs.Reading.{AreLiterals, IsAllBut, IsStepOf}
-use Rattle.urlpattern_engine.specs.Steps.{Gives, captured, shortest, longest, longest_run, literals, after_text, walk, walk_after, capture_count}
+use Rattle.urlpattern_engine.specs.ReadSteps.{AreLiterals, IsAllBut, IsStepOf}
+use Rattle.urlpattern_engine.specs.Walk.{Continuation, captured_front, shortest, longest, longest_run, literals, after_text, walk, walk_after, capture_count}
 use Rattle.urlpattern_engine.proofs.LongestLemmas.{captured_takes, run_uncaptured, takes-runs}
 use Rattle.urlpattern_engine.proofs.Rounds.{Takes, keeps-after, after-append, takes-nothing, takes-one, takes-then}
 use Rattle.urlpattern_engine.proofs.Tried.{Next, Given, given, tried, before_next, bare, one, tried-append, tried-map, tried-same, tried-continued, tried-behind, before_next-same, tried-idle, lazy_loop, greedy_loop}
@@ -152,12 +152,12 @@ walks-literal character = record { count = refl; text = λ plain. takes-one (cha
 
 -- ---- runs
 
-shortest-same : (end : ℕ) (f g : Gives) → ((front rest : List ℕ) → f front rest ≡ g front rest) → (front text : List ℕ) → shortest end f front text ≡ shortest end g front text
+shortest-same : (end : ℕ) (f g : Continuation) → ((front rest : List ℕ) → f front rest ≡ g front rest) → (front text : List ℕ) → shortest end f front text ≡ shortest end g front text
 shortest-same end f g same front [] = refl
 shortest-same end f g same front (c ∷ text) =
     ap (λ o. cond (c == end) None o) (ap₂ option_or (same (front ++ c ∷ []) text) (shortest-same end f g same (front ++ c ∷ []) text))
 
-longest-same : (end : ℕ) (f g : Gives) → ((front rest : List ℕ) → f front rest ≡ g front rest) → (front text : List ℕ) → longest end f front text ≡ longest end g front text
+longest-same : (end : ℕ) (f g : Continuation) → ((front rest : List ℕ) → f front rest ≡ g front rest) → (front text : List ℕ) → longest end f front text ≡ longest end g front text
 longest-same end f g same front [] = same front []
 longest-same end f g same front (c ∷ text) =
     ap₂ (λ o p. cond (c == end) o p) (same front (c ∷ text)) (ap₂ option_or (longest-same end f g same (front ++ c ∷ []) text) (same front (c ∷ text)))
@@ -175,7 +175,7 @@ captured_ways next loop =
     ∙ tried-same _ (given (captured_loop next)) (λ way. option_or-None _) loop
 
 -- the front of a loop as a capture
-plain_capture : (next : Next) (front rest : List ℕ) → bare (captured_loop next) front rest ≡ captured next front rest
+plain_capture : (next : Next) (front rest : List ℕ) → bare (captured_loop next) front rest ≡ captured_front next front rest
 plain_capture next front rest = ap (λ t. option_map (λ others. Some t ∷ others) (next rest)) (append-nil front)
 
 segment : (end : ℕ) (after : List Step) (text : List ℕ)

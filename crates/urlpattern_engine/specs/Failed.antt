@@ -1,9 +1,9 @@
--- Places in a match from which no way leads on, one bit for each.
+-- States of a match from which no way leads on, one bit for each.
 use Rattle.std.specs.Prelude.{◌≡◌, ℕ, ◌+◌, ◌*◌, ◌/◌, ◌%◌, List, [], ◌⊎◌, ◌++◌, length, None, slice_index}
 use Rattle.std.specs.Str.{chars, IsUtf8}
 use Rattle.std.specs.Int.{bit_at}
 use Rattle.urlpattern_engine.specs.declared.step.Step.{Step}
-use Rattle.urlpattern_engine.specs.Steps.{up_to_first, walk}
+use Rattle.urlpattern_engine.specs.Walk.{up_to_first, walk}
 use Rattle.urlpattern_syntax.specs.Text.{byte_len}
 
 -- the steps and the text of a match
@@ -15,12 +15,12 @@ pub record Whole : Type 0 where
 abbrev pub EndsWith : {A : Type 0} → (whole end : List A) → Type 0
 EndsWith whole end = (front : List _) × (whole ≡ front ++ end)
 
--- these steps and this text may be left of the match
-pub record IsPlace (whole : Whole) (steps : List Step) (text : List ℕ) : Type 0 where
+-- a state of the match: these steps and this text may be left of it
+pub record IsStateOf (whole : Whole) (steps : List Step) (text : List ℕ) : Type 0 where
   pub of_steps : EndsWith whole.steps steps
   pub of_text : EndsWith whole.text text
 
--- the bit for the place where these steps and this text are left
+-- the bit for the state in which these steps and this text are left
 abbrev pub bit_of : (whole : List ℕ) → List Step → (text : List ℕ) → ℕ
 bit_of whole steps text = length steps * (byte_len whole + 1) + byte_len text
 
@@ -28,9 +28,9 @@ bit_of whole steps text = length steps * (byte_len whole + 1) + byte_len text
 unfoldable pub HasBit : List ℕ → ℕ → Type 0
 HasBit bits bit = bit_at (slice_index bits (bit / 64)) (bit % 64) ≡ 1
 
--- no way leads on from the places with a bit that is set
+-- no way leads on from the states with a bit that is set
 abbrev pub AreDead : Whole → (bits : List ℕ) → Type 0
-AreDead whole bits = (steps : List Step) (text : List ℕ) → IsPlace whole steps text → HasBit bits (bit_of whole.text steps text) → walk steps text ≡ None
+AreDead whole bits = (steps : List Step) (text : List ℕ) → IsStateOf whole steps text → HasBit bits (bit_of whole.text steps text) → walk steps text ≡ None
 
 -- a run without `end`, the first of the steps, ends here, or does not lead on from here
 abbrev pub HasEnded : (end : ℕ) → List Step → (text : List ℕ) → Type 0

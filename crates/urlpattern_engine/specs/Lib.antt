@@ -1,6 +1,6 @@
-pub mod Steps
+pub mod Walk
 pub mod Failed
 pub mod Taken
 pub mod Table
-pub mod Reading
-pub mod Engine
+pub mod ReadSteps
+pub mod PatternRegexps

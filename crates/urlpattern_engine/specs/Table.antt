@@ -7,7 +7,7 @@ use Rattle.urlpattern_engine.specs.declared.step.Step.{Step}
 use Rattle.urlpattern_engine.specs.declared.step.Step.TheVariants.{Literal, Segment, Anything, Maybe, Longest, Copies, Segments}
 use Rattle.urlpattern_engine.specs.declared.step.Stretch.{Stretch}
 use Rattle.urlpattern_engine.specs.Failed.{EndsWith}
-use Rattle.urlpattern_engine.specs.Steps.{Gives, captured, walk}
+use Rattle.urlpattern_engine.specs.Walk.{Continuation, captured_front, walk}
 use Rattle.urlpattern_syntax.specs.Text.{line_feed}
 
 -- ---- steps
@@ -29,11 +29,11 @@ abbrev pub following : Step → List Step → List Step
 following step others = drop (own_count (stretch_of step)) others
 
 -- the character at which a run ends
-abbrev pub end_of : Step → ℕ
-end_of (Segment end) = end
-end_of (Longest run) = run.end
-end_of (Segments segments) = segments.end
-end_of step = line_feed
+abbrev pub run_end : Step → ℕ
+run_end (Segment end) = end
+run_end (Longest run) = run.end
+run_end (Segments segments) = segments.end
+run_end step = line_feed
 
 abbrev pub is_capture : Step → Bool
 is_capture (Literal c) = false
@@ -42,8 +42,8 @@ is_capture (Maybe group) = false
 is_capture step = true
 
 -- what is given by a front that a step takes and the rest
-abbrev pub given : Step → List Step → Gives
-given step others = if is_capture step then captured (walk (following step others)) else (λ front rest. walk (following step others) rest)
+abbrev pub given : Step → List Step → Continuation
+given step others = if is_capture step then captured_front (walk (following step others)) else (λ front rest. walk (following step others) rest)
 
 -- a step that is no choice between two lists of steps
 abbrev pub IsSingle : Step → Type 0

@@ -4,15 +4,15 @@ use Rattle.std.specs.Borrow.{Bor}
 use Rattle.std.specs.Global.{Global}
 use Rattle.std.specs.declared.vec.Vec.{Vec}
 use Rattle.std.specs.Str.{chars, IsUtf8}
-use Rattle.urlpattern_core.specs.Captured.{capture_view}
-use Rattle.urlpattern_laws.specs.PartMeaning.{Captures}
+use Rattle.urlpattern_core.specs.CaptureTexts.{capture_view}
+use Rattle.urlpattern_meaning.specs.PartMeaning.{Captures}
 use Rattle.urlpattern_engine.specs.declared.step.Segments.{Segments}
 use Rattle.urlpattern_engine.specs.declared.step.Step.{Step}
 use Rattle.urlpattern_engine.specs.declared.walk.Attempt.{Attempt}
-use Rattle.urlpattern_engine.specs.Steps.{Gives, captured, literal_text, segmented, single_run, walk}
+use Rattle.urlpattern_engine.specs.Walk.{Continuation, captured_front, literal_text, segmented, single_run, walk}
 
 -- Where a text is cut, by the bytes before it, so that its parts give what is found. None: nothing is found.
-abbrev pub IsCutFor : Gives → (text : List ℕ) → Option ℕ → (found : Option Captures) → Type 0
+abbrev pub IsCutFor : Continuation → (text : List ℕ) → Option ℕ → (found : Option Captures) → Type 0
 IsCutFor gives text None found = found ≡ None
 IsCutFor gives text (Some n) found =
     (front rest : List ℕ) × IsUtf8 front × IsUtf8 rest × (text ≡ front ++ rest) × (length front ≡ n) × (found ≡ gives (chars front) (chars rest)) × ¬ (found ≡ None)
@@ -20,8 +20,8 @@ IsCutFor gives text (Some n) found =
 -- where segments end that are the first that the other steps lead on from; the text between two is that of the literal steps
 abbrev pub IsEndOfSegments : Segments → (literal others : List Step) → (text : List ℕ) → (end : Option ℕ) → Type 0
 IsEndOfSegments segments literal others text end =
-    IsCutFor (captured (walk others)) text end
-    (segmented (literal_text segments.separator.first literal) (single_run segments.is_greedy segments.end) (captured (walk others)) [] (chars text))
+    IsCutFor (captured_front (walk others)) text end
+    (segmented (literal_text segments.separator.first literal) (single_run segments.is_greedy segments.end) (captured_front (walk others)) [] (chars text))
 
 -- the front is the text without its last n characters
 abbrev pub IsWithoutLast : (n : ℕ) → (text front : List ℕ) → Type 0
@@ -68,7 +68,7 @@ pub record Untouched (old new : Attempt) : Type 0 where
   pub whole : new.failed ≡ old.failed
 
 -- steps were followed: what they capture is added where they take the text, and nothing where they do not
-pub record Follows (old new : Attempt) (is_taken : Bool) (found : Option Captures) : Type 0 where
+pub record FollowsSteps (old new : Attempt) (is_taken : Bool) (found : Option Captures) : Type 0 where
   pub adds : Adds old.captures new.captures is_taken found
   pub same : is_taken ≡ false → new.captures.items ≡ old.captures.items
   pub whole : new.failed ≡ old.failed

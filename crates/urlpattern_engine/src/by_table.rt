@@ -2,9 +2,9 @@
 
 ghost use Rattle.std.specs.Prelude.{◌≡◌, ◌∷◌, ◌++◌, [], List, length, None, Some, IfNone, IfOk, IfSome, OnOk, if◌then◌else◌};
 ghost use Rattle.std.specs.Str.{chars};
-ghost use Rattle.urlpattern_core.specs.Captured.{captures_view};
+ghost use Rattle.urlpattern_core.specs.CaptureTexts.{captures_view};
 ghost use Rattle.urlpattern_engine.specs.Failed.{EndsWith};
-ghost use Rattle.urlpattern_engine.specs.Steps.{walk};
+ghost use Rattle.urlpattern_engine.specs.Walk.{walk};
 ghost use Rattle.urlpattern_engine.specs.Table.{following, row_at, is_capture, IsRow, IsSingle};
 ghost use Rattle.urlpattern_engine.specs.Taken.{LeavesWalk};
 

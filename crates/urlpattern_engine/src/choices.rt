@@ -3,7 +3,7 @@
 use crate::step::Step;
 use crate::stops::stop_at;
 
-/// When the places of a match that failed are remembered.
+/// When the states of a match that failed are remembered.
 #[derive(Clone, Copy)]
 pub(crate) enum Remembered {
     Never,
@@ -28,9 +28,9 @@ impl Remembered {
 /// How many groups may be missing in an expression that leaves few choices.
 const MAYBE_COUNT: usize = 4;
 
-/// When the places that failed are to be remembered in a match by these steps.
+/// When the states that failed are to be remembered in a match by these steps.
 ///
-/// They need not be where at most one captured run may end at several places, and few groups may be missing: then a place is
+/// They need not be where at most one captured run may end at several places, and few groups may be missing: then a state is
 /// tried again a few times at most. If another run follows, that one is read again after each end of the first, which takes long
 /// only in a long text.
 fn when_remembered(steps: &[Step]) -> Remembered {
@@ -78,7 +78,7 @@ fn has_choice(step: &Step, others: &[Step]) -> bool {
 
 /// How a text is matched by steps.
 #[derive(Clone, Copy)]
-pub(crate) enum Way {
+pub(crate) enum Strategy {
     /// Choices are tried one after the other.
     ByChoices(Remembered),
     /// A table says which choice leads on.
@@ -88,11 +88,11 @@ pub(crate) enum Way {
 /// How a text is matched by these steps.
 ///
 /// Choices are tried where they are few, so that little of the stack is needed, and no repeated group is begun at many places.
-pub(crate) fn way_of(steps: &[Step]) -> Way {
+pub(crate) fn strategy_of(steps: &[Step]) -> Strategy {
     if is_shallow(steps) && begin_with_repeats(steps) {
-        Way::ByChoices(when_remembered(steps))
+        Strategy::ByChoices(when_remembered(steps))
     } else {
-        Way::ByTable
+        Strategy::ByTable
     }
 }
 

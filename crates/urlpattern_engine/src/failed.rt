@@ -1,22 +1,22 @@
-//! Places in a match from which no way leads on.
+//! States of a match from which no way leads on.
 
 ghost use Rattle.std.specs.Prelude.{◌≡◌, ◌⊎◌, ℕ, false, None, IfOk, IfSome, IsTrue};
 ghost use Rattle.std.specs.Str.{chars};
-ghost use Rattle.urlpattern_engine.specs.Failed.{HasBit, IsPlace, bit_of};
-ghost use Rattle.urlpattern_engine.specs.Steps.{walk};
+ghost use Rattle.urlpattern_engine.specs.Failed.{HasBit, IsStateOf, bit_of};
+ghost use Rattle.urlpattern_engine.specs.Walk.{walk};
 
 use crate::step::Step;
 use std::alloc::{AllocError, Global};
 use std::marker::Model;
 
-/// Places in a match from which the steps that are left are known not to take the text that is left.
+/// States of a match in which the steps that are left are known not to take the text that is left.
 ///
-/// Its value is the match: which places it remembers has no part in what is answered, only in how fast.
+/// Its value is the match: which states it remembers has no part in what is answered, only in how fast.
 #[derive(Drop)]
 pub(crate) struct Failed<'s, 't> {
     steps: &'s [Step],
     text: &'t str,
-    /// One bit for each place, or none.
+    /// One bit for each state, or none.
     bits: Vec<u64>,
 }
 
@@ -32,7 +32,7 @@ impl<'s, 't> Model for Failed<'s, 't> {
 }
 
 impl<'s, 't> Failed<'s, 't> {
-    /// No place, and room for each, if there is to be room.
+    /// No state, and room for each, if there is to be room.
     pub(crate) fn new(
         alloc: Global,
         steps: &'s [Step],
@@ -49,14 +49,14 @@ impl<'s, 't> Failed<'s, 't> {
         })
     }
 
-    /// Whether there is room for places.
+    /// Whether there is room for states.
     pub(crate) fn has_room(&self) -> bool {
         !self.bits.is_empty()
     }
 
-    /// Whether the place is remembered.
+    /// Whether the state is remembered.
     pub(crate) fn contains(&self, steps: &[Step], text: &str) -> bool
-        requires { IsPlace self.now steps.now (chars text.now) }
+        requires { IsStateOf self.now steps.now (chars text.now) }
         ensures { IsTrue result → walk steps.now (chars text.now) ≡ None }
     {
         if !self.has_room() {
@@ -68,9 +68,9 @@ impl<'s, 't> Failed<'s, 't> {
         }
     }
 
-    /// Remembers the place, if there is room.
+    /// Remembers the state, if there is room.
     pub(crate) fn insert(&mut self, steps: &[Step], text: &str)
-        requires place { IsPlace self.old steps.now (chars text.now) }
+        requires state { IsStateOf self.old steps.now (chars text.now) }
         requires dead { walk steps.now (chars text.now) ≡ None }
         ensures { self.new ≡ self.old }
     {
@@ -83,7 +83,7 @@ impl<'s, 't> Failed<'s, 't> {
     }
 }
 
-/// The bit for a place.
+/// The bit for a state.
 fn bit_of(whole: &str, steps: &[Step], text: &str) -> Option<usize>
     ensures { IfSome result (λ bit. bit ≡ bit_of (chars whole.now) steps.now (chars text.now)) }
 {
@@ -91,7 +91,7 @@ fn bit_of(whole: &str, steps: &[Step], text: &str) -> Option<usize>
     row.checked_add(text.len())
 }
 
-/// How many words have a bit for each place.
+/// How many words have a bit for each state.
 fn words(steps: &[Step], text: &str) -> usize {
     let rows = steps.len().saturating_add(1);
     rows.saturating_mul(text.len().saturating_add(1)) / 64 + 1

@@ -3,8 +3,8 @@
 ghost use Rattle.std.specs.Prelude.{◌≡◌, ◌∷◌, ◌++◌, ℕ, List, Bool, Option, Some, None, length, option_map, take, IfOk, if◌then◌else◌};
 ghost use Rattle.std.specs.Option.{option_or};
 ghost use Rattle.std.specs.Str.{chars};
-ghost use Rattle.urlpattern_engine.specs.Steps.{literals, walk};
-ghost use Rattle.urlpattern_engine.specs.Table.{begun_of, end_of, following, given, has, later_of, own_count, stretch_of, whole_of, is_capture, IsEntryAfter, IsRow, IsSingle};
+ghost use Rattle.urlpattern_engine.specs.Walk.{literals, walk};
+ghost use Rattle.urlpattern_engine.specs.Table.{begun_of, run_end, following, given, has, later_of, own_count, stretch_of, whole_of, is_capture, IsEntryAfter, IsRow, IsSingle};
 ghost use Rattle.urlpattern_engine.specs.Taken.{going_on, IsCutFor};
 
 use crate::repeats::{begun_after, first_steps, goes_on, pass};
@@ -105,7 +105,7 @@ pub(crate) fn following(step: Step, others: &[Step]) -> &[Step]
 
 /// The character at which a run ends.
 fn end_of(step: Step) -> char
-    ensures { result ≡ end_of step }
+    ensures { result ≡ run_end step }
 {
     match step {
         Step::Segment(end) => end,

@@ -3,9 +3,9 @@
 //! Each function here does nothing; what it promises is a theorem.
 
 ghost use Rattle.std.specs.Prelude.{⊤};
-ghost use Rattle.urlpattern_core.specs.Engines.{regex_engine};
+ghost use Rattle.urlpattern_core.specs.Regexes.{regex_engine};
 ghost use Rattle.urlpattern_core.specs.FirstWays.{AllAnswerAlike, ComponentsTakeGenerated, EachAnswersFirst, MatchersTakeGenerated, ValuesAnswerAlike, ValuesAnswerFirst, ValuesFollowParts, ValuesFollowTexts};
-ghost use Rattle.urlpattern_engine.specs.Engine.{pattern_engine};
+ghost use Rattle.urlpattern_engine.specs.PatternRegexps.{pattern_engine};
 ghost use Rattle.urlpattern_syntax.specs.declared.parser.RegexSyntax.{RegexSyntax};
 
 /// A value of the engine answers the first way of the tree of the text it was made of, to each text of characters. So it follows

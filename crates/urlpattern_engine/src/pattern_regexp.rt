@@ -2,12 +2,12 @@
 
 ghost use Rattle.std.specs.Prelude.{◌≡◌, IfOk};
 ghost use Rattle.std.specs.Str.{chars};
-ghost use Rattle.urlpattern_core.specs.Captured.{captures_view};
-ghost use Rattle.urlpattern_engine.specs.Engine.{pattern_engine};
-ghost use Rattle.urlpattern_engine.specs.Steps.{walk};
+ghost use Rattle.urlpattern_core.specs.CaptureTexts.{captures_view};
+ghost use Rattle.urlpattern_engine.specs.PatternRegexps.{pattern_engine};
+ghost use Rattle.urlpattern_engine.specs.Walk.{walk};
 
 use crate::by_table::walk_by_table;
-use crate::choices::{Way, way_of};
+use crate::choices::{Strategy, strategy_of};
 use crate::reading::read_steps;
 use crate::step::Step;
 use crate::walk::walk;
@@ -37,7 +37,7 @@ enum Expression {
 struct Steps {
     text: String,
     steps: Vec<Step>,
-    way: Way,
+    strategy: Strategy,
 }
 
 /// It takes no notice of flags, and reads each text at once. It refuses none that is generated of parts, none of them custom.
@@ -65,7 +65,7 @@ impl RegExp for PatternRegexp {
         let expression = match read_steps(alloc, pattern)? {
             Some(steps) => Expression::Own(Steps {
                 text: String::from_str(alloc, pattern)?,
-                way: way_of(&steps),
+                strategy: strategy_of(&steps),
                 steps,
             }),
             None => {
@@ -82,7 +82,7 @@ impl RegExp for PatternRegexp {
         text: &'a str,
     ) -> Result<Option<Vec<Option<&'a str>>>, OutOfMemory> {
         match &self.expression {
-            Expression::Own(own) => match_steps(alloc, &own.steps, own.way, text),
+            Expression::Own(own) => match_steps(alloc, &own.steps, own.strategy, text),
             Expression::Other(regex) => RegExp::matches(&**regex, alloc, text),
         }
     }
@@ -101,14 +101,14 @@ impl RegExp for PatternRegexp {
 fn match_steps<'t>(
     alloc: Global,
     steps: &[Step],
-    way: Way,
+    strategy: Strategy,
     text: &'t str,
 ) -> Result<Option<Vec<Option<&'t str>>>, OutOfMemory>
     ensures { IfOk result (λ found. captures_view found ≡ walk steps.now (chars text.now)) }
 {
-    match way {
-        Way::ByChoices(remembered) => walk(alloc, steps, remembered, text),
-        Way::ByTable => walk_by_table(alloc, steps, text),
+    match strategy {
+        Strategy::ByChoices(remembered) => walk(alloc, steps, remembered, text),
+        Strategy::ByTable => walk_by_table(alloc, steps, text),
     }
 }
 

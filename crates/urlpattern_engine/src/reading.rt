@@ -2,8 +2,8 @@
 
 ghost use Rattle.std.specs.Prelude.{◌≡◌, ◌↔◌, ◌∷◌, ℕ, ◌<◌, ◌≤◌, List, length, drop, codes, IfNone, IfOk, IfSome, IsTrue};
 ghost use Rattle.std.specs.Str.{chars};
-ghost use Rattle.urlpattern_engine.specs.Reading.{AddsSegments, AreCopies, AreGrouped, AreLiterals, AreStepsOf, ClosesSegments, EndsSegments, IsGenerated, IsGroup, IsLeft, MakeUp, ReadsLast};
-ghost use Rattle.urlpattern_engine.specs.Steps.{capture_count};
+ghost use Rattle.urlpattern_engine.specs.ReadSteps.{AddsSegments, AreCopySteps, AreGrouped, AreLiterals, AreStepsOf, ClosesSegments, EndsSegments, IsGenerated, IsGroup, IsLeft, MakeUp, ReadsLast};
+ghost use Rattle.urlpattern_engine.specs.Walk.{capture_count};
 
 use crate::step::{Copies, Group, Segments, Step, Stretch};
 use crate::texts::after;
@@ -84,8 +84,8 @@ fn close_group(steps: &mut Vec<Step>, first: usize, times: Times) -> Result<bool
 /// Makes the steps from the first on copies of the text that is made up of them. Whether there is such a text.
 fn close_copies(steps: &mut Vec<Step>, first: usize, may_be_missing: bool) -> bool
     requires { first ≤ length steps.old.items }
-    ensures group { IsTrue result → AreGrouped (AreCopies may_be_missing) first steps.old steps.new }
-    ensures any { (group : List Step) → AreCopies may_be_missing (drop first steps.old.items) group → IsTrue result }
+    ensures group { IsTrue result → AreGrouped (AreCopySteps may_be_missing) first steps.old steps.new }
+    ensures any { (group : List Step) → AreCopySteps may_be_missing (drop first steps.old.items) group → IsTrue result }
 {
     let Some(text) = stretch_of(&steps[first..]) else {
         return false;

@@ -3,7 +3,7 @@
 ghost use Rattle.std.specs.Prelude.{◌≡◌, ◌≢◌, ◌++◌, ℕ, suc, ◌<◌, List, length, None, IfNone, IfSome, drop, get_or, take, if◌then◌else◌};
 ghost use Rattle.std.specs.Option.{option_or};
 ghost use Rattle.std.specs.Str.{chars};
-ghost use Rattle.urlpattern_engine.specs.Steps.{copies_of, literal_text, literals};
+ghost use Rattle.urlpattern_engine.specs.Walk.{copies_of, literal_text, literals};
 ghost use Rattle.urlpattern_engine.specs.Taken.{going_on, IsWithoutLast};
 
 use crate::step::Step;

@@ -2,8 +2,8 @@
 
 ghost use Rattle.std.specs.Prelude.{◌≡◌, ◌≢◌, ◌∷◌, ◌<◌, List, length, None, IfNone, IfSome, IsTrue};
 ghost use Rattle.std.specs.Str.{chars};
-ghost use Rattle.urlpattern_engine.specs.Failed.{HasEnded, IsFrontOfRun, IsPlace};
-ghost use Rattle.urlpattern_engine.specs.Steps.{walk, StopAt};
+ghost use Rattle.urlpattern_engine.specs.Failed.{HasEnded, IsFrontOfRun, IsStateOf};
+ghost use Rattle.urlpattern_engine.specs.Walk.{walk, StopAt};
 ghost use Rattle.urlpattern_syntax.specs.Text.{line_feed};
 
 use crate::failed::Failed;
@@ -27,7 +27,7 @@ pub(crate) fn next_of_run<'t>(
     steps: &[Step],
     text: &'t str,
 ) -> Option<(char, &'t str)>
-    requires { IsPlace failed.now steps.now (chars text.now) }
+    requires { IsStateOf failed.now steps.now (chars text.now) }
     ensures none { IfNone result (HasEnded end steps.now (chars text.now)) }
     ensures cut { IfSome result (λ next. chars text.now ≡ next.0 ∷ chars next.1.now) }
     ensures other { IfSome result (λ next. next.0 ≢ end) }
@@ -43,7 +43,7 @@ pub(crate) fn next_of_run<'t>(
 /// The longest front of a text for the run that is the first of the steps, or a shorter one after which the run is known to have
 /// failed.
 pub(crate) fn longest_front<'t>(failed: &Failed<'_, '_>, steps: &[Step], text: &'t str) -> &'t str
-    requires { IsPlace failed.now steps.now (chars text.now) }
+    requires { IsStateOf failed.now steps.now (chars text.now) }
     ensures { IsFrontOfRun line_feed steps.now text.now result.now }
 {
     let mut rest = text;
@@ -53,9 +53,9 @@ pub(crate) fn longest_front<'t>(failed: &Failed<'_, '_>, steps: &[Step], text: &
     before(text, rest)
 }
 
-/// Remembers each place of a run, the first of the steps, that failed from the text on.
+/// Remembers each state of a run, the first of the steps, that failed from the text on.
 pub(crate) fn remember_run(failed: &mut Failed<'_, '_>, end: char, steps: &[Step], text: &str)
-    requires place { IsPlace failed.old steps.now (chars text.now) }
+    requires state { IsStateOf failed.old steps.now (chars text.now) }
     requires first { (others : List Step) × (steps.now ≡ Step.Segment end ∷ others) }
     requires dead { walk steps.now (chars text.now) ≡ None }
     ensures { failed.new ≡ failed.old }

@@ -1,7 +1,7 @@
 //! Which texts steps are seen not to take.
 
 ghost use Rattle.std.specs.Prelude.{IsTrue};
-ghost use Rattle.urlpattern_engine.specs.Steps.{StopAt};
+ghost use Rattle.urlpattern_engine.specs.Walk.{StopAt};
 
 use crate::repeats::pass;
 use crate::step::Step;

@@ -2,7 +2,7 @@
 
 ghost use Rattle.std.specs.Prelude.{◌≡◌, ◌∷◌, ◌||◌, ℕ, ◌<◌, [], List, length, is_some, IfOk};
 ghost use Rattle.std.specs.Str.{chars};
-ghost use Rattle.urlpattern_engine.specs.Steps.{walk};
+ghost use Rattle.urlpattern_engine.specs.Walk.{walk};
 ghost use Rattle.urlpattern_engine.specs.Table.{has, row_at, AreRows, IsRow};
 
 use crate::fronts::{following, front_of, has};

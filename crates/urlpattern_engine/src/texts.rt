@@ -3,7 +3,7 @@
 ghost use Rattle.std.specs.Prelude.{◌≡◌, ◌≢◌, ◌∷◌, ◌++◌, [], ℕ, ◌<◌, List, length, IfNone, IfSome};
 ghost use Rattle.std.specs.Char.{IsScalar, encode_utf8};
 ghost use Rattle.std.specs.Str.{chars, IsUtf8};
-ghost use Rattle.urlpattern_engine.specs.Steps.{from_first, up_to_first};
+ghost use Rattle.urlpattern_engine.specs.Walk.{from_first, up_to_first};
 
 use urlpattern_syntax::tokenizer::before;
 pub(crate) use urlpattern_syntax::tokenizer::split_first;

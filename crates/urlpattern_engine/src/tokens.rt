@@ -2,8 +2,8 @@
 
 ghost use Rattle.std.specs.Prelude.{◌≡◌, ◌≢◌, ◌∷◌, ◌++◌, ℕ, ◌<◌, ◌≤◌, Bool, List, length, codes, IfNone, IfSome, IsSomeAnd, IsTrue};
 ghost use Rattle.std.specs.Str.{chars};
-ghost use Rattle.urlpattern_engine.specs.Reading.{BeginsWithCaptured, BeginsWithCharacter, BeginsWithToken, IsRead, IsRepeatOf, IsRunOf, IsRunStep, IsStepOf, IsUnquantified, MayBeEmpty, ReadsCaptured, ReadsFirstSegments, ReadsRuns, ReadsTokens, RepeatsRuns, quantifier_of, times_text};
-ghost use Rattle.urlpattern_laws.specs.Dialect.{Captured, IsCharacter, IsClassCharacter, Items};
+ghost use Rattle.urlpattern_engine.specs.ReadSteps.{BeginsWithCaptured, BeginsWithCharacter, BeginsWithRegexpToken, IsRead, IsRepeatOf, IsRunOf, IsRunStep, IsStepOf, IsUnquantified, AllowsEmptyRun, ReadsCaptured, ReadsFirstSegments, ReadsRuns, ReadsRegexpTokens, RepeatsRuns, quantifier_of, times_text};
+ghost use Rattle.urlpattern_meaning.specs.Dialect.{Captured, IsCharacter, IsClassCharacter, Items};
 ghost use Rattle.urlpattern_syntax.specs.RegexpText.{regexp_marks};
 ghost use Rattle.urlpattern_syntax.specs.Text.{is_among};
 
@@ -40,8 +40,8 @@ pub(crate) enum Times {
 
 /// The token at the front of the text, and what follows it.
 pub(crate) fn read_token(text: &str) -> Option<(Token, &str)>
-    ensures token { IfSome result (λ read. BeginsWithToken (chars text.now) read.0 (chars read.1.now)) }
-    ensures reads { ReadsTokens (chars text.now) result }
+    ensures token { IfSome result (λ read. BeginsWithRegexpToken (chars text.now) read.0 (chars read.1.now)) }
+    ensures reads { ReadsRegexpTokens (chars text.now) result }
     ensures len { IfSome result (λ read. length read.1.now < length text.now) }
 {
     if let Some(rest) = after(text, ')') {
@@ -71,8 +71,8 @@ fn read_times(text: &str) -> (Times, &str)
 
 /// The token that begins with an opening bracket, and what follows it. The text is what follows the bracket.
 fn read_bracket(text: &str) -> Option<(Token, &str)>
-    ensures token { IfSome result (λ read. BeginsWithToken (codes "(" ++ chars text.now) read.0 (chars read.1.now)) }
-    ensures reads { ReadsTokens (codes "(" ++ chars text.now) result }
+    ensures token { IfSome result (λ read. BeginsWithRegexpToken (codes "(" ++ chars text.now) read.0 (chars read.1.now)) }
+    ensures reads { ReadsRegexpTokens (codes "(" ++ chars text.now) result }
     ensures len { IfSome result (λ read. length read.1.now < length text.now) }
 {
     if let Some(rest) = after(text, '?') {
@@ -91,7 +91,7 @@ fn read_bracket(text: &str) -> Option<(Token, &str)>
 
 /// The token for the first of segments, and what follows it. The text is what follows the opening bracket.
 fn read_first_segment(text: &str) -> Option<(Token, &str)>
-    ensures token { IfSome result (λ read. BeginsWithToken (codes "(" ++ chars text.now) read.0 (chars read.1.now)) }
+    ensures token { IfSome result (λ read. BeginsWithRegexpToken (codes "(" ++ chars text.now) read.0 (chars read.1.now)) }
     ensures reads { ReadsFirstSegments (codes "(" ++ chars text.now) result }
     ensures other { (step : Step) (rest : List ℕ) → BeginsWithCaptured (chars text.now) step rest → result ≡ None }
     ensures len { IfSome result (λ read. length read.1.now < length text.now) }
@@ -169,8 +169,8 @@ pub(crate) fn run_of(step: Step) -> Option<(char, bool)>
 
 /// Whether runs that are taken so often may take nothing.
 fn may_be_empty(is_greedy: bool, times: Times) -> Option<bool>
-    ensures may { IfSome result (λ may_be_empty. MayBeEmpty is_greedy (quantifier_of times) may_be_empty) }
-    ensures reads { (may_be_empty : Bool) → MayBeEmpty is_greedy (quantifier_of times) may_be_empty → result ≡ Some may_be_empty }
+    ensures may { IfSome result (λ may_be_empty. AllowsEmptyRun is_greedy (quantifier_of times) may_be_empty) }
+    ensures reads { (may_be_empty : Bool) → AllowsEmptyRun is_greedy (quantifier_of times) may_be_empty → result ≡ Some may_be_empty }
 {
     match times {
         Times::ZeroOrMore => Some(true),

@@ -2,10 +2,10 @@
 
 ghost use Rattle.std.specs.Prelude.{◌≡◌, ◌∷◌, ◌++◌, List, replicate, None, IfOk, OnOk};
 ghost use Rattle.std.specs.Str.{chars};
-ghost use Rattle.urlpattern_core.specs.Captured.{captures_view};
-ghost use Rattle.urlpattern_engine.specs.Failed.{IsPlace};
-ghost use Rattle.urlpattern_engine.specs.Steps.{captured, walk};
-ghost use Rattle.urlpattern_engine.specs.Taken.{Follows, FollowsOn};
+ghost use Rattle.urlpattern_core.specs.CaptureTexts.{captures_view};
+ghost use Rattle.urlpattern_engine.specs.Failed.{IsStateOf};
+ghost use Rattle.urlpattern_engine.specs.Walk.{captured_front, walk};
+ghost use Rattle.urlpattern_engine.specs.Taken.{FollowsSteps, FollowsOn};
 
 mod copies;
 mod runs;
@@ -25,7 +25,7 @@ use urlpattern_core::error::OutOfMemory;
 struct Attempt<'s, 't> {
     /// What was captured so far.
     captures: Vec<Option<&'t str>>,
-    /// The places that failed.
+    /// The states that failed.
     failed: Failed<'s, 't>,
 }
 
@@ -34,7 +34,7 @@ type Taken = Result<bool, OutOfMemory>;
 
 /// What the steps capture of a text that they take whole. `None`: they do not take it whole.
 ///
-/// Where the places that failed are remembered, no choice is tried twice at one of them.
+/// Where the states that failed are remembered, no choice is tried twice in one of them.
 ///
 /// The error is that memory ran out.
 pub(crate) fn walk<'t>(
@@ -61,8 +61,8 @@ impl<'t> Attempt<'_, 't> {
     /// Whether the steps take the text whole. Where they do, what they capture is added.
     #[cycle(following)]
     fn follow(&mut self, steps: &[Step], text: &'t str) -> Taken
-        requires { IsPlace self.old.failed steps.now (chars text.now) }
-        ensures { IfOk result (λ taken. Follows self.old self.new taken (walk steps.now (chars text.now))) }
+        requires { IsStateOf self.old.failed steps.now (chars text.now) }
+        ensures { IfOk result (λ taken. FollowsSteps self.old self.new taken (walk steps.now (chars text.now))) }
     {
         let count = self.captures.len();
         if self.follow_on(steps, text)? {
@@ -74,10 +74,10 @@ impl<'t> Attempt<'_, 't> {
 
     /// Whether the steps take the text whole. What they capture is added, and where they do not, some of it.
     ///
-    /// A place is remembered from which no way in which the first of the steps may take the text leads on.
+    /// A state is remembered from which no way in which the first of the steps may take the text leads on.
     #[cycle(following)]
     fn follow_on(&mut self, steps: &[Step], text: &'t str) -> Taken
-        requires { IsPlace self.old.failed steps.now (chars text.now) }
+        requires { IsStateOf self.old.failed steps.now (chars text.now) }
         ensures { IfOk result (λ taken. FollowsOn self.old self.new taken (walk steps.now (chars text.now))) }
     {
         let mut left = steps;
@@ -127,7 +127,7 @@ impl<'t> Attempt<'_, 't> {
     /// The ways in which the first of them may take the text are tried in turn.
     #[cycle(following)]
     fn follow_first(&mut self, step: &Step, steps: &[Step], others: &[Step], text: &'t str) -> Taken
-        requires place { IsPlace self.old.failed steps.now (chars text.now) }
+        requires state { IsStateOf self.old.failed steps.now (chars text.now) }
         requires first { steps.now ≡ step.now ∷ others.now }
         ensures { IfOk result (λ taken. FollowsOn self.old self.new taken (walk steps.now (chars text.now))) }
     {
@@ -149,7 +149,7 @@ impl<'t> Attempt<'_, 't> {
     /// capture is added, and where they do not, some of it.
     #[cycle(following)]
     fn follow_maybe(&mut self, group: Group, others: &[Step], text: &'t str) -> Taken
-        requires { IsPlace self.old.failed others.now (chars text.now) }
+        requires { IsStateOf self.old.failed others.now (chars text.now) }
         ensures { IfOk result (λ taken. FollowsOn self.old self.new taken (walk (Step.Maybe group ∷ others.now) (chars text.now))) }
     {
         if self.follow(others, text)? {
@@ -162,8 +162,8 @@ impl<'t> Attempt<'_, 't> {
     /// Whether the steps take the rest of a text whole. Where they do, the front and what they capture are added.
     #[cycle(following)]
     fn follow_captured(&mut self, front: &'t str, steps: &[Step], rest: &'t str) -> Taken
-        requires { IsPlace self.old.failed steps.now (chars rest.now) }
-        ensures { IfOk result (λ taken. Follows self.old self.new taken (captured (walk steps.now) (chars front.now) (chars rest.now))) }
+        requires { IsStateOf self.old.failed steps.now (chars rest.now) }
+        ensures { IfOk result (λ taken. FollowsSteps self.old self.new taken (captured_front (walk steps.now) (chars front.now) (chars rest.now))) }
     {
         self.captures.push(Some(front))?;
         if self.follow(steps, rest)? {

@@ -6,7 +6,7 @@ use Rattle.std.proofs.lemmas.List.Elements.{Contains-append_left, Contains-appen
 use Rattle.std.proofs.lemmas.Option.{unwrap_or-slice_get}
 use Rattle.std.specs.Prelude.{Contains, Option, Some, None, fold, map}
 use Rattle.urlpattern_index.specs.Keys.{address_keys, front_hashes, front_key, key, key_of, mixed, option_hash, path_key, path_keys, slash_hashes, text_hash, whole_key}
-use Rattle.urlpattern_index.specs.Places.{AddressTexts, BeginsWith, FixedPath, FixedTexts, HasTexts, Is, IsPath, IsText}
+use Rattle.urlpattern_index.specs.FixedTexts.{AddressTexts, BeginsWith, FixedPath, FixedTexts, HasTexts, Is, IsPath, IsText}
 
 no_slashes : (hash : ℕ) (text : List ℕ) → slash_hashes 0 hash text ≡ []
 no_slashes hash [] = refl

@@ -12,7 +12,7 @@ use Rattle.std.specs.Prelude.{All, Contains, Option, Some, None, map, option_cop
 use Rattle.std.specs.Slice.{IsItemAt}
 use Rattle.urlpattern_index.proofs.KeyLemmas.{key-is_among}
 use Rattle.urlpattern_index.specs.Keys.{address_keys, key_of}
-use Rattle.urlpattern_index.specs.Places.{AddressTexts, FixedTexts, HasTexts}
+use Rattle.urlpattern_index.specs.FixedTexts.{AddressTexts, FixedTexts, HasTexts}
 use Rattle.urlpattern_index.specs.Listed.{IsAmong, IsFirstFrom, IsLeastFrom, lesser, numbers_of}
 
 -- ---- lists that do not fall
@@ -189,7 +189,7 @@ module _ (key : ℕ) where
 
 -- ---- the lists of some keys
 
--- the numbers of the places with one of these keys, and no others, in lists that do not fall
+-- the numbers of the patterns with one of these keys, and no others, in lists that do not fall
 pub record AreCandidates (places keys : List ℕ) (lists : List (List ℕ)) : Type 0 where
   pub sorted : All (λ list. IsNonDecreasingBy (λ y. y) list) lists
   pub found : (key number : ℕ) → Contains keys key → Contains (numbers_of key 0 places) number → IsAmong lists number

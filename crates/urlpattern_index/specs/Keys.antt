@@ -1,6 +1,6 @@
 -- The keys under which an index lists patterns, and those of an input.
 use Rattle.std.specs.Prelude.{ℕ, zero, suc, ◌+◌, ◌-◌, ◌*◌, ◌%◌, ◌^◌, ◌==◌, if◌then◌else◌, List, [], ◌∷◌, ◌++◌, fold, map, length, slice_get, unwrap_or, Option, None, Some}
-use Rattle.urlpattern_index.specs.Places.{AddressTexts, FixedPath, FixedTexts, BeginsWith, Is}
+use Rattle.urlpattern_index.specs.FixedTexts.{AddressTexts, FixedPath, FixedTexts, BeginsWith, Is}
 
 -- ---- hashes
 

@@ -1,4 +1,4 @@
 pub mod Keys
 pub mod Listed
-pub mod Places
+pub mod FixedTexts
 pub mod Views

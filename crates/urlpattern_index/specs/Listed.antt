@@ -2,7 +2,7 @@
 use Rattle.std.specs.Prelude.{◌≡◌, ℕ, ◌+◌, ◌<◌, ◌≤◌, ◌==◌, if◌then◌else◌, List, [], ◌∷◌, Contains, min, length, nat_eq, option_map, slice_get, slice_index_or, unwrap_or, Option, None, Some, Vec}
 use Rattle.std.specs.HashMap.{HashMap, get}
 use Rattle.urlpattern_index.specs.Keys.{address_keys, key_of}
-use Rattle.urlpattern_index.specs.Places.{AddressTexts, FixedTexts, HasTexts}
+use Rattle.urlpattern_index.specs.FixedTexts.{AddressTexts, FixedTexts, HasTexts}
 
 -- ---- numbers by key
 

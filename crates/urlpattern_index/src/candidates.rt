@@ -1,13 +1,13 @@
-//! Numbers of places, from the least on.
+//! Numbers of patterns, from the least on.
 ghost use Rattle.std.specs.List.Sorted.{IsNonDecreasing};
 ghost use Rattle.std.specs.Prelude.{◌≡◌, All, map};
 ghost use Rattle.urlpattern_index.specs.Listed.{IsFirstFrom, IsLeastFrom, lesser};
 
-use crate::place::KEYS;
+use crate::fixed::KEYS;
 use arrayvec::ArrayVec;
 use std::marker::Model;
 
-/// Numbers of places, borrowed from an index.
+/// Numbers of patterns, borrowed from an index.
 #[derive(Debug, Drop)]
 pub struct Candidates<'a> {
     /// Ascending numbers.

@@ -1,3 +1,4 @@
+pub mod ClosedTokens
 pub mod TokenPlaces
 pub mod SeenLemmas
 pub mod TextBetween

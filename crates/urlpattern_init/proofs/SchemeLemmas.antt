@@ -7,8 +7,8 @@ use Rattle.std.specs.Prelude.{◌↔◌, IfOk, IsTrue, MatchBool}
 use Rattle.std.specs.Str.{chars}
 use Rattle.urlpattern_canonical.specs.Canonical.{special_schemes}
 use Rattle.urlpattern_init.specs.SpecialProtocol.{AcceptsSpecialScheme, IsSpecialTo, protocol_encoding}
-use Rattle.urlpattern_laws.specs.Matching.{IsMadeOf, MatcherView}
-use Rattle.urlpattern_core.specs.Compiling.{IsEngineOf}
+use Rattle.urlpattern_meaning.specs.Matching.{IsMadeOf, MatcherView}
+use Rattle.urlpattern_core.specs.Components.{IsEngineOf}
 use Rattle.urlpattern_core.specs.declared.regexp.RegExp.{Ghosts as Engine}
 use Rattle.urlpattern_syntax.specs.declared.error.Error.{Error}
 use Rattle.urlpattern_syntax.specs.Options.{OptionsView, default_options}

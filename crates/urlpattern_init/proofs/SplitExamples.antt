@@ -22,7 +22,7 @@ abbrev letters : ℕ → List ℕ → List TokenView
 letters index [] = []
 letters index (c ∷ text) = record { kind = Char; index = index; value = c ∷ [] } ∷ letters (index + 1) text
 
--- the section may end at none of so many places
+-- the section may end at none of so many positions
 abbrev may_not : Section → List TokenView → (from depth place count : ℕ) → Bool
 may_not section tokens from depth place zero = true
 may_not section tokens from depth place (suc count) = not (may_end section tokens from depth place) && may_not section tokens from depth (place + 1) count

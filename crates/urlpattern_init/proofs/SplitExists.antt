@@ -3,15 +3,16 @@ use Rattle.std.proofs.Common.{◌≡◌, ℕ, zero, suc, ◌+◌, ◌<◌, ◌�
 use Rattle.std.proofs.lemmas.Bool.{and_from, and_parts, both_ways, cases_eq, cases_lt, false≢true, or_cases, or_left, or_right}
 use Rattle.std.specs.Prelude.{codes, IsSomeAnd, IsTrue}
 use Rattle.urlpattern_init.specs.ConstructorString.{SplitsAs}
-use Rattle.urlpattern_init.specs.Split.{AuthorityFrom, EndsAt, HashAt, HashFrom, HostnameFrom, IsAbsoluteSplit, IsRelativeSplit, PathnameAt, PathnameFrom, PortAt, SearchAt, SearchFrom, Takes, UserinfoFrom}
+use Rattle.urlpattern_init.specs.Split.{AuthorityFrom, EndsAt, HashAt, HashFrom, HostnameFrom, IsAbsoluteSplit, IsRelativeSplit, PathnameAt, PathnameFrom, PortAt, SearchAt, SearchFrom, IsComponentBetween, UserinfoFrom}
 use Rattle.urlpattern_init.specs.Split.{depth_before, ends_at, has_slashes, implied_pathname, is_at_sign, is_balanced, is_colon_sign, is_hash_sign, is_search_sign, is_slash_sign, may_end}
-use Rattle.urlpattern_init.specs.Splitting.{IsClosed, may_follow_pathname}
+use Rattle.urlpattern_init.proofs.ClosedTokens.{IsClosed}
+use Rattle.urlpattern_init.specs.Splitting.{may_follow_pathname}
 use Rattle.urlpattern_init.specs.declared.constructor_parser.sections.Section.{Section}
 use Rattle.urlpattern_init.specs.declared.constructor_parser.sections.Section.TheVariants.{Authority, Hash, Hostname, Pathname, Port, Protocol, Search, Username}
 use Rattle.urlpattern_init.proofs.SplitLemmas.{may_end_parts, port_sign, sign_goes_on, stops_cases, username_before}
 use Rattle.urlpattern_init.proofs.SplitUnique.{search_not_end}
 use Rattle.urlpattern_init.proofs.TextBetween.{are_closed, text_between}
-use Rattle.urlpattern_laws.proofs.TokensExist.{lenient_tokens_exist}
+use Rattle.urlpattern_meaning.proofs.TokensExist.{lenient_tokens_exist}
 use Rattle.urlpattern_syntax.specs.Tokens.{AreLenientTokens, TokenView, end_of}
 use Rattle.urlpattern_syntax.specs.Eight.{Values, each}
 
@@ -92,7 +93,7 @@ module _ (text : List ℕ) (tokens : List TokenView) (are_tokens : AreLenientTok
       ends_within (suc (length tokens)) section from depth from (omega arith) within (omega arith) (λ other after before may. omega arith)
 
   -- there is a text up to where it ends
-  takes_some : (section : Section) (from depth : ℕ) (ends : Ends section from depth) → (taken : Option (List ℕ)) × Takes text tokens from ends.0 taken
+  takes_some : (section : Section) (from depth : ℕ) (ends : Ends section from depth) → (taken : Option (List ℕ)) × IsComponentBetween text tokens from ends.0 taken
   takes_some section from depth ends = let b = text_between text tokens from ends.0 are_tokens ends.1.after ends.1.within in (Some b.0, b.1)
 
   -- ---- from the hash to the front
@@ -305,7 +306,7 @@ module _ (text : List ℕ) (tokens : List TokenView) (are_tokens : AreLenientTok
   absolute : (special : Bool) (colon : ℕ) → EndsAt Protocol tokens 0 0 colon → IsTrue (is_colon_sign tokens colon) → (c : Values) × IsAbsoluteSplit text tokens special colon c
   absolute special colon ends sign = by_slashes (has_slashes tokens colon) refl
     where
-      t : (taken : Option (List ℕ)) × Takes text tokens 0 colon taken
+      t : (taken : Option (List ℕ)) × IsComponentBetween text tokens 0 colon taken
       t = takes_some Protocol 0 0 (colon, ends)
 
       next : colon + 1 < length tokens
@@ -345,7 +346,7 @@ module _ (text : List ℕ) (tokens : List TokenView) (are_tokens : AreLenientTok
       by_slashes false other = by_special special refl other
 
 -- a protocol that is there has the answer
-answered : (text : List ℕ) (tokens : List TokenView) (until : ℕ) (special : Bool) (taken : Option (List ℕ)) → Takes text tokens 0 until taken → IsSomeAnd taken (λ protocol. special ≡ special)
+answered : (text : List ℕ) (tokens : List TokenView) (until : ℕ) (special : Bool) (taken : Option (List ℕ)) → IsComponentBetween text tokens 0 until taken → IsSomeAnd taken (λ protocol. special ≡ special)
 answered text tokens until special None h = absurd h
 answered text tokens until special (Some protocol) h = refl
 

@@ -7,8 +7,9 @@ use Rattle.std.proofs.lemmas.Slice.Eq.{bytes_eq-Decides}
 use Rattle.std.specs.List.{fold}
 use Rattle.std.specs.Prelude.{codes, IsSomeAnd, IsTrue, is_some, option_map, slice_get, slice_range}
 use Rattle.std.specs.Str.{bytes_eq}
-use Rattle.urlpattern_init.specs.Split.{EndsAt, IsSplit, LacksProtocol, at, depth_before, depth_after, ends_at, is_at_sign, is_balanced, is_character, is_colon_sign, is_end, is_ending, is_hash_sign, is_open, is_search_sign, is_seen, is_sign, is_slash_sign, may_end}
-use Rattle.urlpattern_init.specs.Splitting.{IsClosed, may_follow_port}
+use Rattle.urlpattern_init.specs.Split.{EndsAt, IsSplit, LacksProtocol, passes_at, depth_before, depth_after, ends_at, is_at_sign, is_balanced, is_character, is_colon_sign, is_end, is_ending, is_hash_sign, is_open, is_search_sign, is_seen, is_sign, is_slash_sign, may_end}
+use Rattle.urlpattern_init.proofs.ClosedTokens.{IsClosed}
+use Rattle.urlpattern_init.specs.Splitting.{may_follow_port}
 use Rattle.urlpattern_init.specs.declared.constructor_parser.sections.Section.{Section}
 use Rattle.urlpattern_init.specs.declared.constructor_parser.sections.Section.TheVariants.{Authority, Password, Port, Protocol, Username}
 use Rattle.urlpattern_init.proofs.TokenPlaces.{at_view}
@@ -21,7 +22,7 @@ use Rattle.urlpattern_syntax.specs.Eight.{Values}
 -- ---- signs
 
 -- where a test passes there is a token
-pub found_at : (test : TokenView → Bool) (tokens : List TokenView) (i : ℕ) → IsTrue (at test tokens i) → (token : TokenView) × (slice_get tokens i ≡ Some token) × (test token ≡ true) × (i < length tokens)
+pub found_at : (test : TokenView → Bool) (tokens : List TokenView) (i : ℕ) → IsTrue (passes_at test tokens i) → (token : TokenView) × (slice_get tokens i ≡ Some token) × (test token ≡ true) × (i < length tokens)
 found_at test [] i h = absurd (false≢true h)
 found_at test (token ∷ tokens) zero h = (token, refl, h, omega arith)
 found_at test (token ∷ tokens) (suc i) h =
@@ -41,14 +42,14 @@ character_not_end End h = absurd (false≢true h)
 character_not_end kind h = refl
 
 -- a sign is not End
-pub sign_not_end : (mark : List ℕ) (tokens : List TokenView) (i : ℕ) → IsTrue (at (is_sign mark) tokens i) → ¬ IsTrue (ends_at tokens i)
+pub sign_not_end : (mark : List ℕ) (tokens : List TokenView) (i : ℕ) → IsTrue (passes_at (is_sign mark) tokens i) → ¬ IsTrue (ends_at tokens i)
 sign_not_end mark tokens i h end =
     let found = found_at (is_sign mark) tokens i h in
     let character : is_character found.0.kind ≡ true = (and_parts (is_character found.0.kind) (bytes_eq found.0.value mark) found.2).0 in
     both_ways _ (at_view (λ t. is_end t.kind) tokens i found.0 found.1 ∙ character_not_end found.0.kind character) end
 
 -- more tokens follow a sign
-pub sign_goes_on : (mark : List ℕ) (tokens : List TokenView) (i : ℕ) → IsClosed tokens → IsTrue (at (is_sign mark) tokens i) → i + 1 < length tokens
+pub sign_goes_on : (mark : List ℕ) (tokens : List TokenView) (i : ℕ) → IsClosed tokens → IsTrue (passes_at (is_sign mark) tokens i) → i + 1 < length tokens
 sign_goes_on mark tokens i closed h = closed.goes_on i (found_at (is_sign mark) tokens i h).3 (sign_not_end mark tokens i h)
 
 -- ---- depth
@@ -77,7 +78,7 @@ depth_joined tokens from depth between place le more =
     ∙ fold-append (λ (reached : ℕ) (t : TokenView). depth_after t.kind reached) depth (slice_range tokens from between) (slice_range tokens between place)
 
 -- after a sign the depth is that before it
-pub depth_after_sign : (mark : List ℕ) (tokens : List TokenView) (from depth place : ℕ) → from < place → IsTrue (at (is_sign mark) tokens from) → depth_before tokens from depth place ≡ depth_before tokens (from + 1) depth place
+pub depth_after_sign : (mark : List ℕ) (tokens : List TokenView) (from depth place : ℕ) → from < place → IsTrue (passes_at (is_sign mark) tokens from) → depth_before tokens from depth place ≡ depth_before tokens (from + 1) depth place
 depth_after_sign mark tokens from depth place less h =
     let found = found_at (is_sign mark) tokens from h in
     let character : is_character found.0.kind ≡ true = (and_parts (is_character found.0.kind) (bytes_eq found.0.value mark) found.2).0 in
@@ -92,7 +93,7 @@ depth_after_sign mark tokens from depth place less h =
 -- where one is seen whose depth is the same, the other is
 pub seen_same : (tokens : List TokenView) (from depth other_from other_depth place : ℕ) → depth_before tokens from depth place ≡ depth_before tokens other_from other_depth place → is_seen tokens from depth place ≡ is_seen tokens other_from other_depth place
 seen_same tokens from depth other_from other_depth place e =
-    ap (λ d. ends_at tokens place || (not (at (λ t. is_open t.kind) tokens place) && d == 0)) e
+    ap (λ d. ends_at tokens place || (not (passes_at (λ t. is_open t.kind) tokens place) && d == 0)) e
 
 -- ---- where a section ends
 
@@ -107,9 +108,9 @@ may_end_parts section tokens from depth place may = and_parts (is_seen tokens fr
 -- a token other than End is seen at depth zero
 pub seen_depth : (tokens : List TokenView) (from depth place : ℕ) → IsTrue (is_seen tokens from depth place) → ¬ IsTrue (ends_at tokens place) → depth_before tokens from depth place ≡ 0
 seen_depth tokens from depth place seen goes =
-    elim (or_cases (ends_at tokens place) (not (at (λ t. is_open t.kind) tokens place) && depth_before tokens from depth place == 0) seen) [
+    elim (or_cases (ends_at tokens place) (not (passes_at (λ t. is_open t.kind) tokens place) && depth_before tokens from depth place == 0) seen) [
       | inl end ↦ absurd (goes end)
-      | inr level ↦ eqb-true (depth_before tokens from depth place) 0 (and_parts (not (at (λ t. is_open t.kind) tokens place)) (depth_before tokens from depth place == 0) level).1
+      | inr level ↦ eqb-true (depth_before tokens from depth place) 0 (and_parts (not (passes_at (λ t. is_open t.kind) tokens place)) (depth_before tokens from depth place == 0) level).1
     ]
 
 -- a section that does not end at End ends at depth zero
@@ -137,7 +138,7 @@ slash_seen_before section tokens from depth end other closed ends le seen slash 
     ]
 
 -- a slash that is seen after a sign is seen from the sign
-pub slash_seen_from_sign : (mark : List ℕ) (tokens : List TokenView) (sign other : ℕ) → IsTrue (at (is_sign mark) tokens sign) → sign < other → IsTrue (is_seen tokens (sign + 1) 0 other) → IsTrue (is_seen tokens sign 0 other)
+pub slash_seen_from_sign : (mark : List ℕ) (tokens : List TokenView) (sign other : ℕ) → IsTrue (passes_at (is_sign mark) tokens sign) → sign < other → IsTrue (is_seen tokens (sign + 1) 0 other) → IsTrue (is_seen tokens sign 0 other)
 slash_seen_from_sign mark tokens sign other is_a_sign less seen =
     seen_same tokens sign 0 (sign + 1) 0 other (depth_after_sign mark tokens sign 0 other less is_a_sign) ∙ seen
 
@@ -177,7 +178,7 @@ ends_by section tokens from depth place other ends after may =
     elim (cases_lt other place) [ inl before ↦ absurd (ends.least other after before may) | inr le ↦ le ]
 
 -- a sign with which a section ends is seen
-pub sign_is_seen : (mark : List ℕ) (section : Section) (tokens : List TokenView) (from depth end : ℕ) → EndsAt section tokens from depth end → IsTrue (at (is_sign mark) tokens end) → IsTrue (is_seen tokens from depth end)
+pub sign_is_seen : (mark : List ℕ) (section : Section) (tokens : List TokenView) (from depth end : ℕ) → EndsAt section tokens from depth end → IsTrue (passes_at (is_sign mark) tokens end) → IsTrue (is_seen tokens from depth end)
 sign_is_seen mark section tokens from depth end ends sign =
     elim (stops_cases section tokens from depth end ends) [
       | inl may ↦ (may_end_parts section tokens from depth end may).0
@@ -295,7 +296,7 @@ pub colon_found : (tokens : List TokenView) (first depth second : ℕ) → IsClo
     → depth ≡ depth_before tokens 0 0 first → EndsAt Protocol tokens 0 depth second → (second ≡ first) × EndsAt Protocol tokens 0 0 second
 colon_found tokens first depth second closed ends colon reached again =
     let level = depth_at_end Protocol tokens 0 0 first ends (sign_not_end (codes ":") tokens first colon) in
-    let from_start : EndsAt Protocol tokens 0 0 second = rw (reached, level) at again in
+    let from_start : EndsAt Protocol tokens 0 0 second = rw (reached, level) passes_at again in
     (colon_again tokens first second closed ends colon from_start, from_start)
 
 -- ---- the whole string

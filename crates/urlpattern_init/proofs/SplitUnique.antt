@@ -6,15 +6,15 @@ use Rattle.std.proofs.lemmas.Slice.Eq.{bytes_eq-Decides}
 use Rattle.std.specs.Prelude.{codes, IsSomeAnd, IsTrue, slice_get}
 use Rattle.std.specs.Str.{bytes_eq}
 use Rattle.urlpattern_init.specs.ConstructorString.{SplitsAs, SplitsInto}
-use Rattle.urlpattern_init.specs.Split.{AuthorityFrom, EndsAt, HasProtocol, HashAt, HashFrom, HostnameFrom, IsAbsoluteSplit, IsRelativeSplit, IsSplit, IsTextBetween, PathnameAt, PathnameFrom, PortAt, SearchAt, SearchFrom, Takes, UserinfoFrom}
-use Rattle.urlpattern_init.specs.Split.{at, ends_at, has_slashes, is_at_sign, is_character, is_colon_sign, is_end, is_hash_sign, is_search_sign, is_sign, is_slash_sign, follows_modified, depth_before}
-use Rattle.urlpattern_init.specs.Splitting.{IsClosed}
+use Rattle.urlpattern_init.specs.Split.{AuthorityFrom, EndsAt, HasProtocol, HashAt, HashFrom, HostnameFrom, IsAbsoluteSplit, IsRelativeSplit, IsSplit, IsTextBetween, PathnameAt, PathnameFrom, PortAt, SearchAt, SearchFrom, IsComponentBetween, UserinfoFrom}
+use Rattle.urlpattern_init.specs.Split.{passes_at, ends_at, has_slashes, is_at_sign, is_character, is_colon_sign, is_end, is_hash_sign, is_search_sign, is_sign, is_slash_sign, follows_modified, depth_before}
+use Rattle.urlpattern_init.proofs.ClosedTokens.{IsClosed}
 use Rattle.urlpattern_init.specs.declared.constructor_parser.sections.Section.{Section}
 use Rattle.urlpattern_init.specs.declared.constructor_parser.sections.Section.TheVariants.{Authority, Hostname, Pathname, Port, Protocol, Search, Username}
 use Rattle.urlpattern_init.proofs.SplitLemmas.{found_at, sign_not_end, stops_cases}
 use Rattle.urlpattern_init.proofs.TextBetween.{IsLenient, are_closed, lenient_not_end}
 use Rattle.urlpattern_init.proofs.TokenPlaces.{at_view}
-use Rattle.urlpattern_laws.proofs.TokensUnique.{lenient_tokens_one}
+use Rattle.urlpattern_meaning.proofs.TokensUnique.{lenient_tokens_one}
 use Rattle.urlpattern_syntax.proofs.TextLemmas.{byte_len-append, byte_len-nil, length-le-byte_len}
 use Rattle.urlpattern_syntax.specs.Text.{byte_len}
 use Rattle.urlpattern_syntax.specs.Tokens.{AreLenientTokens, IsCut, TokenView, end_of}
@@ -55,7 +55,7 @@ between_one text tokens from until between other h g =
     let same = front_one h.front g.front between other all m in
     append_cancel_left g.front between other (ap (λ x. x ++ between) (sym same) ∙ all)
 
-takes_one : (text : List ℕ) (tokens : List TokenView) (from until : ℕ) (taken other : Option (List ℕ)) → Takes text tokens from until taken → Takes text tokens from until other → taken ≡ other
+takes_one : (text : List ℕ) (tokens : List TokenView) (from until : ℕ) (taken other : Option (List ℕ)) → IsComponentBetween text tokens from until taken → IsComponentBetween text tokens from until other → taken ≡ other
 takes_one text tokens from until None other h g = absurd h
 takes_one text tokens from until (Some one) None h g = absurd g
 takes_one text tokens from until (Some one) (Some other) h g = ap Some (between_one text tokens from until one other h g)
@@ -63,7 +63,7 @@ takes_one text tokens from until (Some one) (Some other) h g = ap Some (between_
 -- ---- signs
 
 has_value : (mark : List ℕ) → List TokenView → ℕ → Bool
-has_value mark tokens place = at (λ token. bytes_eq token.value mark) tokens place
+has_value mark tokens place = passes_at (λ token. bytes_eq token.value mark) tokens place
 
 values_one : (one two : List ℕ) (tokens : List TokenView) (place : ℕ) → IsTrue (has_value one tokens place) → IsTrue (has_value two tokens place) → one ≡ two
 unfolding has_value
@@ -72,7 +72,7 @@ values_one one two tokens place h g =
     let e = at_view (λ token. bytes_eq token.value two) tokens place found.0 found.1 in
     sym ((bytes_eq-Decides found.0.value one).0 found.2) ∙ (bytes_eq-Decides found.0.value two).0 (sym e ∙ g)
 
-sign_value : (mark : List ℕ) (tokens : List TokenView) (place : ℕ) → IsTrue (at (is_sign mark) tokens place) → IsTrue (has_value mark tokens place)
+sign_value : (mark : List ℕ) (tokens : List TokenView) (place : ℕ) → IsTrue (passes_at (is_sign mark) tokens place) → IsTrue (has_value mark tokens place)
 unfolding has_value
 sign_value mark tokens place h =
     let found = found_at (is_sign mark) tokens place h in
@@ -82,9 +82,9 @@ sign_value mark tokens place h =
 search_value : (tokens : List TokenView) (place : ℕ) → IsTrue (is_search_sign tokens place) → IsTrue (has_value (codes "?") tokens place)
 unfolding has_value
 search_value tokens place h =
-    elim (or_cases (at (is_sign (codes "?")) tokens place) (at (λ token. bytes_eq token.value (codes "?")) tokens place && not (follows_modified tokens place)) h) [
+    elim (or_cases (passes_at (is_sign (codes "?")) tokens place) (passes_at (λ token. bytes_eq token.value (codes "?")) tokens place && not (follows_modified tokens place)) h) [
       | inl sign ↦ sign_value (codes "?") tokens place sign
-      | inr value ↦ (and_parts (at (λ token. bytes_eq token.value (codes "?")) tokens place) (not (follows_modified tokens place)) value).0
+      | inr value ↦ (and_parts (passes_at (λ token. bytes_eq token.value (codes "?")) tokens place) (not (follows_modified tokens place)) value).0
     ]
 
 -- values that differ are not at one place
@@ -166,7 +166,7 @@ module _ (text : List ℕ) (tokens : List TokenView) (are_tokens : AreLenientTok
   module _ (c d : Values) where
     hash_from_one : (from : ℕ) → HashFrom text tokens from c → HashFrom text tokens from d → c.hash ≡ d.hash
     hash_from_one from h g =
-        takes_one text tokens from g.0 c.hash d.hash (subst (λ until. Takes text tokens from until c.hash) (end_one h.0 g.0 h.1 g.1) h.2) g.2
+        takes_one text tokens from g.0 c.hash d.hash (subst (λ until. IsComponentBetween text tokens from until c.hash) (end_one h.0 g.0 h.1 g.1) h.2) g.2
 
     hash_at_one : (place : ℕ) → HashAt text tokens place c → HashAt text tokens place d → c.hash ≡ d.hash
     hash_at_one place (inl h) (inl g) = hash_from_one (place + 1) h.1 g.1
@@ -177,7 +177,7 @@ module _ (text : List ℕ) (tokens : List TokenView) (are_tokens : AreLenientTok
     search_from_one : (from depth : ℕ) → SearchFrom text tokens from depth c → SearchFrom text tokens from depth d → SameSearch c d
     search_from_one from depth h g =
         let e = ends_one Search from depth h.0 g.0 h.1 g.1 in (
-          takes_one text tokens from g.0 c.search d.search (subst (λ until. Takes text tokens from until c.search) e h.2) g.2,
+          takes_one text tokens from g.0 c.search d.search (subst (λ until. IsComponentBetween text tokens from until c.search) e h.2) g.2,
           hash_at_one g.0 (subst (λ until. HashAt text tokens until c) e h.3) g.3,
         )
 
@@ -195,7 +195,7 @@ module _ (text : List ℕ) (tokens : List TokenView) (are_tokens : AreLenientTok
     pathname_from_one : (from depth : ℕ) → PathnameFrom text tokens from depth c → PathnameFrom text tokens from depth d → SamePathname c d
     pathname_from_one from depth h g =
         let e = ends_one Pathname from depth h.0 g.0 h.1 g.1 in (
-          takes_one text tokens from g.0 c.pathname d.pathname (subst (λ until. Takes text tokens from until c.pathname) e h.2) g.2,
+          takes_one text tokens from g.0 c.pathname d.pathname (subst (λ until. IsComponentBetween text tokens from until c.pathname) e h.2) g.2,
           search_at_one g.0 (subst (λ until. SearchAt text tokens until c) e h.3) g.3,
         )
 
@@ -225,7 +225,7 @@ module _ (text : List ℕ) (tokens : List TokenView) (are_tokens : AreLenientTok
     port_at_one : (special : Bool) (place : ℕ) → PortAt text tokens special place c → PortAt text tokens special place d → SamePort c d
     port_at_one special place (inl h) (inl g) =
         let e = ends_one Port (place + 1) 0 h.1.0 g.1.0 h.1.1 g.1.1 in (
-          takes_one text tokens (place + 1) g.1.0 c.port d.port (subst (λ until. Takes text tokens (place + 1) until c.port) e h.1.2) g.1.2,
+          takes_one text tokens (place + 1) g.1.0 c.port d.port (subst (λ until. IsComponentBetween text tokens (place + 1) until c.port) e h.1.2) g.1.2,
           pathname_at_one special g.1.0 (subst (λ until. PathnameAt text tokens special until c) e h.1.3) g.1.3,
         )
     port_at_one special place (inl h) (inr g) = absurd (g.0 h.0)
@@ -235,25 +235,25 @@ module _ (text : List ℕ) (tokens : List TokenView) (are_tokens : AreLenientTok
     hostname_from_one : (special : Bool) (from depth : ℕ) → HostnameFrom text tokens special from depth c → HostnameFrom text tokens special from depth d → SameHostname c d
     hostname_from_one special from depth h g =
         let e = ends_one Hostname from depth h.0 g.0 h.1 g.1 in (
-          takes_one text tokens from g.0 c.hostname d.hostname (subst (λ until. Takes text tokens from until c.hostname) e h.2) g.2,
+          takes_one text tokens from g.0 c.hostname d.hostname (subst (λ until. IsComponentBetween text tokens from until c.hostname) e h.2) g.2,
           port_at_one special g.0 (subst (λ until. PortAt text tokens special until c) e h.3) g.3,
         )
 
     userinfo_from_one : (from until : ℕ) → UserinfoFrom text tokens from until c → UserinfoFrom text tokens from until d → SameUserinfo c d
     userinfo_from_one from until h g = (
-      takes_one text tokens from g.0 c.username d.username (subst (λ place. Takes text tokens from place c.username) e h.2) g.2,
+      takes_one text tokens from g.0 c.username d.username (subst (λ place. IsComponentBetween text tokens from place c.username) e h.2) g.2,
       password_one h.3 g.3,
     )
       where
         e : h.0 ≡ g.0
         e = ends_one Username from 0 h.0 g.0 h.1 g.1
 
-        password_one : ((h.0 ≡ until) × (c.password ≡ None)) ⊎ ((h.0 < until) × Takes text tokens (h.0 + 1) until c.password) → ((g.0 ≡ until) × (d.password ≡ None)) ⊎ ((g.0 < until) × Takes text tokens (g.0 + 1) until d.password) → c.password ≡ d.password
+        password_one : ((h.0 ≡ until) × (c.password ≡ None)) ⊎ ((h.0 < until) × IsComponentBetween text tokens (h.0 + 1) until c.password) → ((g.0 ≡ until) × (d.password ≡ None)) ⊎ ((g.0 < until) × IsComponentBetween text tokens (g.0 + 1) until d.password) → c.password ≡ d.password
         password_one (inl a) (inl b) = a.1 ∙ sym b.1
         password_one (inl a) (inr b) = absurd (omega (arith, a.0, b.0, e))
         password_one (inr a) (inl b) = absurd (omega (arith, a.0, b.0, e))
         password_one (inr a) (inr b) =
-            takes_one text tokens (g.0 + 1) until c.password d.password (subst (λ place. Takes text tokens (place + 1) until c.password) e a.1) b.1
+            takes_one text tokens (g.0 + 1) until c.password d.password (subst (λ place. IsComponentBetween text tokens (place + 1) until c.password) e a.1) b.1
 
     -- the two forms of an authority, by where it ends
     abbrev AuthorityAt : Values → (special : Bool) → (from until : ℕ) → Type 0
@@ -333,7 +333,7 @@ module _ (text : List ℕ) (tokens : List TokenView) (are_tokens : AreLenientTok
     protocol_one : (special other : Bool) (colon place : ℕ) → IsAbsoluteSplit text tokens special colon c → IsAbsoluteSplit text tokens other place d → c.protocol ≡ d.protocol
     protocol_one special other colon place h g =
         takes_one text tokens 0 place c.protocol d.protocol
-        (subst (λ until. Takes text tokens 0 until c.protocol) (ends_one Protocol 0 0 colon place h.protocol_ends g.protocol_ends) h.protocol) g.protocol
+        (subst (λ until. IsComponentBetween text tokens 0 until c.protocol) (ends_one Protocol 0 0 colon place h.protocol_ends g.protocol_ends) h.protocol) g.protocol
 
     absolute_one : (special : Bool) (colon place : ℕ) → IsAbsoluteSplit text tokens special colon c → IsAbsoluteSplit text tokens special place d → c ≡ d
     absolute_one special colon place h g =
@@ -353,7 +353,7 @@ module _ (IsSpecial : List ℕ → Bool → Type 0) (text : List ℕ) where
   abbrev HasTwoAnswers : Type 0
   HasTwoAnswers = HasProtocol text (λ protocol. IsSpecial protocol true × IsSpecial protocol false)
 
-  two_answers : (tokens : List TokenView) (colon : ℕ) (found other : Option (List ℕ)) → AreLenientTokens text tokens → EndsAt Protocol tokens 0 0 colon → IsTrue (is_colon_sign tokens colon) → Takes text tokens 0 colon found → found ≡ other → IsSomeAnd found (λ protocol. IsSpecial protocol true) → IsSomeAnd other (λ protocol. IsSpecial protocol false) → HasTwoAnswers
+  two_answers : (tokens : List TokenView) (colon : ℕ) (found other : Option (List ℕ)) → AreLenientTokens text tokens → EndsAt Protocol tokens 0 0 colon → IsTrue (is_colon_sign tokens colon) → IsComponentBetween text tokens 0 colon found → found ≡ other → IsSomeAnd found (λ protocol. IsSpecial protocol true) → IsSomeAnd other (λ protocol. IsSpecial protocol false) → HasTwoAnswers
   two_answers tokens colon None other t ends sign takes e h g = absurd h
   two_answers tokens colon (Some protocol) other t ends sign takes e h g =
       (tokens, colon, protocol, t, ends, sign, takes, (h, subst (λ o. IsSomeAnd o (λ p. IsSpecial p false)) (sym e) g))

@@ -8,7 +8,8 @@ use Rattle.std.specs.Prelude.{encode_utf8_all, IsTrue, IsSomeAnd, slice_get, sli
 use Rattle.std.specs.Str.{chars, IsCharBoundary, IsUtf8}
 use lib.Utf8.{scalars}
 use Rattle.urlpattern_init.specs.Split.{IsTextBetween, ends_at, is_end}
-use Rattle.urlpattern_init.specs.Splitting.{IsClosed, IsSource, text_of_source, tokens_of}
+use Rattle.urlpattern_init.proofs.ClosedTokens.{IsClosed}
+use Rattle.urlpattern_init.specs.Splitting.{IsSource, text_of_source, tokens_of}
 use Rattle.urlpattern_init.specs.declared.constructor_parser.tokens.Source.{Source}
 use Rattle.urlpattern_init.proofs.TokenPlaces.{no_token, view_read}
 use Rattle.urlpattern_syntax.specs.Text.{byte_len, BeginsAt}

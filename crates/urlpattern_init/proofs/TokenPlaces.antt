@@ -1,4 +1,4 @@
--- Lemmas on the token at a place: what a read of the code's tokens says of it.
+-- Lemmas on the token at a position: what a read of the code's tokens says of it.
 use Rattle.std.proofs.Common.{◌≡◌, ℕ, zero, suc, ◌-◌, ◌<◌, Bool, true, false, not, ◌&&◌, ◌||◌, Some, None, List, [], ◌∷◌, length, get_or, Bor, refl, sym, ap, ◌∙◌, arith, rules}
 use Rattle.std.proofs.lemmas.Option.{slice_get-get_or, slice_get-map, slice_get_past, slice_get_read}
 use Rattle.std.proofs.lemmas.Slice.Eq.{bytes_eq-Decides}
@@ -7,7 +7,7 @@ use Rattle.std.specs.Option.{option_map}
 use Rattle.std.specs.Prelude.{slice_get}
 use Rattle.std.specs.Slice.{IsItemAt}
 use Rattle.std.specs.Str.{IsAscii, IsUtf8, bytes_eq, chars}
-use Rattle.urlpattern_init.specs.Split.{at, follows_modified, is_character, is_search_sign, takes_modifier}
+use Rattle.urlpattern_init.specs.Split.{passes_at, follows_modified, is_character, is_search_sign, takes_modifier}
 use Rattle.urlpattern_syntax.specs.Parsing.{views}
 use Rattle.urlpattern_syntax.specs.Tokens.{TokenView, token_view}
 use Rattle.urlpattern_syntax.specs.declared.tokenizer.Token.{Token}
@@ -29,14 +29,14 @@ view_read tokens i other within = slice_get-map token_view tokens i ∙ ap (opti
 abbrev pub no_token : Token
 no_token = record { kind = Open; index = 0; value = record { ref_ptr = (0, 0); now = [] } }
 
-pub at_view : (test : TokenView → Bool) (tokens : List TokenView) (i : ℕ) (token : TokenView) → slice_get tokens i ≡ Some token → at test tokens i ≡ test token
+pub at_view : (test : TokenView → Bool) (tokens : List TokenView) (i : ℕ) (token : TokenView) → slice_get tokens i ≡ Some token → passes_at test tokens i ≡ test token
 at_view test tokens i token is = rw is refl
 
 -- what `get` finds
-pub at_found : (test : TokenView → Bool) (tokens : List Token) (i : ℕ) (found : Bor Token) → IsItemAt tokens i (Some found) → at test (views tokens) i ≡ test (token_view found.now)
+pub at_found : (test : TokenView → Bool) (tokens : List Token) (i : ℕ) (found : Bor Token) → IsItemAt tokens i (Some found) → passes_at test (views tokens) i ≡ test (token_view found.now)
 at_found test tokens i found h = at_view test (views tokens) i (token_view found.now) (view_at tokens i found.now h.3.0 h.1)
 
-pub at_past : (test : TokenView → Bool) (tokens : List Token) (i : ℕ) → IsItemAt tokens i None → at test (views tokens) i ≡ false
+pub at_past : (test : TokenView → Bool) (tokens : List Token) (i : ℕ) → IsItemAt tokens i None → passes_at test (views tokens) i ≡ false
 at_past test tokens i h =
     let none : slice_get (views tokens) i ≡ None = slice_get-map token_view tokens i ∙ ap (option_map token_view) (slice_get_past tokens i h.3) in
     rw none refl
@@ -70,8 +70,8 @@ search_sign_of tokens i token is = rw is (factored (is_character token.kind) (by
     factored false false c = refl
 
 -- the token before a place that is not the first
-pub follows_modified_before : (tokens : List TokenView) (i : ℕ) → ¬ (i ≡ 0) → follows_modified tokens i ≡ at (λ token. takes_modifier token.kind) tokens (i - 1)
+pub follows_modified_before : (tokens : List TokenView) (i : ℕ) → ¬ (i ≡ 0) → follows_modified tokens i ≡ passes_at (λ token. takes_modifier token.kind) tokens (i - 1)
 follows_modified_before tokens zero h = absurd (h refl)
 follows_modified_before tokens (suc before) h =
     let one_less : before ≡ suc before - 1 = omega arith in
-    ap (at (λ token. takes_modifier token.kind) tokens) one_less
+    ap (passes_at (λ token. takes_modifier token.kind) tokens) one_less

@@ -4,7 +4,7 @@ use Rattle.std.proofs.lemmas.Bool.{both_ways}
 use Rattle.std.specs.Prelude.{IsTrue}
 use Rattle.urlpattern_init.specs.Split.{EndsAt, is_at_sign, is_colon_sign}
 use Rattle.urlpattern_init.specs.Splitting.{IsSource, tokens_of}
-use Rattle.urlpattern_init.specs.declared.constructor_parser.sections.Place.{Place}
+use Rattle.urlpattern_init.specs.declared.constructor_parser.sections.Position.{Position}
 use Rattle.urlpattern_init.specs.declared.constructor_parser.sections.Section.TheVariants.{Authority, Password, Username}
 use Rattle.urlpattern_init.specs.declared.constructor_parser.tokens.Source.{Source}
 use Rattle.urlpattern_init.proofs.SplitLemmas.{password_ends, sign_goes_on, username_alone}
@@ -23,7 +23,7 @@ pub record EndsBefore (source : Source) (from until colon place : ℕ) : Type 0 
   pub same : place ≡ until
   pub goes : until + 1 < length source.tokens.now
 
-module _ (source : Source) (from : Place) (until : ℕ) (is_source : IsSource source) (authority : EndsAt Authority (tokens_of source) from.index 0 until) (sign : IsTrue (is_at_sign (tokens_of source) until)) (level : from.depth ≡ 0) where
+module _ (source : Source) (from : Position) (until : ℕ) (is_source : IsSource source) (authority : EndsAt Authority (tokens_of source) from.index 0 until) (sign : IsTrue (is_at_sign (tokens_of source) until)) (level : from.depth ≡ 0) where
   more_follow : until + 1 < length source.tokens.now
   more_follow =
       let more = sign_goes_on (codes "@") (tokens_of source) until (source_closed source is_source) sign in
@@ -40,7 +40,7 @@ module _ (source : Source) (from : Place) (until : ℕ) (is_source : IsSource so
         goes = more_follow;
       }
 
-  pub ends_before : (colon place : ℕ) (after : Place) → EndsAt Username (tokens_of source) from.index from.depth colon → is_colon_sign (tokens_of source) colon ≡ true
+  pub ends_before : (colon place : ℕ) (after : Position) → EndsAt Username (tokens_of source) from.index from.depth colon → is_colon_sign (tokens_of source) colon ≡ true
       → after.index ≡ colon + 1 → after.depth ≡ 0 → EndsAt Password (tokens_of source) after.index after.depth place
       → EndsBefore source from.index until colon place
   ends_before colon place after ends is_colon index depth more =

@@ -1,4 +1,4 @@
--- Words of the private contracts of the processing of an init. No public contract cites them.
+-- The values that an init gives and those that it results in, one component at a time.
 use Rattle.std.specs.Prelude.{◌≡◌, ◌≢◌, ℕ, List, [], length, max, Option, Result, String, Ok, option_copied, option_map, unwrap_or, IfErr, IfOk}
 use Rattle.std.specs.Borrow.{Bor}
 use Rattle.std.specs.Option.{option_or}
@@ -61,8 +61,8 @@ IsTextAnswer processing protocol component text result =
     (bytes_asked processing.kind.now (max (optional_bytes protocol) (byte_len (given_in processing component text)))) result
 
 -- a pathname of the init is answered, about its own bytes alone
-abbrev pub IsPathnameAnswer : Processing → (protocol : Option (Bor (List ℕ))) → List ℕ → Result (String Global) Error → Type 0
-IsPathnameAnswer processing protocol text result =
+abbrev pub IsGivenPathnameAnswer : Processing → (protocol : Option (Bor (List ℕ))) → List ℕ → Result (String Global) Error → Type 0
+IsGivenPathnameAnswer processing protocol text result =
     IsAnswer (text_value_in processing (optional_text protocol) Pathname text)
     (bytes_asked processing.kind.now (byte_len (given_in processing Pathname text))) result
 

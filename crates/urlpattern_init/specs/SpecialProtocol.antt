@@ -8,9 +8,9 @@ use Rattle.urlpattern_canonical.specs.Canonical.{IsAnswer, canonical_protocol, s
 use Rattle.urlpattern_core.specs.Matchers.{matcher_view}
 use Rattle.urlpattern_core.specs.declared.matcher.Matcher.{Matcher}
 use Rattle.urlpattern_core.specs.declared.regexp.RegExp.{Ghosts as Engine}
-use Rattle.urlpattern_core.specs.Compiling.{IsEngineOf}
-use Rattle.urlpattern_laws.specs.Matching.{IsMadeOf, IsMatched, MatcherView}
-use Rattle.urlpattern_laws.specs.PartMeaning.{Captures}
+use Rattle.urlpattern_core.specs.Components.{IsEngineOf}
+use Rattle.urlpattern_meaning.specs.Matching.{IsMadeOf, IsMatched, MatcherView}
+use Rattle.urlpattern_meaning.specs.PartMeaning.{Captures}
 use Rattle.urlpattern_syntax.specs.declared.error.Error.{Error}
 use Rattle.urlpattern_syntax.specs.Errors.{ErrorView}
 use Rattle.urlpattern_syntax.specs.Options.{default_options}

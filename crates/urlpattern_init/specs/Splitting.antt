@@ -1,9 +1,9 @@
--- Words of the private contracts of the splitting of a constructor string. No public contract cites them.
+-- The splitting of a constructor string: its tokens, what may follow each component, and how many tokens are looked at.
 use Rattle.std.specs.Prelude.{◌≡◌, ℕ, ◌+◌, ◌-◌, ◌*◌, ◌<◌, ◌≤◌, ◌||◌, Bool, true, false, List, length, None, Option, Result, String, option_map, IfOk, IsTrue}
 use Rattle.std.specs.Str.{chars}
 use Rattle.std.specs.declared.alloc.Global.{Global}
 use Rattle.urlpattern_init.specs.Split.{ends_at, is_colon_sign, is_hash_sign, is_search_sign, is_seen, is_slash_sign}
-use Rattle.urlpattern_init.specs.declared.constructor_parser.sections.Place.{Place}
+use Rattle.urlpattern_init.specs.declared.constructor_parser.sections.Position.{Position}
 use Rattle.urlpattern_init.specs.declared.constructor_parser.sections.Section.{Section}
 use Rattle.urlpattern_init.specs.declared.constructor_parser.sections.Section.TheVariants.{Hostname}
 use Rattle.urlpattern_init.specs.declared.constructor_parser.tokens.Source.{Source}
@@ -23,8 +23,8 @@ abbrev pub tokens_of : Source → List TokenView
 tokens_of source = views source.tokens.now
 
 -- the components that were found
-abbrev pub components_of : Split → Values
-components_of split = each (λ name. name_view (at split.values name))
+abbrev pub split_values : Split → Values
+split_values split = each (λ name. name_view (at split.values name))
 
 -- a text of one's own with this view, or that memory ran out
 pub record IsOwned (component : Option (List ℕ)) (result : Result (Option (String Global)) Error) : Type 0 where
@@ -39,21 +39,21 @@ IsSource source = AreLenientTokens (text_of_source source) (tokens_of source)
 
 -- after a search: the sign of the hash, or End
 abbrev pub may_follow_search : List TokenView → ℕ → Bool
-may_follow_search tokens place = is_hash_sign tokens place || ends_at tokens place
+may_follow_search tokens position = is_hash_sign tokens position || ends_at tokens position
 
 -- after a pathname: the sign of the search or of the hash, or End
 abbrev pub may_follow_pathname : List TokenView → ℕ → Bool
-may_follow_pathname tokens place = is_search_sign tokens place || is_hash_sign tokens place || ends_at tokens place
+may_follow_pathname tokens position = is_search_sign tokens position || is_hash_sign tokens position || ends_at tokens position
 
 -- after a port: the slash of a pathname, or what may follow a pathname
 abbrev pub may_follow_port : List TokenView → ℕ → Bool
-may_follow_port tokens place =
-    is_slash_sign tokens place || is_search_sign tokens place || is_hash_sign tokens place || ends_at tokens place
+may_follow_port tokens position =
+    is_slash_sign tokens position || is_search_sign tokens position || is_hash_sign tokens position || ends_at tokens position
 
 -- after a hostname: the colon of a port, or what may follow a port
 abbrev pub may_follow_hostname : List TokenView → ℕ → Bool
-may_follow_hostname tokens place =
-    is_colon_sign tokens place || is_slash_sign tokens place || is_search_sign tokens place || is_hash_sign tokens place || ends_at tokens place
+may_follow_hostname tokens position =
+    is_colon_sign tokens position || is_slash_sign tokens position || is_search_sign tokens position || is_hash_sign tokens position || ends_at tokens position
 
 -- ---- turns
 
@@ -61,18 +61,18 @@ may_follow_hostname tokens place =
 abbrev pub HasTurns : Source → (index turns : ℕ) → Type 0
 HasTurns source index turns = turns + (length source.tokens.now - index) ≤ 2 * length source.tokens.now
 
--- Reading may go on at the place, and a look at each token from there on keeps within twice the number of tokens.
-pub record CanRead (source : Source) (place : Place) : Type 0 where
-  pub within : place.index < length source.tokens.now
-  pub shallow : place.depth ≤ length source.tokens.now
-  pub turns : HasTurns source place.index place.turns
+-- Reading may go on at the position, and a look at each token from there on keeps within twice the number of tokens.
+pub record CanRead (source : Source) (position : Position) : Type 0 where
+  pub within : position.index < length source.tokens.now
+  pub shallow : position.depth ≤ length source.tokens.now
+  pub turns : HasTurns source position.index position.turns
 
--- The same where the token at the place was looked at.
-pub record HasRead (source : Source) (place : Place) : Type 0 where
-  pub within : place.index < length source.tokens.now
-  pub turns : place.turns + (length source.tokens.now - place.index) ≤ 2 * length source.tokens.now + 1
+-- The same where the token at the position was looked at.
+pub record HasRead (source : Source) (position : Position) : Type 0 where
+  pub within : position.index < length source.tokens.now
+  pub turns : position.turns + (length source.tokens.now - position.index) ≤ 2 * length source.tokens.now + 1
 
--- a slash that is seen from the place on is looked at a second time
+-- a slash that is seen from the position on is looked at a second time
 abbrev pub HasTurnForSlash : Source → (index depth turns : ℕ) → Type 0
 HasTurnForSlash source index depth turns =
     (other : ℕ) → index ≤ other → IsTrue (is_seen (tokens_of source) index depth other) → IsTrue (is_slash_sign (tokens_of source) other)
@@ -82,11 +82,6 @@ HasTurnForSlash source index depth turns =
 abbrev pub is_hostname : Section → Bool
 is_hostname Hostname = true
 is_hostname section = false
-
--- End is the last token, and only the last.
-pub record IsClosed (tokens : List TokenView) : Type 0 where
-  pub last : (place : ℕ) → place < length tokens → IsTrue (ends_at tokens place) → place + 1 ≡ length tokens
-  pub goes_on : (place : ℕ) → place < length tokens → ¬ IsTrue (ends_at tokens place) → place + 1 < length tokens
 
 -- nothing stands before a pathname, a search or a hash
 abbrev pub NoAuthority : Values → Type 0

@@ -8,7 +8,7 @@ ghost use Rattle.urlpattern_init.specs.ConstructorString.{AreFewTurns, HasProtoc
 ghost use Rattle.urlpattern_init.specs.Inheritance.{values_view};
 ghost use Rattle.urlpattern_init.specs.SpecialProtocol.{IsSpecialTo, RefusesProtocol};
 ghost use Rattle.urlpattern_init.specs.Split.{HasProtocol, IsSplit};
-ghost use Rattle.urlpattern_init.specs.Splitting.{IsSource, components_of, text_of_source, tokens_of};
+ghost use Rattle.urlpattern_init.specs.Splitting.{IsSource, split_values, text_of_source, tokens_of};
 ghost use Rattle.urlpattern_syntax.specs.Errors.{MemoryOr};
 
 mod components;
@@ -18,7 +18,7 @@ mod tokens;
 
 use crate::init::UrlPatternInit;
 use components::Split;
-use sections::{Place, Section};
+use sections::{Position, Section};
 pub use special_protocol::accepts_special_scheme;
 use special_protocol::is_special_protocol;
 use std::alloc::Global;
@@ -80,11 +80,11 @@ impl<'t, 'a> Source<'t, 'a> {
     /// The error is that of the protocol's pattern, or that memory ran out.
     fn split<R: RegExp>(&self, alloc: Global) -> Result<Split<'a>, Error>
         requires { IsSource self.now }
-        ensures split { IfOk result (λ split. IsSplit (IsSpecialTo R.RegExp) (text_of_source self.now) (tokens_of self.now) (components_of split)) }
+        ensures split { IfOk result (λ split. IsSplit (IsSpecialTo R.RegExp) (text_of_source self.now) (tokens_of self.now) (split_values split)) }
         ensures turns { IfOk result (λ split. split.turns ≤ 2 * length self.now.tokens.now) }
         ensures refused { IfErr result (MemoryOr (λ error. HasProtocol (text_of_source self.now) (λ protocol. RefusesProtocol protocol error))) }
     {
-        let start = Place {
+        let start = Position {
             index: 0,
             depth: 0,
             turns: 0,
@@ -93,7 +93,7 @@ impl<'t, 'a> Source<'t, 'a> {
         if !self.is_sign(end.index, b':') {
             return Ok(self.relative(end));
         }
-        let back = Place { index: 0, ..end };
+        let back = Position { index: 0, ..end };
         let colon = self.end_of(Section::Protocol, back);
         let protocol = self.text_between(0, colon.index);
         let special = is_special_protocol::<R>(alloc, protocol)?;

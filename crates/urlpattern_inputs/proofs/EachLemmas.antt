@@ -2,7 +2,7 @@
 use Rattle.std.proofs.Common.{◌≡◌, Option, None, Some, Result, Ok, Err, ap, refl, subst, sym}
 use Rattle.std.proofs.Math.Path.{fun_ext}
 use Rattle.std.specs.Result.{IsErrAnd}
-use Rattle.urlpattern_inputs.specs.Steps.{Fails, Gives}
+use Rattle.urlpattern_inputs.specs.ReadResults.{IsUnread, ReturnsRead}
 use Rattle.urlpattern_inputs.specs.Trees.{◌>>=◌, read_each}
 use Rattle.urlpattern_inputs.specs.declared.reading.Unread.{Unread}
 use Rattle.urlpattern_inputs.specs.declared.reading.Unread.TheVariants.{OutOfMemory, Shape}
@@ -41,12 +41,12 @@ read_each-none read name e = search (nothing_here, nothing) depth 20
 
 -- one component's value is not read, for this reason
 pub read_each-fails : {A : Type 0} (read : ComponentName → Option A) (reason : Unread) (name : ComponentName)
-    → Fails reason (read name) → Fails reason (read_each read)
+    → IsUnread reason (read name) → IsUnread reason (read_each read)
 read_each-fails read Shape name none = read_each-none read name none
 read_each-fails read OutOfMemory name fails = tt
 
 -- the reason is passed on
 pub passed_on : {A T : Type 0} (seen : T → A) (result : Result T Unread) (reason : Unread) (read : Option A)
-    → IsErrAnd result (λ passed. passed ≡ reason) → Fails reason read → Gives seen result read
+    → IsErrAnd result (λ passed. passed ≡ reason) → IsUnread reason read → ReturnsRead seen result read
 passed_on seen (Ok value) reason read same fails = absurd same
-passed_on seen (Err passed) reason read same fails = subst (λ (why : Unread). Fails why read) (sym same) fails
+passed_on seen (Err passed) reason read same fails = subst (λ (why : Unread). IsUnread why read) (sym same) fails

@@ -5,7 +5,7 @@ use Rattle.serde_json.specs.Data.{Data, null, boolean, number, string, array, ob
 use Rattle.serde_json.specs.Find.{as_object, as_str}
 use Rattle.urlpattern_inputs.specs.InputJson.{init_read, input_read}
 use Rattle.urlpattern_inputs.specs.InputValues.{InitView, of_init, of_text}
-use Rattle.urlpattern_inputs.specs.Steps.{Fails}
+use Rattle.urlpattern_inputs.specs.ReadResults.{IsUnread}
 use Rattle.urlpattern_inputs.specs.Trees.{optional_read, read_each}
 use Rattle.urlpattern_inputs.specs.declared.reading.Unread.{Unread}
 use Rattle.urlpattern_inputs.specs.declared.reading.Unread.TheVariants.{OutOfMemory, Shape}
@@ -52,7 +52,7 @@ init_from tree values of_object =
 
 -- a component's text is not read, for this reason
 pub init_fails : (tree : Data) (reason : Unread)
-    → Fails reason (read_each (λ name. optional_read as_str (name_text name) tree)) → Fails reason (init_read tree)
+    → IsUnread reason (read_each (λ name. optional_read as_str (name_text name) tree)) → IsUnread reason (init_read tree)
 unfolding init_read
 init_fails tree Shape none = rw none (nothing (as_object tree) (λ members. None) (λ members. refl))
 init_fails tree OutOfMemory fails = tt

@@ -12,8 +12,8 @@ use Rattle.urlpattern_syntax.specs.declared.eight.Eight.{Eight}
 -- ---- what is given
 
 -- what an init has for each component
-abbrev pub given_texts : UrlPatternInit → Eight (Option (String Global))
-given_texts given = record { protocol = given.protocol; username = given.username; password = given.password; hostname = given.hostname; port = given.port; pathname = given.pathname; search = given.search; hash = given.hash }
+abbrev pub plain_init_texts : UrlPatternInit → Eight (Option (String Global))
+plain_init_texts given = record { protocol = given.protocol; username = given.username; password = given.password; hostname = given.hostname; port = given.port; pathname = given.pathname; search = given.search; hash = given.hash }
 
 -- An init: the text of each component, where it is given, and the base URL.
 pub record InitView : Type 0 where
@@ -22,7 +22,7 @@ pub record InitView : Type 0 where
 
 abbrev pub init_view : UrlPatternInit → InitView
 init_view init = record {
-  texts = each (λ name. option_map string_bytes (at (given_texts init) name));
+  texts = each (λ name. option_map string_bytes (at (plain_init_texts init) name));
   base_url = option_map string_bytes init.base_url;
 }
 

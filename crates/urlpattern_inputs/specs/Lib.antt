@@ -1,4 +1,4 @@
 pub mod InputValues
 pub mod Trees
 pub mod InputJson
-pub mod Steps
+pub mod ReadResults

@@ -4,8 +4,8 @@ ghost use Rattle.std.specs.Prelude.{◌≡◌, IfOk, option_map, string_bytes};
 ghost use Rattle.serde_json.specs.Data.{object};
 ghost use Rattle.serde_json.specs.View.{members_view, view};
 ghost use Rattle.urlpattern_inputs.specs.InputJson.{init_read, init_tree};
-ghost use Rattle.urlpattern_inputs.specs.Steps.{Gives};
-ghost use Rattle.urlpattern_inputs.specs.InputValues.{given_texts, init_view};
+ghost use Rattle.urlpattern_inputs.specs.ReadResults.{ReturnsRead};
+ghost use Rattle.urlpattern_inputs.specs.InputValues.{plain_init_texts, init_view};
 ghost use Rattle.urlpattern_syntax.specs.Eight.{at};
 ghost use Rattle.urlpattern_syntax.specs.Errors.{OnlyOutOfMemory};
 
@@ -86,7 +86,7 @@ impl UrlPatternInit {
 
     #[tactic(auto, unfolding(crate::specs::InputJson::init_read))]
     pub(crate) fn read(alloc: Global, value: &Value) -> Result<Self, Unread>
-        ensures { Gives init_view result (init_read (view value.now)) }
+        ensures { ReturnsRead init_view result (init_read (view value.now)) }
     {
         if !value.is_object() {
             return Err(Unread::Shape);
@@ -98,7 +98,7 @@ impl UrlPatternInit {
 
     /// The init of these texts, with this base URL.
     pub fn from_eight(texts: Eight<Option<String>>, base_url: Option<String>) -> Self
-        ensures texts { given_texts result ≡ texts }
+        ensures texts { plain_init_texts result ≡ texts }
         ensures base_url { result.base_url ≡ base_url }
     {
         with_fields!(Self, texts, base_url)
@@ -106,14 +106,14 @@ impl UrlPatternInit {
 
     /// The text of each component, where it is given. The base URL is dropped.
     pub fn into_eight(self) -> Eight<Option<String>>
-        ensures { result ≡ given_texts self }
+        ensures { result ≡ plain_init_texts self }
     {
         with_fields!(Eight, self)
     }
 
     /// The text of a component, if it is given.
     pub fn get(&self, name: ComponentName) -> &Option<String>
-        ensures { result.now ≡ at (given_texts self.now) name }
+        ensures { result.now ≡ at (plain_init_texts self.now) name }
     {
         field_of!(self, name)
     }

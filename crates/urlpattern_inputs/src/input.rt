@@ -3,7 +3,7 @@
 ghost use Rattle.std.specs.Prelude.{◌≡◌, IfOk, option_map};
 ghost use Rattle.serde_json.specs.View.{view};
 ghost use Rattle.urlpattern_inputs.specs.InputJson.{input_read, input_tree};
-ghost use Rattle.urlpattern_inputs.specs.Steps.{Gives};
+ghost use Rattle.urlpattern_inputs.specs.ReadResults.{ReturnsRead};
 ghost use Rattle.urlpattern_inputs.specs.InputValues.{input_view};
 ghost use Rattle.urlpattern_syntax.specs.Errors.{OnlyOutOfMemory};
 
@@ -51,7 +51,7 @@ impl<'a> StringOrInit<'a> {
     }
 
     fn read(alloc: Global, value: &Value) -> Result<Self, Unread>
-        ensures { Gives input_view result (input_read (view value.now)) }
+        ensures { ReturnsRead input_view result (input_read (view value.now)) }
     {
         match value.as_str() {
             Some(text) => {

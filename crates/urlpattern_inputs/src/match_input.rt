@@ -2,7 +2,7 @@
 ghost use Rattle.std.specs.Prelude.{◌≡◌, IfOk, option_map, string_bytes};
 ghost use Rattle.serde_json.specs.View.{view};
 ghost use Rattle.urlpattern_inputs.specs.InputJson.{match_input_read, match_input_tree};
-ghost use Rattle.urlpattern_inputs.specs.Steps.{Gives};
+ghost use Rattle.urlpattern_inputs.specs.ReadResults.{ReturnsRead};
 ghost use Rattle.urlpattern_inputs.specs.InputValues.{empty_match_input, match_input_view, matched_texts};
 ghost use Rattle.urlpattern_syntax.specs.Eight.{at};
 ghost use Rattle.urlpattern_syntax.specs.Errors.{OnlyOutOfMemory};
@@ -76,7 +76,7 @@ impl MatchInput {
     }
 
     fn read(alloc: Global, value: &Value) -> Result<Self, Unread>
-        ensures { Gives match_input_view result (match_input_read (view value.now)) }
+        ensures { ReturnsRead match_input_view result (match_input_read (view value.now)) }
     {
         let texts = Eight::try_from_fn(|name| text_field(alloc, value, name.as_str()))?;
         Ok(Self::from_eight(texts))

@@ -3,7 +3,7 @@
 ghost use Rattle.std.specs.Prelude.{◌≡◌, option_map, string_bytes};
 ghost use Rattle.serde_json.specs.Find.{as_str, get};
 ghost use Rattle.serde_json.specs.View.{view};
-ghost use Rattle.urlpattern_inputs.specs.Steps.{Gives, read_or_none};
+ghost use Rattle.urlpattern_inputs.specs.ReadResults.{ReturnsRead, read_or_none};
 ghost use Rattle.urlpattern_inputs.specs.Trees.{flag_read, optional_read, text_read};
 ghost use Rattle.urlpattern_inputs.specs.declared.reading.Unread.TheVariants as unread;
 
@@ -49,7 +49,7 @@ pub fn read_or_none<T>(read: Result<T, Unread>) -> Result<Option<T>, Error>
 
 /// The member that has to be there.
 pub fn member<'v>(tree: &'v Value, name: &str) -> Result<&'v Value, Unread>
-    ensures { Gives (λ found. view found.now) result (get name.now (view tree.now)) }
+    ensures { ReturnsRead (λ found. view found.now) result (get name.now (view tree.now)) }
 {
     match tree.get(name) {
         Some(member) => Ok(member),
@@ -59,7 +59,7 @@ pub fn member<'v>(tree: &'v Value, name: &str) -> Result<&'v Value, Unread>
 
 /// The text of a member, lent.
 pub fn text_of<'v>(tree: &'v Value, name: &str) -> Result<&'v str, Unread>
-    ensures { Gives (λ text. text.now) result (text_read name.now (view tree.now)) }
+    ensures { ReturnsRead (λ text. text.now) result (text_read name.now (view tree.now)) }
 {
     match member(tree, name)?.as_str() {
         Some(text) => Ok(text),
@@ -69,7 +69,7 @@ pub fn text_of<'v>(tree: &'v Value, name: &str) -> Result<&'v str, Unread>
 
 /// The text of a member.
 pub fn text_field(alloc: Global, tree: &Value, name: &str) -> Result<String, Unread>
-    ensures { Gives string_bytes result (text_read name.now (view tree.now)) }
+    ensures { ReturnsRead string_bytes result (text_read name.now (view tree.now)) }
 {
     let text = text_of(tree, name)?;
     Ok(String::from_str(alloc, text)?)
@@ -81,7 +81,7 @@ pub fn optional_text_field(
     tree: &Value,
     name: &str,
 ) -> Result<Option<String>, Unread>
-    ensures { Gives (option_map string_bytes) result (optional_read as_str name.now (view tree.now)) }
+    ensures { ReturnsRead (option_map string_bytes) result (optional_read as_str name.now (view tree.now)) }
 {
     let Some(member) = tree.get(name) else {
         return Ok(None);
@@ -97,7 +97,7 @@ pub fn optional_text_field(
 
 /// The flag of a member.
 pub fn flag_field(tree: &Value, name: &str) -> Result<bool, Unread>
-    ensures { Gives (λ flag. flag) result (flag_read name.now (view tree.now)) }
+    ensures { ReturnsRead (λ flag. flag) result (flag_read name.now (view tree.now)) }
 {
     match member(tree, name)?.as_bool() {
         Some(flag) => Ok(flag),

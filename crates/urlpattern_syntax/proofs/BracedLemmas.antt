@@ -3,7 +3,7 @@ use Rattle.std.proofs.Common.{◌≡◌, ◌≢◌, List, ℕ, false, ◌∷◌,
 use Rattle.urlpattern_syntax.specs.declared.parser.PartModifier.{PartModifier}
 use Rattle.urlpattern_syntax.specs.declared.parser.pieces.Reader.{Reader}
 use Rattle.urlpattern_syntax.specs.declared.tokenizer.TokenType.TheVariants.{Close, Open}
-use Rattle.urlpattern_syntax.specs.Parsing.{BeginsWithClose, BeginsWithPiece, BeginsWithPlaceholder, BeginsWithTexts, EndsAt, Takes}
+use Rattle.urlpattern_syntax.specs.Parsing.{BeginsWithClose, BeginsWithPiece, BeginsWithPlaceholder, BeginsWithTexts, HasEndingAt, Takes}
 use Rattle.urlpattern_syntax.specs.Pieces.{BeginsWithKind, IsFilled, Placeholder, is_placeholder, is_text}
 use Rattle.urlpattern_syntax.specs.Pieces.{Ending as endings, Piece as pieces}
 use Rattle.urlpattern_syntax.specs.Tokens.{TokenView, token_view}
@@ -62,11 +62,11 @@ takes_text_group old mid new before modifier is_open front closes =
 -- texts after a brace that is not closed
 pub takes_open_texts : (old mid new : Reader) (before : List ℕ) → old.token.kind ≡ Open → is_placeholder mid.token.kind ≡ false → new.token.kind ≢ Close →
     Takes old mid (BeginsWithFront (token_view old.token) before) → Takes mid new (λ tokens rest. tokens ≡ rest) →
-    Takes old new (λ tokens rest. List ℕ → EndsAt tokens endings.LacksClose rest)
+    Takes old new (λ tokens rest. List ℕ → HasEndingAt tokens endings.LacksClose rest)
 takes_open_texts old mid new before is_open none other front lacks =
     takes_then old mid new (BeginsWithFront (token_view old.token) before) (λ tokens rest. tokens ≡ rest)
-    (λ tokens rest. List ℕ → EndsAt tokens endings.LacksClose rest) front lacks
-    (λ x y z gx gy gz p q point. subst (λ w. EndsAt w endings.LacksClose z) (sym p.1)
+    (λ tokens rest. List ℕ → HasEndingAt tokens endings.LacksClose rest) front lacks
+    (λ x y z gx gy gz p q point. subst (λ w. HasEndingAt w endings.LacksClose z) (sym p.1)
     (open_ending (token_view old.token) p.2.front p.0 z gz.more (token_view new.token) is_open (p.2.cut ∙ ap (λ w. p.2.front ++ w) q) gz.first (
       subst (λ w. ¬ BeginsWithKind is_text w) q p.2.all,
       inl (
@@ -90,11 +90,11 @@ takes_filled_group old mid new before placeholder after modifier is_open inner c
 -- a placeholder between texts after a brace that is not closed
 pub takes_open_filled : (old mid new : Reader) (before : List ℕ) (placeholder : Placeholder) (after : List ℕ) → old.token.kind ≡ Open → new.token.kind ≢ Close →
     Takes old mid (BeginsWithInner (token_view old.token) before placeholder after) → Takes mid new (λ tokens rest. tokens ≡ rest) →
-    Takes old new (λ tokens rest. List ℕ → EndsAt tokens endings.LacksClose rest)
+    Takes old new (λ tokens rest. List ℕ → HasEndingAt tokens endings.LacksClose rest)
 takes_open_filled old mid new before placeholder after is_open other inner lacks =
     takes_then old mid new (BeginsWithInner (token_view old.token) before placeholder after) (λ tokens rest. tokens ≡ rest)
-    (λ tokens rest. List ℕ → EndsAt tokens endings.LacksClose rest) inner lacks
-    (λ x y z gx gy gz p q point. subst (λ w. EndsAt w endings.LacksClose z) (sym p.first)
+    (λ tokens rest. List ℕ → HasEndingAt tokens endings.LacksClose rest) inner lacks
+    (λ x y z gx gy gz p q point. subst (λ w. HasEndingAt w endings.LacksClose z) (sym p.first)
     (open_ending (token_view old.token) p.inner p.behind z gz.more (token_view new.token) is_open (p.cut ∙ ap (λ w. p.inner ++ w) q) gz.first (
       subst (λ w. ¬ BeginsWithKind is_text w) q p.all,
       inr (before, after, placeholder, subst (IsFilled p.inner before placeholder after) q p.is_filled),

@@ -11,7 +11,7 @@ use Rattle.urlpattern_syntax.specs.declared.parser.pieces.Reader.{Reader}
 use Rattle.urlpattern_syntax.specs.declared.tokenizer.TokenType.{TokenType}
 use Rattle.urlpattern_syntax.specs.declared.tokenizer.TokenType.TheVariants.{Asterisk, Char, Close, End, EscapedChar, InvalidChar, Name, Open, OtherModifier, Regexp}
 use Rattle.urlpattern_syntax.specs.Cursors.{AreCharactersBefore, AreTokensAfter, IsPlace, IsTokenAfter, stands_for_itself, tokens_left}
-use Rattle.urlpattern_syntax.specs.Parsing.{BeginsWithRow, Gives, IsRow, Stands, Takes, reader_left, reader_text}
+use Rattle.urlpattern_syntax.specs.Parsing.{BeginsWithRow, HasTokensLeft, BeginsWithCharacters, Stands, Takes, reader_left, reader_text}
 use Rattle.urlpattern_syntax.specs.Pieces.{AreTexts, BeginsWithKind, is_text}
 use Rattle.urlpattern_syntax.specs.Text.{BeginsAt, BeginsWith, byte_len, is_among}
 use Rattle.urlpattern_syntax.specs.Tokens.{IsLexed, Spells, TokenView, is_ignored, marks, token_view}
@@ -186,14 +186,14 @@ module _ (old new : Reader) (middle : List ℕ) (more : List ℕ) (whole : new.c
   begins : BeginsWithTokens (reader_text old) (chars old.cursor.rest.now) more (chars middle)
   begins = character_tokens (reader_text old) (chars old.cursor.rest.now) more (chars middle) stands.place before
 
-  goes_on : (rest : List TokenView) → Gives new rest → (more ≡ []) ⊎ BeginsWithKind is_text rest
+  goes_on : (rest : List TokenView) → HasTokensLeft new rest → (more ≡ []) ⊎ BeginsWithKind is_text rest
   goes_on rest g = by_more before.more
     where
       by_more : (more ≡ []) ⊎ BeginsWith stands_for_itself (chars middle) → (more ≡ []) ⊎ BeginsWithKind is_text rest
       by_more (inl e) = inl e
       by_more (inr h) = inr (subst (BeginsWithKind is_text) (sym g.first) (text_after (reader_text old) (chars middle) (chars new.cursor.rest.now) (token_view new.token) after h))
 
-  pub takes_row : Takes old new (λ tokens rest. IsRow tokens (token_view old.token) more rest)
+  pub takes_row : Takes old new (λ tokens rest. BeginsWithCharacters tokens (token_view old.token) more rest)
   takes_row = record {
     whole = whole;
     stands = record {
@@ -222,15 +222,15 @@ module _ (old new : Reader) (middle : List ℕ) (more : List ℕ) (whole : new.c
   }
 
 -- no character is taken with the first
-pub row_alone : (old new : Reader) (more : List ℕ) → Takes old new (λ tokens rest. IsRow tokens (token_view old.token) more rest) → more ≡ [] → Takes old new (λ tokens rest. tokens ≡ token_view old.token ∷ rest)
+pub row_alone : (old new : Reader) (more : List ℕ) → Takes old new (λ tokens rest. BeginsWithCharacters tokens (token_view old.token) more rest) → more ≡ [] → Takes old new (λ tokens rest. tokens ≡ token_view old.token ∷ rest)
 row_alone old new more t e =
-    takes_weaker old new (λ tokens rest. IsRow tokens (token_view old.token) more rest) (λ tokens rest. tokens ≡ token_view old.token ∷ rest) t
+    takes_weaker old new (λ tokens rest. BeginsWithCharacters tokens (token_view old.token) more rest) (λ tokens rest. tokens ≡ token_view old.token ∷ rest) t
     (λ tokens rest g h r. r.cut ∙ ap (λ row. token_view old.token ∷ row ++ rest) (r.none e))
 
 -- some are
-pub row_texts : (old new : Reader) (first more : List ℕ) → Takes old new (λ tokens rest. IsRow tokens (token_view old.token) more rest) → ¬ (more ≡ []) → first ≡ (token_view old.token).value → IsTrue (is_text old.token.kind) → Takes old new (λ tokens rest. BeginsWithRow tokens (first ++ more) rest)
+pub row_texts : (old new : Reader) (first more : List ℕ) → Takes old new (λ tokens rest. BeginsWithCharacters tokens (token_view old.token) more rest) → ¬ (more ≡ []) → first ≡ (token_view old.token).value → IsTrue (is_text old.token.kind) → Takes old new (λ tokens rest. BeginsWithRow tokens (first ++ more) rest)
 row_texts old new first more t some value text =
-    takes_weaker old new (λ tokens rest. IsRow tokens (token_view old.token) more rest) (λ tokens rest. BeginsWithRow tokens (first ++ more) rest) t
+    takes_weaker old new (λ tokens rest. BeginsWithCharacters tokens (token_view old.token) more rest) (λ tokens rest. BeginsWithRow tokens (first ++ more) rest) t
     (λ tokens rest g h r. record {
       row = token_view old.token ∷ r.row;
       cut = r.cut;

@@ -7,7 +7,7 @@ use Rattle.std.proofs.lemmas.Bool.{both_ways, or_cases, or_left, or_right}
 use Rattle.std.proofs.lemmas.Fmt.{decimal_injective}
 use Rattle.std.proofs.lemmas.List.Elements.{Contains-append_left, Contains-push, Contains-push_cases}
 use Rattle.urlpattern_syntax.specs.declared.parser.given_names.GivenNames.{GivenNames}
-use Rattle.urlpattern_syntax.specs.GivenNames.{has_name, is_text}
+use Rattle.urlpattern_syntax.specs.GivenNames.{has_name, has_bytes}
 use Rattle.urlpattern_syntax.specs.Options.{OptionsView}
 use Rattle.urlpattern_syntax.specs.Parsing.{AddsParts, IsGiven, KnowsNames, PartListView, pending_items}
 use Rattle.urlpattern_syntax.specs.Reading.{Encoding, Item}
@@ -49,15 +49,15 @@ module _ (names : List (List ℕ)) (given : GivenNames) (number : ℕ) (knows : 
   }
 
   -- a name more
-  pub knows_name : (new : GivenNames) (name : Bor (List ℕ)) → IsUtf8 name.now → IsGiven (chars name.now) → ((other : List ℕ) → has_name new other ≡ (is_text other name || has_name given other)) →
+  pub knows_name : (new : GivenNames) (name : Bor (List ℕ)) → IsUtf8 name.now → IsGiven (chars name.now) → ((other : List ℕ) → has_name new other ≡ (has_bytes other name || has_name given other)) →
       KnowsNames (names ++ chars name.now ∷ []) new number
   knows_name new name u g added = record {
     named = λ other v o. (
       λ h. sym_true other (elim (Contains-push_cases names (chars name.now) (chars other) h) [
-        | inl before ↦ or_right (is_text other name) (has_name given other) ((knows.named other v o).0 before)
-        | inr same ↦ or_left (is_text other name) (has_name given other) (text_is other (bytes_same name.now other u v same))
+        | inl before ↦ or_right (has_bytes other name) (has_name given other) ((knows.named other v o).0 before)
+        | inr same ↦ or_left (has_bytes other name) (has_name given other) (text_is other (bytes_same name.now other u v same))
       ]),
-      λ h. elim (or_cases (is_text other name) (has_name given other) (sym (added other) ∙ h)) [
+      λ h. elim (or_cases (has_bytes other name) (has_name given other) (sym (added other) ∙ h)) [
         | inl same ↦ subst (λ x. Contains (names ++ chars name.now ∷ []) (chars x)) (sym (is_of other same)) (Contains-push names (chars name.now))
         | inr before ↦ Contains-append_left names (chars name.now ∷ []) (chars other) ((knows.named other v o).1 before)
       ],
@@ -68,13 +68,13 @@ module _ (names : List (List ℕ)) (given : GivenNames) (number : ℕ) (knows : 
     ];
   }
     where
-      sym_true : (other : List ℕ) → IsTrue (is_text other name || has_name given other) → IsTrue (has_name new other)
+      sym_true : (other : List ℕ) → IsTrue (has_bytes other name || has_name given other) → IsTrue (has_name new other)
       sym_true other h = added other ∙ h
 
-      text_is : (other : List ℕ) → name.now ≡ other → IsTrue (is_text other name)
+      text_is : (other : List ℕ) → name.now ≡ other → IsTrue (has_bytes other name)
       text_is other e = search rules
 
-      is_of : (other : List ℕ) → IsTrue (is_text other name) → other ≡ name.now
+      is_of : (other : List ℕ) → IsTrue (has_bytes other name) → other ≡ name.now
       is_of other e = search rules
 
 -- ---- parts that are added

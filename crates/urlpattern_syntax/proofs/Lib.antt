@@ -1,3 +1,4 @@
+pub mod TokenWords
 pub mod StringTexts
 pub mod Escaped
 pub mod TextLemmas

@@ -10,7 +10,7 @@ use Rattle.std.proofs.lemmas.Map.Lookups.{exact_bytes}
 use Rattle.std.proofs.lemmas.List.Folds.{list_any-append}
 use Rattle.std.proofs.lemmas.Map.Text.{is_eq-slice_cmp}
 use Rattle.urlpattern_syntax.specs.declared.parser.given_names.GivenNames.{GivenNames}
-use Rattle.urlpattern_syntax.specs.GivenNames.{has_name, is_text}
+use Rattle.urlpattern_syntax.specs.GivenNames.{has_name, has_bytes}
 
 -- how names are ordered
 abbrev text_cmp : Bor (List ℕ) → Bor (List ℕ) → Ordering
@@ -19,7 +19,7 @@ text_cmp x y = slice_cmp nat_cmp x.now y.now
 abbrev is_there : List ℕ → Bor (List ℕ) → Bool
 is_there bytes text = is_eq (slice_cmp nat_cmp bytes text.now)
 
-there_is : (bytes : List ℕ) (text : Bor (List ℕ)) → is_there bytes text ≡ is_text bytes text
+there_is : (bytes : List ℕ) (text : Bor (List ℕ)) → is_there bytes text ≡ has_bytes bytes text
 there_is bytes text = is_eq-slice_cmp bytes text.now ∙ turned
   where
     turned : bytes_eq bytes text.now ≡ bytes_eq text.now bytes
@@ -51,19 +51,19 @@ inserted bytes name (x ∷ keys) = by_order (text_cmp name x) refl (inserted byt
     by_order Greater e more = ap (λ b. is_there bytes x || b) more ∙ or_exchanged (is_there bytes name) (is_there bytes x) (list_any (is_there bytes) keys)
 
 pub others_more : (old : GivenNames) (bytes : List ℕ) (name : Bor (List ℕ)) (others : BTreeSet (Bor (List ℕ))) → others.keys ≡ insert_key text_cmp old.others.keys name →
-    has_name (record { few = old.few; others = others }) bytes ≡ (is_text bytes name || has_name old bytes)
+    has_name (record { few = old.few; others = others }) bytes ≡ (has_bytes bytes name || has_name old bytes)
 others_more old bytes name others e =
-    ap (λ keys. list_any (is_text bytes) old.few.items || list_any (is_there bytes) keys) e
-    ∙ ap (λ b. list_any (is_text bytes) old.few.items || b) (inserted bytes name old.others.keys)
-    ∙ or_exchanged (is_there bytes name) (list_any (is_text bytes) old.few.items) (list_any (is_there bytes) old.others.keys)
-    ∙ ap (λ b. b || (list_any (is_text bytes) old.few.items || list_any (is_there bytes) old.others.keys)) (there_is bytes name)
+    ap (λ keys. list_any (has_bytes bytes) old.few.items || list_any (is_there bytes) keys) e
+    ∙ ap (λ b. list_any (has_bytes bytes) old.few.items || b) (inserted bytes name old.others.keys)
+    ∙ or_exchanged (is_there bytes name) (list_any (has_bytes bytes) old.few.items) (list_any (is_there bytes) old.others.keys)
+    ∙ ap (λ b. b || (list_any (has_bytes bytes) old.few.items || list_any (is_there bytes) old.others.keys)) (there_is bytes name)
 
 pub few_more : (old : GivenNames) (bytes : List ℕ) (name : Bor (List ℕ)) (items : List (Bor (List ℕ))) → items ≡ old.few.items ++ name ∷ [] →
-    (list_any (is_text bytes) items || list_any (is_there bytes) old.others.keys) ≡ (is_text bytes name || has_name old bytes)
+    (list_any (has_bytes bytes) items || list_any (is_there bytes) old.others.keys) ≡ (has_bytes bytes name || has_name old bytes)
 few_more old bytes name items e =
-    ap (λ x. list_any (is_text bytes) x || list_any (is_there bytes) old.others.keys) e
-    ∙ ap (λ b. b || list_any (is_there bytes) old.others.keys) (list_any-append (is_text bytes) old.few.items (name ∷ []))
-    ∙ moved (list_any (is_text bytes) old.few.items) (is_text bytes name) (list_any (is_there bytes) old.others.keys)
+    ap (λ x. list_any (has_bytes bytes) x || list_any (is_there bytes) old.others.keys) e
+    ∙ ap (λ b. b || list_any (is_there bytes) old.others.keys) (list_any-append (has_bytes bytes) old.few.items (name ∷ []))
+    ∙ moved (list_any (has_bytes bytes) old.few.items) (has_bytes bytes name) (list_any (is_there bytes) old.others.keys)
   where
     moved : (a b c : Bool) → ((a || (b || false)) || c) ≡ (b || (a || c))
     moved true true c = refl

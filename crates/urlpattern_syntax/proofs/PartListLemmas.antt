@@ -11,7 +11,8 @@ use Rattle.urlpattern_syntax.specs.declared.tokenizer.TokenType.TheVariants.{Ast
 use Rattle.urlpattern_syntax.specs.Errors.{ErrorView}
 use Rattle.urlpattern_syntax.specs.Errors.{ErrorView as error_views}
 use Rattle.urlpattern_syntax.specs.Options.{OptionsView}
-use Rattle.urlpattern_syntax.specs.Parsing.{AddsItem, AddsParts, FailsItem, FailsTokens, IsTokenList, MemoryOr, PartListView, ReadsTokens, item_demands, joined_values, pending_items}
+use Rattle.urlpattern_syntax.proofs.TokenWords.{FailsTokens, ReadsTokens, joined_values}
+use Rattle.urlpattern_syntax.specs.Parsing.{AddsItem, AddsParts, FailsItem, IsTokenList, MemoryOr, PartListView, item_demands, pending_items}
 use Rattle.urlpattern_syntax.specs.Pieces.{ArePieces, BeginsWithKind, Ending, IsEnding, IsPiece, Piece, is_placeholder, is_text}
 use Rattle.urlpattern_syntax.specs.Pieces.{Ending as endings, Piece as kinds_of_piece}
 use Rattle.urlpattern_syntax.specs.Reading.{AreMet, AreParts, Capture, Encoding, Expect, FirstFails, Fixed, Item, demands, demands_after, encode_fixed, item, items_from, items_of, joined_items, next_number, number_after, with_text}

@@ -11,7 +11,8 @@ use Rattle.urlpattern_syntax.specs.declared.parser.PartModifier.TheVariants as m
 use Rattle.urlpattern_syntax.specs.declared.tokenizer.TokenType.{TokenType}
 use Rattle.urlpattern_syntax.specs.declared.tokenizer.TokenType.TheVariants.{Asterisk, Char, Close, End, EscapedChar, InvalidChar, Name, Open, OtherModifier, Regexp}
 use Rattle.urlpattern_syntax.specs.Cursors.{AreTokensAfter}
-use Rattle.urlpattern_syntax.specs.Parsing.{BeginsWithClose, BeginsWithPiece, BeginsWithTexts, EndsAt, joined_values, BeginsWithToken, BeginsWithPlaceholder, BeginsWithModifier, IsTokenList, IsModifierSpelled}
+use Rattle.urlpattern_syntax.proofs.TokenWords.{joined_values, BeginsWithToken}
+use Rattle.urlpattern_syntax.specs.Parsing.{BeginsWithClose, BeginsWithPiece, BeginsWithTexts, HasEndingAt, BeginsWithPlaceholder, BeginsWithModifier, IsTokenList, IsModifierSpelled}
 use Rattle.urlpattern_syntax.specs.Pieces.{AreTexts, IsBraced, IsFilled, IsOpenGroup, IsPrefixOf, TakesPrefix, is_text, BeginsWithKind, IsModifier, TakesModifier, TakesRegexp, Matched, Placeholder, is_modifier, is_placeholder, is_regexp, is_stop}
 use Rattle.urlpattern_syntax.specs.Pieces.{Ending as endings, Matched as matched, Piece as pieces}
 use Rattle.urlpattern_syntax.specs.Tokens.{AreTokens, IsCut, IsTokenOf, Spells, TokenView, end_of}
@@ -268,7 +269,7 @@ pub open_texts : (inner rest : List TokenView) → AreTexts inner (joined_values
 open_texts inner rest t h g = (h, inl (joined_values inner, t, g))
 
 -- a group that lacks its Close
-pub open_ending : (opening : TokenView) (inner tokens rest more : List TokenView) (found : TokenView) → opening.kind ≡ Open → tokens ≡ inner ++ rest → rest ≡ found ∷ more → IsOpenGroup inner rest → found.kind ≢ Close → EndsAt (opening ∷ tokens) endings.LacksClose rest
+pub open_ending : (opening : TokenView) (inner tokens rest more : List TokenView) (found : TokenView) → opening.kind ≡ Open → tokens ≡ inner ++ rest → rest ≡ found ∷ more → IsOpenGroup inner rest → found.kind ≢ Close → HasEndingAt (opening ∷ tokens) endings.LacksClose rest
 open_ending opening inner tokens rest more found k cut e left other = (
   found,
   more,

@@ -9,7 +9,7 @@ use Rattle.urlpattern_syntax.specs.declared.parser.pieces.Reader.{Reader}
 use Rattle.urlpattern_syntax.specs.declared.tokenizer.TokenType.{TokenType}
 use Rattle.urlpattern_syntax.specs.declared.tokenizer.TokenType.TheVariants.{End}
 use Rattle.urlpattern_syntax.specs.Cursors.{AreTokensAfter, IsPlace, IsTokenAfter, tokens_left}
-use Rattle.urlpattern_syntax.specs.Parsing.{Gives, IsModifierSpelled, IsNameSpelled, IsShorter, Stands, StartsText, Takes, reader_left, reader_text}
+use Rattle.urlpattern_syntax.specs.Parsing.{HasTokensLeft, IsModifierSpelled, IsNameSpelled, IsShorter, Stands, StartsText, Takes, reader_left, reader_text}
 use Rattle.urlpattern_syntax.specs.Text.{BeginsAt, BeginsWith, byte_len}
 use Rattle.urlpattern_syntax.specs.Tokens.{AreTokens, IsCut, IsLexed, IsTokenOf, Skips, Spells, ReportsFault, TokenView, is_ignored, token_view}
 use Rattle.urlpattern_syntax.proofs.NameCharacters.{name_given}
@@ -80,7 +80,7 @@ tokens_first text rest tokens skips t = record { front = t.front; cut = skip_cut
 -- ---- what is left
 
 -- the tokens that are left, from before the first of them
-pub given_after : (reader : Reader) (before : List ℕ) (tokens : List TokenView) → IsTokenAfter (reader_text reader) before (token_view reader.token) (chars reader.cursor.rest.now) → Gives reader tokens → AreTokensAfter (reader_text reader) before tokens
+pub given_after : (reader : Reader) (before : List ℕ) (tokens : List TokenView) → IsTokenAfter (reader_text reader) before (token_view reader.token) (chars reader.cursor.rest.now) → HasTokensLeft reader tokens → AreTokensAfter (reader_text reader) before tokens
 given_after reader before tokens after g = subst (AreTokensAfter (reader_text reader) before) (sym g.first) (by_others g.others)
   where
     by_others : ((reader.token.kind ≡ End) × (g.more ≡ [])) ⊎ ((reader.token.kind ≢ End) × AreTokensAfter (reader_text reader) (chars reader.cursor.rest.now) g.more) → AreTokensAfter (reader_text reader) before (token_view reader.token ∷ g.more)
@@ -90,13 +90,13 @@ given_after reader before tokens after g = subst (AreTokensAfter (reader_text re
     by_others (inr h) = after_other (reader_text reader) before (chars reader.cursor.rest.now) (token_view reader.token) g.more after h.0 h.1
 
 -- where the rest has tokens, there are tokens left
-pub gives_some : (reader : Reader) (more : List TokenView) → Stands reader → AreTokensAfter (reader_text reader) (chars reader.cursor.rest.now) more → (tokens : List TokenView) × Gives reader tokens
+pub gives_some : (reader : Reader) (more : List TokenView) → Stands reader → AreTokensAfter (reader_text reader) (chars reader.cursor.rest.now) more → (tokens : List TokenView) × HasTokensLeft reader tokens
 gives_some reader more stands t = by_kind reader.token.kind refl
   where
     first : TokenView
     first = token_view reader.token
 
-    given : reader.token.kind ≢ End → (tokens : List TokenView) × Gives reader tokens
+    given : reader.token.kind ≢ End → (tokens : List TokenView) × HasTokensLeft reader tokens
     given other = (
       token_view reader.token ∷ more,
       record {
@@ -107,7 +107,7 @@ gives_some reader more stands t = by_kind reader.token.kind refl
       },
     )
 
-    by_kind : (kind : TokenType) → reader.token.kind ≡ kind → (tokens : List TokenView) × Gives reader tokens
+    by_kind : (kind : TokenType) → reader.token.kind ≡ kind → (tokens : List TokenView) × HasTokensLeft reader tokens
     by_kind End e = (token_view reader.token ∷ [], record { more = []; first = refl; closed = e; others = inl (e, refl) })
     by_kind other e = given (λ f. cc (e, f))
 
@@ -173,7 +173,7 @@ module _ (old new : Reader) (whole : new.cursor.input.now ≡ old.cursor.input.n
   }
 
 -- nothing is taken
-pub takes_none : (reader : Reader) (Is : List TokenView → List TokenView → Type 0) → Stands reader → ((tokens : List TokenView) → Gives reader tokens → Is tokens tokens) → Takes reader reader Is
+pub takes_none : (reader : Reader) (Is : List TokenView → List TokenView → Type 0) → Stands reader → ((tokens : List TokenView) → HasTokensLeft reader tokens → Is tokens tokens) → Takes reader reader Is
 takes_none reader Is stands is = record {
   whole = refl;
   stands = stands;
@@ -182,7 +182,7 @@ takes_none reader Is stands is = record {
 }
 
 pub takes_then : (a b c : Reader) (P Q R : List TokenView → List TokenView → Type 0) → Takes a b P → Takes b c Q →
-    ((x y z : List TokenView) → Gives a x → Gives b y → Gives c z → P x y → Q y z → R x z) → Takes a c R
+    ((x y z : List TokenView) → HasTokensLeft a x → HasTokensLeft b y → HasTokensLeft c z → P x y → Q y z → R x z) → Takes a c R
 takes_then a b c P Q R first second joined = record {
   whole = second.whole ∙ first.whole;
   stands = second.stands;
@@ -194,7 +194,7 @@ takes_then a b c P Q R first second joined = record {
 }
 
 pub takes_weaker : (a b : Reader) (P Q : List TokenView → List TokenView → Type 0) → Takes a b P →
-    ((x y : List TokenView) → Gives a x → Gives b y → P x y → Q x y) → Takes a b Q
+    ((x y : List TokenView) → HasTokensLeft a x → HasTokensLeft b y → P x y → Q x y) → Takes a b Q
 takes_weaker a b P Q t weaker = record {
   whole = t.whole;
   stands = t.stands;

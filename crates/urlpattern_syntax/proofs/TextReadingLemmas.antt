@@ -9,7 +9,8 @@ use Rattle.urlpattern_syntax.specs.declared.tokenizer.TokenType.TheVariants.{Clo
 use Rattle.urlpattern_syntax.specs.Errors.{ErrorView, error_view}
 use Rattle.urlpattern_syntax.specs.Errors.{ErrorView as error_views}
 use Rattle.urlpattern_syntax.specs.Options.{OptionsView}
-use Rattle.urlpattern_syntax.specs.Parsing.{AddsItem, AddsParts, BeginsWithPiece, BeginsWithRow, EndsAt, FailsItem, FailsTokens, FaultOr, Gives, IsNext, MemoryOr, PartListView, ReadsTokens, StartsText, Takes, pending_items, reader_text}
+use Rattle.urlpattern_syntax.proofs.TokenWords.{FailsTokens, ReadsTokens}
+use Rattle.urlpattern_syntax.specs.Parsing.{AddsItem, AddsParts, BeginsWithPiece, BeginsWithRow, HasEndingAt, FailsItem, FaultOr, HasTokensLeft, IsNext, MemoryOr, PartListView, StartsText, Takes, pending_items, reader_text}
 use Rattle.urlpattern_syntax.specs.Pieces.{IsEnding, Piece}
 use Rattle.urlpattern_syntax.specs.Pieces.{Ending as endings}
 use Rattle.urlpattern_syntax.specs.Reading.{Encoding, Expect, FirstFails, Reads, Refuses, encode_fixed, item, number_after}
@@ -37,13 +38,13 @@ MemoryOr-same : (P : ErrorView → Type 0) (error other : Error) → error_view 
 MemoryOr-same P error other e h = subst (λ view. (view ≡ error_views.OutOfMemory) ⊎ P view) (sym e) h
 
 -- the token at which tokens end is the first that is left
-same_found : (reader : Reader) (rest : List TokenView) (found : TokenView) (more : List TokenView) → rest ≡ found ∷ more → Gives reader rest → found ≡ token_view reader.token
+same_found : (reader : Reader) (rest : List TokenView) (found : TokenView) (more : List TokenView) → rest ≡ found ∷ more → HasTokensLeft reader rest → found ≡ token_view reader.token
 same_found reader rest found more e g = let f = sym e ∙ g.first in cc f
 
 -- what is read so far, of whatever tokens are left
 abbrev pub HasReadUpTo : OptionsView → Encoding → (text : List ℕ) → Reader → PartListView → Type 0
 HasReadUpTo options encoding text reader list =
-    (rest : List TokenView) → Gives reader rest → (tokens : List TokenView) × AreTokens text tokens × HasRead options encoding tokens rest list
+    (rest : List TokenView) → HasTokensLeft reader rest → (tokens : List TokenView) × AreTokens text tokens × HasRead options encoding tokens rest list
 
 -- what is taken, where the prefix code point and what was written are known by other names
 pub takes_as : (old new : Reader) (bytes point : List ℕ) (written next : Next) → chars bytes ≡ point → written ≡ next →
@@ -88,7 +89,7 @@ module _ (options : OptionsView) (encoding : Encoding) (text : List ℕ) where
         (fails_piece options encoding r.0 t.0 list r.2 t.2.0 left.0 piece t.2.1 t.2.2 error left.1.closed failed))
 
     -- a group without its end
-    pub group_fails : (error : Error) → Takes old new (λ tokens rest. EndsAt tokens endings.LacksClose rest) → (tokens : List TokenView) × Gives new tokens → MemoryOr (λ view. view ≡ error_views.ExpectedToken Close (token_view new.token).kind (token_view new.token).value) error → MemoryOr (Refuses text options encoding) error
+    pub group_fails : (error : Error) → Takes old new (λ tokens rest. HasEndingAt tokens endings.LacksClose rest) → (tokens : List TokenView) × HasTokensLeft new tokens → MemoryOr (λ view. view ≡ error_views.ExpectedToken Close (token_view new.token).kind (token_view new.token).value) error → MemoryOr (Refuses text options encoding) error
     group_fails error takes left h =
         let t = takes.gives left.0 left.1 in
         let r = read t.0 t.1 in
@@ -97,7 +98,7 @@ module _ (options : OptionsView) (encoding : Encoding) (text : List ℕ) where
         (fails_open options encoding r.0 t.0 list r.2 (token_view new.token) error (subst (λ found. IsEnding t.0 (endings.LacksClose found)) same t.2.3) h)
 
     -- the end
-    pub end_read : (next : PartListView) → Takes old new (λ tokens rest. EndsAt tokens endings.Stops rest) → (tokens : List TokenView) × Gives new tokens → new.token.kind ≡ End → AddsParts options encoding list (pending_items list.pending) next → Reads text options encoding next.parts
+    pub end_read : (next : PartListView) → Takes old new (λ tokens rest. HasEndingAt tokens endings.Stops rest) → (tokens : List TokenView) × HasTokensLeft new tokens → new.token.kind ≡ End → AddsParts options encoding list (pending_items list.pending) next → Reads text options encoding next.parts
     end_read next takes left is_end added =
         let t = takes.gives left.0 left.1 in
         let r = read t.0 t.1 in
@@ -114,7 +115,7 @@ module _ (options : OptionsView) (encoding : Encoding) (text : List ℕ) where
           are_parts = reads.are_parts;
         }
 
-    pub end_fails : (error : Error) → Takes old new (λ tokens rest. EndsAt tokens endings.Stops rest) → reader_text old ≡ text → FaultOr new (FirstFails encoding (encode_fixed list.pending ++ Expect End (token_view new.token) ∷ [])) error → MemoryOr (Refuses text options encoding) error
+    pub end_fails : (error : Error) → Takes old new (λ tokens rest. HasEndingAt tokens endings.Stops rest) → reader_text old ≡ text → FaultOr new (FirstFails encoding (encode_fixed list.pending ++ Expect End (token_view new.token) ∷ [])) error → MemoryOr (Refuses text options encoding) error
     end_fails error takes same (inl h) = reports_refuses text options encoding error (subst (λ x. ReportsFault x error) (ap chars takes.whole ∙ same) h)
     end_fails error takes same (inr (left, h)) =
         let t = takes.gives left.0 left.1 in
@@ -124,5 +125,5 @@ module _ (options : OptionsView) (encoding : Encoding) (text : List ℕ) where
         (fails_end options encoding r.0 t.0 list r.2 (token_view new.token) error (subst (λ found. IsEnding t.0 (endings.Stops found)) is t.2.3) h)
 
 -- at the end no other token is left
-pub gives_end : (reader : Reader) → reader.token.kind ≡ End → (tokens : List TokenView) × Gives reader tokens
+pub gives_end : (reader : Reader) → reader.token.kind ≡ End → (tokens : List TokenView) × HasTokensLeft reader tokens
 gives_end reader e = (token_view reader.token ∷ [], record { more = []; first = refl; closed = e; others = inl (e, refl) })

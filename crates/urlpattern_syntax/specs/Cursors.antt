@@ -1,4 +1,4 @@
--- Strict tokens that are read one by one, and where the reading is. No public contract cites these words.
+-- Strict tokens that are read one by one, and the place in the text that the reading has reached.
 use Rattle.std.specs.Prelude.{◌≡◌, ℕ, ◌⊎◌, ◌&&◌, not, Bool, IsTrue, List, [], ◌∷◌, ◌++◌}
 use Rattle.std.specs.List.{list_all}
 use Rattle.std.specs.Str.{chars}

@@ -1,4 +1,4 @@
--- The names that a pattern gives to its placeholders, as they are kept. No public contract cites these words.
+-- The names that a pattern gives to its placeholders, as they are kept.
 use Rattle.std.specs.Prelude.{ℕ, ◌||◌, Bool, List, bytes_eq}
 use Rattle.std.specs.Borrow.{Bor}
 use Rattle.std.specs.BTreeSet.{contains_by}
@@ -8,9 +8,9 @@ use Rattle.std.specs.Ordering.{nat_cmp}
 use Rattle.urlpattern_syntax.specs.declared.parser.given_names.GivenNames.{GivenNames}
 
 -- the text's bytes are these
-abbrev pub is_text : List ℕ → Bor (List ℕ) → Bool
-is_text bytes text = bytes_eq text.now bytes
+abbrev pub has_bytes : List ℕ → Bor (List ℕ) → Bool
+has_bytes bytes text = bytes_eq text.now bytes
 
 -- whether the name of these bytes is there
 abbrev pub has_name : GivenNames → List ℕ → Bool
-has_name names bytes = list_any (is_text bytes) names.few.items || contains_by (λ text. slice_cmp nat_cmp bytes text.now) names.others
+has_name names bytes = list_any (has_bytes bytes) names.few.items || contains_by (λ text. slice_cmp nat_cmp bytes text.now) names.others

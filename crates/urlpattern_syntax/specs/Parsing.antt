@@ -1,6 +1,5 @@
--- Words of the private contracts of the parser. Of them a public contract cites `MemoryOr` alone, which is passed on.
+-- The parser step by step: which tokens it takes, which tokens are left, and what it adds to the list of parts.
 use Rattle.std.specs.Prelude.{◌≡◌, ◌≢◌, ◌<◌, ◌≤◌, ◌+◌, ℕ, ◌⊎◌, List, [], ◌∷◌, ◌++◌, length, map, codes, decimal, Contains, IsTrue, ◌^◌, Option, Some, None, option_map, ◌↔◌}
-use Rattle.std.specs.List.{flat_map}
 use Rattle.std.specs.Str.{chars, IsUtf8}
 use Rattle.std.specs.Borrow.{Bor}
 use Rattle.urlpattern_syntax.specs.declared.parser.pieces.Matched.{Matched as MatchedValue}
@@ -13,7 +12,6 @@ use Rattle.urlpattern_syntax.specs.declared.parser.pieces.Placeholder.{Placehold
 use Rattle.urlpattern_syntax.specs.declared.parser.pieces.Piece.TheVariants as piece_values
 use Rattle.urlpattern_syntax.specs.declared.tokenizer.Token.{Token}
 use Rattle.urlpattern_syntax.specs.declared.parser.pieces.Reader.{Reader}
-use Rattle.urlpattern_syntax.specs.declared.tokenizer.TokenType.{TokenType}
 use Rattle.urlpattern_syntax.specs.declared.tokenizer.TokenType.TheVariants.{Close, Name, OtherModifier, End}
 use Rattle.urlpattern_syntax.specs.declared.error.Error.{Error}
 use Rattle.urlpattern_syntax.specs.declared.parser.part_list.PartList.{PartList}
@@ -28,22 +26,13 @@ use Rattle.urlpattern_syntax.specs.Options.{OptionsView}
 use Rattle.urlpattern_syntax.specs.Parts.{PartView, parts_view}
 use Rattle.urlpattern_syntax.specs.RegexpText.{group_names}
 use Rattle.urlpattern_syntax.specs.Text.{BeginsWith, is_name_start, text_of}
-use Rattle.urlpattern_syntax.specs.Pieces.{ArePieces, Piece, Placeholder, Matched, Ending, IsPiece, IsEnding, IsPlaceholderOf, IsPrefixOf, IsModifier, TakesModifier, TakesRegexp, AreTexts, BeginsWithKind, is_text}
+use Rattle.urlpattern_syntax.specs.Pieces.{Piece, Placeholder, Matched, Ending, IsPiece, IsEnding, IsPlaceholderOf, IsPrefixOf, IsModifier, TakesModifier, TakesRegexp, AreTexts, BeginsWithKind, is_text}
 use Rattle.urlpattern_syntax.specs.Pieces.{Matched as matched, Ending as endings, Piece as pieces}
-use Rattle.urlpattern_syntax.specs.Reading.{demands, items_of, AreMet, AreParts, Demand, Encode, Encoding, FirstFails, Item, Fixed, Capture, NewName, encode_fixed, name_or}
+use Rattle.urlpattern_syntax.specs.Reading.{AreMet, AreParts, Demand, Encode, Encoding, FirstFails, Item, Fixed, Capture, NewName, encode_fixed, name_or}
 use Rattle.urlpattern_syntax.specs.Tokens.{AreTokens, ReportsFault, TokenView, token_view}
 
 abbrev pub views : List Token → List TokenView
 views tokens = map token_view tokens
-
--- the values of tokens, end to end
-abbrev pub joined_values : List TokenView → List ℕ
-joined_values tokens = flat_map (λ token. token.value) tokens
-
--- the first token is of this kind
-abbrev pub BeginsWithToken : TokenType → List TokenView → Type 0
-BeginsWithToken kind [] = ⊥
-BeginsWithToken kind (token ∷ tokens) = token.kind ≡ kind
 
 -- a modifier is spelled as one
 abbrev pub IsModifierSpelled : TokenView → Type 0
@@ -90,7 +79,7 @@ abbrev pub reader_left : Reader → ℕ
 reader_left reader = length reader.cursor.rest.now + tokens_left reader.token.kind
 
 -- these tokens are left: the first, and those of the rest of the text
-pub record Gives (reader : Reader) (tokens : List TokenView) : Type 0 where
+pub record HasTokensLeft (reader : Reader) (tokens : List TokenView) : Type 0 where
   pub more : List TokenView
   pub first : tokens ≡ token_view reader.token ∷ more
   pub closed : IsTokenList tokens
@@ -108,13 +97,13 @@ pub record Takes (old new : Reader) (Is : (tokens rest : List TokenView) → Typ
   pub whole : new.cursor.input.now ≡ old.cursor.input.now
   pub stands : Stands new
   pub left : reader_left new ≤ reader_left old
-  pub gives : (rest : List TokenView) → Gives new rest → (tokens : List TokenView) × Gives old tokens × Is tokens rest
+  pub gives : (rest : List TokenView) → HasTokensLeft new rest → (tokens : List TokenView) × HasTokensLeft old tokens × Is tokens rest
 
 -- all tokens of the text are left
 pub record StartsText (text : List ℕ) (reader : Reader) : Type 0 where
   pub whole : reader_text reader ≡ text
   pub stands : Stands reader
-  pub all : (tokens : List TokenView) → Gives reader tokens → AreTokens text tokens
+  pub all : (tokens : List TokenView) → HasTokensLeft reader tokens → AreTokens text tokens
 
 -- ---- what the code's pieces show
 
@@ -142,13 +131,13 @@ group_item before value after modifier number =
     Capture before (name_or (name_view value.name) number) (matched_view value.matched) after modifier
 
 -- the name, if there is one, is one that a pattern gives
-abbrev pub IsNamed : Option (List ℕ) → Type 0
-IsNamed None = Unit {0}
-IsNamed (Some name) = IsGiven name
+abbrev pub IsNameGiven : Option (List ℕ) → Type 0
+IsNameGiven None = Unit {0}
+IsNameGiven (Some name) = IsGiven name
 
 abbrev pub IsPieceNamed : Piece → Type 0
-IsPieceNamed (pieces.Bare prefix placeholder modifier) = IsNamed placeholder.name
-IsPieceNamed (pieces.Group before placeholder after modifier) = IsNamed placeholder.name
+IsPieceNamed (pieces.Bare prefix placeholder modifier) = IsNameGiven placeholder.name
+IsPieceNamed (pieces.Group before placeholder after modifier) = IsNameGiven placeholder.name
 IsPieceNamed other = Unit {0}
 
 abbrev pub IsNextNamed : Next → Type 0
@@ -156,7 +145,7 @@ IsNextNamed (nexts.Piece piece) = IsPieceNamed (piece_view piece)
 IsNextNamed other = Unit {0}
 
 -- the tokens begin with a character and then with more of them (`more`), of which there is none or another one follows
-pub record IsRow (tokens : List TokenView) (first : TokenView) (more : List ℕ) (rest : List TokenView) : Type 0 where
+pub record BeginsWithCharacters (tokens : List TokenView) (first : TokenView) (more : List ℕ) (rest : List TokenView) : Type 0 where
   pub row : List TokenView
   pub cut : tokens ≡ first ∷ row ++ rest
   pub are_texts : AreTexts row more
@@ -190,15 +179,15 @@ abbrev pub BeginsWithPiece : (point : List ℕ) → List TokenView → Piece →
 BeginsWithPiece point tokens piece rest = (front : List TokenView) × (tokens ≡ front ++ rest) × IsPiece point front piece rest
 
 -- the tokens have this ending, at the first token of the rest
-abbrev pub EndsAt : List TokenView → (TokenView → Ending) → (rest : List TokenView) → Type 0
-EndsAt tokens ending rest = (found : TokenView) × (more : List TokenView) × (rest ≡ found ∷ more) × IsEnding tokens (ending found)
+abbrev pub HasEndingAt : List TokenView → (TokenView → Ending) → (rest : List TokenView) → Type 0
+HasEndingAt tokens ending rest = (found : TokenView) × (more : List TokenView) × (rest ≡ found ∷ more) × IsEnding tokens (ending found)
 
 -- the next piece of tokens, or how they end
 abbrev pub IsNext : (point : List ℕ) → (tokens : List TokenView) → Next → (rest : List TokenView) → Type 0
 IsNext point tokens (nexts.Piece piece) rest = BeginsWithPiece point tokens (piece_view piece) rest
 IsNext point tokens (nexts.Characters first more) rest = BeginsWithRow tokens (chars first.now ++ chars more.now) rest
-IsNext point tokens nexts.Stops rest = EndsAt tokens endings.Stops rest
-IsNext point tokens nexts.LacksClose rest = EndsAt tokens endings.LacksClose rest
+IsNext point tokens nexts.Stops rest = HasEndingAt tokens endings.Stops rest
+IsNext point tokens nexts.LacksClose rest = HasEndingAt tokens endings.LacksClose rest
 
 -- the same of these tokens after any that are the prefix
 abbrev pub IsNextAfter : (prefix : List ℕ) → (tokens : List TokenView) → Next → (rest : List TokenView) → Type 0
@@ -211,7 +200,7 @@ TakesPlaceholder old new value = Takes old new (λ tokens rest. BeginsWithPlaceh
 
 -- the first token, a character, is taken and then more of them, whose values these are
 abbrev pub TakesRow : (old new : Reader) → (more : Bor (List ℕ)) → Type 0
-TakesRow old new more = Takes old new (λ tokens rest. IsRow tokens (token_view old.token) (chars more.now) rest)
+TakesRow old new more = Takes old new (λ tokens rest. BeginsWithCharacters tokens (token_view old.token) (chars more.now) rest)
 
 -- the end of a group and its modifier are taken
 abbrev pub TakesClose : (old new : Reader) → PartModifier → Type 0
@@ -273,21 +262,6 @@ abbrev pub FailsItem : Encoding → PartListView → Item → Error → Type 0
 FailsItem encoding old (Fixed text modifiers.None) error = error_view error ≡ error_views.OutOfMemory
 FailsItem encoding old item error = FailsItems encoding old.parts (pending_items old.pending ++ item ∷ []) error
 
--- the tokens mean these parts
-pub record ReadsTokens (tokens : List TokenView) (options : OptionsView) (encoding : Encoding) (parts : List PartView) : Type 0 where
-  pub pieces : List Piece
-  pub found : TokenView
-  pub are_pieces : ArePieces options.prefix tokens pieces (endings.Stops found)
-  pub are_met : AreMet encoding (demands (items_of pieces) (endings.Stops found))
-  pub are_parts : AreParts options encoding (items_of pieces) parts
-
--- the first demand of the tokens' pieces that is not met fails with this error
-pub record FailsTokens (tokens : List TokenView) (options : OptionsView) (encoding : Encoding) (error : ErrorView) : Type 0 where
-  pub pieces : List Piece
-  pub ending : Ending
-  pub are_pieces : ArePieces options.prefix tokens pieces ending
-  pub fails : FirstFails encoding (demands (items_of pieces) ending) error
-
 -- memory ran out, or the error is the first fault of the text, or it is one of these and the rest has tokens
 abbrev pub FaultOr : Reader → (ErrorView → Type 0) → Error → Type 0
-FaultOr reader Is error = ReportsFault (reader_text reader) error ⊎ (((tokens : List TokenView) × Gives reader tokens) × MemoryOr Is error)
+FaultOr reader Is error = ReportsFault (reader_text reader) error ⊎ (((tokens : List TokenView) × HasTokensLeft reader tokens) × MemoryOr Is error)

@@ -1,5 +1,4 @@
--- Words of the contracts of the parser and of its list of parts, over the values of the code. No public contract cites
--- them.
+-- What the parser reads, and what it adds to its list of parts, under its own options and by its own callback.
 use Rattle.std.specs.Prelude.{◌≡◌, ℕ, List, [], ◌∷◌, ◌++◌, Contains, Option}
 use Rattle.std.specs.Borrow.{Bor}
 use Rattle.std.specs.Str.{chars}

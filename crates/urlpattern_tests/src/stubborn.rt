@@ -30,7 +30,7 @@ pub type Starved = Stubborn<false, false>;
 
 impl<const TAKES_TEXTS: bool, const HAS_MEMORY: bool> RegExp for Stubborn<TAKES_TEXTS, HAS_MEMORY> {
     ghost use Rattle.std.specs.Prelude.{◌≡◌, ⊤, map, option_map};
-    ghost use Rattle.urlpattern.specs.Captured.{capture_view};
+    ghost use Rattle.urlpattern.specs.CaptureTexts.{capture_view};
     ghost use Rattle.urlpattern.specs.RegexSyntax.TheVariants.{Rust};
     ghost use Rattle.urlpattern.specs.Text.{text_of};
 

@@ -3,10 +3,10 @@ ghost use Rattle.std.specs.Iterator.Adapters.{zip_first, zip_second};
 ghost use Rattle.std.specs.Prelude.{◌≡◌, map, option_map, zip, IfOk};
 ghost use Rattle.std.specs.Slice.Iter.{iter_rest};
 ghost use Rattle.std.specs.Str.{chars};
-ghost use Rattle.urlpattern_core.specs.Captured.{capture_view};
+ghost use Rattle.urlpattern_core.specs.CaptureTexts.{capture_view};
 ghost use Rattle.urlpattern_syntax.specs.declared.eight.ComponentName.{ComponentName as Name};
 ghost use Rattle.urlpattern.specs.declared.pattern.captures.Missed.TheVariants as all_missed;
-ghost use Rattle.urlpattern.specs.Captures.{IsGroupsAnswer, captures_view, groups_view};
+ghost use Rattle.urlpattern.specs.BorrowedMatches.{IsGroupsAnswer, pattern_captures_view, groups_view};
 ghost use Rattle.urlpattern.specs.Calls.{AreGroupsOf, IsCapturedOf, captures_of, texts_of, HasNoGroups, IsWithoutGroups};
 ghost use Rattle.urlpattern.specs.Match.{component_result_view, group_of, result_view, IsSameResult};
 ghost use Rattle.urlpattern_syntax.specs.Text.{text_of};
@@ -36,7 +36,7 @@ pub struct UrlPatternCaptures<'a> {
     /// The texts that are matched.
     pub(super) texts: Eight<&'a str>,
     /// What the groups capture of each text.
-    pub(super) captures: Eight<Captured<'a>>,
+    pub(super) captures: Eight<GroupCaptures<'a>>,
 }
 
 impl Drop for UrlPatternCaptures<'_> {
@@ -53,7 +53,7 @@ impl Drop for UrlPatternCaptures<'_> {
 impl<'a> UrlPatternCaptures<'a> {
     /// The text of a component, which was matched.
     pub fn input(&self, name: ComponentName) -> &'a str
-        ensures { chars result.now ≡ (captures_view self.now name).input }
+        ensures { chars result.now ≡ (pattern_captures_view self.now name).input }
     {
         self.texts.get(name)
     }
@@ -61,7 +61,7 @@ impl<'a> UrlPatternCaptures<'a> {
     /// What a group of a component captures. `None`: there is no group of this name. `Some(None)`: the group took no part. Of
     /// equal names the last counts.
     pub fn get(&self, name: ComponentName, group: &str) -> Option<Option<&'a str>>
-        ensures { option_map capture_view result ≡ (captures_view self.now name).group (chars group.now) }
+        ensures { option_map capture_view result ≡ (pattern_captures_view self.now name).group (chars group.now) }
     {
         group_named(
             self.names.get(name),
@@ -84,7 +84,7 @@ impl<'a> UrlPatternCaptures<'a> {
     ///
     /// The error is that memory ran out.
     pub fn to_result(&self, alloc: Global) -> Result<UrlPatternResult, Error>
-        ensures same { IfOk result (λ copy. (name : Name) → IsSameResult (result_view copy name) (captures_view self.now name)) }
+        ensures same { IfOk result (λ copy. (name : Name) → IsSameResult (result_view copy name) (pattern_captures_view self.now name)) }
         ensures memory { OnlyOutOfMemory result }
     {
         let mut result = empty_result(alloc);
@@ -99,7 +99,7 @@ impl<'a> UrlPatternCaptures<'a> {
         copy: &mut UrlPatternResult,
     ) -> Result<(), OutOfMemory>
         requires { IsWithoutGroups copy.old }
-        ensures same { IfOk result (λ _. (name : Name) → IsSameResult (result_view copy.new name) (captures_view self.now name)) }
+        ensures same { IfOk result (λ _. (name : Name) → IsSameResult (result_view copy.new name) (pattern_captures_view self.now name)) }
     {
         self.copy_component(alloc, ComponentName::Protocol, &mut copy.protocol)?;
         self.copy_component(alloc, ComponentName::Username, &mut copy.username)?;
@@ -119,7 +119,7 @@ impl<'a> UrlPatternCaptures<'a> {
         copy: &mut UrlPatternComponentResult,
     ) -> Result<(), OutOfMemory>
         requires { HasNoGroups copy.old.groups }
-        ensures same { IfOk result (λ _. IsSameResult (component_result_view copy.new) (captures_view self.now name)) }
+        ensures same { IfOk result (λ _. IsSameResult (component_result_view copy.new) (pattern_captures_view self.now name)) }
     {
         copy.fill(
             alloc,
@@ -131,7 +131,7 @@ impl<'a> UrlPatternCaptures<'a> {
 
     /// Copies of what the groups capture, by name.
     pub(crate) fn to_groups(&self, alloc: Global) -> Result<Eight<Groups>, OutOfMemory>
-        ensures groups { IfOk result (λ groups. (name : Name) → AreGroupsOf (at groups name) (captures_view self.now name)) }
+        ensures groups { IfOk result (λ groups. (name : Name) → AreGroupsOf (at groups name) (pattern_captures_view self.now name)) }
     {
         let groups = |name: ComponentName| -> Result<Groups, OutOfMemory>
             ensures { IsGroupsAnswer self.entry.now name result }
@@ -141,7 +141,7 @@ impl<'a> UrlPatternCaptures<'a> {
 
     /// Copies of what the groups of a component capture, by name.
     fn groups_of(&self, alloc: Global, name: ComponentName) -> Result<Groups, OutOfMemory>
-        ensures groups { IfOk result (λ groups. AreGroupsOf groups (captures_view self.now name)) }
+        ensures groups { IfOk result (λ groups. AreGroupsOf groups (pattern_captures_view self.now name)) }
     {
         groups_of(
             alloc,
@@ -187,7 +187,7 @@ impl From<OutOfMemory> for Missed {
 
 /// What the groups of a component capture of its text.
 #[derive(Drop)]
-pub(crate) enum Captured<'a> {
+pub(crate) enum GroupCaptures<'a> {
     /// There are no groups.
     Nothing,
     /// There is one group.
@@ -196,17 +196,17 @@ pub(crate) enum Captured<'a> {
     Groups(Vec<Option<&'a str>>),
 }
 
-impl<'a> Captured<'a> {
+impl<'a> GroupCaptures<'a> {
     /// What a look at a text results in, once an engine is asked that has to be.
     #[inline(always)]
     pub(super) fn of_look<R: RegExp>(alloc: Global, look: Look<'_, 'a, R>) -> Result<Self, Missed>
         ensures { IsCapturedOf R.answer look.entry result }
     {
         match look {
-            Look::Matched => Ok(Captured::Nothing),
-            Look::Captured(text) => Ok(Captured::One(Some(text))),
+            Look::Matched => Ok(GroupCaptures::Nothing),
+            Look::Captured(text) => Ok(GroupCaptures::One(Some(text))),
             Look::Asks { engine, middle } => match engine.matches(alloc, middle)? {
-                Some(captures) => Ok(Captured::Groups(captures)),
+                Some(captures) => Ok(GroupCaptures::Groups(captures)),
                 None => Err(Missed::Unmatched),
             },
         }
@@ -217,9 +217,9 @@ impl<'a> Captured<'a> {
         ensures { map capture_view result.now ≡ captures_of self.now }
     {
         match self {
-            Captured::Nothing => &[],
-            Captured::One(capture) => slice::from_ref(capture),
-            Captured::Groups(captures) => captures.as_slice(),
+            GroupCaptures::Nothing => &[],
+            GroupCaptures::One(capture) => slice::from_ref(capture),
+            GroupCaptures::Groups(captures) => captures.as_slice(),
         }
     }
 }

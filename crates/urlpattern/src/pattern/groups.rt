@@ -1,7 +1,7 @@
 //! The groups of a match, by their names.
 ghost use Rattle.std.specs.Prelude.{◌≡◌, IfOk, map, option_map};
 ghost use Rattle.urlpattern.specs.Calls.{AreGroups, HasNoGroups};
-ghost use Rattle.urlpattern_core.specs.Captured.{capture_view};
+ghost use Rattle.urlpattern_core.specs.CaptureTexts.{capture_view};
 ghost use Rattle.urlpattern_syntax.specs.Text.{text_of};
 
 use std::alloc::{AllocError, Global};

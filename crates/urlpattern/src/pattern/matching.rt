@@ -5,7 +5,7 @@ ghost use Rattle.std.specs.Prelude.{◌≡◌, None, Some, IfErr, IfNone, IfOk, 
 ghost use Rattle.urlpattern_core.specs.Looks.{look_answer, IsAsking};
 ghost use Rattle.urlpattern_init.specs.declared.init.UrlPatternMatchInput.TheVariants as inputs;
 ghost use Rattle.urlpattern_init.specs.Inheritance.{texts_of_url};
-ghost use Rattle.urlpattern.specs.Captures.{captures_view};
+ghost use Rattle.urlpattern.specs.BorrowedMatches.{pattern_captures_view};
 ghost use Rattle.urlpattern.specs.Match.{AreAnswers, AsksAnEngine, FindsInInput, FindsInTexts, IsRefused, TestsInput, TestsTexts, result_view};
 ghost use Rattle.urlpattern.specs.MatchInput.{texts_view};
 ghost use Rattle.urlpattern.specs.Calls.{AreCaptured, AreLooks, AskWithCause, HasCaptures, all_captures, borrowed_texts, results_of};
@@ -15,7 +15,7 @@ ghost use Rattle.urlpattern_syntax.specs.Errors.{OnlyOutOfMemory};
 ghost use Rattle.urlpattern_syntax.specs.Eight.{at};
 
 use super::UrlPattern;
-use super::captures::{Captured, Missed, UrlPatternCaptures};
+use super::captures::{GroupCaptures, Missed, UrlPatternCaptures};
 use super::groups::Groups;
 use super::result::{UrlPatternResult, empty_result, result_of};
 use super::texts::{input_texts, url_texts};
@@ -113,7 +113,7 @@ impl<R: RegExp> UrlPattern<R> {
         alloc: Global,
         url: &'a Url,
     ) -> Result<Option<UrlPatternCaptures<'a>>, Error>
-        ensures matched { IfOk result (FindsInInput captures_view R.answer (pattern_view self.now) (inputs.Url url.now)) }
+        ensures matched { IfOk result (FindsInInput pattern_captures_view R.answer (pattern_view self.now) (inputs.Url url.now)) }
         ensures memory { OnlyOutOfMemory result }
         ensures asked { IfErr result (λ _. AsksAnEngine R.answer (pattern_view self.now) (texts_of_url url.now)) }
     {
@@ -131,7 +131,7 @@ impl<R: RegExp> UrlPattern<R> {
         alloc: Global,
         input: &'a MatchInput,
     ) -> Result<Option<UrlPatternCaptures<'a>>, Error>
-        ensures matched { IfOk result (FindsInTexts captures_view R.answer (pattern_view self.now) (texts_view input.now)) }
+        ensures matched { IfOk result (FindsInTexts pattern_captures_view R.answer (pattern_view self.now) (texts_view input.now)) }
         ensures memory { OnlyOutOfMemory result }
         ensures asked { IfErr result (λ _. AsksAnEngine R.answer (pattern_view self.now) (texts_view input.now)) }
     {
@@ -190,7 +190,7 @@ impl<R: RegExp> UrlPattern<R> {
         alloc: Global,
         texts: Eight<&'a str>,
     ) -> Result<Option<UrlPatternCaptures<'a>>, OutOfMemory>
-        ensures matched { IfOk result (FindsInTexts captures_view R.answer (pattern_view self.now) (borrowed_texts texts.entry)) }
+        ensures matched { IfOk result (FindsInTexts pattern_captures_view R.answer (pattern_view self.now) (borrowed_texts texts.entry)) }
         ensures asked { IfErr result (λ _. AsksAnEngine R.answer (pattern_view self.now) (borrowed_texts texts.entry)) }
     {
         match self.captured(alloc, &texts)? {
@@ -203,9 +203,9 @@ impl<R: RegExp> UrlPattern<R> {
     pub(crate) fn with_captures<'a>(
         &'a self,
         texts: Eight<&'a str>,
-        captures: Eight<Captured<'a>>,
+        captures: Eight<GroupCaptures<'a>>,
     ) -> UrlPatternCaptures<'a>
-        ensures { HasCaptures (pattern_view self.now) (borrowed_texts texts.entry) captures.entry (captures_view result) }
+        ensures { HasCaptures (pattern_view self.now) (borrowed_texts texts.entry) captures.entry (pattern_captures_view result) }
     {
         let names = |name: ComponentName| -> &Vec<String>
             ensures { result.now ≡ (at (components_of self.entry.now) name).group_name_list }
@@ -244,7 +244,7 @@ impl<R: RegExp> UrlPattern<R> {
         &'a self,
         alloc: Global,
         texts: &Eight<&'a str>,
-    ) -> Result<Option<Eight<Captured<'a>>>, OutOfMemory>
+    ) -> Result<Option<Eight<GroupCaptures<'a>>>, OutOfMemory>
         ensures refused { IfOk result (λ found. IfNone found (IsRefused R.answer (pattern_view self.now) (borrowed_texts texts.now))) }
         ensures answers { IfOk result (λ found. IfSome found (λ captures.
             AreAnswers R.answer (pattern_view self.now) (borrowed_texts texts.now) (all_captures captures))) }
@@ -261,12 +261,12 @@ impl<R: RegExp> UrlPattern<R> {
 fn captures_of_looks<'a, R: RegExp>(
     alloc: Global,
     looks: Eight<Look<'a, 'a, R>>,
-) -> Result<Option<Eight<Captured<'a>>>, OutOfMemory>
+) -> Result<Option<Eight<GroupCaptures<'a>>>, OutOfMemory>
     ensures some { IfOk result (λ found. IfSome found (AreCaptured R.answer looks.entry)) }
     ensures none { IfOk result (λ found. IfNone found ((name : Name) × (look_answer R.answer (Some (at looks.entry name)) ≡ None))) }
     ensures asked { IfErr result (λ _. (name : Name) × IsAsking (at looks.entry name)) }
 {
-    match looks.try_map(|look| Captured::of_look(alloc, look)) {
+    match looks.try_map(|look| GroupCaptures::of_look(alloc, look)) {
         Ok(captures) => Ok(Some(captures)),
         Err(Missed::Unmatched) => Ok(None),
         Err(Missed::OutOfMemory) => Err(OutOfMemory),

@@ -3,10 +3,10 @@
 ghost use Rattle.std.specs.Prelude.{◌≡◌, ◌↔◌, [], codes, length, option_copied, option_map, unwrap_or, IfErr, IfOk, IfSome, IsAscii, IsTrue, Some};
 ghost use Rattle.std.specs.Str.{chars};
 ghost use Rattle.urlpattern_canonical.specs.Canonical.{IsAnswer};
-ghost use Rattle.urlpattern_core.specs.Compiling.{IsCompiledFrom, component_view, pattern_text};
+ghost use Rattle.urlpattern_core.specs.Components.{IsCompiledFrom, component_view, pattern_text};
 ghost use Rattle.urlpattern_init.specs.Inheritance.{values_view};
 ghost use Rattle.urlpattern.specs.Compiled.{AreCompiled, FirstRefused, HasEngine, HasHierarchicalPath, IsComponentCompiled, IsComponentRefused, IsPatternOfInit, IsRefusedFrom, RefusesInit, RefusesValues, after_protocol, canonical_in_hostname, has_default_port, is_ipv6_pattern, is_mark, is_same, pattern_of, pattern_values, without_default_port};
-ghost use Rattle.urlpattern.specs.Compilers.{manner_by, values_of};
+ghost use Rattle.urlpattern.specs.CompilerSteps.{manner_by, compiler_values};
 ghost use Rattle.urlpattern.specs.Patterns.{pattern_view};
 ghost use Rattle.urlpattern_syntax.specs.declared.eight.ComponentName.{ComponentName};
 ghost use Rattle.urlpattern_syntax.specs.Errors.{MemoryOr, OnlyOutOfMemory};
@@ -183,8 +183,8 @@ impl Compiler<'_> {
     ///
     /// The error is that of the first component that is refused, or that memory ran out.
     fn pattern<R: RegExp>(&self) -> Result<UrlPattern<R>, Error>
-        ensures compiled { IfOk result (λ pattern. AreCompiled R.RegExp self.now.options.now (values_of self.now) (pattern_view pattern)) }
-        ensures refused { IfErr result (MemoryOr (RefusesValues R.RegExp self.now.options.now (values_of self.now))) }
+        ensures compiled { IfOk result (λ pattern. AreCompiled R.RegExp self.now.options.now (compiler_values self.now) (pattern_view pattern)) }
+        ensures refused { IfErr result (MemoryOr (RefusesValues R.RegExp self.now.options.now (compiler_values self.now))) }
     {
         let protocol = self.component(ComponentName::Protocol, false)?;
         let hierarchical = self.is_hierarchical(&protocol)?;
@@ -287,7 +287,7 @@ impl Compiler<'_> {
     ///
     /// The error is the refusal of `url`, or that memory ran out.
     fn canonical_in_hostname(&self, text: &str) -> Result<String, Error>
-        ensures { IsAnswer (canonical_in_hostname (unwrap_or (values_of self.now).hostname []) (chars text.now)) (length text.now) result }
+        ensures { IsAnswer (canonical_in_hostname (unwrap_or (compiler_values self.now).hostname []) (chars text.now)) (length text.now) result }
     {
         match &self.values.hostname {
             Some(pattern) if is_ipv6_pattern(pattern) => {
@@ -301,7 +301,7 @@ impl Compiler<'_> {
     ///
     /// The error is that memory ran out.
     fn is_hierarchical<R: RegExp>(&self, protocol: &component::Component<R>) -> Result<bool, Error>
-        ensures path_kind { IfOk result (λ hierarchical. IsTrue hierarchical ↔ HasHierarchicalPath R.answer (values_of self.now) (component_view protocol.now).matcher) }
+        ensures path_kind { IfOk result (λ hierarchical. IsTrue hierarchical ↔ HasHierarchicalPath R.answer (compiler_values self.now) (component_view protocol.now).matcher) }
         ensures memory { OnlyOutOfMemory result }
     {
         if is_there_and_empty(&self.values.protocol) || is_there_with_slash(&self.values.pathname) {

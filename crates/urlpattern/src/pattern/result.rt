@@ -4,7 +4,7 @@ ghost use Rattle.std.specs.HashMap.{IsUnique, get_by_text, keys};
 ghost use Rattle.std.specs.Ordering.{nat_cmp};
 ghost use Rattle.std.specs.Prelude.{◌≡◌, ℕ, List, None, map, option_copied, string_bytes, string_eq, unwrap_or, IfOk, IsPermutation, IsSorted};
 ghost use Rattle.std.specs.Str.{chars};
-ghost use Rattle.urlpattern_core.specs.Captured.{capture_view};
+ghost use Rattle.urlpattern_core.specs.CaptureTexts.{capture_view};
 ghost use Rattle.urlpattern_syntax.specs.declared.eight.ComponentName.{ComponentName as Name};
 ghost use Rattle.urlpattern.specs.Calls.{captured_bytes, lent_bytes, texts_of, AreGroups, HasNoGroups, IsWithoutGroups};
 ghost use Rattle.urlpattern.specs.Match.{component_result_view, group_in, result_view};

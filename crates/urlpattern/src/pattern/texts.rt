@@ -4,7 +4,7 @@ ghost use Rattle.std.specs.Str.{chars};
 ghost use Rattle.urlpattern_init.specs.Inheritance as inherited;
 ghost use Rattle.urlpattern_init.specs.Inheritance.{texts_of_url};
 ghost use Rattle.urlpattern.specs.MatchInput.{texts_view};
-ghost use Rattle.urlpattern.specs.Calls.{borrowed_texts, IsCopyOf};
+ghost use Rattle.urlpattern.specs.Calls.{borrowed_texts, IsTextCopied};
 ghost use Rattle.urlpattern_syntax.specs.Eight.{at};
 
 use std::alloc::{AllocError, Global};
@@ -38,7 +38,7 @@ pub(crate) fn copied(alloc: Global, texts: &Eight<&str>) -> Result<MatchInput, A
     ensures { IfOk result (λ copies. texts_view copies ≡ borrowed_texts texts.now) }
 {
     let copy = |name: ComponentName| -> Result<String, AllocError>
-        ensures { IsCopyOf (at (borrowed_texts texts.entry.now) name) result }
+        ensures { IsTextCopied (at (borrowed_texts texts.entry.now) name) result }
     { String::from_str(alloc, *texts.get(name)) };
     Ok(MatchInput::from_eight(Eight::try_from_fn(copy)?))
 }

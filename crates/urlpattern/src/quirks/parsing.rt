@@ -9,11 +9,11 @@ ghost use Rattle.urlpattern_syntax.specs.Text.{text_of};
 
 use crate::pattern;
 use std::alloc::Global;
+use urlpattern_compiled::{UrlPattern, UrlPatternComponent};
 use urlpattern_core::Error;
 use urlpattern_core::component::Component;
 use urlpattern_core::regexp::RegExp;
 use urlpattern_init::UrlPatternInit;
-use urlpattern_compiled::{UrlPattern, UrlPatternComponent};
 use urlpattern_inputs::UrlPatternOptions;
 
 /// Compiles a pattern from an init, and returns it as plain data.

@@ -2,7 +2,7 @@
 
 ghost use Rattle.std.specs.Prelude.{◌≡◌, IfErr, IfOk};
 ghost use Rattle.std.specs.Str.{chars};
-ghost use Rattle.urlpattern_core.specs.Compiling.{AnswersByItsParts, FailsToRead, IsCompiledFrom, IsComponentOf, IsWholeEngineOf, component_view, engine_flags, has_regexp, pattern_text};
+ghost use Rattle.urlpattern_core.specs.Components.{AnswersByItsParts, FailsToRead, IsCompiledFrom, IsComponentOf, IsWholeEngineOf, component_view, engine_flags, has_regexp, pattern_text};
 ghost use Rattle.urlpattern_core.specs.Matchers.{engine_view};
 ghost use Rattle.urlpattern_syntax.specs.Errors.{OnlyOutOfMemory};
 ghost use Rattle.urlpattern_syntax.specs.Options.{options_view};

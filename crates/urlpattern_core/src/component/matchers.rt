@@ -2,9 +2,9 @@
 
 ghost use Rattle.std.specs.Prelude.{◌≡◌, false, ◌++◌, IfOk, IfSome};
 ghost use Rattle.std.specs.Str.{chars};
-ghost use Rattle.urlpattern_core.specs.Compiling.{IsEngineOf};
+ghost use Rattle.urlpattern_core.specs.Components.{IsEngineOf};
 ghost use Rattle.urlpattern_core.specs.Matchers.{IfMatcher, PeelsBack, PeelsFront, PeelsTo, capture_of, engine_view, literal_view};
-ghost use Rattle.urlpattern_laws.specs.Matching.{AnswersByMeaning, single_capture, IsMadeByEngine, IsMadeOf};
+ghost use Rattle.urlpattern_meaning.specs.Matching.{AnswersByMeaning, single_capture_matcher, IsMadeByEngine, IsMadeOf};
 ghost use Rattle.urlpattern_syntax.specs.Errors.{OnlyOutOfMemory};
 ghost use Rattle.urlpattern_syntax.specs.Options.{options_view};
 ghost use Rattle.urlpattern_syntax.specs.Parts.{part_view, parts_view};
@@ -148,7 +148,7 @@ fn capture_matcher<R>(
     allow_empty: bool,
 ) -> Result<Matcher<R>, AllocError>
     ensures { IfMatcher result (λ made. made
-        ≡ single_capture (options_view options.now) (chars prefix.now) (part_view part.now) (chars suffix.now) filter allow_empty) }
+        ≡ single_capture_matcher (options_view options.now) (chars prefix.now) (part_view part.now) (chars suffix.now) filter allow_empty) }
 {
     Ok(Matcher {
         prefix: joined(alloc, prefix, &part.prefix)?,

@@ -4,7 +4,7 @@ ghost use Rattle.std.specs.Prelude.{IfSome};
 ghost use Rattle.std.specs.Str.{chars};
 ghost use Rattle.urlpattern_core.specs.Looks.{look_answer, IsAsking};
 ghost use Rattle.urlpattern_core.specs.Matchers.{matcher_view};
-ghost use Rattle.urlpattern_laws.specs.Matching.{Answers, AsksEngine};
+ghost use Rattle.urlpattern_meaning.specs.Matching.{Answers, AsksEngine};
 
 use super::{InnerMatcher, Matcher};
 use crate::regexp::RegExp;

@@ -2,8 +2,8 @@
 
 ghost use Rattle.std.specs.Prelude.{◌≡◌, map, option_map, IfOk};
 ghost use Rattle.regex.specs.Strings.{captures_haystack, captures_span};
-ghost use Rattle.urlpattern_core.specs.Captured.{capture_view};
-ghost use Rattle.urlpattern_core.specs.Engines.{found_texts, text_between};
+ghost use Rattle.urlpattern_core.specs.CaptureTexts.{capture_view};
+ghost use Rattle.urlpattern_core.specs.Regexes.{found_texts, text_between};
 
 use crate::error::OutOfMemory;
 use regex::Captures;

@@ -2,9 +2,9 @@
 
 ghost use Rattle.std.specs.Prelude.{◌∷◌, List, IfOk};
 ghost use Rattle.std.specs.Str.{chars};
-ghost use Rattle.urlpattern_engine.specs.Failed.{IsPlace};
-ghost use Rattle.urlpattern_engine.specs.Steps.{walk, walk_copies};
-ghost use Rattle.urlpattern_engine.specs.Taken.{Follows};
+ghost use Rattle.urlpattern_engine.specs.Failed.{IsStateOf};
+ghost use Rattle.urlpattern_engine.specs.Walk.{walk, walk_copies};
+ghost use Rattle.urlpattern_engine.specs.Taken.{FollowsSteps};
 
 use crate::repeats::{after_literals, first_steps, pass, skip_copies, without_copy};
 use crate::step::{Copies, Step};
@@ -16,8 +16,8 @@ impl<'t> Attempt<'_, 't> {
     /// Whether the steps that follow take what follows copies of a text, the most first. Where they do, what they capture is added.
     #[cycle(following)]
     pub(super) fn follow_copies(&mut self, copies: Copies, steps: &[Step], text: &'t str) -> Taken
-        requires { IsPlace self.old.failed steps.now (chars text.now) }
-        ensures { IfOk result (λ taken. Follows self.old self.new taken (walk (Step.Copies copies ∷ steps.now) (chars text.now))) }
+        requires { IsStateOf self.old.failed steps.now (chars text.now) }
+        ensures { IfOk result (λ taken. FollowsSteps self.old self.new taken (walk (Step.Copies copies ∷ steps.now) (chars text.now))) }
     {
         let first = copies.text.first;
         let literal = first_steps(steps, copies.text.others);
@@ -41,8 +41,8 @@ impl<'t> Attempt<'_, 't> {
         others: &[Step],
         text: &'t str,
     ) -> Taken
-        requires { IsPlace self.old.failed others.now (chars text.now) }
-        ensures { IfOk result (λ taken. Follows self.old self.new taken (walk_copies first literal.now others.now (chars text.now))) }
+        requires { IsStateOf self.old.failed others.now (chars text.now) }
+        ensures { IfOk result (λ taken. FollowsSteps self.old self.new taken (walk_copies first literal.now others.now (chars text.now))) }
     {
         let rest = skip_copies(text, first, literal);
         let mut front = before(text, rest);

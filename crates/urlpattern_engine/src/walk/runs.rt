@@ -2,9 +2,9 @@
 
 ghost use Rattle.std.specs.Prelude.{◌≡◌, ◌∷◌, List, IfOk};
 ghost use Rattle.std.specs.Str.{chars};
-ghost use Rattle.urlpattern_engine.specs.Failed.{IsPlace};
-ghost use Rattle.urlpattern_engine.specs.Steps.{walk};
-ghost use Rattle.urlpattern_engine.specs.Taken.{Follows};
+ghost use Rattle.urlpattern_engine.specs.Failed.{IsStateOf};
+ghost use Rattle.urlpattern_engine.specs.Walk.{walk};
+ghost use Rattle.urlpattern_engine.specs.Taken.{FollowsSteps};
 
 use crate::runs::{longest_front, next_of_run, remember_run};
 use crate::step::{Run, Step};
@@ -23,9 +23,9 @@ impl<'t> Attempt<'_, 't> {
         others: &[Step],
         text: &'t str,
     ) -> Taken
-        requires place { IsPlace self.old.failed steps.now (chars text.now) }
+        requires state { IsStateOf self.old.failed steps.now (chars text.now) }
         requires first { steps.now ≡ Step.Segment end ∷ others.now }
-        ensures { IfOk result (λ taken. Follows self.old self.new taken (walk steps.now (chars text.now))) }
+        ensures { IfOk result (λ taken. FollowsSteps self.old self.new taken (walk steps.now (chars text.now))) }
     {
         let mut rest = text;
         while let Some((_, remaining)) = next_of_run(&self.failed, end, steps, rest) {
@@ -42,9 +42,9 @@ impl<'t> Attempt<'_, 't> {
     /// capture is added.
     #[cycle(following)]
     pub(super) fn follow_longest(&mut self, steps: &[Step], others: &[Step], text: &'t str) -> Taken
-        requires place { IsPlace self.old.failed steps.now (chars text.now) }
+        requires state { IsStateOf self.old.failed steps.now (chars text.now) }
         requires first { steps.now ≡ Step.Anything ∷ others.now }
-        ensures { IfOk result (λ taken. Follows self.old self.new taken (walk steps.now (chars text.now))) }
+        ensures { IfOk result (λ taken. FollowsSteps self.old self.new taken (walk steps.now (chars text.now))) }
     {
         let mut front = longest_front(&self.failed, steps, text);
         loop {
@@ -64,8 +64,8 @@ impl<'t> Attempt<'_, 't> {
     /// are added.
     #[cycle(following)]
     pub(super) fn follow_longest_run(&mut self, run: Run, steps: &[Step], text: &'t str) -> Taken
-        requires { IsPlace self.old.failed steps.now (chars text.now) }
-        ensures { IfOk result (λ taken. Follows self.old self.new taken (walk (Step.Longest run ∷ steps.now) (chars text.now))) }
+        requires { IsStateOf self.old.failed steps.now (chars text.now) }
+        ensures { IfOk result (λ taken. FollowsSteps self.old self.new taken (walk (Step.Longest run ∷ steps.now) (chars text.now))) }
     {
         let (mut front, _) = split_at_first(text, run.end);
         while let Some(shorter) = without_last(front) {

@@ -2,9 +2,9 @@
 
 ghost use Rattle.std.specs.Prelude.{◌∷◌, List, IfOk, OnOk};
 ghost use Rattle.std.specs.Str.{chars};
-ghost use Rattle.urlpattern_engine.specs.Failed.{IsPlace};
-ghost use Rattle.urlpattern_engine.specs.Steps.{walk};
-ghost use Rattle.urlpattern_engine.specs.Taken.{Follows, IsEndHere, IsEndOfSegments, Untouched};
+ghost use Rattle.urlpattern_engine.specs.Failed.{IsStateOf};
+ghost use Rattle.urlpattern_engine.specs.Walk.{walk};
+ghost use Rattle.urlpattern_engine.specs.Taken.{FollowsSteps, IsEndHere, IsEndOfSegments, Untouched};
 
 use crate::repeats::{begun_after, ends, first_steps, goes_on, pass};
 use crate::step::{Segments, Step};
@@ -23,8 +23,8 @@ impl<'t> Attempt<'_, 't> {
         steps: &[Step],
         text: &'t str,
     ) -> Taken
-        requires { IsPlace self.old.failed steps.now (chars text.now) }
-        ensures { IfOk result (λ taken. Follows self.old self.new taken (walk (Step.Segments segments ∷ steps.now) (chars text.now))) }
+        requires { IsStateOf self.old.failed steps.now (chars text.now) }
+        ensures { IfOk result (λ taken. FollowsSteps self.old self.new taken (walk (Step.Segments segments ∷ steps.now) (chars text.now))) }
     {
         let literal = first_steps(steps, segments.separator.others);
         let others = pass(steps, segments.separator.others);
@@ -49,7 +49,7 @@ impl<'t> Attempt<'_, 't> {
         others: &[Step],
         text: &'t str,
     ) -> Result<Option<usize>, OutOfMemory>
-        requires { IsPlace self.old.failed others.now (chars text.now) }
+        requires { IsStateOf self.old.failed others.now (chars text.now) }
         ensures cut { IfOk result (λ end. IsEndOfSegments segments literal.now others.now text.now end) }
         ensures same { OnOk result (Untouched self.old self.new) }
     {
@@ -83,7 +83,7 @@ impl<'t> Attempt<'_, 't> {
         here: usize,
         rest: &'t str,
     ) -> Result<Option<usize>, OutOfMemory>
-        requires { IsPlace self.old.failed steps.now (chars rest.now) }
+        requires { IsStateOf self.old.failed steps.now (chars rest.now) }
         ensures end { IfOk result (λ end. IsEndHere next here (walk steps.now (chars rest.now)) end) }
         ensures same { OnOk result (Untouched self.old self.new) }
     {

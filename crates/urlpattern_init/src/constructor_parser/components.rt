@@ -3,12 +3,12 @@ ghost use Rattle.std.specs.Prelude.{◌≡◌, IfOk, Some, ◌+◌, ◌*◌, ◌
 ghost use Rattle.std.specs.Str.{chars};
 ghost use Rattle.urlpattern_init.specs.Inheritance.{values_view};
 ghost use Rattle.urlpattern_init.specs.Split.{AuthorityFrom, EndsAt, HashAt, HashFrom, HostnameFrom, IsAbsoluteSplit, IsRelativeSplit, IsTextBetween, PathnameAt, PathnameFrom, PortAt, SearchAt, SearchFrom, UserinfoFrom, depth_before, ends_at, implied_pathname, is_at_sign, is_colon_sign, is_slash_sign};
-ghost use Rattle.urlpattern_init.specs.Splitting.{CanRead, HasRead, HasTurnForSlash, HasTurns, IsOwned, IsSource, NoAuthority, NoPathname, NoSearch, components_of, may_follow_hostname, may_follow_pathname, may_follow_port, may_follow_search, text_of_source, tokens_of};
+ghost use Rattle.urlpattern_init.specs.Splitting.{CanRead, HasRead, HasTurnForSlash, HasTurns, IsOwned, IsSource, NoAuthority, NoPathname, NoSearch, split_values, may_follow_hostname, may_follow_pathname, may_follow_port, may_follow_search, text_of_source, tokens_of};
 ghost use Rattle.urlpattern_syntax.specs.Parsing.{name_view};
 ghost use Rattle.urlpattern_syntax.specs.Eight.{at};
 ghost use Rattle.urlpattern_syntax.specs.Errors.{OnlyOutOfMemory};
 
-use super::sections::{Place, Section};
+use super::sections::{Position, Section};
 use super::tokens::Source;
 use crate::init::UrlPatternInit;
 use std::alloc::Global;
@@ -32,12 +32,12 @@ impl<'a> Split<'a> {
         alloc: Global,
         base_url: Option<Url>,
     ) -> Result<UrlPatternInit, Error>
-        ensures components { IfOk result (λ init. values_view init ≡ components_of self.now) }
+        ensures components { IfOk result (λ init. values_view init ≡ split_values self.now) }
         ensures base { IfOk result (λ init. init.base_url ≡ base_url) }
         ensures memory { OnlyOutOfMemory result }
     {
         let value = |name: ComponentName| -> Result<Option<String>, Error>
-            ensures { IsOwned (at (components_of self.entry.now) name) result }
+            ensures { IsOwned (at (split_values self.entry.now) name) result }
         { owned(alloc, *self.values.get(name)) };
         let values = Eight::try_from_fn(value)?;
         Ok(UrlPatternInit::from_eight(values, base_url))
@@ -45,8 +45,8 @@ impl<'a> Split<'a> {
 
     /// No component.
     fn nothing(turns: usize) -> Split<'a>
-        ensures nothing { NoSearch (components_of result) }
-        ensures hash { (components_of result).hash ≡ None }
+        ensures nothing { NoSearch (split_values result) }
+        ensures hash { (split_values result).hash ≡ None }
         ensures turns { result.turns ≡ turns }
     {
         let none = |_name: ComponentName| -> Option<&str>
@@ -71,14 +71,14 @@ fn owned(alloc: Global, text: Option<&str>) -> Result<Option<String>, Error>
 
 impl<'t, 'a> Source<'t, 'a> {
     /// The components of a text with a protocol, which ends at a colon.
-    pub(super) fn absolute(&self, colon: Place, protocol: &'a str, special: bool) -> Split<'a>
+    pub(super) fn absolute(&self, colon: Position, protocol: &'a str, special: bool) -> Split<'a>
         requires source { IsSource self.now }
         requires protocol { IsTextBetween (text_of_source self.now) (tokens_of self.now) 0 colon.index (chars protocol.now) }
         requires ends { EndsAt Section.Protocol (tokens_of self.now) 0 0 colon.index }
         requires sign { IsTrue (is_colon_sign (tokens_of self.now) colon.index) }
         requires turns { colon.turns ≤ 2 * (colon.index + 1) }
-        ensures split { IsAbsoluteSplit (text_of_source self.now) (tokens_of self.now) special colon.index (components_of result) }
-        ensures protocol { (components_of result).protocol ≡ Some (chars protocol.now) }
+        ensures split { IsAbsoluteSplit (text_of_source self.now) (tokens_of self.now) special colon.index (split_values result) }
+        ensures protocol { (split_values result).protocol ≡ Some (chars protocol.now) }
         ensures turns { result.turns ≤ 2 * length self.now.tokens.now }
     {
         if self.has_slashes(colon.index) {
@@ -99,43 +99,43 @@ impl<'t, 'a> Source<'t, 'a> {
     }
 
     /// The components of a text in which no protocol was found, read up to its end.
-    pub(super) fn relative(&self, end: Place) -> Split<'a>
+    pub(super) fn relative(&self, end: Position) -> Split<'a>
         requires source { IsSource self.now }
         requires ends { EndsAt Section.Protocol (tokens_of self.now) 0 0 end.index }
         requires end { IsTrue (ends_at (tokens_of self.now) end.index) }
         requires depth { end.depth ≡ depth_before (tokens_of self.now) 0 0 end.index }
         requires shallow { end.depth ≤ end.index }
         requires turns { end.turns ≤ length self.now.tokens.now }
-        ensures split { IsRelativeSplit (text_of_source self.now) (tokens_of self.now) (components_of result) }
+        ensures split { IsRelativeSplit (text_of_source self.now) (tokens_of self.now) (split_values result) }
         ensures turns { result.turns ≤ 2 * length self.now.tokens.now }
     {
         if self.is_sign(0, b'#') {
-            return self.hash_from(Place { index: 1, ..end });
+            return self.hash_from(Position { index: 1, ..end });
         }
         if self.is_search_sign(0) {
-            return self.search_from(Place { index: 1, ..end });
+            return self.search_from(Position { index: 1, ..end });
         }
-        self.pathname_from(Place { index: 0, ..end })
+        self.pathname_from(Position { index: 0, ..end })
     }
 
-    /// The authority, which begins at a place, and what stands after it.
-    fn authority_from(&self, from: Place, special: bool) -> Split<'a>
+    /// The authority, which begins at a position, and what stands after it.
+    fn authority_from(&self, from: Position, special: bool) -> Split<'a>
         requires source { IsSource self.now }
         requires within { from.index < length self.now.tokens.now }
         requires level { from.depth ≡ 0 }
         requires turns { from.turns ≤ 2 * from.index }
-        ensures split { AuthorityFrom (text_of_source self.now) (tokens_of self.now) special from.index (components_of result) }
+        ensures split { AuthorityFrom (text_of_source self.now) (tokens_of self.now) special from.index (split_values result) }
         ensures turns { result.turns ≤ 2 * length self.now.tokens.now }
     {
         let end = self.end_of(Section::Authority, from);
         if self.is_sign(end.index, b'@') {
-            let back = Place {
+            let back = Position {
                 turns: end.turns,
                 ..from
             };
             return self.userinfo_from(back, end.index, special);
         }
-        let back = Place {
+        let back = Position {
             index: from.index,
             ..end
         };
@@ -145,16 +145,16 @@ impl<'t, 'a> Source<'t, 'a> {
         Split { values, turns }
     }
 
-    /// The username and the password, which begin at a place, where the hostname follows the sign `until`, and what
+    /// The username and the password, which begin at a position, where the hostname follows the sign `until`, and what
     /// stands after them.
-    fn userinfo_from(&self, from: Place, until: usize, special: bool) -> Split<'a>
+    fn userinfo_from(&self, from: Position, until: usize, special: bool) -> Split<'a>
         requires source { IsSource self.now }
         requires ends { EndsAt Section.Authority (tokens_of self.now) from.index 0 until }
         requires sign { IsTrue (is_at_sign (tokens_of self.now) until) }
         requires level { from.depth ≡ 0 }
         requires turns { from.turns ≤ from.index + until + 1 }
-        ensures userinfo { UserinfoFrom (text_of_source self.now) (tokens_of self.now) from.index until (components_of result) }
-        ensures hostname { HostnameFrom (text_of_source self.now) (tokens_of self.now) special (until + 1) 0 (components_of result) }
+        ensures userinfo { UserinfoFrom (text_of_source self.now) (tokens_of self.now) from.index until (split_values result) }
+        ensures hostname { HostnameFrom (text_of_source self.now) (tokens_of self.now) special (until + 1) 0 (split_values result) }
         ensures turns { result.turns ≤ 2 * length self.now.tokens.now }
     {
         let end = self.end_of(Section::Username, from);
@@ -174,12 +174,12 @@ impl<'t, 'a> Source<'t, 'a> {
         Split { values, turns }
     }
 
-    /// The hostname, which begins at a place, and what stands after it.
-    fn hostname_from(&self, from: Place, special: bool) -> Split<'a>
+    /// The hostname, which begins at a position, and what stands after it.
+    fn hostname_from(&self, from: Position, special: bool) -> Split<'a>
         requires source { IsSource self.now }
         requires reads { CanRead self.now from }
         requires slash { HasTurnForSlash self.now from.index from.depth (from.turns + 1) }
-        ensures split { HostnameFrom (text_of_source self.now) (tokens_of self.now) special from.index from.depth (components_of result) }
+        ensures split { HostnameFrom (text_of_source self.now) (tokens_of self.now) special from.index from.depth (split_values result) }
         ensures turns { result.turns ≤ 2 * length self.now.tokens.now }
     {
         let end = self.end_of(Section::Hostname, from);
@@ -188,13 +188,13 @@ impl<'t, 'a> Source<'t, 'a> {
         Split { values, turns }
     }
 
-    /// The port, if a colon stands at a place, and what stands after it.
-    fn port_at(&self, end: Place, special: bool) -> Split<'a>
+    /// The port, if a colon stands at a position, and what stands after it.
+    fn port_at(&self, end: Position, special: bool) -> Split<'a>
         requires source { IsSource self.now }
         requires reads { HasRead self.now end }
         requires sign { IsTrue (may_follow_hostname (tokens_of self.now) end.index) }
         requires slash { HasTurnForSlash self.now end.index 0 end.turns }
-        ensures split { PortAt (text_of_source self.now) (tokens_of self.now) special end.index (components_of result) }
+        ensures split { PortAt (text_of_source self.now) (tokens_of self.now) special end.index (split_values result) }
         ensures turns { result.turns ≤ 2 * length self.now.tokens.now }
     {
         if self.is_sign(end.index, b':') {
@@ -209,14 +209,14 @@ impl<'t, 'a> Source<'t, 'a> {
         Split { values, turns }
     }
 
-    /// What stands after the hostname and the port: the pathname, if it begins at a place, the search and the hash.
-    fn pathname_at(&self, end: Place, special: bool) -> Split<'a>
+    /// What stands after the hostname and the port: the pathname, if it begins at a position, the search and the hash.
+    fn pathname_at(&self, end: Position, special: bool) -> Split<'a>
         requires source { IsSource self.now }
         requires reads { HasRead self.now end }
         requires sign { IsTrue (may_follow_port (tokens_of self.now) end.index) }
         requires slash { IsTrue (is_slash_sign (tokens_of self.now) end.index) → HasTurns self.now end.index end.turns }
-        ensures split { PathnameAt (text_of_source self.now) (tokens_of self.now) special end.index (components_of result) }
-        ensures nothing { NoAuthority (components_of result) }
+        ensures split { PathnameAt (text_of_source self.now) (tokens_of self.now) special end.index (split_values result) }
+        ensures nothing { NoAuthority (split_values result) }
         ensures turns { result.turns ≤ 2 * length self.now.tokens.now }
     {
         if self.is_sign(end.index, b'/') {
@@ -230,12 +230,12 @@ impl<'t, 'a> Source<'t, 'a> {
         Split::nothing(end.turns)
     }
 
-    /// The pathname, which begins at a place, the search and the hash.
-    fn pathname_from(&self, from: Place) -> Split<'a>
+    /// The pathname, which begins at a position, the search and the hash.
+    fn pathname_from(&self, from: Position) -> Split<'a>
         requires source { IsSource self.now }
         requires reads { CanRead self.now from }
-        ensures split { PathnameFrom (text_of_source self.now) (tokens_of self.now) from.index from.depth (components_of result) }
-        ensures nothing { NoAuthority (components_of result) }
+        ensures split { PathnameFrom (text_of_source self.now) (tokens_of self.now) from.index from.depth (split_values result) }
+        ensures nothing { NoAuthority (split_values result) }
         ensures turns { result.turns ≤ 2 * length self.now.tokens.now }
     {
         let end = self.end_of(Section::Pathname, from);
@@ -244,13 +244,13 @@ impl<'t, 'a> Source<'t, 'a> {
         Split { values, turns }
     }
 
-    /// The search and the hash, if they begin after the token at a place.
-    fn search_at(&self, end: Place) -> Split<'a>
+    /// The search and the hash, if they begin after the token at a position.
+    fn search_at(&self, end: Position) -> Split<'a>
         requires source { IsSource self.now }
         requires reads { HasRead self.now end }
         requires sign { IsTrue (may_follow_pathname (tokens_of self.now) end.index) }
-        ensures split { SearchAt (text_of_source self.now) (tokens_of self.now) end.index (components_of result) }
-        ensures nothing { NoPathname (components_of result) }
+        ensures split { SearchAt (text_of_source self.now) (tokens_of self.now) end.index (split_values result) }
+        ensures nothing { NoPathname (split_values result) }
         ensures turns { result.turns ≤ 2 * length self.now.tokens.now }
     {
         if self.is_search_sign(end.index) {
@@ -264,12 +264,12 @@ impl<'t, 'a> Source<'t, 'a> {
         Split::nothing(end.turns)
     }
 
-    /// The search, which begins at a place, and the hash.
-    fn search_from(&self, from: Place) -> Split<'a>
+    /// The search, which begins at a position, and the hash.
+    fn search_from(&self, from: Position) -> Split<'a>
         requires source { IsSource self.now }
         requires reads { CanRead self.now from }
-        ensures split { SearchFrom (text_of_source self.now) (tokens_of self.now) from.index from.depth (components_of result) }
-        ensures nothing { NoPathname (components_of result) }
+        ensures split { SearchFrom (text_of_source self.now) (tokens_of self.now) from.index from.depth (split_values result) }
+        ensures nothing { NoPathname (split_values result) }
         ensures turns { result.turns ≤ 2 * length self.now.tokens.now }
     {
         let end = self.end_of(Section::Search, from);
@@ -278,13 +278,13 @@ impl<'t, 'a> Source<'t, 'a> {
         Split { values, turns }
     }
 
-    /// The hash, if it begins after the token at a place.
-    fn hash_at(&self, end: Place) -> Split<'a>
+    /// The hash, if it begins after the token at a position.
+    fn hash_at(&self, end: Position) -> Split<'a>
         requires source { IsSource self.now }
         requires reads { HasRead self.now end }
         requires sign { IsTrue (may_follow_search (tokens_of self.now) end.index) }
-        ensures split { HashAt (text_of_source self.now) (tokens_of self.now) end.index (components_of result) }
-        ensures nothing { NoSearch (components_of result) }
+        ensures split { HashAt (text_of_source self.now) (tokens_of self.now) end.index (split_values result) }
+        ensures nothing { NoSearch (split_values result) }
         ensures turns { result.turns ≤ 2 * length self.now.tokens.now }
     {
         if self.is_sign(end.index, b'#') {
@@ -293,12 +293,12 @@ impl<'t, 'a> Source<'t, 'a> {
         Split::nothing(end.turns)
     }
 
-    /// The hash, which begins at a place.
-    fn hash_from(&self, from: Place) -> Split<'a>
+    /// The hash, which begins at a position.
+    fn hash_from(&self, from: Position) -> Split<'a>
         requires source { IsSource self.now }
         requires reads { CanRead self.now from }
-        ensures split { HashFrom (text_of_source self.now) (tokens_of self.now) from.index (components_of result) }
-        ensures nothing { NoSearch (components_of result) }
+        ensures split { HashFrom (text_of_source self.now) (tokens_of self.now) from.index (split_values result) }
+        ensures nothing { NoSearch (split_values result) }
         ensures turns { result.turns ≤ 2 * length self.now.tokens.now }
     {
         let end = self.end_of(Section::Hash, from);

@@ -1,6 +1,6 @@
 //! The sections of a constructor string, and where each ends.
 ghost use Rattle.std.specs.Prelude.{◌≡◌, ◌+◌, ◌*◌, ◌^◌, ◌<◌, ◌≤◌, ◌∷◌, ◌&&◌, ◌==◌, not, if◌then◌else◌, [], length};
-ghost use Rattle.urlpattern_init.specs.Split.{EndsAt, at, depth_before, depth_after, is_end, is_ending, is_open, is_sign};
+ghost use Rattle.urlpattern_init.specs.Split.{EndsAt, passes_at, depth_before, depth_after, is_end, is_ending, is_open, is_sign};
 ghost use Rattle.urlpattern_init.specs.Splitting.{IsSource, is_hostname, tokens_of};
 
 use super::tokens::Source;
@@ -24,7 +24,7 @@ pub(super) enum Section {
 
 /// How far the tokens have been read.
 #[derive(Clone, Copy)]
-pub(super) struct Place {
+pub(super) struct Position {
     /// The index of the token to be read next.
     pub(super) index: usize,
     /// How many groups are open before it.
@@ -33,15 +33,15 @@ pub(super) struct Place {
     pub(super) turns: usize,
 }
 
-impl Place {
-    /// The place so many tokens after this one, outside of all groups.
-    pub(super) fn after(self, count: usize) -> Place
+impl Position {
+    /// The position so many tokens after this one, outside of all groups.
+    pub(super) fn after(self, count: usize) -> Position
         requires { self.index + count < 2 ^ 64 }
         ensures index { result.index ≡ self.index + count }
         ensures depth { result.depth ≡ 0 }
         ensures turns { result.turns ≡ self.turns }
     {
-        Place {
+        Position {
             index: self.index + count,
             depth: 0,
             turns: self.turns,
@@ -50,9 +50,9 @@ impl Place {
 }
 
 impl<'t, 'a> Source<'t, 'a> {
-    /// The token with which a section ends that begins at a place: the first that is seen and is one of its signs, or
+    /// The token with which a section ends that begins at a position: the first that is seen and is one of its signs, or
     /// the end. Every token up to there is looked at once.
-    pub(super) fn end_of(&self, section: Section, from: Place) -> Place
+    pub(super) fn end_of(&self, section: Section, from: Position) -> Position
         requires source { IsSource self.now }
         requires within { from.index < length self.now.tokens.now }
         requires shallow { from.depth ≤ length self.now.tokens.now }
@@ -62,23 +62,23 @@ impl<'t, 'a> Source<'t, 'a> {
         ensures shallow { result.depth + from.index ≤ from.depth + result.index }
         ensures turns { result.turns + from.index ≡ from.turns + result.index + 1 }
     {
-        let mut place = from;
+        let mut position = from;
         let mut opened = 0;
         let mut closed = 0;
         loop {
-            let kind = self.tokens[place.index].kind;
-            place.turns += 1;
+            let kind = self.tokens[position.index].kind;
+            position.turns += 1;
             if is_end(kind) {
-                return place;
+                return position;
             }
-            let is_seen = is_seen(kind, place.depth);
-            if is_seen && self.is_ending(section, opened == closed, place.index) {
-                return place;
+            let is_seen = is_seen(kind, position.depth);
+            if is_seen && self.is_ending(section, opened == closed, position.index) {
+                return position;
             }
-            opened = self.count_bracket(section, is_seen, place.index, b'[', opened);
-            closed = self.count_bracket(section, is_seen, place.index, b']', closed);
-            place.depth = depth_after(kind, place.depth);
-            place.index += 1;
+            opened = self.count_bracket(section, is_seen, position.index, b'[', opened);
+            closed = self.count_bracket(section, is_seen, position.index, b']', closed);
+            position.depth = depth_after(kind, position.depth);
+            position.index += 1;
         }
     }
 
@@ -123,7 +123,7 @@ impl<'t, 'a> Source<'t, 'a> {
     ) -> usize
         requires ascii { mark < 128 }
         requires room { count + 1 < 2 ^ 64 }
-        ensures { result ≡ count + (if is_hostname section && is_seen && at (is_sign (mark ∷ [])) (tokens_of self.now) index then 1 else 0) }
+        ensures { result ≡ count + (if is_hostname section && is_seen && passes_at (is_sign (mark ∷ [])) (tokens_of self.now) index then 1 else 0) }
     {
         if matches!(section, Section::Hostname) && is_seen && self.is_sign(index, mark) {
             count + 1

@@ -1,7 +1,7 @@
 //! A constructor string with its tokens, and the signs that they stand for.
 ghost use Rattle.std.specs.Prelude.{◌≡◌, ◌+◌, ◌^◌, ◌<◌, ◌≤◌, ◌∷◌, [], length};
 ghost use Rattle.std.specs.Str.{bytes_eq, chars};
-ghost use Rattle.urlpattern_init.specs.Split.{IsTextBetween, at, follows_modified, has_slashes, is_character, is_search_sign, is_sign, takes_modifier};
+ghost use Rattle.urlpattern_init.specs.Split.{IsTextBetween, passes_at, follows_modified, has_slashes, is_character, is_search_sign, is_sign, takes_modifier};
 ghost use Rattle.urlpattern_init.specs.Splitting.{IsSource, text_of_source, tokens_of};
 
 use urlpattern_core::tokenizer::{Token, TokenType};
@@ -17,7 +17,7 @@ impl<'t, 'a> Source<'t, 'a> {
     /// Whether the token at the index stands for this ASCII character.
     pub(super) fn is_sign(&self, index: usize, mark: u8) -> bool
         requires { mark < 128 }
-        ensures { result ≡ at (is_sign (mark ∷ [])) (tokens_of self.now) index }
+        ensures { result ≡ passes_at (is_sign (mark ∷ [])) (tokens_of self.now) index }
     {
         match self.tokens.get(index) {
             Some(token) => is_character(token.kind) && is_mark(token.value, mark),

@@ -4,7 +4,7 @@ ghost use Rattle.std.specs.Str.{chars};
 ghost use Rattle.urlpattern_canonical.specs.Canonical.{Reports};
 ghost use Rattle.urlpattern_init.specs.Inheritance as spec;
 ghost use Rattle.urlpattern_init.specs.Inheritance.{bytes_of, init_bytes, init_values, is_inheritable, missing, must_lack, up_to_last_slash, values_of, values_view};
-ghost use Rattle.urlpattern_init.specs.Processing.{IsFailureIn, IsPathnameAnswer, IsTextAnswer, IsValueAfter, bytes_in, given_values, lacking_in, optional_bytes, optional_text, value_in, values_in};
+ghost use Rattle.urlpattern_init.specs.Processing.{IsFailureIn, IsGivenPathnameAnswer, IsTextAnswer, IsValueAfter, bytes_in, given_values, lacking_in, optional_bytes, optional_text, value_in, values_in};
 ghost use Rattle.urlpattern_syntax.specs.declared.eight.ComponentName.{ComponentName};
 ghost use Rattle.urlpattern_syntax.specs.Eight.{at};
 ghost use Rattle.urlpattern_syntax.specs.Errors.{MemoryOr, OnlyOutOfMemory};
@@ -251,7 +251,7 @@ impl Processing<'_> {
 
     /// The value of a pathname of the init. A relative one is put after the base's path.
     fn processed_pathname(&self, text: &str, protocol: Option<&str>) -> Result<String, Error>
-        ensures { IsPathnameAnswer self.now protocol.entry (chars text.now) result }
+        ensures { IsGivenPathnameAnswer self.now protocol.entry (chars text.now) result }
     {
         match &self.init.base_url {
             Some(base) if !is_absolute(text, self.kind) && !base.cannot_be_a_base() => {

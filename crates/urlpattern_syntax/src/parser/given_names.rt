@@ -1,6 +1,6 @@
 //! The names that a pattern gives to its placeholders.
 ghost use Rattle.std.specs.Prelude.{◌≡◌, ◌||◌, ℕ, List, false, OnOk};
-ghost use Rattle.urlpattern_syntax.specs.GivenNames.{has_name, is_text};
+ghost use Rattle.urlpattern_syntax.specs.GivenNames.{has_name, has_bytes};
 
 use arrayvec::ArrayVec;
 use std::alloc::{AllocError, Global};
@@ -38,7 +38,7 @@ impl<'a> GivenNames<'a> {
     ///
     /// The error is that memory ran out.
     pub(super) fn add(&mut self, name: &'a str) -> Result<(), AllocError>
-        ensures { OnOk result ((other : List ℕ) → has_name self.new other ≡ (is_text other name.entry || has_name self.old other)) }
+        ensures { OnOk result ((other : List ℕ) → has_name self.new other ≡ (has_bytes other name.entry || has_name self.old other)) }
     {
         if !self.few.is_full() {
             self.few.push(name);

@@ -3,7 +3,7 @@
 //! <https://urlpattern.spec.whatwg.org/#parts-and-part-lists>
 ghost use Rattle.std.specs.Prelude.{◌<◌, ◌≡◌, ◌∷◌, ◌++◌, [], Contains, IfOk, IfErr, OnOk};
 ghost use Rattle.std.specs.Str.{chars};
-ghost use Rattle.urlpattern_syntax.specs.Parsing.{IsNamed, IsPieceNamed, MemoryOr, name_view, part_list_view, piece_view};
+ghost use Rattle.urlpattern_syntax.specs.Parsing.{IsNameGiven, IsPieceNamed, MemoryOr, name_view, part_list_view, piece_view};
 ghost use Rattle.urlpattern_syntax.specs.PartLists.{AddsAll, AddsPiece, FailsToAdd, FailsToAddPiece, IsDuplicate, Knows, KnowsItsNames, list_names, next_name, pending_item, then_group, then_text};
 ghost use Rattle.urlpattern_syntax.specs.Reading.{next_number, number_after};
 ghost use Rattle.urlpattern_syntax.specs.Text.{text_of};
@@ -110,7 +110,7 @@ impl<'a> PartList<'a> {
     ) -> Result<(), Error>
         requires callable { F.IsAlwaysCallable parser.now.encoding_callback }
         requires room { self.old.next_numeric_name < usize.MAX }
-        requires named { IsNamed (name_view placeholder.now.name) }
+        requires named { IsNameGiven (name_view placeholder.now.name) }
         requires knows { KnowsItsNames self.old }
         ensures knows { OnOk result (KnowsItsNames self.new) }
         ensures ok { OnOk result (AddsAll F.Fn parser.now self.old (then_group self.old before.now placeholder.now after.now modifier) self.new) }
@@ -140,7 +140,7 @@ impl<'a> PartList<'a> {
     /// <https://urlpattern.spec.whatwg.org/#is-a-duplicate-name>
     fn new_name(&mut self, alloc: Global, name: Option<&'a str>) -> Result<String, Error>
         requires knows { KnowsItsNames self.old }
-        requires named { IsNamed (name_view name) }
+        requires named { IsNameGiven (name_view name) }
         requires room { self.old.next_numeric_name < usize.MAX }
         ensures name { IfOk result (λ text. text_of text ≡ next_name self.old name.entry) }
         ensures new { OnOk result (¬ Contains (list_names self.old) (next_name self.old name.entry)) }

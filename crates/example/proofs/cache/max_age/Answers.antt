@@ -4,7 +4,7 @@ use Rattle.std.proofs.lemmas.Option.{slice_get_read, slice_get_within}
 use Rattle.std.specs.Borrow.{Bor}
 use Rattle.std.specs.Prelude.{IfSome, IsSome, None, Option, Some, option_copied}
 use Rattle.example.specs.FirstRule.{IsOfFirst}
-use Rattle.urlpattern.specs.Captures.{captures_view}
+use Rattle.urlpattern.specs.BorrowedMatches.{pattern_captures_view}
 use Rattle.urlpattern.specs.FirstMatch.{FirstView, IsFirstMatch, patterns_view}
 use Rattle.urlpattern.specs.PartMeaning.{Captures}
 use Rattle.urlpattern.specs.Patterns.{PatternView, pattern_view}
@@ -29,5 +29,5 @@ returns-clause-first g c =
     let patterns = c.args.patterns.now in
     let read = c.get.ensures.lookup in
     rw c.copied.ensures
-    (rule_of g.R.RegExp.answer (patterns_view patterns) c.args.ages.now (inputs.Url c.args.url.now) (c.in-Some.index, captures_view c.in-Some.found) c.get.result
+    (rule_of g.R.RegExp.answer (patterns_view patterns) c.args.ages.now (inputs.Url c.args.url.now) (c.in-Some.index, pattern_captures_view c.in-Some.found) c.get.result
     (c.requires ∙ sym (length-map patterns (λ pattern. pattern_view pattern))) (rw c.in-Some.is at c.in_ok-index.ensures.first) read.2 read.1)

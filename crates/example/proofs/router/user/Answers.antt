@@ -3,12 +3,12 @@ use Rattle.std.specs.Borrow.{Bor}
 use Rattle.std.specs.Option.{option_flatten}
 use Rattle.std.specs.Prelude.{◌⊎◌, IfNone, IfSome, None, Option, Some, option_map}
 use Rattle.std.specs.Str.{chars}
-use Rattle.urlpattern.specs.Captured.{capture_view}
-use Rattle.urlpattern.specs.Captures.{captures_view}
+use Rattle.urlpattern.specs.CaptureTexts.{capture_view}
+use Rattle.urlpattern.specs.BorrowedMatches.{pattern_captures_view}
 use Rattle.urlpattern.specs.Patterns.{pattern_view}
 use Rattle.urlpattern_init.specs.declared.init.UrlPatternMatchInput.TheVariants as inputs
 use Rattle.urlpattern_syntax.specs.declared.eight.ComponentName.TheVariants.{Pathname}
-use Rattle.example.specs.Captured.{IsCaptured}
+use Rattle.example.specs.NamedUsers.{IsCaptured}
 use Rattle.example.proofs.router.user.Goals as goal
 
 -- what a group captured, with the two ways of capturing nothing as one
@@ -28,10 +28,10 @@ pub returns-clause-some : goal.returns-clause-some
 returns-clause-some g c =
     let Is : Option (List ℕ) → Type 0 = IsCaptured g.R.RegExp.answer (pattern_view c.args.users.now) (inputs.Url c.args.url.now) Pathname (chars (codes "id")) in
     some_captured c.flatten.result Is
-    (captures_view c.in-Some.found, rw c.in-Some.is at c.in_ok-found.ensures.matched, ap option_flatten (sym c.get.ensures) ∙ flat_view c.get.result ∙ ap capture_view (sym c.flatten.ensures))
+    (pattern_captures_view c.in-Some.found, rw c.in-Some.is at c.in_ok-found.ensures.matched, ap option_flatten (sym c.get.ensures) ∙ flat_view c.get.result ∙ ap capture_view (sym c.flatten.ensures))
 
 pub returns-clause-none : goal.returns-clause-none
 returns-clause-none g c =
     let Is : Option (List ℕ) → Type 0 = IsCaptured g.R.RegExp.answer (pattern_view c.args.users.now) (inputs.Url c.args.url.now) Pathname (chars (codes "id")) in
     none_captured c.flatten.result Is _
-    (captures_view c.in-Some.found, rw c.in-Some.is at c.in_ok-found.ensures.matched, ap option_flatten (sym c.get.ensures) ∙ flat_view c.get.result ∙ ap capture_view (sym c.flatten.ensures))
+    (pattern_captures_view c.in-Some.found, rw c.in-Some.is at c.in_ok-found.ensures.matched, ap option_flatten (sym c.get.ensures) ∙ flat_view c.get.result ∙ ap capture_view (sym c.flatten.ensures))

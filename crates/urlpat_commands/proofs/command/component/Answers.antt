@@ -12,7 +12,7 @@ use Rattle.urlpattern.specs.Printing.{Keeps, printed}
 use Rattle.urlpattern.specs.RegexpText.{group_names, regexp_text}
 use Rattle.urlpattern.specs.RoundTrip.{IsPrintable, ReadsBack}
 use Rattle.urlpattern_syntax.specs.declared.parser.PartType.TheVariants.{Regexp}
-use Rattle.urlpattern_laws.proofs.Encodings.{reads_weaker, refuses_weaker}
+use Rattle.urlpattern_meaning.proofs.Encodings.{reads_weaker, refuses_weaker}
 use Rattle.urlpat_commands.proofs.command.component.Goals as goal
 
 pub returns-in_err-parts-clause-fails : goal.returns-in_err-parts-clause-fails

@@ -3,7 +3,7 @@ use Rattle.std.specs.Iterator.Adapters.{zip_first, zip_second}
 use Rattle.std.specs.Map.{keys_of}
 use Rattle.std.specs.Slice.Iter.{iter_rest}
 use Rattle.urlpat_commands.proofs.GroupNames.{names_left, texts}
-use Rattle.urlpattern.specs.Captures.{groups_view}
+use Rattle.urlpattern.specs.BorrowedMatches.{groups_view}
 use Rattle.urlpat_commands.proofs.matching.names_of.Given as goal
 
 -- the names that are gathered, and those that are still to come

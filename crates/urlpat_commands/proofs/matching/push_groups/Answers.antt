@@ -5,17 +5,17 @@ use Rattle.std.specs.Prelude.{String}
 use Rattle.std.specs.Str.{chars}
 use Rattle.std.specs.declared.alloc.Global.{Global}
 use Rattle.urlpat_commands.proofs.GroupNames.{lines-of_texts, texts}
-use Rattle.urlpat_commands.specs.Answers.{capture_of}
+use Rattle.urlpat_commands.specs.Answers.{group_bytes}
 use Rattle.urlpat_commands.specs.Report.{group_line}
-use Rattle.urlpattern.specs.Captures.{captures_view}
+use Rattle.urlpattern.specs.BorrowedMatches.{pattern_captures_view}
 use Rattle.urlpattern.specs.Eight.{name_text}
 use Rattle.urlpat_commands.proofs.matching.push_groups.Goals as goal
 
 pub returns : goal.returns
 returns c =
-    let found = captures_view c.args.found.now c.args.name in
+    let found = pattern_captures_view c.args.found.now c.args.name in
     let bytes : List (Bor (String Global)) → List (List ℕ) = map (λ name. string_bytes name.now) in
-    let line : List ℕ → List ℕ = λ name. group_line (name_text c.args.name) name (capture_of (found.group (chars name))) in
+    let line : List ℕ → List ℕ = λ name. group_line (name_text c.args.name) name (group_bytes (found.group (chars name))) in
     let items = c.in_ok-groups.groups.items in
     let all : take c.loop-group.group-index c.deref-group-items.result.now ≡ items =
     take_all c.loop-group.group-index c.deref-group-items.result.now c.loop-group-test.false ∙ c.deref-group-items.ensures.value in (

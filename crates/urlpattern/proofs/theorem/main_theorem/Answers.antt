@@ -1,15 +1,15 @@
 use Rattle.std.specs.Prelude.{false}
-use Rattle.urlpattern_core.specs.Compiling.{IsEngineOf}
-use Rattle.urlpattern_laws.proofs.CallbackLaws.{outcome_one}
-use Rattle.urlpattern_laws.proofs.CaptureCount.{captures_counted}
+use Rattle.urlpattern_core.specs.Components.{IsEngineOf}
+use Rattle.urlpattern_meaning.proofs.CallbackLaws.{outcome_one}
+use Rattle.urlpattern_meaning.proofs.CaptureCount.{captures_counted}
 use Rattle.urlpattern_core.proofs.RegexMatchers.{taken_first}
 use Rattle.urlpattern_engine.proofs.EngineLaws.{taken_first as taken_by_pattern_regexp_first}
-use Rattle.urlpattern_laws.proofs.FirstAnswers.{first_one, matcher_first}
-use Rattle.urlpattern_laws.proofs.MatcherMeaning.{matcher_means}
-use Rattle.urlpattern_laws.proofs.OutcomesExist.{outcome_listed}
-use Rattle.urlpattern_laws.proofs.OneMeaning.{each_tree_means, one_meaning}
-use Rattle.urlpattern_laws.proofs.ReadsBack.{kept_reads, kept_reads_only, kept_unrefused, were_read_printable}
-use Rattle.urlpattern_laws.specs.Laws.{listed}
+use Rattle.urlpattern_meaning.proofs.FirstAnswers.{first_one, matcher_first}
+use Rattle.urlpattern_meaning.proofs.MatcherMeaning.{matcher_means}
+use Rattle.urlpattern_meaning.proofs.OutcomesExist.{outcome_listed}
+use Rattle.urlpattern_meaning.proofs.OneMeaning.{each_tree_means, one_meaning}
+use Rattle.urlpattern_meaning.proofs.ReadsBack.{kept_reads, kept_reads_only, kept_unrefused, were_read_printable}
+use Rattle.urlpattern_meaning.specs.Laws.{listed}
 use Rattle.urlpattern.proofs.MatchLaws.{match_from-test, match-not_both, test_from-match}
 use Rattle.urlpattern.proofs.theorem.main_theorem.Goals as goal
 

@@ -1,8 +1,8 @@
 use Rattle.std.proofs.Common.{ap, sym, subst, ◌∙◌, length, map}
 use Rattle.std.proofs.lemmas.List.{length-map}
-use Rattle.urlpattern_laws.specs.Dialect.{HasMeaningOf}
-use Rattle.urlpattern_laws.proofs.CaptureCount.{captures_counted}
-use Rattle.urlpattern_laws.proofs.OneMeaning.{one_meaning}
+use Rattle.urlpattern_meaning.specs.Dialect.{HasMeaningOf}
+use Rattle.urlpattern_meaning.proofs.CaptureCount.{captures_counted}
+use Rattle.urlpattern_meaning.proofs.OneMeaning.{one_meaning}
 use Rattle.urlpattern_syntax.specs.Options.{options_view}
 use Rattle.urlpattern_syntax.specs.Parts.{part_view}
 use Rattle.urlpattern_syntax.specs.Text.{text_of}

@@ -1,4 +1,4 @@
-use Rattle.urlpattern_core.specs.Engines.{regex_engine}
+use Rattle.urlpattern_core.specs.Regexes.{regex_engine}
 use Rattle.urlpattern_core.proofs.FirstMatchers.{values_follow, values_follow_parts}
 use Rattle.urlpattern_core.proofs.RegexMatchers.{values_first}
 use Rattle.urlpattern_core.proofs.laws.regex_answers_the_first_way.Goals as goal

@@ -1,7 +1,7 @@
 use Rattle.std.proofs.Common.{◌≡◌, None, refl, sym, ap, ◌∙◌, subst}
 use Rattle.std.specs.Str.{chars}
 use Rattle.urlpattern_engine.specs.Failed.{EndsWith}
-use Rattle.urlpattern_engine.specs.Steps.{walk}
+use Rattle.urlpattern_engine.specs.Walk.{walk}
 use Rattle.urlpattern_engine.specs.Taken.{with_captures}
 use Rattle.urlpattern_engine.proofs.FailedLemmas.{ends_drop}
 use Rattle.urlpattern_engine.proofs.FollowLemmas.{plus_maybe}

@@ -1,6 +1,6 @@
 use Rattle.std.proofs.Common.{rules, ◌∷◌, Some, sym, ap, ◌∙◌, subst}
 use Rattle.std.specs.Str.{chars, IsUtf8}
-use Rattle.urlpattern_engine.specs.Steps.{Gives, walk}
+use Rattle.urlpattern_engine.specs.Walk.{Continuation, walk}
 use Rattle.urlpattern_engine.specs.Table.{given}
 use Rattle.urlpattern_engine.specs.Taken.{IsCutFor, with_captures}
 use Rattle.urlpattern_engine.proofs.EndLemmas.{same_fronts}
@@ -16,7 +16,7 @@ returns-clause-taken c =
     let text = c.args.text.now in
     let front = c.split_at_seam.result.0.now in
     let rest = c.split_at_seam.result.1.now in
-    let gives : Gives = given step others in
+    let gives : Continuation = given step others in
     let found = walk (step ∷ others) (chars text) in
     let cut : IsCutFor gives text (Some c.in-Some.count) found = subst (λ o. IsCutFor gives text o found) c.in-Some.is c.in_ok-count.ensures.end in
     let parts = same_fronts front rest cut.0 cut.1 (sym c.split_at_seam.ensures.cut ∙ cut.4) (c.split_at_seam.ensures.count ∙ sym cut.5) in

@@ -5,7 +5,7 @@ use Rattle.std.specs.Str.{chars, IsUtf8}
 use Rattle.urlpattern_syntax.proofs.TextLemmas.{chars-empty, chars-some}
 use Rattle.urlpattern_engine.specs.declared.step.Step.{Step}
 use Rattle.urlpattern_engine.specs.Failed.{EndsWith}
-use Rattle.urlpattern_engine.specs.Steps.{walk}
+use Rattle.urlpattern_engine.specs.Walk.{walk}
 use Rattle.urlpattern_engine.specs.Table.{IsRow, following, row_at}
 use Rattle.urlpattern_engine.specs.Taken.{with_captures}
 use Rattle.urlpattern_engine.proofs.FailedLemmas.{ends_drop, ends_longer}

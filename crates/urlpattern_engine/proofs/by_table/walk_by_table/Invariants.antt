@@ -3,7 +3,7 @@ use denote.Text.{Utf8}
 use denote.Shadow.{shadow}
 use Rattle.std.specs.Str.{chars}
 use Rattle.urlpattern_engine.specs.Failed.{EndsWith}
-use Rattle.urlpattern_engine.specs.Steps.{walk}
+use Rattle.urlpattern_engine.specs.Walk.{walk}
 use Rattle.urlpattern_engine.specs.Taken.{with_captures}
 use Rattle.urlpattern_engine.proofs.by_table.walk_by_table.Given as goal
 

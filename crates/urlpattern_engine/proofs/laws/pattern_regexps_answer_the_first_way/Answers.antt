@@ -1,5 +1,5 @@
 use Rattle.urlpattern_core.proofs.FirstMatchers.{values_follow, values_follow_parts}
-use Rattle.urlpattern_engine.specs.Engine.{pattern_engine}
+use Rattle.urlpattern_engine.specs.PatternRegexps.{pattern_engine}
 use Rattle.urlpattern_engine.proofs.EngineLaws.{values_first}
 use Rattle.urlpattern_engine.proofs.laws.pattern_regexps_answer_the_first_way.Goals as goal
 

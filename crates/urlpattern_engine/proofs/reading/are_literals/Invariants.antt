@@ -1,6 +1,6 @@
 use Rattle.std.proofs.Common.{length}
 use Rattle.std.specs.Prelude.{◌↔◌}
-use Rattle.urlpattern_engine.specs.Reading.{AreLiterals}
+use Rattle.urlpattern_engine.specs.ReadSteps.{AreLiterals}
 use Rattle.urlpattern_engine.proofs.reading.are_literals.Given as goal
 
 abbrev pub invariant-loop-rest : goal.invariant-loop-rest

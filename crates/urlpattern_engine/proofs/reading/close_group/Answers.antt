@@ -1,8 +1,8 @@
 use Rattle.std.proofs.Common.{◌∷◌, length, drop, sym, refl, subst, inr, ◌∙◌}
 use Rattle.std.proofs.lemmas.List.{take-append-drop}
 use Rattle.urlpattern_engine.specs.declared.step.Step.TheVariants.{Maybe}
-use Rattle.urlpattern_engine.specs.Reading.{IsGroup, IsSomeGroup}
-use Rattle.urlpattern_engine.specs.Steps.{capture_count}
+use Rattle.urlpattern_engine.specs.ReadSteps.{IsGroup, IsSomeGroup}
+use Rattle.urlpattern_engine.specs.Walk.{capture_count}
 use Rattle.urlpattern_engine.proofs.GroupLemmas.{inserted, some_group}
 use Rattle.urlpattern_engine.proofs.reading.close_group.Goals as goal
 

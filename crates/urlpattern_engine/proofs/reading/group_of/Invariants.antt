@@ -1,5 +1,5 @@
 use Rattle.std.proofs.Common.{◌≡◌, ◌+◌, ◌≤◌, length}
-use Rattle.urlpattern_engine.specs.Steps.{capture_count}
+use Rattle.urlpattern_engine.specs.Walk.{capture_count}
 use Rattle.urlpattern_engine.proofs.reading.group_of.Given as goal
 
 abbrev pub invariant-loop-rest : goal.invariant-loop-rest

@@ -1,5 +1,5 @@
 use Rattle.std.proofs.Common.{rules, ◌∙◌, ◌++◌, codes}
-use Rattle.urlpattern_laws.specs.Dialect.{items_text}
+use Rattle.urlpattern_meaning.specs.Dialect.{items_text}
 use Rattle.std.specs.Str.{chars}
 use Rattle.urlpattern_engine.proofs.SegmentTextLemmas.{left-ended, left-more, read-ends, read-more, steps_between}
 use Rattle.urlpattern_engine.proofs.reading.read_segments.Goals as goal

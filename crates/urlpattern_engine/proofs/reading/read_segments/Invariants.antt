@@ -2,8 +2,8 @@ use Rattle.std.proofs.Common.{◌≡◌, ◌≤◌, List, ◌++◌, length}
 use denote.Text.{Utf8}
 use denote.Shadow.{shadow}
 use Rattle.std.specs.Str.{chars}
-use Rattle.urlpattern_laws.specs.Dialect.{Character}
-use Rattle.urlpattern_engine.specs.Reading.{AreCharacters, characters_text, literal_steps}
+use Rattle.urlpattern_meaning.specs.Dialect.{Character}
+use Rattle.urlpattern_engine.specs.ReadSteps.{AreCharacters, characters_text, literal_steps}
 use Rattle.urlpattern_engine.proofs.SegmentTextLemmas.{AreLeft}
 use Rattle.urlpattern_engine.proofs.reading.read_segments.Given as goal
 

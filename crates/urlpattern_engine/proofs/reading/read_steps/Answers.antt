@@ -6,7 +6,7 @@ use Rattle.urlpattern_engine.specs.declared.step.Step.{Step}
 use Rattle.urlpattern_engine.specs.declared.tokens.Token.TheVariants.{Open, Close, FirstSegment, Step as One, MaybeStep}
 use Rattle.urlpattern_engine.specs.declared.step.Group.{Group}
 use Rattle.urlpattern_engine.specs.declared.step.Step.TheVariants.{Maybe}
-use Rattle.urlpattern_engine.specs.Reading.{BeginsWithToken, EndsSegments, IsGenerated, IsGroup}
+use Rattle.urlpattern_engine.specs.ReadSteps.{BeginsWithRegexpToken, EndsSegments, IsGenerated, IsGroup}
 use Rattle.urlpattern_engine.proofs.ReadingLemmas.{IsBegun, begun, begun-close, begun-ends, begun-more, begun-open, segments-spell, spells-once, spells-maybe}
 use Rattle.urlpattern_engine.proofs.TokenLemmas.{none_of}
 use Rattle.urlpattern_engine.proofs.LeftLemmas.{GoesOn, IsLeft, came, ended, left_after}
@@ -24,7 +24,7 @@ pub loop-token-preserved-in_ok-push-in-Step : goal.loop-token-preserved-in_ok-pu
 loop-token-preserved-in_ok-push-in-Step c =
     let rest = chars c.loop-token.rest.now in
     let remaining = chars c.in-Some-read_token.remaining.now in
-    let begins : BeginsWithToken rest (One c.in-Step.step) remaining = subst (λ t. BeginsWithToken rest t remaining) c.in-Step.is c.in-Some-read_token.ensures.token in
+    let begins : BeginsWithRegexpToken rest (One c.in-Step.step) remaining = subst (λ t. BeginsWithRegexpToken rest t remaining) c.in-Step.is c.in-Some-read_token.ensures.token in
     let goes_on : IsGenerated (chars c.args.regexp.now) → GoesOn (One c.in-Step.step) c.loop-token.opened remaining c.loop-token.steps.items =
     λ generated. subst (λ t. GoesOn t c.loop-token.opened remaining c.loop-token.steps.items) c.in-Step.is
     (came c.loop-token.opened rest c.loop-token.steps.items c.in-Some-read_token.token remaining (c.loop-token.invariant.to_read generated) c.in-Some-read_token.ensures.token c.in-Some-read_token.ensures.reads) in
@@ -42,7 +42,7 @@ loop-token-preserved-in_ok-push-in-MaybeStep-2 c =
     let remaining = chars c.in-Some-read_token.remaining.now in
     let step = c.in-MaybeStep.step in
     let group : Group = record { steps = 1; captures = 1 } in
-    let begins : BeginsWithToken rest (MaybeStep step) remaining = subst (λ t. BeginsWithToken rest t remaining) c.in-MaybeStep.is c.in-Some-read_token.ensures.token in
+    let begins : BeginsWithRegexpToken rest (MaybeStep step) remaining = subst (λ t. BeginsWithRegexpToken rest t remaining) c.in-MaybeStep.is c.in-Some-read_token.ensures.token in
     let goes_on : IsGenerated (chars c.args.regexp.now) → GoesOn (MaybeStep step) c.loop-token.opened remaining c.loop-token.steps.items =
     λ generated. subst (λ t. GoesOn t c.loop-token.opened remaining c.loop-token.steps.items) c.in-MaybeStep.is
     (came c.loop-token.opened rest c.loop-token.steps.items c.in-Some-read_token.token remaining (c.loop-token.invariant.to_read generated) c.in-Some-read_token.ensures.token c.in-Some-read_token.ensures.reads) in
@@ -64,7 +64,7 @@ loop-token-preserved-in-FirstSegment c =
     let done = c.loop-token.steps.items in
     let end = c.in-FirstSegment.end in
     let is_greedy = c.in-FirstSegment.is_greedy in
-    let begins : BeginsWithToken rest (FirstSegment end is_greedy) remaining = subst (λ t. BeginsWithToken rest t remaining) c.in-FirstSegment.is c.in-Some-read_token.ensures.token in
+    let begins : BeginsWithRegexpToken rest (FirstSegment end is_greedy) remaining = subst (λ t. BeginsWithRegexpToken rest t remaining) c.in-FirstSegment.is c.in-Some-read_token.ensures.token in
     let read = subst (λ o. IfSome o (λ (after : Bor (List ℕ)). (own : List Step) × EndsSegments end is_greedy own remaining (chars after.now) × (c.read_segments.new.steps.items ≡ done ++ own)))
     c.in-Some-2.is c.in_ok-after-in-FirstSegment.ensures.read in
     let found = subst (λ o. (own : List Step) (behind : List ℕ) → EndsSegments end is_greedy own remaining behind → IsSomeAnd o (λ (after : Bor (List ℕ)). chars after.now ≡ behind))
@@ -87,7 +87,7 @@ pub loop-token-preserved-in-None : goal.loop-token-preserved-in-None
 loop-token-preserved-in-None c =
     let rest = chars c.loop-token.rest.now in
     let remaining = chars c.in-Some-read_token.remaining.now in
-    let begins : BeginsWithToken rest Open remaining = subst (λ t. BeginsWithToken rest t remaining) c.in-Open.is c.in-Some-read_token.ensures.token in
+    let begins : BeginsWithRegexpToken rest Open remaining = subst (λ t. BeginsWithRegexpToken rest t remaining) c.in-Open.is c.in-Some-read_token.ensures.token in
     let goes_on : IsGenerated (chars c.args.regexp.now) → GoesOn (Open) c.loop-token.opened remaining c.loop-token.steps.items =
     λ generated. subst (λ t. GoesOn t c.loop-token.opened remaining c.loop-token.steps.items) c.in-Open.is
     (came c.loop-token.opened rest c.loop-token.steps.items c.in-Some-read_token.token remaining (c.loop-token.invariant.to_read generated) c.in-Some-read_token.ensures.token c.in-Some-read_token.ensures.reads) in
@@ -110,7 +110,7 @@ loop-token-preserved c =
     let remaining = chars c.in-Some-read_token.remaining.now in
     let first = c.in-Some-opened-2.first in
     let done = c.loop-token.steps.items in
-    let begins : BeginsWithToken rest (Close c.in-Close.times) remaining = subst (λ t. BeginsWithToken rest t remaining) c.in-Close.is c.in-Some-read_token.ensures.token in
+    let begins : BeginsWithRegexpToken rest (Close c.in-Close.times) remaining = subst (λ t. BeginsWithRegexpToken rest t remaining) c.in-Close.is c.in-Some-read_token.ensures.token in
     let so_far : IsBegun (chars c.args.regexp.now) (Some first) rest done = subst (λ o. IsBegun (chars c.args.regexp.now) o rest done) c.in-Some-opened-2.is c.loop-token.invariant.so_far in
     let group = c.in_ok-close_group-in-Close.ensures.group c.if-not-branch.false in
     let goes_on : IsGenerated (chars c.args.regexp.now) → GoesOn (Close c.in-Close.times) c.loop-token.opened remaining c.loop-token.steps.items =

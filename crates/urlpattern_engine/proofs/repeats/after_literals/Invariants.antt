@@ -2,7 +2,7 @@ use Rattle.std.proofs.Common.{◌≡◌, ◌<◌, ℕ, List, ◌∷◌, ◌++◌
 use denote.Text.{Utf8}
 use denote.Shadow.{shadow}
 use Rattle.std.specs.Str.{chars}
-use Rattle.urlpattern_engine.specs.Steps.{literals}
+use Rattle.urlpattern_engine.specs.Walk.{literals}
 use Rattle.urlpattern_engine.proofs.repeats.after_literals.Given as goal
 
 abbrev pub invariant-loop-step : goal.invariant-loop-step

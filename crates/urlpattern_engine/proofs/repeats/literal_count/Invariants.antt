@@ -1,5 +1,5 @@
 use Rattle.std.proofs.Common.{◌≡◌, ◌+◌, ◌≤◌, length}
-use Rattle.urlpattern_engine.specs.Steps.{literals}
+use Rattle.urlpattern_engine.specs.Walk.{literals}
 use Rattle.urlpattern_engine.proofs.repeats.literal_count.Given as goal
 
 abbrev pub invariant-loop-step : goal.invariant-loop-step

@@ -1,6 +1,6 @@
 use Rattle.std.proofs.Common.{◌∷◌, ◌++◌, suc, ap, ◌∙◌, rules}
 use Rattle.std.specs.Str.{chars}
-use Rattle.urlpattern_engine.specs.Steps.{copies_of, literals}
+use Rattle.urlpattern_engine.specs.Walk.{copies_of, literals}
 use Rattle.urlpattern_engine.proofs.CopyLemmas.{one_copy_more}
 use Rattle.urlpattern_engine.proofs.repeats.skip_copies.Goals as goal
 

@@ -2,7 +2,7 @@ use Rattle.std.proofs.Common.{◌≡◌, ℕ, ◌∷◌, ◌++◌, length}
 use denote.Text.{Utf8}
 use denote.Shadow.{shadow}
 use Rattle.std.specs.Str.{chars}
-use Rattle.urlpattern_engine.specs.Steps.{copies_of, literals}
+use Rattle.urlpattern_engine.specs.Walk.{copies_of, literals}
 use Rattle.urlpattern_engine.proofs.repeats.skip_copies.Given as goal
 
 abbrev pub invariant-loop-remaining : goal.invariant-loop-remaining

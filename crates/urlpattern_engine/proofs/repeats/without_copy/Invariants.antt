@@ -2,7 +2,7 @@ use Rattle.std.proofs.Common.{◌≡◌, ◌+◌, ◌<◌, ℕ, suc, List, ◌++
 use denote.Text.{Utf8}
 use denote.Shadow.{shadow}
 use Rattle.std.specs.Str.{chars, IsUtf8}
-use Rattle.urlpattern_engine.specs.Steps.{literals}
+use Rattle.urlpattern_engine.specs.Walk.{literals}
 use Rattle.urlpattern_engine.proofs.repeats.without_copy.Given as goal
 
 abbrev pub invariant-loop-step : goal.invariant-loop-step

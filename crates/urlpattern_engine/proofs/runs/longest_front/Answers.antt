@@ -1,7 +1,7 @@
 use Rattle.std.proofs.Common.{◌≡◌, ◌∷◌, ◌++◌, [], refl, sym, ap, ◌∙◌, append_assoc, rules, ne_eqb}
 use Rattle.std.proofs.lemmas.List.{append_cancel_right}
 use Rattle.std.specs.Str.{chars, IsUtf8}
-use Rattle.urlpattern_engine.specs.Steps.{up_to_first}
+use Rattle.urlpattern_engine.specs.Walk.{up_to_first}
 use Rattle.urlpattern_syntax.specs.Text.{line_feed}
 use Rattle.urlpattern_engine.proofs.FailedLemmas.{ends_same, place_within}
 use Rattle.urlpattern_engine.proofs.FollowLemmas.{bytes_join}

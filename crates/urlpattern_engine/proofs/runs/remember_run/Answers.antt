@@ -1,7 +1,7 @@
 use Rattle.std.proofs.Common.{◌≡◌, ◌∷◌, [], None, sym, ap, ◌∙◌, rules, ne_eqb}
 use Rattle.std.specs.Str.{chars}
 use Rattle.urlpattern_engine.specs.declared.step.Step.TheVariants.{Segment}
-use Rattle.urlpattern_engine.specs.Steps.{walk}
+use Rattle.urlpattern_engine.specs.Walk.{walk}
 use Rattle.urlpattern_engine.proofs.FailedLemmas.{ends_same, place_within}
 use Rattle.urlpattern_engine.proofs.RunLemmas.{shortest_later}
 use Rattle.urlpattern_engine.proofs.runs.remember_run.Goals as goal

@@ -2,14 +2,14 @@ use Rattle.std.proofs.Common.{◌≡◌, None, length}
 use denote.Text.{Utf8}
 use denote.Shadow.{shadow}
 use Rattle.std.specs.Str.{chars}
-use Rattle.urlpattern_engine.specs.Failed.{IsPlace}
-use Rattle.urlpattern_engine.specs.Steps.{walk}
+use Rattle.urlpattern_engine.specs.Failed.{IsStateOf}
+use Rattle.urlpattern_engine.specs.Walk.{walk}
 use Rattle.urlpattern_engine.proofs.runs.remember_run.Given as goal
 
 abbrev pub invariant-loop-remaining : goal.invariant-loop-remaining
 invariant-loop-remaining l = record {
   is_text : shadow (Utf8 l.rest);
-  place : IsPlace l.failed l.steps (chars l.rest);
+  place : IsStateOf l.failed l.steps (chars l.rest);
   dead : walk l.steps (chars l.rest) ≡ None;
   whole : l.failed ≡ l.fn.failed;
 }

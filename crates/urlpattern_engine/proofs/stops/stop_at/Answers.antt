@@ -1,7 +1,7 @@
 use Rattle.std.proofs.Common.{◌≡◌, ◌∷◌, sym, ap, ◌∙◌, subst}
 use Rattle.urlpattern_engine.specs.declared.step.Step.{Step}
 use Rattle.urlpattern_engine.specs.declared.step.Step.TheVariants.{Maybe, Copies}
-use Rattle.urlpattern_engine.specs.Steps.{StopAt}
+use Rattle.urlpattern_engine.specs.Walk.{StopAt}
 use Rattle.urlpattern_engine.proofs.StepLemmas.{stop-any_copies, stop-copies, stop-maybe}
 use Rattle.urlpattern_engine.proofs.stops.stop_at.Goals as goal
 

@@ -1,5 +1,5 @@
 use Rattle.std.proofs.Common.{length}
-use Rattle.urlpattern_engine.specs.Steps.{StopAt}
+use Rattle.urlpattern_engine.specs.Walk.{StopAt}
 use Rattle.urlpattern_engine.proofs.stops.stop_at.Given as goal
 
 abbrev pub invariant-loop-step : goal.invariant-loop-step

@@ -2,7 +2,7 @@ use Rattle.std.proofs.Common.{◌≡◌, length}
 use denote.Text.{Utf8}
 use denote.Shadow.{shadow}
 use Rattle.std.specs.Str.{chars}
-use Rattle.urlpattern_engine.specs.Steps.{from_first}
+use Rattle.urlpattern_engine.specs.Walk.{from_first}
 use Rattle.urlpattern_engine.proofs.texts.skip_to_first.Given as goal
 
 abbrev pub invariant-loop-first : goal.invariant-loop-first

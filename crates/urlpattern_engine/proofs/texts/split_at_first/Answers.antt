@@ -1,7 +1,7 @@
 use Rattle.std.proofs.Common.{◌++◌, sym, ap, ◌∙◌}
 use Rattle.std.proofs.lemmas.List.{append_cancel_right}
 use Rattle.std.specs.Str.{chars}
-use Rattle.urlpattern_engine.specs.Steps.{from_first, up_to_first}
+use Rattle.urlpattern_engine.specs.Walk.{from_first, up_to_first}
 use Rattle.urlpattern_engine.proofs.RunLemmas.{both_ends}
 use Rattle.urlpattern_engine.proofs.texts.split_at_first.Goals as goal
 

@@ -1,6 +1,6 @@
 use Rattle.std.proofs.Common.{codes, ◌++◌, refl, ap, ◌∙◌, subst}
 use Rattle.std.specs.Str.{chars}
-use Rattle.urlpattern_engine.specs.Reading.{BeginsWithCaptured, IsRead, IsUnquantified}
+use Rattle.urlpattern_engine.specs.ReadSteps.{BeginsWithCaptured, IsRead, IsUnquantified}
 use Rattle.urlpattern_engine.proofs.TokenLemmas.{captured-spells, captured-maybe}
 use Rattle.std.specs.Prelude.{List, ℕ, ◌≡◌}
 use Rattle.urlpattern_engine.specs.declared.step.Step.{Step}

@@ -1,10 +1,10 @@
 use Rattle.std.proofs.Common.{◌≡◌, ◌∷◌, ◌++◌, ℕ, Bor, List, refl, ap, ◌∙◌, codes, rules}
 use Rattle.std.specs.Prelude.{IsTrue}
 use Rattle.std.specs.Str.{chars}
-use Rattle.urlpattern_laws.specs.Dialect.{IsClassCharacter}
+use Rattle.urlpattern_meaning.specs.Dialect.{IsClassCharacter}
 use Rattle.urlpattern_syntax.specs.RegexpText.{regexp_marks}
 use Rattle.urlpattern_syntax.specs.Text.{is_among}
-use Rattle.urlpattern_engine.specs.Reading.{BeginsWithCharacter}
+use Rattle.urlpattern_engine.specs.ReadSteps.{BeginsWithCharacter}
 use Rattle.urlpattern_engine.proofs.TokenLemmas.{escaped-begins, if_both, plain-begins, not_class}
 use Rattle.urlpattern_engine.proofs.FrontLemmas.{escaped_read}
 use Rattle.urlpattern_engine.proofs.tokens.read_class_character.Goals as goal

@@ -1,7 +1,7 @@
 use Rattle.std.proofs.Common.{◌≡◌, ◌++◌, codes, ap₂}
 use Rattle.std.specs.Str.{chars}
 use Rattle.urlpattern_engine.specs.declared.tokens.Token.TheVariants.{FirstSegment}
-use Rattle.urlpattern_engine.specs.Reading.{BeginsWithCaptured}
+use Rattle.urlpattern_engine.specs.ReadSteps.{BeginsWithCaptured}
 use Rattle.urlpattern_engine.proofs.FrontLemmas.{ReadsRun, repeated_no_segments, segments_read, segments_run}
 use Rattle.urlpattern_engine.proofs.TokenLemmas.{first_segment-begins}
 use Rattle.urlpattern_engine.proofs.tokens.read_first_segment.Goals as goal

@@ -2,10 +2,10 @@ use Rattle.std.proofs.Common.{◌≡◌, ◌∷◌, ◌++◌, ℕ, Bor, List, re
 use Rattle.std.proofs.lemmas.Bool.{true≢false}
 use Rattle.std.specs.Prelude.{IsTrue}
 use Rattle.std.specs.Str.{chars}
-use Rattle.urlpattern_laws.specs.Dialect.{IsCharacter}
+use Rattle.urlpattern_meaning.specs.Dialect.{IsCharacter}
 use Rattle.urlpattern_syntax.specs.RegexpText.{regexp_marks}
 use Rattle.urlpattern_syntax.specs.Text.{is_among}
-use Rattle.urlpattern_engine.specs.Reading.{BeginsWithCharacter}
+use Rattle.urlpattern_engine.specs.ReadSteps.{BeginsWithCharacter}
 use Rattle.urlpattern_engine.proofs.TokenLemmas.{escaped-begins, if_both, plain-begins}
 use Rattle.urlpattern_engine.proofs.FrontLemmas.{escaped_read}
 use Rattle.urlpattern_engine.proofs.tokens.read_literal.Goals as goal

@@ -1,6 +1,6 @@
 use Rattle.std.specs.Str.{chars}
-use Rattle.urlpattern_laws.specs.Dialect.{IsClassCharacter}
-use Rattle.urlpattern_engine.specs.Reading.{BeginsWithCharacter}
+use Rattle.urlpattern_meaning.specs.Dialect.{IsClassCharacter}
+use Rattle.urlpattern_engine.specs.ReadSteps.{BeginsWithCharacter}
 use Rattle.urlpattern_engine.proofs.TokenLemmas.{lazy_class}
 use Rattle.urlpattern_engine.proofs.FrontLemmas.{class_begins}
 use Rattle.urlpattern_engine.proofs.tokens.read_repeated_class.Goals as goal

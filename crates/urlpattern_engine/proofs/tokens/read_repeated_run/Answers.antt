@@ -1,6 +1,6 @@
 use Rattle.std.proofs.Common.{◌≡◌, ◌++◌, Some, None, codes}
 use Rattle.std.specs.Str.{chars}
-use Rattle.urlpattern_engine.specs.Reading.{BeginsWithCaptured, times_text}
+use Rattle.urlpattern_engine.specs.ReadSteps.{BeginsWithCaptured, times_text}
 use Rattle.urlpattern_engine.proofs.FrontLemmas.{ReadsRun, captured_repeated, repeated_read, repeated_run_in, repeated_made}
 use Rattle.urlpattern_engine.proofs.TokenLemmas.{repeated_run}
 use Rattle.urlpattern_engine.proofs.tokens.read_repeated_run.Goals as goal

@@ -1,10 +1,10 @@
 use Rattle.std.specs.Str.{chars}
-use Rattle.urlpattern_laws.specs.Dialect.{IsCharacter}
-use Rattle.urlpattern_engine.specs.Reading.{BeginsWithCharacter}
+use Rattle.urlpattern_meaning.specs.Dialect.{IsCharacter}
+use Rattle.urlpattern_engine.specs.ReadSteps.{BeginsWithCharacter}
 use Rattle.urlpattern_engine.proofs.TokenLemmas.{literal-spells}
 use Rattle.std.proofs.Common.{◌++◌}
-use Rattle.urlpattern_engine.specs.Reading.{IsRead, IsUnquantified}
-use Rattle.urlpattern_engine.specs.Reading.{times_text}
+use Rattle.urlpattern_engine.specs.ReadSteps.{IsRead, IsUnquantified}
+use Rattle.urlpattern_engine.specs.ReadSteps.{times_text}
 use Rattle.urlpattern_engine.proofs.FrontLemmas.{by_token}
 use Rattle.urlpattern_engine.proofs.tokens.read_token.Goals as goal
 

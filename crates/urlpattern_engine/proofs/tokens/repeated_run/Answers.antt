@@ -1,5 +1,5 @@
 use Rattle.std.proofs.Common.{refl}
-use Rattle.urlpattern_engine.specs.Reading.{quantifier_of}
+use Rattle.urlpattern_engine.specs.ReadSteps.{quantifier_of}
 use Rattle.urlpattern_engine.proofs.TokenLemmas.{runs_allowed}
 use Rattle.urlpattern_engine.proofs.tokens.repeated_run.Goals as goal
 

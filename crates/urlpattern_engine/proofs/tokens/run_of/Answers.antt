@@ -1,6 +1,6 @@
 use Rattle.std.proofs.Common.{subst}
-use Rattle.urlpattern_laws.specs.Dialect.{Captured}
-use Rattle.urlpattern_engine.specs.Reading.{IsStepOf}
+use Rattle.urlpattern_meaning.specs.Dialect.{Captured}
+use Rattle.urlpattern_engine.specs.ReadSteps.{IsStepOf}
 use Rattle.urlpattern_engine.proofs.TokenLemmas.{anything_run, segment_run}
 use Rattle.urlpattern_engine.proofs.tokens.run_of.Goals as goal
 

@@ -5,13 +5,13 @@ use Rattle.std.specs.Prelude.{All, Contains, Some}
 use Rattle.urlpattern_index.specs.Keys.{address_keys}
 use Rattle.urlpattern.proofs.Results.{if_err}
 use Rattle.urlpattern.proofs.ListLemmas.{asks-views, first-views, refused-views}
-use Rattle.urlpattern.proofs.PlaceLemmas.{candidate_within, passed_over}
-use Rattle.urlpattern.specs.Captures.{captures_view}
+use Rattle.urlpattern.proofs.FixedLemmas.{candidate_within, passed_over}
+use Rattle.urlpattern.specs.BorrowedMatches.{pattern_captures_view}
 use Rattle.urlpattern.specs.Calls.{borrowed_texts, captures_of}
 use Rattle.urlpattern.specs.FirstMatch.{AsksBeforeMatch, IsFirstMatchOf, patterns_view}
 use Rattle.urlpattern.specs.Match.{IsMatchOf, IsRefused}
 use Rattle.urlpattern.specs.Patterns.{pattern_view}
-use Rattle.urlpattern.specs.Places.{address_of}
+use Rattle.urlpattern.proofs.Addresses.{address_of}
 use Rattle.urlpattern.specs.declared.pattern.UrlPattern.{UrlPattern}
 use Rattle.urlpattern.proofs.list.UrlPatternList.first.Goals as goal
 use Rattle.urlpattern_syntax.specs.Eight.{at}
@@ -73,14 +73,14 @@ returns-in-Some-2-clause-first g c =
     let before =
     passed_over answer texts items c.self.inside.index c.candidates-candidates.result c.self.invariant c.candidates-candidates.ensures.found c.loop-index.from index c.loop-index.invariant.refused
     (λ number le lt among. let other : index ≤ number = least.1 number (le, among) in absurd (omega arith)) in
-    let is_match : IsMatchOf answer (pattern_view pattern) texts (captures_view c.with_captures.result) = record {
+    let is_match : IsMatchOf answer (pattern_view pattern) texts (pattern_captures_view c.with_captures.result) = record {
       captures = λ name. captures_of (at c.in-Some-2.captures name);
       are_answers = rw c.in-Some-2.is at c.in_ok-captures.ensures.answers;
       are_results = c.with_captures.ensures;
     } in
-    subst (λ (patterns : List (UrlPattern g.row.R.Denot)). IsFirstMatchOf answer (patterns_view patterns) texts (Some (index, captures_view c.with_captures.result)))
+    subst (λ (patterns : List (UrlPattern g.row.R.Denot)). IsFirstMatchOf answer (patterns_view patterns) texts (Some (index, pattern_captures_view c.with_captures.result)))
     c.self.view_is
-    (first-views answer texts items index pattern (captures_view c.with_captures.result) is_there before is_match)
+    (first-views answer texts items index pattern (pattern_captures_view c.with_captures.result) is_there before is_match)
 
 pub returns-in_err-captures-clause-asked : goal.returns-in_err-captures-clause-asked
 returns-in_err-captures-clause-asked g c =

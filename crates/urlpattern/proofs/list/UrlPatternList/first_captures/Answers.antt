@@ -3,7 +3,7 @@ use Rattle.std.specs.Prelude.{Ok}
 use Rattle.urlpattern_init.specs.declared.init.UrlPatternMatchInput.TheVariants.{Url}
 use Rattle.urlpattern.proofs.ListLemmas.{first-of_texts}
 use Rattle.urlpattern.proofs.Results.{if_err}
-use Rattle.urlpattern.specs.Captures.{captures_view}
+use Rattle.urlpattern.specs.BorrowedMatches.{pattern_captures_view}
 use Rattle.urlpattern.specs.Calls.{borrowed_texts}
 use Rattle.urlpattern.specs.FirstMatch.{AsksBeforeMatch, patterns_view}
 use Rattle.urlpattern.specs.declared.pattern.captures.UrlPatternCaptures.{UrlPatternCaptures}
@@ -12,7 +12,7 @@ use Rattle.urlpattern_syntax.specs.Eight.{Texts}
 
 pub returns-clause-first : goal.returns-clause-first
 returns-clause-first g c =
-    first-of_texts g.R.RegExp.answer (patterns_view c.args.self.now) (Url c.args.url.now) (λ (found : UrlPatternCaptures). captures_view found) (borrowed_texts c.url_texts.result) (Ok c.in_ok-first.field-0)
+    first-of_texts g.R.RegExp.answer (patterns_view c.args.self.now) (Url c.args.url.now) (λ (found : UrlPatternCaptures). pattern_captures_view found) (borrowed_texts c.url_texts.result) (Ok c.in_ok-first.field-0)
     (ap Ok (sym c.url_texts.ensures)) c.in_ok-first.ensures.first
 
 pub returns-in_err-first-clause-asked : goal.returns-in_err-first-clause-asked

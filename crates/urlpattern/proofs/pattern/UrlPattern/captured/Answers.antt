@@ -2,8 +2,8 @@ use Rattle.std.proofs.Common.{subst}
 use Rattle.std.proofs.lemmas.Option.{IfSome_then}
 use Rattle.std.proofs.lemmas.Result.{IfErr-weaker, IfOk-weaker}
 use Rattle.std.specs.Prelude.{Option}
-use Rattle.urlpattern_laws.specs.Matching.{Answers}
-use Rattle.urlpattern_laws.specs.PartMeaning.{Captures}
+use Rattle.urlpattern_meaning.specs.Matching.{Answers}
+use Rattle.urlpattern_meaning.specs.PartMeaning.{Captures}
 use Rattle.urlpattern.proofs.MatchSteps.{asks-an_engine}
 use Rattle.urlpattern.specs.Calls.{borrowed_texts}
 use Rattle.urlpattern.specs.Patterns.{pattern_view}

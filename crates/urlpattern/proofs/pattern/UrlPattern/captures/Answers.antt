@@ -2,7 +2,7 @@ use Rattle.std.proofs.Common.{ap, sym}
 use Rattle.std.specs.Prelude.{Ok}
 use Rattle.urlpattern_init.specs.declared.init.UrlPatternMatchInput.TheVariants.{Url}
 use Rattle.urlpattern.proofs.MatchSteps.{found-of_texts}
-use Rattle.urlpattern.specs.Captures.{captures_view}
+use Rattle.urlpattern.specs.BorrowedMatches.{pattern_captures_view}
 use Rattle.urlpattern.specs.Calls.{borrowed_texts}
 use Rattle.urlpattern.specs.Patterns.{pattern_view}
 use Rattle.urlpattern.specs.declared.pattern.captures.UrlPatternCaptures.{UrlPatternCaptures}
@@ -10,5 +10,5 @@ use Rattle.urlpattern.proofs.pattern.UrlPattern.captures.Goals as goal
 
 pub returns-clause-matched : goal.returns-clause-matched
 returns-clause-matched g c =
-    found-of_texts g.R.RegExp.answer (pattern_view c.args.self.now) (λ (found : UrlPatternCaptures). captures_view found) (Url c.args.url.now)
+    found-of_texts g.R.RegExp.answer (pattern_view c.args.self.now) (λ (found : UrlPatternCaptures). pattern_captures_view found) (Url c.args.url.now)
     (borrowed_texts c.url_texts.result) (Ok c.in_ok-captures_of_texts.field-0) (ap Ok (sym c.url_texts.ensures)) c.in_ok-captures_of_texts.ensures.matched

@@ -1,6 +1,6 @@
 use Rattle.std.proofs.Common.{subst}
 use Rattle.std.specs.Prelude.{MatchOption}
-use Rattle.urlpattern.specs.Captures.{captures_view}
+use Rattle.urlpattern.specs.BorrowedMatches.{pattern_captures_view}
 use Rattle.urlpattern.specs.Match.{IsMatchOf, IsRefused}
 use Rattle.urlpattern.specs.Patterns.{pattern_view}
 use Rattle.urlpattern.proofs.pattern.UrlPattern.captures_of_input.Goals as goal
@@ -10,5 +10,5 @@ pub returns-clause-matched : goal.returns-clause-matched
 returns-clause-matched g c =
     let answer = g.R.RegExp.answer in
     let pattern = pattern_view c.args.self.now in
-    subst (λ (texts : Texts). MatchOption c.in_ok-captures_of_texts.field-0 (IsRefused answer pattern texts) (λ captures. IsMatchOf answer pattern texts (captures_view captures)))
+    subst (λ (texts : Texts). MatchOption c.in_ok-captures_of_texts.field-0 (IsRefused answer pattern texts) (λ captures. IsMatchOf answer pattern texts (pattern_captures_view captures)))
     c.input_texts.ensures c.in_ok-captures_of_texts.ensures.matched

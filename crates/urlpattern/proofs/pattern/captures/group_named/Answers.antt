@@ -5,7 +5,7 @@ use Rattle.std.proofs.lemmas.Str.{IsUtf8-string_bytes}
 use Rattle.std.specs.Iterator.Adapters.{zip_first, zip_second}
 use Rattle.std.specs.Slice.Iter.{iter_rest}
 use Rattle.std.specs.Str.{chars}
-use Rattle.urlpattern_core.specs.Captured.{capture_view}
+use Rattle.urlpattern_core.specs.CaptureTexts.{capture_view}
 use Rattle.urlpattern.proofs.GroupLemmas.{chars-test, groups-end, named-more}
 use Rattle.urlpattern_syntax.specs.Text.{text_of}
 use Rattle.urlpattern.proofs.pattern.captures.group_named.Goals as goal

@@ -4,7 +4,7 @@ use Rattle.std.specs.Option.{option_or}
 use Rattle.std.specs.Slice.Iter.{iter_rest}
 use Rattle.std.specs.Str.{chars}
 use Rattle.urlpattern.specs.Match.{group_of}
-use Rattle.urlpattern_core.specs.Captured.{capture_view}
+use Rattle.urlpattern_core.specs.CaptureTexts.{capture_view}
 use Rattle.urlpattern_syntax.specs.Text.{text_of}
 use Rattle.urlpattern.proofs.pattern.captures.group_named.Given as goal
 

@@ -3,7 +3,7 @@ use Rattle.std.specs.Iterator.Adapters.{zip_first, zip_second}
 use Rattle.std.specs.Option.{option_or}
 use Rattle.std.specs.Slice.Iter.{iter_rest}
 use Rattle.urlpattern.specs.Match.{group_in, group_of}
-use Rattle.urlpattern_core.specs.Captured.{capture_view}
+use Rattle.urlpattern_core.specs.CaptureTexts.{capture_view}
 use Rattle.urlpattern_syntax.specs.Text.{text_of}
 use Rattle.urlpattern.proofs.pattern.groups.add_groups.Given as goal
 

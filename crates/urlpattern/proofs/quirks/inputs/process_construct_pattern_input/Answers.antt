@@ -3,7 +3,7 @@ use Rattle.std.specs.Prelude.{IfErr, IfOk, option_copied}
 use Rattle.std.specs.Str.{chars}
 use Rattle.urlpattern.specs.FromString.{IsInitOfText}
 use Rattle.urlpattern.specs.Inputs.{RefusesText}
-use Rattle.urlpattern_core.specs.Engines.{regex_engine}
+use Rattle.urlpattern_core.specs.Regexes.{regex_engine}
 use Rattle.urlpattern_syntax.specs.Errors.{MemoryOr}
 use Rattle.urlpattern.proofs.quirks.inputs.process_construct_pattern_input.Goals as goal
 

@@ -1,9 +1,9 @@
 use Rattle.std.proofs.Common.{false, map, ap, ◌∙◌, subst}
 use Rattle.std.specs.Str.{chars}
 use Rattle.urlpattern_core.proofs.CompileLemmas.{engine-along}
-use Rattle.urlpattern_core.specs.Compiling.{IsEngineOf}
+use Rattle.urlpattern_core.specs.Components.{IsEngineOf}
 use Rattle.urlpattern_core.specs.Matchers.{engine_view, matcher_view}
-use Rattle.urlpattern_laws.specs.Matching.{IsMadeOf}
+use Rattle.urlpattern_meaning.specs.Matching.{IsMadeOf}
 use Rattle.urlpattern_syntax.specs.Options.{options_view}
 use Rattle.urlpattern_syntax.specs.Parts.{part_view}
 use Rattle.urlpattern_core.proofs.component.Component.from_parts.Goals as goal

@@ -1,8 +1,8 @@
 use Rattle.std.proofs.Common.{false, map}
 use Rattle.std.specs.Str.{chars}
-use Rattle.urlpattern_core.specs.Compiling.{IsEngineOf}
+use Rattle.urlpattern_core.specs.Components.{IsEngineOf}
 use Rattle.urlpattern_core.specs.Matchers.{matcher_view}
-use Rattle.urlpattern_laws.proofs.MatcherMeaning.{matcher_means}
+use Rattle.urlpattern_meaning.proofs.MatcherMeaning.{matcher_means}
 use Rattle.urlpattern_syntax.specs.Options.{options_view}
 use Rattle.urlpattern_syntax.specs.Parts.{part_view}
 use Rattle.urlpattern_core.proofs.component.matchers.generate_matcher.Goals as goal

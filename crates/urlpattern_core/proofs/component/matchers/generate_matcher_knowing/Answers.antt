@@ -1,7 +1,7 @@
 use Rattle.std.proofs.Common.{◌≤◌, false, length, map, arith}
 use Rattle.std.proofs.lemmas.List.{length-map}
 use Rattle.std.specs.Str.{chars}
-use Rattle.urlpattern_core.specs.Compiling.{IsEngineOf}
+use Rattle.urlpattern_core.specs.Components.{IsEngineOf}
 use Rattle.urlpattern_core.specs.Matchers.{matcher_view}
 use Rattle.urlpattern_core.proofs.Peeling.{if_ok-map, made-of, many-by_engine}
 use Rattle.urlpattern_syntax.specs.Options.{options_view}

@@ -1,9 +1,9 @@
 use Rattle.std.proofs.Common.{◌∙◌, ℕ, List, ap, subst}
 use Rattle.std.specs.Str.{chars}
 use Rattle.urlpattern_core.proofs.Peeling.{if_err-map, if_ok-map}
-use Rattle.urlpattern_laws.proofs.ReadsBack.{answered_only, answered_refused}
-use Rattle.urlpattern_laws.specs.Printing.{encoded_texts, joined}
-use Rattle.urlpattern_laws.specs.RoundTrip.{FailsText}
+use Rattle.urlpattern_meaning.proofs.ReadsBack.{answered_only, answered_refused}
+use Rattle.urlpattern_meaning.specs.Printing.{encoded_texts, joined}
+use Rattle.urlpattern_meaning.specs.RoundTrip.{FailsText}
 use Rattle.urlpattern_syntax.proofs.ReadingLemmas.{MemoryOr-weaker}
 use Rattle.urlpattern_syntax.specs.Errors.{ErrorView}
 use Rattle.urlpattern_syntax.specs.Options.{options_view}

@@ -1,7 +1,7 @@
 use Rattle.std.proofs.Common.{map, subst, sym}
-use Rattle.urlpattern_laws.proofs.ReadsBack.{kept_reads_back}
-use Rattle.urlpattern_laws.specs.Laws.{listed}
-use Rattle.urlpattern_laws.specs.RoundTrip.{ReadsBack}
+use Rattle.urlpattern_meaning.proofs.ReadsBack.{kept_reads_back}
+use Rattle.urlpattern_meaning.specs.Laws.{listed}
+use Rattle.urlpattern_meaning.specs.RoundTrip.{ReadsBack}
 use Rattle.urlpattern_syntax.specs.Options.{options_view}
 use Rattle.urlpattern_syntax.specs.Parts.{part_view}
 use Rattle.urlpattern_core.proofs.component.printed.generate_pattern_string.Goals as goal

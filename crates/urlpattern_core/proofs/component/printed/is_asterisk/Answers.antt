@@ -1,6 +1,6 @@
 use Rattle.std.proofs.Common.{◌≡◌, ◌∙◌, sym, false}
 use Rattle.urlpattern_core.specs.Neighbours.{neighbour}
-use Rattle.urlpattern_laws.specs.Printing.{admits_asterisk, has_custom_name}
+use Rattle.urlpattern_meaning.specs.Printing.{admits_asterisk, has_custom_name}
 use Rattle.urlpattern_syntax.proofs.StringTexts.{is_empty-text}
 use Rattle.urlpattern_syntax.specs.Parts.{part_view}
 use Rattle.urlpattern_core.proofs.component.printed.is_asterisk.Goals as goal

@@ -1,6 +1,6 @@
 use Rattle.std.proofs.Common.{◌∙◌, bytes_eq, not, sym}
 use Rattle.std.proofs.Math.Bool.{and_assoc}
-use Rattle.urlpattern_laws.specs.Printing.{last_of}
+use Rattle.urlpattern_meaning.specs.Printing.{last_of}
 use Rattle.urlpattern_syntax.proofs.StringTexts.{is_empty-text}
 use Rattle.urlpattern_syntax.specs.RegexpText.{is_empty, is_fixed_text}
 use Rattle.urlpattern_syntax.specs.Text.{text_of}

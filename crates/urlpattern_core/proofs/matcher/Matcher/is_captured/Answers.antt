@@ -1,6 +1,6 @@
 use Rattle.std.proofs.Common.{◌≡◌, false, length, sym, subst, rules}
 use Rattle.std.specs.Str.{chars}
-use Rattle.urlpattern_laws.specs.Matching.{MayBeEmpty, PassesFilter}
+use Rattle.urlpattern_meaning.specs.Matching.{MayBeEmpty, PassesFilter}
 use Rattle.urlpattern_syntax.proofs.TextLemmas.{chars-empty, chars-some}
 use Rattle.urlpattern_core.proofs.MatcherAnswers.{captured-by, may_be-some, not_captured-by}
 use Rattle.urlpattern_core.proofs.matcher.Matcher.is_captured.Goals as goal

@@ -1,7 +1,7 @@
 use Rattle.std.proofs.Common.{◌≡◌, ap, ◌∙◌, refl}
 use Rattle.std.specs.Prelude.{Ok}
 use Rattle.std.specs.Str.{chars}
-use Rattle.urlpattern_laws.specs.Matching.{RegExp}
+use Rattle.urlpattern_meaning.specs.Matching.{RegExp}
 use Rattle.urlpattern_core.specs.Matchers.{engine_view, inner_view, matcher_view}
 use Rattle.urlpattern_core.proofs.MatcherAnswers.{answers-engine, not_matched-literal, not_matched-single, not_matched-without}
 use Rattle.urlpattern_core.proofs.matcher.Matcher.look.Goals as goal

@@ -6,8 +6,8 @@ use Rattle.urlpattern_core.specs.Matchers.{matcher_view}
 use Rattle.urlpattern_core.proofs.FoldedEnds.{begins-between, between-folded, ends-between, none-weaker, some-weaker}
 use Rattle.urlpattern_core.proofs.MatcherTexts.{between-none, between-some, not_stripped}
 use Rattle.urlpattern_core.proofs.matcher.Matcher.middle.Goals as goal
-use Rattle.urlpattern_laws.proofs.MatchingLaws.{middle_kept}
-use Rattle.urlpattern_laws.specs.Matching.{folded}
+use Rattle.urlpattern_meaning.proofs.MatchingLaws.{middle_kept}
+use Rattle.urlpattern_meaning.specs.Matching.{folded}
 
 -- ---- where prefix and suffix are empty
 

@@ -2,8 +2,8 @@ use Rattle.std.proofs.Common.{◌≡◌, sym, ◌∷◌, [], ◌++◌, ◌+◌, 
 use Rattle.std.proofs.lemmas.List.{map-append}
 use Rattle.std.proofs.lemmas.List.FromFn.{map-range_with_len_more}
 use Rattle.regex.specs.Strings.{captures_haystack, captures_span}
-use Rattle.urlpattern_core.specs.Captured.{capture_view}
-use Rattle.urlpattern_core.specs.Engines.{group_texts, text_between}
+use Rattle.urlpattern_core.specs.CaptureTexts.{capture_view}
+use Rattle.urlpattern_core.specs.Regexes.{group_texts, text_between}
 use Rattle.urlpattern_core.proofs.regexp.rust.groups.Goals as goal
 
 pub loop-index-preserved : goal.loop-index-preserved

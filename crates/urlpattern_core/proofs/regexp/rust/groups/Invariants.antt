@@ -1,7 +1,7 @@
 use Rattle.std.proofs.Common.{◌≡◌, ◌-◌, map}
 use Rattle.regex.specs.Strings.{captures_haystack, captures_span}
-use Rattle.urlpattern_core.specs.Captured.{capture_view}
-use Rattle.urlpattern_core.specs.Engines.{group_texts}
+use Rattle.urlpattern_core.specs.CaptureTexts.{capture_view}
+use Rattle.urlpattern_core.specs.Regexes.{group_texts}
 use Rattle.urlpattern_core.proofs.regexp.rust.groups.Given as goal
 
 abbrev pub invariant-loop-index : goal.invariant-loop-index

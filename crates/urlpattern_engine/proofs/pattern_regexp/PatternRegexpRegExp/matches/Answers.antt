@@ -1,10 +1,10 @@
 use Rattle.std.proofs.Common.{◌≡◌, sym, subst}
 use Rattle.std.specs.Prelude.{IfOk}
 use Rattle.std.specs.Str.{chars}
-use Rattle.urlpattern_core.specs.Captured.{captures_view}
-use Rattle.urlpattern_core.specs.Engines.{regex_answer}
-use Rattle.urlpattern_engine.specs.Engine.{expression_answer, pattern_answer}
-use Rattle.urlpattern_engine.specs.Steps.{walk}
+use Rattle.urlpattern_core.specs.CaptureTexts.{captures_view}
+use Rattle.urlpattern_core.specs.Regexes.{regex_answer}
+use Rattle.urlpattern_engine.specs.PatternRegexps.{expression_answer, pattern_answer}
+use Rattle.urlpattern_engine.specs.Walk.{walk}
 use Rattle.urlpattern_engine.proofs.pattern_regexp.PatternRegexpRegExp.matches.Goals as goal
 
 pub returns-in-Own : goal.returns-in-Own

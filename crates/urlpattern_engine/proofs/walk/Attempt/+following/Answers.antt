@@ -9,7 +9,7 @@ use Rattle.urlpattern_syntax.specs.Text.{line_feed}
 use Rattle.urlpattern_engine.specs.declared.step.Step.{Step}
 use Rattle.urlpattern_engine.specs.declared.step.Step.TheVariants.{Literal, Segment, Anything, Maybe}
 use Rattle.urlpattern_engine.specs.Failed.{EndsWith}
-use Rattle.urlpattern_engine.specs.Steps.{Gives, captured, literals, up_to_first, walk, StopAt}
+use Rattle.urlpattern_engine.specs.Walk.{Continuation, captured_front, literals, up_to_first, walk, StopAt}
 use Rattle.urlpattern_engine.proofs.AttemptLemmas.{leaves_captured, leaves_end, leaves_missed, leaves_passed, maybe_left}
 use Rattle.urlpattern_engine.proofs.FirstLemmas.{passed_shorter, places}
 use Rattle.urlpattern_engine.proofs.FollowLemmas.{plus, literal_passed, end_taken}
@@ -78,7 +78,7 @@ follow_on-returns-then-is_empty n c =
     let stops : StopAt end others = c.has_one_end.ensures c.if-has_one_end.true in
     let empty : length c.split_at_first.result.0.now ≡ 0 = search rules in
     let front : up_to_first end rest ≡ [] = sym c.split_at_first.ensures.front ∙ chars-empty c.split_at_first.result.0.now empty in
-    leaves_missed _ _ _ _ _ _ c.loop-step.invariant.leaves (ap (λ l. walk l rest) left ∙ shortest_none end (captured (walk others)) (stop-gives end others stops) rest front)
+    leaves_missed _ _ _ _ _ _ c.loop-step.invariant.leaves (ap (λ l. walk l rest) left ∙ shortest_none end (captured_front (walk others)) (stop-gives end others stops) rest front)
 
 pub follow_on-loop-step-preserved-then-has_one_end : goal.follow_on-loop-step-preserved-then-has_one_end
 follow_on-loop-step-preserved-then-has_one_end n c =
@@ -97,7 +97,7 @@ follow_on-loop-step-preserved-then-has_one_end n c =
       shorter = omega (arith, c.in-Some.ensures.cases.1, c.loop-step.invariant.shorter);
       leaves = leaves_captured _ _ _ _ _ _ c.loop-step.invariant.leaves _ (Segment end) others run remaining left
           (rw (c.split_at_first.ensures.front, c.split_at_first.ensures.rest) (sym (both_ends end rest)))
-          (rw (c.split_at_first.ensures.front, c.split_at_first.ensures.rest) (shortest_ends end (captured (walk others)) (stop-gives end others stops) rest front))
+          (rw (c.split_at_first.ensures.front, c.split_at_first.ensures.rest) (shortest_ends end (captured_front (walk others)) (stop-gives end others stops) rest front))
           c.in_ok-push-in-Segment.ensures.items refl;
     }
 
@@ -114,7 +114,7 @@ follow_on-loop-step-preserved n c =
       shorter = omega (arith, c.in-Some.ensures.cases.1, c.loop-step.invariant.shorter);
       leaves = leaves_captured _ _ _ _ _ _ c.loop-step.invariant.leaves _ Anything others run remaining left
           (rw (c.split_at_first-in-Anything.ensures.front, c.split_at_first-in-Anything.ensures.rest) (sym (both_ends line_feed rest)))
-          (rw (c.split_at_first-in-Anything.ensures.front, c.split_at_first-in-Anything.ensures.rest) (longest_ends line_feed (captured (walk others)) (stop-gives line_feed others stops) rest))
+          (rw (c.split_at_first-in-Anything.ensures.front, c.split_at_first-in-Anything.ensures.rest) (longest_ends line_feed (captured_front (walk others)) (stop-gives line_feed others stops) rest))
           c.in_ok-push-in-Anything.ensures.items refl;
     }
 
@@ -135,8 +135,8 @@ follow_longest-follow_captured-requires = runs.follow_longest-follow_captured-re
 pub follow_longest-returns-then-branch : goal.follow_longest-returns-then-branch
 follow_longest-returns-then-branch = runs.follow_longest-returns-then-branch
 
-pub follow_longest-insert-requires-clause-place : goal.follow_longest-insert-requires-clause-place
-follow_longest-insert-requires-clause-place = runs.follow_longest-insert-requires-clause-place
+pub follow_longest-insert-requires-clause-state : goal.follow_longest-insert-requires-clause-state
+follow_longest-insert-requires-clause-state = runs.follow_longest-insert-requires-clause-state
 
 pub follow_longest-insert-requires-clause-dead : goal.follow_longest-insert-requires-clause-dead
 follow_longest-insert-requires-clause-dead = runs.follow_longest-insert-requires-clause-dead

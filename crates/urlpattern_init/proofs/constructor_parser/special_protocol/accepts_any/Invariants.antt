@@ -1,7 +1,7 @@
 use Rattle.std.proofs.Common.{◌≡◌, ℕ, ◌<◌, Bor, List, get_or}
 use Rattle.std.specs.Str.{chars}
 use Rattle.urlpattern_core.specs.Matchers.{matcher_view}
-use Rattle.urlpattern_laws.specs.Matching.{IsMatched}
+use Rattle.urlpattern_meaning.specs.Matching.{IsMatched}
 use Rattle.urlpattern_init.proofs.constructor_parser.special_protocol.accepts_any.Given as goal
 
 -- none of the texts so far is accepted

@@ -1,6 +1,6 @@
 use Rattle.std.proofs.Common.{[], ◌∷◌, codes}
 use Rattle.urlpattern_core.specs.Matchers.{matcher_view}
-use Rattle.urlpattern_laws.specs.Matching.{IsMatched}
+use Rattle.urlpattern_meaning.specs.Matching.{IsMatched}
 use Rattle.urlpattern_init.proofs.SchemeLemmas.{lent, schemes_answer, schemes_shown}
 use Rattle.urlpattern_init.proofs.constructor_parser.special_protocol.accepts_special_scheme.Goals as goal
 

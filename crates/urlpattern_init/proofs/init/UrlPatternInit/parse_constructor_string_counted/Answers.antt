@@ -4,7 +4,7 @@ use Rattle.std.proofs.lemmas.Result.{err_from_is_err_and}
 use Rattle.std.specs.Str.{chars}
 use Rattle.urlpattern_init.specs.SpecialProtocol.{IsSpecialTo}
 use Rattle.urlpattern_init.specs.Split.{IsSplit}
-use Rattle.urlpattern_init.specs.Splitting.{components_of}
+use Rattle.urlpattern_init.specs.Splitting.{split_values}
 use Rattle.urlpattern_init.proofs.SplitLemmas.{lacks_protocol, missing_is_none, none_of}
 use Rattle.urlpattern_syntax.specs.Tokens.{AreLenientTokens, token_view}
 use Rattle.urlpattern_syntax.specs.declared.tokenizer.Token.{Token}
@@ -20,7 +20,7 @@ pub returns-then-is_none-2-clause-refused : goal.returns-then-is_none-2-clause-r
 returns-then-is_none-2-clause-refused g c =
     let are_tokens = subst (λ (tokens : List Token). AreLenientTokens (chars c.args.pattern.now) (map token_view tokens)) (sym c.deref.ensures.value) c.in_ok-tokens.ensures.tokens in
     inr (inr (
-      lacks_protocol _ (chars c.args.pattern.now) (map token_view c.deref.result.now) (components_of c.in_ok-split.split) are_tokens c.in_ok-split.ensures.split
+      lacks_protocol _ (chars c.args.pattern.now) (map token_view c.deref.result.now) (split_values c.in_ok-split.split) are_tokens c.in_ok-split.ensures.split
           (λ P some. missing_is_none (λ (text : Bor (List ℕ)). chars text.now) c.in_ok-split.split.values.protocol P (c.is_none.ensures ∙ ap not c.if-is_none.true) some),
       none_of c.args.base_url (c.is_none-then-is_none.ensures ∙ ap not c.if-is_none-2.true),
       refl,

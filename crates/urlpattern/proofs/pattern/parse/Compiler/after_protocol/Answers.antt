@@ -1,6 +1,6 @@
 use Rattle.std.proofs.Common.{[], ◌∷◌}
-use Rattle.urlpattern_core.specs.Compiling.{component_view}
-use Rattle.urlpattern.specs.Compilers.{manner_by}
+use Rattle.urlpattern_core.specs.Components.{component_view}
+use Rattle.urlpattern.specs.CompilerSteps.{manner_by}
 use Rattle.urlpattern.proofs.CompiledLemmas.{refused_after}
 use Rattle.urlpattern_syntax.proofs.EightLemmas.{by_name}
 use Rattle.urlpattern_syntax.specs.declared.eight.ComponentName.TheVariants.{Hostname, Pathname, Username, Password, Port, Search, Hash}

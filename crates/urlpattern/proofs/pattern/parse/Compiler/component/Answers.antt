@@ -1,8 +1,8 @@
 use Rattle.std.proofs.Common.{rules}
 use Rattle.urlpattern.proofs.CompiledLemmas.{compiled_weaker, refused_weaker}
 use Rattle.urlpattern.specs.Compiled.{canonical_encoding}
-use Rattle.urlpattern.specs.Compilers.{manner_by}
-use Rattle.urlpattern_core.specs.Compiling.{pattern_text}
+use Rattle.urlpattern.specs.CompilerSteps.{manner_by}
+use Rattle.urlpattern_core.specs.Components.{pattern_text}
 use Rattle.urlpattern_syntax.specs.Options.{options_view}
 use Rattle.urlpattern.proofs.pattern.parse.Compiler.component.Goals as goal
 

@@ -1,7 +1,7 @@
 use Rattle.std.proofs.Common.{rules, ◌≡◌, sym, not, List, ℕ, subst}
 use Rattle.std.specs.Str.{chars}
 use Rattle.urlpattern_core.proofs.PrintedTexts.{escaped-by, fixed-as}
-use Rattle.urlpattern_laws.specs.Printing.{escaped_pattern}
+use Rattle.urlpattern_meaning.specs.Printing.{escaped_pattern}
 use Rattle.urlpattern_syntax.specs.Parts.{part_view}
 use Rattle.urlpattern_syntax.specs.RegexpText.{is_unmodified}
 use Rattle.urlpattern_syntax.specs.Text.{text_of}

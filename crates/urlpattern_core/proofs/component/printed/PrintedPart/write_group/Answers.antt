@@ -2,7 +2,7 @@ use Rattle.std.proofs.Common.{◌≡◌, sym, List, ℕ, subst}
 use Rattle.std.specs.Str.{chars}
 use Rattle.urlpattern_core.proofs.PrintedTexts.{escaped-by, group-as}
 use Rattle.urlpattern_core.specs.Neighbours.{neighbour}
-use Rattle.urlpattern_laws.specs.Printing.{escaped_pattern}
+use Rattle.urlpattern_meaning.specs.Printing.{escaped_pattern}
 use Rattle.urlpattern_syntax.specs.Options.{options_view}
 use Rattle.urlpattern_syntax.specs.Parts.{part_view}
 use Rattle.urlpattern_syntax.specs.Text.{text_of}

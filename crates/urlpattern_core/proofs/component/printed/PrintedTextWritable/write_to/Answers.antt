@@ -2,7 +2,7 @@ use Rattle.std.proofs.Common.{◌≡◌, ◌++◌, ◌∙◌, [], List, ℕ, sym
 use Rattle.std.proofs.lemmas.List.{append-nil, nil_from_length}
 use Rattle.urlpattern_core.proofs.PrintedTexts.{printed-cut, printed-more}
 use Rattle.urlpattern_core.specs.Neighbours.{neighbour}
-use Rattle.urlpattern_laws.specs.Printing.{printed, printed_after}
+use Rattle.urlpattern_meaning.specs.Printing.{printed, printed_after}
 use Rattle.urlpattern_syntax.specs.Options.{options_view}
 use Rattle.urlpattern_syntax.specs.Parts.{part_view}
 use Rattle.urlpattern_core.proofs.component.printed.PrintedTextWritable.write_to.Goals as goal

@@ -1,6 +1,6 @@
 use Rattle.std.proofs.Common.{◌≡◌, ℕ, List, ◌++◌, length, map}
 use Rattle.urlpattern_core.specs.Neighbours.{neighbour}
-use Rattle.urlpattern_laws.specs.Printing.{printed, printed_after}
+use Rattle.urlpattern_meaning.specs.Printing.{printed, printed_after}
 use Rattle.urlpattern_syntax.specs.Options.{options_view}
 use Rattle.urlpattern_syntax.specs.Parts.{part_view}
 use Rattle.urlpattern_core.proofs.component.printed.PrintedTextWritable.write_to.Given as goal

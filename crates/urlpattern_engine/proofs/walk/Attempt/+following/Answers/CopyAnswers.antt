@@ -4,7 +4,7 @@ use Rattle.std.proofs.lemmas.List.{append_cancel_left, append_cancel_right}
 use Rattle.std.proofs.lemmas.Str.{IsUtf8-append}
 use Rattle.std.specs.Str.{chars, IsUtf8}
 use Rattle.urlpattern_engine.specs.Failed.{EndsWith}
-use Rattle.urlpattern_engine.specs.Steps.{literal_text, walk_copies, after_text, any_rounds, copies_of, literals, walk}
+use Rattle.urlpattern_engine.specs.Walk.{literal_text, walk_copies, after_text, any_rounds, copies_of, literals, walk}
 use Rattle.urlpattern_engine.proofs.AttemptLemmas.{follows_later, follows_missed, follows_none, follows_taken, follows_untouched, untouched-same}
 use Rattle.urlpattern_engine.proofs.CopyLemmas.{copies_any, copies_fewer, copies_none, copies_some, copy_shrinks, fewer-found, no_copy_left}
 use Rattle.urlpattern_engine.proofs.FollowLemmas.{bytes_join}

@@ -7,7 +7,7 @@ use Rattle.urlpattern_syntax.proofs.TextLemmas.{chars-empty}
 use Rattle.urlpattern_syntax.specs.Text.{line_feed}
 use Rattle.urlpattern_engine.specs.declared.step.Step.TheVariants.{Anything, Longest}
 use Rattle.urlpattern_engine.specs.Failed.{EndsWith, HasEnded}
-use Rattle.urlpattern_engine.specs.Steps.{Gives, captured, longest, shortest, up_to_first, walk}
+use Rattle.urlpattern_engine.specs.Walk.{Continuation, captured_front, longest, shortest, up_to_first, walk}
 use Rattle.urlpattern_engine.specs.Taken.{Untouched}
 use Rattle.urlpattern_engine.proofs.AttemptLemmas.{cut_sooner, follows_later, follows_missed, follows_none, follows_taken, follows_untouched, untouched-same}
 use Rattle.urlpattern_engine.proofs.FallingLemmas.{falling, falling-found, front_shrinks}
@@ -46,7 +46,7 @@ follow_longest-returns-then-branch n c =
 
 -- this front does not lead on, and none that is longer
 longest_none : (n : ℕ) (c : follow_longest-Else-branch n)
-    → longest line_feed (captured (walk c.args.others.now)) (chars c.loop-self.front.now) (chars c.after_front-rest.result.now) ≡ None
+    → longest line_feed (captured_front (walk c.args.others.now)) (chars c.loop-self.front.now) (chars c.after_front-rest.result.now) ≡ None
 longest_none n c =
     let so_far = c.loop-self.invariant.so_far in
     longest_missed c.args.others.now c.args.text.now c.loop-self.front.now c.after_front-rest.result.now so_far.0 c.loop-self.self.captures.items c.follow_captured.new.self.captures.items _
@@ -55,9 +55,9 @@ longest_none n c =
 longest_untouched : (n : ℕ) (c : follow_longest-Else-branch n) → Untouched c.args.self.now c.follow_captured.new.self
 longest_untouched n c = follows_untouched c.args.self.now c.loop-self.self c.follow_captured.new.self _ _ c.loop-self.invariant.before c.if-branch.false c.in_ok-follow_captured.ensures
 
-pub follow_longest-insert-requires-clause-place : goal.follow_longest-insert-requires-clause-place
-follow_longest-insert-requires-clause-place n c =
-    let before = longest_untouched n ((goal.at.follow_longest-insert-requires-clause-place n c).Else-branch) in
+pub follow_longest-insert-requires-clause-state : goal.follow_longest-insert-requires-clause-state
+follow_longest-insert-requires-clause-state n c =
+    let before = longest_untouched n ((goal.at.follow_longest-insert-requires-clause-state n c).Else-branch) in
     search (rules, places, before)
 
 pub follow_longest-insert-requires-clause-dead : goal.follow_longest-insert-requires-clause-dead
@@ -80,7 +80,7 @@ follow_longest-loop-self-preserved n c =
     let front = c.loop-self.front.now in
     let shorter = c.in-Some.shorter.now in
     let rest = c.after_front-rest.result.now in
-    let gives : Gives = captured (walk c.args.others.now) in
+    let gives : Continuation = captured_front (walk c.args.others.now) in
     let so_far = c.loop-self.invariant.so_far in
     let missed = (goal.at.follow_longest-loop-self-preserved n c).Else-branch in
     let before = longest_untouched n missed in
@@ -125,19 +125,19 @@ follow_shortest-follow_captured-requires n c =
 
 -- what this front gives comes first, and then what those give that are longer
 shortest_so_far : (n : ℕ) (c : follow_shortest-After-follow_captured n)
-    → let gives : Gives = captured (walk c.args.others.now) in
+    → let gives : Continuation = captured_front (walk c.args.others.now) in
     let remaining = chars c.in-Some.remaining.now in
     walk c.args.steps.now (chars c.args.text.now)
     ≡ option_or (gives (chars c.before-in-Some.result.now) remaining) (shortest c.args.end gives (c.loop-remaining.invariant.so_far.0 ++ c.in-Some.field-0-0 ∷ []) remaining)
 shortest_so_far n c =
     let so_far = c.loop-remaining.invariant.so_far in
     so_far.2
-    ∙ shortest_grown c.args.end (captured (walk c.args.others.now)) (chars c.args.text.now) so_far.0 (chars c.before-in-Some.result.now) (chars c.loop-remaining.rest.now) (chars c.in-Some.remaining.now)
+    ∙ shortest_grown c.args.end (captured_front (walk c.args.others.now)) (chars c.args.text.now) so_far.0 (chars c.before-in-Some.result.now) (chars c.loop-remaining.rest.now) (chars c.in-Some.remaining.now)
     c.in-Some.field-0-0 so_far.1 c.in-Some.ensures.cut c.in-Some.ensures.other c.before-in-Some.ensures
 
 pub follow_shortest-returns-then-branch : goal.follow_shortest-returns-then-branch
 follow_shortest-returns-then-branch n c =
-    let longer = shortest c.args.end (captured (walk c.args.others.now)) (c.loop-remaining.invariant.so_far.0 ++ c.in-Some.field-0-0 ∷ []) (chars c.in-Some.remaining.now) in
+    let longer = shortest c.args.end (captured_front (walk c.args.others.now)) (c.loop-remaining.invariant.so_far.0 ++ c.in-Some.field-0-0 ∷ []) (chars c.in-Some.remaining.now) in
     follows_taken c.args.self.now c.loop-remaining.self c.follow_captured.new.self _ _ _ c.loop-remaining.invariant.before c.if-branch.true c.in_ok-follow_captured.ensures
     (λ found some. shortest_so_far n ((goal.at.follow_shortest-returns-then-branch n c).After-follow_captured) ∙ ap (λ o. option_or o longer) some)
 
@@ -146,7 +146,7 @@ follow_shortest-loop-remaining-preserved n c =
     let so_far = c.loop-remaining.invariant.so_far in
     let d = c.in-Some.field-0-0 in
     let remaining = chars c.in-Some.remaining.now in
-    let longer = shortest c.args.end (captured (walk c.args.others.now)) (so_far.0 ++ d ∷ []) remaining in
+    let longer = shortest c.args.end (captured_front (walk c.args.others.now)) (so_far.0 ++ d ∷ []) remaining in
     let none = follows_none c.loop-remaining.self c.follow_captured.new.self _ _ c.if-branch.false c.in_ok-follow_captured.ensures in
     record {
       is_text = search rules;
@@ -188,7 +188,7 @@ follow_longest_run-loop-shorter-init n c =
         rest,
         further,
         bytes_join c.args.text.now front rest whole utf8 further cut,
-        rw (c.split_at_first.ensures.front, c.split_at_first.ensures.rest) (longest_run_falling run.may_be_empty run.end (captured (walk c.args.steps.now)) text),
+        rw (c.split_at_first.ensures.front, c.split_at_first.ensures.rest) (longest_run_falling run.may_be_empty run.end (captured_front (walk c.args.steps.now)) text),
       );
       before = untouched-same c.args.self.now;
     }
@@ -201,28 +201,28 @@ follow_longest_run-follow_captured-requires n c = search (rules, places)
 
 -- a front that is not empty gives what it may give
 run_given : (n : ℕ) (c : follow_longest_run-After-follow_captured n)
-    → let gives : Gives = captured (walk c.args.steps.now) in
+    → let gives : Continuation = captured_front (walk c.args.steps.now) in
     let front = chars c.loop-shorter.front.now in
     at_least c.args.run.may_be_empty gives front (chars c.loop-shorter.invariant.so_far.0) ≡ gives front (chars c.after_front-rest.result.now)
 run_given n c =
     let so_far = c.loop-shorter.invariant.so_far in
     let last = c.in-Some.ensures.cut in
     let utf8 : IsUtf8 c.in-Some.shorter.now = search rules in
-    front_given c.args.run.may_be_empty (captured (walk c.args.steps.now)) c.args.text.now c.loop-shorter.front.now c.in-Some.shorter.now c.after_front-rest.result.now so_far.0 last.0 utf8 last.1 last.2
+    front_given c.args.run.may_be_empty (captured_front (walk c.args.steps.now)) c.args.text.now c.loop-shorter.front.now c.in-Some.shorter.now c.after_front-rest.result.now so_far.0 last.0 utf8 last.1 last.2
     c.after_front-rest.ensures so_far.2
 
 pub follow_longest_run-returns-then-branch : goal.follow_longest_run-returns-then-branch
 follow_longest_run-returns-then-branch n c =
     let so_far = c.loop-shorter.invariant.so_far in
     follows_taken c.args.self.now c.loop-shorter.self c.follow_captured.new.self _ _ _ c.loop-shorter.invariant.before c.if-branch.true c.in_ok-follow_captured.ensures
-    (λ found some. so_far.3 ∙ falling-found (at_least c.args.run.may_be_empty (captured (walk c.args.steps.now))) [] (chars c.loop-shorter.front.now) (chars so_far.0) found
+    (λ found some. so_far.3 ∙ falling-found (at_least c.args.run.may_be_empty (captured_front (walk c.args.steps.now))) [] (chars c.loop-shorter.front.now) (chars so_far.0) found
     (run_given n ((goal.at.follow_longest_run-returns-then-branch n c).After-follow_captured) ∙ some))
 
 pub follow_longest_run-loop-shorter-preserved : goal.follow_longest_run-loop-shorter-preserved
 follow_longest_run-loop-shorter-preserved n c =
     let front = c.loop-shorter.front.now in
     let shorter = c.in-Some.shorter.now in
-    let tries : Gives = at_least c.args.run.may_be_empty (captured (walk c.args.steps.now)) in
+    let tries : Continuation = at_least c.args.run.may_be_empty (captured_front (walk c.args.steps.now)) in
     let so_far = c.loop-shorter.invariant.so_far in
     let last = c.in-Some.ensures.cut in
     let utf8 : IsUtf8 shorter = search rules in
@@ -242,7 +242,7 @@ follow_longest_run-follow_captured-requires-then-run n c = search (rules, places
 pub follow_longest_run-returns-then-run : goal.follow_longest_run-returns-then-run
 follow_longest_run-returns-then-run n c =
     let front = c.loop-shorter.front.now in
-    let gives : Gives = captured (walk c.args.steps.now) in
+    let gives : Continuation = captured_front (walk c.args.steps.now) in
     let so_far = c.loop-shorter.invariant.so_far in
     follows_later c.args.self.now c.loop-shorter.self c.follow_captured-then-run.new.self _ (gives (chars front) (chars c.args.text.now)) c.follow_captured-then-run.result c.loop-shorter.invariant.before
     (so_far.3
@@ -254,7 +254,7 @@ follow_longest_run-returns-then-run n c =
 pub follow_longest_run-returns-else-run : goal.follow_longest_run-returns-else-run
 follow_longest_run-returns-else-run n c =
     let front = c.loop-shorter.front.now in
-    let gives : Gives = captured (walk c.args.steps.now) in
+    let gives : Continuation = captured_front (walk c.args.steps.now) in
     let so_far = c.loop-shorter.invariant.so_far in
     follows_missed c.args.self.now c.loop-shorter.self _ c.loop-shorter.invariant.before
     (so_far.3

@@ -2,7 +2,7 @@
 use Rattle.std.proofs.Common.{ℕ, ◌∷◌, ◌++◌, [], None, sym, ap, ◌∙◌, subst, arith, rules}
 use Rattle.std.proofs.lemmas.Str.{IsUtf8-encode}
 use Rattle.std.specs.Str.{chars, IsUtf8}
-use Rattle.urlpattern_engine.specs.Steps.{Gives, captured, literals, walk}
+use Rattle.urlpattern_engine.specs.Walk.{Continuation, captured_front, literals, walk}
 use Rattle.urlpattern_engine.specs.Taken.{IsCutFor}
 use Rattle.urlpattern_engine.proofs.AttemptLemmas.{IsCut, cut_end, cut_sooner, cut_whole, follows_later, follows_missed, untouched-same, untouched-then}
 use Rattle.urlpattern_engine.proofs.EndLemmas.{IsTable, begins, either, place_ends, segments_none, segments_some, table_begun, table_next}
@@ -44,7 +44,7 @@ end_of_segments-loop-begun-init n c =
     let literal = literals c.args.literal.now in
     let is_greedy = c.args.segments.is_greedy in
     let end = c.args.segments.end in
-    let gives : Gives = captured (walk c.args.others.now) in
+    let gives : Continuation = captured_front (walk c.args.others.now) in
     let text = c.args.text.now in
     record {
       is_text = search rules;
@@ -59,7 +59,7 @@ ends_placed : (n : ℕ) (c : end_of_segments-After-ends-beginning n)
     let literal = literals c.args.literal.now in
     let is_greedy = c.args.segments.is_greedy in
     let end = c.args.segments.end in
-    let gives : Gives = captured (walk c.args.others.now) in
+    let gives : Continuation = captured_front (walk c.args.others.now) in
     let text = c.args.text.now in
     let front = chars c.loop-begun.front.now in
     let rest = chars c.after_front-rest.result.now in
@@ -76,7 +76,7 @@ ends_placed n c =
 
 pub end_of_segments-returns-in_default-clause-cut : goal.end_of_segments-returns-in_default-clause-cut
 end_of_segments-returns-in_default-clause-cut n c =
-    let gives : Gives = captured (walk c.args.others.now) in
+    let gives : Continuation = captured_front (walk c.args.others.now) in
     let text = c.args.text.now in
     cut_whole text c.loop-begun.front.now c.after_front-rest.result.now
     (λ front rest. IsCutFor gives text c.ends-beginning.result.0 (begins c.args.segments.separator.first (literals c.args.literal.now) c.args.segments.is_greedy c.args.segments.end gives front rest))
@@ -94,9 +94,9 @@ end_of_segments-loop-begun-preserved n c =
     record {
       is_text = search rules;
       so_far = cut_sooner c.args.text.now front shorter rest last.0
-          (λ r. IsTable c.args.segments.separator.first (literals c.args.literal.now) c.args.segments.is_greedy c.args.segments.end (captured (walk c.args.others.now)) c.args.text.now (chars shorter) r c.push.new.self.items c.ends-beginning.result.1)
+          (λ r. IsTable c.args.segments.separator.first (literals c.args.literal.now) c.args.segments.is_greedy c.args.segments.end (captured_front (walk c.args.others.now)) c.args.text.now (chars shorter) r c.push.new.self.items c.ends-beginning.result.1)
           last.1 further c.after_front-rest.ensures last.2
-          (table_next c.args.segments.separator.first (literals c.args.literal.now) c.args.segments.is_greedy c.args.segments.end (captured (walk c.args.others.now)) c.args.text.now front shorter rest last.0
+          (table_next c.args.segments.separator.first (literals c.args.literal.now) c.args.segments.is_greedy c.args.segments.end (captured_front (walk c.args.others.now)) c.args.text.now front shorter rest last.0
           c.deref.result.now c.push.new.self.items c.loop-begun.later c.ends-beginning.result.0 c.ends-beginning.result.1
           front_utf8 further last.1 (IsUtf8-encode last.0 last.1) last.2 (c.in_ok-push.ensures.items ∙ ap (λ t. t ++ c.ends-beginning.result.0 ∷ []) (sym c.deref.ensures.value)) ends.0 ends.1 ends.2);
       before = untouched-then c.args.self.now c.loop-begun.self _ c.loop-begun.invariant.before c.in_ok-stopping.ensures.same;

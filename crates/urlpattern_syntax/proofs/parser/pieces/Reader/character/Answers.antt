@@ -3,7 +3,7 @@ use Rattle.std.specs.Prelude.{IsTrue}
 use Rattle.std.specs.Borrow.{Bor}
 use Rattle.std.specs.Str.{chars}
 use Rattle.std.proofs.lemmas.Result.{on_ok_weaker}
-use Rattle.urlpattern_syntax.specs.Parsing.{BeginsWithPiece, Gives, IsNext}
+use Rattle.urlpattern_syntax.specs.Parsing.{BeginsWithPiece, HasTokensLeft, IsNext}
 use Rattle.urlpattern_syntax.specs.Pieces.{IsPrefixOf, TakesPrefix, is_placeholder, is_text}
 use Rattle.urlpattern_syntax.specs.Pieces.{Piece as pieces}
 use Rattle.urlpattern_syntax.specs.Tokens.{TokenView, token_view}
@@ -54,7 +54,7 @@ returns-clause-next c =
     let value : token.value ≡ chars first.now = ap (λ (t : Bor (List ℕ)). chars t.now) (sym c.in_ok-first.ensures.first) in
     let none : chars more.now ≡ [] = chars-empty more.now (search rules) in
     let takes = row_alone old new (chars more.now) c.in_ok-first.ensures.more none in
-    let alone : (y : List TokenView) → Gives new y → TakesPrefix point token y = λ y g. elim c.else-eq.branch [
+    let alone : (y : List TokenView) → HasTokensLeft new y → TakesPrefix point token y = λ y g. elim c.else-eq.branch [
       | else-eq-via-then-eq+else-is_placeholder w ↦ λ k v.
           not_first is_placeholder (token_view new.token) g.more y g.first (sym w.is_placeholder.ensures ∙ w.if-is_placeholder.false)
       | else-eq-via-else-eq w ↦ λ k v.

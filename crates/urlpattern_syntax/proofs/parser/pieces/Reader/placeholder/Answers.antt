@@ -2,7 +2,8 @@ use Rattle.std.proofs.Common.{◌≡◌, ◌≢◌, ◌∷◌, Some, None, ap, �
 use Rattle.std.specs.Str.{chars}
 use Rattle.urlpattern_syntax.specs.declared.tokenizer.Token.{Token}
 use Rattle.urlpattern_syntax.specs.declared.tokenizer.TokenType.TheVariants.{Asterisk, Name, Regexp}
-use Rattle.urlpattern_syntax.specs.Parsing.{BeginsWithPlaceholder, BeginsWithToken}
+use Rattle.urlpattern_syntax.proofs.TokenWords.{BeginsWithToken}
+use Rattle.urlpattern_syntax.specs.Parsing.{BeginsWithPlaceholder}
 use Rattle.urlpattern_syntax.specs.Pieces.{Placeholder}
 use Rattle.urlpattern_syntax.specs.Pieces.{Matched as matched}
 use Rattle.urlpattern_syntax.specs.Tokens.{token_view}

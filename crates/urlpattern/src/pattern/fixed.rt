@@ -1,0 +1,56 @@
+//! What is fixed of the texts that a pattern matches.
+ghost use Rattle.urlpattern_core.specs.Matchers.{matcher_view};
+ghost use Rattle.urlpattern_index.specs.Views.{fixed_path, fixed_texts, fixed_text_of};
+ghost use Rattle.urlpattern.specs.Patterns.{pattern_view};
+ghost use Rattle.urlpattern.specs.PatternKeys.{AreFixed, IsFixedPath, IsFixedText};
+
+use crate::pattern::UrlPattern;
+use urlpattern_core::matcher::{InnerMatcher, Matcher};
+use urlpattern_core::regexp::RegExp;
+use urlpattern_index::{Fixed, Path};
+
+impl<R: RegExp> UrlPattern<R> {
+    /// What is fixed of the inputs that the pattern can match. It does not allocate.
+    pub(crate) fn fixed(&self) -> Fixed<'_>
+        ensures { AreFixed (pattern_view self.now) (fixed_texts result) }
+    {
+        Fixed {
+            protocol: fixed_text(&self.protocol.matcher),
+            hostname: fixed_text(&self.hostname.matcher),
+            pathname: fixed_path(&self.pathname.matcher),
+        }
+    }
+}
+
+/// The text that alone is matched. `None`: other texts are matched, or case is ignored.
+fn fixed_text<R>(matcher: &Matcher<R>) -> Option<&str>
+    ensures { IsFixedText (matcher_view matcher.now) (fixed_text_of result) }
+{
+    if matcher.ignore_case {
+        return None;
+    }
+    if !matcher.prefix.is_empty() {
+        return None;
+    }
+    if !matcher.suffix.is_empty() {
+        return None;
+    }
+    match &matcher.inner {
+        InnerMatcher::Literal { literal } => Some(literal),
+        _ => None,
+    }
+}
+
+/// The text that alone is matched, or else the one with which each text begins that is matched: the empty one where case is
+/// ignored.
+fn fixed_path<R>(matcher: &Matcher<R>) -> Path<'_>
+    ensures { IsFixedPath (matcher_view matcher.now) (fixed_path result) }
+{
+    if let Some(text) = fixed_text(matcher) {
+        return Path::Is(text);
+    }
+    if matcher.ignore_case {
+        return Path::BeginsWith("");
+    }
+    Path::BeginsWith(&matcher.prefix)
+}

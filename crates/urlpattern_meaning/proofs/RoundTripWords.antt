@@ -1,0 +1,39 @@
+-- Words that the proofs about printed patterns share.
+use Rattle.std.specs.Prelude.{◌≡◌, ◌&&◌, false, List, [], ◌∷◌}
+use Rattle.urlpattern_syntax.specs.declared.parser.PartType.{PartType}
+use Rattle.urlpattern_syntax.specs.declared.parser.PartType.TheVariants.{FixedText}
+use Rattle.urlpattern_syntax.specs.Options.{OptionsView}
+use Rattle.urlpattern_syntax.specs.Parts.{PartView}
+use Rattle.urlpattern_syntax.specs.Pieces.{ArePieces, Matched, Piece}
+use Rattle.urlpattern_syntax.specs.Pieces.{Ending as endings}
+use Rattle.urlpattern_syntax.specs.Reading.{Capture, Fixed, Item, compared, items_of, kind_of, value_of}
+use Rattle.urlpattern_syntax.specs.RegexpText.{is_plain}
+use Rattle.urlpattern_syntax.specs.Tokens.{AreTokens, TokenView, end_of}
+use Rattle.urlpattern_meaning.specs.Printing.{printed}
+
+-- the item stands for the part
+abbrev pub IsItemOf : OptionsView → PartType → PartView → Item → Type 0
+IsItemOf options FixedText part item = item ≡ Fixed part.value part.modifier
+IsItemOf options kind part item =
+    (match : Matched) × (item ≡ Capture part.prefix part.name match part.suffix part.modifier)
+    × (kind_of options (compared options match) ≡ part.kind) × (value_of part.kind (compared options match) ≡ part.value)
+
+-- one item for each part
+abbrev pub AreItemsOf : OptionsView → List PartView → List Item → Type 0
+AreItemsOf options [] items = items ≡ []
+AreItemsOf options (part ∷ parts) items =
+    (item : Item) × (rest : List Item) × (items ≡ item ∷ rest) × IsItemOf options part.kind part item × AreItemsOf options parts rest
+
+-- the printed text of the parts has tokens and pieces that stand for the parts, one by one
+pub record PrintsItsParts (options : OptionsView) (parts : List PartView) : Type 0 where
+  pub tokens : List TokenView
+  pub pieces : List Piece
+  pub are_tokens : AreTokens (printed options parts) tokens
+  pub are_pieces : ArePieces options.prefix tokens pieces (endings.Stops (end_of (printed options parts)))
+  pub are_items : AreItemsOf options parts (items_of pieces)
+
+-- of two neighbours one at most is a plain fixed text
+abbrev pub AreApart : List PartView → Type 0
+AreApart [] = Unit {0}
+AreApart (part ∷ []) = Unit {0}
+AreApart (part ∷ next ∷ parts) = (is_plain part && is_plain next ≡ false) × AreApart (next ∷ parts)

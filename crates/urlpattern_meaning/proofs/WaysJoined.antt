@@ -1,0 +1,123 @@
+-- Ways one after another: items after items, and a fixed text before items.
+use Rattle.std.proofs.Common.{◌≡◌, ℕ, List, [], ◌∷◌, ◌++◌, map, length, Option, Some, option_map, find, Bool, true, false, cond, ◌==◌, refl, sym, ap, ap₂, ◌∙◌, append_assoc, append-nil, eq-eqb}
+use Rattle.std.proofs.lemmas.Bool.{cond-true}
+use Rattle.urlpattern_meaning.specs.Dialect.{Items, Nothing, Item, Literal, Once, character_of, atom_group_count}
+use Rattle.urlpattern_meaning.specs.PartMeaning.{Captures}
+use Rattle.urlpattern_meaning.specs.Ways.{Way, Choice, idle, joined_way, continued, quantified_ways, ways, atom_ways, first_way}
+use Rattle.urlpattern_meaning.proofs.PartTrees.{character, put}
+use Rattle.urlpattern_meaning.proofs.TreeMeaning.{character_same}
+use Rattle.urlpattern_meaning.proofs.WaysComplete.{way_of}
+
+-- ---- maps
+
+map-same : {A B : Type 0} (f g : A → B) (xs : List A) → ((x : A) → f x ≡ g x) → map f xs ≡ map g xs
+map-same f g [] e = refl
+map-same f g (x ∷ xs) e = ap₂ ◌∷◌ (e x) (map-same f g xs e)
+
+map-twice : {A B C : Type 0} (f : B → C) (g : A → B) (xs : List A) → map f (map g xs) ≡ map (λ x. f (g x)) xs
+map-twice f g [] = refl
+map-twice f g (x ∷ xs) = ap (λ l. f (g x) ∷ l) (map-twice f g xs)
+
+map-both : {A B : Type 0} (f : A → B) (xs ys : List A) → map f (xs ++ ys) ≡ map f xs ++ map f ys
+map-both f [] ys = refl
+map-both f (x ∷ xs) ys = ap (λ l. f x ∷ l) (map-both f xs ys)
+
+map-itself : {A : Type 0} (xs : List A) → map (λ x. x) xs ≡ xs
+map-itself [] = refl
+map-itself (x ∷ xs) = ap (λ l. x ∷ l) (map-itself xs)
+
+-- ---- items after items
+
+continued-same : (next other : Choice) (xs : List Way) → ((text : List ℕ) → next text ≡ other text) → continued next xs ≡ continued other xs
+continued-same next other [] e = refl
+continued-same next other (way ∷ xs) e = ap₂ ◌++◌ (ap (map (joined_way way)) (e way.rest)) (continued-same next other xs e)
+
+continued-both : (next : Choice) (xs ys : List Way) → continued next (xs ++ ys) ≡ continued next xs ++ continued next ys
+continued-both next [] ys = refl
+continued-both next (way ∷ xs) ys =
+    ap (λ l. map (joined_way way) (next way.rest) ++ l) (continued-both next xs ys)
+    ∙ sym (append_assoc (map (joined_way way) (next way.rest)) (continued next xs) (continued next ys))
+
+joined_thrice : (way next more : Way) → joined_way way (joined_way next more) ≡ joined_way (joined_way way next) more
+joined_thrice way next more =
+    ap₂ (λ t c. way_of t c more.rest) (sym (append_assoc way.taken next.taken more.taken)) (sym (append_assoc way.captures next.captures more.captures))
+
+joined_all : (way : Way) (next : Choice) (xs : List Way) → map (joined_way way) (continued next xs) ≡ continued next (map (joined_way way) xs)
+joined_all way next [] = refl
+joined_all way next (other ∷ xs) =
+    map-both (joined_way way) (map (joined_way other) (next other.rest)) (continued next xs)
+    ∙ ap₂ ◌++◌
+    (map-twice (joined_way way) (joined_way other) (next other.rest)
+    ∙ map-same (λ more. joined_way way (joined_way other more)) (joined_way (joined_way way other)) (next other.rest) (joined_thrice way other))
+    (joined_all way next xs)
+
+continued-twice : (next last : Choice) (xs : List Way) → continued (λ text. continued last (next text)) xs ≡ continued last (continued next xs)
+continued-twice next last [] = refl
+continued-twice next last (way ∷ xs) =
+    ap₂ ◌++◌ (joined_all way last (next way.rest)) (continued-twice next last xs)
+    ∙ sym (continued-both last (map (joined_way way) (next way.rest)) (continued next xs))
+
+-- the items of both trees
+abbrev pub both_items : Items → Items → Items
+both_items Nothing others = others
+both_items (Item atom quantifier items) others = Item atom quantifier (both_items items others)
+
+pub both_ways : (items others : Items) (text : List ℕ) → ways (both_items items others) text ≡ continued (ways others) (ways items text)
+both_ways Nothing others text =
+    sym (append-nil (map (joined_way (idle 0 text)) (ways others text)) ∙ map-itself (ways others text))
+both_ways (Item atom quantifier items) others text =
+    let front = quantified_ways quantifier (atom_group_count atom) (atom_ways atom) text in
+    continued-same (ways (both_items items others)) (λ t. continued (ways others) (ways items t)) front (both_ways items others)
+    ∙ continued-twice (ways items) (ways others) front
+
+pub both_put : (marks front : List ℕ) (items others : Items) → put marks front (both_items items others) ≡ both_items (put marks front items) others
+both_put marks [] items others = refl
+both_put marks (c ∷ front) items others = ap (Item (Literal (character marks c)) Once) (both_put marks front items others)
+
+-- ---- what the first way shows of ways
+
+abbrev pub takes_all : Way → Bool
+takes_all way = length way.rest == 0
+
+-- what the first of these ways captures that takes the whole text
+abbrev pub first_of : List Way → Option Captures
+first_of xs = option_map (λ way. way.captures) (find takes_all xs)
+
+abbrev pub Seen : Type 0
+Seen = Captures × List ℕ
+
+abbrev pub seen_of : Way → Seen
+seen_of way = (way.captures, way.rest)
+
+abbrev pub seen : List Way → List Seen
+seen xs = map seen_of xs
+
+of_seen : (xs : List Way) → first_of xs ≡ option_map (λ (s : Seen). s.0) (find (λ (s : Seen). length s.1 == 0) (seen xs))
+of_seen [] = refl
+of_seen (way ∷ xs) = by (takes_all way) (of_seen xs)
+  where
+    by : (b : Bool) → first_of xs ≡ option_map (λ (s : Seen). s.0) (find (λ (s : Seen). length s.1 == 0) (seen xs))
+        → option_map (λ (w : Way). w.captures) (cond b (Some way) (find takes_all xs))
+        ≡ option_map (λ (s : Seen). s.0) (cond b (Some (way.captures, way.rest)) (find (λ (s : Seen). length s.1 == 0) (seen xs)))
+    by true e = refl
+    by false e = e
+
+pub first_seen : (xs ys : List Way) → seen xs ≡ seen ys → first_of xs ≡ first_of ys
+first_seen xs ys e = of_seen xs ∙ ap (λ all. option_map (λ (s : Seen). s.0) (find (λ (s : Seen). length s.1 == 0) all)) e ∙ sym (of_seen ys)
+
+-- ---- a fixed text
+
+-- a fixed text before items takes itself
+pub put_ways : (marks front : List ℕ) (items : Items) (text : List ℕ) → seen (ways (put marks front items) (front ++ text)) ≡ seen (ways items text)
+put_ways marks [] items text = refl
+put_ways marks (c ∷ front) items text =
+    let one : Way = record { taken = c ∷ []; captures = []; rest = front ++ text } in
+    let here : (c == character_of (character marks c)) ≡ true = eq-eqb c (character_of (character marks c)) (sym (character_same marks c)) in
+    ap (λ all. seen (continued (ways (put marks front items)) all)) (cond-true _ (one ∷ []) [] here)
+    ∙ ap seen (append-nil (map (joined_way one) (ways (put marks front items) (front ++ text))))
+    ∙ map-twice seen_of (joined_way one) (ways (put marks front items) (front ++ text))
+    ∙ put_ways marks front items text
+
+pub put_first : (marks front : List ℕ) (items : Items) (text : List ℕ) → first_way (put marks front items) (front ++ text) ≡ first_way items text
+unfolding first_way
+put_first marks front items text = first_seen (ways (put marks front items) (front ++ text)) (ways items text) (put_ways marks front items text)

@@ -1,0 +1,5 @@
+use Rattle.urlpattern_meaning.proofs.FirstWay.{first_way_counts, first_way_follows, first_way_means, no_way_means_none, ways_are_meanings}
+use Rattle.urlpattern_meaning.proofs.laws.first_ways_are_meant.Goals as goal
+
+pub returns : goal.returns
+returns c = record { ways = ways_are_meanings; some = first_way_means; none = no_way_means_none; count = first_way_counts; follows = first_way_follows }

@@ -1,0 +1,162 @@
+-- The dialect of regular expressions in which parts are written: trees, the texts that spell them, and what they mean.
+use Rattle.std.specs.Prelude.{◌≡◌, ◌↔◌, ℕ, suc, ◌+◌, ◌⊎◌, not, ◌==◌, List, [], ◌∷◌, ◌++◌, replicate, codes, Option, Some, None, IsTrue, MatchOption}
+use Rattle.std.specs.Str.{all_scalars}
+use Rattle.urlpattern_meaning.specs.PartMeaning.{Captures, PartsMean}
+use Rattle.urlpattern_syntax.specs.Options.{OptionsView}
+use Rattle.urlpattern_syntax.specs.Parts.{PartView}
+use Rattle.urlpattern_syntax.specs.RegexpText.{captured, grouped, regexp_marks}
+use Rattle.urlpattern_syntax.specs.Text.{is_among, line_feed, IsRepeated}
+
+-- ---- trees
+
+-- A character as it is written: by itself, or after a backslash.
+pub data Character : Type 0 where
+  Plain Escaped : ℕ → Character
+
+-- How often an atom is taken. Lazy or not changes no meaning.
+pub data Quantifier : Type 0 where
+  Once Optional ZeroOrMore OneOrMore LazyOneOrMore : Quantifier
+
+mutual
+  -- Atoms one after the other, each with its quantifier.
+  pub data Items : Type 0 where
+    Nothing : Items
+    Item : Atom → Quantifier → Items → Items
+
+  -- A character; any but a line feed; any but this; brackets that capture; brackets that do not.
+  pub data Atom : Type 0 where
+    Literal : Character → Atom
+    Dot : Atom
+    AnyBut : Character → Atom
+    Captured Grouped : Items → Atom
+
+-- ---- the texts of trees
+
+-- the character that is written
+abbrev pub character_of : Character → ℕ
+character_of (Plain c) = c
+character_of (Escaped c) = c
+
+abbrev pub character_text : Character → List ℕ
+character_text (Plain c) = c ∷ []
+character_text (Escaped c) = codes "\\" ++ c ∷ []
+
+abbrev pub quantifier_text : Quantifier → List ℕ
+quantifier_text Once = []
+quantifier_text Optional = codes "?"
+quantifier_text ZeroOrMore = codes "*"
+quantifier_text OneOrMore = codes "+"
+quantifier_text LazyOneOrMore = codes "+?"
+
+abbrev mutual
+  pub items_text : Items → List ℕ
+  items_text Nothing = []
+  items_text (Item atom quantifier items) = atom_text atom ++ quantifier_text quantifier ++ items_text items
+
+  pub atom_text : Atom → List ℕ
+  atom_text (Literal character) = character_text character
+  atom_text Dot = codes "."
+  atom_text (AnyBut character) = codes "[^" ++ character_text character ++ codes "]"
+  atom_text (Captured items) = captured (items_text items)
+  atom_text (Grouped items) = grouped (items_text items)
+
+-- ---- which trees are allowed
+
+abbrev mutual
+  -- how many brackets capture
+  pub group_count : Items → ℕ
+  group_count Nothing = 0
+  group_count (Item atom quantifier items) = atom_group_count atom + group_count items
+
+  pub atom_group_count : Atom → ℕ
+  atom_group_count (Literal character) = 0
+  atom_group_count Dot = 0
+  atom_group_count (AnyBut character) = 0
+  atom_group_count (Captured items) = suc (group_count items)
+  atom_group_count (Grouped items) = group_count items
+
+-- a mark stands after a backslash, and a slash may; any other character stands by itself
+abbrev pub IsCharacter : Character → Type 0
+IsCharacter (Plain c) = ¬ IsTrue (is_among regexp_marks c)
+IsCharacter (Escaped c) = IsTrue (is_among (regexp_marks ++ codes "/") c)
+
+-- the characters that do not stand by themselves in a class
+abbrev pub class_marks : List ℕ
+class_marks = codes "[\\"
+
+-- in a class a mark or a slash may stand after a backslash, and any character but `[` and the backslash by itself
+abbrev pub IsClassCharacter : Character → Type 0
+IsClassCharacter (Plain c) = ¬ IsTrue (is_among class_marks c)
+IsClassCharacter (Escaped c) = IsTrue (is_among (regexp_marks ++ codes "/") c)
+
+-- what may be taken more than once captures nothing
+abbrev pub AllowsGroups : Quantifier → ℕ → Type 0
+AllowsGroups Once groups = Unit {0}
+AllowsGroups Optional groups = Unit {0}
+AllowsGroups quantifier groups = groups ≡ 0
+
+abbrev mutual
+  pub AreItems : Items → Type 0
+  AreItems Nothing = Unit {0}
+  AreItems (Item atom quantifier items) = IsAtom atom × AllowsGroups quantifier (atom_group_count atom) × AreItems items
+
+  pub IsAtom : Atom → Type 0
+  IsAtom (Literal character) = IsCharacter character
+  IsAtom Dot = Unit {0}
+  IsAtom (AnyBut character) = IsClassCharacter character
+  IsAtom (Captured items) = AreItems items
+  IsAtom (Grouped items) = AreItems items
+
+-- the tree of a whole text
+abbrev pub IsTreeOf : List ℕ → Items → Type 0
+IsTreeOf text tree = (text ≡ codes "^" ++ items_text tree ++ codes "$") × AreItems tree
+
+-- ---- what trees mean
+
+-- one character, but not this
+abbrev pub IsOneBut : ℕ → List ℕ → Type 0
+IsOneBut c text = (other : ℕ) × (text ≡ other ∷ []) × IsTrue (not (other == c))
+
+-- An atom with so many groups is taken as its quantifier says, where this is what it means. Taken no time, it leaves
+-- its groups None.
+abbrev pub IsTaken : Quantifier → (groups : ℕ) → (List ℕ → Captures → Type 0) → List ℕ → Captures → Type 0
+IsTaken Once groups Atom text captures = Atom text captures
+IsTaken Optional groups Atom text captures = Atom text captures ⊎ ((text ≡ []) × (captures ≡ replicate groups None))
+IsTaken ZeroOrMore groups Atom text captures = (n : ℕ) × IsRepeated (λ stretch. Atom stretch []) n text × (captures ≡ [])
+IsTaken OneOrMore groups Atom text captures = (n : ℕ) × IsRepeated (λ stretch. Atom stretch []) (suc n) text × (captures ≡ [])
+IsTaken LazyOneOrMore groups Atom text captures = (n : ℕ) × IsRepeated (λ stretch. Atom stretch []) (suc n) text × (captures ≡ [])
+
+abbrev mutual
+  -- the items take the whole text, and capture this in the order of the opening brackets
+  pub Means : Items → List ℕ → Captures → Type 0
+  Means Nothing text captures = (text ≡ []) × (captures ≡ [])
+  Means (Item atom quantifier items) text captures =
+      (first rest : List ℕ) × (own others : Captures) × (text ≡ first ++ rest) × (captures ≡ own ++ others)
+      × IsTaken quantifier (atom_group_count atom) (AtomMeans atom) first own × Means items rest others
+
+  pub AtomMeans : Atom → List ℕ → Captures → Type 0
+  AtomMeans (Literal character) text captures = (text ≡ character_of character ∷ []) × (captures ≡ [])
+  AtomMeans Dot text captures = IsOneBut line_feed text × (captures ≡ [])
+  AtomMeans (AnyBut character) text captures = IsOneBut (character_of character) text × (captures ≡ [])
+  AtomMeans (Captured items) text captures = (inner : Captures) × (captures ≡ Some text ∷ inner) × Means items text inner
+  AtomMeans (Grouped items) text captures = Means items text captures
+
+-- ---- engines
+
+-- The text has this tree, and no other.
+pub record IsOnlyTreeOf (text : List ℕ) (tree : Items) : Type 0 where
+  pub is_tree : IsTreeOf text tree
+  pub only : (other : Items) → IsTreeOf text other → other ≡ tree
+
+-- the text has one tree, which means each text with the captures that the parts have there, and no others
+abbrev pub HasMeaningOf : (regexp : List ℕ) → OptionsView → List PartView → Type 0
+HasMeaningOf regexp options parts =
+    (tree : Items) × IsOnlyTreeOf regexp tree × ((text : List ℕ) (captures : Captures) → Means tree text captures ↔ PartsMean options parts text captures)
+
+-- What an engine answers to texts of characters is what the one tree of its own text means: captures that the tree has
+-- there, or None where it has none.
+pub record Follows (regexp : List ℕ) (answer : List ℕ → Option Captures) : Type 0 where
+  pub tree : Items
+  pub is_tree : IsOnlyTreeOf regexp tree
+  pub answers : (text : List ℕ) → IsTrue (all_scalars text) →
+      MatchOption (answer text) ((captures : Captures) → ¬ Means tree text captures) (λ captures. Means tree text captures)

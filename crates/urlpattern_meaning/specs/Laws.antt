@@ -1,0 +1,121 @@
+-- What the laws of the definitions speak of: where tokens stand, what encodings answer, and outcomes.
+use Rattle.std.specs.Prelude.{◌≡◌, ◌≢◌, ℕ, suc, ◌+◌, ◌⊎◌, List, [], ◌∷◌, ◌++◌, codes, Contains, Result, Ok, Err, IsTrue, decimal, filter}
+use Rattle.std.specs.Char.{is_ascii_digit}
+use Rattle.std.specs.List.{list_all}
+use Rattle.urlpattern_syntax.specs.declared.tokenizer.TokenType.{TokenType}
+use Rattle.urlpattern_syntax.specs.declared.tokenizer.TokenType.TheVariants.{Regexp, Name, EscapedChar, End}
+use Rattle.urlpattern_meaning.specs.Matching.{IsMadeOf, MatcherView}
+use Rattle.urlpattern_syntax.specs.Errors.{ErrorView}
+use Rattle.urlpattern_syntax.specs.Errors.{ErrorView as errors}
+use Rattle.urlpattern_syntax.specs.Options.{OptionsView}
+use Rattle.urlpattern_syntax.specs.Parts.{PartView}
+use Rattle.urlpattern_syntax.specs.Pieces.{ArePieces, Ending, Piece}
+use Rattle.urlpattern_syntax.specs.Reading.{AreMet, Demand, Encode, Encoding, Reads, Refuses, demands, items_of}
+use Rattle.urlpattern_syntax.specs.Text.{begins_with, byte_len}
+use Rattle.urlpattern_syntax.specs.Tokens.{AreLenientTokens, AreTokens, FaultView, IsFault, TokenView, is_ignored}
+
+-- ---- where tokens stand
+
+-- the characters that make a token of this kind and value; End has none
+abbrev pub spelling : TokenType → List ℕ → List ℕ
+spelling EscapedChar value = codes "\\" ++ value
+spelling Name value = codes ":" ++ value
+spelling Regexp value = codes "(" ++ value ++ codes ")"
+spelling End value = []
+spelling kind value = value
+
+-- The text, which begins at this byte, is the spellings of these tokens in order, each at its token's index, and nothing
+-- but skipped characters stands before each of them.
+abbrev pub Lays : (place : ℕ) → List TokenView → (text : List ℕ) → Type 0
+Lays place [] text = text ≡ []
+Lays place (token ∷ tokens) text =
+    (skipped rest : List ℕ) × (text ≡ skipped ++ spelling token.kind token.value ++ rest) × IsTrue (list_all is_ignored skipped)
+    × (token.index ≡ place + byte_len skipped)
+    × Lays (token.index + byte_len (spelling token.kind token.value)) tokens rest
+
+-- ---- what every text has
+
+-- the text has strict tokens, or a first fault with its place
+abbrev pub HasTokensOrFault : (text : List ℕ) → Type 0
+HasTokensOrFault text =
+    ((tokens : List TokenView) × AreTokens text tokens) ⊎ ((fault : FaultView) × (place : ℕ) × IsFault text fault place)
+
+-- the text has lenient tokens
+abbrev pub HasLenientTokens : (text : List ℕ) → Type 0
+HasLenientTokens text = (tokens : List TokenView) × AreLenientTokens text tokens
+
+-- ---- encodings
+
+-- texts with the answers that an encoding has to them
+abbrev pub Answered : Type 0
+Answered = List (List ℕ × Result (List ℕ) ErrorView)
+
+-- the encoding that has these answers and no others
+abbrev pub listed : Answered → Encoding
+listed answers text answer = Contains answers (text, answer)
+
+-- the encoding has one answer at most to each text
+abbrev pub AnswersOnce : Encoding → Type 0
+AnswersOnce encoding = (text : List ℕ) (answer other : Result (List ℕ) ErrorView) → encoding text answer → encoding text other → answer ≡ other
+
+-- the same, besides that memory may run out
+abbrev pub AnswersOnceGivenMemory : Encoding → Type 0
+AnswersOnceGivenMemory encoding =
+    (text : List ℕ) (answer other : Result (List ℕ) ErrorView) → encoding text answer → encoding text other →
+    answer ≢ Err errors.OutOfMemory → other ≢ Err errors.OutOfMemory → answer ≡ other
+
+-- the encoding has an answer to the text
+abbrev pub HasAnswer : Encoding → (text : List ℕ) → Type 0
+HasAnswer encoding text = (answer : Result (List ℕ) ErrorView) × encoding text answer
+
+-- The text asks the encoding about this one: that is among the demands of its pieces, and each demand before it is met.
+pub record Asks (text : List ℕ) (options : OptionsView) (encoding : Encoding) (asked : List ℕ) : Type 0 where
+  pub tokens : List TokenView
+  pub pieces : List Piece
+  pub ending : Ending
+  pub before : List Demand
+  pub later : List Demand
+  pub are_tokens : AreTokens text tokens
+  pub are_pieces : ArePieces options.prefix tokens pieces ending
+  pub asks : demands (items_of pieces) ending ≡ before ++ Encode asked ∷ later
+  pub are_met : AreMet encoding before
+
+-- the encoding answers each text that it is asked about
+abbrev pub AnswersAsked : (text : List ℕ) → OptionsView → Encoding → Type 0
+AnswersAsked text options encoding = (asked : List ℕ) → Asks text options encoding asked → HasAnswer encoding asked
+
+-- the encoding is asked about a text to which it has no answer
+abbrev pub LacksAnswer : (text : List ℕ) → OptionsView → Encoding → Type 0
+LacksAnswer text options encoding = (asked : List ℕ) × Asks text options encoding asked × ¬ HasAnswer encoding asked
+
+-- ---- outcomes
+
+-- what a text reads as, or the error that it is refused with
+abbrev pub Outcome : Type 0
+Outcome = Result (List PartView) ErrorView
+
+-- the text reads as these parts, or is refused with this error
+abbrev pub HasOutcome : (text : List ℕ) → OptionsView → Encoding → Outcome → Type 0
+HasOutcome text options encoding (Ok parts) = Reads text options encoding parts
+HasOutcome text options encoding (Err error) = Refuses text options encoding error
+
+-- the text reads as some parts, or is refused with some error
+abbrev pub HasSomeOutcome : (text : List ℕ) → OptionsView → Encoding → Type 0
+HasSomeOutcome text options encoding = (outcome : Outcome) × HasOutcome text options encoding outcome
+
+-- ---- names
+
+-- the names that begin with a digit
+abbrev pub numbers_among : List (List ℕ) → List (List ℕ)
+numbers_among names = filter (λ name. begins_with is_ascii_digit name) names
+
+-- the names are this number, the next, and so on
+abbrev pub CountFrom : ℕ → List (List ℕ) → Type 0
+CountFrom number [] = Unit {0}
+CountFrom number (name ∷ names) = (name ≡ decimal number) × CountFrom (suc number) names
+
+-- ---- matchers
+
+-- the matcher is made of the parts, whatever its engine makes or refuses
+abbrev pub HasShapeOf : {E : Type 0} → OptionsView → List PartView → MatcherView E → Type 0
+HasShapeOf options parts matcher = IsMadeOf (λ regexp engine. Unit {0}) options parts matcher

@@ -1,0 +1,205 @@
+-- Which matcher is made of a list of parts, what a matcher answers to a text, and when that is what the parts mean.
+use Rattle.std.specs.Prelude.{◌≡◌, ◌≢◌, ◌⊎◌, ℕ, Bool, true, false, List, [], ◌∷◌, ◌++◌, map, Option, Some, None, Result, Ok, Err, IsTrue, if◌then◌else◌, option_to_list}
+use Rattle.std.specs.Char.{to_ascii_lowercase}
+use Rattle.std.specs.Str.{all_scalars}
+use Rattle.urlpattern_meaning.specs.Dialect.{Follows}
+use Rattle.urlpattern_syntax.specs.declared.parser.PartModifier.{PartModifier}
+use Rattle.urlpattern_syntax.specs.declared.parser.PartModifier.TheVariants as modifiers
+use Rattle.urlpattern_syntax.specs.declared.parser.PartType.{PartType}
+use Rattle.urlpattern_syntax.specs.declared.parser.PartType.TheVariants.{SegmentWildcard, FullWildcard}
+use Rattle.urlpattern_syntax.specs.Errors.{ErrorView}
+use Rattle.urlpattern_syntax.specs.Options.{OptionsView}
+use Rattle.urlpattern_meaning.specs.PartMeaning.{AreGenerated, Captures, PartsMean}
+use Rattle.urlpattern_syntax.specs.Parts.{PartView}
+use Rattle.urlpattern_syntax.specs.RegexpText.{is_plain, regexp_text}
+use Rattle.urlpattern_syntax.specs.Text.{lacks, line_feed}
+
+-- What stands between prefix and suffix: a text; one capture, with a character that may not be in it; or a value of an
+-- engine, with the error where it was refused.
+pub data InnerView (E : Type 0) : Type 0 where
+  Literal : List ℕ → InnerView E
+  SingleCapture : (filter : Option ℕ) → (allow_empty : Bool) → InnerView E
+  RegExp : Result E ErrorView → InnerView E
+
+-- A `Matcher`, with its texts.
+pub record MatcherView (E : Type 0) : Type 0 where
+  pub prefix : List ℕ
+  pub suffix : List ℕ
+  pub inner : InnerView E
+  pub ignore_case : Bool
+
+-- ---- making
+
+-- the first part is a plain fixed text
+abbrev pub BeginsPlain : List PartView → Type 0
+BeginsPlain [] = ⊥
+BeginsPlain (part ∷ parts) = IsTrue (is_plain part)
+
+abbrev pub EndsPlain : List PartView → Type 0
+EndsPlain [] = ⊥
+EndsPlain (part ∷ []) = IsTrue (is_plain part)
+EndsPlain (part ∷ next ∷ parts) = EndsPlain (next ∷ parts)
+
+-- a plain fixed text that is removed, or none where no such part is there
+abbrev pub IsRemoved : Option PartView → (IsThere : Type 0) → Type 0
+IsRemoved (Some part) IsThere = IsTrue (is_plain part)
+IsRemoved None IsThere = ¬ IsThere
+
+-- the text of a part that is removed
+abbrev pub end_text : Option PartView → List ℕ
+end_text (Some part) = part.value
+end_text None = []
+
+-- A plain fixed text at the front is removed from the parts, and one at the end of what remains.
+pub record ArePeeled (parts : List PartView) (front : Option PartView) (middle : List PartView) (back : Option PartView) : Type 0 where
+  pub cut : parts ≡ option_to_list front ++ middle ++ option_to_list back
+  pub front_removed : IsRemoved front (BeginsPlain parts)
+  pub back_removed : IsRemoved back (EndsPlain middle)
+
+-- parts are left to an engine, by their regular expression
+abbrev pub IsMadeByEngine : {E : Type 0} → (IsEngine : (regexp : List ℕ) → Result E ErrorView → Type 0) → OptionsView → (prefix : List ℕ) → List PartView → (suffix : List ℕ) → MatcherView E → Type 0
+IsMadeByEngine {E} IsEngine options prefix middle suffix matcher =
+    (engine : Result E ErrorView) × IsEngine (regexp_text options middle) engine
+    × (matcher ≡ record { prefix = prefix; suffix = suffix; inner = RegExp engine; ignore_case = options.ignore_case })
+
+-- one capture, between prefix and suffix and those of the part
+abbrev pub single_capture_matcher : {E : Type 0} → OptionsView → (prefix : List ℕ) → PartView → (suffix : List ℕ) → (filter : Option ℕ) → (allow_empty : Bool) → MatcherView E
+single_capture_matcher options prefix part suffix filter allow_empty = record {
+  prefix = prefix ++ part.prefix;
+  suffix = part.suffix ++ suffix;
+  inner = SingleCapture filter allow_empty;
+  ignore_case = options.ignore_case;
+}
+
+-- one part is left: a wildcard without modifier is a single capture
+abbrev pub IsMadeOfOne : {E : Type 0} → (IsEngine : (regexp : List ℕ) → Result E ErrorView → Type 0) → PartType → PartModifier → OptionsView → (prefix : List ℕ) → PartView → (suffix : List ℕ) → MatcherView E → Type 0
+IsMadeOfOne IsEngine FullWildcard modifiers.None options prefix part suffix matcher =
+    matcher ≡ single_capture_matcher options prefix part suffix None true
+IsMadeOfOne IsEngine SegmentWildcard modifiers.None options prefix part suffix matcher =
+    matcher ≡ single_capture_matcher options prefix part suffix options.delimiter false
+IsMadeOfOne IsEngine kind modifier options prefix part suffix matcher =
+    IsMadeByEngine IsEngine options prefix (part ∷ []) suffix matcher
+
+-- these parts are left between the texts that are removed
+abbrev pub IsMadeBetween : {E : Type 0} → (IsEngine : (regexp : List ℕ) → Result E ErrorView → Type 0) → OptionsView → (prefix : List ℕ) → List PartView → (suffix : List ℕ) → MatcherView E → Type 0
+IsMadeBetween IsEngine options prefix [] suffix matcher =
+    matcher ≡ record { prefix = []; suffix = []; inner = Literal (prefix ++ suffix); ignore_case = options.ignore_case }
+IsMadeBetween IsEngine options prefix (part ∷ []) suffix matcher =
+    IsMadeOfOne IsEngine part.kind part.modifier options prefix part suffix matcher
+IsMadeBetween IsEngine options prefix (part ∷ next ∷ parts) suffix matcher =
+    IsMadeByEngine IsEngine options prefix (part ∷ next ∷ parts) suffix matcher
+
+-- The matcher is made of the parts, where of a regular expression an engine makes such a value, or such an error.
+pub record IsMadeOf {E : Type 0} (IsEngine : (regexp : List ℕ) → Result E ErrorView → Type 0) (options : OptionsView) (parts : List PartView) (matcher : MatcherView E) : Type 0 where
+  pub front : Option PartView
+  pub middle : List PartView
+  pub back : Option PartView
+  pub are_peeled : ArePeeled parts front middle back
+  pub is_made : IsMadeBetween IsEngine options (end_text front) middle (end_text back) matcher
+
+-- ---- answering
+
+-- a text as it is compared
+abbrev pub folded : (ignore_case : Bool) → List ℕ → List ℕ
+folded ignore_case text = if ignore_case then map to_ascii_lowercase text else text
+
+abbrev pub folded_character : (ignore_case : Bool) → ℕ → ℕ
+folded_character ignore_case c = if ignore_case then to_ascii_lowercase c else c
+
+-- the two texts are the same; where case is ignored, but for the case of ASCII letters
+abbrev pub IsSame : (ignore_case : Bool) → (text other : List ℕ) → Type 0
+IsSame ignore_case text other = folded ignore_case text ≡ folded ignore_case other
+
+-- the text does not have the filter's character
+abbrev pub PassesFilter : (ignore_case : Bool) → Option ℕ → List ℕ → Type 0
+PassesFilter ignore_case None text = Unit {0}
+PassesFilter ignore_case (Some c) text = IsTrue (lacks (folded_character ignore_case c) (folded ignore_case text))
+
+-- a text may be empty only where that is allowed
+abbrev pub MayBeEmpty : (allow_empty : Bool) → List ℕ → Type 0
+MayBeEmpty true text = Unit {0}
+MayBeEmpty false text = text ≢ []
+
+-- the text between prefix and suffix is accepted, with these captures
+abbrev pub Accepts : {E : Type 0} → (answer : E → List ℕ → Option Captures) → (ignore_case : Bool) → InnerView E → List ℕ → Captures → Type 0
+Accepts answer ignore_case (Literal literal) text captures = IsSame ignore_case text literal × (captures ≡ [])
+Accepts answer ignore_case (SingleCapture filter allow_empty) text captures =
+    MayBeEmpty allow_empty text × PassesFilter ignore_case filter text × (captures ≡ Some text ∷ [])
+Accepts answer ignore_case (RegExp (Ok engine)) text captures = answer engine text ≡ Some captures
+Accepts answer ignore_case (RegExp (Err error)) text captures = ⊥
+
+-- the text is prefix, this middle and suffix, without overlap; prefix and suffix are compared as a literal is
+abbrev pub HasMiddle : {E : Type 0} → MatcherView E → List ℕ → (middle : List ℕ) → Type 0
+HasMiddle matcher text middle =
+    (front back : List ℕ) × (text ≡ front ++ middle ++ back)
+    × IsSame matcher.ignore_case front matcher.prefix × IsSame matcher.ignore_case back matcher.suffix
+
+-- what stands between prefix and suffix is accepted, with these captures
+abbrev pub Matches : {E : Type 0} → (answer : E → List ℕ → Option Captures) → MatcherView E → List ℕ → Captures → Type 0
+Matches answer matcher text captures =
+    (middle : List ℕ) × HasMiddle matcher text middle × Accepts answer matcher.ignore_case matcher.inner middle captures
+
+-- what a matcher answers to a text, where engines' values answer in this way: captures, or None where there are none
+abbrev pub Answers : {E : Type 0} → (answer : E → List ℕ → Option Captures) → MatcherView E → List ℕ → Option Captures → Type 0
+Answers answer matcher text (Some captures) = Matches answer matcher text captures
+Answers answer matcher text None = (captures : Captures) → ¬ Matches answer matcher text captures
+
+-- the text is matched, with some captures
+abbrev pub IsMatched : {E : Type 0} → (answer : E → List ℕ → Option Captures) → MatcherView E → List ℕ → Type 0
+IsMatched answer matcher text = (captures : Captures) × Matches answer matcher text captures
+
+-- ---- when memory is allocated
+
+-- an engine stands between prefix and suffix
+abbrev pub HoldsEngine : {E : Type 0} → InnerView E → Type 0
+HoldsEngine (RegExp (Ok engine)) = Unit {0}
+HoldsEngine other = ⊥
+
+-- one capture stands between prefix and suffix
+abbrev pub CapturesOne : {E : Type 0} → InnerView E → Type 0
+CapturesOne (SingleCapture filter allow_empty) = Unit {0}
+CapturesOne other = ⊥
+
+-- an engine is asked, as the text begins with the prefix and ends with the suffix
+abbrev pub AsksEngine : {E : Type 0} → MatcherView E → List ℕ → Type 0
+AsksEngine matcher text = (middle : List ℕ) × HasMiddle matcher text middle × HoldsEngine matcher.inner
+
+-- memory is allocated: by an engine, or for the list of one capture
+abbrev pub MayRunOutOfMemory : {E : Type 0} → (answer : E → List ℕ → Option Captures) → MatcherView E → List ℕ → Type 0
+MayRunOutOfMemory answer matcher text = AsksEngine matcher text ⊎ (CapturesOne matcher.inner × IsMatched answer matcher text)
+
+-- ---- agreeing with the parts
+
+-- the answer to a text is what parts mean: captures that they have there, or None where they have none
+abbrev pub Agrees : OptionsView → List PartView → List ℕ → Option Captures → Type 0
+Agrees options parts text (Some captures) = PartsMean options parts text captures
+Agrees options parts text None = (captures : Captures) → ¬ PartsMean options parts text captures
+
+-- where an engine is asked, `Is` holds of its value and the parts left between the ends; an error that is kept fails this
+abbrev pub IsOfMiddle : {E : Type 0} → (Is : E → (middle : List PartView) → Type 0) → List PartView → InnerView E → Type 0
+IsOfMiddle Is parts (RegExp (Ok engine)) =
+    (front : Option PartView) × (middle : List PartView) × (back : Option PartView) × ArePeeled parts front middle back × Is engine middle
+IsOfMiddle Is parts (RegExp (Err error)) = ⊥
+IsOfMiddle Is parts inner = Unit {0}
+
+-- an engine's value follows the regular expression of the parts that are left to it
+abbrev pub FollowsMiddle : {E : Type 0} → (answer : E → List ℕ → Option Captures) → OptionsView → List PartView → InnerView E → Type 0
+FollowsMiddle answer options parts inner = IsOfMiddle (λ engine middle. Follows (regexp_text options middle) (answer engine)) parts inner
+
+-- an engine's value answers, to texts of characters, what the parts that are left to it mean
+abbrev pub AgreesInMiddle : {E : Type 0} → (answer : E → List ℕ → Option Captures) → OptionsView → List PartView → InnerView E → Type 0
+AgreesInMiddle answer options parts inner =
+    IsOfMiddle (λ engine middle. (text : List ℕ) → IsTrue (all_scalars text) → Agrees options middle text (answer engine text)) parts inner
+
+-- each answer of the matcher to a text of characters without line feed is such a result
+abbrev pub EachAnswerIs : {E : Type 0} → (answer : E → List ℕ → Option Captures) → MatcherView E → (Is : (text : List ℕ) → Option Captures → Type 0) → Type 0
+EachAnswerIs answer matcher Is =
+    (text : List ℕ) (result : Option Captures) → IsTrue (lacks line_feed text) → IsTrue (all_scalars text) →
+    Answers answer matcher text result → Is text result
+
+-- The matcher answers what the parts mean, where none of them is custom and case is kept, if an engine that is asked follows
+-- the regular expression of the parts that are left to it.
+abbrev pub AnswersByMeaning : {E : Type 0} → (answer : E → List ℕ → Option Captures) → OptionsView → List PartView → MatcherView E → Type 0
+AnswersByMeaning answer options parts matcher =
+    AreGenerated parts → options.ignore_case ≡ false → FollowsMiddle answer options parts matcher.inner →
+    EachAnswerIs answer matcher (Agrees options parts)

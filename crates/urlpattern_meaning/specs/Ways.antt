@@ -1,0 +1,88 @@
+-- In which ways a tree of the dialect can take the front of a text, in the order in which an engine that tries choices one
+-- by one comes to them; and what the first of these captures that takes the whole text.
+use Rattle.std.specs.Prelude.{ℕ, zero, suc, Bool, true, false, not, ◌==◌, nat_lt, length, List, [], ◌∷◌, ◌++◌, map, flat_map, find, replicate, Option, Some, None, option_map, if◌then◌else◌}
+use Rattle.urlpattern_meaning.specs.Dialect.{Quantifier, Once, Optional, ZeroOrMore, OneOrMore, LazyOneOrMore, Items, Nothing, Item, Atom, Literal, Dot, AnyBut, Captured, Grouped, character_of, atom_group_count}
+use Rattle.urlpattern_meaning.specs.PartMeaning.{Captures}
+use Rattle.urlpattern_syntax.specs.Text.{line_feed}
+
+-- A front of a text, the captures in it, and the text after it.
+pub record Way : Type 0 where
+  pub taken : List ℕ
+  pub captures : Captures
+  pub rest : List ℕ
+
+-- the ways to take a front of a text; an earlier one is preferred to a later one
+abbrev pub Choice : Type 0
+Choice = List ℕ → List Way
+
+-- ---- one way after another
+
+-- the empty front; each of these groups captures nothing
+abbrev pub idle : (groups : ℕ) → List ℕ → Way
+idle groups text = record { taken = []; captures = replicate groups None; rest = text }
+
+-- both fronts as one
+abbrev pub joined_way : (way next : Way) → Way
+joined_way way next = record { taken = way.taken ++ next.taken; captures = way.captures ++ next.captures; rest = next.rest }
+
+-- each way is continued by all that can follow it, before the next way is tried
+abbrev pub continued : (next : Choice) → List Way → List Way
+continued next ways = flat_map (λ way. map (joined_way way) (next way.rest)) ways
+
+-- ---- characters
+
+-- a character that passes the test
+abbrev pub one_that : (passes : ℕ → Bool) → Choice
+one_that passes [] = []
+one_that passes (c ∷ text) = if passes c then record { taken = c ∷ []; captures = []; rest = text } ∷ [] else []
+
+-- ---- loops
+
+-- going on is tried before stopping where the loop is greedy, and after it where it is lazy
+abbrev pub ordered : (greedy : Bool) → (going_on stopping : List Way) → List Way
+ordered greedy going_on stopping = if greedy then going_on ++ stopping else stopping ++ going_on
+
+-- some of the text was taken
+abbrev pub is_shorter : (rest text : List ℕ) → Bool
+is_shorter rest text = nat_lt (length rest) (length text)
+
+-- at most n more rounds, of which none is empty
+abbrev pub more_rounds : (greedy : Bool) → Choice → (n : ℕ) → Choice
+more_rounds greedy atom zero text = idle 0 text ∷ []
+more_rounds greedy atom (suc n) text =
+    ordered greedy (continued (λ rest. if is_shorter rest text then more_rounds greedy atom n rest else []) (atom text)) (idle 0 text ∷ [])
+
+-- A round, and where it took something, more rounds: no more than the characters that are left, since none is empty.
+abbrev pub looped : (greedy : Bool) → Choice → Choice
+looped greedy atom text =
+    continued (λ rest. if is_shorter rest text then more_rounds greedy atom (length rest) rest else idle 0 rest ∷ []) (atom text)
+
+-- ---- trees
+
+-- an atom, with so many groups, after which the quantifier stands
+abbrev pub quantified_ways : Quantifier → (groups : ℕ) → Choice → Choice
+quantified_ways Once groups atom text = atom text
+quantified_ways Optional groups atom text = atom text ++ idle groups text ∷ []
+quantified_ways ZeroOrMore groups atom text = looped true atom text ++ idle groups text ∷ []
+quantified_ways OneOrMore groups atom text = looped true atom text
+quantified_ways LazyOneOrMore groups atom text = looped false atom text
+
+-- the front is captured too, as the first capture
+abbrev pub capturing : Way → Way
+capturing way = record way { captures = Some way.taken ∷ way.captures }
+
+abbrev mutual
+  pub ways : Items → Choice
+  ways Nothing text = idle 0 text ∷ []
+  ways (Item atom quantifier items) text = continued (ways items) (quantified_ways quantifier (atom_group_count atom) (atom_ways atom) text)
+
+  pub atom_ways : Atom → Choice
+  atom_ways (Literal character) text = one_that (λ c. c == character_of character) text
+  atom_ways Dot text = one_that (λ c. not (c == line_feed)) text
+  atom_ways (AnyBut character) text = one_that (λ c. not (c == character_of character)) text
+  atom_ways (Captured items) text = map capturing (ways items text)
+  atom_ways (Grouped items) text = ways items text
+
+-- the captures of the first way that takes the whole text; None where no way does
+unfoldable pub first_way : Items → List ℕ → Option Captures
+first_way tree text = option_map (λ way. way.captures) (find (λ way. length way.rest == 0) (ways tree text))
