@@ -24,5 +24,5 @@ pub mod TakenFronts
 pub mod PlaceLemmas
 pub mod TableLemmas
 pub mod TwoRegexes
-pub pub mod EngineLaws
+pub mod EngineLaws
 pub mod StepExamples
