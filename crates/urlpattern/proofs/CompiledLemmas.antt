@@ -9,8 +9,8 @@ use Rattle.std.specs.Str.{chars, IsAscii, IsUtf8}
 use Rattle.std.specs.declared.alloc.Global.{Global}
 use Rattle.std.proofs.lemmas.Str.{IsUtf8-string_bytes}
 use Rattle.urlpattern_meaning.proofs.Encodings.{Weakens, reads_weaker, refuses_weaker}
-use Rattle.urlpattern.specs.Compiled.{AreCompiled, FirstRefused, HasEngine, HasHierarchicalPath, IsComponentCompiled, IsComponentRefused, IsPatternOfInit, IsRefusedFrom, Manner, RefusesInit, RefusesValues, after_protocol, has_default_port, is_ipv6_pattern, is_mark, is_same, manner_of, pattern_values, without_default_port}
-use Rattle.urlpattern.specs.Patterns.{pattern_view}
+use Rattle.urlpattern.specs.Compiled.{AreCompiled, EachIsCompiled, FirstRefused, HasEngine, IsComponentCompiled, IsPathKind, IsComponentRefused, IsPatternOfInit, IsRefusedFrom, Manner, RefusesInit, RefusesValues, after_protocol, has_default_port, is_ipv6_pattern, is_mark, is_same, manner_of, pattern_values, without_default_port}
+use Rattle.urlpattern.specs.Patterns.{IfPattern}
 use Rattle.urlpattern_syntax.specs.declared.eight.ComponentName.{ComponentName as Names}
 use Rattle.urlpattern_syntax.specs.declared.eight.ComponentName.TheVariants.{Protocol}
 use Rattle.urlpattern_init.specs.declared.init.UrlPatternInit.{UrlPatternInit}
@@ -183,21 +183,21 @@ or-second first second tested later e none is = is ∙ ap (λ test. test || seco
 
 pub are_compiled : {E : Type 0} (engine : Engine E) (asked : UrlPatternOptions) (values : Values) (hierarchical : Bool)
     (protocol : ComponentView E) (result : Result (UrlPattern E) Error)
-    → (IsTrue hierarchical ↔ HasHierarchicalPath engine.answer values protocol.matcher)
+    → IsPathKind engine.answer values protocol.matcher hierarchical
     → IfOk result (λ pattern. component_view pattern.protocol ≡ protocol)
-    → IfOk result (λ pattern. (component : Names) → IsComponentCompiled engine (manner_of asked values hierarchical component) (pattern_view pattern component))
-    → IfOk result (λ pattern. AreCompiled engine asked values (pattern_view pattern))
+    → IfPattern result (EachIsCompiled engine (manner_of asked values hierarchical))
+    → IfPattern result (AreCompiled engine asked values)
 are_compiled engine asked values hierarchical protocol (Err error) reports same compiled = tt
 are_compiled {E} engine asked values hierarchical protocol (Ok pattern) reports same compiled = record {
   hierarchical = hierarchical;
-  path_kind = subst (λ (view : ComponentView E). IsTrue hierarchical ↔ HasHierarchicalPath engine.answer values view.matcher) (sym same) reports;
+  path_kind = subst (λ (view : ComponentView E). IsPathKind engine.answer values view.matcher hierarchical) (sym same) reports;
   are_compiled = compiled;
 }
 
 pub refused_behind : {E T : Type 0} (engine : Engine E) (asked : UrlPatternOptions) (values : Values) (hierarchical : Bool)
     (protocol : ComponentView E) (result : Result T Error)
     → IsComponentCompiled engine (manner_of asked values hierarchical Protocol) protocol
-    → (IsTrue hierarchical ↔ HasHierarchicalPath engine.answer values protocol.matcher)
+    → IsPathKind engine.answer values protocol.matcher hierarchical
     → IfErr result (MemoryOr (FirstRefused engine (manner_of asked values hierarchical) after_protocol))
     → IfErr result (MemoryOr (RefusesValues engine asked values))
 refused_behind engine asked values hierarchical protocol (Ok found) compiled reports refused = tt
@@ -209,8 +209,8 @@ refused_behind engine asked values hierarchical protocol (Err error) compiled re
 
 pub is_compiled : {E : Type 0} (engine : Engine E) (init : UrlPatternInit) (asked : UrlPatternOptions) (values : Values)
     (result : Result (UrlPattern E) Error) → pattern_values init ≡ Ok values
-    → IfOk result (λ pattern. AreCompiled engine asked values (pattern_view pattern))
-    → IfOk result (λ pattern. IsPatternOfInit engine init asked (pattern_view pattern))
+    → IfPattern result (AreCompiled engine asked values)
+    → IfPattern result (IsPatternOfInit engine init asked)
 is_compiled engine init asked values (Err error) are compiled = tt
 is_compiled engine init asked values (Ok pattern) are compiled = (values, are, compiled)
 

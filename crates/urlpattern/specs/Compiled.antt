@@ -128,11 +128,19 @@ abbrev pub HasHierarchicalPath : {E : Type 0} → (answer : E → List ℕ → O
 HasHierarchicalPath answer values protocol =
     (values.protocol ≡ Some []) ⊎ AcceptsSpecialScheme answer protocol ⊎ IsTrue (begins_with (is_mark (codes "/")) (unwrap_or values.pathname []))
 
+-- this is whether the pathname is so
+abbrev pub IsPathKind : {E : Type 0} → (answer : E → List ℕ → Option Captures) → Values → (protocol : MatcherView E) → (hierarchical : Bool) → Type 0
+IsPathKind answer values protocol hierarchical = IsTrue hierarchical ↔ HasHierarchicalPath answer values protocol
+
+-- each component is compiled in its manner
+abbrev pub EachIsCompiled : {E : Type 0} → Engine E → (manner : ComponentName → Manner) → PatternView E → Type 0
+EachIsCompiled engine manner pattern = (component : ComponentName) → IsComponentCompiled engine (manner component) (pattern component)
+
 -- The values are compiled to this pattern: by its protocol the pathname is hierarchical or not, and each component is compiled.
 pub record AreCompiled {E : Type 0} (engine : Engine E) (asked : UrlPatternOptions) (values : Values) (pattern : PatternView E) : Type 0 where
   pub hierarchical : Bool
-  pub path_kind : IsTrue hierarchical ↔ HasHierarchicalPath engine.answer values (pattern Protocol).matcher
-  pub are_compiled : (component : ComponentName) → IsComponentCompiled engine (manner_of asked values hierarchical component) (pattern component)
+  pub path_kind : IsPathKind engine.answer values (pattern Protocol).matcher hierarchical
+  pub are_compiled : EachIsCompiled engine (manner_of asked values hierarchical) pattern
 
 -- the init is compiled to this pattern
 abbrev pub IsPatternOfInit : {E : Type 0} → Engine E → UrlPatternInit → UrlPatternOptions → PatternView E → Type 0
@@ -157,7 +165,7 @@ pub record RefusesAfterProtocol {E : Type 0} (engine : Engine E) (asked : UrlPat
   pub protocol : ComponentView E
   pub hierarchical : Bool
   pub is_compiled : IsComponentCompiled engine (manner_of asked values hierarchical Protocol) protocol
-  pub path_kind : IsTrue hierarchical ↔ HasHierarchicalPath engine.answer values protocol.matcher
+  pub path_kind : IsPathKind engine.answer values protocol.matcher hierarchical
   pub refused : FirstRefused engine (manner_of asked values hierarchical) after_protocol error
 
 -- the values are refused with this error, that of the first component that is refused

@@ -7,9 +7,9 @@ use Rattle.urlpattern_syntax.specs.declared.eight.ComponentName.{ComponentName}
 use Rattle.urlpattern_syntax.specs.Eight.{Values}
 
 -- the values that it compiles
-abbrev pub compiler_values : Compiler → Values
-compiler_values compiler = values_view compiler.values.now
+abbrev pub compiled_values : Compiler → Values
+compiled_values compiler = values_view compiler.values.now
 
 -- the manner in which it reads the pattern of a component
 abbrev pub manner_by : Compiler → (hierarchical : Bool) → ComponentName → Manner
-manner_by compiler = manner_of compiler.options.now (compiler_values compiler)
+manner_by compiler = manner_of compiler.options.now (compiled_values compiler)

@@ -1,6 +1,6 @@
 -- A pattern as its components, after the URLPattern Standard, section "URL patterns".
 use Rattle.urlpattern_syntax.specs.declared.eight.ComponentName.{ComponentName}
-use Rattle.std.specs.Prelude.{Bool}
+use Rattle.std.specs.Prelude.{Bool, IfOk, Result}
 use Rattle.std.specs.List.{list_any}
 use Rattle.urlpattern_syntax.specs.declared.eight.Eight.{Eight}
 use Rattle.urlpattern_syntax.specs.Eight.{at, components}
@@ -22,3 +22,7 @@ pattern_view pattern name = component_view (at (components_of pattern) name)
 -- a component has a custom regular expression
 abbrev pub has_regexp_groups : {E : Type 0} → PatternView E → Bool
 has_regexp_groups pattern = list_any (λ component. (pattern component).has_regexp_group) components
+
+-- where a pattern is the result, this holds of it
+abbrev pub IfPattern : {E Fault : Type 0} → Result (UrlPattern E) Fault → (PatternView E → Type 0) → Type 0
+IfPattern result Holds = IfOk result (λ pattern. Holds (pattern_view pattern))

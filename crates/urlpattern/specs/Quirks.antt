@@ -1,11 +1,16 @@
 -- What browsers are answered.
 use Rattle.std.specs.Prelude.{◌≡◌, ℕ, List, Result, IfOk}
+use Rattle.urlpattern.specs.Compiled.{IsPatternOfInit}
 use Rattle.urlpattern.specs.Patterns.{PatternView, has_regexp_groups}
 use Rattle.urlpattern_core.specs.Components.{component_view}
 use Rattle.urlpattern_core.specs.declared.component.Component.{Component}
 use Rattle.urlpattern_compiled.specs.Plain.{plain_component}
 use Rattle.urlpattern_compiled.specs.Values as plain
 use Rattle.urlpattern_compiled.specs.declared.pattern.UrlPatternComponent.{UrlPatternComponent}
+use Rattle.urlpattern_core.specs.declared.regexp.RegExp.{Ghosts as Engine}
+use Rattle.urlpattern_init.specs.declared.init.UrlPatternInit.{UrlPatternInit}
+use Rattle.urlpattern_inputs.specs.declared.options.UrlPatternOptions.{UrlPatternOptions}
+use Rattle.urlpattern_compiled.specs.declared.pattern.UrlPattern.{UrlPattern}
 use Rattle.urlpattern_syntax.specs.Eight.{each}
 use Rattle.urlpattern_syntax.specs.Text.{text_of}
 use Rattle.urlpattern_syntax.specs.declared.error.Error.{Error}
@@ -22,3 +27,9 @@ plain_pattern text_made_of pattern = record {
   components = each (λ name. plain_component text_made_of (pattern name));
   has_regexp_groups = has_regexp_groups pattern;
 }
+
+-- the plain value is that of a pattern to which the init is compiled
+abbrev pub IsPlainOfInit : {E : Type 0} → Engine E → UrlPatternInit → UrlPatternOptions → UrlPattern → Type 0
+IsPlainOfInit {E} engine init asked value =
+    (compiled : PatternView E) × IsPatternOfInit engine init asked compiled
+    × (plain.pattern_by text_of value ≡ plain_pattern engine.text_made_of compiled)

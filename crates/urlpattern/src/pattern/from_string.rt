@@ -5,7 +5,7 @@ ghost use Rattle.std.specs.Str.{chars};
 ghost use Rattle.url.specs.Parser.{parse_url};
 ghost use Rattle.urlpattern_canonical.specs.Canonical.{Reports};
 ghost use Rattle.urlpattern.specs.FromString.{parsed_base, text_bytes, IsInitOfText, IsPatternOfText, RefusesPatternOfText, RefusesText};
-ghost use Rattle.urlpattern.specs.Patterns.{pattern_view};
+ghost use Rattle.urlpattern.specs.Patterns.{IfPattern};
 ghost use Rattle.urlpattern_syntax.specs.Errors.{MemoryOr};
 
 use super::UrlPattern;
@@ -30,10 +30,8 @@ impl<R: RegExp> UrlPattern<R> {
         base_url: Option<&str>,
         options: UrlPatternOptions,
     ) -> Result<Self, Error>
-        ensures compiled { IfOk result (λ compiled. IsPatternOfText R.RegExp (chars pattern.now) (option_copied base_url.entry)
-            options (pattern_view compiled)) }
-        ensures refused { IfErr result (MemoryOr (RefusesPatternOfText R.RegExp (chars pattern.now) (option_copied base_url.entry)
-            options)) }
+        ensures compiled { IfPattern result (IsPatternOfText R.RegExp (chars pattern.now) (option_copied base_url.entry) options) }
+        ensures refused { IfErr result (MemoryOr (RefusesPatternOfText R.RegExp (chars pattern.now) (option_copied base_url.entry) options)) }
     {
         let init = init_of_text::<R>(alloc, pattern, base_url)?;
         Self::parse(alloc, init, options)

@@ -5,9 +5,9 @@ ghost use Rattle.std.specs.Str.{chars};
 ghost use Rattle.urlpattern_canonical.specs.Canonical.{IsAnswer};
 ghost use Rattle.urlpattern_core.specs.Components.{IsCompiledFrom, component_view, pattern_text};
 ghost use Rattle.urlpattern_init.specs.Inheritance.{values_view};
-ghost use Rattle.urlpattern.specs.Compiled.{AreCompiled, FirstRefused, HasEngine, HasHierarchicalPath, IsComponentCompiled, IsComponentRefused, IsPatternOfInit, IsRefusedFrom, RefusesInit, RefusesValues, after_protocol, canonical_in_hostname, has_default_port, is_ipv6_pattern, is_mark, is_same, pattern_of, pattern_values, without_default_port};
-ghost use Rattle.urlpattern.specs.CompilerSteps.{manner_by, compiler_values};
-ghost use Rattle.urlpattern.specs.Patterns.{pattern_view};
+ghost use Rattle.urlpattern.specs.Compiled.{AreCompiled, EachIsCompiled, FirstRefused, HasEngine, IsComponentCompiled, IsComponentRefused, IsPathKind, IsPatternOfInit, IsRefusedFrom, RefusesInit, RefusesValues, after_protocol, canonical_in_hostname, has_default_port, is_ipv6_pattern, is_mark, is_same, pattern_of, pattern_values, without_default_port};
+ghost use Rattle.urlpattern.specs.CompilerSteps.{manner_by, compiled_values};
+ghost use Rattle.urlpattern.specs.Patterns.{IfPattern};
 ghost use Rattle.urlpattern_syntax.specs.declared.eight.ComponentName.{ComponentName};
 ghost use Rattle.urlpattern_syntax.specs.Errors.{MemoryOr, OnlyOutOfMemory};
 ghost use Rattle.urlpattern_syntax.specs.Options.{options_view};
@@ -40,7 +40,7 @@ impl<R: RegExp> UrlPattern<R> {
         init: UrlPatternInit,
         options: UrlPatternOptions,
     ) -> Result<Self, Error>
-        ensures compiled { IfOk result (λ pattern. IsPatternOfInit R.RegExp init options (pattern_view pattern)) }
+        ensures compiled { IfPattern result (IsPatternOfInit R.RegExp init options) }
         ensures refused { IfErr result (MemoryOr (RefusesInit R.RegExp init options)) }
     {
         let values = pattern_values(alloc, &init);
@@ -60,7 +60,7 @@ fn compile_values<R: RegExp>(
     values: &UrlPatternInit,
     options: &UrlPatternOptions,
 ) -> Result<UrlPattern<R>, Error>
-    ensures compiled { IfOk result (λ pattern. AreCompiled R.RegExp options.now (values_view values.now) (pattern_view pattern)) }
+    ensures compiled { IfPattern result (AreCompiled R.RegExp options.now (values_view values.now)) }
     ensures refused { IfErr result (MemoryOr (RefusesValues R.RegExp options.now (values_view values.now))) }
 {
     let canonicalizer = Canonicalizer::shared(alloc)?;
@@ -183,8 +183,8 @@ impl Compiler<'_> {
     ///
     /// The error is that of the first component that is refused, or that memory ran out.
     fn pattern<R: RegExp>(&self) -> Result<UrlPattern<R>, Error>
-        ensures compiled { IfOk result (λ pattern. AreCompiled R.RegExp self.now.options.now (compiler_values self.now) (pattern_view pattern)) }
-        ensures refused { IfErr result (MemoryOr (RefusesValues R.RegExp self.now.options.now (compiler_values self.now))) }
+        ensures compiled { IfPattern result (AreCompiled R.RegExp self.now.options.now (compiled_values self.now)) }
+        ensures refused { IfErr result (MemoryOr (RefusesValues R.RegExp self.now.options.now (compiled_values self.now))) }
     {
         let protocol = self.component(ComponentName::Protocol, false)?;
         let hierarchical = self.is_hierarchical(&protocol)?;
@@ -201,7 +201,7 @@ impl Compiler<'_> {
     ) -> Result<UrlPattern<R>, Error>
         requires { IsComponentCompiled R.RegExp (manner_by self.now hierarchical ComponentName.Protocol) (component_view protocol) }
         ensures protocol { IfOk result (λ pattern. component_view pattern.protocol ≡ component_view protocol) }
-        ensures compiled { IfOk result (λ pattern. (component : ComponentName) → IsComponentCompiled R.RegExp (manner_by self.now hierarchical component) (pattern_view pattern component)) }
+        ensures compiled { IfPattern result (EachIsCompiled R.RegExp (manner_by self.now hierarchical)) }
         ensures refused { IfErr result (MemoryOr (FirstRefused R.RegExp (manner_by self.now hierarchical) after_protocol)) }
     {
         Ok(UrlPattern {
@@ -224,7 +224,7 @@ impl Compiler<'_> {
         component: ComponentName,
         hierarchical: bool,
     ) -> Result<component::Component<R>, Error>
-        ensures compiled { IfOk result (λ compiled. IsComponentCompiled R.RegExp (manner_by self.now hierarchical component) (component_view compiled)) }
+        ensures compiled { IfOk result (λ made. IsComponentCompiled R.RegExp (manner_by self.now hierarchical component) (component_view made)) }
         ensures refused { IfErr result (MemoryOr (IsComponentRefused R.RegExp (manner_by self.now hierarchical component))) }
     {
         let options = self.options_of(component, hierarchical)?;
@@ -287,7 +287,7 @@ impl Compiler<'_> {
     ///
     /// The error is the refusal of `url`, or that memory ran out.
     fn canonical_in_hostname(&self, text: &str) -> Result<String, Error>
-        ensures { IsAnswer (canonical_in_hostname (unwrap_or (compiler_values self.now).hostname []) (chars text.now)) (length text.now) result }
+        ensures { IsAnswer (canonical_in_hostname (unwrap_or (compiled_values self.now).hostname []) (chars text.now)) (length text.now) result }
     {
         match &self.values.hostname {
             Some(pattern) if is_ipv6_pattern(pattern) => {
@@ -301,7 +301,7 @@ impl Compiler<'_> {
     ///
     /// The error is that memory ran out.
     fn is_hierarchical<R: RegExp>(&self, protocol: &component::Component<R>) -> Result<bool, Error>
-        ensures path_kind { IfOk result (λ hierarchical. IsTrue hierarchical ↔ HasHierarchicalPath R.answer (compiler_values self.now) (component_view protocol.now).matcher) }
+        ensures path_kind { IfOk result (IsPathKind R.answer (compiled_values self.now) (component_view protocol.now).matcher) }
         ensures memory { OnlyOutOfMemory result }
     {
         if is_there_and_empty(&self.values.protocol) || is_there_with_slash(&self.values.pathname) {

@@ -1,8 +1,8 @@
 //! Patterns for browsers: compiled, and as plain data.
 ghost use Rattle.std.specs.Prelude.{◌≡◌, IfErr, IfOk};
 ghost use Rattle.urlpattern.specs.Compiled.{IsPatternOfInit, RefusesInit};
-ghost use Rattle.urlpattern.specs.Patterns.{PatternView, pattern_view};
-ghost use Rattle.urlpattern.specs.Quirks.{IsPlainOf, plain_pattern};
+ghost use Rattle.urlpattern.specs.Patterns.{pattern_view, IfPattern};
+ghost use Rattle.urlpattern.specs.Quirks.{IsPlainOf, plain_pattern, IsPlainOfInit};
 ghost use Rattle.urlpattern_compiled.specs.Values.{pattern_by};
 ghost use Rattle.urlpattern_syntax.specs.Errors.{MemoryOr, OnlyOutOfMemory};
 ghost use Rattle.urlpattern_syntax.specs.Text.{text_of};
@@ -24,9 +24,7 @@ pub fn parse_pattern<R: RegExp>(
     init: UrlPatternInit,
     options: UrlPatternOptions,
 ) -> Result<UrlPattern, Error>
-    ensures parsed { IfOk result (λ plain. (compiled : PatternView R)
-        × IsPatternOfInit R.RegExp init options compiled
-        × (pattern_by text_of plain ≡ plain_pattern R.text_made_of compiled)) }
+    ensures parsed { IfOk result (IsPlainOfInit R.RegExp init options) }
     ensures refused { IfErr result (MemoryOr (RefusesInit R.RegExp init options)) }
 {
     let pattern = pattern::UrlPattern::<R>::parse(alloc, init, options)?;
@@ -41,7 +39,7 @@ pub fn parse_pattern_as_lib<R: RegExp>(
     init: UrlPatternInit,
     options: UrlPatternOptions,
 ) -> Result<pattern::UrlPattern<R>, Error>
-    ensures compiled { IfOk result (λ pattern. IsPatternOfInit R.RegExp init options (pattern_view pattern)) }
+    ensures compiled { IfPattern result (IsPatternOfInit R.RegExp init options) }
     ensures refused { IfErr result (MemoryOr (RefusesInit R.RegExp init options)) }
 {
     pattern::UrlPattern::parse(alloc, init, options)
