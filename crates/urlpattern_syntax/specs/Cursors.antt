@@ -3,10 +3,11 @@ use Rattle.std.specs.Prelude.{◌≡◌, ℕ, ◌⊎◌, ◌&&◌, not, Bool, Is
 use Rattle.std.specs.List.{list_all}
 use Rattle.std.specs.Str.{chars}
 use Rattle.urlpattern_syntax.specs.declared.tokenizer.cursors.Cursor.{Cursor}
+use Rattle.urlpattern_syntax.specs.declared.tokenizer.Token.{Token}
 use Rattle.urlpattern_syntax.specs.declared.tokenizer.TokenType.{TokenType}
 use Rattle.urlpattern_syntax.specs.declared.tokenizer.TokenType.TheVariants.{End}
 use Rattle.urlpattern_syntax.specs.Text.{BeginsWith, is_among}
-use Rattle.urlpattern_syntax.specs.Tokens.{IsCut, IsStrictCut, IsTokenOf, Skips, TokenView, end_of, is_ignored, marks}
+use Rattle.urlpattern_syntax.specs.Tokens.{IsCut, IsStrictCut, IsTokenOf, Skips, TokenView, end_of, is_ignored, marks, token_view}
 
 -- the text that is read
 abbrev pub cursor_text : Cursor → List ℕ
@@ -33,6 +34,10 @@ abbrev pub IsTokenAfter : (whole rest : List ℕ) → TokenView → (next : List
 IsTokenAfter whole rest token next =
     ((rest ≡ []) × (token ≡ end_of whole) × (next ≡ []))
     ⊎ ((behind : List ℕ) × IsTokenOf whole rest token behind × Skips behind next)
+
+-- the cursor gives this token, and then is this one
+abbrev pub GivesToken : (old : Cursor) → Token → (new : Cursor) → Type 0
+GivesToken old token new = IsTokenAfter (cursor_text old) (cursor_rest old) (token_view token) (cursor_rest new)
 
 -- End is no token that is read on from
 abbrev pub tokens_left : TokenType → ℕ

@@ -4,7 +4,9 @@ use Rattle.std.specs.Prelude.{◌≡◌, ◌≢◌, ℕ, suc, ◌⊎◌, List, [
 use Rattle.std.specs.Borrow.{Bor}
 use Rattle.std.specs.Fn.{FnReturnsAt}
 use Rattle.std.specs.declared.alloc.Global.{Global}
+use Rattle.std.specs.declared.vec.Vec.{Vec}
 use Rattle.urlpattern_syntax.specs.declared.error.Error.{Error}
+use Rattle.urlpattern_syntax.specs.declared.parser.Part.{Part}
 use Rattle.urlpattern_syntax.specs.declared.parser.PartModifier.{PartModifier}
 use Rattle.urlpattern_syntax.specs.declared.parser.PartModifier.TheVariants as modifiers
 use Rattle.urlpattern_syntax.specs.declared.parser.PartType.{PartType}
@@ -14,7 +16,7 @@ use Rattle.urlpattern_syntax.specs.declared.tokenizer.TokenType.TheVariants.{Clo
 use Rattle.urlpattern_syntax.specs.Errors.{ErrorView, error_view}
 use Rattle.urlpattern_syntax.specs.Errors.{ErrorView as views}
 use Rattle.urlpattern_syntax.specs.Options.{OptionsView}
-use Rattle.urlpattern_syntax.specs.Parts.{PartView, fixed_text}
+use Rattle.urlpattern_syntax.specs.Parts.{PartView, fixed_text, parts_view}
 use Rattle.urlpattern_syntax.specs.Pieces.{Piece, Matched, Ending, ArePieces}
 use Rattle.urlpattern_syntax.specs.Pieces.{Piece as pieces}
 use Rattle.urlpattern_syntax.specs.Pieces.{Matched as matched}
@@ -200,6 +202,10 @@ abbrev pub Refuses : List ℕ → OptionsView → Encoding → ErrorView → Typ
 Refuses text options encoding error =
     ((fault : FaultView) × (place : ℕ) × IsFault text fault place × (error ≡ views.Tokenizer fault place))
     ⊎ FailsDemand text options encoding error
+
+-- the text means the parts of this vector
+abbrev pub IsReadAs : (text : List ℕ) → OptionsView → Encoding → Vec Part Global → Type 0
+IsReadAs text options encoding parts = Reads text options encoding (parts_view parts.items)
 
 -- ---- what callbacks answer
 

@@ -7,8 +7,8 @@ ghost use Rattle.urlpattern_syntax.specs.Errors.{ErrorView, error_view};
 ghost use Rattle.urlpattern_syntax.specs.Options.{options_view};
 ghost use Rattle.urlpattern_syntax.specs.Parsing.{FaultOr, MemoryOr, Stands, StartsText, reader_left, reader_text};
 ghost use Rattle.urlpattern_syntax.specs.PartLists.{AddsAll, ParserReads, ParserRefuses, end_demands, matched_regexp, parser_encoding, parser_options, pending_item};
-ghost use Rattle.urlpattern_syntax.specs.Parts.{fixed_text, part_view, parts_view};
-ghost use Rattle.urlpattern_syntax.specs.Reading.{FirstFails, Reads, Refuses, encoding_by, kind_of, value_of};
+ghost use Rattle.urlpattern_syntax.specs.Parts.{fixed_text, part_view};
+ghost use Rattle.urlpattern_syntax.specs.Reading.{FirstFails, IsReadAs, Refuses, encoding_by, kind_of, value_of};
 ghost use Rattle.urlpattern_syntax.specs.RegexpText.{modifier_text};
 ghost use Rattle.urlpattern_syntax.specs.Text.{text_of};
 
@@ -169,8 +169,7 @@ pub fn parse_pattern_string<F: Fn(&str) -> Result<String, Error> + Drop>(
     encoding_callback: F,
 ) -> Result<Vec<Part>, Error>
     requires { F.IsAlwaysCallable encoding_callback }
-    ensures reads { IfOk result (λ parts. Reads (chars input.now) (options_view options.now)
-        (encoding_by F.Fn encoding_callback) (parts_view parts.items)) }
+    ensures reads { IfOk result (IsReadAs (chars input.now) (options_view options.now) (encoding_by F.Fn encoding_callback)) }
     ensures refuses { IfErr result (MemoryOr (Refuses (chars input.now) (options_view options.now) (encoding_by F.Fn encoding_callback))) }
 {
     let mut reader = Reader::new(alloc, input)?;

@@ -1,9 +1,9 @@
 //! The strict tokens of a text, one by one.
 ghost use Rattle.std.specs.Prelude.{◌≡◌, ◌≤◌, ◌+◌, List, length, IfOk, IfErr, OnOk};
 ghost use Rattle.std.specs.Str.{chars};
-ghost use Rattle.urlpattern_syntax.specs.Cursors.{AreCharactersBefore, AreTokensAfter, IsPlace, IsTokenAfter, cursor_rest, cursor_text, stands_for_itself, tokens_left};
+ghost use Rattle.urlpattern_syntax.specs.Cursors.{AreCharactersBefore, AreTokensAfter, GivesToken, IsPlace, cursor_rest, cursor_text, stands_for_itself, tokens_left};
 ghost use Rattle.urlpattern_syntax.specs.Text.{BeginsAt};
-ghost use Rattle.urlpattern_syntax.specs.Tokens.{Skips, ReportsFault, TokenView, token_view};
+ghost use Rattle.urlpattern_syntax.specs.Tokens.{Skips, ReportsFault, TokenView};
 
 use super::lexemes::{next_lexeme, skip_ignored};
 use super::{Token, TokenType, before, split_first};
@@ -39,7 +39,7 @@ impl<'a> Cursor<'a> {
         requires { IsPlace (cursor_text self.old) (cursor_rest self.old) }
         ensures whole { self.new.input.now ≡ self.old.input.now }
         ensures place { OnOk result (IsPlace (cursor_text self.old) (cursor_rest self.new)) }
-        ensures token { IfOk result (λ token. IsTokenAfter (cursor_text self.old) (cursor_rest self.old) (token_view token) (cursor_rest self.new)) }
+        ensures token { IfOk result (λ token. GivesToken self.old token self.new) }
         ensures len { IfOk result (λ token. length self.new.rest.now + tokens_left token.kind ≤ length self.old.rest.now) }
         ensures fault { IfErr result (ReportsFault (cursor_text self.old)) }
     {

@@ -1,19 +1,18 @@
 use Rattle.urlpattern_meaning.specs.Laws.{listed}
+use Rattle.urlpattern_meaning.specs.LawsOfReading.{OfPartsThatWereRead, OfPrintableParts, Saying}
+use Rattle.urlpattern_meaning.specs.RoundTrip.{IsNotRefused, PrintsTheSame, ReadsAsJoined, ReadsOnlyAsJoined}
 use Rattle.urlpattern_meaning.proofs.ReadsBack.{kept_reads, kept_reads_only, kept_same, kept_unrefused, were_read_printable}
 use Rattle.urlpattern_meaning.proofs.laws.parts_that_were_read_print_and_read_back.Goals as goal
 
-pub returns-clause-reads : goal.returns-clause-reads
-returns-clause-reads c = λ text options first answers parts read.
-    kept_reads options (listed answers) parts (were_read_printable text options (listed first) parts read)
+-- what is said of printable parts is said of parts that were read
+of_read : (Says : Saying) → OfPrintableParts Says → OfPartsThatWereRead Says
+of_read Says of_printable text options first answers parts read =
+    of_printable options answers parts (were_read_printable text options (listed first) parts read)
 
-pub returns-clause-only : goal.returns-clause-only
-returns-clause-only c = λ text options first answers parts read.
-    kept_reads_only options (listed answers) parts (were_read_printable text options (listed first) parts read)
-
-pub returns-clause-not_refused : goal.returns-clause-not_refused
-returns-clause-not_refused c = λ text options first answers parts read.
-    kept_unrefused options (listed answers) parts (were_read_printable text options (listed first) parts read)
-
-pub returns-clause-same : goal.returns-clause-same
-returns-clause-same c = λ text options first answers parts read.
-    kept_same options (listed answers) parts (were_read_printable text options (listed first) parts read)
+pub returns : goal.returns
+returns c = record {
+  reads = of_read ReadsAsJoined (λ options answers. kept_reads options (listed answers));
+  only = of_read ReadsOnlyAsJoined (λ options answers. kept_reads_only options (listed answers));
+  not_refused = of_read IsNotRefused (λ options answers. kept_unrefused options (listed answers));
+  same = of_read PrintsTheSame (λ options answers. kept_same options (listed answers));
+}
