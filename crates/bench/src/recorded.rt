@@ -3,6 +3,7 @@
 use serde_json::Value;
 use std::alloc::{AllocError, Global};
 use urlpattern::RegexSyntax;
+use urlpattern::error::OutOfMemory;
 use urlpattern::parser::Options;
 
 /// Why nothing comes of a line.
@@ -20,6 +21,12 @@ impl From<AllocError> for Fault {
     }
 }
 
+impl From<OutOfMemory> for Fault {
+    fn from(_: OutOfMemory) -> Fault {
+        Fault::OutOfMemory
+    }
+}
+
 impl From<serde_json::Error> for Fault {
     fn from(error: serde_json::Error) -> Fault {
         if error.is_memory() {
@@ -31,12 +38,14 @@ impl From<serde_json::Error> for Fault {
 }
 
 /// What a case may ask for.
-#[derive(Clone, Copy)]
+#[derive(Clone, Copy, PartialEq, Eq, Drop)]
 pub enum Operation {
     /// The tokens of a text.
     Tokenize,
     /// The parts of a pattern, and what is made of them.
     Component,
+    /// The normal form of the parts of a pattern.
+    NormalForm,
     /// The component of a pattern, compiled.
     Compile,
     /// What an engine of regular expressions answers.
@@ -53,33 +62,50 @@ pub enum Operation {
     MatchInput,
     /// The components of a constructor string.
     Constructor,
+    /// The init of a string or of a browser's init.
+    Construct,
     /// A pattern, and what it answers to inputs.
     Pattern,
     /// A pattern as plain data.
     QuirksPattern,
     /// The first match of inputs in a list of patterns.
     FirstMatch,
+    /// What a plain value writes as JSON that is read of JSON.
+    Json,
+    /// Which values of a type equal each other.
+    Equal,
 }
+
+/// The operations by name, in the order in which their counts are printed.
+pub const OPERATIONS: [(&str, Operation); 17] = [
+    ("tokenize", Operation::Tokenize),
+    ("component", Operation::Component),
+    ("normal_form", Operation::NormalForm),
+    ("compile", Operation::Compile),
+    ("engine", Operation::Engine),
+    ("matches", Operation::Matches),
+    ("hand_matcher", Operation::HandMatcher),
+    ("canonicalize", Operation::Canonicalize),
+    ("process", Operation::Process),
+    ("match_input", Operation::MatchInput),
+    ("constructor", Operation::Constructor),
+    ("construct", Operation::Construct),
+    ("pattern", Operation::Pattern),
+    ("quirks_pattern", Operation::QuirksPattern),
+    ("first_match", Operation::FirstMatch),
+    ("json", Operation::Json),
+    ("equal", Operation::Equal),
+];
 
 impl Operation {
     /// The operation of a name.
     pub fn named(name: &str) -> Result<Operation, Fault> {
-        Ok(match name {
-            "tokenize" => Operation::Tokenize,
-            "component" => Operation::Component,
-            "compile" => Operation::Compile,
-            "engine" => Operation::Engine,
-            "matches" => Operation::Matches,
-            "hand_matcher" => Operation::HandMatcher,
-            "canonicalize" => Operation::Canonicalize,
-            "process" => Operation::Process,
-            "match_input" => Operation::MatchInput,
-            "constructor" => Operation::Constructor,
-            "pattern" => Operation::Pattern,
-            "quirks_pattern" => Operation::QuirksPattern,
-            "first_match" => Operation::FirstMatch,
-            _ => return Err(Fault::NoCase),
-        })
+        for (other, operation) in OPERATIONS {
+            if other == name {
+                return Ok(operation);
+            }
+        }
+        Err(Fault::NoCase)
     }
 
     /// Whether an engine answers. The question may name it.

@@ -1,15 +1,17 @@
 //! Asks the library what was asked when a case was recorded, and compares the answers.
 
+mod calls;
 mod compiled;
-pub mod components;
+mod components;
 mod constructors;
 mod engines;
 mod first_match;
 mod given;
 mod matchers;
-pub mod patterns;
+mod patterns;
 mod plain;
 mod tokens;
+mod trees;
 mod values;
 
 use crate::recorded::{Answer, Fault, Operation, field, is_set, list, optional_text, text};
@@ -68,6 +70,7 @@ impl Case<'_> {
         requires { F.IsAlwaysCallable is_recorded }
     {
         let is_answer = match (&found, self.answer) {
+            (Err(Error::OutOfMemory), _) => Err(Fault::OutOfMemory),
             (Ok(found), Answer::Ok(recorded)) => is_recorded(found, recorded),
             (Err(error), Answer::Err(text)) => prints(self.alloc, error, text).map_err(Fault::from),
             _ => Ok(false),
@@ -104,6 +107,7 @@ fn is_same(operation: Operation, case: &Case<'_>) -> Result<bool, Fault> {
     }
     match (operation, optional_text(case.question, "engine")) {
         (_, Some("ecma")) => is_same_over::<EcmaRegexp>(operation, case),
+        (_, Some("pattern")) => is_same_over::<PatternRegexp>(operation, case),
         (Operation::Matches, None) => Ok(
             is_same_over_rust(operation, case)? && is_same_over::<EcmaRegexp>(operation, case)?,
         ),
@@ -122,6 +126,7 @@ fn is_same_over<R: RegExp>(operation: Operation, case: &Case<'_>) -> Result<bool
     match operation {
         Operation::Tokenize => tokens::is_same(case),
         Operation::Component => components::is_same(case),
+        Operation::NormalForm => components::is_same_normal_form(case),
         Operation::Compile => compiled::is_same::<R>(case),
         Operation::Engine => engines::is_same::<R>(case),
         Operation::Matches => matchers::is_same::<R>(case),
@@ -130,9 +135,12 @@ fn is_same_over<R: RegExp>(operation: Operation, case: &Case<'_>) -> Result<bool
         Operation::Process => values::is_same_processed(case),
         Operation::MatchInput => values::is_same_match_input(case),
         Operation::Constructor => constructors::is_same(case),
+        Operation::Construct => constructors::is_same_init(case),
         Operation::Pattern => patterns::is_same::<R>(case),
         Operation::QuirksPattern => plain::is_same::<R>(case),
         Operation::FirstMatch => first_match::is_same::<R>(case),
+        Operation::Json => trees::is_same(case),
+        Operation::Equal => trees::is_same_equality(case),
     }
 }
 
@@ -142,4 +150,13 @@ fn prints(alloc: Global, error: &Error, text: &str) -> Result<bool, AllocError> 
         return Ok(matches!(error, Error::Url(_)));
     }
     Ok(format!(in alloc; "{error}")?.as_str() == text)
+}
+
+/// Whether calls succeeded and answered yes. Only memory that ran out is a fault.
+fn succeeded(found: Result<bool, Error>) -> Result<bool, Fault> {
+    match found {
+        Ok(is_same) => Ok(is_same),
+        Err(Error::OutOfMemory) => Err(Fault::OutOfMemory),
+        Err(_) => Ok(false),
+    }
 }

@@ -1,15 +1,17 @@
 //! The run over files of cases, and what it prints.
 
-use crate::recorded::{Fault, Operation};
+use crate::recorded::{Fault, OPERATIONS, Operation};
 use crate::replay::{Outcome, replay};
-use std::alloc::Global;
+use std::alloc::{AllocError, Global};
 use std::io::Write;
 use std::rt::Files;
 use std::{fs, io};
 
-/// How many cases there are, and how many of them differ.
-#[derive(Default, Drop)]
+/// How many cases of an operation there are, and how many of them differ.
+#[derive(Drop)]
 struct Tally {
+    name: &'static str,
+    operation: Operation,
     answers: u64,
     errors: u64,
     differing: u64,
@@ -30,39 +32,41 @@ impl Tally {
     }
 
     /// Prints the counts in a line.
-    fn print<O: Write>(&self, out: &mut O, operation: &str) -> io::Result<()> {
-        let Tally {
-            answers,
-            errors,
-            differing,
-        } = self;
+    fn print<O: Write>(&self, out: &mut O) -> io::Result<()> {
         writeln!(
             out,
-            "{operation}: {answers} answers and {errors} errors, {differing} differ"
+            "{}: {} answers and {} errors, {} differ",
+            self.name, self.answers, self.errors, self.differing
         )
     }
 }
 
-/// The counts of a run.
-#[derive(Default, Drop)]
+/// The counts of a run, by operation, and of the lines that hold no case.
+#[derive(Drop)]
 struct Report {
-    tokenize: Tally,
-    component: Tally,
-    compile: Tally,
-    engine: Tally,
-    matches: Tally,
-    hand_matcher: Tally,
-    canonicalize: Tally,
-    process: Tally,
-    match_input: Tally,
-    constructor: Tally,
-    pattern: Tally,
-    quirks_pattern: Tally,
-    first_match: Tally,
+    tallies: Vec<Tally>,
     unreadable: u64,
 }
 
 impl Report {
+    /// The counts before the first case.
+    fn new(alloc: Global) -> Result<Report, AllocError> {
+        let mut tallies = Vec::new(alloc);
+        for (name, operation) in OPERATIONS {
+            tallies.push(Tally {
+                name,
+                operation,
+                answers: 0,
+                errors: 0,
+                differing: 0,
+            })?;
+        }
+        Ok(Report {
+            tallies,
+            unreadable: 0,
+        })
+    }
+
     /// Counts the cases of a text, one in each line, and prints the place of each that differs or cannot be read.
     fn add<O: Write>(
         &mut self,
@@ -74,7 +78,7 @@ impl Report {
         for (line, number) in text.lines().zip(1u64..) {
             match replay(alloc, line) {
                 Ok(outcome) => {
-                    self.tally(outcome.operation).count(&outcome);
+                    self.count(&outcome);
                     if !outcome.is_same {
                         writeln!(out, "{path}:{number}: differs")?;
                     }
@@ -89,66 +93,26 @@ impl Report {
         Ok(())
     }
 
-    /// The counts for what was asked for.
-    fn tally(&mut self, operation: Operation) -> &mut Tally {
-        match operation {
-            Operation::Tokenize => &mut self.tokenize,
-            Operation::Component => &mut self.component,
-            Operation::Compile => &mut self.compile,
-            Operation::Engine => &mut self.engine,
-            Operation::Matches => &mut self.matches,
-            Operation::HandMatcher => &mut self.hand_matcher,
-            Operation::Canonicalize => &mut self.canonicalize,
-            Operation::Process => &mut self.process,
-            Operation::MatchInput => &mut self.match_input,
-            Operation::Constructor => &mut self.constructor,
-            Operation::Pattern => &mut self.pattern,
-            Operation::QuirksPattern => &mut self.quirks_pattern,
-            Operation::FirstMatch => &mut self.first_match,
+    /// Counts a case of its operation.
+    fn count(&mut self, outcome: &Outcome) {
+        for tally in &mut self.tallies {
+            if tally.operation == outcome.operation {
+                tally.count(outcome);
+            }
         }
     }
 
     /// Prints the counts.
     fn print<O: Write>(&self, out: &mut O) -> io::Result<()> {
-        self.tokenize.print(out, "tokenize")?;
-        self.component.print(out, "component")?;
-        self.compile.print(out, "compile")?;
-        self.engine.print(out, "engine")?;
-        self.matches.print(out, "matches")?;
-        self.hand_matcher.print(out, "hand_matcher")?;
-        self.canonicalize.print(out, "canonicalize")?;
-        self.process.print(out, "process")?;
-        self.match_input.print(out, "match_input")?;
-        self.constructor.print(out, "constructor")?;
-        self.pattern.print(out, "pattern")?;
-        self.quirks_pattern.print(out, "quirks_pattern")?;
-        self.first_match.print(out, "first_match")?;
-        let unreadable = self.unreadable;
-        writeln!(out, "lines without a case: {unreadable}")
+        for tally in &self.tallies {
+            tally.print(out)?;
+        }
+        writeln!(out, "lines without a case: {}", self.unreadable)
     }
 
     /// Whether each line holds a case, and none differs.
     fn is_same(&self) -> bool {
-        for tally in [
-            &self.tokenize,
-            &self.component,
-            &self.compile,
-            &self.engine,
-            &self.matches,
-            &self.hand_matcher,
-            &self.canonicalize,
-            &self.process,
-            &self.match_input,
-            &self.constructor,
-            &self.pattern,
-            &self.quirks_pattern,
-            &self.first_match,
-        ] {
-            if tally.differing != 0 {
-                return false;
-            }
-        }
-        self.unreadable == 0
+        self.unreadable == 0 && self.tallies.iter().all(|tally| tally.differing == 0)
     }
 }
 
@@ -158,7 +122,7 @@ pub fn run<R: Files + AllocGlobal, O: Write>(
     paths: &[String],
     out: &mut O,
 ) -> io::Result<bool> {
-    let mut report = Report::default();
+    let mut report = Report::new(rt.alloc())?;
     for path in paths {
         let text = fs::read_to_string(rt, path)?;
         report.add(rt.alloc(), path, &text, out)?;

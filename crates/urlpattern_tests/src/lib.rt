@@ -1,41 +1,22 @@
-//! Tests of what no recorded case that `bench` replays can say: JSON, plain data, inputs that are handed back, components put
-//! together by hand, engines that answer what none should, lists of patterns, ignored case, long strings, the layers below
-//! whole patterns, and calls for which memory may run out. It holds tests alone.
+//! Tests of what no line of data that `bench` replays can say: components that are put together by hand, engines that answer what
+//! no engine should, what a list holds, matches that borrow, values without JSON, and calls that need no memory. It has tests alone.
 #![tactic(auto)]
 
 #[cfg(test)]
 mod captures;
 #[cfg(test)]
-mod compiled;
+mod given;
 #[cfg(test)]
-mod components;
-#[cfg(test)]
-mod constructor_strings;
-#[cfg(test)]
-mod engines;
-#[cfg(test)]
-mod facts;
-#[cfg(test)]
-mod indexed_lists;
-#[cfg(test)]
-mod inits;
-#[cfg(test)]
-mod inputs;
-#[cfg(test)]
-mod json;
-#[cfg(test)]
-mod layers;
+mod hand_built;
 #[cfg(test)]
 mod lists;
 #[cfg(test)]
-mod match_inputs;
+mod parts;
 #[cfg(test)]
-mod matches;
+mod plain;
 #[cfg(test)]
-mod odd_engines;
-#[cfg(test)]
-mod patterns;
-#[cfg(test)]
-mod plain_patterns;
+mod results;
 #[cfg(test)]
 mod stubborn;
+#[cfg(test)]
+mod values;

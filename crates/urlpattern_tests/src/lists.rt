@@ -1,15 +1,12 @@
-//! Lists of patterns: what they hold, which pattern is asked, and what runs out of memory.
+//! Lists of patterns: what they hold, which patterns are asked, components put together by hand, and a list that finds no room.
 
-use crate::inits::{init_of, url_input};
+use crate::given::{pattern_of, url_input};
 use crate::stubborn::Wanting;
+use regex::Regex;
 use std::alloc::Global;
 use std::test::Fail;
-use urlpattern::quirks::parse_match_input;
 use urlpattern::regexp::RegExp;
-use urlpattern::{Error, UrlPattern, UrlPatternList, UrlPatternMatchInput, UrlPatternOptions};
-
-/// A URL with a path of two segments.
-const TWO_SEGMENTS: &str = "https://example.com/a/b";
+use urlpattern::{Error, UrlPattern, UrlPatternList};
 
 /// A path that no engine is asked about, and that matches two segments.
 const NAME: &str = "/a/:x";
@@ -17,100 +14,30 @@ const NAME: &str = "/a/:x";
 /// A path that an engine is asked about.
 const ASKS: &str = "/(.+)";
 
-/// A pattern with this path, whose other components take any text.
-fn pattern_of<R: RegExp>(alloc: Global, pathname: &str) -> Result<UrlPattern<R>, Error> {
-    let init = init_of(alloc, &[("pathname", pathname)])?;
-    UrlPattern::parse(alloc, init, UrlPatternOptions::default())
-}
-
 /// The patterns with these paths.
 fn list_of<R: RegExp>(alloc: Global, pathnames: &[&str]) -> Result<UrlPatternList<R>, Error> {
     let mut list = UrlPatternList::new(alloc);
     for pathname in pathnames {
-        let pattern = pattern_of(alloc, pathname)?;
-        if list.push(pattern).is_err() {
-            return Err(Error::OutOfMemory);
-        }
+        add(&mut list, pattern_of(alloc, &[("pathname", *pathname)])?)?;
     }
     Ok(list)
 }
 
-/// The index of the first pattern with one of these paths that matches a URL of two segments.
-fn first_index<R: RegExp>(alloc: Global, pathnames: &[&str]) -> Result<Option<usize>, Error> {
-    let list = list_of::<R>(alloc, pathnames)?;
-    let found = list.first_match(alloc, url_input(alloc, TWO_SEGMENTS)?);
-    drop(list);
-    match found? {
-        Some((index, found)) => {
-            drop(found);
-            Ok(Some(index))
-        }
-        None => Ok(None),
+/// Appends a pattern.
+fn add<R: RegExp>(list: &mut UrlPatternList<R>, pattern: UrlPattern<R>) -> Result<(), Error> {
+    if list.push(pattern).is_err() {
+        return Err(Error::OutOfMemory);
     }
-}
-
-#[test]
-fn an_empty_list_matches_nothing(rt: HostRuntime) -> Result<(), Fail> {
-    let alloc = rt.alloc();
-    let list = <UrlPatternList>::new(alloc);
-    assert_eq!(rt; list.len(), 0);
-    assert!(rt; list.is_empty());
-    assert!(rt; list.get(0).is_none());
-    assert!(rt; list.iter().next().is_none());
-    assert!(rt;
-        list.first_match(alloc, url_input(alloc, TWO_SEGMENTS)?)?
-            .is_none()
-    );
     Ok(())
 }
 
-#[test]
-fn a_list_holds_its_patterns_in_their_order(rt: HostRuntime) -> Result<(), Fail> {
-    let pathnames = [NAME, ASKS, "/a/*"];
-    let list = list_of::<regex::Regex>(rt.alloc(), &pathnames)?;
-    assert_eq!(rt; list.len(), 3);
-    for (pattern, pathname) in list.iter().zip(pathnames) {
-        assert_eq!(rt; pattern.pathname(), pathname);
-    }
-    assert!(rt;
-        list.get(2)
-            .is_some_and(|pattern| pattern.pathname() == "/a/*")
-    );
-    assert!(rt; list.get(3).is_none());
-    assert!(rt; !format!(in rt.alloc(); "{list:?}")?.is_empty());
-    Ok(())
-}
-
-#[test]
-fn patterns_after_the_first_match_are_not_asked(rt: HostRuntime) -> Result<(), Fail> {
-    let found = first_index::<Wanting>(rt.alloc(), &[NAME, ASKS])?;
-    assert_eq!(rt; found, Some(0));
-    Ok(())
-}
-
-#[test]
-fn a_pattern_before_the_first_match_is_asked(rt: HostRuntime) {
-    let found = first_index::<Wanting>(rt.alloc(), &[ASKS, NAME]);
-    assert!(rt; matches!(found, Err(Error::OutOfMemory)));
-}
-
-#[test]
-fn an_init_that_is_refused_matches_nothing(rt: HostRuntime) -> Result<(), Fail> {
-    let alloc = rt.alloc();
-    let list = list_of::<regex::Regex>(alloc, &["*"])?;
-    let input = UrlPatternMatchInput::Init(init_of(alloc, &[("port", "65536")])?);
-    assert!(rt; list.first_match(alloc, input)?.is_none());
-    let input = UrlPatternMatchInput::Init(init_of(alloc, &[("port", "65535")])?);
-    assert!(rt; list.first_match(alloc, input)?.is_some());
-    Ok(())
-}
-
-/// The index of the first pattern of a list that matches the texts of a URL of two segments.
-fn first_index_of_texts(alloc: Global, list: &UrlPatternList) -> Result<Option<usize>, Error> {
-    let Some(texts) = parse_match_input(alloc, url_input(alloc, TWO_SEGMENTS)?)? else {
-        return Ok(None);
-    };
-    let found = list.first_captures_of_input(alloc, &texts);
+/// The index of the first pattern of a list that matches a URL.
+fn first_index<R: RegExp>(
+    alloc: Global,
+    list: &UrlPatternList<R>,
+    url: &str,
+) -> Result<Option<usize>, Error> {
+    let found = list.first_match(alloc, url_input(alloc, url)?);
     let index = match &found {
         Ok(Some((index, _))) => Ok(Some(*index)),
         Ok(None) => Ok(None),
@@ -121,18 +48,67 @@ fn first_index_of_texts(alloc: Global, list: &UrlPatternList) -> Result<Option<u
 }
 
 #[test]
-fn texts_have_the_first_match_of_their_url(rt: HostRuntime) -> Result<(), Fail> {
-    let list = list_of::<regex::Regex>(rt.alloc(), &["/b", ASKS, "/a/*"])?;
-    let index = first_index_of_texts(rt.alloc(), &list);
-    drop(list);
-    assert_eq!(rt; index?, Some(1));
+fn a_list_holds_its_patterns_in_their_order(rt: HostRuntime) -> Result<(), Fail> {
+    let empty = <UrlPatternList>::new(rt.alloc());
+    assert!(rt; empty.is_empty());
+    assert!(rt; empty.get(0).is_none());
+    let pathnames = [NAME, ASKS, "/a/*"];
+    let list = list_of::<Regex>(rt.alloc(), &pathnames)?;
+    assert_eq!(rt; list.len(), 3);
+    for (pattern, pathname) in list.iter().zip(pathnames) {
+        assert_eq!(rt; pattern.pathname(), pathname);
+    }
+    assert!(rt; list.get(3).is_none());
+    assert!(rt; !format!(in rt.alloc(); "{list:?}")?.is_empty());
     Ok(())
 }
 
-/// Holds whichever allocation is refused: `rt try --test --fail-alloc N` refuses one.
+/// The index of the first pattern with one of these paths that matches a URL of two segments. Each engine that is asked finds no
+/// memory.
+fn first_unasked(alloc: Global, pathnames: &[&str]) -> Result<Option<usize>, Error> {
+    let list = list_of::<Wanting>(alloc, pathnames)?;
+    let index = first_index(alloc, &list, "https://example.com/a/b");
+    drop(list);
+    index
+}
+
+#[test]
+fn patterns_are_asked_up_to_the_first_match(rt: HostRuntime) -> Result<(), Fail> {
+    assert_eq!(rt; first_unasked(rt.alloc(), &[NAME, ASKS])?, Some(0));
+    let found = first_unasked(rt.alloc(), &[ASKS, NAME]);
+    assert!(rt; matches!(found, Err(Error::OutOfMemory)));
+    Ok(())
+}
+
+/// Two patterns with components put together by hand: one ignores case, and one has a host that was changed after it was compiled.
+fn list_by_hand(alloc: Global) -> Result<UrlPatternList, Error> {
+    let mut list = UrlPatternList::new(alloc);
+    let mut pattern = pattern_of(alloc, &[("pathname", NAME)])?;
+    pattern.pathname.matcher.ignore_case = true;
+    add(&mut list, pattern)?;
+    let mut pattern = pattern_of(alloc, &[("hostname", "example.com")])?;
+    pattern.hostname.matcher.suffix.push_str(".org")?;
+    add(&mut list, pattern)?;
+    Ok(list)
+}
+
+#[test]
+fn a_component_put_together_by_hand_is_found(rt: HostRuntime) -> Result<(), Fail> {
+    let list = list_by_hand(rt.alloc())?;
+    for (url, expected) in [
+        ("https://example.com/A/b", Some(0)),
+        ("https://example.com.org/b", Some(1)),
+        ("https://example.com/b", None),
+    ] {
+        assert_eq!(rt; first_index(rt.alloc(), &list, url)?, expected, "{url}");
+    }
+    Ok(())
+}
+
+/// Holds whichever request for memory is refused.
 #[test]
 fn a_pattern_that_finds_no_room_comes_back(rt: HostRuntime) {
-    let Ok(pattern) = pattern_of::<regex::Regex>(rt.alloc(), NAME) else {
+    let Ok(pattern) = pattern_of::<Regex>(rt.alloc(), &[("pathname", NAME)]) else {
         return;
     };
     let mut list = UrlPatternList::new(rt.alloc());
@@ -143,11 +119,4 @@ fn a_pattern_that_finds_no_room_comes_back(rt: HostRuntime) {
             assert!(rt; list.is_empty());
         }
     }
-}
-
-/// Holds whichever allocation is refused: `rt try --test --fail-alloc N` refuses one.
-#[test]
-fn a_first_match_without_memory_is_no_other(rt: HostRuntime) {
-    let found = first_index::<regex::Regex>(rt.alloc(), &["/b", ASKS, "/a/*"]);
-    assert!(rt; matches!(found, Ok(Some(1)) | Err(Error::OutOfMemory)));
 }

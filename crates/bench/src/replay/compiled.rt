@@ -1,7 +1,7 @@
 //! Compiles the patterns that were compiled when a case was recorded.
 
 use super::Case;
-use crate::recorded::{Fault, has_text, has_texts, is_set, options_of, text};
+use crate::recorded::{Fault, has_text, has_texts, is_set, optional_text, options_of};
 use serde_json::Value;
 use urlpattern::Error;
 use urlpattern::component::Component;
@@ -11,7 +11,7 @@ use urlpattern::regexp::RegExp;
 /// Whether the compiled component of a pattern over an engine is the recorded one. The pattern's texts stay as they are.
 pub fn is_same<R: RegExp>(case: &Case<'_>) -> Result<bool, Fault> {
     let alloc = case.alloc;
-    let pattern = Some(text(case.question, "pattern")?);
+    let pattern = optional_text(case.question, "pattern");
     let options = options_of(alloc, case.question)?;
     let unchanged = |text: &str| -> Result<String, Error> { Ok(String::from_str(alloc, text)?) };
     let found = Component::<R>::compile(alloc, pattern, unchanged, options);

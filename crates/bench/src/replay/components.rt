@@ -1,7 +1,7 @@
 //! Asks for the parts of a pattern and what is made of them.
 
-use super::Case;
 use super::matchers::is_matcher;
+use super::{Case, succeeded};
 use crate::recorded::{Fault, has_text, has_texts, list, optional_text, options_of, text};
 use serde_json::Value;
 use std::alloc::Global;
@@ -9,6 +9,7 @@ use url::ParseError;
 use urlpattern::Error;
 use urlpattern::component::{
     generate_matcher, generate_pattern_string, generate_regular_expression_and_name_list,
+    normalize_part_list,
 };
 use urlpattern::matcher::Matcher;
 use urlpattern::parser::{Options, Part, PartModifier, PartType, parse_pattern_string};
@@ -65,12 +66,24 @@ pub fn is_same(case: &Case<'_>) -> Result<bool, Fault> {
         &options,
         callback,
     );
-    case.is_answer(found, |parts, recorded| {
-        Ok(matches!(
-            is_component(case.alloc, parts, &options, recorded),
-            Ok(true)
-        ))
-    })
+    case.is_answer(
+        found,
+        |parts, recorded| succeeded(is_component(case.alloc, parts, &options, recorded)),
+    )
+}
+
+/// Whether the normal form of the parts of a pattern is the recorded one. The pattern's texts stay as they are.
+pub fn is_same_normal_form(case: &Case<'_>) -> Result<bool, Fault> {
+    let options = options_of(case.alloc, case.question)?;
+    let found = normal_form(case.alloc, text(case.question, "pattern")?, &options);
+    case.is_answer(found, |parts, recorded| Ok(are_parts(parts, recorded)))
+}
+
+/// The normal form of the parts of a pattern.
+fn normal_form(alloc: Global, pattern: &str, options: &Options) -> Result<Vec<Part>, Error> {
+    let parts = parts_of(alloc, pattern, options, Callback::Keep)?;
+    let unchanged = |text: &str| -> Result<String, Error> { Ok(String::from_str(alloc, text)?) };
+    normalize_part_list(alloc, &parts, options, unchanged)
 }
 
 /// The parts of a pattern.

@@ -1,13 +1,12 @@
-//! Asks for the components of a constructor string.
+//! Asks for the components of constructor strings, and for the inits of strings and of a browser's inits.
 
 use super::{Case, given};
 use crate::recorded::{Fault, optional_text, text};
 use regex::Regex;
 use serde_json::Value;
 use std::alloc::Global;
-use url::Url;
-use urlpattern::quirks::{self, StringOrInit, process_construct_pattern_input};
-use urlpattern::{Error, UrlPatternInit};
+use urlpattern::quirks::process_construct_pattern_input;
+use urlpattern::{ComponentName, Error, UrlPatternInit};
 
 /// The answer to a constructor string: its components, and the number of looks at a token.
 type Counted = (UrlPatternInit, usize);
@@ -18,7 +17,7 @@ pub fn is_same(case: &Case<'_>) -> Result<bool, Fault> {
     let found = constructor(case.alloc, text(case.question, "pattern")?, base);
     case.is_answer(found, |(init, turns), recorded| {
         Ok(
-            is_init(case.alloc, init, recorded)?
+            are_texts(init, recorded)
                 && recorded.get("turns").and_then(Value::as_u64) == Some(*turns as u64),
         )
     })
@@ -27,21 +26,34 @@ pub fn is_same(case: &Case<'_>) -> Result<bool, Fault> {
 /// The answer to a constructor string under a base, or without one.
 fn constructor(alloc: Global, pattern: &str, base: Option<&str>) -> Result<Counted, Error> {
     let base = match base {
-        Some(base) => Some(Url::parse(alloc, base).map_err(Error::Url)?),
+        Some(base) => Some(given::url(alloc, base)?),
         None => None,
     };
     UrlPatternInit::parse_constructor_string_counted::<Regex>(alloc, pattern, base)
 }
 
-/// Whether the components are the recorded ones, null where one is missing. The base URL is passed over.
-fn is_init(alloc: Global, init: &UrlPatternInit, recorded: &Value) -> Result<bool, Fault> {
-    let recorded = given::read(quirks::UrlPatternInit::from_json_value(alloc, recorded))?;
-    let recorded = StringOrInit::Init(recorded);
-    match process_construct_pattern_input(alloc, recorded, None) {
-        Ok(mut recorded) => {
-            recorded.base_url = init.base_url.clone()?;
-            Ok(recorded == *init)
-        }
-        Err(_) => Err(Fault::OutOfMemory),
+/// Whether the init of what is given is the recorded one, with its base URL.
+pub fn is_same_init(case: &Case<'_>) -> Result<bool, Fault> {
+    let input = given::input(case.alloc, case.question)?;
+    let base = optional_text(case.question, "base");
+    let found = process_construct_pattern_input(case.alloc, input, base);
+    case.is_answer(
+        found,
+        |init, recorded| Ok(are_texts(init, recorded) && is_base(init, recorded)),
+    )
+}
+
+/// Whether the components of an init are the recorded ones, null or missing where there is none.
+fn are_texts(init: &UrlPatternInit, recorded: &Value) -> bool {
+    ComponentName::all().iter().all(|&name| init.get(name).as_deref()
+        == optional_text(recorded, name.as_str()))
+}
+
+/// Whether the base URL of an init is the recorded one.
+fn is_base(init: &UrlPatternInit, recorded: &Value) -> bool {
+    match (&init.base_url, optional_text(recorded, "baseURL")) {
+        (Some(url), Some(text)) => url.as_str() == text,
+        (None, None) => true,
+        _ => false,
     }
 }

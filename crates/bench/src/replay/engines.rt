@@ -17,6 +17,7 @@ pub fn is_same<R: RegExp>(case: &Case<'_>) -> Result<bool, Fault> {
         is_set(case.question, "force_eval"),
     );
     let is_same = match (&found, case.answer) {
+        (Err(RegExpError::OutOfMemory), _) => Err(Fault::OutOfMemory),
         (Ok(engine), Answer::Ok(recorded)) => is_engine(case, engine, recorded),
         (Err(RegExpError::Pattern), Answer::Err(text)) => Ok(text == "pattern"),
         _ => Ok(false),
@@ -33,24 +34,24 @@ fn is_engine<R: RegExp>(case: &Case<'_>, engine: &R, recorded: &Value) -> Result
     };
     Ok(
         has_text(recorded, "pattern_string", engine.pattern_string())
-            && are_answers(case.alloc, engine, inputs, matches),
+            && are_answers(case.alloc, engine, inputs, matches)?,
     )
 }
 
 /// Whether an engine answers each text as recorded.
-fn are_answers<R: RegExp>(alloc: Global, engine: &R, inputs: &[Value], recorded: &[Value]) -> bool {
+fn are_answers<R: RegExp>(
+    alloc: Global,
+    engine: &R,
+    inputs: &[Value],
+    recorded: &[Value],
+) -> Result<bool, Fault> {
     for (input, expected) in inputs.iter().zip(recorded) {
-        let Some(input) = input.as_str() else {
-            return false;
-        };
-        let Ok(found) = engine.matches(alloc, input) else {
-            return false;
-        };
-        if !are_captures(&found, expected) {
-            return false;
+        let input = input.as_str().ok_or(Fault::NoCase)?;
+        if !are_captures(&engine.matches(alloc, input)?, expected) {
+            return Ok(false);
         }
     }
-    inputs.len() == recorded.len()
+    Ok(inputs.len() == recorded.len())
 }
 
 /// Whether captures are the recorded ones: null where nothing is matched, and for a group that took no part.

@@ -1,16 +1,41 @@
 //! Builds the lists of patterns that were built when a case was recorded, and asks for the first match of the same inputs.
 
-use super::patterns::{are_same_components, built};
-use super::{Case, given, prints};
+use super::patterns::{are_same_components, built, is_same_error};
+use super::{Case, given};
 use crate::recorded::{Fault, list, optional_text};
 use serde_json::Value;
-use std::alloc::{AllocError, Global};
-use urlpattern::quirks::process_match_input;
+use std::alloc::Global;
+use urlpattern::quirks::{parse_match_input, process_match_input};
 use urlpattern::regexp::RegExp;
-use urlpattern::{Error, UrlPatternList, UrlPatternResult};
+use urlpattern::{
+    Error, UrlPatternCaptures, UrlPatternList, UrlPatternMatchInput, UrlPatternResult,
+};
 
 /// The first match of an input: an index and its match. `None`: there is none.
 type First = Option<(usize, UrlPatternResult)>;
+
+/// A call that finds the first match. The one of a URL finds none of an init.
+#[derive(Clone, Copy)]
+enum Call {
+    /// `first_match`.
+    FirstMatch,
+    /// `first_captures`, and an owned copy of what it returns.
+    FirstCaptures,
+    /// `first_captures_of_input`, and an owned copy of what it returns.
+    FirstCapturesOfInput,
+}
+
+impl Call {
+    /// The call that a question names, or `first_match`.
+    fn of(question: &Value) -> Result<Call, Fault> {
+        Ok(match optional_text(question, "by") {
+            Some("first_match") | None => Call::FirstMatch,
+            Some("first_captures") => Call::FirstCaptures,
+            Some("first_captures_of_input") => Call::FirstCapturesOfInput,
+            Some(_) => return Err(Fault::NoCase),
+        })
+    }
+}
 
 /// Whether the first matches of the inputs in a list over this engine are what was recorded.
 pub fn is_same<R: RegExp>(case: &Case<'_>) -> Result<bool, Fault> {
@@ -42,17 +67,18 @@ fn built_list<R: RegExp>(
     Ok(Ok(patterns))
 }
 
-/// Whether what comes of each input of a question is the recorded result.
+/// Whether what comes of each input of a question is the recorded result, by the call that the question names.
 fn has_same_results<R: RegExp>(
     case: &Case<'_>,
     patterns: &UrlPatternList<R>,
     recorded: &Value,
 ) -> Result<bool, Fault> {
+    let call = Call::of(case.question)?;
     case.are_results(recorded, |input, expected| {
-        let found = first_match(case.alloc, patterns, input)?;
+        let found = first_match(case.alloc, patterns, call, input)?;
         let is_same = is_same_result(case.alloc, &found, expected);
         drop(found);
-        Ok(is_same?)
+        is_same
     })
 }
 
@@ -60,6 +86,7 @@ fn has_same_results<R: RegExp>(
 fn first_match<R: RegExp>(
     alloc: Global,
     patterns: &UrlPatternList<R>,
+    call: Call,
     input: &Value,
 ) -> Result<Result<First, Error>, Fault> {
     let base = optional_text(input, "base");
@@ -67,12 +94,12 @@ fn first_match<R: RegExp>(
     Ok(match process_match_input(alloc, given, base) {
         Ok(Some((input, inputs))) => {
             drop(inputs);
-            patterns.first_match(alloc, input)
+            found_by(alloc, patterns, call, input)
         }
         Ok(None) => Ok(None),
         // Where answers were recorded, each pattern asked about the input anew, and an empty list did not.
         Err(error) => {
-            if patterns.is_empty() {
+            if patterns.is_empty() && !matches!(error, Error::OutOfMemory) {
                 drop(error);
                 return Ok(Ok(None));
             }
@@ -81,12 +108,69 @@ fn first_match<R: RegExp>(
     })
 }
 
+/// The first match of an input by a call.
+fn found_by<R: RegExp>(
+    alloc: Global,
+    patterns: &UrlPatternList<R>,
+    call: Call,
+    input: UrlPatternMatchInput,
+) -> Result<First, Error> {
+    match call {
+        Call::FirstMatch => patterns.first_match(alloc, input),
+        Call::FirstCaptures => {
+            let found = match &input {
+                UrlPatternMatchInput::Url(url) => copied(
+                    alloc,
+                    patterns.first_captures(alloc, url),
+                ),
+                UrlPatternMatchInput::Init(_) => Ok(None),
+            };
+            drop(input);
+            found
+        }
+        Call::FirstCapturesOfInput => found_in_texts(alloc, patterns, input),
+    }
+}
+
+/// The first match of the texts of an input.
+fn found_in_texts<R: RegExp>(
+    alloc: Global,
+    patterns: &UrlPatternList<R>,
+    input: UrlPatternMatchInput,
+) -> Result<First, Error> {
+    let texts = parse_match_input(alloc, input);
+    let found = match &texts {
+        Ok(Some(texts)) => copied(alloc, patterns.first_captures_of_input(alloc, texts)),
+        Ok(None) => Ok(None),
+        Err(_) => Err(Error::OutOfMemory),
+    };
+    drop(texts);
+    found
+}
+
+/// An owned copy of a first match that borrows. The error is that memory ran out.
+fn copied(
+    alloc: Global,
+    found: Result<Option<(usize, UrlPatternCaptures<'_>)>, Error>,
+) -> Result<First, Error> {
+    let copy = match &found {
+        Ok(Some((index, found))) => match found.to_result(alloc) {
+            Ok(result) => Ok(Some((*index, result))),
+            Err(error) => Err(error),
+        },
+        Ok(None) => Ok(None),
+        Err(_) => Err(Error::OutOfMemory),
+    };
+    drop(found);
+    copy
+}
+
 /// Whether the first match is the recorded one: null where there is none.
 fn is_same_result(
     alloc: Global,
     found: &Result<First, Error>,
     recorded: &Value,
-) -> Result<bool, AllocError> {
+) -> Result<bool, Fault> {
     match found {
         Ok(Some((index, found))) => Ok(
             is_index(*index, recorded)
@@ -96,10 +180,7 @@ fn is_same_result(
                 },
         ),
         Ok(None) => Ok(recorded.is_null()),
-        Err(error) => match optional_text(recorded, "err") {
-            Some(text) => prints(alloc, error, text),
-            None => Ok(false),
-        },
+        Err(error) => is_same_error(alloc, error, recorded),
     }
 }
 

@@ -4,6 +4,7 @@ use crate::recorded::{Fault, field, optional_text};
 use serde_json::Value;
 use std::alloc::Global;
 use std::borrow::CowStr;
+use url::{ParseError, Url};
 use urlpattern::quirks::{StringOrInit, UrlPatternInit};
 use urlpattern::{Error, UrlPatternOptions};
 
@@ -30,5 +31,14 @@ pub fn read<T: Drop>(found: Result<Option<T>, Error>) -> Result<T, Fault> {
         Ok(Some(value)) => Ok(value),
         Ok(None) => Err(Fault::NoCase),
         Err(_) => Err(Fault::OutOfMemory),
+    }
+}
+
+/// The URL of a text.
+pub fn url(alloc: Global, text: &str) -> Result<Url, Error> {
+    match Url::parse(alloc, text) {
+        Ok(url) => Ok(url),
+        Err(ParseError::OutOfMemory) => Err(Error::OutOfMemory),
+        Err(error) => Err(Error::Url(error)),
     }
 }

@@ -1,8 +1,8 @@
 //! Asks matchers what they were asked when a case was recorded.
 
-use super::Case;
 use super::components::{Callback, parts_of};
 use super::engines::are_captures;
+use super::{Case, succeeded};
 use crate::recorded::{
     Answer, Fault, character, field, has_text, is_set, list, optional_text, options_of, text,
 };
@@ -37,7 +37,7 @@ fn is_matcher_of<R: RegExp>(
         return Ok(false);
     };
     let is_refused = is_set(recorded, "refused") && refuses_unasked::<R>();
-    Ok(are_answers(case.alloc, matcher, inputs, matches) && keeps_error(matcher) == is_refused)
+    Ok(are_answers(case.alloc, matcher, inputs, matches)? && keeps_error(matcher) == is_refused)
 }
 
 /// The matcher of a pattern.
@@ -70,7 +70,7 @@ pub fn is_same_by_hand(case: &Case<'_>) -> Result<bool, Fault> {
     let matcher = hand_matcher(case.alloc, case.question)?;
     let is_same = are_answers(case.alloc, &matcher, inputs, recorded);
     drop(matcher);
-    Ok(is_same)
+    is_same
 }
 
 /// The matcher of the fields of a question.
@@ -104,27 +104,26 @@ fn are_answers<R: RegExp>(
     matcher: &Matcher<R>,
     inputs: &[Value],
     recorded: &[Value],
-) -> bool {
+) -> Result<bool, Fault> {
     for (input, expected) in inputs.iter().zip(recorded) {
-        let Some(input) = input.as_str() else {
-            return false;
-        };
-        if !answers(alloc, matcher, input, expected) {
-            return false;
+        let input = input.as_str().ok_or(Fault::NoCase)?;
+        if !succeeded(answers(alloc, matcher, input, expected))? {
+            return Ok(false);
         }
     }
-    inputs.len() == recorded.len()
+    Ok(inputs.len() == recorded.len())
 }
 
 /// Whether a matcher answers a text as recorded.
-fn answers<R: RegExp>(alloc: Global, matcher: &Matcher<R>, input: &str, expected: &Value) -> bool {
-    let (Ok(found), Ok(is_accepted)) = (
-        matcher.matches(alloc, input),
-        matcher.accepts(alloc, input),
-    ) else {
-        return false;
-    };
-    is_accepted == !expected.is_null() && are_captures(&found, expected)
+fn answers<R: RegExp>(
+    alloc: Global,
+    matcher: &Matcher<R>,
+    input: &str,
+    expected: &Value,
+) -> Result<bool, Error> {
+    let is_accepted = matcher.accepts(alloc, input)?;
+    let found = matcher.matches(alloc, input)?;
+    Ok(is_accepted == !expected.is_null() && are_captures(&found, expected))
 }
 
 /// Whether a matcher is that of a recorded component.

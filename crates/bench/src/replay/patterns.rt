@@ -1,10 +1,11 @@
 //! Builds the patterns that were built when a case was recorded, and matches what was matched.
 
+use super::calls::{self, Call};
 use super::{Case, given, prints};
-use crate::recorded::{Fault, has_text, is_set, optional_text};
+use crate::recorded::{Fault, has_text, is_set, optional_text, text};
 use serde_json::Value;
-use std::alloc::{AllocError, Global};
-use urlpattern::quirks::{StringOrInit, process_construct_pattern_input, process_match_input};
+use std::alloc::Global;
+use urlpattern::quirks::{StringOrInit, parse_pattern_as_lib, process_construct_pattern_input};
 use urlpattern::regexp::RegExp;
 use urlpattern::{
     ComponentName, Error, UrlPattern, UrlPatternComponentResult, UrlPatternOptions,
@@ -13,13 +14,40 @@ use urlpattern::{
 
 /// Whether a pattern over this engine, and what it answers to the inputs, are what was recorded.
 pub fn is_same<R: RegExp>(case: &Case<'_>) -> Result<bool, Fault> {
-    let options = given::options(case.alloc, case.question)?;
-    let input = given::input(case.alloc, case.question)?;
-    let base = optional_text(case.question, "base");
-    let found = built::<R>(case.alloc, input, base, options);
+    let found = built_through::<R>(case)?;
     case.is_answer(found, |pattern, recorded| {
         Ok(has_same_texts(pattern, recorded) && has_same_results(case, pattern, recorded)?)
     })
+}
+
+/// The pattern of a question, by the call that it names.
+fn built_through<R: RegExp>(case: &Case<'_>) -> Result<Result<UrlPattern<R>, Error>, Fault> {
+    let (alloc, question) = (case.alloc, case.question);
+    let options = given::options(alloc, question)?;
+    let base = optional_text(question, "base");
+    match optional_text(question, "through") {
+        Some("from_constructor_string") => {
+            let pattern = text(question, "string")?;
+            Ok(UrlPattern::from_constructor_string(alloc, pattern, base, options))
+        }
+        Some("parse_pattern_as_lib") => {
+            let input = given::input(alloc, question)?;
+            Ok(built_as_lib(alloc, input, base, options))
+        }
+        Some(_) => Err(Fault::NoCase),
+        None => Ok(built(alloc, given::input(alloc, question)?, base, options)),
+    }
+}
+
+/// The pattern of what is given, by the call of `quirks`.
+fn built_as_lib<R: RegExp>(
+    alloc: Global,
+    input: StringOrInit<'_>,
+    base: Option<&str>,
+    options: UrlPatternOptions,
+) -> Result<UrlPattern<R>, Error> {
+    let init = process_construct_pattern_input(alloc, input, base)?;
+    parse_pattern_as_lib(alloc, init, options)
 }
 
 /// The pattern of what is given.
@@ -47,7 +75,7 @@ fn text_of<R: RegExp>(pattern: &UrlPattern<R>, name: ComponentName) -> &str {
     &pattern.get(name).pattern_string
 }
 
-/// Whether what comes of each input of a question is the recorded result.
+/// Whether what comes of each input of a question is the recorded result, by the call that the question names.
 fn has_same_results<R: RegExp>(
     case: &Case<'_>,
     pattern: &UrlPattern<R>,
@@ -56,24 +84,21 @@ fn has_same_results<R: RegExp>(
     if case.question.get("inputs").is_none() {
         return Ok(true);
     }
-    case.are_results(recorded, |input, expected| {
-        let base = optional_text(input, "base");
-        let found = matched(case.alloc, pattern, given::input(case.alloc, input)?, base);
-        Ok(is_same_result(case.alloc, found, expected)?)
+    let call = Call::of(case.question)?;
+    case.are_results(recorded, |input, expected| match call {
+        Call::Once => {
+            let found = calls::matched_once::<R>(case, input)?;
+            is_same_result(case.alloc, found, expected)
+        }
+        Call::Test | Call::TestUrl => {
+            let found = calls::is_matched(case.alloc, pattern, call, input)?;
+            is_same_test(case.alloc, found, expected)
+        }
+        _ => {
+            let found = calls::matched(case.alloc, pattern, call, input)?;
+            is_same_result(case.alloc, found, expected)
+        }
     })
-}
-
-/// The match of an input. `None`: there is none.
-fn matched<R: RegExp>(
-    alloc: Global,
-    pattern: &UrlPattern<R>,
-    input: StringOrInit<'_>,
-    base: Option<&str>,
-) -> Result<Option<UrlPatternResult>, Error> {
-    match process_match_input(alloc, input, base)? {
-        Some((input, _)) => pattern.exec(alloc, input),
-        None => Ok(None),
-    }
 }
 
 /// Whether the outcome of a match is the recorded one: null where there is none.
@@ -81,14 +106,36 @@ fn is_same_result(
     alloc: Global,
     found: Result<Option<UrlPatternResult>, Error>,
     recorded: &Value,
-) -> Result<bool, AllocError> {
-    match found {
-        Ok(Some(found)) => Ok(are_same_components(&found, recorded)),
+) -> Result<bool, Fault> {
+    let is_same = match &found {
+        Ok(Some(found)) => Ok(are_same_components(found, recorded)),
         Ok(None) => Ok(recorded.is_null()),
-        Err(error) => match optional_text(recorded, "err") {
-            Some(text) => prints(alloc, &error, text),
-            None => Ok(false),
-        },
+        Err(error) => is_same_error(alloc, error, recorded),
+    };
+    drop(found);
+    is_same
+}
+
+/// Whether the outcome of a test is the recorded one: true or false.
+fn is_same_test(
+    alloc: Global,
+    found: Result<bool, Error>,
+    recorded: &Value,
+) -> Result<bool, Fault> {
+    match found {
+        Ok(found) => Ok(recorded.as_bool() == Some(found)),
+        Err(error) => is_same_error(alloc, &error, recorded),
+    }
+}
+
+/// Whether an error is the recorded one. Only memory that ran out is a fault.
+pub fn is_same_error(alloc: Global, error: &Error, recorded: &Value) -> Result<bool, Fault> {
+    if matches!(error, Error::OutOfMemory) {
+        return Err(Fault::OutOfMemory);
+    }
+    match optional_text(recorded, "err") {
+        Some(text) => Ok(prints(alloc, error, text)?),
+        None => Ok(false),
     }
 }
 

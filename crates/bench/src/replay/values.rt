@@ -75,22 +75,34 @@ fn is_same_text(case: &Case<'_>, found: Result<String, Error>) -> Result<bool, F
 
 /// Whether the texts of a match input are the recorded ones: null where there is none.
 pub fn is_same_match_input(case: &Case<'_>) -> Result<bool, Fault> {
+    let base = optional_text(case.question, "base");
     let input = given::input(case.alloc, case.question)?;
-    let found = match_input(case.alloc, input, optional_text(case.question, "base"));
+    let given = given::input(case.alloc, case.question)?;
+    let found = match_input(case.alloc, input, base, &given);
+    drop(given);
     case.is_answer(found, |input, recorded| match input {
         Some(input) => is_match_input(case.alloc, input, recorded),
         None => Ok(recorded.is_null()),
     })
 }
 
-/// The texts of a match input. `None`: there are none.
+/// The texts of a match input. `None`: there are none, or what is handed back is not what was given.
 fn match_input(
     alloc: Global,
     input: StringOrInit<'_>,
     base: Option<&str>,
+    given: &StringOrInit<'_>,
 ) -> Result<Option<MatchInput>, Error> {
     match process_match_input(alloc, input, base)? {
-        Some((input, _)) => parse_match_input(alloc, input),
+        Some((input, (kept, kept_base))) => {
+            let is_kept = kept == *given && kept_base.as_deref() == base;
+            drop(kept);
+            if !is_kept {
+                drop(input);
+                return Ok(None);
+            }
+            parse_match_input(alloc, input)
+        }
         None => Ok(None),
     }
 }

@@ -5,7 +5,7 @@ mod hostile;
 mod lists;
 mod rounds;
 
-use crate::recorded::{is_set, optional_text};
+use crate::calls::{is_set, optional_text};
 use regex::Regex;
 use rounds::{Timed, least};
 use serde_json::Value;

@@ -3,7 +3,7 @@
 use super::making::Maker;
 use super::patterns::is_result;
 use super::{Outcome, given};
-use crate::replay::patterns::built;
+use crate::calls::built;
 use regex::Regex;
 use std::alloc::Global;
 use std::borrow::CowStr;

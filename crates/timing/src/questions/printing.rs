@@ -3,7 +3,7 @@
 use super::given::{Given, syntax};
 use super::making::Maker;
 use super::{Outcome, same};
-use crate::replay::components::{Callback, parts_of};
+use crate::calls::parts_of;
 use std::alloc::{AllocError, Global};
 use urlpattern::Error;
 use urlpattern::component::generate_pattern_string;
@@ -13,7 +13,7 @@ use urlpattern::parser::{Part, PartModifier, PartType};
 pub fn ask(maker: &mut Maker) -> Result<Outcome, Error> {
     let syntax = syntax(maker);
     let given = Given::new(maker, syntax)?;
-    match parts_of(maker.alloc, &given.pattern, &given.options, Callback::Keep) {
+    match parts_of(maker.alloc, &given.pattern, &given.options) {
         Ok(parts) => Ok(same(reads_back(maker.alloc, &given, &parts)?)),
         Err(error) => Outcome::of_error(&error),
     }
@@ -22,7 +22,7 @@ pub fn ask(maker: &mut Maker) -> Result<Outcome, Error> {
 /// Whether printed parts read as these parts, with neighbouring plain texts joined, and print as they were.
 fn reads_back(alloc: Global, given: &Given, parts: &[Part]) -> Result<bool, Error> {
     let printed = generate_pattern_string(alloc, parts, &given.options)?;
-    let joined = match parts_of(alloc, &printed, &given.options, Callback::Keep) {
+    let joined = match parts_of(alloc, &printed, &given.options) {
         Ok(joined) => joined,
         Err(Error::OutOfMemory) => return Err(Error::OutOfMemory),
         Err(_) => return Ok(false),

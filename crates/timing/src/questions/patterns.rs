@@ -2,7 +2,7 @@
 
 use super::making::Maker;
 use super::{Outcome, given};
-use crate::replay::patterns::built;
+use crate::calls::built;
 use regex::Regex;
 use std::alloc::Global;
 use std::borrow::CowStr;

@@ -3,7 +3,7 @@
 use super::Outcome;
 use super::given::{self, Given};
 use super::making::Maker;
-use crate::replay::components::{Callback, parts_of};
+use crate::calls::parts_of;
 use regex::Regex;
 use std::alloc::Global;
 use urlpattern::component::generate_regular_expression_and_name_list;
@@ -51,7 +51,7 @@ fn regular_expression(maker: &mut Maker, given: &Given) -> Result<Option<String>
     if maker.is_one_in(4) {
         return Ok(Some(maker.text(&PIECES, 9)?));
     }
-    match parts_of(maker.alloc, &given.pattern, &given.options, Callback::Keep) {
+    match parts_of(maker.alloc, &given.pattern, &given.options) {
         Ok(parts) => {
             let (regexp, _) = generate_regular_expression_and_name_list(
                 maker.alloc,

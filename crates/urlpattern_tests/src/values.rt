@@ -1,6 +1,7 @@
-//! Copies, comparisons, defaults and written forms of the plain types.
+//! Copies, comparisons, defaults and written forms of small values, and values that are set on one URL.
 
 use std::test::Fail;
+use urlpattern_canonical::canonicalize_and_process::{Canonicalizer, ProcessType};
 use urlpattern_core::RegexSyntax;
 use urlpattern_core::parser::{Options, PartModifier, PartType};
 use urlpattern_core::tokenizer::{TokenType, TokenizePolicy, tokenize};
@@ -39,7 +40,10 @@ fn different_variants_are_not_equal(rt: HostRuntime) {
     assert_ne!(rt; RegexSyntax::Rust, RegexSyntax::EcmaScript);
     assert_ne!(rt; PartType::SegmentWildcard, PartType::FullWildcard);
     assert_ne!(rt; PartModifier::ZeroOrMore, PartModifier::OneOrMore);
-    assert_eq!(rt; TokenizePolicy::Strict, TokenizePolicy::Strict);
+    assert_ne!(rt; TokenizePolicy::Strict, TokenizePolicy::Lenient);
+    assert_eq!(rt; TokenizePolicy::Lenient, TokenizePolicy::Lenient);
+    assert_ne!(rt; ProcessType::Pattern, ProcessType::Url);
+    assert_eq!(rt; ProcessType::Url, ProcessType::Url);
 }
 
 #[test]
@@ -56,13 +60,9 @@ fn a_modifier_prints_its_sign(rt: HostRuntime) -> Result<(), Fail> {
 }
 
 #[test]
-fn the_syntax_of_rust_is_the_default(rt: HostRuntime) {
-    assert_eq!(rt; RegexSyntax::default(), RegexSyntax::Rust);
-}
-
-#[test]
 fn a_syntax_is_a_name_in_json(rt: HostRuntime) -> Result<(), Fail> {
     let alloc = rt.alloc();
+    assert_eq!(rt; RegexSyntax::default(), RegexSyntax::Rust);
     for (syntax, json) in [
         (RegexSyntax::Rust, "\"Rust\""),
         (RegexSyntax::EcmaScript, "\"EcmaScript\""),
@@ -70,5 +70,13 @@ fn a_syntax_is_a_name_in_json(rt: HostRuntime) -> Result<(), Fail> {
         assert_eq!(rt; serde_json::to_string(alloc, &syntax)?.as_str(), json);
         assert_eq!(rt; serde_json::from_str::<RegexSyntax>(alloc, json)?, syntax);
     }
+    Ok(())
+}
+
+#[test]
+fn values_are_set_on_one_url(rt: HostRuntime) -> Result<(), Fail> {
+    let canonicalizer = Canonicalizer::shared(rt.alloc())?;
+    assert_eq!(rt; canonicalizer.pathname("a/../b")?.as_str(), "/b");
+    assert_eq!(rt; canonicalizer.search("a b")?.as_str(), "a%20b");
     Ok(())
 }

@@ -3,7 +3,7 @@
 use super::given::{self, Given};
 use super::making::Maker;
 use super::{Outcome, same};
-use crate::replay::components::{Callback, parts_of};
+use crate::calls::parts_of;
 use regex::Regex;
 use std::alloc::Global;
 use urlpattern::component::generate_matcher;
@@ -18,7 +18,7 @@ const TEXTS: usize = 4;
 /// Asks the matchers of a pattern about texts.
 pub fn ask(maker: &mut Maker) -> Result<Outcome, Error> {
     let given = Given::new(maker, RegexSyntax::Rust)?;
-    match parts_of(maker.alloc, &given.pattern, &given.options, Callback::Keep) {
+    match parts_of(maker.alloc, &given.pattern, &given.options) {
         Ok(parts) => Ok(same(asked(maker, &given, &parts)?)),
         Err(error) => Outcome::of_error(&error),
     }

@@ -2,7 +2,7 @@
 //! end, in nanoseconds for each call.
 
 use super::rounds::{Timed, least};
-use crate::replay::components::{Callback, parts_of};
+use crate::calls::parts_of;
 use regex::Regex;
 use std::alloc::Global;
 use std::io;
@@ -115,7 +115,7 @@ fn question<'t, E: RegExp>(
     text: &'t str,
 ) -> Result<Asked<'t, E>, Error> {
     let options = Options::pathname(alloc)?;
-    let parts = parts_of(alloc, pattern, &options, Callback::Keep)?;
+    let parts = parts_of(alloc, pattern, &options)?;
     let (regexp, _) = generate_regular_expression_and_name_list(alloc, &parts, &options)?;
     match E::parse(alloc, &regexp, "u", true) {
         Ok(engine) => Ok(Asked { engine, text }),

@@ -1,0 +1,68 @@
+//! Times the library's calls (`time FILE ..`), draws times that standard input gives (`chart`), and asks questions that are made
+//! by a seed, on which calls have to agree (`questions SEED COUNT`).
+#![tactic(auto)]
+
+mod calls;
+mod chart;
+mod questions;
+mod timing;
+
+use std::process::ExitCode;
+use std::{env, io};
+
+/// The word that asks for times.
+const TIME: &str = "time";
+
+/// The word that asks for a picture of times.
+const CHART: &str = "chart";
+
+/// The word that asks for questions.
+const QUESTIONS: &str = "questions";
+
+/// The status of a run in which nothing differs.
+const SAME: u8 = 0;
+
+/// The status of a run in which calls do not agree.
+const DIFFERENT: u8 = 1;
+
+/// The status of a run that could not read or write, or was given other words or a line of figures that is none.
+const FAILED: u8 = 2;
+
+fn main(rt: HostRuntime) -> ExitCode {
+    ExitCode::from(match run(&rt) {
+        Ok(true) => SAME,
+        Ok(false) => DIFFERENT,
+        Err(_) => FAILED,
+    })
+}
+
+/// Does what the words say. Returns whether nothing differs.
+fn run(rt: &HostRuntime) -> io::Result<bool> {
+    let mut words = env::args(rt)?;
+    // The first word is the program's own name.
+    let _ = words.next();
+    let words = words.collect::<Vec<String>>(rt.alloc())?;
+    match words.as_slice() {
+        [command, paths @ ..] if command.as_str() == TIME => {
+            timing::run(rt, paths, &mut rt.stdout())?;
+            Ok(true)
+        }
+        [command] if command.as_str() == CHART => {
+            chart::run(rt, &mut rt.stdout())?;
+            Ok(true)
+        }
+        [command, seed, count] if command.as_str() == QUESTIONS => {
+            let (seed, count) = (number(seed)?, number(count)?);
+            questions::run(rt.alloc(), seed, count, &mut rt.stdout())
+        }
+        _ => Err(io::Error::from(io::ErrorKind::InvalidInput)),
+    }
+}
+
+/// The number that a word is.
+fn number(word: &str) -> io::Result<u64> {
+    match word.parse::<u64>() {
+        Ok(number) => Ok(number),
+        Err(_) => Err(io::Error::from(io::ErrorKind::InvalidInput)),
+    }
+}

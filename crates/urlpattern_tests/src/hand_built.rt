@@ -1,0 +1,181 @@
+//! Patterns with components put together by hand, and engines of regular expressions that answer what no engine should, or refuse
+//! each text.
+
+use crate::given::{pattern_of, url_input};
+use crate::stubborn::{Captures, KeptText, Refusing, Starved, Stubborn, Wanting};
+use regex::Regex;
+use std::alloc::Global;
+use std::process::Abort;
+use std::test::Fail;
+use urlpattern::component::{Component, generate_matcher};
+use urlpattern::matcher::{InnerMatcher, Matcher};
+use urlpattern::parser::{Options, parse_pattern_string};
+use urlpattern::regexp::RegExp;
+use urlpattern::{Error, UrlPattern, UrlPatternComponentResult};
+
+/// A URL with a path.
+const URL: &str = "https://example.com/path";
+
+/// What groups are expected to capture, by name.
+type Groups<'a> = &'a [(&'a str, Option<&'a str>)];
+
+/// Copies of names.
+fn names_of(alloc: Global, names: &[&str]) -> Result<Vec<String>, Error> {
+    let mut copies = Vec::new(alloc);
+    for name in names {
+        copies.push(String::from_str(alloc, name)?)?;
+    }
+    Ok(copies)
+}
+
+/// A component of which an engine, or an error in place of one, is asked about the whole text.
+fn by_hand<R: RegExp>(
+    alloc: Global,
+    group_name_list: Vec<String>,
+    regexp: Result<R, Error>,
+) -> Component<R> {
+    Component {
+        pattern_string: String::new(alloc),
+        regexp: Err(Error::RegExp(())),
+        group_name_list,
+        matcher: Matcher {
+            prefix: String::new(alloc),
+            suffix: String::new(alloc),
+            inner: InnerMatcher::RegExp { regexp },
+            ignore_case: false,
+        },
+        has_regexp_group: true,
+    }
+}
+
+/// A pattern with this component for the path, whose other components take any text.
+fn with_pathname<R: RegExp>(alloc: Global, pathname: Component<R>) -> Result<UrlPattern<R>, Error> {
+    let mut pattern = pattern_of(alloc, &[])?;
+    pattern.pathname = pathname;
+    Ok(pattern)
+}
+
+/// Compares the groups of a component by name: there are no others.
+fn expect_captured(rt: &impl Abort, found: &UrlPatternComponentResult, groups: Groups<'_>) {
+    assert_eq!(rt; found.groups.len(), groups.len());
+    for (name, expected) in groups {
+        match found.groups.get(name) {
+            Some(captured) => assert_eq!(rt; captured.as_deref(), *expected, "of {name:?}"),
+            None => panic!(rt; "no group {name:?}"),
+        }
+    }
+}
+
+/// Compares the groups of a path: what an engine captures of it, beside these names.
+fn expect_groups(
+    rt: &impl Abort,
+    alloc: Global,
+    names: &[&str],
+    captures: Captures,
+    groups: Groups<'_>,
+) -> Result<(), Error> {
+    let engine: KeptText = Stubborn {
+        text: String::new(alloc),
+        captures: Some(captures),
+    };
+    let pathname = by_hand(alloc, names_of(alloc, names)?, Ok(engine));
+    let pattern = with_pathname(alloc, pathname)?;
+    let found = pattern.exec(alloc, url_input(alloc, URL)?);
+    drop(pattern);
+    match &found {
+        Ok(Some(found)) => expect_captured(rt, &found.pathname, groups),
+        Ok(None) => panic!(rt; "no match"),
+        Err(_) => return Err(Error::OutOfMemory),
+    }
+    drop(found);
+    Ok(())
+}
+
+#[test]
+fn captures_that_are_too_many_too_few_or_foreign(rt: HostRuntime) -> Result<(), Fail> {
+    let rows: [(&[&str], Captures, Groups<'_>); 5] = [
+        (
+            &["x"],
+            &[Some("1"), Some("2"), Some("3")],
+            &[("x", Some("1"))],
+        ),
+        (&["x"], &[], &[]),
+        (&["x", "y"], &[Some("1")], &[("x", Some("1"))]),
+        (&["a", "a"], &[Some("1"), Some("2")], &[("a", Some("2"))]),
+        (
+            &["x", "y"],
+            &[None, Some("no slice of it")],
+            &[("x", None), ("y", Some("no slice of it"))],
+        ),
+    ];
+    for (names, captures, groups) in rows {
+        expect_groups(&rt, rt.alloc(), names, captures, groups)?;
+    }
+    Ok(())
+}
+
+#[test]
+fn an_error_in_place_of_an_engine_matches_nothing(rt: HostRuntime) -> Result<(), Fail> {
+    let alloc = rt.alloc();
+    let pathname: Component<Regex> = by_hand(alloc, Vec::new(alloc), Err(Error::RegExp(())));
+    let pattern = with_pathname(alloc, pathname)?;
+    let is_matched = pattern.test(alloc, url_input(alloc, URL)?);
+    drop(pattern);
+    assert!(rt; !is_matched?);
+    Ok(())
+}
+
+/// A matcher that asks an engine about what is before `b`.
+fn matcher_of<R: RegExp>(alloc: Global) -> Result<Matcher<R>, Error> {
+    let options = Options::default(alloc);
+    let unchanged = |text: &str| -> Result<String, Error> { Ok(String::from_str(alloc, text)?) };
+    let parts = parse_pattern_string(alloc, "{a}?b", &options, unchanged)?;
+    generate_matcher(alloc, &parts, &options, "u")
+}
+
+/// Whether the pattern of an empty init is refused because its regular expressions are.
+fn is_pattern_refused<R: RegExp>(alloc: Global) -> Result<bool, Error> {
+    let found = pattern_of::<R>(alloc, &[]);
+    let is_refused = match &found {
+        Err(Error::OutOfMemory) => Err(Error::OutOfMemory),
+        Err(Error::RegExp(())) => Ok(true),
+        _ => Ok(false),
+    };
+    drop(found);
+    is_refused
+}
+
+#[test]
+fn what_an_engine_refuses_is_kept_and_matches_nothing(rt: HostRuntime) -> Result<(), Fail> {
+    let alloc = rt.alloc();
+    let matcher = matcher_of::<Refusing>(alloc)?;
+    assert!(rt;
+        matches!(
+            &matcher.inner,
+            InnerMatcher::RegExp {
+                regexp: Err(Error::RegExp(()))
+            }
+        )
+    );
+    assert!(rt; matcher.matches(alloc, "b")?.is_none());
+    assert!(rt; !matcher.accepts(alloc, "ab")?);
+    assert!(rt; is_pattern_refused::<Refusing>(alloc)?);
+    Ok(())
+}
+
+#[test]
+fn an_engine_without_memory_is_reported_as_such(rt: HostRuntime) -> Result<(), Fail> {
+    let alloc = rt.alloc();
+    assert!(rt; matches!(matcher_of::<Starved>(alloc), Err(Error::OutOfMemory)));
+    assert!(rt;
+        matches!(
+            is_pattern_refused::<Starved>(alloc),
+            Err(Error::OutOfMemory)
+        )
+    );
+    let matcher = matcher_of::<Wanting>(alloc)?;
+    assert!(rt; matches!(matcher.matches(alloc, "b"), Err(Error::OutOfMemory)));
+    assert!(rt; matches!(matcher.accepts(alloc, "b"), Err(Error::OutOfMemory)));
+    assert!(rt; matcher.matches(alloc, "a")?.is_none());
+    Ok(())
+}
