@@ -296,7 +296,7 @@ pub colon_found : (tokens : List TokenView) (first depth second : ℕ) → IsClo
     → depth ≡ depth_before tokens 0 0 first → EndsAt Protocol tokens 0 depth second → (second ≡ first) × EndsAt Protocol tokens 0 0 second
 colon_found tokens first depth second closed ends colon reached again =
     let level = depth_at_end Protocol tokens 0 0 first ends (sign_not_end (codes ":") tokens first colon) in
-    let from_start : EndsAt Protocol tokens 0 0 second = rw (reached, level) passes_at again in
+    let from_start : EndsAt Protocol tokens 0 0 second = rw (reached, level) at again in
     (colon_again tokens first second closed ends colon from_start, from_start)
 
 -- ---- the whole string
