@@ -65,11 +65,6 @@ module _ {E : Type 0} (answer : E → List ℕ → Option Captures) (patterns : 
       → IsFirstMatchOf answer patterns texts (Some (index, match)) → IsFirstMatchOf answer patterns texts (Some (index, result))
   first-same texts index match result step ((pattern, is_there, is_match), others) = ((pattern, is_there, step pattern is_match), others)
 
-  pub first-same_input : (input : UrlPatternMatchInput) (index : ℕ) (match result : ComponentName → ResultView)
-      → ((pattern : PatternView E) → IsMatch answer pattern input match → IsMatch answer pattern input result)
-      → IsFirstMatch answer patterns input (Some (index, match)) → IsFirstMatch answer patterns input (Some (index, result))
-  first-same_input input index match result step ((pattern, is_there, is_match), others) = ((pattern, is_there, step pattern is_match), others)
-
 -- ---- from texts to inputs
 
 module _ {E : Type 0} (answer : E → List ℕ → Option Captures) (patterns : List (PatternView E)) (input : UrlPatternMatchInput) where

@@ -8,7 +8,7 @@ use Rattle.urlpattern_syntax.specs.declared.eight.ComponentName.{ComponentName}
 use Rattle.urlpattern_init.specs.declared.init.UrlPatternMatchInput.{UrlPatternMatchInput}
 use Rattle.urlpattern_syntax.specs.declared.eight.Eight.{Eight}
 use Rattle.urlpattern_syntax.proofs.EightLemmas.{by_name}
-use Rattle.urlpattern.specs.Calls.{AreLooks, AskWithCause, borrowed_texts, results_of}
+use Rattle.urlpattern.specs.Calls.{AreLooks, AskWithCause, borrowed_texts}
 use Rattle.urlpattern.specs.Match.{AreMatched, AsksAnEngine, HasMatch, HasNoMatch, IsMatch, IsMatchOf, IsRefused, IsSameResult, ResultView, group_in}
 use Rattle.urlpattern.specs.MatchInput.{input_texts}
 use Rattle.urlpattern.specs.Patterns.{PatternView}
@@ -69,20 +69,6 @@ match-same answer pattern texts match result same is_match = record {
   };
 }
 
-pub input-same : {E : Type 0} (answer : E → List ℕ → Option Captures) (pattern : PatternView E) (input : UrlPatternMatchInput) (match result : ComponentName → ResultView) →
-    ((name : ComponentName) → IsSameResult (result name) (match name)) → IsMatch answer pattern input match → IsMatch answer pattern input result
-input-same answer pattern input match result same (texts, e, is_match) = (texts, e, match-same answer pattern texts match result same is_match)
-
 -- texts that are lent, and the text of one component
 pub text-at : (texts : Eight (Bor (List ℕ))) (name : ComponentName) → at (borrowed_texts texts) name ≡ chars (at texts name).now
 text-at texts = by_name (λ name. at (borrowed_texts texts) name ≡ chars (at texts name).now) refl refl refl refl refl refl refl refl
-
--- texts beside copies of the groups of a match of them are its results
-pub match-of_groups : {E S : Type 0} (answer : E → List ℕ → Option Captures) (pattern : PatternView E) (texts : Texts) (match : ComponentName → ResultView) (groups : Eight (HashMap (String Global) (Option (String Global)) S)) →
-    ((name : ComponentName) (group : List ℕ) → group_in (at groups name) group ≡ (match name).group group) →
-    IsMatchOf answer pattern texts match → IsMatchOf answer pattern texts (results_of texts groups)
-match-of_groups answer pattern texts match groups copied is_match = record {
-  captures = is_match.captures;
-  are_answers = is_match.are_answers;
-  are_results = λ name. record { has_input = refl; has_groups = λ group. copied name group ∙ (is_match.are_results name).has_groups group };
-}

@@ -1,13 +1,10 @@
 -- A match that is borrowed from the pattern and from what it matches, as a result.
-use Rattle.std.specs.Prelude.{ℕ, List, map, zip, Option, Result, String, IfOk}
-use Rattle.std.specs.HashMap.{HashMap}
+use Rattle.std.specs.Prelude.{ℕ, List, map, zip, Option}
 use Rattle.std.specs.Str.{chars}
-use Rattle.std.specs.declared.alloc.Global.{Global}
 use Rattle.urlpattern_syntax.specs.declared.eight.ComponentName.{ComponentName}
 use Rattle.urlpattern.specs.declared.pattern.captures.UrlPatternCaptures.{UrlPatternCaptures}
-use Rattle.urlpattern.specs.Calls.{AreGroupsOf, captures_of}
+use Rattle.urlpattern.specs.Calls.{captures_of}
 use Rattle.urlpattern.specs.Match.{ResultView, group_of}
-use Rattle.urlpattern_syntax.specs.declared.error.OutOfMemory.{OutOfMemory}
 use Rattle.urlpattern_syntax.specs.Text.{text_of}
 use Rattle.urlpattern_syntax.specs.Eight.{at}
 
@@ -25,7 +22,3 @@ pattern_captures_view found component = record {
   input = chars (at found.texts component).now;
   group = group_of (names_view found component) (captures_of (at found.captures component));
 }
-
--- the groups of a component are copied to a map, unless memory ran out
-abbrev pub IsGroupsAnswer : {S : Type 0} → (found : UrlPatternCaptures) → ComponentName → Result (HashMap (String Global) (Option (String Global)) S) OutOfMemory → Type 0
-IsGroupsAnswer found component result = IfOk result (λ groups. AreGroupsOf groups (pattern_captures_view found component))

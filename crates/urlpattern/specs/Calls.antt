@@ -45,10 +45,6 @@ IsTextCopied text copied = IfOk copied (λ copy. text_of copy ≡ text)
 abbrev pub AreGroups : {S : Type 0} → (names : List (List ℕ)) → Captures → HashMap (String Global) (Option (String Global)) S → Type 0
 AreGroups names captures groups = (name : List ℕ) → group_in groups name ≡ group_of names captures name
 
--- the map has the groups of the result
-abbrev pub AreGroupsOf : {S : Type 0} → HashMap (String Global) (Option (String Global)) S → ResultView → Type 0
-AreGroupsOf groups result = (name : List ℕ) → group_in groups name ≡ result.group name
-
 -- the map has no groups
 abbrev pub HasNoGroups : {S : Type 0} → HashMap (String Global) (Option (String Global)) S → Type 0
 HasNoGroups groups = (name : List ℕ) → group_in groups name ≡ None
@@ -57,18 +53,10 @@ HasNoGroups groups = (name : List ℕ) → group_in groups name ≡ None
 abbrev pub IsWithoutGroups : UrlPatternResult → Type 0
 IsWithoutGroups result = (component : ComponentName) (name : List ℕ) → (result_view result component).group name ≡ None
 
--- texts beside groups, as results
-abbrev pub results_of : {S : Type 0} → Texts → Eight (HashMap (String Global) (Option (String Global)) S) → ComponentName → ResultView
-results_of texts groups component = record { input = at texts component; group = group_in (at groups component) }
-
 -- the bytes that a group captured, if it is there and took part
 abbrev pub captured_bytes : Option (Option (String Global)) → Option (List ℕ)
 captured_bytes (Some (Some text)) = Some (string_bytes text)
 captured_bytes found = None
-
--- an index with these groups beside texts, as the results of a pattern
-abbrev pub first_groups_view : {S : Type 0} → Texts → Option (ℕ × Eight (HashMap (String Global) (Option (String Global)) S)) → Option (ℕ × (ComponentName → ResultView))
-first_groups_view texts found = option_map (λ first. (first.0, results_of texts first.1)) found
 
 -- the looks at the texts result in what the matchers of the pattern answer
 abbrev pub AreLooks : {E : Type 0} → (answer : E → List ℕ → Option Captures) → PatternView E → Texts → Eight (Look E) → Type 0

@@ -8,17 +8,14 @@ ghost use Rattle.std.specs.Prelude.{◌≡◌, ◌==◌, ◌++◌, [], ◌∷◌
 ghost use Rattle.std.specs.Slice.Iter.{iter_rest};
 ghost use Rattle.urlpattern_init.specs.Inheritance.{texts_of_url};
 ghost use Rattle.urlpattern_init.specs.declared.init.UrlPatternMatchInput.TheVariants as inputs;
-ghost use Rattle.urlpattern.specs.Calls.{borrowed_texts, first_groups_view};
+ghost use Rattle.urlpattern.specs.Calls.{borrowed_texts};
 ghost use Rattle.urlpattern.specs.FirstMatch.{first_captures_view, first_view, patterns_view, IsFirstMatch, IsFirstMatchOf, AsksBeforeMatch};
 ghost use Rattle.urlpattern.specs.MatchInput.{texts_view};
 ghost use Rattle.urlpattern.specs.declared.pattern.UrlPattern.{UrlPattern};
 ghost use Rattle.urlpattern_syntax.specs.Errors.{OnlyOutOfMemory};
 
 use crate::match_input::parse_match_input;
-use crate::pattern::{
-    Groups, UrlPattern, UrlPatternCaptures, UrlPatternResult, empty_result, input_texts, result_of,
-    url_texts,
-};
+use crate::pattern::{UrlPattern, UrlPatternCaptures, UrlPatternResult, input_texts, url_texts};
 use std::alloc::Global;
 use std::marker::Model;
 use std::slice;
@@ -126,9 +123,9 @@ impl<R: RegExp> UrlPatternList<R> {
         ensures memory { OnlyOutOfMemory result }
     {
         match input {
-            UrlPatternMatchInput::Url(url) => self.first_of_url(alloc, &url),
+            UrlPatternMatchInput::Url(url) => self.first_result(alloc, url_texts(&url)),
             input => match parse_match_input(alloc, input)? {
-                Some(texts) => self.first_of_texts(alloc, texts),
+                Some(texts) => self.first_result(alloc, input_texts(&texts)),
                 None => Ok(None),
             },
         }
@@ -168,61 +165,19 @@ impl<R: RegExp> UrlPatternList<R> {
         Ok(self.first(alloc, input_texts(input))?)
     }
 
-    /// The first match of a URL, whose texts are copied.
-    fn first_of_url(
-        &self,
-        alloc: Global,
-        url: &Url,
-    ) -> Result<Option<(usize, UrlPatternResult)>, Error>
-        ensures first { IfOk result (λ found. IsFirstMatch R.answer (patterns_view self.now) (inputs.Url url.now) (first_view found)) }
-        ensures memory { OnlyOutOfMemory result }
-    {
-        match self.first_captures(alloc, url)? {
-            Some((index, captures)) => {
-                let mut result = empty_result(alloc);
-                let copied = captures.copy_to(alloc, &mut result);
-                drop(captures);
-                copied?;
-                Ok(Some((index, result)))
-            }
-            None => Ok(None),
-        }
-    }
-
-    /// The first match of texts that are there, which are moved.
-    fn first_of_texts(
-        &self,
-        alloc: Global,
-        texts: MatchInput,
-    ) -> Result<Option<(usize, UrlPatternResult)>, Error>
-        ensures first { IfOk result (λ found. IsFirstMatchOf R.answer (patterns_view self.now) (texts_view texts) (first_view found)) }
-        ensures memory { OnlyOutOfMemory result }
-    {
-        match self.first_groups(alloc, &texts)? {
-            Some((index, groups)) => Ok(Some((index, result_of(texts, groups)))),
-            None => Ok(None),
-        }
-    }
-
-    /// The index of the first pattern that matches an input that has its eight texts, and copies of what its groups capture, by
-    /// name. `None`: no pattern matches it.
+    /// The first match of eight texts, copied. `None`: no pattern matches them.
     ///
     /// The error is that memory ran out.
-    fn first_groups(
+    fn first_result(
         &self,
         alloc: Global,
-        input: &MatchInput,
-    ) -> Result<Option<(usize, Eight<Groups>)>, Error>
-        ensures first { IfOk result (λ found. IsFirstMatchOf R.answer (patterns_view self.now) (texts_view input.now)
-            (first_groups_view (texts_view input.now) found)) }
+        texts: Eight<&str>,
+    ) -> Result<Option<(usize, UrlPatternResult)>, Error>
+        ensures first { IfOk result (λ found. IsFirstMatchOf R.answer (patterns_view self.now) (borrowed_texts texts.entry) (first_view found)) }
         ensures memory { OnlyOutOfMemory result }
     {
-        match self.first_captures_of_input(alloc, input)? {
-            Some((index, captures)) => {
-                let groups = captures.to_groups(alloc);
-                drop(captures);
-                Ok(Some((index, groups?)))
-            }
+        match self.first(alloc, texts)? {
+            Some((index, captures)) => Ok(Some((index, captures.to_result(alloc)?))),
             None => Ok(None),
         }
     }

@@ -17,9 +17,7 @@ mod texts;
 
 pub use captures::{UrlPatternCaptures, UrlPatternGroups};
 pub(crate) use from_string::{init_of_text, parse_base, parse_url};
-pub(crate) use groups::Groups;
 pub use result::{UrlPatternComponentResult, UrlPatternResult};
-pub(crate) use result::{empty_result, result_of};
 pub(crate) use texts::{copied, input_texts, url_texts};
 use urlpattern_core::component::Component;
 use urlpattern_core::regexp::RegExp;

@@ -6,14 +6,13 @@ ghost use Rattle.std.specs.Str.{chars};
 ghost use Rattle.urlpattern_core.specs.CaptureTexts.{capture_view};
 ghost use Rattle.urlpattern_syntax.specs.declared.eight.ComponentName.{ComponentName as Name};
 ghost use Rattle.urlpattern.specs.declared.pattern.captures.Missed.TheVariants as all_missed;
-ghost use Rattle.urlpattern.specs.BorrowedMatches.{IsGroupsAnswer, pattern_captures_view, groups_view};
-ghost use Rattle.urlpattern.specs.Calls.{AreGroupsOf, IsCapturedOf, captures_of, texts_of, HasNoGroups, IsWithoutGroups};
+ghost use Rattle.urlpattern.specs.BorrowedMatches.{pattern_captures_view, groups_view};
+ghost use Rattle.urlpattern.specs.Calls.{IsCapturedOf, captures_of, texts_of, HasNoGroups, IsWithoutGroups};
 ghost use Rattle.urlpattern.specs.Match.{component_result_view, group_of, result_view, IsSameResult};
 ghost use Rattle.urlpattern_syntax.specs.Text.{text_of};
 ghost use Rattle.urlpattern_syntax.specs.Errors.{OnlyOutOfMemory};
 ghost use Rattle.urlpattern_syntax.specs.Eight.{at};
 
-use super::groups::{Groups, groups_of};
 use super::result::{UrlPatternComponentResult, UrlPatternResult, empty_result};
 use std::alloc::Global;
 use std::iter::Zip;
@@ -83,6 +82,7 @@ impl<'a> UrlPatternCaptures<'a> {
     /// The match with copies of its texts, names and captures, as `UrlPattern::exec` answers it.
     ///
     /// The error is that memory ran out.
+    #[inline(always)]
     pub fn to_result(&self, alloc: Global) -> Result<UrlPatternResult, Error>
         ensures same { IfOk result (λ copy. (name : Name) → IsSameResult (result_view copy name) (pattern_captures_view self.now name)) }
         ensures memory { OnlyOutOfMemory result }
@@ -93,11 +93,7 @@ impl<'a> UrlPatternCaptures<'a> {
     }
 
     /// Copies the texts, names and captures to a result that has no groups yet.
-    pub(crate) fn copy_to(
-        &self,
-        alloc: Global,
-        copy: &mut UrlPatternResult,
-    ) -> Result<(), OutOfMemory>
+    fn copy_to(&self, alloc: Global, copy: &mut UrlPatternResult) -> Result<(), OutOfMemory>
         requires { IsWithoutGroups copy.old }
         ensures same { IfOk result (λ _. (name : Name) → IsSameResult (result_view copy.new name) (pattern_captures_view self.now name)) }
     {
@@ -124,27 +120,6 @@ impl<'a> UrlPatternCaptures<'a> {
         copy.fill(
             alloc,
             self.input(name),
-            self.names.get(name),
-            self.captures.get(name).as_slice(),
-        )
-    }
-
-    /// Copies of what the groups capture, by name.
-    pub(crate) fn to_groups(&self, alloc: Global) -> Result<Eight<Groups>, OutOfMemory>
-        ensures groups { IfOk result (λ groups. (name : Name) → AreGroupsOf (at groups name) (pattern_captures_view self.now name)) }
-    {
-        let groups = |name: ComponentName| -> Result<Groups, OutOfMemory>
-            ensures { IsGroupsAnswer self.entry.now name result }
-        { self.groups_of(alloc, name) };
-        Eight::try_from_fn(groups)
-    }
-
-    /// Copies of what the groups of a component capture, by name.
-    fn groups_of(&self, alloc: Global, name: ComponentName) -> Result<Groups, OutOfMemory>
-        ensures groups { IfOk result (λ groups. AreGroupsOf groups (pattern_captures_view self.now name)) }
-    {
-        groups_of(
-            alloc,
             self.names.get(name),
             self.captures.get(name).as_slice(),
         )

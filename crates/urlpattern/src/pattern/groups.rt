@@ -11,19 +11,6 @@ use urlpattern_core::error::OutOfMemory;
 /// What groups capture, by their names. A group that took no part has `None`.
 pub(crate) type Groups = HashMap<String, Option<String>>;
 
-/// What the groups with these names capture, which stand in the same order. Of equal names the last counts.
-pub(super) fn groups_of(
-    alloc: Global,
-    names: &[String],
-    captures: &[Option<&str>],
-) -> Result<Groups, OutOfMemory>
-    ensures groups { IfOk result (AreGroups (map (λ name. text_of name) names.now) (map capture_view captures.now)) }
-{
-    let mut groups = HashMap::new(alloc);
-    add_groups(alloc, &mut groups, names, captures)?;
-    Ok(groups)
-}
-
 /// Adds what the groups with these names capture, which stand in the same order. Of equal names the last counts.
 pub(super) fn add_groups(
     alloc: Global,

@@ -8,7 +8,7 @@ ghost use Rattle.urlpattern_init.specs.Inheritance.{texts_of_url};
 ghost use Rattle.urlpattern.specs.BorrowedMatches.{pattern_captures_view};
 ghost use Rattle.urlpattern.specs.Match.{AreAnswers, AsksAnEngine, FindsInInput, FindsInTexts, IsRefused, TestsInput, TestsTexts, result_view};
 ghost use Rattle.urlpattern.specs.MatchInput.{texts_view};
-ghost use Rattle.urlpattern.specs.Calls.{AreCaptured, AreLooks, AskWithCause, HasCaptures, all_captures, borrowed_texts, results_of};
+ghost use Rattle.urlpattern.specs.Calls.{AreCaptured, AreLooks, AskWithCause, HasCaptures, all_captures, borrowed_texts};
 ghost use Rattle.urlpattern.specs.Patterns.{components_of, pattern_view};
 ghost use Rattle.urlpattern_syntax.specs.declared.eight.ComponentName.{ComponentName as Name};
 ghost use Rattle.urlpattern_syntax.specs.Errors.{OnlyOutOfMemory};
@@ -16,8 +16,7 @@ ghost use Rattle.urlpattern_syntax.specs.Eight.{at};
 
 use super::UrlPattern;
 use super::captures::{GroupCaptures, Missed, UrlPatternCaptures};
-use super::groups::Groups;
-use super::result::{UrlPatternResult, empty_result, result_of};
+use super::result::UrlPatternResult;
 use super::texts::{input_texts, url_texts};
 use crate::match_input::parse_match_input;
 use std::alloc::Global;
@@ -67,7 +66,7 @@ impl<R: RegExp> UrlPattern<R> {
         match input {
             UrlPatternMatchInput::Url(url) => self.exec_url(alloc, &url),
             input => match parse_match_input(alloc, input)? {
-                Some(texts) => self.exec_texts(alloc, texts),
+                Some(texts) => self.exec_texts(alloc, input_texts(&texts)),
                 None => Ok(None),
             },
         }
@@ -91,16 +90,7 @@ impl<R: RegExp> UrlPattern<R> {
         ensures matched { IfOk result (FindsInInput result_view R.answer (pattern_view self.now) (inputs.Url url.now)) }
         ensures memory { OnlyOutOfMemory result }
     {
-        match self.captures(alloc, url)? {
-            Some(captures) => {
-                let mut result = empty_result(alloc);
-                let copied = captures.copy_to(alloc, &mut result);
-                drop(captures);
-                copied?;
-                Ok(Some(result))
-            }
-            None => Ok(None),
-        }
+        self.exec_texts(alloc, url_texts(url))
     }
 
     /// The match of a URL, borrowed from the pattern and the URL. `None`: the pattern does not match the URL.
@@ -138,38 +128,20 @@ impl<R: RegExp> UrlPattern<R> {
         Ok(self.captures_of_texts(alloc, input_texts(input))?)
     }
 
-    /// The match of texts that are there, which are moved.
+    /// The match of these texts, copied. `None`: one of them is not matched.
+    ///
+    /// The error is that memory ran out.
+    #[inline(always)]
     fn exec_texts(
         &self,
         alloc: Global,
-        texts: MatchInput,
+        texts: Eight<&str>,
     ) -> Result<Option<UrlPatternResult>, Error>
-        ensures matched { IfOk result (FindsInTexts result_view R.answer (pattern_view self.now) (texts_view texts)) }
+        ensures matched { IfOk result (FindsInTexts result_view R.answer (pattern_view self.now) (borrowed_texts texts.entry)) }
         ensures memory { OnlyOutOfMemory result }
     {
-        match self.matched_groups(alloc, &texts)? {
-            Some(groups) => Ok(Some(result_of(texts, groups))),
-            None => Ok(None),
-        }
-    }
-
-    /// Copies of what the groups capture of an input that has its eight texts, by name. `None`: the pattern does not match them.
-    ///
-    /// The error is that memory ran out.
-    fn matched_groups(
-        &self,
-        alloc: Global,
-        input: &MatchInput,
-    ) -> Result<Option<Eight<Groups>>, Error>
-        ensures matched { IfOk result (FindsInTexts (results_of (texts_view input.now)) R.answer (pattern_view self.now) (texts_view input.now)) }
-        ensures memory { OnlyOutOfMemory result }
-    {
-        match self.captures_of_input(alloc, input)? {
-            Some(captures) => {
-                let groups = captures.to_groups(alloc);
-                drop(captures);
-                Ok(Some(groups?))
-            }
+        match self.captures_of_texts(alloc, texts)? {
+            Some(captures) => Ok(Some(captures.to_result(alloc)?)),
             None => Ok(None),
         }
     }

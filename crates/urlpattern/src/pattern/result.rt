@@ -2,15 +2,12 @@
 ghost use Rattle.std.specs.Cmp.Lexicographic.{slice_cmp};
 ghost use Rattle.std.specs.HashMap.{IsUnique, get_by_text, keys};
 ghost use Rattle.std.specs.Ordering.{nat_cmp};
-ghost use Rattle.std.specs.Prelude.{◌≡◌, ℕ, List, None, map, option_copied, string_bytes, string_eq, unwrap_or, IfOk, IsPermutation, IsSorted};
+ghost use Rattle.std.specs.Prelude.{◌≡◌, None, map, option_copied, string_bytes, string_eq, unwrap_or, IfOk, IsPermutation, IsSorted};
 ghost use Rattle.std.specs.Str.{chars};
 ghost use Rattle.urlpattern_core.specs.CaptureTexts.{capture_view};
-ghost use Rattle.urlpattern_syntax.specs.declared.eight.ComponentName.{ComponentName as Name};
 ghost use Rattle.urlpattern.specs.Calls.{captured_bytes, lent_bytes, texts_of, AreGroups, HasNoGroups, IsWithoutGroups};
-ghost use Rattle.urlpattern.specs.Match.{component_result_view, group_in, result_view};
-ghost use Rattle.urlpattern.specs.MatchInput.{texts_view};
+ghost use Rattle.urlpattern.specs.Match.{component_result_view};
 ghost use Rattle.urlpattern_syntax.specs.Text.{text_of};
-ghost use Rattle.urlpattern_syntax.specs.Eight.{at};
 
 use super::groups::{Groups, add_groups};
 use std::alloc::{AllocError, Global};
@@ -43,23 +40,6 @@ pub(crate) fn empty_result(alloc: Global) -> UrlPatternResult
         ensures { HasNoGroups result.groups }
     { UrlPatternComponentResult::empty(alloc) };
     Eight::from_fn(empty)
-}
-
-/// The results of these texts with these groups.
-pub(crate) fn result_of(texts: MatchInput, groups: Eight<Groups>) -> UrlPatternResult
-    ensures inputs { (name : Name) → (result_view result name).input ≡ at (texts_view texts) name }
-    ensures groups { (name : Name) (group : List ℕ) → (result_view result name).group group ≡ group_in (at groups name) group }
-{
-    Eight {
-        protocol: UrlPatternComponentResult::new(texts.protocol, groups.protocol),
-        username: UrlPatternComponentResult::new(texts.username, groups.username),
-        password: UrlPatternComponentResult::new(texts.password, groups.password),
-        hostname: UrlPatternComponentResult::new(texts.hostname, groups.hostname),
-        port: UrlPatternComponentResult::new(texts.port, groups.port),
-        pathname: UrlPatternComponentResult::new(texts.pathname, groups.pathname),
-        search: UrlPatternComponentResult::new(texts.search, groups.search),
-        hash: UrlPatternComponentResult::new(texts.hash, groups.hash),
-    }
 }
 
 impl UrlPatternComponentResult {
@@ -105,14 +85,6 @@ impl UrlPatternComponentResult {
     {
         self.input = String::from_str(alloc, text)?;
         add_groups(alloc, &mut self.groups, names, captures)
-    }
-
-    /// The result of this text with these groups.
-    fn new(input: String, groups: Groups) -> Self
-        ensures input { (component_result_view result).input ≡ text_of input }
-        ensures groups { (group : List ℕ) → (component_result_view result).group group ≡ group_in groups group }
-    {
-        Self { input, groups }
     }
 }
 

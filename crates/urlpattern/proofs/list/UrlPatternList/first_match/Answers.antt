@@ -1,11 +1,23 @@
+use Rattle.std.proofs.Common.{ap, sym, ◌∙◌}
+use Rattle.std.specs.Prelude.{◌≡◌, Ok}
 use Rattle.urlpattern.proofs.ListLemmas.{first-of_texts}
+use Rattle.urlpattern.specs.Calls.{borrowed_texts}
 use Rattle.urlpattern.specs.FirstMatch.{patterns_view}
 use Rattle.urlpattern.specs.Match.{result_view, UrlPatternResult}
-use Rattle.urlpattern.specs.MatchInput.{texts_view}
+use Rattle.urlpattern.specs.MatchInput.{input_texts}
 use Rattle.urlpattern.proofs.list.UrlPatternList.first_match.Goals as goal
+
+pub returns-in-Url-clause-first : goal.returns-in-Url-clause-first
+returns-in-Url-clause-first g c =
+    let texts = borrowed_texts c.url_texts.result in
+    let are_texts : input_texts c.args.input ≡ Ok texts = rw c.in-Url.is (ap Ok (sym c.url_texts.ensures)) in
+    first-of_texts g.R.RegExp.answer (patterns_view c.args.self.now) c.args.input (λ (result : UrlPatternResult). result_view result) texts c.first_result.result
+    are_texts c.first_result.ensures.first
 
 pub returns-in-Some-clause-first : goal.returns-in-Some-clause-first
 returns-in-Some-clause-first g c =
+    let texts = borrowed_texts c.input_texts.result in
     let found = rw c.in-Some.is at c.in_ok-texts-in_default.ensures.found in
-    first-of_texts g.R.RegExp.answer (patterns_view c.args.self.now) c.args.input (λ (result : UrlPatternResult). result_view result) (texts_view c.in-Some.texts) c.first_of_texts.result
-    found c.first_of_texts.ensures.first
+    let are_texts : input_texts c.args.input ≡ Ok texts = found ∙ ap Ok (sym c.input_texts.ensures) in
+    first-of_texts g.R.RegExp.answer (patterns_view c.args.self.now) c.args.input (λ (result : UrlPatternResult). result_view result) texts c.first_result-in-Some.result
+    are_texts c.first_result-in-Some.ensures.first

@@ -1,11 +1,11 @@
 use Rattle.urlpattern.proofs.MatchSteps.{match-same}
-use Rattle.urlpattern.specs.Calls.{results_of}
+use Rattle.urlpattern.specs.BorrowedMatches.{pattern_captures_view}
+use Rattle.urlpattern.specs.Calls.{borrowed_texts}
 use Rattle.urlpattern.specs.Match.{result_view}
-use Rattle.urlpattern.specs.MatchInput.{texts_view}
 use Rattle.urlpattern.specs.Patterns.{pattern_view}
 use Rattle.urlpattern.proofs.pattern.UrlPattern.exec_texts.Goals as goal
 
-pub returns-in-Some-clause-matched : goal.returns-in-Some-clause-matched
-returns-in-Some-clause-matched g c =
-    match-same g.R.RegExp.answer (pattern_view c.args.self.now) (texts_view c.args.texts) (results_of (texts_view c.args.texts) c.in-Some.groups) (result_view c.result_of.result)
-    (λ name. (c.result_of.ensures.inputs name, c.result_of.ensures.groups name)) (rw c.in-Some.is at c.in_ok-groups.ensures.matched)
+pub returns-in_ok-to_result-in-Some-clause-matched : goal.returns-in_ok-to_result-in-Some-clause-matched
+returns-in_ok-to_result-in-Some-clause-matched g c =
+    match-same g.R.RegExp.answer (pattern_view c.args.self.now) (borrowed_texts c.args.texts) (pattern_captures_view c.in-Some.captures) (result_view c.in_ok-to_result-in-Some.field-0)
+    c.in_ok-to_result-in-Some.ensures.same (rw c.in-Some.is at c.in_ok-captures.ensures.matched)

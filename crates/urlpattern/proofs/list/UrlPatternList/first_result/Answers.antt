@@ -1,0 +1,16 @@
+use Rattle.urlpattern.proofs.ListLemmas.{first-same}
+use Rattle.urlpattern.proofs.MatchSteps.{match-same}
+use Rattle.urlpattern.specs.BorrowedMatches.{pattern_captures_view}
+use Rattle.urlpattern.specs.Calls.{borrowed_texts}
+use Rattle.urlpattern.specs.FirstMatch.{patterns_view}
+use Rattle.urlpattern.specs.Match.{result_view}
+use Rattle.urlpattern.proofs.list.UrlPatternList.first_result.Goals as goal
+
+pub returns-in_ok-to_result-in-Some-clause-first : goal.returns-in_ok-to_result-in-Some-clause-first
+returns-in_ok-to_result-in-Some-clause-first g c =
+    let answer = g.R.RegExp.answer in
+    let texts = borrowed_texts c.args.texts in
+    let match = pattern_captures_view c.in-Some.captures in
+    let result = result_view c.in_ok-to_result-in-Some.field-0 in
+    first-same answer (patterns_view c.args.self.now) texts c.in-Some.index match result
+    (λ pattern is_match. match-same answer pattern texts match result c.in_ok-to_result-in-Some.ensures.same is_match) (rw c.in-Some.is at c.in_ok-index.ensures.first)
