@@ -1,10 +1,18 @@
--- When parts mean the same.
-use Rattle.std.specs.Prelude.{◌↔◌, ℕ, List}
-use Rattle.urlpattern.specs.Options.{OptionsView}
-use Rattle.urlpattern.specs.PartMeaning.{Captures, PartsMean}
-use Rattle.urlpattern.specs.Parts.{PartView}
+-- What parts are that were printed and read again.
+use Rattle.std.specs.Prelude.{◌≡◌, List}
+use Rattle.std.specs.declared.alloc.Global.{Global}
+use Rattle.std.specs.declared.vec.Vec.{Vec}
+use Rattle.urlpattern.specs.Options.{options_view}
+use Rattle.urlpattern.specs.PartMeaning.{MeanTheSame}
+use Rattle.urlpattern.specs.Parts.{parts_view}
+use Rattle.urlpattern.specs.Printing.{joined}
+use Rattle.urlpattern_syntax.specs.declared.parser.Options.{Options}
+use Rattle.urlpattern_syntax.specs.declared.parser.Part.{Part}
 
--- both mean the same texts with the same captures
-abbrev pub MeanTheSame : OptionsView → (parts others : List PartView) → Type 0
-MeanTheSame options parts others =
-    (text : List ℕ) (captures : Captures) → PartsMean options parts text captures ↔ PartsMean options others text captures
+-- they are the parts, neighbouring plain fixed texts joined
+abbrev pub AreJoined : List Part → (again : Vec Part Global) → Type 0
+AreJoined parts again = parts_view again.items ≡ joined (parts_view parts)
+
+-- they mean the same as the parts
+abbrev pub KeepMeaning : Options → List Part → (again : Vec Part Global) → Type 0
+KeepMeaning options parts again = MeanTheSame (options_view options) (parts_view again.items) (parts_view parts)

@@ -1,11 +1,10 @@
 //! A pattern that is printed and read again, as one that is kept in a file.
 
-ghost use Rattle.example.specs.Same.{MeanTheSame};
+ghost use Rattle.example.specs.Same.{AreJoined, KeepMeaning};
 ghost use Rattle.std.specs.Prelude.{◌≡◌, string_bytes, IfOk, MatchResult};
 ghost use Rattle.urlpattern.specs.Errors.{OnlyOutOfMemory};
 ghost use Rattle.urlpattern.specs.Options.{options_view};
 ghost use Rattle.urlpattern.specs.Parts.{parts_view};
-ghost use Rattle.urlpattern.specs.Printing.{joined};
 ghost use Rattle.urlpattern.specs.RoundTrip.{IsPrintable};
 
 use std::alloc::Global;
@@ -26,9 +25,8 @@ pub fn printed_and_read(
     parts: &[Part],
     options: &Options,
 ) -> Result<Vec<Part>, Error>
-    ensures same { IsPrintable (options_view options.now) (parts_view parts.now) → IfOk result (λ again. parts_view again.items ≡ joined (parts_view parts.now)) }
-    ensures meaning { IsPrintable (options_view options.now) (parts_view parts.now) →
-        IfOk result (λ again. MeanTheSame (options_view options.now) (parts_view again.items) (parts_view parts.now)) }
+    ensures same { IsPrintable (options_view options.now) (parts_view parts.now) → IfOk result (AreJoined parts.now) }
+    ensures meaning { IsPrintable (options_view options.now) (parts_view parts.now) → IfOk result (KeepMeaning options.now parts.now) }
     ensures memory { IsPrintable (options_view options.now) (parts_view parts.now) → OnlyOutOfMemory result }
 {
     joining_keeps_meaning();

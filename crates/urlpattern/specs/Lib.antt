@@ -14,6 +14,8 @@ pub use Rattle.urlpattern_init.specs.Splitting
 pub use Rattle.urlpattern_meaning.specs.Dialect
 pub use Rattle.urlpattern_meaning.specs.FirstAnswers
 pub use Rattle.urlpattern_meaning.specs.Laws
+pub use Rattle.urlpattern_meaning.specs.LawsOfMeaning
+pub use Rattle.urlpattern_meaning.specs.LawsOfReading
 pub use Rattle.urlpattern_meaning.specs.Matching
 pub use Rattle.urlpattern_meaning.specs.PartMeaning
 pub use Rattle.urlpattern_meaning.specs.Printing

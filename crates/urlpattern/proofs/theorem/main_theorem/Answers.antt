@@ -14,8 +14,8 @@ use Rattle.urlpattern.proofs.MatchLaws.{match_from-test, match-not_both, test_fr
 use Rattle.urlpattern.proofs.theorem.main_theorem.Goals as goal
 
 pub returns-clause-one_reading : goal.returns-clause-one_reading
-returns-clause-one_reading g c = λ text options answers.
-    (outcome_listed text options answers, λ outcome other. outcome_one text options (listed answers) outcome other)
+returns-clause-one_reading g c = λ answers.
+    (λ text options. outcome_listed text options answers, λ text options. outcome_one text options (listed answers))
 
 pub returns-clause-one_tree : goal.returns-clause-one_tree
 returns-clause-one_tree g c = λ options parts plain. let (tree, only, means) = one_meaning options parts plain in (tree, only)
@@ -31,7 +31,7 @@ returns-clause-matches g c = λ options flags parts matcher made plain kept foll
     matcher_means g.R.RegExp.answer (IsEngineOf g.R.RegExp false flags) options parts matcher text answered made plain kept lacks scalars follows answers
 
 pub returns-clause-answers : goal.returns-clause-answers
-returns-clause-answers g c = λ options flags parts matcher text result made plain kept firsts lacks scalars answers.
+returns-clause-answers g c = λ options flags parts matcher made plain kept firsts text result lacks scalars answers.
     matcher_first g.R.RegExp.answer (IsEngineOf g.R.RegExp false flags) options parts matcher text result made plain kept lacks scalars firsts answers
 
 pub returns-clause-one_answer : goal.returns-clause-one_answer
