@@ -152,7 +152,7 @@ impl InnerMatcher {
     /// The error is that memory ran out.
     pub fn to_json_value(&self, alloc: Global) -> Result<Value, Error>
         ensures tree { IfOk result (λ tree. view tree ≡ inner_tree (plain_inner_view self.now)) }
-        ensures memory { IfErr result (λ error. error ≡ errors.OutOfMemory) }
+        ensures memory { OnlyOutOfMemory result }
     {
         let mut members = Map::new(alloc);
         self.put_members(&mut members, alloc)?;
@@ -189,7 +189,7 @@ impl InnerMatcher {
     /// The error is that memory ran out.
     pub fn from_json_value(alloc: Global, value: &Value) -> Result<Option<Self>, Error>
         ensures read { IfOk result (λ found. option_map plain_inner_view found ≡ inner_read (view value.now)) }
-        ensures memory { IfErr result (λ error. error ≡ errors.OutOfMemory) }
+        ensures memory { OnlyOutOfMemory result }
     {
         read_or_none(Self::read(alloc, value))
     }
