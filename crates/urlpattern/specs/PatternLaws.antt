@@ -5,7 +5,7 @@ use Rattle.urlpattern_core.specs.declared.regexp.RegExp.{Ghosts as Engine}
 use Rattle.urlpattern_core.specs.Regexes.{regex_engine}
 use Rattle.urlpattern_init.specs.declared.init.UrlPatternMatchInput.{UrlPatternMatchInput}
 use Rattle.urlpattern_meaning.specs.PartMeaning.{Captures}
-use Rattle.urlpattern_plain.specs.declared.options.UrlPatternOptions.{UrlPatternOptions}
+use Rattle.urlpattern_inputs.specs.declared.options.UrlPatternOptions.{UrlPatternOptions}
 use Rattle.urlpattern_syntax.specs.declared.eight.ComponentName.{ComponentName}
 use Rattle.urlpattern_syntax.specs.Eight.{Texts, Values, at}
 use Rattle.urlpattern.specs.Compiled.{AreCompiled, Manner, manner_of}
