@@ -16,10 +16,9 @@ use Rattle.std.specs.declared.alloc.Global.{Global}
 use Rattle.urlpat_commands.proofs.AnswerLemmas.{bytes_of_text}
 use Rattle.urlpat_commands.specs.Answers.{AreNames, group_bytes, line_of}
 use Rattle.urlpat_commands.specs.Report.{group_line}
-use Rattle.urlpattern.specs.CaptureTexts.{capture_view}
 use Rattle.urlpattern.specs.BorrowedMatches.{pattern_captures_view, groups_view}
 use Rattle.urlpattern.specs.Match.{ResultView}
-use Rattle.urlpattern.specs.Text.{text_of}
+use Rattle.urlpattern.specs.Text.{option_text, text_of}
 use Rattle.urlpattern_syntax.specs.declared.eight.ComponentName.{ComponentName}
 use Rattle.urlpattern.specs.declared.pattern.captures.UrlPatternCaptures.{UrlPatternCaptures}
 
@@ -30,7 +29,7 @@ texts names = map (λ name. text_of name.now) names
 
 -- the names of the groups that are still to come
 abbrev pub names_left : List (String Global) → List (Option (Bor (List ℕ))) → List (List ℕ)
-names_left names captures = keys_of (zip (map (λ name. text_of name) names) (map capture_view captures))
+names_left names captures = keys_of (zip (map (λ name. text_of name) names) (map option_text captures))
 
 texts-push : (names : List (Bor (String Global))) (name : Bor (String Global)) → texts (names ++ name ∷ []) ≡ texts names ++ text_of name.now ∷ []
 texts-push [] name = refl

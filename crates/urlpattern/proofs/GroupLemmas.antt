@@ -13,10 +13,9 @@ use Rattle.std.specs.String.{string_eq}
 use Rattle.std.specs.declared.alloc.Global.{Global}
 use Rattle.urlpattern.specs.Calls.{captured_bytes}
 use Rattle.urlpattern.specs.Match.{group_in, group_of}
-use Rattle.urlpattern_core.specs.CaptureTexts.{capture_view}
 use Rattle.urlpattern_meaning.specs.PartMeaning.{Captures}
 use Rattle.urlpattern_syntax.proofs.StringTexts.{text_bytes}
-use Rattle.urlpattern_syntax.specs.Text.{text_of}
+use Rattle.urlpattern_syntax.specs.Text.{option_text, text_of}
 
 -- ---- keys by their characters
 
@@ -104,28 +103,28 @@ group_of-end (first ∷ names) captures name (inr e) = ap (λ rest. group_of (fi
 -- once the capture of a name is put, those after it are still to come
 pub groups-more : {S : Type 0} (before names : List (String Global)) (before_captures captures : List (Option (Bor (List ℕ)))) (name key : String Global) (capture : Option (Bor (List ℕ))) (value : Option (String Global))
     (old new : HashMap (String Global) (Option (String Global)) S) (group : List ℕ) (found : Option (Option (List ℕ))) →
-    before ≡ name ∷ names → before_captures ≡ capture ∷ captures → string_bytes key ≡ string_bytes name → option_map text_of value ≡ capture_view capture →
+    before ≡ name ∷ names → before_captures ≡ capture ∷ captures → string_bytes key ≡ string_bytes name → option_map text_of value ≡ option_text capture →
     Updates string_eq old new key (Some value) →
-    option_or (group_of (map (λ string. text_of string) before) (map capture_view before_captures) group) (group_in old group) ≡ found →
-    option_or (group_of (map (λ string. text_of string) names) (map capture_view captures) group) (group_in new group) ≡ found
+    option_or (group_of (map (λ string. text_of string) before) (map option_text before_captures) group) (group_in old group) ≡ found →
+    option_or (group_of (map (λ string. text_of string) names) (map option_text captures) group) (group_in new group) ≡ found
 groups-more before names before_captures captures name key capture value old new group found is_first is_capture is_name is_value put was =
-    let rest = group_of (map (λ string. text_of string) names) (map capture_view captures) group in
+    let rest = group_of (map (λ string. text_of string) names) (map option_text captures) group in
     ap (λ there. option_or rest there) (group_in-put old new key value put group)
     ∙ ap (λ text. option_or rest (cond (bytes_eq group text) (Some (option_map text_of value)) (group_in old group))) (text-same key name is_name)
     ∙ ap (λ captured. option_or rest (cond (bytes_eq group (text_of name)) (Some captured) (group_in old group))) is_value
-    ∙ sym (group_of-first group (text_of name) (map (λ string. text_of string) names) (capture_view capture) (map capture_view captures) (group_in old group))
-    ∙ ap (λ texts. option_or (group_of texts (capture_view capture ∷ map capture_view captures) group) (group_in old group)) (ap (map (λ string. text_of string)) (sym is_first))
-    ∙ ap (λ captured. option_or (group_of (map (λ string. text_of string) before) captured group) (group_in old group)) (ap (map capture_view) (sym is_capture))
+    ∙ sym (group_of-first group (text_of name) (map (λ string. text_of string) names) (option_text capture) (map option_text captures) (group_in old group))
+    ∙ ap (λ texts. option_or (group_of texts (option_text capture ∷ map option_text captures) group) (group_in old group)) (ap (map (λ string. text_of string)) (sym is_first))
+    ∙ ap (λ captured. option_or (group_of (map (λ string. text_of string) before) captured group) (group_in old group)) (ap (map option_text) (sym is_capture))
     ∙ was
 
 -- at the end the map has all
 pub groups-end : (names : List (String Global)) (captures : List (Option (Bor (List ℕ)))) (group : List ℕ) (there found : Option (Option (List ℕ))) →
     (names ≡ []) ⊎ (captures ≡ []) →
-    option_or (group_of (map (λ string. text_of string) names) (map capture_view captures) group) there ≡ found → there ≡ found
+    option_or (group_of (map (λ string. text_of string) names) (map option_text captures) group) there ≡ found → there ≡ found
 groups-end names captures group there found ends was =
-    let left : (map (λ string. text_of string) names ≡ []) ⊎ (map capture_view captures ≡ []) =
-    ⊎_elim (λ e. inl (ap (map (λ string. text_of string)) e)) (λ e. inr (ap (map capture_view) e)) ends in
-    ap (λ rest. option_or rest there) (sym (group_of-end (map (λ string. text_of string) names) (map capture_view captures) group left)) ∙ was
+    let left : (map (λ string. text_of string) names ≡ []) ⊎ (map option_text captures ≡ []) =
+    ⊎_elim (λ e. inl (ap (map (λ string. text_of string)) e)) (λ e. inr (ap (map option_text) e)) ends in
+    ap (λ rest. option_or rest there) (sym (group_of-end (map (λ string. text_of string) names) (map option_text captures) group left)) ∙ was
 
 -- ---- the group of a name
 
@@ -144,14 +143,14 @@ chars-test bytes other one two =
 -- once the capture of the first name is taken where that is the name, those after it are still to come
 pub named-more : (before names : List (String Global)) (before_captures captures : List (Option (Bor (List ℕ)))) (name : String Global) (capture : Option (Bor (List ℕ)))
     (group : List ℕ) (old new found : Option (Option (List ℕ))) →
-    before ≡ name ∷ names → before_captures ≡ capture ∷ captures → new ≡ cond (bytes_eq group (text_of name)) (Some (capture_view capture)) old →
-    option_or (group_of (map (λ string. text_of string) before) (map capture_view before_captures) group) old ≡ found →
-    option_or (group_of (map (λ string. text_of string) names) (map capture_view captures) group) new ≡ found
+    before ≡ name ∷ names → before_captures ≡ capture ∷ captures → new ≡ cond (bytes_eq group (text_of name)) (Some (option_text capture)) old →
+    option_or (group_of (map (λ string. text_of string) before) (map option_text before_captures) group) old ≡ found →
+    option_or (group_of (map (λ string. text_of string) names) (map option_text captures) group) new ≡ found
 named-more before names before_captures captures name capture group old new found is_first is_capture is_new was =
-    ap (λ there. option_or (group_of (map (λ string. text_of string) names) (map capture_view captures) group) there) is_new
-    ∙ sym (group_of-first group (text_of name) (map (λ string. text_of string) names) (capture_view capture) (map capture_view captures) old)
-    ∙ ap (λ texts. option_or (group_of texts (capture_view capture ∷ map capture_view captures) group) old) (ap (map (λ string. text_of string)) (sym is_first))
-    ∙ ap (λ captured. option_or (group_of (map (λ string. text_of string) before) captured group) old) (ap (map capture_view) (sym is_capture))
+    ap (λ there. option_or (group_of (map (λ string. text_of string) names) (map option_text captures) group) there) is_new
+    ∙ sym (group_of-first group (text_of name) (map (λ string. text_of string) names) (option_text capture) (map option_text captures) old)
+    ∙ ap (λ texts. option_or (group_of texts (option_text capture ∷ map option_text captures) group) old) (ap (map (λ string. text_of string)) (sym is_first))
+    ∙ ap (λ captured. option_or (group_of (map (λ string. text_of string) before) captured group) old) (ap (map option_text) (sym is_capture))
     ∙ was
 
 -- what a map has at a name is what it has at the bytes of it
@@ -163,7 +162,7 @@ group_in-text groups name u =
 
 -- a capture that is lent, by its characters
 captured-text : (found : Option (Option (String Global))) (capture : Option (Bor (List ℕ))) → option_copied capture ≡ captured_bytes found →
-    capture_view capture ≡ unwrap_or (option_map (option_map text_of) found) None
+    option_text capture ≡ unwrap_or (option_map (option_map text_of) found) None
 captured-text None None e = refl
 captured-text None (Some text) e = absurd cc
 captured-text (Some None) None e = refl
@@ -174,6 +173,6 @@ captured-text (Some (Some string)) (Some text) e =
     ap (λ bytes. Some (chars bytes)) same
 
 pub group-captured : {S : Type 0} (groups : HashMap (String Global) (Option (String Global)) S) (name : List ℕ) (capture : Option (Bor (List ℕ))) → IsUtf8 name →
-    option_copied capture ≡ captured_bytes (get_by_text groups name) → capture_view capture ≡ unwrap_or (group_in groups (chars name)) None
+    option_copied capture ≡ captured_bytes (get_by_text groups name) → option_text capture ≡ unwrap_or (group_in groups (chars name)) None
 group-captured groups name capture u e =
     captured-text (get_by_text groups name) capture e ∙ ap (λ found. unwrap_or found None) (sym (group_in-text groups name u))

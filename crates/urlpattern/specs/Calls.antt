@@ -12,13 +12,12 @@ use Rattle.urlpattern.specs.declared.pattern.captures.GroupCaptures.TheVariants 
 use Rattle.urlpattern.specs.declared.pattern.captures.Missed.{Missed}
 use Rattle.urlpattern.specs.declared.pattern.captures.Missed.TheVariants as missed
 use Rattle.urlpattern.specs.Match.{IsResultOf, ResultView, UrlPatternResult, group_in, group_of, result_view}
-use Rattle.urlpattern_core.specs.CaptureTexts.{capture_view}
 use Rattle.urlpattern_core.specs.Looks.{look_answer, IsAsking}
 use Rattle.urlpattern_core.specs.declared.matcher.look.Look.{Look}
 use Rattle.urlpattern_meaning.specs.Matching.{Answers, AsksEngine}
 use Rattle.urlpattern_meaning.specs.PartMeaning.{Captures}
 use Rattle.urlpattern.specs.Patterns.{PatternView}
-use Rattle.urlpattern_syntax.specs.Text.{text_of}
+use Rattle.urlpattern_syntax.specs.Text.{option_text, text_of}
 use Rattle.urlpattern_syntax.specs.Eight.{Texts, at, each}
 
 -- the texts that are lent
@@ -28,8 +27,8 @@ borrowed_texts texts = each (λ name. chars (at texts name).now)
 -- what the groups of a component capture
 abbrev pub captures_of : GroupCaptures → Captures
 captures_of captured.Nothing = []
-captures_of (captured.One capture) = capture_view capture ∷ []
-captures_of (captured.Groups captures) = map capture_view captures.items
+captures_of (captured.One capture) = option_text capture ∷ []
+captures_of (captured.Groups captures) = map option_text captures.items
 
 -- what is captured of what was looked at, where an engine that is asked matches and has memory
 abbrev pub IsCapturedOf : {E : Type 0} → (answer : E → List ℕ → Option Captures) → Look E → Result GroupCaptures Missed → Type 0

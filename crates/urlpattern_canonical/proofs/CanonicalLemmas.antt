@@ -2,7 +2,7 @@
 use Rattle.std.proofs.Common.{◌≡◌, ◌≢◌, ℕ, Bool, true, false, ◌==◌, ◌≤◌, ◌<◌, ◌⊎◌, List, [], ◌∷◌, ◌++◌, length, length-append, codes, Ok, Err, String, string_bytes, subst, refl, sym, ap, ◌∙◌, arith, inl, inr}
 use Rattle.std.proofs.lemmas.Bool.{cases_lt, le-ltb, lt-ltb}
 use Rattle.std.proofs.lemmas.Str.{byte_from_char, len_utf8_bounds, length-encode, char_from_byte, chars-nil, encodes-chars}
-use Rattle.std.specs.Prelude.{encode_utf8_all, option_copied, option_map, slice_index, if◌then◌else◌, unwrap_or, IfErr, IfOk, Option, None, Some, Result}
+use Rattle.std.specs.Prelude.{encode_utf8_all, option_copied, slice_index, if◌then◌else◌, unwrap_or, IfErr, IfOk, Option, None, Some, Result}
 use Rattle.std.specs.Borrow.{Bor}
 use Rattle.std.specs.Char.{encode_utf8}
 use Rattle.std.specs.Str.{chars, IsUtf8}
@@ -22,7 +22,7 @@ use Rattle.urlpattern_syntax.specs.declared.error.ParserError.TheVariants as par
 use Rattle.urlpattern_syntax.specs.Errors.{ErrorView, error_view}
 use Rattle.urlpattern_syntax.specs.Errors.{ErrorView as views}
 use Rattle.urlpattern_syntax.specs.Errors.{MemoryOr}
-use Rattle.urlpattern_syntax.specs.Text.{begins_with, text_of}
+use Rattle.urlpattern_syntax.specs.Text.{begins_with, option_text, text_of}
 
 -- ---- refusals
 
@@ -293,6 +293,6 @@ unfolding chars
 chars_dummy = refl
 
 -- the characters of what is there, or of the empty text
-pub unwrap_or-chars : (found : Option (List ℕ)) → unwrap_or (option_map chars found) [] ≡ chars (unwrap_or found [])
-unwrap_or-chars None = sym chars-nil
-unwrap_or-chars (Some value) = refl
+pub unwrap_or-text : (found : Option (Bor (List ℕ))) → unwrap_or (option_text found) [] ≡ chars (unwrap_or (option_copied found) [])
+unwrap_or-text None = sym chars-nil
+unwrap_or-text (Some value) = refl

@@ -1,7 +1,7 @@
 -- Lemmas on calls that ask `url` about a value: the value is set on a URL and read back.
 use Rattle.std.proofs.Common.{◌≡◌, ◌≢◌, ℕ, false, true, ◌==◌, List, [], length, max, Ok, Err, String, string_bytes, subst, refl, sym, ap, ◌∙◌}
 use Rattle.std.proofs.lemmas.Str.{encodes-chars}
-use Rattle.std.specs.Prelude.{Bool, encode_utf8_all, option_copied, unwrap_or, IsErrAnd, Option, Result}
+use Rattle.std.specs.Prelude.{Bool, encode_utf8_all, unwrap_or, IsErrAnd, Option, Result}
 use Rattle.std.specs.Borrow.{Bor}
 use Rattle.std.specs.Str.{chars, IsUtf8}
 use Rattle.std.specs.declared.alloc.Global.{Global}
@@ -9,12 +9,12 @@ use Rattle.url.specs.declared.error.ParseError.{ParseError}
 use Rattle.url.specs.declared.error.ParseError.TheVariants.{OutOfMemory}
 use Rattle.url.specs.Parser.{GivesBy, Parsed}
 use Rattle.url.specs.Parts.{Parts}
-use Rattle.urlpattern_canonical.proofs.CanonicalLemmas.{after-err, after-ok, canonical-empty, canonical-err, canonical-ok, is_empty-false, is_empty-true, reports-through, reported-err, reported-ok, refused_as-err, refused_as-ok, unwrap_or-chars, unwrapped-copied}
+use Rattle.urlpattern_canonical.proofs.CanonicalLemmas.{after-err, after-ok, canonical-empty, canonical-err, canonical-ok, is_empty-false, is_empty-true, reports-through, reported-err, reported-ok, refused_as-err, refused_as-ok, unwrap_or-text, unwrapped-copied}
 use Rattle.urlpattern_canonical.specs.Asking.{IsRefusedAs}
-use Rattle.urlpattern_canonical.specs.Canonical.{IsAnswer, IsReported, Reports, after, canonical, canonical_port, option_text, port_bytes, port_of, scheme_for_port, refused_as}
+use Rattle.urlpattern_canonical.specs.Canonical.{IsAnswer, IsReported, Reports, after, canonical, canonical_port, port_bytes, port_of, scheme_for_port, refused_as}
 use Rattle.urlpattern_syntax.specs.declared.error.Error.{Error}
 use Rattle.urlpattern_syntax.specs.Errors.{MemoryOr}
-use Rattle.urlpattern_syntax.specs.Text.{text_of}
+use Rattle.urlpattern_syntax.specs.Text.{option_text, text_of}
 
 -- ---- any question
 
@@ -99,7 +99,7 @@ module _ (protocol : Option (Bor (List ℕ))) (given default : Bor (List ℕ)) w
       → IsUtf8 scheme → scheme ≡ encode_utf8_all (scheme_for_port (unwrap_or (option_text protocol) []))
   port-scheme scheme empty is_given is_scheme u =
       let found : unwrap_or (option_text protocol) [] ≡ chars given.now
-      = unwrap_or-chars (option_copied protocol) ∙ ap chars (sym (unwrapped-copied protocol given default _ refl empty is_given))
+      = unwrap_or-text protocol ∙ ap chars (sym (unwrapped-copied protocol given default _ refl empty is_given))
       in
       sym (ap (λ t. encode_utf8_all (scheme_for_port t)) found ∙ ap encode_utf8_all (sym is_scheme) ∙ encodes-chars scheme u)
 

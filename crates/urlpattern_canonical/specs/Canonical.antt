@@ -1,7 +1,7 @@
 -- Canonical values: what `url` answers to a question about a value, after the URLPattern Standard, section
 -- "Canonicalization", with the values of an init, section "Processing". A text is a list of characters; `url` is asked
 -- and answers in bytes.
-use Rattle.std.specs.Prelude.{◌≡◌, ◌≢◌, ℕ, ◌^◌, ◌≤◌, ◌⊎◌, Bool, true, false, ◌||◌, ◌==◌, ltb, List, [], ◌∷◌, ◌++◌, drop, map, nat_eq, codes, encode_utf8_all, slice_index, bytes_eq, Option, Some, None, unwrap_or, option_copied, option_map, length, max, Result, Ok, Err, IsErrAnd, MatchResult, String, if◌then◌else◌}
+use Rattle.std.specs.Prelude.{◌≡◌, ◌≢◌, ℕ, ◌^◌, ◌≤◌, ◌⊎◌, Bool, true, false, ◌||◌, ◌==◌, ltb, List, [], ◌∷◌, ◌++◌, drop, map, nat_eq, codes, encode_utf8_all, slice_index, bytes_eq, Option, Some, None, unwrap_or, option_copied, length, max, Result, Ok, Err, IsErrAnd, MatchResult, String, if◌then◌else◌}
 use Rattle.std.specs.Borrow.{Bor}
 use Rattle.std.specs.Char.{is_ascii_hexdigit, to_ascii_lowercase}
 use Rattle.std.specs.List.{list_all, starts_with}
@@ -23,7 +23,7 @@ use Rattle.urlpattern_syntax.specs.declared.error.Error.{Error}
 use Rattle.urlpattern_syntax.specs.Errors.{ErrorView, error_view}
 use Rattle.urlpattern_syntax.specs.Errors.{ErrorView as views}
 use Rattle.urlpattern_syntax.specs.Errors.{MemoryOr}
-use Rattle.urlpattern_syntax.specs.Text.{begins_with, is_among, text_of}
+use Rattle.urlpattern_syntax.specs.Text.{begins_with, is_among, option_text, text_of}
 
 -- ---- what `url` is asked: each question is about the bytes of a value that is not empty
 
@@ -77,10 +77,6 @@ pathname_of value =
     else and_then (path_of dummy_url (codes "/-" ++ value)) (λ path. Ok (without_guard path))
 
 -- ---- canonical values
-
--- the characters of a text that may be missing
-abbrev pub option_text : Option (Bor (List ℕ)) → Option (List ℕ)
-option_text text = option_map chars (option_copied text)
 
 -- the answer to a question about a text, of which the empty one needs none
 abbrev pub canonical : (List ℕ → Parsed (List ℕ)) → List ℕ → Parsed (List ℕ)

@@ -7,7 +7,6 @@ use Rattle.std.specs.Char.{IsScalar, encode_utf8}
 use Rattle.std.specs.Option.{option_or}
 use Rattle.std.specs.Prelude.{encode_utf8_all}
 use Rattle.std.specs.Str.{chars, IsUtf8}
-use Rattle.urlpattern_core.specs.CaptureTexts.{capture_view}
 use Rattle.urlpattern_meaning.specs.PartMeaning.{Captures}
 use Rattle.urlpattern_syntax.proofs.StringTexts.{chars-encode}
 use Rattle.urlpattern_engine.specs.declared.step.Group.{Group}
@@ -18,11 +17,11 @@ use Rattle.urlpattern_engine.specs.Walk.{Continuation, captured_front, longest, 
 use Rattle.urlpattern_engine.specs.Taken.{AreAdded, Extends, Kept}
 use Rattle.urlpattern_engine.proofs.RunLemmas.{longest_found, longest_no_more, shortest_ended}
 use Rattle.urlpattern_engine.proofs.StepLemmas.{maybe_missing}
-use Rattle.urlpattern_syntax.specs.Text.{line_feed}
+use Rattle.urlpattern_syntax.specs.Text.{line_feed, option_text}
 
 -- what was captured before, and what is captured now
 abbrev pub plus : Kept → Option Captures → Option Captures
-plus old found = option_map (λ others. map capture_view old ++ others) found
+plus old found = option_map (λ others. map option_text old ++ others) found
 
 -- ---- what was added
 
@@ -52,17 +51,17 @@ pub plus_captured : (now : Kept) (front : Bor (List ℕ)) (found : Option Captur
     → plus now (option_map (λ others. Some (chars front.now) ∷ others) found) ≡ plus (now ++ Some front ∷ []) found
 plus_captured now front None = refl
 plus_captured now front (Some others) =
-    ap Some (sym (append_assoc (map capture_view now) (Some (chars front.now) ∷ []) others) ∙ ap (λ l. l ++ others) (sym (map-append capture_view now (Some front ∷ []))))
+    ap Some (sym (append_assoc (map option_text now) (Some (chars front.now) ∷ []) others) ∙ ap (λ l. l ++ others) (sym (map-append option_text now (Some front ∷ []))))
 
-map_missing : (n : ℕ) → map capture_view (replicate n None) ≡ replicate n None
+map_missing : (n : ℕ) → map option_text (replicate n None) ≡ replicate n None
 map_missing zero = refl
 map_missing (suc n) = ap (λ l. None ∷ l) (map_missing n)
 
 plus_missing : (now : Kept) (n : ℕ) (found : Option Captures) → plus now (option_map (λ others. replicate n None ++ others) found) ≡ plus (now ++ replicate n None) found
 plus_missing now n None = refl
 plus_missing now n (Some others) =
-    ap Some (sym (append_assoc (map capture_view now) (replicate n None) others)
-    ∙ ap (λ l. l ++ others) (ap (λ l. map capture_view now ++ l) (sym (map_missing n)) ∙ sym (map-append capture_view now (replicate n None))))
+    ap Some (sym (append_assoc (map option_text now) (replicate n None) others)
+    ∙ ap (λ l. l ++ others) (ap (λ l. map option_text now ++ l) (sym (map_missing n)) ∙ sym (map-append option_text now (replicate n None))))
 
 -- a group that is missing, after it was tried
 pub plus_maybe : (now new more : Kept) (group : Group) (others : List Step) (rest : List ℕ) → walk others rest ≡ None → new ≡ now → more ≡ new ++ replicate group.captures None
@@ -78,7 +77,7 @@ literal_passed c others rest remaining e = ap (walk (Literal c ∷ others)) e �
 
 -- the end of the steps
 end_adds : (now : Kept) (rest : List ℕ) (is_empty : Bool) → (is_empty ≡ true → rest ≡ []) → (is_empty ≡ false → ¬ (rest ≡ [])) → AreAdded now now is_empty (walk [] rest)
-end_adds now [] true full some = ap Some (sym (append-nil (map capture_view now)))
+end_adds now [] true full some = ap Some (sym (append-nil (map option_text now)))
 end_adds now (c ∷ rest) true full some = let e : (c ∷ rest) ≡ [] = full refl in cc
 end_adds now [] false full some = absurd (some refl refl)
 end_adds now (c ∷ rest) false full some = refl

@@ -4,12 +4,12 @@ use Rattle.std.specs.Borrow.{Bor}
 use Rattle.std.specs.Global.{Global}
 use Rattle.std.specs.declared.vec.Vec.{Vec}
 use Rattle.std.specs.Str.{chars, IsUtf8}
-use Rattle.urlpattern_core.specs.CaptureTexts.{capture_view}
 use Rattle.urlpattern_meaning.specs.PartMeaning.{Captures}
 use Rattle.urlpattern_engine.specs.declared.step.Segments.{Segments}
 use Rattle.urlpattern_engine.specs.declared.step.Step.{Step}
 use Rattle.urlpattern_engine.specs.declared.walk.Attempt.{Attempt}
 use Rattle.urlpattern_engine.specs.Walk.{Continuation, captured_front, literal_text, segmented, single_run, walk}
+use Rattle.urlpattern_syntax.specs.Text.{option_text}
 
 -- Where a text is cut, by the bytes before it, so that its parts give what is found. None: nothing is found.
 abbrev pub IsCutFor : Continuation → (text : List ℕ) → Option ℕ → (found : Option Captures) → Type 0
@@ -44,7 +44,7 @@ Kept = List (Option (Bor (List ℕ)))
 
 -- what was captured before, and what is captured of the rest
 abbrev pub with_captures : Kept → Option Captures → Option Captures
-with_captures old found = option_map (λ others. map capture_view old ++ others) found
+with_captures old found = option_map (λ others. map option_text old ++ others) found
 
 -- nothing was removed
 abbrev pub Extends : (old new : Kept) → Type 0
@@ -52,7 +52,7 @@ Extends old new = (added : Kept) × (new ≡ old ++ added)
 
 -- the captures were added exactly where there are some
 abbrev pub AreAdded : (old new : Kept) → (is_taken : Bool) → Option Captures → Type 0
-AreAdded old new is_taken captures = (if is_taken then Some (map capture_view new) else None) ≡ option_map (λ others. map capture_view old ++ others) captures
+AreAdded old new is_taken captures = (if is_taken then Some (map option_text new) else None) ≡ option_map (λ others. map option_text old ++ others) captures
 
 -- captures as a vector keeps them
 abbrev pub KeptVec : Type 0

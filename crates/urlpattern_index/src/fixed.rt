@@ -1,8 +1,8 @@
 //! What is fixed of the inputs that a pattern matches, and the texts by which an input is looked up.
 ghost use Rattle.arrayvec.specs.ArrayVec.{array_vec_len};
-ghost use Rattle.std.specs.Prelude.{◌≡◌, ◌+◌, ◌≤◌, ◌++◌, length, map};
+ghost use Rattle.std.specs.Prelude.{◌≡◌, ◌+◌, ◌≤◌, ◌++◌, chars, length, map, option_map};
 ghost use Rattle.urlpattern_index.specs.Keys.{address_keys, key, key_of, option_hash, path_key};
-ghost use Rattle.urlpattern_index.specs.Views.{address_texts, fixed_path, fixed_texts, fixed_text_of};
+ghost use Rattle.urlpattern_index.specs.Views.{address_texts, fixed_path, fixed_texts};
 
 use crate::keys::{PATH_KEYS, front_key, mixed, path_keys, text_hash, whole_key};
 use arrayvec::ArrayVec;
@@ -100,7 +100,7 @@ fn key(protocol: u64, hostname: u64, path: u64) -> u64
 
 /// The hash of a text, and 0 where there is none.
 fn option_hash(text: Option<&str>) -> u64
-    ensures { result ≡ option_hash (fixed_text_of text.entry) }
+    ensures { result ≡ option_hash (option_map (λ text. chars text.now) text.entry) }
 {
     text.map_or(0, text_hash)
 }

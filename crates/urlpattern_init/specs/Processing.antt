@@ -2,7 +2,6 @@
 use Rattle.std.specs.Prelude.{◌≡◌, ◌≢◌, ℕ, List, [], length, max, Option, Result, String, Ok, option_copied, option_map, unwrap_or, IfErr, IfOk}
 use Rattle.std.specs.Borrow.{Bor}
 use Rattle.std.specs.Option.{option_or}
-use Rattle.std.specs.Str.{chars}
 use Rattle.std.specs.declared.alloc.Global.{Global}
 use Rattle.url.specs.Parser.{Parsed}
 use Rattle.urlpattern_canonical.specs.Canonical.{IsAnswer, Reports, bytes_asked}
@@ -13,7 +12,7 @@ use Rattle.urlpattern_syntax.specs.declared.eight.ComponentName.TheVariants.{Pat
 use Rattle.urlpattern_syntax.specs.declared.error.Error.{Error}
 use Rattle.urlpattern_syntax.specs.Eight.{Values}
 use Rattle.urlpattern_syntax.specs.Errors.{MemoryOr}
-use Rattle.urlpattern_syntax.specs.Text.{byte_len, text_of}
+use Rattle.urlpattern_syntax.specs.Text.{byte_len, option_text, text_of}
 
 -- the values that the init gives
 abbrev pub given_values : Processing → Values
@@ -47,23 +46,20 @@ abbrev pub text_value_in : Processing → (protocol : Option (List ℕ)) → Com
 text_value_in processing protocol component text =
     processed_text processing.kind.now protocol component (given_in processing component text)
 
--- a text that may be missing, and its bytes
-abbrev pub optional_text : Option (Bor (List ℕ)) → Option (List ℕ)
-optional_text text = option_map chars (option_copied text)
-
+-- the bytes of a text that may be missing
 abbrev pub optional_bytes : Option (Bor (List ℕ)) → ℕ
 optional_bytes text = length (unwrap_or (option_copied text) [])
 
 -- a text of the init is answered under a protocol of so many bytes
 abbrev pub IsTextAnswer : Processing → (protocol : Option (Bor (List ℕ))) → ComponentName → List ℕ → Result (String Global) Error → Type 0
 IsTextAnswer processing protocol component text result =
-    IsAnswer (text_value_in processing (optional_text protocol) component text)
+    IsAnswer (text_value_in processing (option_text protocol) component text)
     (bytes_asked processing.kind.now (max (optional_bytes protocol) (byte_len (given_in processing component text)))) result
 
 -- a pathname of the init is answered, about its own bytes alone
 abbrev pub IsGivenPathnameAnswer : Processing → (protocol : Option (Bor (List ℕ))) → List ℕ → Result (String Global) Error → Type 0
 IsGivenPathnameAnswer processing protocol text result =
-    IsAnswer (text_value_in processing (optional_text protocol) Pathname text)
+    IsAnswer (text_value_in processing (option_text protocol) Pathname text)
     (bytes_asked processing.kind.now (byte_len (given_in processing Pathname text))) result
 
 -- the value of a component that the init lacks

@@ -8,12 +8,12 @@ use Rattle.urlpattern_init.specs.declared.constructor_parser.sections.Section.{S
 use Rattle.urlpattern_init.specs.declared.constructor_parser.sections.Section.TheVariants.{Hostname}
 use Rattle.urlpattern_init.specs.declared.constructor_parser.tokens.Source.{Source}
 use Rattle.urlpattern_init.specs.declared.constructor_parser.components.Split.{Split}
-use Rattle.urlpattern_syntax.specs.Parsing.{name_view, views}
+use Rattle.urlpattern_syntax.specs.Parsing.{views}
 use Rattle.urlpattern_syntax.specs.Tokens.{AreLenientTokens, TokenView}
 use Rattle.urlpattern_syntax.specs.declared.error.Error.{Error}
 use Rattle.urlpattern_syntax.specs.Errors.{OnlyOutOfMemory}
 use Rattle.urlpattern_syntax.specs.Eight.{Values, at, each}
-use Rattle.urlpattern_syntax.specs.Text.{text_of}
+use Rattle.urlpattern_syntax.specs.Text.{option_text, text_of}
 
 -- the text of a source, and its tokens
 abbrev pub text_of_source : Source → List ℕ
@@ -24,7 +24,7 @@ tokens_of source = views source.tokens.now
 
 -- the components that were found
 abbrev pub split_values : Split → Values
-split_values split = each (λ name. name_view (at split.values name))
+split_values split = each (λ name. option_text (at split.values name))
 
 -- a text of one's own with this view, or that memory ran out
 pub record IsOwned (component : Option (List ℕ)) (result : Result (Option (String Global)) Error) : Type 0 where

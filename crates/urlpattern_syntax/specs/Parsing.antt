@@ -1,5 +1,5 @@
 -- The parser step by step: which tokens it takes, which tokens are left, and what it adds to the list of parts.
-use Rattle.std.specs.Prelude.{◌≡◌, ◌≢◌, ◌<◌, ◌≤◌, ◌+◌, ℕ, ◌⊎◌, List, [], ◌∷◌, ◌++◌, length, map, codes, decimal, Contains, IsTrue, ◌^◌, Option, Some, None, option_map, ◌↔◌}
+use Rattle.std.specs.Prelude.{◌≡◌, ◌≢◌, ◌<◌, ◌≤◌, ◌+◌, ℕ, ◌⊎◌, List, [], ◌∷◌, ◌++◌, length, map, codes, decimal, Contains, IsTrue, ◌^◌, Option, Some, None, ◌↔◌}
 use Rattle.std.specs.Str.{chars, IsUtf8}
 use Rattle.std.specs.Borrow.{Bor}
 use Rattle.urlpattern_syntax.specs.declared.parser.pieces.Matched.{Matched as MatchedValue}
@@ -25,7 +25,7 @@ use Rattle.urlpattern_syntax.specs.GivenNames.{has_name}
 use Rattle.urlpattern_syntax.specs.Options.{OptionsView}
 use Rattle.urlpattern_syntax.specs.Parts.{PartView, parts_view}
 use Rattle.urlpattern_syntax.specs.RegexpText.{group_names}
-use Rattle.urlpattern_syntax.specs.Text.{BeginsWith, is_name_start, text_of}
+use Rattle.urlpattern_syntax.specs.Text.{BeginsWith, is_name_start, option_text, text_of}
 use Rattle.urlpattern_syntax.specs.Pieces.{Piece, Placeholder, Matched, Ending, IsPiece, IsEnding, IsPlaceholderOf, IsPrefixOf, IsModifier, TakesModifier, TakesRegexp, AreTexts, BeginsWithKind, is_text}
 use Rattle.urlpattern_syntax.specs.Pieces.{Matched as matched, Ending as endings, Piece as pieces}
 use Rattle.urlpattern_syntax.specs.Reading.{AreMet, AreParts, Demand, Encode, Encoding, FirstFails, Item, Fixed, Capture, NewName, encode_fixed, name_or}
@@ -112,11 +112,8 @@ matched_view matched_values.Segment = matched.Segment
 matched_view (matched_values.Custom body) = matched.Custom (chars body.now)
 matched_view matched_values.Anything = matched.Anything
 
-abbrev pub name_view : Option (Bor (List ℕ)) → Option (List ℕ)
-name_view name = option_map (λ (text : Bor (List ℕ)). chars text.now) name
-
 abbrev pub placeholder_view : PlaceholderValue → Placeholder
-placeholder_view value = record { name = name_view value.name; matched = matched_view value.matched }
+placeholder_view value = record { name = option_text value.name; matched = matched_view value.matched }
 
 abbrev pub piece_view : PieceValue → Piece
 piece_view (piece_values.Text text) = pieces.Text (chars text.now)
@@ -128,7 +125,7 @@ piece_view (piece_values.Group before placeholder after modifier) =
 -- a placeholder between texts, as an item
 abbrev pub group_item : (before : List ℕ) → PlaceholderValue → (after : List ℕ) → PartModifier → ℕ → Item
 group_item before value after modifier number =
-    Capture before (name_or (name_view value.name) number) (matched_view value.matched) after modifier
+    Capture before (name_or (option_text value.name) number) (matched_view value.matched) after modifier
 
 -- the name, if there is one, is one that a pattern gives
 abbrev pub IsNameGiven : Option (List ℕ) → Type 0

@@ -15,11 +15,12 @@ use Rattle.urlpattern_syntax.specs.declared.tokenizer.TokenType.TheVariants.{End
 use Rattle.urlpattern_syntax.specs.Errors.{ErrorView}
 use Rattle.urlpattern_syntax.specs.Errors.{ErrorView as error_views}
 use Rattle.urlpattern_syntax.specs.Options.{OptionsView, options_view}
-use Rattle.urlpattern_syntax.specs.Parsing.{AddsItem, AddsParts, FailsItem, FailsItems, KnowsNames, group_item, matched_view, name_view, part_list_view, pending_items, piece_view}
+use Rattle.urlpattern_syntax.specs.Parsing.{AddsItem, AddsParts, FailsItem, FailsItems, KnowsNames, group_item, matched_view, part_list_view, pending_items, piece_view}
 use Rattle.urlpattern_syntax.specs.Parts.{parts_view}
 use Rattle.urlpattern_syntax.specs.Reading.{Calls, Demand, Encoding, Expect, Fixed, Item, Reads, Refuses, compared, encode_fixed, encoding_by, item, name_or}
 use Rattle.urlpattern_syntax.specs.RegexpText.{group_names}
 use Rattle.urlpattern_syntax.specs.Tokens.{token_view}
+use Rattle.urlpattern_syntax.specs.Text.{option_text}
 
 -- ---- the parser
 
@@ -56,7 +57,7 @@ KnowsItsNames list = Knows list (list_names list)
 
 -- the name of the list's next placeholder: this one, or else its number among those that have none
 abbrev pub next_name : PartList → Option (Bor (List ℕ)) → List ℕ
-next_name list name = name_or (name_view name) list.next_numeric_name
+next_name list name = name_or (option_text name) list.next_numeric_name
 
 -- the error reports that the name of the list's next placeholder is in it already
 abbrev pub IsDuplicate : PartList → Option (Bor (List ℕ)) → ErrorView → Type 0

@@ -1,5 +1,6 @@
 -- Texts as lists of characters, and places in them.
-use Rattle.std.specs.Prelude.{◌≡◌, ℕ, zero, suc, ◌+◌, Bool, false, not, ◌||◌, ◌==◌, List, [], ◌∷◌, ◌++◌, length, IsTrue, String, string_bytes, codes, encode_utf8_all, slice_index}
+use Rattle.std.specs.Prelude.{◌≡◌, ℕ, zero, suc, ◌+◌, Bool, false, not, ◌||◌, ◌==◌, List, [], ◌∷◌, ◌++◌, length, IsTrue, Option, String, option_map, string_bytes, codes, encode_utf8_all, slice_index}
+use Rattle.std.specs.Borrow.{Bor}
 use Rattle.std.specs.Str.{chars}
 use Rattle.std.specs.declared.alloc.Global.{Global}
 use Rattle.std.specs.List.{list_all, list_any}
@@ -8,6 +9,10 @@ use Rattle.unicode.specs.Binary.{is_id_start, is_id_continue}
 -- the characters of a `String`
 abbrev pub text_of : String Global → List ℕ
 text_of string = chars (string_bytes string)
+
+-- the characters of a text that may be missing
+abbrev pub option_text : Option (Bor (List ℕ)) → Option (List ℕ)
+option_text text = option_map (λ (present : Bor (List ℕ)). chars present.now) text
 
 -- how many bytes the characters take in UTF-8
 unfoldable pub byte_len : List ℕ → ℕ

@@ -1,12 +1,11 @@
 -- Texts that are written piece by piece, into memory that was reserved at once.
-use Rattle.std.specs.Prelude.{◌≡◌, ◌+◌, ◌<◌, ◌≤◌, ◌++◌, ℕ, List, Option, Some, None, String, option_map, string_capacity, string_len}
+use Rattle.std.specs.Prelude.{◌≡◌, ◌+◌, ◌<◌, ◌≤◌, ◌++◌, ℕ, List, Option, Some, None, String, string_capacity, string_len}
 use Rattle.std.below.core.specs.declared.int.usize.TheConstants.{MAX}
 use Rattle.std.specs.Str.{chars}
 use Rattle.std.specs.declared.alloc.Global.{Global}
 use Rattle.urlpattern_syntax.specs.PatternText.{pattern_marks}
 use Rattle.urlpattern_syntax.specs.RegexpText.{escaped, escaped_marks}
-use Rattle.urlpattern_syntax.specs.Text.{byte_len, text_of}
-use Rattle.std.specs.Borrow.{Bor}
+use Rattle.urlpattern_syntax.specs.Text.{byte_len, option_text, text_of}
 use Rattle.urlpattern_syntax.specs.declared.writing.Comparison.{Comparison}
 use Rattle.urlpattern_syntax.specs.declared.escape.Escaped.{Escaped}
 use Rattle.urlpattern_syntax.specs.declared.escape.Marks.{Marks}
@@ -27,7 +26,7 @@ pub record Appends (before : String Global) (piece : List ℕ) (after : String G
 
 -- what is left of the text that is compared
 abbrev pub left_view : Comparison → Option (List ℕ)
-left_view comparison = option_map (λ (text : Bor (List ℕ)). chars text.now) comparison.left
+left_view comparison = option_text comparison.left
 
 -- what a text leaves after this piece at its front: None where it does not begin with it
 abbrev pub Compares : Option (List ℕ) → (piece : List ℕ) → Option (List ℕ) → Type 0

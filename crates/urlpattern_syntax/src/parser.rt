@@ -75,7 +75,7 @@ pub enum PartType {
 /// How often a part stands.
 ///
 /// <https://urlpattern.spec.whatwg.org/#part-modifier>
-#[derive(Debug, PartialEq, Eq, Drop)]
+#[derive(Debug, Clone, Copy, PartialEq, Eq)]
 pub enum PartModifier {
     /// Once.
     None,
@@ -99,18 +99,6 @@ impl PartModifier {
             Self::Optional => "?",
             Self::ZeroOrMore => "*",
             Self::OneOrMore => "+",
-        }
-    }
-
-    /// The same modifier.
-    fn copied(&self) -> Self
-        ensures { result ≡ self.now }
-    {
-        match self {
-            Self::None => Self::None,
-            Self::Optional => Self::Optional,
-            Self::ZeroOrMore => Self::ZeroOrMore,
-            Self::OneOrMore => Self::OneOrMore,
         }
     }
 }

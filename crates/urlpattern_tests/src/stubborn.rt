@@ -30,7 +30,7 @@ pub type Starved = Stubborn<false, false>;
 
 impl<const TAKES_TEXTS: bool, const HAS_MEMORY: bool> RegExp for Stubborn<TAKES_TEXTS, HAS_MEMORY> {
     ghost use Rattle.std.specs.Prelude.{◌≡◌, ⊤, map, option_map};
-    ghost use Rattle.urlpattern.specs.CaptureTexts.{capture_view};
+    ghost use Rattle.urlpattern.specs.Text.{option_text};
     ghost use Rattle.urlpattern.specs.RegexSyntax.TheVariants.{Rust};
     ghost use Rattle.urlpattern.specs.Text.{text_of};
 
@@ -40,7 +40,7 @@ impl<const TAKES_TEXTS: bool, const HAS_MEMORY: bool> RegExp for Stubborn<TAKES_
 
     ghost MayRefuse = { λ regexp flags force_eval. ⊤ };
 
-    ghost answer = { λ engine text. option_map (λ captures. map capture_view captures.now) engine.captures };
+    ghost answer = { λ engine text. option_map (λ captures. map option_text captures.now) engine.captures };
 
     ghost text_made_of = { λ engine. text_of engine.text };
 

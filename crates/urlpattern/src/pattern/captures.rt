@@ -3,13 +3,12 @@ ghost use Rattle.std.specs.Iterator.Adapters.{zip_first, zip_second};
 ghost use Rattle.std.specs.Prelude.{◌≡◌, map, option_map, zip, IfOk};
 ghost use Rattle.std.specs.Slice.Iter.{iter_rest};
 ghost use Rattle.std.specs.Str.{chars};
-ghost use Rattle.urlpattern_core.specs.CaptureTexts.{capture_view};
 ghost use Rattle.urlpattern_syntax.specs.declared.eight.ComponentName.{ComponentName as Name};
 ghost use Rattle.urlpattern.specs.declared.pattern.captures.Missed.TheVariants as all_missed;
 ghost use Rattle.urlpattern.specs.BorrowedMatches.{pattern_captures_view, groups_view};
 ghost use Rattle.urlpattern.specs.Calls.{IsCapturedOf, captures_of, texts_of, HasNoGroups, IsWithoutGroups};
 ghost use Rattle.urlpattern.specs.Match.{component_result_view, group_of, result_view, IsSameResult};
-ghost use Rattle.urlpattern_syntax.specs.Text.{text_of};
+ghost use Rattle.urlpattern_syntax.specs.Text.{text_of, option_text};
 ghost use Rattle.urlpattern_syntax.specs.Errors.{OnlyOutOfMemory};
 ghost use Rattle.urlpattern_syntax.specs.Eight.{at};
 
@@ -60,7 +59,7 @@ impl<'a> UrlPatternCaptures<'a> {
     /// What a group of a component captures. `None`: there is no group of this name. `Some(None)`: the group took no part. Of
     /// equal names the last counts.
     pub fn get(&self, name: ComponentName, group: &str) -> Option<Option<&'a str>>
-        ensures { option_map capture_view result ≡ (pattern_captures_view self.now name).group (chars group.now) }
+        ensures { option_map option_text result ≡ (pattern_captures_view self.now name).group (chars group.now) }
     {
         group_named(
             self.names.get(name),
@@ -71,7 +70,7 @@ impl<'a> UrlPatternCaptures<'a> {
 
     /// The groups of a component, in their order.
     pub fn groups(&self, name: ComponentName) -> UrlPatternGroups<'_, 'a>
-        ensures { zip (texts_of (iter_rest (zip_first result))) (map capture_view (iter_rest (zip_second result))) ≡ groups_view self.now name }
+        ensures { zip (texts_of (iter_rest (zip_first result))) (map option_text (iter_rest (zip_second result))) ≡ groups_view self.now name }
     {
         self.names
             .get(name)
@@ -132,7 +131,7 @@ fn group_named<'a>(
     captures: &[Option<&'a str>],
     group: &str,
 ) -> Option<Option<&'a str>>
-    ensures { option_map capture_view result ≡ group_of (texts_of names.now) (map capture_view captures.now) (chars group.now) }
+    ensures { option_map option_text result ≡ group_of (texts_of names.now) (map option_text captures.now) (chars group.now) }
 {
     let mut found = None;
     for (name, capture) in names.iter().zip(captures) {
@@ -189,7 +188,7 @@ impl<'a> GroupCaptures<'a> {
 
     /// The captures in their order.
     fn as_slice(&self) -> &[Option<&'a str>]
-        ensures { map capture_view result.now ≡ captures_of self.now }
+        ensures { map option_text result.now ≡ captures_of self.now }
     {
         match self {
             GroupCaptures::Nothing => &[],

@@ -1,8 +1,9 @@
 //! What is fixed of the texts that a pattern matches.
 ghost use Rattle.urlpattern_core.specs.Matchers.{matcher_view};
-ghost use Rattle.urlpattern_index.specs.Views.{fixed_path, fixed_texts, fixed_text_of};
+ghost use Rattle.urlpattern_index.specs.Views.{fixed_path, fixed_texts};
 ghost use Rattle.urlpattern.specs.Patterns.{pattern_view};
 ghost use Rattle.urlpattern.specs.PatternKeys.{AreFixed, IsFixedPath, IsFixedText};
+ghost use Rattle.urlpattern_syntax.specs.Text.{option_text};
 
 use crate::pattern::UrlPattern;
 use urlpattern_core::matcher::{InnerMatcher, Matcher};
@@ -24,7 +25,7 @@ impl<R: RegExp> UrlPattern<R> {
 
 /// The text that alone is matched. `None`: other texts are matched, or case is ignored.
 fn fixed_text<R>(matcher: &Matcher<R>) -> Option<&str>
-    ensures { IsFixedText (matcher_view matcher.now) (fixed_text_of result) }
+    ensures { IsFixedText (matcher_view matcher.now) (option_text result) }
 {
     if matcher.ignore_case {
         return None;

@@ -1,8 +1,7 @@
 //! The groups of a match, by their names.
 ghost use Rattle.std.specs.Prelude.{◌≡◌, IfOk, map, option_map};
 ghost use Rattle.urlpattern.specs.Calls.{AreGroups, HasNoGroups};
-ghost use Rattle.urlpattern_core.specs.CaptureTexts.{capture_view};
-ghost use Rattle.urlpattern_syntax.specs.Text.{text_of};
+ghost use Rattle.urlpattern_syntax.specs.Text.{option_text, text_of};
 
 use std::alloc::{AllocError, Global};
 use std::collections::HashMap;
@@ -19,7 +18,7 @@ pub(super) fn add_groups(
     captures: &[Option<&str>],
 ) -> Result<(), OutOfMemory>
     requires { HasNoGroups groups.old }
-    ensures groups { IfOk result (λ _. AreGroups (map (λ name. text_of name) names.now) (map capture_view captures.now) groups.new) }
+    ensures groups { IfOk result (λ _. AreGroups (map (λ name. text_of name) names.now) (map option_text captures.now) groups.new) }
 {
     for (name, capture) in names.iter().zip(captures) {
         groups.insert(name.clone()?, copied(alloc, *capture)?)?;
@@ -29,7 +28,7 @@ pub(super) fn add_groups(
 
 /// A copy of what a group captures.
 fn copied(alloc: Global, capture: Option<&str>) -> Result<Option<String>, AllocError>
-    ensures { IfOk result (λ copy. option_map text_of copy ≡ capture_view capture.entry) }
+    ensures { IfOk result (λ copy. option_map text_of copy ≡ option_text capture.entry) }
 {
     match capture {
         Some(text) => Ok(Some(String::from_str(alloc, text)?)),

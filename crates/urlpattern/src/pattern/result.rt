@@ -4,10 +4,9 @@ ghost use Rattle.std.specs.HashMap.{IsUnique, get_by_text, keys};
 ghost use Rattle.std.specs.Ordering.{nat_cmp};
 ghost use Rattle.std.specs.Prelude.{◌≡◌, None, map, option_copied, string_bytes, string_eq, unwrap_or, IfOk, IsPermutation, IsSorted};
 ghost use Rattle.std.specs.Str.{chars};
-ghost use Rattle.urlpattern_core.specs.CaptureTexts.{capture_view};
 ghost use Rattle.urlpattern.specs.Calls.{captured_bytes, lent_bytes, texts_of, AreGroups, HasNoGroups, IsWithoutGroups};
 ghost use Rattle.urlpattern.specs.Match.{component_result_view};
-ghost use Rattle.urlpattern_syntax.specs.Text.{text_of};
+ghost use Rattle.urlpattern_syntax.specs.Text.{text_of, option_text};
 
 use super::groups::{Groups, add_groups};
 use std::alloc::{AllocError, Global};
@@ -45,7 +44,7 @@ pub(crate) fn empty_result(alloc: Global) -> UrlPatternResult
 impl UrlPatternComponentResult {
     /// What the group of a name captured. `None`: there is no such group, or it took no part.
     pub fn get(&self, name: &str) -> Option<&str>
-        ensures { capture_view result ≡ unwrap_or ((component_result_view self.now).group (chars name.now)) None }
+        ensures { option_text result ≡ unwrap_or ((component_result_view self.now).group (chars name.now)) None }
     {
         capture_of(&self.groups, name)
     }
@@ -81,7 +80,7 @@ impl UrlPatternComponentResult {
     ) -> Result<(), OutOfMemory>
         requires { HasNoGroups self.old.groups }
         ensures input { IfOk result (λ _. text_of self.new.input ≡ chars text.now) }
-        ensures groups { IfOk result (λ _. AreGroups (texts_of names.now) (map capture_view captures.now) self.new.groups) }
+        ensures groups { IfOk result (λ _. AreGroups (texts_of names.now) (map option_text captures.now) self.new.groups) }
     {
         self.input = String::from_str(alloc, text)?;
         add_groups(alloc, &mut self.groups, names, captures)

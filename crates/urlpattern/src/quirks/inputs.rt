@@ -1,5 +1,5 @@
 //! What a pattern is constructed from, and what it is matched against.
-ghost use Rattle.std.specs.Prelude.{◌≡◌, None, Ok, Some, length, max, option_copied, option_map, string_bytes, IfErr, IfOk};
+ghost use Rattle.std.specs.Prelude.{◌≡◌, None, Ok, Some, length, max, option_copied, option_map, IfErr, IfOk};
 ghost use Rattle.std.specs.Str.{chars};
 ghost use Rattle.url.specs.Parser as url_spec;
 ghost use Rattle.urlpattern_init.specs.Inheritance.{values_view};
@@ -7,9 +7,8 @@ ghost use Rattle.urlpattern.specs.Inputs.{IsCopyOfText, FindsInput, IsConstructe
 ghost use Rattle.urlpattern_canonical.specs.Canonical.{Reports};
 ghost use Rattle.urlpattern_inputs.specs.declared.input.StringOrInit.TheVariants as plain_inputs;
 ghost use Rattle.urlpattern_syntax.specs.Eight.{at};
-ghost use Rattle.urlpattern_syntax.specs.Parsing.{name_view};
 ghost use Rattle.urlpattern_syntax.specs.Errors.{MemoryOr, OnlyOutOfMemory};
-ghost use Rattle.urlpattern_syntax.specs.Text.{text_of};
+ghost use Rattle.urlpattern_syntax.specs.Text.{text_of, option_text};
 
 use crate::pattern::{init_of_text, parse_base, parse_url};
 use regex::Regex;
@@ -51,7 +50,7 @@ fn init_of(alloc: Global, init: UrlPatternInit) -> Result<init::UrlPatternInit, 
     ensures init { IfOk result (IsInitOf init) }
     ensures refused { IfErr result (MemoryOr (Reports (parsed_base (plain_base init)) (text_bytes (plain_base init)))) }
 {
-    let base_url = parse_base(alloc, borrowed(&init.base_url))?;
+    let base_url = parse_base(alloc, init.base_url.as_deref())?;
     Ok(init::UrlPatternInit::from_eight(init.into_eight(), base_url))
 }
 
@@ -110,7 +109,7 @@ fn match_init<'a>(
     ensures found { IfOk result (FindsInput (plain_inputs.Init init) None) }
     ensures memory { OnlyOutOfMemory result }
 {
-    match parse_base(alloc, borrowed(&init.base_url)) {
+    match parse_base(alloc, init.base_url.as_deref()) {
         Ok(base_url) => {
             let copy = copied_init(alloc, &init, base_url)?;
             let inputs = (StringOrInit::Init(init), None);
@@ -150,19 +149,9 @@ fn copied(alloc: Global, text: &Option<String>) -> Result<Option<String>, AllocE
     }
 }
 
-/// A text that is lent, if there is one.
-fn borrowed(text: &Option<String>) -> Option<&str>
-    ensures { option_copied result ≡ option_map string_bytes text.now }
-{
-    match text {
-        Some(text) => Some(text),
-        None => None,
-    }
-}
-
 /// A text of one's own, if there is one.
 fn owned(alloc: Global, text: Option<&str>) -> Result<Option<String>, AllocError>
-    ensures { IsCopyOfText (name_view text.entry) result }
+    ensures { IsCopyOfText (option_text text.entry) result }
 {
     match text {
         Some(text) => Ok(Some(String::from_str(alloc, text)?)),

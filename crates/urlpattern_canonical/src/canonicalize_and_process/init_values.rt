@@ -1,9 +1,9 @@
 //! The values of an init: kept for a pattern, and made canonical for a URL.
 ghost use Rattle.std.specs.Prelude.{◌≡◌, Some, length, IfOk};
 ghost use Rattle.std.specs.Str.{chars};
-ghost use Rattle.urlpattern_syntax.specs.Text.{text_of};
+ghost use Rattle.urlpattern_syntax.specs.Text.{text_of, option_text};
 ghost use Rattle.urlpattern_syntax.specs.Errors.{OnlyOutOfMemory};
-ghost use Rattle.urlpattern_canonical.specs.Canonical.{IsAnswer, IsPathnameAnswer, IsPortAnswer, bytes_asked, is_hierarchical, is_hierarchical_under, option_text, processed_hash, processed_hostname, processed_password, processed_protocol, processed_search, processed_username};
+ghost use Rattle.urlpattern_canonical.specs.Canonical.{IsAnswer, IsPathnameAnswer, IsPortAnswer, bytes_asked, is_hierarchical, is_hierarchical_under, processed_hash, processed_hostname, processed_password, processed_protocol, processed_search, processed_username};
 
 use super::marks::{begins_with_slash, without_colon, without_first};
 use super::schemes::is_special_scheme;

@@ -3,7 +3,8 @@
 
 ghost use Rattle.std.specs.Prelude.{◌≡◌, length, IsAscii};
 ghost use Rattle.std.specs.Str.{chars};
-ghost use Rattle.urlpattern_canonical.specs.Canonical.{IsAnswer, canonical_hash, canonical_hostname, canonical_opaque_pathname, canonical_password, canonical_pathname, canonical_port, canonical_protocol, canonical_search, canonical_username, option_text, port_bytes, scheme_for_port, without_guard};
+ghost use Rattle.urlpattern_canonical.specs.Canonical.{IsAnswer, canonical_hash, canonical_hostname, canonical_opaque_pathname, canonical_password, canonical_pathname, canonical_port, canonical_protocol, canonical_search, canonical_username, port_bytes, scheme_for_port, without_guard};
+ghost use Rattle.urlpattern_syntax.specs.Text.{option_text};
 
 use super::Canonicalizer;
 use super::marks::begins_with_slash;

@@ -2,8 +2,8 @@
 
 ghost use Rattle.std.specs.Prelude.{◌≡◌, map, option_map, IfOk};
 ghost use Rattle.regex.specs.Strings.{captures_haystack, captures_span};
-ghost use Rattle.urlpattern_core.specs.CaptureTexts.{capture_view};
 ghost use Rattle.urlpattern_core.specs.Regexes.{found_texts, text_between};
+ghost use Rattle.urlpattern_syntax.specs.Text.{option_text};
 
 use crate::error::OutOfMemory;
 use regex::Captures;
@@ -16,7 +16,7 @@ pub(super) fn groups<'h>(
     alloc: Global,
     captures: &Captures<'_, 'h>,
 ) -> Result<Vec<Option<&'h str>>, OutOfMemory>
-    ensures { IfOk result (λ groups. map capture_view groups.items ≡ found_texts captures.now) }
+    ensures { IfOk result (λ groups. map option_text groups.items ≡ found_texts captures.now) }
 {
     let count = captures.len();
     let mut groups = Vec::with_capacity(alloc, count.saturating_sub(1))?;
@@ -28,7 +28,7 @@ pub(super) fn groups<'h>(
 
 /// What a group spans, if it took part.
 fn group<'h>(captures: &Captures<'_, 'h>, index: usize) -> Option<&'h str>
-    ensures { capture_view result ≡ option_map (text_between (captures_haystack captures.now)) (captures_span captures.now index) }
+    ensures { option_text result ≡ option_map (text_between (captures_haystack captures.now)) (captures_span captures.now index) }
 {
     let found = captures.get(index)?;
     Some(found.as_str())

@@ -4,9 +4,9 @@ ghost use Rattle.std.specs.Str.{chars};
 ghost use Rattle.urlpattern_init.specs.Inheritance.{values_view};
 ghost use Rattle.urlpattern_init.specs.Split.{AuthorityFrom, EndsAt, HashAt, HashFrom, HostnameFrom, IsAbsoluteSplit, IsRelativeSplit, IsTextBetween, PathnameAt, PathnameFrom, PortAt, SearchAt, SearchFrom, UserinfoFrom, depth_before, ends_at, implied_pathname, is_at_sign, is_colon_sign, is_slash_sign};
 ghost use Rattle.urlpattern_init.specs.Splitting.{CanRead, HasRead, HasTurnForSlash, HasTurns, IsOwned, IsSource, NoAuthority, NoPathname, NoSearch, split_values, may_follow_hostname, may_follow_pathname, may_follow_port, may_follow_search, text_of_source, tokens_of};
-ghost use Rattle.urlpattern_syntax.specs.Parsing.{name_view};
 ghost use Rattle.urlpattern_syntax.specs.Eight.{at};
 ghost use Rattle.urlpattern_syntax.specs.Errors.{OnlyOutOfMemory};
+ghost use Rattle.urlpattern_syntax.specs.Text.{option_text};
 
 use super::sections::{Position, Section};
 use super::tokens::Source;
@@ -61,7 +61,7 @@ impl<'a> Split<'a> {
 
 /// A text of one's own, if there is one.
 fn owned(alloc: Global, text: Option<&str>) -> Result<Option<String>, Error>
-    ensures { IsOwned (name_view text.entry) result }
+    ensures { IsOwned (option_text text.entry) result }
 {
     match text {
         Some(text) => Ok(Some(String::from_str(alloc, text)?)),

@@ -4,11 +4,11 @@ ghost use Rattle.std.specs.Str.{chars};
 ghost use Rattle.urlpattern_canonical.specs.Canonical.{Reports};
 ghost use Rattle.urlpattern_init.specs.Inheritance as spec;
 ghost use Rattle.urlpattern_init.specs.Inheritance.{bytes_of, init_bytes, init_values, is_inheritable, missing, must_lack, up_to_last_slash, values_of, values_view};
-ghost use Rattle.urlpattern_init.specs.Processing.{IsFailureIn, IsGivenPathnameAnswer, IsTextAnswer, IsValueAfter, bytes_in, given_values, lacking_in, optional_bytes, optional_text, value_in, values_in};
+ghost use Rattle.urlpattern_init.specs.Processing.{IsFailureIn, IsGivenPathnameAnswer, IsTextAnswer, IsValueAfter, bytes_in, given_values, lacking_in, optional_bytes, value_in, values_in};
 ghost use Rattle.urlpattern_syntax.specs.declared.eight.ComponentName.{ComponentName};
 ghost use Rattle.urlpattern_syntax.specs.Eight.{at};
 ghost use Rattle.urlpattern_syntax.specs.Errors.{MemoryOr, OnlyOutOfMemory};
-ghost use Rattle.urlpattern_syntax.specs.Text.{text_of};
+ghost use Rattle.urlpattern_syntax.specs.Text.{text_of, option_text};
 
 use crate::init::UrlPatternInit;
 use std::alloc::Global;
@@ -187,8 +187,8 @@ impl Processing<'_> {
         component: ComponentName,
         protocol: Option<&str>,
     ) -> Result<Option<String>, Error>
-        ensures ok { IfOk result (λ value. value_in self.now (optional_text protocol.entry) component ≡ Ok (option_map text_of value)) }
-        ensures err { IfErr result (IsFailureIn self.now (optional_text protocol.entry) (optional_bytes protocol.entry) component) }
+        ensures ok { IfOk result (λ value. value_in self.now (option_text protocol.entry) component ≡ Ok (option_map text_of value)) }
+        ensures err { IfErr result (IsFailureIn self.now (option_text protocol.entry) (optional_bytes protocol.entry) component) }
     {
         match self.init.get(component) {
             Some(text) => Ok(Some(self.processed(component, text, protocol)?)),

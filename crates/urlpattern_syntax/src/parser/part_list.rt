@@ -3,10 +3,10 @@
 //! <https://urlpattern.spec.whatwg.org/#parts-and-part-lists>
 ghost use Rattle.std.specs.Prelude.{◌<◌, ◌≡◌, ◌∷◌, ◌++◌, [], Contains, IfOk, IfErr, OnOk};
 ghost use Rattle.std.specs.Str.{chars};
-ghost use Rattle.urlpattern_syntax.specs.Parsing.{IsNameGiven, IsPieceNamed, MemoryOr, name_view, part_list_view, piece_view};
+ghost use Rattle.urlpattern_syntax.specs.Parsing.{IsNameGiven, IsPieceNamed, MemoryOr, part_list_view, piece_view};
 ghost use Rattle.urlpattern_syntax.specs.PartLists.{AddsAll, AddsPiece, FailsToAdd, FailsToAddPiece, IsDuplicate, Knows, KnowsItsNames, list_names, next_name, pending_item, then_group, then_text};
 ghost use Rattle.urlpattern_syntax.specs.Reading.{next_number, number_after};
-ghost use Rattle.urlpattern_syntax.specs.Text.{text_of};
+ghost use Rattle.urlpattern_syntax.specs.Text.{option_text, text_of};
 
 use super::given_names::GivenNames;
 use super::pieces::{Piece, Placeholder};
@@ -57,12 +57,12 @@ impl<'a> PartList<'a> {
         match piece {
             Piece::Text(text) => Ok(self.add_plain(text)?),
             Piece::TextGroup(text, PartModifier::None) => Ok(self.add_plain(text)?),
-            Piece::TextGroup(text, modifier) => self.add_fixed(parser, text, modifier.copied()),
+            Piece::TextGroup(text, modifier) => self.add_fixed(parser, text, *modifier),
             Piece::Bare(prefix, placeholder, modifier) => {
-                self.add_group(parser, prefix, placeholder, "", modifier.copied())
+                self.add_group(parser, prefix, placeholder, "", *modifier)
             }
             Piece::Group(before, placeholder, after, modifier) => {
-                self.add_group(parser, before, placeholder, after, modifier.copied())
+                self.add_group(parser, before, placeholder, after, *modifier)
             }
         }
     }
@@ -110,11 +110,11 @@ impl<'a> PartList<'a> {
     ) -> Result<(), Error>
         requires callable { F.IsAlwaysCallable parser.now.encoding_callback }
         requires room { self.old.next_numeric_name < usize.MAX }
-        requires named { IsNameGiven (name_view placeholder.now.name) }
+        requires named { IsNameGiven (option_text placeholder.now.name) }
         requires knows { KnowsItsNames self.old }
         ensures knows { OnOk result (KnowsItsNames self.new) }
         ensures ok { OnOk result (AddsAll F.Fn parser.now self.old (then_group self.old before.now placeholder.now after.now modifier) self.new) }
-        ensures number { OnOk result (self.new.next_numeric_name ≡ next_number (name_view placeholder.now.name) self.old.next_numeric_name) }
+        ensures number { OnOk result (self.new.next_numeric_name ≡ next_number (option_text placeholder.now.name) self.old.next_numeric_name) }
         ensures err { IfErr result (FailsToAdd F.Fn parser.now self.old (then_group self.old before.now placeholder.now after.now modifier)) }
     {
         self.add_pending(parser)?;
@@ -140,12 +140,12 @@ impl<'a> PartList<'a> {
     /// <https://urlpattern.spec.whatwg.org/#is-a-duplicate-name>
     fn new_name(&mut self, alloc: Global, name: Option<&'a str>) -> Result<String, Error>
         requires knows { KnowsItsNames self.old }
-        requires named { IsNameGiven (name_view name) }
+        requires named { IsNameGiven (option_text name) }
         requires room { self.old.next_numeric_name < usize.MAX }
         ensures name { IfOk result (λ text. text_of text ≡ next_name self.old name.entry) }
         ensures new { OnOk result (¬ Contains (list_names self.old) (next_name self.old name.entry)) }
         ensures knows { OnOk result (Knows self.new (list_names self.old ++ next_name self.old name.entry ∷ [])) }
-        ensures number { OnOk result (self.new.next_numeric_name ≡ next_number (name_view name.entry) self.old.next_numeric_name) }
+        ensures number { OnOk result (self.new.next_numeric_name ≡ next_number (option_text name.entry) self.old.next_numeric_name) }
         ensures same { OnOk result ((self.new.parts ≡ self.old.parts) × (self.new.pending_fixed_value ≡ self.old.pending_fixed_value)) }
         ensures err { IfErr result (MemoryOr (IsDuplicate self.old name.entry)) }
     {

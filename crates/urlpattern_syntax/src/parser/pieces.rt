@@ -4,9 +4,9 @@
 ghost use Rattle.std.specs.Prelude.{◌≡◌, ◌≢◌, ◌∷◌, ◌++◌, ◌<◌, ◌≤◌, ℕ, List, IsTrue, IfErr, IfNone, IfOk, IfSome, OnOk, length};
 ghost use Rattle.std.specs.Str.{chars};
 ghost use Rattle.urlpattern_syntax.specs.declared.tokenizer.TokenType.TheVariants as kinds;
-ghost use Rattle.urlpattern_syntax.specs.Parsing.{BeginsWithModifier, BeginsWithTexts, HasTokensLeft, IsNameGiven, IsNext, IsNextAfter, IsNextNamed, IsShorter, Stands, StartsText, Takes, TakesClose, TakesPlaceholder, TakesRow, name_view, reader_left, reader_text};
+ghost use Rattle.urlpattern_syntax.specs.Parsing.{BeginsWithModifier, BeginsWithTexts, HasTokensLeft, IsNameGiven, IsNext, IsNextAfter, IsNextNamed, IsShorter, Stands, StartsText, Takes, TakesClose, TakesPlaceholder, TakesRow, reader_left, reader_text};
 ghost use Rattle.urlpattern_syntax.specs.Pieces.{is_placeholder, is_text};
-ghost use Rattle.urlpattern_syntax.specs.Text.{text_of};
+ghost use Rattle.urlpattern_syntax.specs.Text.{option_text, text_of};
 ghost use Rattle.urlpattern_syntax.specs.Tokens.{ReportsFault, TokenView, token_view};
 
 use crate::error::Error;
@@ -248,7 +248,7 @@ impl<'a> Reader<'a> {
         requires stands { Stands self.old }
         requires placeholder { IsTrue (is_placeholder self.old.token.kind) }
         ensures placeholder { IfOk result (TakesPlaceholder self.old self.new) }
-        ensures named { IfOk result (λ placeholder. IsNameGiven (name_view placeholder.name)) }
+        ensures named { IfOk result (λ placeholder. IsNameGiven (option_text placeholder.name)) }
         ensures less { OnOk result (reader_left self.new < reader_left self.old) }
         ensures fault { IfErr result (ReportsFault (reader_text self.old)) }
     {

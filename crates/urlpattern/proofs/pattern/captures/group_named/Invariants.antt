@@ -4,12 +4,11 @@ use Rattle.std.specs.Option.{option_or}
 use Rattle.std.specs.Slice.Iter.{iter_rest}
 use Rattle.std.specs.Str.{chars}
 use Rattle.urlpattern.specs.Match.{group_of}
-use Rattle.urlpattern_core.specs.CaptureTexts.{capture_view}
-use Rattle.urlpattern_syntax.specs.Text.{text_of}
+use Rattle.urlpattern_syntax.specs.Text.{option_text, text_of}
 use Rattle.urlpattern.proofs.pattern.captures.group_named.Given as goal
 
 -- what is still to come counts before what was found
 abbrev pub invariant-loop-name : goal.invariant-loop-name
 invariant-loop-name l =
-    option_or (group_of (map (λ name. text_of name) (iter_rest (zip_first l.name-iterator))) (map capture_view (iter_rest (zip_second l.name-iterator))) (chars l.group)) (option_map capture_view l.found)
-    ≡ group_of (map (λ name. text_of name) l.names) (map capture_view l.captures) (chars l.group)
+    option_or (group_of (map (λ name. text_of name) (iter_rest (zip_first l.name-iterator))) (map option_text (iter_rest (zip_second l.name-iterator))) (chars l.group)) (option_map option_text l.found)
+    ≡ group_of (map (λ name. text_of name) l.names) (map option_text l.captures) (chars l.group)

@@ -5,6 +5,6 @@ use Rattle.urlpattern.proofs.quirks.inputs.match_init.Goals as goal
 
 pub returns-in-Err-Url-clause-found : goal.returns-in-Err-Url-clause-found
 returns-in-Err-Url-clause-found c =
-    rw (← c.borrowed.ensures)
-    (refused_by_url (parsed_base (option_copied c.borrowed.result)) (text_bytes (option_copied c.borrowed.result)) c.in-Err-Url.field-0 c.in-Err-Url.field-0-0
+    rw (← c.as_deref.ensures.value)
+    (refused_by_url (parsed_base (option_copied c.as_deref.result)) (text_bytes (option_copied c.as_deref.result)) c.in-Err-Url.field-0 c.in-Err-Url.field-0-0
     c.in-Err-Url.field-0-is c.in-Err-Url.ensures.err)

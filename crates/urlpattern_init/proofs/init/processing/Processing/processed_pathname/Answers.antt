@@ -1,7 +1,8 @@
-use Rattle.std.proofs.Common.{◌≡◌, [], ◌++◌, ◌∙◌, option_copied, option_map, sym, ap}
+use Rattle.std.proofs.Common.{◌≡◌, [], ◌++◌, ◌∙◌, sym, ap}
 use Rattle.std.specs.Str.{chars}
 use Rattle.urlpattern_canonical.specs.Canonical.{processed_base}
 use Rattle.urlpattern_syntax.proofs.StringTexts.{text-append}
+use Rattle.urlpattern_syntax.specs.Text.{option_text}
 use Rattle.urlpattern_init.proofs.InheritanceLemmas.{answers-text, put_before-absolute, put_before-base, put_before-none, put_before-opaque}
 use Rattle.urlpattern_init.specs.Inheritance.{put_before, up_to_last_slash}
 use Rattle.urlpattern_init.proofs.init.processing.Processing.processed_pathname.Goals as goal
@@ -23,7 +24,7 @@ returns-in_ok-push_str-in-Some c =
     = text-append c.in_ok-pathname-in-Some.pathname c.args.text.now (c.deref.ensures ∙ c.in_ok-push_str-in-Some.ensures.bytes)
     ∙ ap (λ front. front ++ text) (c.in_ok-pathname-in-Some.ensures.ok ∙ sym put)
     in
-    answers-text mode (option_map chars (option_copied c.args.protocol)) c.deref.result.now _ c.process_pathname.result c.deref.utf8 joined
+    answers-text mode (option_text c.args.protocol) c.deref.result.now _ c.process_pathname.result c.deref.utf8 joined
     c.process_pathname.ensures
 
 pub returns-in_default : goal.returns-in_default
@@ -41,5 +42,5 @@ returns-in_default c =
       | in_default-via-in_default w ↦ put_before-none mode c.args.self.now.init.now.base_url text w.in_default.not-Some
     ]
     in
-    answers-text mode (option_map chars (option_copied c.args.protocol)) c.args.text.now _ c.process_pathname-in_default.result c.utf8.text
+    answers-text mode (option_text c.args.protocol) c.args.text.now _ c.process_pathname-in_default.result c.utf8.text
     (ap (λ front. front ++ text) (sym put)) c.process_pathname-in_default.ensures

@@ -4,12 +4,12 @@ use Rattle.std.proofs.lemmas.List.{map-append}
 use Rattle.std.proofs.lemmas.Result.{err_from_is_err_and}
 use Rattle.urlpattern_syntax.specs.declared.parser.Part.{Part}
 use Rattle.urlpattern_syntax.specs.Errors.{error_view}
-use Rattle.urlpattern_syntax.specs.Parsing.{PartListView, group_item, item_demands, name_view, part_list_view, placeholder_view}
+use Rattle.urlpattern_syntax.specs.Parsing.{PartListView, group_item, item_demands, part_list_view, placeholder_view}
 use Rattle.urlpattern_syntax.specs.PartLists.{IsDuplicate, list_names, parser_encoding, parser_options, then_group}
 use Rattle.urlpattern_syntax.specs.Parts.{PartView, part_view, parts_view}
 use Rattle.urlpattern_syntax.specs.Reading.{FirstFails, capture_part, name_or}
 use Rattle.urlpattern_syntax.specs.RegexpText.{group_names}
-use Rattle.urlpattern_syntax.specs.Text.{text_of}
+use Rattle.urlpattern_syntax.specs.Text.{option_text, text_of}
 use Rattle.urlpattern_syntax.proofs.GivenNameLemmas.{knows_same, names_pending, names_with}
 use Rattle.urlpattern_syntax.proofs.GroupLemmas.{adds_group, capture_view, name_fails, prefix_fails, suffix_fails}
 use Rattle.urlpattern_syntax.proofs.ReadingLemmas.{MemoryOr-weaker}
@@ -75,7 +75,7 @@ returns-clause-knows g c =
     let given = c.new_name.new.self.given_names in
     let next = c.new_name.new.self.next_numeric_name in
     let new : PartListView = record { parts = parts_view c.push.new.self.items; pending = text_of c.new_name.new.self.pending_fixed_value; number = next } in
-    let name = name_or (name_view c.args.placeholder.now.name) in
+    let name = name_or (option_text c.args.placeholder.now.name) in
     let group = group_item (chars c.args.before.now) c.args.placeholder.now (chars c.args.after.now) c.args.modifier old.number in
     let added : group_names new.parts ≡ group_names old.parts ++ name old.number ∷ [] = names_with _ _ old new (group ∷ []) (returns-clause-ok g c) in
     let before : group_names mid.parts ≡ group_names old.parts = names_pending _ _ old mid c.in_ok-add_pending.ensures.ok in
