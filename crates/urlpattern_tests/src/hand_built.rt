@@ -59,7 +59,7 @@ fn with_pathname<R: RegExp>(alloc: Global, pathname: Component<R>) -> Result<Url
 fn expect_captured(rt: &impl Abort, found: &UrlPatternComponentResult, groups: Groups<'_>) {
     assert_eq!(rt; found.groups.len(), groups.len());
     for (name, expected) in groups {
-        match found.groups.get(name) {
+        match found.groups.get(*name) {
             Some(captured) => assert_eq!(rt; captured.as_deref(), *expected, "of {name:?}"),
             None => panic!(rt; "no group {name:?}"),
         }
