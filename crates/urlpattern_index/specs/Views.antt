@@ -1,5 +1,5 @@
 -- What contracts see of fixed texts and of addresses: their characters.
-use Rattle.std.specs.Prelude.{ℕ, List, chars, option_map}
+use Rattle.std.specs.Prelude.{chars, option_map}
 use Rattle.urlpattern_index.specs.FixedTexts.{AddressTexts, FixedPath, FixedTexts}
 use Rattle.urlpattern_index.specs.FixedTexts as paths
 use Rattle.urlpattern_index.specs.declared.fixed.Address.{Address}

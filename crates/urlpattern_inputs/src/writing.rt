@@ -1,6 +1,6 @@
 //! The steps of writing plain values as JSON, by which the types of this crate and those of compiled patterns are written.
 
-ghost use Rattle.std.specs.Prelude.{◌≡◌, OnOk, Some, option_map, string_bytes};
+ghost use Rattle.std.specs.Prelude.{OnOk, Some, option_map, string_bytes};
 ghost use Rattle.serde_json.specs.Data.{string};
 ghost use Rattle.urlpattern_inputs.specs.Trees.{Gain};
 
