@@ -18,14 +18,15 @@ use urlpattern::parser::{Options, parse_pattern_string};
 use urlpattern::regexp::PatternRegexp;
 use urlpattern::{Error, UrlPattern, UrlPatternList, UrlPatternOptions};
 
-/// A pattern over the library's own engine. It answers what `regex::Regex` answers, is made many times faster, and matches most
-/// patterns many times faster where an engine is asked. `UrlPattern` alone is over `regex::Regex`, as in the Rust crate.
+// docs: pattern
+/// A pattern over the library's own engine. It answers as `regex::Regex` does, the engine of `UrlPattern` alone, mostly faster.
 type Pattern = UrlPattern<PatternRegexp>;
 
 /// The pattern of a constructor string.
 fn pattern(alloc: Global, text: &str) -> Result<Pattern, Error> {
     Pattern::from_constructor_string(alloc, text, None, UrlPatternOptions::default())
 }
+// docs: end
 
 /// The user that a URL names, in words.
 fn user_line(alloc: Global, url: &Url) -> Result<String, Error> {

@@ -1,5 +1,6 @@
 //! A permission check: which URLs may be seen.
 
+// docs: permission
 ghost use Rattle.std.specs.Prelude.{IfOk, IsTrue};
 ghost use Rattle.urlpattern.specs.Errors.{OnlyOutOfMemory};
 ghost use Rattle.urlpattern.specs.Match.{HasMatch};
@@ -27,3 +28,4 @@ pub fn is_permitted<R: RegExp>(
     tests_agree_with_matches::<R>();
     permitted.test_url(alloc, url)
 }
+// docs: end

@@ -30,8 +30,10 @@ pub fn user<'a, R: RegExp>(
     ensures none { IfOk result (λ found. IfNone found (NamesNone R.answer (pattern_view users.now) url.now)) }
     ensures memory { OnlyOutOfMemory result }
 {
+    // docs: user
     let Some(found) = users.captures(alloc, url)? else {
         return Ok(None);
     };
     Ok(found.get(ComponentName::Pathname, ID).flatten())
+    // docs: end
 }

@@ -17,6 +17,8 @@ mod plain;
 #[cfg(test)]
 mod results;
 #[cfg(test)]
+mod requests;
+#[cfg(test)]
 mod stubborn;
 #[cfg(test)]
 mod values;

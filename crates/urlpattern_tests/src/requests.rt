@@ -1,0 +1,114 @@
+//! Calls that promise how often they ask for memory at most.
+//!
+//! Of each pattern one test makes the parts alone, and each other one makes the parts and then one call. The difference of both
+//! numbers of requests is what the call makes; `.ci/refuse` counts it and has the bounds.
+
+use std::alloc::Global;
+use std::process::Abort;
+use std::test::Fail;
+use urlpattern_core::Error;
+use urlpattern_core::component::{
+    generate_pattern_string, generate_regular_expression_and_name_list,
+};
+use urlpattern_core::parser::{Options, Part, parse_pattern_string};
+
+/// A pathname pattern, its regular expression, and the bytes of that.
+type Case = (&'static str, &'static str, usize);
+
+const USERS: Case = ("/users/:id", "^/users(?:/([^/]+?))$", 21);
+
+const REPEATED: Case = ("{a/:x/b}+", "^(?:a/((?:[^/]+?)(?:/ba/(?:[^/]+?))*)/b)$", 41);
+
+const THREE_NAMES: Case = ("/:a/:b/:c", "^(?:/([^/]+?))(?:/([^/]+?))(?:/([^/]+?))$", 41);
+
+const EMPTY: Case = ("", "^$", 2);
+
+/// The options of a pathname, and the parts of a pattern.
+fn made(alloc: Global, (pattern, _, _): Case) -> Result<(Options, Vec<Part>), Error> {
+    let options = Options::pathname(alloc)?;
+    let unchanged = |text: &str| -> Result<String, Error> { Ok(String::from_str(alloc, text)?) };
+    let parts = parse_pattern_string(alloc, pattern, &options, unchanged)?;
+    Ok((options, parts))
+}
+
+/// Makes the parts of a pattern, and nothing of them.
+fn make(alloc: Global, case: Case) -> Result<(), Fail> {
+    drop(made(alloc, case)?);
+    Ok(())
+}
+
+/// Makes the parts of a pattern, and their regular expression with its names.
+fn express(rt: &impl Abort, alloc: Global, case: Case) -> Result<(), Fail> {
+    let (options, parts) = made(alloc, case)?;
+    let (text, _) = generate_regular_expression_and_name_list(alloc, &parts, &options)?;
+    assert_eq!(rt; (text.as_str(), text.len()), (case.1, case.2));
+    Ok(())
+}
+
+/// Makes the parts of a pattern, and prints them.
+fn print(rt: &impl Abort, alloc: Global, case: Case) -> Result<(), Fail> {
+    let (options, parts) = made(alloc, case)?;
+    let text = generate_pattern_string(alloc, &parts, &options)?;
+    assert_eq!(rt; text.as_str(), case.0);
+    Ok(())
+}
+
+#[test]
+fn the_parts_of_users(rt: HostRuntime) -> Result<(), Fail> {
+    make(rt.alloc(), USERS)
+}
+
+#[test]
+fn the_expression_of_users(rt: HostRuntime) -> Result<(), Fail> {
+    express(&rt, rt.alloc(), USERS)
+}
+
+#[test]
+fn the_printed_users(rt: HostRuntime) -> Result<(), Fail> {
+    print(&rt, rt.alloc(), USERS)
+}
+
+#[test]
+fn the_parts_of_a_repeated_name(rt: HostRuntime) -> Result<(), Fail> {
+    make(rt.alloc(), REPEATED)
+}
+
+#[test]
+fn the_expression_of_a_repeated_name(rt: HostRuntime) -> Result<(), Fail> {
+    express(&rt, rt.alloc(), REPEATED)
+}
+
+#[test]
+fn the_printed_repeated_name(rt: HostRuntime) -> Result<(), Fail> {
+    print(&rt, rt.alloc(), REPEATED)
+}
+
+#[test]
+fn the_parts_of_three_names(rt: HostRuntime) -> Result<(), Fail> {
+    make(rt.alloc(), THREE_NAMES)
+}
+
+#[test]
+fn the_expression_of_three_names(rt: HostRuntime) -> Result<(), Fail> {
+    express(&rt, rt.alloc(), THREE_NAMES)
+}
+
+#[test]
+fn the_printed_three_names(rt: HostRuntime) -> Result<(), Fail> {
+    print(&rt, rt.alloc(), THREE_NAMES)
+}
+
+#[test]
+fn the_parts_of_the_empty_pattern(rt: HostRuntime) -> Result<(), Fail> {
+    make(rt.alloc(), EMPTY)
+}
+
+#[test]
+fn the_expression_of_the_empty_pattern(rt: HostRuntime) -> Result<(), Fail> {
+    express(&rt, rt.alloc(), EMPTY)
+}
+
+#[test]
+fn the_printed_empty_pattern(rt: HostRuntime) -> Result<(), Fail> {
+    print(&rt, rt.alloc(), EMPTY)
+}
