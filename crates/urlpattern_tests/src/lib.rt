@@ -15,9 +15,9 @@ mod parts;
 #[cfg(test)]
 mod plain;
 #[cfg(test)]
-mod results;
-#[cfg(test)]
 mod requests;
+#[cfg(test)]
+mod results;
 #[cfg(test)]
 mod stubborn;
 #[cfg(test)]
