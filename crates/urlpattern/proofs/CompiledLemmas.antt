@@ -126,12 +126,12 @@ pub compiled_weaker : {E : Type 0} (engine : Engine E)
     → IfOk result (λ compiled. IsCompiledFrom engine text options strong (component_view compiled))
     → IfOk result (λ compiled. HasEngine (component_view compiled))
     → IfOk result (λ compiled. IsCompiledFrom engine pattern manner weak (component_view compiled) × HasEngine (component_view compiled))
-compiled_weaker engine strong weak h text pattern options manner (Err error) e f compiled engine = tt
-compiled_weaker engine strong weak h text pattern options manner (Ok made) e f compiled engine = (
+compiled_weaker engine strong weak h text pattern options manner (Err error) e f compiled taken = tt
+compiled_weaker engine strong weak h text pattern options manner (Ok made) e f compiled taken = (
   subst (λ o. IsCompiledFrom engine pattern o weak (component_view made)) f
       (subst (λ t. IsCompiledFrom engine t options weak (component_view made)) e
       (compiled.0, reads_weaker strong weak h text options compiled.0 compiled.1, compiled.2)),
-  engine,
+  taken,
 )
 
 refused_weaker-view : {E : Type 0} (engine : Engine E)

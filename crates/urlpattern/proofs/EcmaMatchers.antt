@@ -21,4 +21,4 @@ kept_first regexp (Some regex) read some tree text is scalars = regex_answers_fi
 
 pub kept_by_ecma_first : EachAnswersFirst ecma_engine (TookText KeepsRegex)
 kept_by_ecma_first = made_first ecma_engine _ KeepsRegex (λ options flags parts matcher kept. kept.took)
-    (λ ecma regexp flags made some tree text is scalars. kept_first regexp ecma.2 made.has_read some tree text is scalars)
+    (λ regexp flags ecma made some tree text is scalars. kept_first regexp ecma.2 made.has_read some tree text is scalars)
