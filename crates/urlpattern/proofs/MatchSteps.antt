@@ -1,15 +1,13 @@
 -- From what eight components answer to what a call returns.
 use Rattle.std.proofs.Common.{◌≡◌, ℕ, Bor, List, [], ◌∷◌, true, false, refl, sym, ◌∙◌, subst, inl, inr}
-use Rattle.std.specs.HashMap.{HashMap}
-use Rattle.std.specs.Prelude.{Bool, Option, Some, None, Result, Ok, Err, String, is_some, IfOk, IfNone, IfSome, MatchBool, MatchOption, ◌⊎◌}
+use Rattle.std.specs.Prelude.{Bool, Option, Some, None, Result, Ok, Err, is_some, IfOk, IfNone, IfSome, MatchBool, MatchOption, ◌⊎◌}
 use Rattle.std.specs.Str.{chars}
-use Rattle.std.specs.declared.alloc.Global.{Global}
 use Rattle.urlpattern_syntax.specs.declared.eight.ComponentName.{ComponentName}
 use Rattle.urlpattern_init.specs.declared.init.UrlPatternMatchInput.{UrlPatternMatchInput}
 use Rattle.urlpattern_syntax.specs.declared.eight.Eight.{Eight}
 use Rattle.urlpattern_syntax.proofs.EightLemmas.{by_name}
 use Rattle.urlpattern.specs.Calls.{AreLooks, AskWithCause, borrowed_texts}
-use Rattle.urlpattern.specs.Match.{AreMatched, AsksAnEngine, HasMatch, HasNoMatch, IsMatch, IsMatchOf, IsRefused, IsSameResult, ResultView, group_in}
+use Rattle.urlpattern.specs.Match.{AreMatched, AsksAnEngine, HasMatch, HasNoMatch, IsMatch, IsMatchOf, IsRefused, IsSameResult, ResultView}
 use Rattle.urlpattern.specs.MatchInput.{input_texts}
 use Rattle.urlpattern.specs.Patterns.{PatternView}
 use Rattle.urlpattern_core.specs.Looks.{IsAsking, look_answer}
