@@ -1,5 +1,5 @@
 -- The groups of a match by `regex::Regex` are those of the first way.
-use Rattle.std.proofs.Common.{◌≡◌, ℕ, Bool, false, List, ap, subst, sym, ◌∙◌}
+use Rattle.std.proofs.Common.{◌≡◌, ℕ, false, List, ap, subst, sym, ◌∙◌}
 use Rattle.std.proofs.lemmas.Option.{same_Some}
 use Rattle.std.specs.Prelude.{⊤, Some, Ok}
 use Rattle.regex.specs.declared.string.regex.Regex.{Regex}

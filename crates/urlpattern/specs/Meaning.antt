@@ -1,6 +1,6 @@
 -- What a match is in the words of pattern texts: the parts that they read as mean the texts of the input, and the groups
 -- are the names of these parts beside what they capture.
-use Rattle.std.specs.Prelude.{◌≡◌, ⊤, ℕ, Bool, false, List, Option, Some, None, MatchOption, Ok, IsTrue}
+use Rattle.std.specs.Prelude.{◌≡◌, ⊤, ℕ, false, List, Option, Some, None, MatchOption, Ok, IsTrue}
 use Rattle.std.specs.Str.{all_scalars}
 use Rattle.urlpattern_init.specs.declared.init.UrlPatternInit.{UrlPatternInit}
 use Rattle.urlpattern_init.specs.declared.init.UrlPatternMatchInput.{UrlPatternMatchInput}

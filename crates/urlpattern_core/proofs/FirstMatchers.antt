@@ -1,8 +1,7 @@
 -- Engines whose values answer the first way of the tree of the text that they were made of, and matchers that ask them.
-use Rattle.std.proofs.Common.{◌≡◌, ℕ, List, Option, false, sym}
+use Rattle.std.proofs.Common.{ℕ, List, Option, false, sym}
 use Rattle.urlpattern_core.specs.Components.{IsEngineOf}
 use Rattle.urlpattern_core.specs.FirstWays.{AllAnswerAlike, EachAnswersFirst, IsTakenBy, ValuesAnswerFirst, ValuesFollowParts, ValuesFollowTexts}
-use Rattle.urlpattern_core.specs.Generated.{AreGenerated}
 use Rattle.urlpattern_core.specs.declared.regexp.RegExp.{Ghosts as Engine}
 use Rattle.urlpattern_meaning.specs.Dialect.{Follows, IsTreeOf, Items}
 use Rattle.urlpattern_meaning.specs.FirstAnswers.{AnswersFirst, AnswersFirstInMiddle, TookText}
