@@ -1,5 +1,5 @@
 -- What the program answers to its words, and what it refuses. Words and texts are bytes.
-use Rattle.std.specs.Prelude.{◌≡◌, ◌≢◌, ◌↔◌, ◌⊎◌, All, ◌++◌, ℕ, Bool, false, if◌then◌else◌, List, [], ◌∷◌, length, map, max, codes, bytes_eq, Option, None, Some, Result, Ok, Err, String, string_bytes, encode_utf8_all, slice_get, take, IsSome, MatchOption}
+use Rattle.std.specs.Prelude.{◌≡◌, ◌≢◌, ◌↔◌, ◌⊎◌, All, ◌++◌, ℕ, false, if◌then◌else◌, List, [], ◌∷◌, length, map, max, codes, bytes_eq, Option, None, Some, Result, Ok, Err, String, string_bytes, encode_utf8_all, slice_get, take, IsSome, MatchOption}
 use Rattle.std.specs.Ordering.{on}
 use Rattle.std.specs.Cmp.Lexicographic.{slice_cmp}
 use Rattle.std.specs.List.{AllZip, Contains, flat_map}
