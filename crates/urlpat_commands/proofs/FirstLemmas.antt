@@ -10,7 +10,7 @@ use Rattle.urlpat_commands.specs.Answers.{ArePatternsOf, IsFirstText, IsFirstTex
 use Rattle.urlpattern.specs.Errors.{MemoryOr}
 use Rattle.urlpattern.specs.Patterns.{PatternView, pattern_view}
 use Rattle.urlpattern.specs.FirstMatch.{patterns_view}
-use Rattle.urlpattern.specs.declared.pattern.UrlPattern.{UrlPattern}
+use Rattle.urlpattern.specs.UrlPattern.{UrlPattern}
 use Rattle.urlpattern_engine.specs.declared.pattern_regexp.PatternRegexp.{PatternRegexp}
 use Rattle.urlpattern_syntax.specs.declared.error.Error.{Error}
 

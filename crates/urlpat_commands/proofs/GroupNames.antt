@@ -20,7 +20,7 @@ use Rattle.urlpattern.specs.BorrowedMatches.{pattern_captures_view, groups_view}
 use Rattle.urlpattern.specs.Match.{ResultView}
 use Rattle.urlpattern.specs.Text.{option_text, text_of}
 use Rattle.urlpattern_syntax.specs.declared.eight.ComponentName.{ComponentName}
-use Rattle.urlpattern.specs.declared.pattern.captures.UrlPatternCaptures.{UrlPatternCaptures}
+use Rattle.urlpattern.specs.UrlPatternCaptures.{UrlPatternCaptures}
 
 -- ---- names that are gathered
 

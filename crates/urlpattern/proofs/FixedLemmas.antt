@@ -12,9 +12,9 @@ use Rattle.urlpattern_index.specs.FixedTexts.{BeginsWith, FixedPath, FixedTexts,
 use Rattle.urlpattern_syntax.specs.declared.eight.ComponentName.TheVariants.{Hostname, Pathname, Protocol}
 use Rattle.urlpattern_meaning.specs.Matching.{Answers, InnerView, Literal, MatcherView, folded}
 use Rattle.urlpattern_meaning.specs.PartMeaning.{Captures}
-use Rattle.urlpattern.specs.Match.{IsRefused}
-use Rattle.urlpattern.specs.Patterns.{PatternView, pattern_view}
-use Rattle.urlpattern.specs.declared.pattern.UrlPattern.{UrlPattern}
+use Rattle.urlpattern_pattern.specs.Match.{IsRefused}
+use Rattle.urlpattern_pattern.specs.Patterns.{PatternView, pattern_view}
+use Rattle.urlpattern_pattern.specs.declared.pattern.UrlPattern.{UrlPattern}
 use Rattle.urlpattern.proofs.Addresses.{address_of}
 use Rattle.urlpattern.specs.PatternKeys.{AreFixed, AreKeys, IsFixedPath, IsFixedText, IsKeyOf, text_matcher}
 use Rattle.urlpattern_syntax.specs.Eight.{Texts}

@@ -1,15 +1,6 @@
 pub mod Addresses
+pub mod FixedLemmas
+pub mod ListLemmas
 pub mod InputLemmas
 pub mod EcmaMatchers
-pub mod MatchInputLemmas
-pub mod Results
-pub mod GroupLemmas
-pub mod ListLemmas
-pub mod MatchExamples
-pub mod MatchLaws
-pub mod MatchSteps
-pub mod CompiledLemmas
-pub mod MeaningLemmas
 pub mod RegexGroups
-pub mod NameOrder
-pub mod FixedLemmas

@@ -7,12 +7,12 @@ use Rattle.std.specs.Prelude.{All, IfOk, IfSome, MatchOption, Option, Some, None
 use Rattle.urlpattern_init.specs.declared.init.UrlPatternMatchInput.{UrlPatternMatchInput}
 use Rattle.urlpattern_syntax.specs.declared.eight.ComponentName.{ComponentName}
 use Rattle.urlpattern_meaning.specs.PartMeaning.{Captures}
-use Rattle.urlpattern.proofs.MatchLaws.{refused-unmatched}
+use Rattle.urlpattern_pattern.proofs.MatchLaws.{refused-unmatched}
 use Rattle.urlpattern.specs.FirstMatch.{IsFirstMatch, IsFirstMatchOf, AsksBeforeMatch, patterns_view}
-use Rattle.urlpattern.specs.Match.{AsksAnEngine, HasMatch, HasNoMatch, IsMatchOf, IsRefused, ResultView}
-use Rattle.urlpattern.specs.MatchInput.{IsNoInput, input_texts}
-use Rattle.urlpattern.specs.Patterns.{PatternView, pattern_view}
-use Rattle.urlpattern.specs.declared.pattern.UrlPattern.{UrlPattern}
+use Rattle.urlpattern_pattern.specs.Match.{AsksAnEngine, HasMatch, HasNoMatch, IsMatchOf, IsRefused, ResultView}
+use Rattle.urlpattern_pattern.specs.MatchInput.{IsNoInput, input_texts}
+use Rattle.urlpattern_pattern.specs.Patterns.{PatternView, pattern_view}
+use Rattle.urlpattern_pattern.specs.declared.pattern.UrlPattern.{UrlPattern}
 use Rattle.urlpattern_syntax.specs.declared.error.Error.{Error}
 use Rattle.urlpattern_syntax.specs.Eight.{Texts}
 

@@ -18,13 +18,13 @@ use Rattle.urlpattern_meaning.specs.Dialect.{Follows}
 use Rattle.urlpattern_meaning.specs.FirstAnswers.{IsFirstOf, TookText}
 use Rattle.urlpattern_meaning.specs.Matching.{Answers, FollowsMiddle}
 use Rattle.urlpattern_meaning.specs.PartMeaning.{Captures}
-use Rattle.urlpattern.proofs.MatchLaws.{texts-one}
-use Rattle.urlpattern.proofs.MeaningLemmas.{none_custom, read_once}
-use Rattle.urlpattern.specs.Compiled.{AreCompiled, IsComponentCompiled, Manner, manner_of}
-use Rattle.urlpattern.specs.Match.{IsMatch, IsResultOf, IsSameResult, ResultView, group_of}
-use Rattle.urlpattern.specs.MatchInput.{input_texts}
-use Rattle.urlpattern.specs.Meaning.{IsFirstResult, MeaningPremises, RegexPremises}
-use Rattle.urlpattern.specs.Patterns.{PatternView}
+use Rattle.urlpattern_pattern.proofs.MatchLaws.{texts-one}
+use Rattle.urlpattern_pattern.proofs.MeaningLemmas.{none_custom, read_once}
+use Rattle.urlpattern_pattern.specs.Compiled.{AreCompiled, IsComponentCompiled, Manner, manner_of}
+use Rattle.urlpattern_pattern.specs.Match.{IsMatch, IsResultOf, IsSameResult, ResultView, group_of}
+use Rattle.urlpattern_pattern.specs.MatchInput.{input_texts}
+use Rattle.urlpattern_pattern.specs.Meaning.{IsFirstResult, MeaningPremises, RegexPremises}
+use Rattle.urlpattern_pattern.specs.Patterns.{PatternView}
 use Rattle.urlpattern_syntax.specs.Parts.{PartView}
 use Rattle.urlpattern_syntax.specs.RegexpText.{group_names, regexp_text}
 use Rattle.urlpattern_syntax.specs.Eight.{Texts, Values, at}

@@ -2,11 +2,11 @@
 use Rattle.std.specs.Prelude.{◌≡◌, ℕ, List, map, take, All, Option, Some, None, option_map, slice_get}
 use Rattle.urlpattern_init.specs.declared.init.UrlPatternMatchInput.{UrlPatternMatchInput}
 use Rattle.urlpattern_syntax.specs.declared.eight.ComponentName.{ComponentName}
-use Rattle.urlpattern.specs.declared.pattern.UrlPattern.{UrlPattern}
-use Rattle.urlpattern.specs.declared.pattern.captures.UrlPatternCaptures.{UrlPatternCaptures}
-use Rattle.urlpattern.specs.BorrowedMatches.{pattern_captures_view}
-use Rattle.urlpattern.specs.Match.{AsksAnEngine, HasMatch, HasNoMatch, IsMatch, IsMatchOf, IsRefused, ResultView, result_view, UrlPatternResult}
-use Rattle.urlpattern.specs.Patterns.{PatternView, pattern_view}
+use Rattle.urlpattern_pattern.specs.declared.pattern.UrlPattern.{UrlPattern}
+use Rattle.urlpattern_pattern.specs.declared.pattern.captures.UrlPatternCaptures.{UrlPatternCaptures}
+use Rattle.urlpattern_pattern.specs.BorrowedMatches.{pattern_captures_view}
+use Rattle.urlpattern_pattern.specs.Match.{AsksAnEngine, HasMatch, HasNoMatch, IsMatch, IsMatchOf, IsRefused, ResultView, result_view, UrlPatternResult}
+use Rattle.urlpattern_pattern.specs.Patterns.{PatternView, pattern_view}
 use Rattle.urlpattern_meaning.specs.PartMeaning.{Captures}
 use Rattle.urlpattern_syntax.specs.Eight.{Texts}
 

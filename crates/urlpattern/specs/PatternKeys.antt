@@ -5,8 +5,8 @@ use Rattle.urlpattern_index.specs.Keys.{key_of}
 use Rattle.urlpattern_index.specs.FixedTexts.{BeginsWith, FixedPath, FixedTexts, Is}
 use Rattle.urlpattern_syntax.specs.declared.eight.ComponentName.TheVariants.{Hostname, Pathname, Protocol}
 use Rattle.urlpattern_meaning.specs.Matching.{Literal, MatcherView}
-use Rattle.urlpattern.specs.Patterns.{PatternView, pattern_view}
-use Rattle.urlpattern.specs.declared.pattern.UrlPattern.{UrlPattern}
+use Rattle.urlpattern_pattern.specs.Patterns.{PatternView, pattern_view}
+use Rattle.urlpattern_pattern.specs.declared.pattern.UrlPattern.{UrlPattern}
 
 -- the matcher of one text, whose case is kept
 abbrev pub text_matcher : {E : Type 0} → List ℕ → MatcherView E

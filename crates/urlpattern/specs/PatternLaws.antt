@@ -8,11 +8,11 @@ use Rattle.urlpattern_meaning.specs.PartMeaning.{Captures}
 use Rattle.urlpattern_inputs.specs.declared.options.UrlPatternOptions.{UrlPatternOptions}
 use Rattle.urlpattern_syntax.specs.declared.eight.ComponentName.{ComponentName}
 use Rattle.urlpattern_syntax.specs.Eight.{Texts, Values, at}
-use Rattle.urlpattern.specs.Compiled.{AreCompiled, Manner, manner_of}
-use Rattle.urlpattern.specs.Match.{HasMatch, HasNoMatch, IsLongInput, IsMatch, IsSameResult, ResultView}
-use Rattle.urlpattern.specs.MatchInput.{input_texts}
-use Rattle.urlpattern.specs.Meaning.{IsExecuted, IsFirstResult, IsFoundByMeaning, MeaningPremises, RegexPremises}
-use Rattle.urlpattern.specs.Patterns.{PatternView}
+use Rattle.urlpattern_pattern.specs.Compiled.{AreCompiled, Manner, manner_of}
+use Rattle.urlpattern_pattern.specs.Match.{HasMatch, HasNoMatch, IsLongInput, IsMatch, IsSameResult, ResultView}
+use Rattle.urlpattern_pattern.specs.MatchInput.{input_texts}
+use Rattle.urlpattern_pattern.specs.Meaning.{IsExecuted, IsFirstResult, IsFoundByMeaning, MeaningPremises, RegexPremises}
+use Rattle.urlpattern_pattern.specs.Patterns.{PatternView}
 
 -- What a compiled pattern answers to an input is what its pattern texts mean.
 abbrev pub AnswersMeanTheParts : {E : Type 0} → Engine E → Type 0

@@ -1,7 +1,7 @@
 -- What browsers are answered.
 use Rattle.std.specs.Prelude.{◌≡◌, ℕ, List, Result, IfOk}
-use Rattle.urlpattern.specs.Compiled.{IsPatternOfInit}
-use Rattle.urlpattern.specs.Patterns.{PatternView, has_regexp_groups}
+use Rattle.urlpattern_pattern.specs.Compiled.{IsPatternOfInit}
+use Rattle.urlpattern_pattern.specs.Patterns.{PatternView, has_regexp_groups}
 use Rattle.urlpattern_core.specs.Components.{component_view}
 use Rattle.urlpattern_core.specs.declared.component.Component.{Component}
 use Rattle.urlpattern_compiled.specs.Plain.{plain_component}

@@ -1,25 +1,23 @@
 //! URL patterns: texts such as `/users/:id` that say which URLs are meant, and name their pieces.
 //!
-//! A whole pattern is compiled of eight components and matched against a URL or an init; a list of patterns gives the first that
-//! matches. The rest of the crate gathers what the crates below it have, so that a user names it alone.
+//! A list of patterns gives the first that matches, and `quirks` is for browsers. The rest of the crate gathers what the crates
+//! below it have, so that a user names it alone.
 //!
 //! <https://urlpattern.spec.whatwg.org/>
 #![tactic(auto)]
 
 pub mod laws;
 mod list;
-mod match_input;
-mod pattern;
 pub mod quirks;
 pub mod regexp;
 pub mod theorem;
 
 pub use list::UrlPatternList;
-pub use pattern::{
-    UrlPattern, UrlPatternCaptures, UrlPatternComponentResult, UrlPatternGroups, UrlPatternResult,
-};
 pub use urlpattern_canonical::canonicalize_and_process;
 pub use urlpattern_core::{Error, RegexSyntax, component, error, matcher, parser, tokenizer};
 pub use urlpattern_init::{UrlPatternInit, UrlPatternMatchInput};
 pub use urlpattern_inputs::UrlPatternOptions;
+pub use urlpattern_pattern::{
+    UrlPattern, UrlPatternCaptures, UrlPatternComponentResult, UrlPatternGroups, UrlPatternResult,
+};
 pub use urlpattern_syntax::eight::{ComponentName, Eight};

@@ -8,14 +8,15 @@ ghost use Rattle.std.specs.Prelude.{◌≡◌, ◌==◌, ◌++◌, [], ◌∷◌
 ghost use Rattle.std.specs.Slice.Iter.{iter_rest};
 ghost use Rattle.urlpattern_init.specs.Inheritance.{texts_of_url};
 ghost use Rattle.urlpattern_init.specs.declared.init.UrlPatternMatchInput.TheVariants as inputs;
-ghost use Rattle.urlpattern.specs.Calls.{borrowed_texts};
+ghost use Rattle.urlpattern_pattern.specs.Calls.{borrowed_texts};
 ghost use Rattle.urlpattern.specs.FirstMatch.{first_captures_view, first_view, patterns_view, IsFirstMatch, IsFirstMatchOf, AsksBeforeMatch};
-ghost use Rattle.urlpattern.specs.MatchInput.{texts_view};
-ghost use Rattle.urlpattern.specs.declared.pattern.UrlPattern.{UrlPattern};
+ghost use Rattle.urlpattern_pattern.specs.MatchInput.{texts_view};
+ghost use Rattle.urlpattern_pattern.specs.declared.pattern.UrlPattern.{UrlPattern};
 ghost use Rattle.urlpattern_syntax.specs.Errors.{OnlyOutOfMemory};
 
-use crate::match_input::parse_match_input;
-use crate::pattern::{UrlPattern, UrlPatternCaptures, UrlPatternResult, input_texts, url_texts};
+mod fixed;
+
+use fixed::fixed_of;
 use std::alloc::Global;
 use std::marker::Model;
 use std::slice;
@@ -26,6 +27,10 @@ use urlpattern_core::regexp::RegExp;
 use urlpattern_index::{Address, Index};
 use urlpattern_init::UrlPatternMatchInput;
 use urlpattern_inputs::MatchInput;
+use urlpattern_pattern::{
+    UrlPattern, UrlPatternCaptures, UrlPatternResult, captures_of_texts, input_texts,
+    parse_match_input, url_texts,
+};
 use urlpattern_syntax::eight::Eight;
 
 /// Patterns in their order, as the routes of a router.
@@ -39,7 +44,7 @@ pub struct UrlPatternList<R: RegExp = regex::Regex> {
 impl<R: RegExp> Model for UrlPatternList<R> {
     ghost use Rattle.std.specs.Prelude.{List};
     ghost use Rattle.urlpattern.specs.PatternKeys.{AreKeys};
-    ghost use Rattle.urlpattern.specs.declared.pattern.UrlPattern.{UrlPattern};
+    ghost use Rattle.urlpattern_pattern.specs.declared.pattern.UrlPattern.{UrlPattern};
 
     ghost Value = { List (UrlPattern R) };
 
@@ -70,7 +75,7 @@ impl<R: RegExp> UrlPatternList<R> {
         let Ok(()) = self.patterns.reserve(1) else {
             return Err(pattern);
         };
-        let Ok(()) = self.index.push(pattern.fixed()) else {
+        let Ok(()) = self.index.push(fixed_of(&pattern)) else {
             return Err(pattern);
         };
         match self.patterns.push(pattern) {
@@ -202,8 +207,8 @@ impl<R: RegExp> UrlPatternList<R> {
         let mut from = 0;
         while let Some(index) = candidates.least_from(from) {
             let pattern = &self.patterns[index];
-            if let Some(captures) = pattern.captured(alloc, &texts)? {
-                return Ok(Some((index, pattern.with_captures(texts, captures))));
+            if let Some(captures) = captures_of_texts(alloc, pattern, &texts)? {
+                return Ok(Some((index, captures)));
             }
             from = index + 1;
         }

@@ -7,9 +7,9 @@ mod parsing;
 
 pub use crate::Error;
 pub use crate::component::Component;
-pub use crate::match_input::parse_match_input;
 pub use ecma_regexp::EcmaRegexp;
 pub use inputs::{process_construct_pattern_input, process_match_input};
 pub use parsing::{parse_pattern, parse_pattern_as_lib};
 pub use urlpattern_compiled::{InnerMatcher, Matcher, UrlPattern, UrlPatternComponent};
 pub use urlpattern_inputs::{Inputs, MatchInput, StringOrInit, UrlPatternInit};
+pub use urlpattern_pattern::parse_match_input;

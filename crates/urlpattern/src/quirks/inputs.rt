@@ -10,7 +10,6 @@ ghost use Rattle.urlpattern_syntax.specs.Eight.{at};
 ghost use Rattle.urlpattern_syntax.specs.Errors.{MemoryOr, OnlyOutOfMemory};
 ghost use Rattle.urlpattern_syntax.specs.Text.{text_of, option_text};
 
-use crate::pattern::{init_of_text, parse_base, parse_url};
 use regex::Regex;
 use std::alloc::{AllocError, Global};
 use std::borrow::CowStr;
@@ -20,6 +19,7 @@ use urlpattern_core::Error;
 use urlpattern_init as init;
 use urlpattern_init::UrlPatternMatchInput;
 use urlpattern_inputs::{Inputs, StringOrInit, UrlPatternInit};
+use urlpattern_pattern::{init_of_text, parse_base, parse_url};
 use urlpattern_syntax::eight::{ComponentName, Eight};
 
 /// The init of a pattern: of a constructor string, with a base URL if there is one, or of components one by one.

@@ -1,13 +1,12 @@
 //! Patterns for browsers: compiled, and as plain data.
 ghost use Rattle.std.specs.Prelude.{◌≡◌, IfErr, IfOk};
-ghost use Rattle.urlpattern.specs.Compiled.{IsPatternOfInit, RefusesInit};
-ghost use Rattle.urlpattern.specs.Patterns.{pattern_view, IfPattern};
+ghost use Rattle.urlpattern_pattern.specs.Compiled.{IsPatternOfInit, RefusesInit};
+ghost use Rattle.urlpattern_pattern.specs.Patterns.{pattern_view, IfPattern};
 ghost use Rattle.urlpattern.specs.Quirks.{IsPlainOf, plain_pattern, IsPlainOfInit};
 ghost use Rattle.urlpattern_compiled.specs.Values.{pattern_by};
 ghost use Rattle.urlpattern_syntax.specs.Errors.{MemoryOr, OnlyOutOfMemory};
 ghost use Rattle.urlpattern_syntax.specs.Text.{text_of};
 
-use crate::pattern;
 use std::alloc::Global;
 use urlpattern_compiled::{UrlPattern, UrlPatternComponent};
 use urlpattern_core::Error;
@@ -15,6 +14,7 @@ use urlpattern_core::component::Component;
 use urlpattern_core::regexp::RegExp;
 use urlpattern_init::UrlPatternInit;
 use urlpattern_inputs::UrlPatternOptions;
+use urlpattern_pattern as pattern;
 
 /// Compiles a pattern from an init, and returns it as plain data.
 ///

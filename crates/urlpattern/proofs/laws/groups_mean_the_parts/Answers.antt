@@ -1,4 +1,4 @@
-use Rattle.urlpattern.proofs.MeaningLemmas.{executed_means}
+use Rattle.urlpattern_pattern.proofs.MeaningLemmas.{executed_means}
 use Rattle.urlpattern.proofs.laws.groups_mean_the_parts.Goals as goal
 
 pub returns : goal.returns

@@ -1,4 +1,4 @@
-use Rattle.urlpattern.proofs.MatchLaws.{match_from-test, match-not_both, match-one, test_from-match}
+use Rattle.urlpattern_pattern.proofs.MatchLaws.{match_from-test, match-not_both, match-one, test_from-match}
 use Rattle.urlpattern.proofs.laws.tests_agree_with_matches.Goals as goal
 
 pub returns-clause-agree : goal.returns-clause-agree

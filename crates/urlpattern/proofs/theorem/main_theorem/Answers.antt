@@ -10,7 +10,7 @@ use Rattle.urlpattern_meaning.proofs.OutcomesExist.{outcome_listed}
 use Rattle.urlpattern_meaning.proofs.OneMeaning.{each_tree_means, one_meaning}
 use Rattle.urlpattern_meaning.proofs.ReadsBack.{kept_reads, kept_reads_only, kept_unrefused, were_read_printable}
 use Rattle.urlpattern_meaning.specs.Laws.{listed}
-use Rattle.urlpattern.proofs.MatchLaws.{match_from-test, match-not_both, test_from-match}
+use Rattle.urlpattern_pattern.proofs.MatchLaws.{match_from-test, match-not_both, test_from-match}
 use Rattle.urlpattern.proofs.theorem.main_theorem.Goals as goal
 
 pub returns-clause-one_reading : goal.returns-clause-one_reading

@@ -3,18 +3,17 @@ use Rattle.std.proofs.lemmas.List.Elements.{All-more}
 use Rattle.std.proofs.lemmas.Option.{slice_get_read}
 use Rattle.std.specs.Prelude.{All, Contains, Some}
 use Rattle.urlpattern_index.specs.Keys.{address_keys}
-use Rattle.urlpattern.proofs.Results.{if_err}
+use Rattle.urlpattern_pattern.proofs.Results.{if_err}
 use Rattle.urlpattern.proofs.ListLemmas.{asks-views, first-views, refused-views}
 use Rattle.urlpattern.proofs.FixedLemmas.{candidate_within, passed_over}
-use Rattle.urlpattern.specs.BorrowedMatches.{pattern_captures_view}
-use Rattle.urlpattern.specs.Calls.{borrowed_texts, captures_of}
+use Rattle.urlpattern_pattern.specs.BorrowedMatches.{pattern_captures_view}
+use Rattle.urlpattern_pattern.specs.Calls.{borrowed_texts}
 use Rattle.urlpattern.specs.FirstMatch.{AsksBeforeMatch, IsFirstMatchOf, patterns_view}
-use Rattle.urlpattern.specs.Match.{IsMatchOf, IsRefused}
-use Rattle.urlpattern.specs.Patterns.{pattern_view}
+use Rattle.urlpattern_pattern.specs.Match.{IsMatchOf, IsRefused}
+use Rattle.urlpattern_pattern.specs.Patterns.{pattern_view}
 use Rattle.urlpattern.proofs.Addresses.{address_of}
-use Rattle.urlpattern.specs.declared.pattern.UrlPattern.{UrlPattern}
+use Rattle.urlpattern_pattern.specs.declared.pattern.UrlPattern.{UrlPattern}
 use Rattle.urlpattern.proofs.list.UrlPatternList.first.Goals as goal
-use Rattle.urlpattern_syntax.specs.Eight.{at}
 
 pub index-pattern-requires : goal.index-pattern-requires
 index-pattern-requires g c =
@@ -49,7 +48,7 @@ loop-index-preserved g c =
     candidate_within items c.self.inside.index (Contains (address_keys (address_of texts))) index c.self.invariant
     (c.candidates-candidates.ensures.listed index least.0.1) in
     let refuses = λ (pattern : UrlPattern g.row.R.Denot). IsRefused answer (pattern_view pattern) texts in
-    let refused = rw c.in_default-2.is at c.in_ok-captures.ensures.refused in
+    let refused = rw c.in_default-2.is at c.in_ok-captures.ensures.matched in
     let before =
     passed_over answer texts items c.self.inside.index c.candidates-candidates.result c.self.invariant c.candidates-candidates.ensures.found c.loop-index.from index c.loop-index.invariant.refused
     (λ number le lt among. let other : index ≤ number = least.1 number (le, among) in absurd (omega arith)) in
@@ -73,14 +72,11 @@ returns-in-Some-2-clause-first g c =
     let before =
     passed_over answer texts items c.self.inside.index c.candidates-candidates.result c.self.invariant c.candidates-candidates.ensures.found c.loop-index.from index c.loop-index.invariant.refused
     (λ number le lt among. let other : index ≤ number = least.1 number (le, among) in absurd (omega arith)) in
-    let is_match : IsMatchOf answer (pattern_view pattern) texts (pattern_captures_view c.with_captures.result) = record {
-      captures = λ name. captures_of (at c.in-Some-2.captures name);
-      are_answers = rw c.in-Some-2.is at c.in_ok-captures.ensures.answers;
-      are_results = c.with_captures.ensures;
-    } in
-    subst (λ (patterns : List (UrlPattern g.row.R.Denot)). IsFirstMatchOf answer (patterns_view patterns) texts (Some (index, pattern_captures_view c.with_captures.result)))
+    let match = pattern_captures_view c.in-Some-2.captures in
+    let is_match : IsMatchOf answer (pattern_view pattern) texts match = rw c.in-Some-2.is at c.in_ok-captures.ensures.matched in
+    subst (λ (patterns : List (UrlPattern g.row.R.Denot)). IsFirstMatchOf answer (patterns_view patterns) texts (Some (index, match)))
     c.self.view_is
-    (first-views answer texts items index pattern (pattern_captures_view c.with_captures.result) is_there before is_match)
+    (first-views answer texts items index pattern match is_there before is_match)
 
 pub returns-in_err-captures-clause-asked : goal.returns-in_err-captures-clause-asked
 returns-in_err-captures-clause-asked g c =

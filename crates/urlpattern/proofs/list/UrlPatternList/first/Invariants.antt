@@ -1,8 +1,8 @@
 use Rattle.std.proofs.Common.{length, take, ◌-◌, ◌≤◌}
 use Rattle.std.specs.Prelude.{All}
-use Rattle.urlpattern.specs.Calls.{borrowed_texts}
-use Rattle.urlpattern.specs.Match.{IsRefused}
-use Rattle.urlpattern.specs.Patterns.{pattern_view}
+use Rattle.urlpattern_pattern.specs.Calls.{borrowed_texts}
+use Rattle.urlpattern_pattern.specs.Match.{IsRefused}
+use Rattle.urlpattern_pattern.specs.Patterns.{pattern_view}
 use Rattle.urlpattern.proofs.list.UrlPatternList.first.Given as goal
 
 abbrev pub invariant-loop-index : goal.invariant-loop-index

@@ -2,11 +2,11 @@ use Rattle.std.proofs.Common.{ap, subst, sym}
 use Rattle.std.specs.Prelude.{Ok}
 use Rattle.urlpattern_init.specs.declared.init.UrlPatternMatchInput.TheVariants.{Url}
 use Rattle.urlpattern.proofs.ListLemmas.{first-of_texts}
-use Rattle.urlpattern.proofs.Results.{if_err}
-use Rattle.urlpattern.specs.BorrowedMatches.{pattern_captures_view}
-use Rattle.urlpattern.specs.Calls.{borrowed_texts}
+use Rattle.urlpattern_pattern.proofs.Results.{if_err}
+use Rattle.urlpattern_pattern.specs.BorrowedMatches.{pattern_captures_view}
+use Rattle.urlpattern_pattern.specs.Calls.{borrowed_texts}
 use Rattle.urlpattern.specs.FirstMatch.{AsksBeforeMatch, patterns_view}
-use Rattle.urlpattern.specs.declared.pattern.captures.UrlPatternCaptures.{UrlPatternCaptures}
+use Rattle.urlpattern_pattern.specs.declared.pattern.captures.UrlPatternCaptures.{UrlPatternCaptures}
 use Rattle.urlpattern.proofs.list.UrlPatternList.first_captures.Goals as goal
 use Rattle.urlpattern_syntax.specs.Eight.{Texts}
 

@@ -1,5 +1,5 @@
 use Rattle.std.proofs.Common.{subst}
-use Rattle.urlpattern.proofs.Results.{if_err}
+use Rattle.urlpattern_pattern.proofs.Results.{if_err}
 use Rattle.urlpattern.specs.FirstMatch.{AsksBeforeMatch, IsFirstMatchOf, first_captures_view, patterns_view}
 use Rattle.urlpattern.proofs.list.UrlPatternList.first_captures_of_input.Goals as goal
 use Rattle.urlpattern_syntax.specs.Eight.{Texts}

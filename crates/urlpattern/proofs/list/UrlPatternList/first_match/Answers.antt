@@ -1,10 +1,10 @@
 use Rattle.std.proofs.Common.{ap, sym, ◌∙◌}
 use Rattle.std.specs.Prelude.{◌≡◌, Ok}
 use Rattle.urlpattern.proofs.ListLemmas.{first-of_texts}
-use Rattle.urlpattern.specs.Calls.{borrowed_texts}
+use Rattle.urlpattern_pattern.specs.Calls.{borrowed_texts}
 use Rattle.urlpattern.specs.FirstMatch.{patterns_view}
-use Rattle.urlpattern.specs.Match.{result_view, UrlPatternResult}
-use Rattle.urlpattern.specs.MatchInput.{input_texts}
+use Rattle.urlpattern_pattern.specs.Match.{result_view, UrlPatternResult}
+use Rattle.urlpattern_pattern.specs.MatchInput.{input_texts}
 use Rattle.urlpattern.proofs.list.UrlPatternList.first_match.Goals as goal
 
 pub returns-in-Url-clause-first : goal.returns-in-Url-clause-first

@@ -1,9 +1,9 @@
 use Rattle.urlpattern.proofs.ListLemmas.{first-same}
-use Rattle.urlpattern.proofs.MatchSteps.{match-same}
-use Rattle.urlpattern.specs.BorrowedMatches.{pattern_captures_view}
-use Rattle.urlpattern.specs.Calls.{borrowed_texts}
+use Rattle.urlpattern_pattern.proofs.MatchSteps.{match-same}
+use Rattle.urlpattern_pattern.specs.BorrowedMatches.{pattern_captures_view}
+use Rattle.urlpattern_pattern.specs.Calls.{borrowed_texts}
 use Rattle.urlpattern.specs.FirstMatch.{patterns_view}
-use Rattle.urlpattern.specs.Match.{result_view}
+use Rattle.urlpattern_pattern.specs.Match.{result_view}
 use Rattle.urlpattern.proofs.list.UrlPatternList.first_result.Goals as goal
 
 pub returns-in_ok-to_result-in-Some-clause-first : goal.returns-in_ok-to_result-in-Some-clause-first

@@ -1,4 +1,4 @@
-use Rattle.urlpattern.specs.Patterns.{pattern_view}
+use Rattle.urlpattern_pattern.specs.Patterns.{pattern_view}
 use Rattle.urlpattern_core.proofs.Peeling.{if_ok-map}
 use Rattle.urlpattern.proofs.quirks.parsing.parse_pattern.Goals as goal
 

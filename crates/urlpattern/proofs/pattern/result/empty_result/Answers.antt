@@ -1,4 +1,0 @@
-use Rattle.urlpattern.proofs.pattern.result.empty_result.Goals as goal
-
-pub returns : goal.returns
-returns c = λ name. (c.from_fn.ensures name).1

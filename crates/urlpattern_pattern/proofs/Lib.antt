@@ -1,0 +1,9 @@
+pub mod Results
+pub mod MatchInputLemmas
+pub mod GroupLemmas
+pub mod NameOrder
+pub mod CompiledLemmas
+pub mod MatchSteps
+pub mod MatchLaws
+pub mod MatchExamples
+pub mod MeaningLemmas

@@ -1,0 +1,14 @@
+use Rattle.std.proofs.Common.{subst}
+use Rattle.std.specs.Prelude.{MatchOption}
+use Rattle.urlpattern_pattern.specs.BorrowedMatches.{pattern_captures_view}
+use Rattle.urlpattern_pattern.specs.Match.{IsMatchOf, IsRefused}
+use Rattle.urlpattern_pattern.specs.Patterns.{pattern_view}
+use Rattle.urlpattern_pattern.proofs.pattern.UrlPattern.captures_of_input.Goals as goal
+use Rattle.urlpattern_syntax.specs.Eight.{Texts}
+
+pub returns-clause-matched : goal.returns-clause-matched
+returns-clause-matched g c =
+    let answer = g.R.RegExp.answer in
+    let pattern = pattern_view c.args.self.now in
+    subst (λ (texts : Texts). MatchOption c.in_ok-captures_of_texts.field-0 (IsRefused answer pattern texts) (λ captures. IsMatchOf answer pattern texts (pattern_captures_view captures)))
+    c.input_texts.ensures c.in_ok-captures_of_texts.ensures.matched

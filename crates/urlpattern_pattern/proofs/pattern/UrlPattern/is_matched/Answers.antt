@@ -1,0 +1,13 @@
+use Rattle.urlpattern_pattern.proofs.MatchSteps.{reports-some}
+use Rattle.urlpattern_pattern.specs.Calls.{all_captures, borrowed_texts}
+use Rattle.urlpattern_pattern.specs.Match.{AreAnswers, AreMatched, IsRefused}
+use Rattle.urlpattern_pattern.specs.Patterns.{pattern_view}
+use Rattle.urlpattern_pattern.proofs.pattern.UrlPattern.is_matched.Goals as goal
+
+pub returns-clause-matched : goal.returns-clause-matched
+returns-clause-matched g c =
+    let answer = g.R.RegExp.answer in
+    let pattern = pattern_view c.args.self.now in
+    let texts = borrowed_texts c.args.texts in
+    reports-some (λ captures. AreAnswers answer pattern texts (all_captures captures)) (AreMatched answer pattern texts) (IsRefused answer pattern texts) _ _
+    c.is_some.ensures (λ captures answers name. (all_captures captures name, answers name)) c.in_ok-captured.ensures.answers c.in_ok-captured.ensures.refused

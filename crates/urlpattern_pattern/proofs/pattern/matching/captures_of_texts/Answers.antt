@@ -1,0 +1,13 @@
+use Rattle.urlpattern_pattern.specs.Calls.{captures_of}
+use Rattle.urlpattern_pattern.proofs.pattern.matching.captures_of_texts.Goals as goal
+use Rattle.urlpattern_syntax.specs.Eight.{at}
+
+pub returns-in-Some-clause-matched : goal.returns-in-Some-clause-matched
+returns-in-Some-clause-matched g c = record {
+  captures = λ name. captures_of (at c.in-Some.captures name);
+  are_answers = rw c.in-Some.is at c.in_ok-captures.ensures.answers;
+  are_results = c.with_captures.ensures;
+}
+
+pub returns-in-None-clause-matched : goal.returns-in-None-clause-matched
+returns-in-None-clause-matched g c = rw c.in-None.is at c.in_ok-captures.ensures.refused

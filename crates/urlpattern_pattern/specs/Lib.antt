@@ -1,0 +1,9 @@
+pub mod BorrowedMatches
+pub mod Calls
+pub mod Compiled
+pub mod CompilerSteps
+pub mod FromString
+pub mod Match
+pub mod MatchInput
+pub mod Meaning
+pub mod Patterns

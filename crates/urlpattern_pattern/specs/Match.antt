@@ -1,0 +1,124 @@
+-- What it means that a pattern matches an input, and the groups of a match, after the URLPattern Standard, section
+-- "Matching", at "match".
+use Rattle.std.specs.Prelude.{◌≡◌, ◌≤◌, ◌⊎◌, ℕ, Bool, List, MatchBool, MatchOption, reverse, zip, bytes_eq, Option, Some, None, option_map, Ok, String}
+use Rattle.std.specs.HashMap.{HashMap, get_by}
+use Rattle.std.specs.Map.{lookup}
+use Rattle.std.specs.declared.alloc.Global.{Global}
+use Rattle.urlpattern_syntax.specs.declared.eight.ComponentName.{ComponentName}
+use Rattle.urlpattern_syntax.specs.declared.eight.Eight.{Eight}
+use Rattle.urlpattern_init.specs.declared.init.UrlPatternMatchInput.{UrlPatternMatchInput}
+use Rattle.urlpattern_pattern.specs.declared.pattern.result.UrlPatternComponentResult.{UrlPatternComponentResult}
+use Rattle.urlpattern_pattern.specs.MatchInput.{IsNoInput, input_bytes, input_texts}
+use Rattle.urlpattern_pattern.specs.Patterns.{PatternView}
+use Rattle.urlpattern_canonical.specs.Canonical.{long_text}
+use Rattle.urlpattern_meaning.specs.Matching.{Answers, AsksEngine, IsMatched}
+use Rattle.urlpattern_meaning.specs.PartMeaning.{Captures}
+use Rattle.urlpattern_syntax.specs.Text.{text_of}
+use Rattle.urlpattern_syntax.specs.Eight.{Texts, at}
+
+-- ---- groups
+
+-- what the group of a name captures, if there is one: names stand beside captures, names or captures that have none beside
+-- them are passed over, and of equal names the last counts
+abbrev pub group_of : (names : List (List ℕ)) → Captures → (name : List ℕ) → Option (Option (List ℕ))
+group_of names captures name = lookup (bytes_eq name) (reverse (zip names captures))
+
+-- what a map of groups has at a name
+abbrev pub group_in : {S : Type 0} → HashMap (String Global) (Option (String Global)) S → (name : List ℕ) → Option (Option (List ℕ))
+group_in groups name = option_map (option_map text_of) (get_by (λ key. bytes_eq name (text_of key)) groups)
+
+-- ---- results
+
+-- A `UrlPatternComponentResult`: the text that was matched, and what its groups have at a name.
+pub record ResultView : Type 0 where
+  pub input : List ℕ
+  pub group : (name : List ℕ) → Option (Option (List ℕ))
+
+abbrev pub component_result_view : UrlPatternComponentResult → ResultView
+component_result_view result = record { input = text_of result.input; group = group_in result.groups }
+
+-- a result for each component
+abbrev pub UrlPatternResult : Type 0
+UrlPatternResult = Eight UrlPatternComponentResult
+
+-- the results, each as it is seen
+abbrev pub result_view : UrlPatternResult → ComponentName → ResultView
+result_view result name = component_result_view (at result name)
+
+-- The result of a component with groups of these names, which capture this of the text.
+pub record IsResultOf (names : List (List ℕ)) (captures : Captures) (text : List ℕ) (result : ResultView) : Type 0 where
+  pub has_input : result.input ≡ text
+  pub has_groups : (name : List ℕ) → result.group name ≡ group_of names captures name
+
+-- ---- matches
+
+-- each component's matcher answers its text by these captures
+abbrev pub AreAnswers : {E : Type 0} → (answer : E → List ℕ → Option Captures) → PatternView E → Texts → (captures : ComponentName → Captures) → Type 0
+AreAnswers answer pattern texts captures =
+    (component : ComponentName) → Answers answer (pattern component).matcher (at texts component) (Some (captures component))
+
+-- a component's matcher does not match its text
+abbrev pub IsRefused : {E : Type 0} → (answer : E → List ℕ → Option Captures) → PatternView E → Texts → Type 0
+IsRefused answer pattern texts =
+    (component : ComponentName) × Answers answer (pattern component).matcher (at texts component) None
+
+-- The pattern matches eight texts with this result, where engines' values answer in this way: there are eight answers,
+-- whose captures are the groups.
+pub record IsMatchOf {E : Type 0} (answer : E → List ℕ → Option Captures) (pattern : PatternView E) (texts : Texts) (result : ComponentName → ResultView) : Type 0 where
+  pub captures : ComponentName → Captures
+  pub are_answers : AreAnswers answer pattern texts captures
+  pub are_results : (component : ComponentName) → IsResultOf (pattern component).group_name_list (captures component) (at texts component) (result component)
+
+-- each of eight texts is matched
+abbrev pub AreMatched : {E : Type 0} → (answer : E → List ℕ → Option Captures) → PatternView E → Texts → Type 0
+AreMatched answer pattern texts = (component : ComponentName) → IsMatched answer (pattern component).matcher (at texts component)
+
+-- the pattern matches the input with this result: the texts that the input has
+abbrev pub IsMatch : {E : Type 0} → (answer : E → List ℕ → Option Captures) → PatternView E → UrlPatternMatchInput → (result : ComponentName → ResultView) → Type 0
+IsMatch answer pattern input result = (texts : Texts) × (input_texts input ≡ Ok texts) × IsMatchOf answer pattern texts result
+
+-- the pattern matches the input, with some result
+abbrev pub HasMatch : {E : Type 0} → (answer : E → List ℕ → Option Captures) → PatternView E → UrlPatternMatchInput → Type 0
+HasMatch answer pattern input = (texts : Texts) × (input_texts input ≡ Ok texts) × AreMatched answer pattern texts
+
+-- it does not: the input has no texts, or one of them is not matched
+abbrev pub HasNoMatch : {E : Type 0} → (answer : E → List ℕ → Option Captures) → PatternView E → UrlPatternMatchInput → Type 0
+HasNoMatch answer pattern input =
+    IsNoInput input ⊎ ((texts : Texts) × (input_texts input ≡ Ok texts) × IsRefused answer pattern texts)
+
+-- ---- what calls answer
+
+-- whether the pattern matches the input
+abbrev pub TestsInput : {E : Type 0} → (answer : E → List ℕ → Option Captures) → PatternView E → UrlPatternMatchInput → Bool → Type 0
+TestsInput answer pattern input matched = MatchBool matched (HasMatch answer pattern input) (HasNoMatch answer pattern input)
+
+-- whether it matches eight texts
+abbrev pub TestsTexts : {E : Type 0} → (answer : E → List ℕ → Option Captures) → PatternView E → Texts → Bool → Type 0
+TestsTexts answer pattern texts matched = MatchBool matched (AreMatched answer pattern texts) (IsRefused answer pattern texts)
+
+-- what is found in the input, seen in this way, is a match; None where there is none
+abbrev pub FindsInInput : {E R : Type 0} → (view : R → ComponentName → ResultView) → (answer : E → List ℕ → Option Captures) → PatternView E → UrlPatternMatchInput → Option R → Type 0
+FindsInInput view answer pattern input found =
+    MatchOption found (HasNoMatch answer pattern input) (λ result. IsMatch answer pattern input (view result))
+
+-- the same of eight texts
+abbrev pub FindsInTexts : {E R : Type 0} → (view : R → ComponentName → ResultView) → (answer : E → List ℕ → Option Captures) → PatternView E → Texts → Option R → Type 0
+FindsInTexts view answer pattern texts found =
+    MatchOption found (IsRefused answer pattern texts) (λ result. IsMatchOf answer pattern texts (view result))
+
+-- ---- when memory is allocated
+
+-- An engine is asked about the text of a component, and each component that asks none matches its text.
+pub record AsksAnEngine {E : Type 0} (answer : E → List ℕ → Option Captures) (pattern : PatternView E) (texts : Texts) : Type 0 where
+  pub asked : (component : ComponentName) × AsksEngine (pattern component).matcher (at texts component)
+  pub others :
+      (component : ComponentName) → AsksEngine (pattern component).matcher (at texts component) ⊎ IsMatched answer (pattern component).matcher (at texts component)
+
+-- ---- words of laws
+
+abbrev pub IsSameResult : (result other : ResultView) → Type 0
+IsSameResult result other = (result.input ≡ other.input) × ((name : List ℕ) → result.group name ≡ other.group name)
+
+-- a text about which `url` is asked is longer than it is sure to take
+abbrev pub IsLongInput : UrlPatternMatchInput → Type 0
+IsLongInput input = long_text ≤ input_bytes input

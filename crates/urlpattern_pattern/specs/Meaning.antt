@@ -1,0 +1,96 @@
+-- What a match is in the words of pattern texts: the parts that they read as mean the texts of the input, and the groups
+-- are the names of these parts beside what they capture.
+use Rattle.std.specs.Prelude.{◌≡◌, ⊤, ℕ, false, List, Option, Some, None, MatchOption, Ok, IsTrue}
+use Rattle.std.specs.Str.{all_scalars}
+use Rattle.urlpattern_init.specs.declared.init.UrlPatternInit.{UrlPatternInit}
+use Rattle.urlpattern_init.specs.declared.init.UrlPatternMatchInput.{UrlPatternMatchInput}
+use Rattle.urlpattern_syntax.specs.declared.eight.ComponentName.{ComponentName}
+use Rattle.urlpattern_inputs.specs.declared.options.UrlPatternOptions.{UrlPatternOptions}
+use Rattle.regex.specs.declared.string.regex.Regex.{Regex}
+use Rattle.urlpattern_core.specs.Components.{ComponentView}
+use Rattle.urlpattern_core.specs.declared.regexp.RegExp.{Ghosts as Engine}
+use Rattle.urlpattern_meaning.specs.FirstAnswers.{IsFirstOf, TookText}
+use Rattle.urlpattern_meaning.specs.Matching.{FollowsMiddle}
+use Rattle.urlpattern_meaning.specs.PartMeaning.{Captures, PartsMean}
+use Rattle.urlpattern_pattern.specs.Compiled.{AreCompiled, Manner, canonical_encoding, manner_of, pattern_values}
+use Rattle.urlpattern_pattern.specs.Match.{HasNoMatch, IsLongInput, IsMatch, IsResultOf, ResultView}
+use Rattle.urlpattern_pattern.specs.MatchInput.{input_texts}
+use Rattle.urlpattern_pattern.specs.Patterns.{PatternView}
+use Rattle.urlpattern_syntax.specs.Parts.{PartView}
+use Rattle.urlpattern_syntax.specs.Reading.{Reads}
+use Rattle.urlpattern_syntax.specs.RegexpText.{group_names}
+use Rattle.urlpattern_syntax.specs.Text.{lacks, line_feed}
+use Rattle.urlpattern_syntax.specs.Eight.{Texts, Values, at}
+
+-- ---- what a pattern text means
+
+-- the pattern text reads as these parts, in this manner
+abbrev pub ReadsAs : Manner → List PartView → Type 0
+ReadsAs manner parts = Reads manner.text manner.options (canonical_encoding manner.canonical) parts
+
+-- The pattern text means the text: the parts that it reads as mean it, with these captures.
+pub record IsMeant (manner : Manner) (text : List ℕ) : Type 0 where
+  pub parts : List PartView
+  pub captures : Captures
+  pub reads : ReadsAs manner parts
+  pub means : PartsMean manner.options parts text captures
+
+-- ---- where matchers answer it
+
+-- What is asked of a compiled component and a text: no custom regular expression, case that is kept, characters without
+-- line feed, and that an engine, where one is needed, took the regular expression it was given and follows it.
+pub record MeaningPremises {E : Type 0} (answer : E → List ℕ → Option Captures) (manner : Manner) (compiled : ComponentView E) (text : List ℕ) : Type 0 where
+  pub generated : compiled.has_regexp_group ≡ false
+  pub case_kept : manner.options.ignore_case ≡ false
+  pub no_line_feed : IsTrue (lacks line_feed text)
+  pub characters : IsTrue (all_scalars text)
+  pub follows : (parts : List PartView) → ReadsAs manner parts
+      → FollowsMiddle answer manner.options parts compiled.matcher.inner
+
+-- What is found of eight texts. Where they are matched, the result of each component that meets the premises is a meaning
+-- of its text: as groups the names of the parts beside the captures. Where they are not, and all components meet the
+-- premises, the pattern texts do not mean all eight.
+abbrev pub IsFoundByMeaning : {E : Type 0} → (answer : E → List ℕ → Option Captures) → (manner : ComponentName → Manner) → PatternView E → Texts → Option (ComponentName → ResultView) → Type 0
+IsFoundByMeaning answer manner pattern texts (Some result) =
+    (component : ComponentName) → MeaningPremises answer (manner component) (pattern component) (at texts component) →
+    (meant : IsMeant (manner component) (at texts component))
+    × IsResultOf (group_names meant.parts) meant.captures (at texts component) (result component)
+IsFoundByMeaning answer manner pattern texts None =
+    ((component : ComponentName) → MeaningPremises answer (manner component) (pattern component) (at texts component)) →
+    ¬ ((component : ComponentName) → IsMeant (manner component) (at texts component))
+
+-- ---- what `exec` answers
+
+-- a match of the input, or none where there is none
+abbrev pub IsExecuted : {E : Type 0} → (answer : E → List ℕ → Option Captures) → PatternView E → UrlPatternMatchInput → Option (ComponentName → ResultView) → Type 0
+IsExecuted answer pattern input found = MatchOption found (HasNoMatch answer pattern input) (IsMatch answer pattern input)
+
+-- The init is compiled to a pattern of which this is found on the input, and it is what the pattern texts mean.
+pub record IsExecutedByMeaning {E : Type 0} (engine : Engine E) (init : UrlPatternInit) (asked : UrlPatternOptions) (input : UrlPatternMatchInput) (found : Option (ComponentName → ResultView)) : Type 0 where
+  pub values : Values
+  pub pattern : PatternView E
+  pub are_values : pattern_values init ≡ Ok values
+  pub compiled : AreCompiled engine asked values pattern
+  pub executed : IsExecuted engine.answer pattern input found
+  pub means : (texts : Texts) → input_texts input ≡ Ok texts → ¬ IsLongInput input
+      → IsFoundByMeaning engine.answer (manner_of asked values compiled.hierarchical) pattern texts found
+
+-- ---- the default engine
+
+-- What is asked of a component that was compiled by `regex::Regex`, and of a text: as above, but of the engine no more than
+-- that it took the regular expression it was given, where one is needed.
+pub record RegexPremises (manner : Manner) (compiled : ComponentView Regex) (text : List ℕ) : Type 0 where
+  pub generated : compiled.has_regexp_group ≡ false
+  pub case_kept : manner.options.ignore_case ≡ false
+  pub took : TookText (λ regex. ⊤) compiled.matcher.inner
+  pub no_line_feed : IsTrue (lacks line_feed text)
+  pub characters : IsTrue (all_scalars text)
+
+-- The result of a component is the first way of its text: as groups the names of the parts that its pattern text reads as,
+-- beside what the first way captures.
+pub record IsFirstResult (manner : Manner) (text : List ℕ) (result : ResultView) : Type 0 where
+  pub parts : List PartView
+  pub captures : Captures
+  pub reads : ReadsAs manner parts
+  pub is_first : IsFirstOf manner.options parts text (Some captures)
+  pub is_result : IsResultOf (group_names parts) captures text result

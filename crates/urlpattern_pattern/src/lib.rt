@@ -1,0 +1,13 @@
+//! A whole pattern: its eight components, compiled from an init or from a constructor string, and matched against a URL or an init.
+//!
+//! The crate above passes on the types. The functions here are its tools.
+#![tactic(auto)]
+
+mod match_input;
+mod pattern;
+
+pub use match_input::parse_match_input;
+pub use pattern::{
+    UrlPattern, UrlPatternCaptures, UrlPatternComponentResult, UrlPatternGroups, UrlPatternResult,
+    captures_of_texts, init_of_text, input_texts, parse_base, parse_url, url_texts,
+};

@@ -1,0 +1,142 @@
+//! URL patterns: their eight components.
+ghost use Rattle.std.specs.Prelude.{◌≡◌};
+ghost use Rattle.std.specs.Str.{chars};
+ghost use Rattle.urlpattern_pattern.specs.Patterns.{components_of, has_regexp_groups, pattern_view};
+ghost use Rattle.urlpattern_syntax.specs.declared.eight.ComponentName.TheVariants as names;
+ghost use Rattle.urlpattern_syntax.specs.Eight.{at};
+
+mod captures;
+mod fixed;
+mod from_string;
+mod groups;
+mod matching;
+mod once;
+mod parse;
+mod result;
+mod texts;
+
+pub use captures::{UrlPatternCaptures, UrlPatternGroups};
+pub use from_string::{init_of_text, parse_base, parse_url};
+pub use matching::captures_of_texts;
+pub use result::{UrlPatternComponentResult, UrlPatternResult};
+pub(crate) use texts::copied;
+pub use texts::{input_texts, url_texts};
+use urlpattern_core::component::Component;
+use urlpattern_core::regexp::RegExp;
+use urlpattern_syntax::eight::{ComponentName, Eight};
+use urlpattern_syntax::{field_of, with_fields};
+
+/// A pattern that URLs are matched against, compiled component by component.
+///
+/// Its components may also be put together by hand.
+///
+/// <https://urlpattern.spec.whatwg.org/#url-pattern>
+#[derive(Debug, Drop)]
+pub struct UrlPattern<R: RegExp = regex::Regex> {
+    /// What the scheme is matched with, without its colon.
+    pub protocol: Component<R>,
+    /// What the user name is matched with.
+    pub username: Component<R>,
+    /// What the password is matched with.
+    pub password: Component<R>,
+    /// What the host is matched with.
+    pub hostname: Component<R>,
+    /// What the port is matched with, which is empty if it is the scheme's default.
+    pub port: Component<R>,
+    /// What the path is matched with.
+    pub pathname: Component<R>,
+    /// What the query is matched with, without its question mark.
+    pub search: Component<R>,
+    /// What the fragment is matched with, without its number sign.
+    pub hash: Component<R>,
+}
+
+impl<R: RegExp> UrlPattern<R> {
+    /// The pattern of these components.
+    pub fn from_eight(components: Eight<Component<R>>) -> Self
+        ensures { components_of result ≡ components }
+    {
+        with_fields!(Self, components)
+    }
+
+    /// The components.
+    pub fn into_eight(self) -> Eight<Component<R>>
+        ensures { result ≡ components_of self }
+    {
+        with_fields!(Eight, self)
+    }
+
+    /// A component by its name.
+    pub fn get(&self, name: ComponentName) -> &Component<R>
+        ensures { result.now ≡ at (components_of self.now) name }
+    {
+        field_of!(self, name)
+    }
+
+    /// The pattern text of the scheme, as it is written anew.
+    pub fn protocol(&self) -> &str
+        ensures { chars result.now ≡ (pattern_view self.now names.Protocol).pattern_string }
+    {
+        &self.protocol.pattern_string
+    }
+
+    /// The pattern text of the user name, as it is written anew.
+    pub fn username(&self) -> &str
+        ensures { chars result.now ≡ (pattern_view self.now names.Username).pattern_string }
+    {
+        &self.username.pattern_string
+    }
+
+    /// The pattern text of the password, as it is written anew.
+    pub fn password(&self) -> &str
+        ensures { chars result.now ≡ (pattern_view self.now names.Password).pattern_string }
+    {
+        &self.password.pattern_string
+    }
+
+    /// The pattern text of the host, as it is written anew.
+    pub fn hostname(&self) -> &str
+        ensures { chars result.now ≡ (pattern_view self.now names.Hostname).pattern_string }
+    {
+        &self.hostname.pattern_string
+    }
+
+    /// The pattern text of the port, as it is written anew.
+    pub fn port(&self) -> &str
+        ensures { chars result.now ≡ (pattern_view self.now names.Port).pattern_string }
+    {
+        &self.port.pattern_string
+    }
+
+    /// The pattern text of the path, as it is written anew.
+    pub fn pathname(&self) -> &str
+        ensures { chars result.now ≡ (pattern_view self.now names.Pathname).pattern_string }
+    {
+        &self.pathname.pattern_string
+    }
+
+    /// The pattern text of the query, as it is written anew.
+    pub fn search(&self) -> &str
+        ensures { chars result.now ≡ (pattern_view self.now names.Search).pattern_string }
+    {
+        &self.search.pattern_string
+    }
+
+    /// The pattern text of the fragment, as it is written anew.
+    pub fn hash(&self) -> &str
+        ensures { chars result.now ≡ (pattern_view self.now names.Hash).pattern_string }
+    {
+        &self.hash.pattern_string
+    }
+
+    /// Whether a component has a regular expression of its own.
+    ///
+    /// <https://urlpattern.spec.whatwg.org/#dom-urlpattern-hasregexpgroups>
+    pub fn has_regexp_groups(&self) -> bool
+        ensures { result ≡ has_regexp_groups (pattern_view self.now) }
+    {
+        ComponentName::all()
+            .iter()
+            .any(|&name| self.get(name).has_regexp_group)
+    }
+}

@@ -1,0 +1,199 @@
+//! What the groups of a pattern capture, borrowed from the pattern and from the texts that it matches.
+ghost use Rattle.std.specs.Iterator.Adapters.{zip_first, zip_second};
+ghost use Rattle.std.specs.Prelude.{◌≡◌, map, option_map, zip, IfOk};
+ghost use Rattle.std.specs.Slice.Iter.{iter_rest};
+ghost use Rattle.std.specs.Str.{chars};
+ghost use Rattle.urlpattern_syntax.specs.declared.eight.ComponentName.{ComponentName as Name};
+ghost use Rattle.urlpattern_pattern.specs.declared.pattern.captures.Missed.TheVariants as all_missed;
+ghost use Rattle.urlpattern_pattern.specs.BorrowedMatches.{pattern_captures_view, groups_view};
+ghost use Rattle.urlpattern_pattern.specs.Calls.{IsCapturedOf, captures_of, texts_of, HasNoGroups, IsWithoutGroups};
+ghost use Rattle.urlpattern_pattern.specs.Match.{component_result_view, group_of, result_view, IsSameResult};
+ghost use Rattle.urlpattern_syntax.specs.Text.{text_of, option_text};
+ghost use Rattle.urlpattern_syntax.specs.Errors.{OnlyOutOfMemory};
+ghost use Rattle.urlpattern_syntax.specs.Eight.{at};
+
+use super::result::{UrlPatternComponentResult, UrlPatternResult, empty_result};
+use std::alloc::Global;
+use std::iter::Zip;
+use std::slice;
+use urlpattern_core::Error;
+use urlpattern_core::error::OutOfMemory;
+use urlpattern_core::matcher::Look;
+use urlpattern_core::regexp::RegExp;
+use urlpattern_syntax::eight::{ComponentName, Eight};
+
+/// The groups of a component in their order: each name, with what the group captures. `None`: the group took no part.
+pub type UrlPatternGroups<'c, 'a> = Zip<slice::Iter<'c, String>, slice::Iter<'c, Option<&'a str>>>;
+
+/// A match whose texts, names and captures are borrowed from the pattern and from what it matches.
+///
+/// `UrlPattern::captures` answers it.
+pub struct UrlPatternCaptures<'a> {
+    /// The names of the groups.
+    pub(super) names: Eight<&'a Vec<String>>,
+    /// The texts that are matched.
+    pub(super) texts: Eight<&'a str>,
+    /// What the groups capture of each text.
+    pub(super) captures: Eight<GroupCaptures<'a>>,
+}
+
+impl Drop for UrlPatternCaptures<'_> {
+    /// Drops the lists of captures. Where a match goes out of scope, the prover handles one call in place of eight lists.
+    fn drop(self) {
+        let Self {
+            names: _,
+            texts: _,
+            captures: _captures,
+        } = self;
+    }
+}
+
+impl<'a> UrlPatternCaptures<'a> {
+    /// The text of a component, which was matched.
+    pub fn input(&self, name: ComponentName) -> &'a str
+        ensures { chars result.now ≡ (pattern_captures_view self.now name).input }
+    {
+        self.texts.get(name)
+    }
+
+    /// What a group of a component captures. `None`: there is no group of this name. `Some(None)`: the group took no part. Of
+    /// equal names the last counts.
+    pub fn get(&self, name: ComponentName, group: &str) -> Option<Option<&'a str>>
+        ensures { option_map option_text result ≡ (pattern_captures_view self.now name).group (chars group.now) }
+    {
+        group_named(
+            self.names.get(name),
+            self.captures.get(name).as_slice(),
+            group,
+        )
+    }
+
+    /// The groups of a component, in their order.
+    pub fn groups(&self, name: ComponentName) -> UrlPatternGroups<'_, 'a>
+        ensures { zip (texts_of (iter_rest (zip_first result))) (map option_text (iter_rest (zip_second result))) ≡ groups_view self.now name }
+    {
+        self.names
+            .get(name)
+            .iter()
+            .zip(self.captures.get(name).as_slice())
+    }
+
+    /// The match with copies of its texts, names and captures, as `UrlPattern::exec` answers it.
+    ///
+    /// The error is that memory ran out.
+    #[inline(always)]
+    pub fn to_result(&self, alloc: Global) -> Result<UrlPatternResult, Error>
+        ensures same { IfOk result (λ copy. (name : Name) → IsSameResult (result_view copy name) (pattern_captures_view self.now name)) }
+        ensures memory { OnlyOutOfMemory result }
+    {
+        let mut result = empty_result(alloc);
+        self.copy_to(alloc, &mut result)?;
+        Ok(result)
+    }
+
+    /// Copies the texts, names and captures to a result that has no groups yet.
+    fn copy_to(&self, alloc: Global, copy: &mut UrlPatternResult) -> Result<(), OutOfMemory>
+        requires { IsWithoutGroups copy.old }
+        ensures same { IfOk result (λ _. (name : Name) → IsSameResult (result_view copy.new name) (pattern_captures_view self.now name)) }
+    {
+        self.copy_component(alloc, ComponentName::Protocol, &mut copy.protocol)?;
+        self.copy_component(alloc, ComponentName::Username, &mut copy.username)?;
+        self.copy_component(alloc, ComponentName::Password, &mut copy.password)?;
+        self.copy_component(alloc, ComponentName::Hostname, &mut copy.hostname)?;
+        self.copy_component(alloc, ComponentName::Port, &mut copy.port)?;
+        self.copy_component(alloc, ComponentName::Pathname, &mut copy.pathname)?;
+        self.copy_component(alloc, ComponentName::Search, &mut copy.search)?;
+        self.copy_component(alloc, ComponentName::Hash, &mut copy.hash)
+    }
+
+    /// Copies the text of a component, and its names and captures, to a result that has no groups yet.
+    fn copy_component(
+        &self,
+        alloc: Global,
+        name: ComponentName,
+        copy: &mut UrlPatternComponentResult,
+    ) -> Result<(), OutOfMemory>
+        requires { HasNoGroups copy.old.groups }
+        ensures same { IfOk result (λ _. IsSameResult (component_result_view copy.new) (pattern_captures_view self.now name)) }
+    {
+        copy.fill(
+            alloc,
+            self.input(name),
+            self.names.get(name),
+            self.captures.get(name).as_slice(),
+        )
+    }
+}
+
+/// What the group of this name captures, where names and captures are in the same order. Of equal names the last counts.
+fn group_named<'a>(
+    names: &[String],
+    captures: &[Option<&'a str>],
+    group: &str,
+) -> Option<Option<&'a str>>
+    ensures { option_map option_text result ≡ group_of (texts_of names.now) (map option_text captures.now) (chars group.now) }
+{
+    let mut found = None;
+    for (name, capture) in names.iter().zip(captures) {
+        if group == name.as_str() {
+            found = Some(*capture);
+        }
+    }
+    found
+}
+
+/// Why an engine that is asked captures nothing.
+#[derive(Drop)]
+pub(crate) enum Missed {
+    /// It does not match the text.
+    Unmatched,
+    /// It had no memory.
+    OutOfMemory,
+}
+
+impl From<OutOfMemory> for Missed {
+    ghost from_gives = { λ _ missed. missed ≡ all_missed.OutOfMemory };
+
+    fn from(_error: OutOfMemory) -> Missed {
+        Missed::OutOfMemory
+    }
+}
+
+/// What the groups of a component capture of its text.
+#[derive(Drop)]
+pub(crate) enum GroupCaptures<'a> {
+    /// There are no groups.
+    Nothing,
+    /// There is one group.
+    One(Option<&'a str>),
+    /// An engine answered this.
+    Groups(Vec<Option<&'a str>>),
+}
+
+impl<'a> GroupCaptures<'a> {
+    /// What a look at a text results in, once an engine is asked that has to be.
+    #[inline(always)]
+    pub(super) fn of_look<R: RegExp>(alloc: Global, look: Look<'_, 'a, R>) -> Result<Self, Missed>
+        ensures { IsCapturedOf R.answer look.entry result }
+    {
+        match look {
+            Look::Matched => Ok(GroupCaptures::Nothing),
+            Look::Captured(text) => Ok(GroupCaptures::One(Some(text))),
+            Look::Asks { engine, middle } => match engine.matches(alloc, middle)? {
+                Some(captures) => Ok(GroupCaptures::Groups(captures)),
+                None => Err(Missed::Unmatched),
+            },
+        }
+    }
+
+    /// The captures in their order.
+    fn as_slice(&self) -> &[Option<&'a str>]
+        ensures { map option_text result.now ≡ captures_of self.now }
+    {
+        match self {
+            GroupCaptures::Nothing => &[],
+            GroupCaptures::One(capture) => slice::from_ref(capture),
+            GroupCaptures::Groups(captures) => captures.as_slice(),
+        }
+    }
+}

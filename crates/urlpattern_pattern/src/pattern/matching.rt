@@ -1,0 +1,247 @@
+//! Matching: what a pattern answers to eight texts, and the groups of the answer.
+//!
+//! All components look at their texts before anything is made. Engines are asked last, and the first refusal ends it.
+ghost use Rattle.std.specs.Prelude.{◌≡◌, None, Some, IfErr, IfNone, IfOk, IfSome};
+ghost use Rattle.urlpattern_core.specs.Looks.{look_answer, IsAsking};
+ghost use Rattle.urlpattern_init.specs.declared.init.UrlPatternMatchInput.TheVariants as inputs;
+ghost use Rattle.urlpattern_init.specs.Inheritance.{texts_of_url};
+ghost use Rattle.urlpattern_pattern.specs.BorrowedMatches.{pattern_captures_view};
+ghost use Rattle.urlpattern_pattern.specs.Match.{AreAnswers, AsksAnEngine, FindsInInput, FindsInTexts, IsRefused, TestsInput, TestsTexts, result_view};
+ghost use Rattle.urlpattern_pattern.specs.MatchInput.{texts_view};
+ghost use Rattle.urlpattern_pattern.specs.Calls.{AreCaptured, AreLooks, AskWithCause, HasCaptures, all_captures, borrowed_texts};
+ghost use Rattle.urlpattern_pattern.specs.Patterns.{components_of, pattern_view};
+ghost use Rattle.urlpattern_syntax.specs.declared.eight.ComponentName.{ComponentName as Name};
+ghost use Rattle.urlpattern_syntax.specs.Errors.{OnlyOutOfMemory};
+ghost use Rattle.urlpattern_syntax.specs.Eight.{at};
+
+use super::UrlPattern;
+use super::captures::{GroupCaptures, Missed, UrlPatternCaptures};
+use super::result::UrlPatternResult;
+use super::texts::{input_texts, url_texts};
+use crate::match_input::parse_match_input;
+use std::alloc::Global;
+use url::Url;
+use urlpattern_core::Error;
+use urlpattern_core::error::OutOfMemory;
+use urlpattern_core::matcher::Look;
+use urlpattern_core::regexp::RegExp;
+use urlpattern_init::UrlPatternMatchInput;
+use urlpattern_inputs::MatchInput;
+use urlpattern_syntax::eight::{ComponentName, Eight};
+use urlpattern_syntax::with_fields;
+
+impl<R: RegExp> UrlPattern<R> {
+    /// Whether the pattern matches an input. A URL's texts are its own; an init's are those that it results in, with what it
+    /// inherits. An input that `url` refuses is not matched.
+    ///
+    /// The error is that memory ran out. For the texts of a URL only an engine allocates.
+    ///
+    /// <https://urlpattern.spec.whatwg.org/#url-pattern-match>
+    pub fn test(&self, alloc: Global, input: UrlPatternMatchInput) -> Result<bool, Error>
+        ensures matched { IfOk result (TestsInput R.answer (pattern_view self.now) input) }
+        ensures memory { OnlyOutOfMemory result }
+    {
+        match input {
+            UrlPatternMatchInput::Url(url) => self.test_url(alloc, &url),
+            input => match parse_match_input(alloc, input)? {
+                Some(texts) => Ok(self.is_matched(alloc, input_texts(&texts))?),
+                None => Ok(false),
+            },
+        }
+    }
+
+    /// What the groups capture of an input. `None`: the pattern does not match it. Of a URL its own texts are
+    /// matched, of an init those that it results in, with what it inherits. An input that `url` refuses is not matched.
+    ///
+    /// The error is that memory ran out.
+    ///
+    /// <https://urlpattern.spec.whatwg.org/#url-pattern-match>
+    pub fn exec(
+        &self,
+        alloc: Global,
+        input: UrlPatternMatchInput,
+    ) -> Result<Option<UrlPatternResult>, Error>
+        ensures matched { IfOk result (FindsInInput result_view R.answer (pattern_view self.now) input) }
+        ensures memory { OnlyOutOfMemory result }
+    {
+        match input {
+            UrlPatternMatchInput::Url(url) => self.exec_url(alloc, &url),
+            input => match parse_match_input(alloc, input)? {
+                Some(texts) => self.exec_texts(alloc, input_texts(&texts)),
+                None => Ok(None),
+            },
+        }
+    }
+
+    /// Whether the pattern matches a URL, as `test` answers it.
+    ///
+    /// The error is that memory ran out. Only an engine allocates.
+    pub fn test_url(&self, alloc: Global, url: &Url) -> Result<bool, Error>
+        ensures matched { IfOk result (TestsInput R.answer (pattern_view self.now) (inputs.Url url.now)) }
+        ensures memory { OnlyOutOfMemory result }
+        ensures asked { IfErr result (λ _. AsksAnEngine R.answer (pattern_view self.now) (texts_of_url url.now)) }
+    {
+        Ok(self.is_matched(alloc, url_texts(url))?)
+    }
+
+    /// What the groups capture of a URL, as `exec` answers it. `None`: the pattern does not match the URL.
+    ///
+    /// The error is that memory ran out.
+    pub fn exec_url(&self, alloc: Global, url: &Url) -> Result<Option<UrlPatternResult>, Error>
+        ensures matched { IfOk result (FindsInInput result_view R.answer (pattern_view self.now) (inputs.Url url.now)) }
+        ensures memory { OnlyOutOfMemory result }
+    {
+        self.exec_texts(alloc, url_texts(url))
+    }
+
+    /// The match of a URL, borrowed from the pattern and the URL. `None`: the pattern does not match the URL.
+    ///
+    /// The error is that memory ran out. Only an engine allocates.
+    ///
+    /// <https://urlpattern.spec.whatwg.org/#url-pattern-match>
+    pub fn captures<'a>(
+        &'a self,
+        alloc: Global,
+        url: &'a Url,
+    ) -> Result<Option<UrlPatternCaptures<'a>>, Error>
+        ensures matched { IfOk result (FindsInInput pattern_captures_view R.answer (pattern_view self.now) (inputs.Url url.now)) }
+        ensures memory { OnlyOutOfMemory result }
+        ensures asked { IfErr result (λ _. AsksAnEngine R.answer (pattern_view self.now) (texts_of_url url.now)) }
+    {
+        Ok(captures_of_texts(alloc, self, &url_texts(url))?)
+    }
+
+    /// The match of an input that has its eight texts, borrowed from the pattern and the input. `None`: the pattern does not
+    /// match them.
+    ///
+    /// Of an init, or of what a browser gives, `parse_match_input` makes such an input.
+    ///
+    /// The error is that memory ran out. Only an engine allocates.
+    pub fn captures_of_input<'a>(
+        &'a self,
+        alloc: Global,
+        input: &'a MatchInput,
+    ) -> Result<Option<UrlPatternCaptures<'a>>, Error>
+        ensures matched { IfOk result (FindsInTexts pattern_captures_view R.answer (pattern_view self.now) (texts_view input.now)) }
+        ensures memory { OnlyOutOfMemory result }
+        ensures asked { IfErr result (λ _. AsksAnEngine R.answer (pattern_view self.now) (texts_view input.now)) }
+    {
+        Ok(captures_of_texts(alloc, self, &input_texts(input))?)
+    }
+
+    /// The match of these texts, copied. `None`: one of them is not matched.
+    ///
+    /// The error is that memory ran out.
+    #[inline(always)]
+    fn exec_texts(
+        &self,
+        alloc: Global,
+        texts: Eight<&str>,
+    ) -> Result<Option<UrlPatternResult>, Error>
+        ensures matched { IfOk result (FindsInTexts result_view R.answer (pattern_view self.now) (borrowed_texts texts.entry)) }
+        ensures memory { OnlyOutOfMemory result }
+    {
+        match captures_of_texts(alloc, self, &texts)? {
+            Some(captures) => Ok(Some(captures.to_result(alloc)?)),
+            None => Ok(None),
+        }
+    }
+
+    /// Whether these texts are matched.
+    fn is_matched(&self, alloc: Global, texts: Eight<&str>) -> Result<bool, OutOfMemory>
+        ensures matched { IfOk result (TestsTexts R.answer (pattern_view self.now) (borrowed_texts texts.entry)) }
+        ensures asked { IfErr result (λ _. AsksAnEngine R.answer (pattern_view self.now) (borrowed_texts texts.entry)) }
+    {
+        Ok(self.captured(alloc, &texts)?.is_some())
+    }
+
+    /// The match of texts of which the groups capture this.
+    fn with_captures<'a>(
+        &'a self,
+        texts: &Eight<&'a str>,
+        captures: Eight<GroupCaptures<'a>>,
+    ) -> UrlPatternCaptures<'a>
+        ensures { HasCaptures (pattern_view self.now) (borrowed_texts texts.now) captures.entry (pattern_captures_view result) }
+    {
+        let names = |name: ComponentName| -> &Vec<String>
+            ensures { result.now ≡ (at (components_of self.entry.now) name).group_name_list }
+        { &self.get(name).group_name_list };
+        UrlPatternCaptures {
+            names: Eight::from_fn(names),
+            texts: with_fields!(Eight, texts),
+            captures,
+        }
+    }
+
+    /// What the components see in their texts, before an engine is asked. `None`: one of them does not match.
+    #[inline(always)]
+    fn look<'a>(&'a self, texts: &Eight<&'a str>) -> Option<Eight<Look<'a, 'a, R>>>
+        ensures some { IfSome result (AreLooks R.answer (pattern_view self.now) (borrowed_texts texts.now)) }
+        ensures none { IfNone result (IsRefused R.answer (pattern_view self.now) (borrowed_texts texts.now)) }
+        ensures asked { IfSome result (AskWithCause (pattern_view self.now) (borrowed_texts texts.now)) }
+    {
+        // The path refuses most, so it is the first.
+        Some(Eight {
+            pathname: self.pathname.matcher.look(texts.pathname)?,
+            hostname: self.hostname.matcher.look(texts.hostname)?,
+            protocol: self.protocol.matcher.look(texts.protocol)?,
+            port: self.port.matcher.look(texts.port)?,
+            search: self.search.matcher.look(texts.search)?,
+            hash: self.hash.matcher.look(texts.hash)?,
+            username: self.username.matcher.look(texts.username)?,
+            password: self.password.matcher.look(texts.password)?,
+        })
+    }
+
+    /// What the groups capture of these texts. `None`: one of the texts is not matched.
+    ///
+    /// Only an engine allocates.
+    fn captured<'a>(
+        &'a self,
+        alloc: Global,
+        texts: &Eight<&'a str>,
+    ) -> Result<Option<Eight<GroupCaptures<'a>>>, OutOfMemory>
+        ensures refused { IfOk result (λ found. IfNone found (IsRefused R.answer (pattern_view self.now) (borrowed_texts texts.now))) }
+        ensures answers { IfOk result (λ found. IfSome found (λ captures.
+            AreAnswers R.answer (pattern_view self.now) (borrowed_texts texts.now) (all_captures captures))) }
+        ensures asked { IfErr result (λ _. AsksAnEngine R.answer (pattern_view self.now) (borrowed_texts texts.now)) }
+    {
+        let Some(looks) = self.look(texts) else {
+            return Ok(None);
+        };
+        captures_of_looks(alloc, looks)
+    }
+}
+
+/// The match of eight texts, borrowed from the pattern and from what has the texts. `None`: one of them is not matched.
+///
+/// Only an engine allocates.
+pub fn captures_of_texts<'a, R: RegExp>(
+    alloc: Global,
+    pattern: &'a UrlPattern<R>,
+    texts: &Eight<&'a str>,
+) -> Result<Option<UrlPatternCaptures<'a>>, OutOfMemory>
+    ensures matched { IfOk result (FindsInTexts pattern_captures_view R.answer (pattern_view pattern.now) (borrowed_texts texts.now)) }
+    ensures asked { IfErr result (λ _. AsksAnEngine R.answer (pattern_view pattern.now) (borrowed_texts texts.now)) }
+{
+    match pattern.captured(alloc, texts)? {
+        Some(captures) => Ok(Some(pattern.with_captures(texts, captures))),
+        None => Ok(None),
+    }
+}
+
+/// What eight looks capture. `None`: an engine that is asked does not match.
+fn captures_of_looks<'a, R: RegExp>(
+    alloc: Global,
+    looks: Eight<Look<'a, 'a, R>>,
+) -> Result<Option<Eight<GroupCaptures<'a>>>, OutOfMemory>
+    ensures some { IfOk result (λ found. IfSome found (AreCaptured R.answer looks.entry)) }
+    ensures none { IfOk result (λ found. IfNone found ((name : Name) × (look_answer R.answer (Some (at looks.entry name)) ≡ None))) }
+    ensures asked { IfErr result (λ _. (name : Name) × IsAsking (at looks.entry name)) }
+{
+    match looks.try_map(|look| GroupCaptures::of_look(alloc, look)) {
+        Ok(captures) => Ok(Some(captures)),
+        Err(Missed::Unmatched) => Ok(None),
+        Err(Missed::OutOfMemory) => Err(OutOfMemory),
+    }
+}

@@ -1,0 +1,105 @@
+//! The result of a match: the text of each component, and what its groups capture.
+ghost use Rattle.std.specs.Cmp.Lexicographic.{slice_cmp};
+ghost use Rattle.std.specs.HashMap.{IsUnique, get_by_text, keys};
+ghost use Rattle.std.specs.Ordering.{nat_cmp};
+ghost use Rattle.std.specs.Prelude.{◌≡◌, None, map, option_copied, string_bytes, string_eq, unwrap_or, IfOk, IsPermutation, IsSorted};
+ghost use Rattle.std.specs.Str.{chars};
+ghost use Rattle.urlpattern_pattern.specs.Calls.{captured_bytes, lent_bytes, texts_of, AreGroups, HasNoGroups, IsWithoutGroups};
+ghost use Rattle.urlpattern_pattern.specs.Match.{component_result_view};
+ghost use Rattle.urlpattern_syntax.specs.Text.{text_of, option_text};
+
+use super::groups::{Groups, add_groups};
+use std::alloc::{AllocError, Global};
+use std::collections::HashMap;
+use urlpattern_core::error::OutOfMemory;
+use urlpattern_syntax::eight::{ComponentName, Eight};
+
+/// The result of a match, for each component.
+///
+/// <https://urlpattern.spec.whatwg.org/#dictdef-urlpatternresult>
+pub type UrlPatternResult = Eight<UrlPatternComponentResult>;
+
+/// The result of a match for one component.
+///
+/// <https://urlpattern.spec.whatwg.org/#dictdef-urlpatterncomponentresult>
+#[derive(Debug, Clone, PartialEq, Eq, Drop)]
+pub struct UrlPatternComponentResult {
+    /// The component's text, which was matched.
+    pub input: String,
+    /// What the groups capture, by their names. A group that took no part has `None`, and of equal names the last counts.
+    pub groups: HashMap<String, Option<String>>,
+}
+
+/// The result of empty texts that have no groups. It does not allocate.
+pub(crate) fn empty_result(alloc: Global) -> UrlPatternResult
+    ensures { IsWithoutGroups result }
+{
+    let empty = |_name: ComponentName| -> UrlPatternComponentResult
+        ensures { HasNoGroups result.groups }
+    { UrlPatternComponentResult::empty(alloc) };
+    Eight::from_fn(empty)
+}
+
+impl UrlPatternComponentResult {
+    /// What the group of a name captured. `None`: there is no such group, or it took no part.
+    pub fn get(&self, name: &str) -> Option<&str>
+        ensures { option_text result ≡ unwrap_or ((component_result_view self.now).group (chars name.now)) None }
+    {
+        capture_of(&self.groups, name)
+    }
+
+    /// The names of the groups, in the order of their bytes.
+    pub fn sorted_names(&self, alloc: Global) -> Result<Vec<&String>, AllocError>
+        ensures differ { IfOk result (λ names. IsUnique string_eq self.now.groups) }
+        ensures all { IfOk result (λ names. IsPermutation (map (λ name. string_bytes name) (keys self.now.groups)) (lent_bytes names.items)) }
+        ensures in_order { IfOk result (λ names. IsSorted (slice_cmp nat_cmp) (lent_bytes names.items)) }
+    {
+        let mut names = names_of(alloc, &self.groups)?;
+        names.sort_unstable();
+        Ok(names)
+    }
+
+    /// The result of the empty text that has no groups. It does not allocate.
+    fn empty(alloc: Global) -> Self
+        ensures { HasNoGroups result.groups }
+    {
+        Self {
+            input: String::new(alloc),
+            groups: HashMap::new(alloc),
+        }
+    }
+
+    /// Takes a copy of a text, and copies of what the groups with these names capture of it.
+    pub(super) fn fill(
+        &mut self,
+        alloc: Global,
+        text: &str,
+        names: &[String],
+        captures: &[Option<&str>],
+    ) -> Result<(), OutOfMemory>
+        requires { HasNoGroups self.old.groups }
+        ensures input { IfOk result (λ _. text_of self.new.input ≡ chars text.now) }
+        ensures groups { IfOk result (λ _. AreGroups (texts_of names.now) (map option_text captures.now) self.new.groups) }
+    {
+        self.input = String::from_str(alloc, text)?;
+        add_groups(alloc, &mut self.groups, names, captures)
+    }
+}
+
+/// The names of groups.
+fn names_of(alloc: Global, groups: &Groups) -> Result<Vec<&String>, AllocError>
+    ensures all { IfOk result (λ names. map (λ name. name.now) names.items ≡ keys groups.now) }
+    ensures differ { IfOk result (λ names. IsUnique string_eq groups.now) }
+{
+    groups.keys().collect(alloc)
+}
+
+/// What the group of a name captured, if it is there and took part.
+fn capture_of<'a>(groups: &'a Groups, name: &str) -> Option<&'a str>
+    ensures { option_copied result ≡ captured_bytes (get_by_text groups.now name.now) }
+{
+    match groups.get(name) {
+        Some(Some(capture)) => Some(capture),
+        _ => None,
+    }
+}
