@@ -6,7 +6,6 @@ ghost use Rattle.urlpattern_syntax.specs.declared.eight.ComponentName.TheVariant
 ghost use Rattle.urlpattern_syntax.specs.Eight.{at};
 
 mod captures;
-mod fixed;
 mod from_string;
 mod groups;
 mod matching;
