@@ -1,6 +1,6 @@
 //! A whole pattern: its eight components, compiled from an init or from a constructor string, and matched against a URL or an init.
 //!
-//! The crate above passes on the types. The functions here are its tools.
+//! `urlpattern` passes on the types, and `parse_match_input` in its module `quirks`. The other functions are for its own calls.
 #![tactic(auto)]
 
 mod match_input;

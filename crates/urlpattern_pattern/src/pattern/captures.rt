@@ -8,7 +8,7 @@ ghost use Rattle.urlpattern_pattern.specs.declared.pattern.captures.Missed.TheVa
 ghost use Rattle.urlpattern_pattern.specs.BorrowedMatches.{pattern_captures_view, groups_view};
 ghost use Rattle.urlpattern_pattern.specs.Calls.{IsCapturedOf, captures_of, texts_of, HasNoGroups, IsWithoutGroups};
 ghost use Rattle.urlpattern_pattern.specs.Match.{component_result_view, group_of, result_view, IsSameResult};
-ghost use Rattle.urlpattern_syntax.specs.Text.{text_of, option_text};
+ghost use Rattle.urlpattern_syntax.specs.Text.{option_text};
 ghost use Rattle.urlpattern_syntax.specs.Errors.{OnlyOutOfMemory};
 ghost use Rattle.urlpattern_syntax.specs.Eight.{at};
 
