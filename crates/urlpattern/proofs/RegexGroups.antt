@@ -1,6 +1,5 @@
 -- The groups of a match by `regex::Regex` are those of the first way.
 use Rattle.std.proofs.Common.{◌≡◌, ℕ, false, List, ap, subst, sym, ◌∙◌}
-use Rattle.std.proofs.lemmas.Option.{same_Some}
 use Rattle.std.specs.Prelude.{⊤, Some, Ok}
 use Rattle.regex.specs.declared.string.regex.Regex.{Regex}
 use Rattle.urlpattern_core.proofs.RegexMatchers.{taken_first}
@@ -11,22 +10,23 @@ use Rattle.urlpattern_core.specs.FirstWays.{IsTakenBy}
 use Rattle.urlpattern_init.specs.declared.init.UrlPatternMatchInput.{UrlPatternMatchInput}
 use Rattle.urlpattern_syntax.specs.declared.eight.ComponentName.{ComponentName}
 use Rattle.urlpattern_inputs.specs.declared.options.UrlPatternOptions.{UrlPatternOptions}
-use Rattle.urlpattern_meaning.proofs.FirstAnswers.{first_one, of_made}
+use Rattle.urlpattern_meaning.proofs.FirstAnswers.{of_made}
 use Rattle.urlpattern_meaning.proofs.OneMeaning.{is_tree_of}
 use Rattle.urlpattern_meaning.proofs.PartTrees.{tree_of}
 use Rattle.urlpattern_meaning.specs.Dialect.{Follows}
-use Rattle.urlpattern_meaning.specs.FirstAnswers.{IsFirstOf, TookText}
+use Rattle.urlpattern_meaning.specs.FirstAnswers.{TookText}
 use Rattle.urlpattern_meaning.specs.Matching.{Answers, FollowsMiddle}
 use Rattle.urlpattern_meaning.specs.PartMeaning.{Captures}
 use Rattle.urlpattern_pattern.proofs.MatchLaws.{texts-one}
 use Rattle.urlpattern_pattern.proofs.MeaningLemmas.{none_custom, read_once}
 use Rattle.urlpattern_pattern.specs.Compiled.{AreCompiled, IsComponentCompiled, Manner, manner_of}
-use Rattle.urlpattern_pattern.specs.Match.{IsMatch, IsResultOf, IsSameResult, ResultView, group_of}
+use Rattle.urlpattern_pattern.specs.Match.{IsMatch, IsResultOf, ResultView}
 use Rattle.urlpattern_pattern.specs.MatchInput.{input_texts}
-use Rattle.urlpattern_pattern.specs.Meaning.{IsFirstResult, MeaningPremises, RegexPremises}
+use Rattle.urlpattern_pattern.specs.ByText.{IsFirstResult}
+use Rattle.urlpattern_pattern.specs.Meaning.{MeaningPremises, RegexPremises}
 use Rattle.urlpattern_pattern.specs.Patterns.{PatternView}
 use Rattle.urlpattern_syntax.specs.Parts.{PartView}
-use Rattle.urlpattern_syntax.specs.RegexpText.{group_names, regexp_text}
+use Rattle.urlpattern_syntax.specs.RegexpText.{regexp_text}
 use Rattle.urlpattern_syntax.specs.Eight.{Texts, Values, at}
 
 module _ (manner : Manner) (compiled : ComponentView Regex) (is_compiled : IsComponentCompiled regex_engine manner compiled)
@@ -63,11 +63,10 @@ module _ (manner : Manner) (compiled : ComponentView Regex) (is_compiled : IsCom
   first_result captures result answers is_result =
       let (parts, reads, is_component) = is_compiled.0 in
       let options = manner.options in
+      let (is_first, is_meant) = taken_first options (engine_flags options) parts compiled.matcher (taken parts is_component) text (Some captures) premises.no_line_feed premises.characters answers in
       record {
-        parts = parts;
         captures = captures;
-        reads = reads;
-        is_first = (taken_first options (engine_flags options) parts compiled.matcher (taken parts is_component) text (Some captures) premises.no_line_feed premises.characters answers).0;
+        way = record { parts = parts; reads = reads; is_first = is_first; is_meant = is_meant };
         is_result = subst (λ (names : List (List ℕ)). IsResultOf names captures text result) is_component.has_names is_result;
       }
 
@@ -80,16 +79,3 @@ matched_first asked values pattern input texts result component compiled are_tex
     first_result (manner_of asked values compiled.hierarchical component) (pattern component) (compiled.are_compiled component) (at texts component) premises (match.captures component) (result component)
     (subst (λ (t : Texts). Answers regex_answer (pattern component).matcher (at t component) (Some (match.captures component))) same (match.are_answers component))
     (subst (λ (t : Texts). IsResultOf (pattern component).group_name_list (match.captures component) (at t component) (result component)) same (match.are_results component))
-
-pub first_result_one : (manner : Manner) (text : List ℕ) (result other : ResultView) →
-    IsFirstResult manner text result → IsFirstResult manner text other → IsSameResult result other
-first_result_one manner text result other first last =
-    let parts : first.parts ≡ last.parts = read_once manner first.parts last.parts first.reads last.reads in
-    let captures : first.captures ≡ last.captures =
-    same_Some _ _ (first_one manner.options last.parts text (Some first.captures) (Some last.captures)
-    (subst (λ (ps : List PartView). IsFirstOf manner.options ps text (Some first.captures)) parts first.is_first) last.is_first) in (
-      first.is_result.has_input ∙ sym last.is_result.has_input,
-      λ name.
-          first.is_result.has_groups name ∙ ap (λ (ps : List PartView). group_of (group_names ps) first.captures name) parts
-          ∙ ap (λ (c : Captures). group_of (group_names last.parts) c name) captures ∙ sym (last.is_result.has_groups name),
-    )

@@ -1,11 +1,11 @@
 -- What the first match of a list of patterns is.
-use Rattle.std.specs.Prelude.{◌≡◌, ℕ, List, map, take, All, Option, Some, None, option_map, slice_get}
+use Rattle.std.specs.Prelude.{◌≡◌, ◌⊎◌, ℕ, List, map, take, All, Any, Option, Some, None, option_map, slice_get}
 use Rattle.urlpattern_init.specs.declared.init.UrlPatternMatchInput.{UrlPatternMatchInput}
 use Rattle.urlpattern_syntax.specs.declared.eight.ComponentName.{ComponentName}
 use Rattle.urlpattern_pattern.specs.declared.pattern.UrlPattern.{UrlPattern}
 use Rattle.urlpattern_pattern.specs.declared.pattern.captures.UrlPatternCaptures.{UrlPatternCaptures}
 use Rattle.urlpattern_pattern.specs.BorrowedMatches.{pattern_captures_view}
-use Rattle.urlpattern_pattern.specs.Match.{AsksAnEngine, HasMatch, HasNoMatch, IsMatch, IsMatchOf, IsRefused, ResultView, result_view, UrlPatternResult}
+use Rattle.urlpattern_pattern.specs.Match.{AreMatched, AsksAnEngine, HasMatch, HasNoMatch, IsMatch, IsMatchOf, IsRefused, ResultView, result_view, UrlPatternResult}
 use Rattle.urlpattern_pattern.specs.Patterns.{PatternView, pattern_view}
 use Rattle.urlpattern_meaning.specs.PartMeaning.{Captures}
 use Rattle.urlpattern_syntax.specs.Eight.{Texts}
@@ -45,3 +45,8 @@ AsksBeforeMatch {E} answer patterns texts =
     (index : ℕ) × (pattern : PatternView E) × (slice_get patterns index ≡ Some pattern)
     × AsksAnEngine answer pattern texts
     × All (λ earlier. IsRefused answer earlier texts) (take index patterns)
+
+-- a match is copied: an engine is asked before, or a pattern matches the texts
+abbrev pub CopiesFirstMatch : {E : Type 0} → (answer : E → List ℕ → Option Captures) → List (PatternView E) → Texts → Type 0
+CopiesFirstMatch answer patterns texts =
+    AsksBeforeMatch answer patterns texts ⊎ Any (λ pattern. AreMatched answer pattern texts) patterns

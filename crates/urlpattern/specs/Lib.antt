@@ -28,6 +28,8 @@ pub use Rattle.urlpattern_compiled.specs.Plain
 pub use Rattle.urlpattern_compiled.specs.Values
 pub use Rattle.urlpattern_pattern.specs.BorrowedMatches
 pub use Rattle.urlpattern_pattern.specs.Calls
+pub use Rattle.urlpattern_pattern.specs.ByText
+pub use Rattle.urlpattern_pattern.specs.ByTextLaws
 pub use Rattle.urlpattern_pattern.specs.Compiled
 pub use Rattle.urlpattern_pattern.specs.CompilerSteps
 pub use Rattle.urlpattern_pattern.specs.FromString

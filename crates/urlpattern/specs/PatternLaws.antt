@@ -11,7 +11,8 @@ use Rattle.urlpattern_syntax.specs.Eight.{Texts, Values, at}
 use Rattle.urlpattern_pattern.specs.Compiled.{AreCompiled, Manner, manner_of}
 use Rattle.urlpattern_pattern.specs.Match.{HasMatch, HasNoMatch, IsLongInput, IsMatch, IsSameResult, ResultView}
 use Rattle.urlpattern_pattern.specs.MatchInput.{input_texts}
-use Rattle.urlpattern_pattern.specs.Meaning.{IsExecuted, IsFirstResult, IsFoundByMeaning, MeaningPremises, RegexPremises}
+use Rattle.urlpattern_pattern.specs.ByText.{IsFirstResult}
+use Rattle.urlpattern_pattern.specs.Meaning.{IsExecuted, IsFoundByMeaning, MeaningPremises, RegexPremises}
 use Rattle.urlpattern_pattern.specs.Patterns.{PatternView}
 
 -- What a compiled pattern answers to an input is what its pattern texts mean.

@@ -2,10 +2,14 @@
 //!
 //! Each function here does nothing; what it promises is a theorem.
 
-ghost use Rattle.std.specs.Prelude.{ℕ, List, Option};
+ghost use Rattle.std.specs.Prelude.{⊤, ℕ, List, Option};
+ghost use Rattle.urlpattern_pattern.specs.ByText.{MakesFirstWays};
 ghost use Rattle.urlpattern.specs.EcmaRegexps.{KeepsRegex, ecma_engine};
 ghost use Rattle.urlpattern.specs.PatternLaws.{AnswersMeanTheParts, FirstResultsAreOne, MatchesAreOne, RegexMeetsPremises, RegexResultsAreFirst, TestsAgree, TestsAreOne};
+ghost use Rattle.urlpattern_pattern.specs.ByTextLaws.{CompiledHaveMeaning, FindingsAreByText, FindingsAreOne, PatternsAnswerAlike, PatternsAnswerByText, ReadingsAsAreOne, TakenPatternsAnswerByText};
 ghost use Rattle.urlpattern_core.specs.FirstWays.{EachAnswersFirst};
+ghost use Rattle.urlpattern_core.specs.Regexes.{regex_engine};
+ghost use Rattle.urlpattern_engine.specs.PatternRegexps.{pattern_engine};
 ghost use Rattle.urlpattern_meaning.specs.FirstAnswers.{TookText};
 ghost use Rattle.urlpattern_meaning.specs.PartMeaning.{Captures};
 
@@ -61,4 +65,28 @@ pub fn groups_by_regex_are_of_the_first_way()
 /// they have none, if a value of `regex` is kept where an engine is needed.
 pub fn matchers_by_ecma_regexp_answer_the_first_way()
     ensures { EachAnswersFirst ecma_engine (TookText KeepsRegex) }
+{}
+
+/// A pattern that was compiled answers by its texts: each component whose pattern text has no custom regular expression, where
+/// case is kept, has the names of the parts that its text reads as, and answers their first way to each text of characters
+/// without line feed. So what it finds in eight texts is determined by the pattern texts, and what two patterns of one init
+/// find is the same.
+///
+/// It is asked of an engine that its values answer the first way of the parts that are left to them.
+pub fn patterns_answer_by_their_texts<R: RegExp>()
+    ensures by_text { PatternsAnswerByText R.RegExp }
+    ensures found { FindingsAreByText R.answer }
+    ensures one { FindingsAreOne }
+    ensures alike { PatternsAnswerAlike R.answer R.answer }
+    ensures readings { ReadingsAsAreOne }
+    ensures meaning { CompiledHaveMeaning R.RegExp }
+{}
+
+/// Of the three engines here nothing is asked but what the pattern shows: of `PatternRegexp` nothing at all, of `regex::Regex`
+/// that it took the regular expressions of the components that have none of their own, of `EcmaRegexp` that it kept a value
+/// of `regex` for them.
+pub fn patterns_by_these_engines_answer_by_their_texts()
+    ensures pattern_regexp { MakesFirstWays pattern_engine }
+    ensures regex { TakenPatternsAnswerByText regex_engine (TookText (λ value. ⊤)) }
+    ensures ecma_regexp { TakenPatternsAnswerByText ecma_engine (TookText KeepsRegex) }
 {}

@@ -9,7 +9,8 @@ ghost use Rattle.std.specs.Slice.Iter.{iter_rest};
 ghost use Rattle.urlpattern_init.specs.Inheritance.{texts_of_url};
 ghost use Rattle.urlpattern_init.specs.declared.init.UrlPatternMatchInput.TheVariants as inputs;
 ghost use Rattle.urlpattern_pattern.specs.Calls.{borrowed_texts};
-ghost use Rattle.urlpattern.specs.FirstMatch.{first_captures_view, first_view, patterns_view, IsFirstMatch, IsFirstMatchOf, AsksBeforeMatch};
+ghost use Rattle.urlpattern.specs.FirstMatch.{first_captures_view, first_view, patterns_view, CopiesFirstMatch, IsFirstMatch, IsFirstMatchOf, AsksBeforeMatch};
+ghost use Rattle.urlpattern_pattern.specs.Match.{IfUrl};
 ghost use Rattle.urlpattern_pattern.specs.MatchInput.{texts_view};
 ghost use Rattle.urlpattern_pattern.specs.declared.pattern.UrlPattern.{UrlPattern};
 ghost use Rattle.urlpattern_syntax.specs.Errors.{OnlyOutOfMemory};
@@ -118,7 +119,7 @@ impl<R: RegExp> UrlPatternList<R> {
     /// The answer is that of `UrlPattern::exec` on one pattern after the other until one matches. Patterns after that one are
     /// not asked, nor are those that the index leaves out.
     ///
-    /// The error is that memory ran out.
+    /// The error is that memory ran out. Of a URL an engine allocates, and the copy of a match.
     pub fn first_match(
         &self,
         alloc: Global,
@@ -126,6 +127,7 @@ impl<R: RegExp> UrlPatternList<R> {
     ) -> Result<Option<(usize, UrlPatternResult)>, Error>
         ensures first { IfOk result (λ found. IsFirstMatch R.answer (patterns_view self.now) input (first_view found)) }
         ensures memory { OnlyOutOfMemory result }
+        ensures copied { IfErr result (λ _. IfUrl (CopiesFirstMatch R.answer (patterns_view self.now)) input) }
     {
         match input {
             UrlPatternMatchInput::Url(url) => self.first_result(alloc, url_texts(&url)),
@@ -180,6 +182,7 @@ impl<R: RegExp> UrlPatternList<R> {
     ) -> Result<Option<(usize, UrlPatternResult)>, Error>
         ensures first { IfOk result (λ found. IsFirstMatchOf R.answer (patterns_view self.now) (borrowed_texts texts.entry) (first_view found)) }
         ensures memory { OnlyOutOfMemory result }
+        ensures copied { IfErr result (λ _. CopiesFirstMatch R.answer (patterns_view self.now) (borrowed_texts texts.entry)) }
     {
         match self.first(alloc, texts)? {
             Some((index, captures)) => Ok(Some((index, captures.to_result(alloc)?))),

@@ -7,3 +7,5 @@ pub mod MatchSteps
 pub mod MatchLaws
 pub mod MatchExamples
 pub mod MeaningLemmas
+pub mod MatchersDecide
+pub mod ByTextLemmas

@@ -6,7 +6,6 @@ use Rattle.std.specs.Prelude.{All, MatchOption, Option, Some, None, option_map, 
 use Rattle.url.specs.Parser.{Parsed}
 use Rattle.urlpattern_core.specs.Components.{ComponentView, IsComponentOf, IsEngineOf, engine_flags, has_regexp, is_custom}
 use Rattle.urlpattern_core.specs.declared.regexp.RegExp.{Ghosts as Engine}
-use Rattle.urlpattern_init.specs.declared.init.UrlPatternInit.{UrlPatternInit}
 use Rattle.urlpattern_init.specs.declared.init.UrlPatternMatchInput.{UrlPatternMatchInput}
 use Rattle.urlpattern_syntax.specs.declared.eight.ComponentName.{ComponentName}
 use Rattle.urlpattern_inputs.specs.declared.options.UrlPatternOptions.{UrlPatternOptions}
@@ -15,10 +14,10 @@ use Rattle.urlpattern_meaning.proofs.MatcherMeaning.{matcher_means}
 use Rattle.urlpattern_meaning.specs.Matching.{Agrees, Answers}
 use Rattle.urlpattern_meaning.specs.PartMeaning.{Captures, PartsMean}
 use Rattle.urlpattern_pattern.proofs.MatchLaws.{no_input-long, texts-one}
-use Rattle.urlpattern_pattern.specs.Compiled.{AreCompiled, IsPatternOfInit, Manner, canonical_encoding, manner_of}
+use Rattle.urlpattern_pattern.specs.Compiled.{AreCompiled, Manner, canonical_encoding, manner_of}
 use Rattle.urlpattern_pattern.specs.Match.{HasNoMatch, IsLongInput, IsMatch, IsResultOf, ResultView, group_of, result_view, UrlPatternResult}
 use Rattle.urlpattern_pattern.specs.MatchInput.{input_texts}
-use Rattle.urlpattern_pattern.specs.Meaning.{IsExecuted, IsExecutedByMeaning, IsFoundByMeaning, IsMeant, MeaningPremises, ReadsAs}
+use Rattle.urlpattern_pattern.specs.Meaning.{IsExecuted, IsFoundByMeaning, IsMeant, MeaningPremises, ReadsAs}
 use Rattle.urlpattern_pattern.specs.Patterns.{PatternView}
 use Rattle.urlpattern_syntax.specs.declared.parser.PartType.{PartType}
 use Rattle.urlpattern_syntax.specs.declared.parser.PartType.TheVariants.{Regexp}
@@ -139,15 +138,3 @@ pub executed_of : {E : Type 0} (answer : E → List ℕ → Option Captures) (pa
     IsExecuted answer pattern input (option_map result_view found)
 executed_of answer pattern input None unmatched = unmatched
 executed_of answer pattern input (Some result) match = match
-
-pub executed_by_meaning : {E : Type 0} (engine : Engine E) (init : UrlPatternInit) (asked : UrlPatternOptions) (input : UrlPatternMatchInput) (pattern : PatternView E) (found : Option (ComponentName → ResultView)) →
-    IsPatternOfInit engine init asked pattern → IsExecuted engine.answer pattern input found →
-    IsExecutedByMeaning engine init asked input found
-executed_by_meaning engine init asked input pattern found (values, are_values, compiled) executed = record {
-  values = values;
-  pattern = pattern;
-  are_values = are_values;
-  compiled = compiled;
-  executed = executed;
-  means = λ texts are_texts short. executed_means engine asked values pattern compiled texts input found are_texts short executed;
-}

@@ -1,5 +1,5 @@
 -- A match that is borrowed from the pattern and from what it matches, as a result.
-use Rattle.std.specs.Prelude.{ℕ, List, map, zip, Option}
+use Rattle.std.specs.Prelude.{ℕ, List, map, zip, IfOk, IfSome, Option, Result}
 use Rattle.std.specs.Str.{chars}
 use Rattle.urlpattern_syntax.specs.declared.eight.ComponentName.{ComponentName}
 use Rattle.urlpattern_pattern.specs.declared.pattern.captures.UrlPatternCaptures.{UrlPatternCaptures}
@@ -22,3 +22,7 @@ pattern_captures_view found component = record {
   input = chars (at found.texts component).now;
   group = group_of (names_view found component) (captures_of (at found.captures component));
 }
+
+-- where a match is found, this holds of it
+abbrev pub IfMatch : {Fault : Type 0} → Result (Option UrlPatternCaptures) Fault → (UrlPatternCaptures → Type 0) → Type 0
+IfMatch result Holds = IfOk result (λ found. IfSome found Holds)

@@ -10,6 +10,7 @@ use Rattle.urlpattern_init.specs.Inheritance.{values_view}
 use Rattle.urlpattern_init.specs.SpecialProtocol.{IsSpecialTo}
 use Rattle.urlpattern_init.specs.declared.init.UrlPatternInit.{UrlPatternInit}
 use Rattle.urlpattern_inputs.specs.declared.options.UrlPatternOptions.{UrlPatternOptions}
+use Rattle.urlpattern_pattern.specs.ByText.{AnswersByItsText}
 use Rattle.urlpattern_pattern.specs.Compiled.{IsPatternOfInit, RefusesInit}
 use Rattle.urlpattern_pattern.specs.Patterns.{PatternView}
 use Rattle.urlpattern_syntax.specs.Errors.{ErrorView}
@@ -45,6 +46,11 @@ pub record IsPatternOfText {E : Type 0} (engine : Engine E) (text : List ℕ) (b
   pub init : UrlPatternInit
   pub is_constructed : IsInitOfText engine text base init
   pub is_compiled : IsPatternOfInit engine init asked pattern
+
+-- it answers by the texts of the init of this constructor string with this base URL
+abbrev pub AnswersByTextOf : {E : Type 0} → Engine E → (text : List ℕ) → (base : Option (List ℕ)) → UrlPatternOptions → PatternView E → Type 0
+AnswersByTextOf engine text base asked pattern =
+    (init : UrlPatternInit) × IsInitOfText engine text base init × AnswersByItsText engine.answer init asked pattern
 
 -- it is refused with this error, as a constructor string or when it is compiled
 abbrev pub RefusesPatternOfText : {E : Type 0} → Engine E → (text : List ℕ) → (base : Option (List ℕ)) → UrlPatternOptions → ErrorView → Type 0

@@ -1,4 +1,6 @@
 pub mod BorrowedMatches
+pub mod ByText
+pub mod ByTextLaws
 pub mod Calls
 pub mod Compiled
 pub mod CompilerSteps

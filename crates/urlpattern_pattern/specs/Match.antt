@@ -6,7 +6,9 @@ use Rattle.std.specs.Map.{lookup}
 use Rattle.std.specs.declared.alloc.Global.{Global}
 use Rattle.urlpattern_syntax.specs.declared.eight.ComponentName.{ComponentName}
 use Rattle.urlpattern_syntax.specs.declared.eight.Eight.{Eight}
+use Rattle.urlpattern_init.specs.Inheritance.{texts_of_url}
 use Rattle.urlpattern_init.specs.declared.init.UrlPatternMatchInput.{UrlPatternMatchInput}
+use Rattle.urlpattern_init.specs.declared.init.UrlPatternMatchInput.TheVariants.{Init, Url as UrlInput}
 use Rattle.urlpattern_pattern.specs.declared.pattern.result.UrlPatternComponentResult.{UrlPatternComponentResult}
 use Rattle.urlpattern_pattern.specs.MatchInput.{IsNoInput, input_bytes, input_texts}
 use Rattle.urlpattern_pattern.specs.Patterns.{PatternView}
@@ -69,6 +71,12 @@ pub record IsMatchOf {E : Type 0} (answer : E → List ℕ → Option Captures) 
   pub are_answers : AreAnswers answer pattern texts captures
   pub are_results : (component : ComponentName) → IsResultOf (pattern component).group_name_list (captures component) (at texts component) (result component)
 
+-- the groups of each component in their order: its names beside the captures that its matcher answers
+abbrev pub AreGroupsInOrder : {E : Type 0} → (answer : E → List ℕ → Option Captures) → PatternView E → Texts → (groups : ComponentName → List (List ℕ × Option (List ℕ))) → Type 0
+AreGroupsInOrder answer pattern texts groups =
+    (component : ComponentName) → (captures : Captures) × Answers answer (pattern component).matcher (at texts component) (Some captures)
+    × (groups component ≡ zip (pattern component).group_name_list captures)
+
 -- each of eight texts is matched
 abbrev pub AreMatched : {E : Type 0} → (answer : E → List ℕ → Option Captures) → PatternView E → Texts → Type 0
 AreMatched answer pattern texts = (component : ComponentName) → IsMatched answer (pattern component).matcher (at texts component)
@@ -113,6 +121,15 @@ pub record AsksAnEngine {E : Type 0} (answer : E → List ℕ → Option Capture
   pub asked : (component : ComponentName) × AsksEngine (pattern component).matcher (at texts component)
   pub others :
       (component : ComponentName) → AsksEngine (pattern component).matcher (at texts component) ⊎ IsMatched answer (pattern component).matcher (at texts component)
+
+-- a match is copied: an engine is asked, or there is a match
+abbrev pub CopiesMatch : {E : Type 0} → (answer : E → List ℕ → Option Captures) → PatternView E → Texts → Type 0
+CopiesMatch answer pattern texts = AsksAnEngine answer pattern texts ⊎ AreMatched answer pattern texts
+
+-- where the input is a URL, this holds of its texts; the texts of an init are allocated anyway
+abbrev pub IfUrl : (Holds : Texts → Type 0) → UrlPatternMatchInput → Type 0
+IfUrl Holds (UrlInput url) = Holds (texts_of_url url)
+IfUrl Holds (Init init) = Unit {0}
 
 -- ---- words of laws
 

@@ -9,7 +9,7 @@ use Rattle.urlpattern_inputs.specs.declared.options.UrlPatternOptions.{UrlPatter
 use Rattle.regex.specs.declared.string.regex.Regex.{Regex}
 use Rattle.urlpattern_core.specs.Components.{ComponentView}
 use Rattle.urlpattern_core.specs.declared.regexp.RegExp.{Ghosts as Engine}
-use Rattle.urlpattern_meaning.specs.FirstAnswers.{IsFirstOf, TookText}
+use Rattle.urlpattern_meaning.specs.FirstAnswers.{TookText}
 use Rattle.urlpattern_meaning.specs.Matching.{FollowsMiddle}
 use Rattle.urlpattern_meaning.specs.PartMeaning.{Captures, PartsMean}
 use Rattle.urlpattern_pattern.specs.Compiled.{AreCompiled, Manner, canonical_encoding, manner_of, pattern_values}
@@ -65,16 +65,6 @@ IsFoundByMeaning answer manner pattern texts None =
 abbrev pub IsExecuted : {E : Type 0} → (answer : E → List ℕ → Option Captures) → PatternView E → UrlPatternMatchInput → Option (ComponentName → ResultView) → Type 0
 IsExecuted answer pattern input found = MatchOption found (HasNoMatch answer pattern input) (IsMatch answer pattern input)
 
--- The init is compiled to a pattern of which this is found on the input, and it is what the pattern texts mean.
-pub record IsExecutedByMeaning {E : Type 0} (engine : Engine E) (init : UrlPatternInit) (asked : UrlPatternOptions) (input : UrlPatternMatchInput) (found : Option (ComponentName → ResultView)) : Type 0 where
-  pub values : Values
-  pub pattern : PatternView E
-  pub are_values : pattern_values init ≡ Ok values
-  pub compiled : AreCompiled engine asked values pattern
-  pub executed : IsExecuted engine.answer pattern input found
-  pub means : (texts : Texts) → input_texts input ≡ Ok texts → ¬ IsLongInput input
-      → IsFoundByMeaning engine.answer (manner_of asked values compiled.hierarchical) pattern texts found
-
 -- ---- the default engine
 
 -- What is asked of a component that was compiled by `regex::Regex`, and of a text: as above, but of the engine no more than
@@ -85,12 +75,3 @@ pub record RegexPremises (manner : Manner) (compiled : ComponentView Regex) (tex
   pub took : TookText (λ regex. ⊤) compiled.matcher.inner
   pub no_line_feed : IsTrue (lacks line_feed text)
   pub characters : IsTrue (all_scalars text)
-
--- The result of a component is the first way of its text: as groups the names of the parts that its pattern text reads as,
--- beside what the first way captures.
-pub record IsFirstResult (manner : Manner) (text : List ℕ) (result : ResultView) : Type 0 where
-  pub parts : List PartView
-  pub captures : Captures
-  pub reads : ReadsAs manner parts
-  pub is_first : IsFirstOf manner.options parts text (Some captures)
-  pub is_result : IsResultOf (group_names parts) captures text result

@@ -4,7 +4,8 @@ ghost use Rattle.std.specs.Prelude.{◌≡◌, None, Ok, length, option_copied, 
 ghost use Rattle.std.specs.Str.{chars};
 ghost use Rattle.url.specs.Parser.{parse_url};
 ghost use Rattle.urlpattern_canonical.specs.Canonical.{Reports};
-ghost use Rattle.urlpattern_pattern.specs.FromString.{parsed_base, text_bytes, IsInitOfText, IsPatternOfText, RefusesPatternOfText, RefusesText};
+ghost use Rattle.urlpattern_pattern.specs.ByText.{MakesFirstWays};
+ghost use Rattle.urlpattern_pattern.specs.FromString.{parsed_base, text_bytes, AnswersByTextOf, IsInitOfText, IsPatternOfText, RefusesPatternOfText, RefusesText};
 ghost use Rattle.urlpattern_pattern.specs.Patterns.{IfPattern};
 ghost use Rattle.urlpattern_syntax.specs.Errors.{MemoryOr};
 
@@ -31,6 +32,7 @@ impl<R: RegExp> UrlPattern<R> {
         options: UrlPatternOptions,
     ) -> Result<Self, Error>
         ensures compiled { IfPattern result (IsPatternOfText R.RegExp (chars pattern.now) (option_copied base_url.entry) options) }
+        ensures by_text { MakesFirstWays R.RegExp → IfPattern result (AnswersByTextOf R.RegExp (chars pattern.now) (option_copied base_url.entry) options) }
         ensures refused { IfErr result (MemoryOr (RefusesPatternOfText R.RegExp (chars pattern.now) (option_copied base_url.entry) options)) }
     {
         let init = init_of_text::<R>(alloc, pattern, base_url)?;

@@ -1,12 +1,12 @@
 //! Matching: what a pattern answers to eight texts, and the groups of the answer.
 //!
 //! All components look at their texts before anything is made. Engines are asked last, and the first refusal ends it.
-ghost use Rattle.std.specs.Prelude.{◌≡◌, None, Some, IfErr, IfNone, IfOk, IfSome};
+ghost use Rattle.std.specs.Prelude.{◌≡◌, None, Some, zip, IfErr, IfNone, IfOk, IfSome};
 ghost use Rattle.urlpattern_core.specs.Looks.{look_answer, IsAsking};
 ghost use Rattle.urlpattern_init.specs.declared.init.UrlPatternMatchInput.TheVariants as inputs;
 ghost use Rattle.urlpattern_init.specs.Inheritance.{texts_of_url};
-ghost use Rattle.urlpattern_pattern.specs.BorrowedMatches.{pattern_captures_view};
-ghost use Rattle.urlpattern_pattern.specs.Match.{AreAnswers, AsksAnEngine, FindsInInput, FindsInTexts, IsRefused, TestsInput, TestsTexts, result_view};
+ghost use Rattle.urlpattern_pattern.specs.BorrowedMatches.{IfMatch, groups_view, pattern_captures_view};
+ghost use Rattle.urlpattern_pattern.specs.Match.{AreAnswers, AreGroupsInOrder, AsksAnEngine, CopiesMatch, FindsInInput, FindsInTexts, IfUrl, IsRefused, TestsInput, TestsTexts, result_view};
 ghost use Rattle.urlpattern_pattern.specs.MatchInput.{texts_view};
 ghost use Rattle.urlpattern_pattern.specs.Calls.{AreCaptured, AreLooks, AskWithCause, HasCaptures, all_captures, borrowed_texts};
 ghost use Rattle.urlpattern_pattern.specs.Patterns.{components_of, pattern_view};
@@ -40,6 +40,7 @@ impl<R: RegExp> UrlPattern<R> {
     pub fn test(&self, alloc: Global, input: UrlPatternMatchInput) -> Result<bool, Error>
         ensures matched { IfOk result (TestsInput R.answer (pattern_view self.now) input) }
         ensures memory { OnlyOutOfMemory result }
+        ensures asked { IfErr result (λ _. IfUrl (AsksAnEngine R.answer (pattern_view self.now)) input) }
     {
         match input {
             UrlPatternMatchInput::Url(url) => self.test_url(alloc, &url),
@@ -53,7 +54,7 @@ impl<R: RegExp> UrlPattern<R> {
     /// What the groups capture of an input. `None`: the pattern does not match it. Of a URL its own texts are
     /// matched, of an init those that it results in, with what it inherits. An input that `url` refuses is not matched.
     ///
-    /// The error is that memory ran out.
+    /// The error is that memory ran out. Of a URL an engine allocates, and the copy of a match.
     ///
     /// <https://urlpattern.spec.whatwg.org/#url-pattern-match>
     pub fn exec(
@@ -63,6 +64,7 @@ impl<R: RegExp> UrlPattern<R> {
     ) -> Result<Option<UrlPatternResult>, Error>
         ensures matched { IfOk result (FindsInInput result_view R.answer (pattern_view self.now) input) }
         ensures memory { OnlyOutOfMemory result }
+        ensures copied { IfErr result (λ _. IfUrl (CopiesMatch R.answer (pattern_view self.now)) input) }
     {
         match input {
             UrlPatternMatchInput::Url(url) => self.exec_url(alloc, &url),
@@ -86,10 +88,11 @@ impl<R: RegExp> UrlPattern<R> {
 
     /// What the groups capture of a URL, as `exec` answers it. `None`: the pattern does not match the URL.
     ///
-    /// The error is that memory ran out.
+    /// The error is that memory ran out. An engine allocates, and the copy of a match.
     pub fn exec_url(&self, alloc: Global, url: &Url) -> Result<Option<UrlPatternResult>, Error>
         ensures matched { IfOk result (FindsInInput result_view R.answer (pattern_view self.now) (inputs.Url url.now)) }
         ensures memory { OnlyOutOfMemory result }
+        ensures copied { IfErr result (λ _. CopiesMatch R.answer (pattern_view self.now) (texts_of_url url.now)) }
     {
         self.exec_texts(alloc, url_texts(url))
     }
@@ -105,6 +108,7 @@ impl<R: RegExp> UrlPattern<R> {
         url: &'a Url,
     ) -> Result<Option<UrlPatternCaptures<'a>>, Error>
         ensures matched { IfOk result (FindsInInput pattern_captures_view R.answer (pattern_view self.now) (inputs.Url url.now)) }
+        ensures groups { IfMatch result (λ found. AreGroupsInOrder R.answer (pattern_view self.now) (texts_of_url url.now) (groups_view found)) }
         ensures memory { OnlyOutOfMemory result }
         ensures asked { IfErr result (λ _. AsksAnEngine R.answer (pattern_view self.now) (texts_of_url url.now)) }
     {
@@ -123,6 +127,7 @@ impl<R: RegExp> UrlPattern<R> {
         input: &'a MatchInput,
     ) -> Result<Option<UrlPatternCaptures<'a>>, Error>
         ensures matched { IfOk result (FindsInTexts pattern_captures_view R.answer (pattern_view self.now) (texts_view input.now)) }
+        ensures groups { IfMatch result (λ found. AreGroupsInOrder R.answer (pattern_view self.now) (texts_view input.now) (groups_view found)) }
         ensures memory { OnlyOutOfMemory result }
         ensures asked { IfErr result (λ _. AsksAnEngine R.answer (pattern_view self.now) (texts_view input.now)) }
     {
@@ -140,6 +145,7 @@ impl<R: RegExp> UrlPattern<R> {
     ) -> Result<Option<UrlPatternResult>, Error>
         ensures matched { IfOk result (FindsInTexts result_view R.answer (pattern_view self.now) (borrowed_texts texts.entry)) }
         ensures memory { OnlyOutOfMemory result }
+        ensures copied { IfErr result (λ _. CopiesMatch R.answer (pattern_view self.now) (borrowed_texts texts.entry)) }
     {
         match captures_of_texts(alloc, self, &texts)? {
             Some(captures) => Ok(Some(captures.to_result(alloc)?)),
@@ -161,7 +167,8 @@ impl<R: RegExp> UrlPattern<R> {
         texts: &Eight<&'a str>,
         captures: Eight<GroupCaptures<'a>>,
     ) -> UrlPatternCaptures<'a>
-        ensures { HasCaptures (pattern_view self.now) (borrowed_texts texts.now) captures.entry (pattern_captures_view result) }
+        ensures matched { HasCaptures (pattern_view self.now) (borrowed_texts texts.now) captures.entry (pattern_captures_view result) }
+        ensures groups { (name : Name) → groups_view result name ≡ zip (pattern_view self.now name).group_name_list (all_captures captures.entry name) }
     {
         let names = |name: ComponentName| -> &Vec<String>
             ensures { result.now ≡ (at (components_of self.entry.now) name).group_name_list }
@@ -222,6 +229,7 @@ pub fn captures_of_texts<'a, R: RegExp>(
     texts: &Eight<&'a str>,
 ) -> Result<Option<UrlPatternCaptures<'a>>, OutOfMemory>
     ensures matched { IfOk result (FindsInTexts pattern_captures_view R.answer (pattern_view pattern.now) (borrowed_texts texts.now)) }
+    ensures groups { IfMatch result (λ found. AreGroupsInOrder R.answer (pattern_view pattern.now) (borrowed_texts texts.now) (groups_view found)) }
     ensures asked { IfErr result (λ _. AsksAnEngine R.answer (pattern_view pattern.now) (borrowed_texts texts.now)) }
 {
     match pattern.captured(alloc, texts)? {

@@ -1,9 +1,9 @@
 //! A pattern that is needed for one input.
 
 ghost use Rattle.std.specs.Prelude.{option_map, IfErr, IfOk};
+ghost use Rattle.urlpattern_pattern.specs.ByText.{IsExecutedByMeaning};
 ghost use Rattle.urlpattern_pattern.specs.Compiled.{RefusesInit};
 ghost use Rattle.urlpattern_pattern.specs.Match.{result_view};
-ghost use Rattle.urlpattern_pattern.specs.Meaning.{IsExecutedByMeaning};
 ghost use Rattle.urlpattern_syntax.specs.Errors.{MemoryOr};
 
 use super::UrlPattern;
@@ -19,7 +19,8 @@ impl<R: RegExp> UrlPattern<R> {
     ///
     /// There is a match exactly where the pattern texts mean the texts of the input, and the groups are what they capture in
     /// one such meaning: for components without a custom regular expression, where case is kept and no text has a line feed,
-    /// with an engine that, where one is needed, follows the regular expression that it was given.
+    /// with an engine that, where one is needed, follows the regular expression that it was given. With an engine whose matchers
+    /// answer first ways, as `PatternRegexp`'s do, the groups are those of the first way, without a premise on the engine.
     ///
     /// The error is why the pattern is refused, or that memory ran out.
     pub fn exec_once(

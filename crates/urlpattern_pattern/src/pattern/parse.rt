@@ -5,6 +5,7 @@ ghost use Rattle.std.specs.Str.{chars};
 ghost use Rattle.urlpattern_canonical.specs.Canonical.{IsAnswer};
 ghost use Rattle.urlpattern_core.specs.Components.{IsCompiledFrom, component_view, pattern_text};
 ghost use Rattle.urlpattern_init.specs.Inheritance.{values_view};
+ghost use Rattle.urlpattern_pattern.specs.ByText.{AnswersByItsText, MakesFirstWays};
 ghost use Rattle.urlpattern_pattern.specs.Compiled.{AreCompiled, EachIsCompiled, FirstRefused, HasEngine, IsComponentCompiled, IsComponentRefused, IsPathKind, IsPatternOfInit, IsRefusedFrom, RefusesInit, RefusesValues, after_protocol, canonical_in_hostname, has_default_port, is_ipv6_pattern, is_mark, is_same, pattern_of, pattern_values, without_default_port};
 ghost use Rattle.urlpattern_pattern.specs.CompilerSteps.{manner_by, compiled_values};
 ghost use Rattle.urlpattern_pattern.specs.Patterns.{IfPattern};
@@ -34,6 +35,9 @@ impl<R: RegExp> UrlPattern<R> {
     /// the hostname and the pathname, and then the others as they stand in a URL. A component is refused for its text, by
     /// `url` for a fixed text in it, or by the engine for its regular expression.
     ///
+    /// The pattern answers by its texts, with an engine whose matchers answer the first way of what they are made of, as
+    /// `PatternRegexp`'s do.
+    ///
     /// <https://urlpattern.spec.whatwg.org/#url-pattern-create>
     pub fn parse(
         alloc: Global,
@@ -41,6 +45,7 @@ impl<R: RegExp> UrlPattern<R> {
         options: UrlPatternOptions,
     ) -> Result<Self, Error>
         ensures compiled { IfPattern result (IsPatternOfInit R.RegExp init options) }
+        ensures by_text { MakesFirstWays R.RegExp → IfPattern result (AnswersByItsText R.answer init options) }
         ensures refused { IfErr result (MemoryOr (RefusesInit R.RegExp init options)) }
     {
         let values = pattern_values(alloc, &init);

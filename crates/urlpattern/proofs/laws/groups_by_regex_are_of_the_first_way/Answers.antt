@@ -1,4 +1,5 @@
-use Rattle.urlpattern.proofs.RegexGroups.{first_result_one, matched_first, regex_premises}
+use Rattle.urlpattern_pattern.proofs.ByTextLemmas.{result_one}
+use Rattle.urlpattern.proofs.RegexGroups.{matched_first, regex_premises}
 use Rattle.urlpattern.proofs.laws.groups_by_regex_are_of_the_first_way.Goals as goal
 
 pub returns-clause-premises : goal.returns-clause-premises
@@ -8,4 +9,4 @@ pub returns-clause-first : goal.returns-clause-first
 returns-clause-first c = matched_first
 
 pub returns-clause-one : goal.returns-clause-one
-returns-clause-one c = first_result_one
+returns-clause-one c = result_one

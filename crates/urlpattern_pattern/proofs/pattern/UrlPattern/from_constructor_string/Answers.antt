@@ -14,6 +14,10 @@ pub returns-clause-compiled : goal.returns-clause-compiled
 returns-clause-compiled g c =
     IfOk-weaker c.parse.result _ _ (λ pattern compiled. record { init = c.in_ok-init.init; is_constructed = c.in_ok-init.ensures.constructed; is_compiled = compiled }) c.parse.ensures.compiled
 
+pub returns-clause-by_text : goal.returns-clause-by_text
+returns-clause-by_text g c = λ firsts.
+    IfOk-weaker c.parse.result _ _ (λ pattern by. (c.in_ok-init.init, c.in_ok-init.ensures.constructed, by)) (c.parse.ensures.by_text firsts)
+
 pub returns-clause-refused : goal.returns-clause-refused
 returns-clause-refused g c =
     IfErr-weaker c.parse.result _ _ (λ error refused. elim refused [

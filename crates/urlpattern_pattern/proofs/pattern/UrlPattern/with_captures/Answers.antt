@@ -1,4 +1,4 @@
-use Rattle.std.proofs.Common.{String, Vec, ap, map, sym}
+use Rattle.std.proofs.Common.{String, Vec, ap, map, sym, zip}
 use Rattle.std.specs.Str.{chars}
 use Rattle.std.specs.declared.alloc.Global.{Global}
 use Rattle.urlpattern_pattern.specs.Calls.{captures_of}
@@ -8,8 +8,12 @@ use Rattle.urlpattern_syntax.specs.Eight.{at}
 use Rattle.urlpattern_syntax.specs.Text.{text_of}
 use Rattle.urlpattern_pattern.proofs.pattern.UrlPattern.with_captures.Goals as goal
 
-pub returns : goal.returns
-returns g c = λ name. record {
+pub returns-clause-matched : goal.returns-clause-matched
+returns-clause-matched g c = λ name. record {
   has_input = sym (at-each (λ other. chars (at c.args.texts.now other).now) name);
   has_groups = λ group. ap (λ (names : Vec (String Global) Global). group_of (map text_of names.items) (captures_of (at c.args.captures name)) group) (c.from_fn.ensures name).1;
 }
+
+pub returns-clause-groups : goal.returns-clause-groups
+returns-clause-groups g c = λ name.
+    ap (λ (names : Vec (String Global) Global). zip (map text_of names.items) (captures_of (at c.args.captures name))) (c.from_fn.ensures name).1

@@ -1,0 +1,293 @@
+-- Patterns that were compiled answer by their pattern texts.
+use Rattle.std.proofs.Common.{◌≡◌, ◌≢◌, ℕ, ◌<◌, ◌↔◌, ◌⊎◌, Bool, true, false, List, ap, length, inl, inr, refl, subst, sym, ◌∙◌}
+use Rattle.std.proofs.lemmas.List.Folds.{list_any_none}
+use Rattle.std.proofs.lemmas.List.Elements.{All-cons, All-nil}
+use Rattle.std.proofs.lemmas.Option.{same_Some}
+use Rattle.std.specs.List.{All, Any}
+use Rattle.std.specs.Prelude.{⊤, Option, Some, None, Result, Ok, Err, IsTrue, codes, slice_index_or}
+use Rattle.urlpattern_canonical.specs.Canonical.{special_schemes}
+use Rattle.urlpattern_core.specs.Components.{ComponentView, IsComponentOf, IsEngineOf, engine_flags, has_regexp, is_custom}
+use Rattle.urlpattern_core.specs.FirstWays.{AnswersFirstWays, EachAnswersFirst, IsTakenBy}
+use Rattle.urlpattern_core.specs.Generated.{AreGenerated}
+use Rattle.urlpattern_core.specs.declared.regexp.RegExp.{Ghosts as Engine}
+use Rattle.urlpattern_init.specs.SpecialProtocol.{AcceptsSpecialScheme}
+use Rattle.urlpattern_init.specs.declared.init.UrlPatternInit.{UrlPatternInit}
+use Rattle.urlpattern_inputs.specs.declared.options.UrlPatternOptions.{UrlPatternOptions}
+use Rattle.urlpattern_meaning.proofs.FirstAnswers.{first_agrees, first_one, matcher_first}
+use Rattle.urlpattern_meaning.specs.FirstAnswers.{IsFirstOf}
+use Rattle.urlpattern_meaning.specs.Matching.{Answers, InnerView}
+use Rattle.urlpattern_meaning.specs.PartMeaning.{Captures}
+use Rattle.urlpattern_syntax.specs.declared.eight.ComponentName.{ComponentName}
+use Rattle.urlpattern_syntax.specs.declared.eight.ComponentName.TheVariants.{Protocol}
+use Rattle.urlpattern_syntax.specs.declared.parser.PartType.{PartType}
+use Rattle.urlpattern_syntax.specs.declared.parser.PartType.TheVariants.{FixedText, Regexp, SegmentWildcard, FullWildcard}
+use Rattle.urlpattern_syntax.specs.Eight.{Texts, Values, at}
+use Rattle.urlpattern_syntax.specs.Parts.{PartView}
+use Rattle.urlpattern_syntax.specs.RegexpText.{group_names}
+use Rattle.urlpattern_pattern.proofs.MatchersDecide.{answered}
+use Rattle.urlpattern_pattern.proofs.MatchLaws.{no_input-long, texts-one}
+use Rattle.urlpattern_pattern.proofs.MeaningLemmas.{executed_means, none_custom, read_once}
+use Rattle.urlpattern_pattern.specs.ByText.{AnswersByItsText, AnswersByText, EnginesAnswerFirst, HasMeaning, IsFirstResult, IsFirstWay, IsExecutedByMeaning, IsFoundByText, IsHierarchicalByText, IsPlainText, MakesFirstWays}
+use Rattle.urlpattern_pattern.specs.Compiled.{AreCompiled, HasHierarchicalPath, IsComponentCompiled, IsPathKind, IsPatternOfInit, Manner, manner_of, pattern_values}
+use Rattle.urlpattern_pattern.specs.declared.pattern.UrlPattern.{UrlPattern}
+use Rattle.urlpattern_init.specs.declared.init.UrlPatternMatchInput.{UrlPatternMatchInput}
+use Rattle.urlpattern_pattern.specs.MatchInput.{input_texts}
+use Rattle.urlpattern_pattern.specs.Match.{FindsInTexts, IsLongInput, IsMatchOf, IsRefused, IsResultOf, IsSameResult, ResultView, group_of}
+use Rattle.urlpattern_pattern.specs.ByTextLaws.{AllHaveMeaning, FindingsAreOne, IsSameFinding, TakenPatternsAnswerByText}
+use Rattle.urlpattern_pattern.specs.Meaning.{IsExecuted, ReadsAs}
+use Rattle.urlpattern_pattern.specs.Patterns.{IfPattern, PatternView, pattern_view}
+
+-- ---- no custom regular expression
+
+custom_is : (kind : PartType) → kind ≢ Regexp → is_custom kind ≡ false
+custom_is FixedText other = refl
+custom_is Regexp other = absurd (other refl)
+custom_is SegmentWildcard other = refl
+custom_is FullWildcard other = refl
+
+generated_flag : (parts : List PartView) → AreGenerated parts → has_regexp parts ≡ false
+generated_flag parts generated = list_any_none (λ part. is_custom part.kind) parts (λ k part lt. custom_is (slice_index_or parts k part).kind (generated k part lt))
+
+-- a component without a custom regular expression, of which case is kept, has a meaning
+pub has_meaning : {E : Type 0} (engine : Engine E) (manner : Manner) (compiled : ComponentView E) → IsComponentCompiled engine manner compiled →
+    compiled.has_regexp_group ≡ false → manner.options.ignore_case ≡ false → HasMeaning manner
+has_meaning engine manner compiled is_compiled none kept =
+    let (parts, reads, is_component) = is_compiled.0 in
+    record {
+      generated = λ others also. subst (λ (ps : List PartView). AreGenerated ps) (read_once manner parts others reads also) (none_custom parts (sym is_component.regexp_flag ∙ none));
+      case_kept = kept;
+    }
+
+-- ---- first ways
+
+pub way_one : (manner : Manner) (text : List ℕ) (captures others : Option Captures) → IsFirstWay manner text captures → IsFirstWay manner text others → captures ≡ others
+way_one manner text captures others first last =
+    let parts : first.parts ≡ last.parts = read_once manner first.parts last.parts first.reads last.reads in
+    first_one manner.options last.parts text captures others (subst (λ (ps : List PartView). IsFirstOf manner.options ps text captures) parts first.is_first) last.is_first
+
+-- ---- one component
+
+module _ {E : Type 0} (answer : E → List ℕ → Option Captures) (manner : Manner) (compiled : ComponentView E) (by : AnswersByText answer manner compiled)
+    (text : List ℕ) (plain : IsPlainText text) where
+  -- what it answers is the first way
+  pub answer_first : (result : Option Captures) → Answers answer compiled.matcher text result → IsFirstWay manner text result
+  answer_first result answers =
+      let (is_first, is_meant) = by.answers text result plain.1 plain.0 answers in
+      record { parts = by.parts; reads = by.reads; is_first = is_first; is_meant = is_meant }
+
+  -- and the first way is what it answers
+  pub first_answer : (result : Option Captures) → IsFirstWay manner text result → Answers answer compiled.matcher text result
+  first_answer result way =
+      let (found, answers) = answered answer compiled.matcher text in
+      subst (λ (r : Option Captures). Answers answer compiled.matcher text r) (way_one manner text found result (answer_first found answers) way) answers
+
+  pub result_first : (captures : Captures) (result : ResultView) → Answers answer compiled.matcher text (Some captures) →
+      IsResultOf compiled.group_name_list captures text result → IsFirstResult manner text result
+  result_first captures result answers is_result = record {
+    captures = captures;
+    way = answer_first (Some captures) answers;
+    is_result = subst (λ (names : List (List ℕ)). IsResultOf names captures text result) by.has_names is_result;
+  }
+
+-- a component that was compiled answers by its text, if its matcher answers first ways
+component_by : {E : Type 0} (engine : Engine E) (manner : Manner) (compiled : ComponentView E) → IsComponentCompiled engine manner compiled → HasMeaning manner →
+    ((parts : List PartView) → ReadsAs manner parts → IsComponentOf engine manner.options parts compiled → AreGenerated parts → AnswersFirstWays engine.answer manner.options parts compiled.matcher) →
+    AnswersByText engine.answer manner compiled
+component_by engine manner compiled is_compiled has firsts =
+    let (parts, reads, is_component) = is_compiled.0 in
+    record {
+      parts = parts;
+      reads = reads;
+      has_names = is_component.has_names;
+      answers = firsts parts reads is_component (has.generated parts reads);
+    }
+
+-- ---- whether the pathname is hierarchical
+
+special_plain : All (λ (scheme : List ℕ × Option (List ℕ)). IsPlainText scheme.0) special_schemes
+special_plain =
+    let P : List ℕ × Option (List ℕ) → Type 0 = λ scheme. IsPlainText scheme.0 in
+    All-cons P _ _ (tt, tt) (All-cons P _ _ (tt, tt) (All-cons P _ _ (tt, tt) (All-cons P _ _ (tt, tt) (All-cons P _ _ (tt, tt) (All-cons P _ _ (tt, tt) (All-nil P))))))
+
+module _ {E : Type 0} (answer : E → List ℕ → Option Captures) (manner : Manner) (protocol : ComponentView E) (by : AnswersByText answer manner protocol) where
+  plain_at : (k : ℕ) (scheme : List ℕ × Option (List ℕ)) → k < length special_schemes → slice_index_or special_schemes k scheme ≡ scheme → IsPlainText scheme.0
+  plain_at k scheme lt here = subst (λ (s : List ℕ × Option (List ℕ)). IsPlainText s.0) here (special_plain k scheme lt)
+
+  scheme_taken : AcceptsSpecialScheme answer protocol.matcher → Any (λ scheme. (captures : Captures) × IsFirstWay manner scheme.0 (Some captures)) special_schemes
+  scheme_taken (k, scheme, lt, here, (captures, matches)) =
+      (k, scheme, lt, here, (captures, answer_first answer manner protocol by scheme.0 (plain_at k scheme lt here) (Some captures) matches))
+
+  scheme_accepted : Any (λ scheme. (captures : Captures) × IsFirstWay manner scheme.0 (Some captures)) special_schemes → AcceptsSpecialScheme answer protocol.matcher
+  scheme_accepted (k, scheme, lt, here, (captures, way)) =
+      (k, scheme, lt, here, (captures, first_answer answer manner protocol by scheme.0 (plain_at k scheme lt here) (Some captures) way))
+
+kind_by : {E : Type 0} (answer : E → List ℕ → Option Captures) (asked : UrlPatternOptions) (values : Values) (protocol : ComponentView E) (hierarchical : Bool) →
+    AnswersByText answer (manner_of asked values false Protocol) protocol → IsPathKind answer values protocol.matcher hierarchical → IsTrue hierarchical ↔ IsHierarchicalByText asked values
+kind_by {E} answer asked values protocol hierarchical by (only, kind) = (λ is. to (only is), λ is. kind (from is))
+  where
+    manner : Manner
+    manner = manner_of asked values false Protocol
+
+    to : HasHierarchicalPath answer values protocol.matcher → IsHierarchicalByText asked values
+    to (inl empty) = inl empty
+    to (inr (inl accepts)) = inr (inl (scheme_taken answer manner protocol by accepts))
+    to (inr (inr slash)) = inr (inr slash)
+
+    from : IsHierarchicalByText asked values → HasHierarchicalPath answer values protocol.matcher
+    from (inl empty) = inl empty
+    from (inr (inl taken)) = inr (inl (scheme_accepted answer manner protocol by taken))
+    from (inr (inr slash)) = inr (inr slash)
+
+-- ---- whole patterns
+
+module _ {E : Type 0} (engine : Engine E) (init : UrlPatternInit) (asked : UrlPatternOptions) (values : Values) (pattern : PatternView E)
+    (are_values : pattern_values init ≡ Ok values) (compiled : AreCompiled engine asked values pattern) where
+  manner_here : ComponentName → Manner
+  manner_here = manner_of asked values compiled.hierarchical
+
+  unfolding manner_here
+  pattern_by : ((component : ComponentName) → HasMeaning (manner_here component) → AnswersByText engine.answer (manner_here component) (pattern component)) →
+      AnswersByItsText engine.answer init asked pattern
+  pattern_by each = record {
+    values = values;
+    hierarchical = compiled.hierarchical;
+    are_values = are_values;
+    path_kind = λ has. kind_by engine.answer asked values (pattern Protocol) compiled.hierarchical (each Protocol has) compiled.path_kind;
+    answers = each;
+  }
+
+  -- where the values of the engine that are asked answer first ways
+  unfolding manner_here
+  pub pattern_by_engines : EnginesAnswerFirst engine.answer manner_here pattern → AnswersByItsText engine.answer init asked pattern
+  pattern_by_engines firsts = pattern_by (λ component has.
+      let manner = manner_here component in
+      component_by engine manner (pattern component) (compiled.are_compiled component) has
+      (λ parts reads is_component generated text result no_feed scalars answers.
+      let is = matcher_first engine.answer (IsEngineOf engine false (engine_flags manner.options)) manner.options parts (pattern component).matcher text result is_component.has_matcher
+      generated has.case_kept no_feed scalars (firsts component parts reads generated) answers in
+      (is, first_agrees manner.options parts text result generated is)))
+
+  -- where the engine took the texts
+  unfolding manner_here
+  pub pattern_by_took : (Took : InnerView E → Type 0) → EachAnswersFirst engine Took →
+      ((component : ComponentName) → (pattern component).has_regexp_group ≡ false → Took (pattern component).matcher.inner) → AnswersByItsText engine.answer init asked pattern
+  pattern_by_took Took firsts took = pattern_by (λ component has.
+      let manner = manner_here component in
+      component_by engine manner (pattern component) (compiled.are_compiled component) has
+      (λ parts reads is_component generated. firsts manner.options (engine_flags manner.options) parts (pattern component).matcher (record {
+        is_made = is_component.has_matcher;
+        generated = generated;
+        case_kept = has.case_kept;
+        took = took component (is_component.regexp_flag ∙ generated_flag parts generated);
+      })))
+
+-- ---- what is found
+
+module _ {E : Type 0} (answer : E → List ℕ → Option Captures) (init : UrlPatternInit) (asked : UrlPatternOptions) (pattern : PatternView E) (by : AnswersByItsText answer init asked pattern) (texts : Texts) where
+  pub match_by_text : (result : ComponentName → ResultView) → IsMatchOf answer pattern texts result → IsFoundByText (manner_of asked by.values by.hierarchical) texts (Some result)
+  match_by_text result match = λ component has plain.
+      result_first answer (manner_of asked by.values by.hierarchical component) (pattern component) (by.answers component has) (at texts component) plain
+      (match.captures component) (result component) (match.are_answers component) (match.are_results component)
+
+  pub refusal_by_text : IsRefused answer pattern texts → IsFoundByText (manner_of asked by.values by.hierarchical) texts None
+  refusal_by_text (component, refused) = λ all.
+      let (has, plain) = all component in
+      (component, answer_first answer (manner_of asked by.values by.hierarchical component) (pattern component) (by.answers component has) (at texts component) plain None refused)
+
+  pub finding_by_text : (found : Option (ComponentName → ResultView)) → FindsInTexts (λ result. result) answer pattern texts found → IsFoundByText (manner_of asked by.values by.hierarchical) texts found
+  finding_by_text None refused = refusal_by_text refused
+  finding_by_text (Some result) match = match_by_text result match
+
+-- ---- one finding
+
+pub result_one : (manner : Manner) (text : List ℕ) (result other : ResultView) → IsFirstResult manner text result → IsFirstResult manner text other → IsSameResult result other
+result_one manner text result other first last =
+    let parts : first.way.parts ≡ last.way.parts = read_once manner first.way.parts last.way.parts first.way.reads last.way.reads in
+    let captures : first.captures ≡ last.captures = same_Some _ _ (way_one manner text (Some first.captures) (Some last.captures) first.way last.way) in (
+      first.is_result.has_input ∙ sym last.is_result.has_input,
+      λ name.
+          first.is_result.has_groups name ∙ ap (λ (ps : List PartView). group_of (group_names ps) first.captures name) parts
+          ∙ ap (λ (c : Captures). group_of (group_names last.way.parts) c name) captures ∙ sym (last.is_result.has_groups name),
+    )
+
+differ : (manner : ComponentName → Manner) (texts : Texts) (result : ComponentName → ResultView) → AllHaveMeaning manner texts → IsFoundByText manner texts None → IsFoundByText manner texts (Some result) → ⊥
+differ manner texts result all none found =
+    let (component, way) = none all in
+    let first = found component (all component).0 (all component).1 in
+    let same : None ≡ Some first.captures = way_one (manner component) (at texts component) None (Some first.captures) way first.way in
+    cc same
+
+pub finding_one : FindingsAreOne
+finding_one manner texts None None all found other = tt
+finding_one manner texts (Some result) (Some other) all found also = λ component.
+    let (has, plain) = all component in
+    result_one (manner component) (at texts component) (result component) (other component) (found component has plain) (also component has plain)
+finding_one manner texts None (Some other) all found also = differ manner texts other all found also
+finding_one manner texts (Some result) None all found also = differ manner texts result all also found
+
+bool_one : (P : Type 0) (test other : Bool) → IsTrue test ↔ P → IsTrue other ↔ P → test ≡ other
+bool_one P true true same also = refl
+bool_one P false false same also = refl
+bool_one P true false same also = absurd (also.1 (same.0 tt))
+bool_one P false true same also = absurd (same.1 (also.0 tt))
+
+module _ {E F : Type 0} (answer : E → List ℕ → Option Captures) (other : F → List ℕ → Option Captures) (init : UrlPatternInit) (asked : UrlPatternOptions)
+    (pattern : PatternView E) (another : PatternView F) (by : AnswersByItsText answer init asked pattern) (also_by : AnswersByItsText other init asked another) where
+  values_one : by.values ≡ also_by.values
+  values_one = cc (by.are_values, also_by.are_values)
+
+  kind_one : HasMeaning (manner_of asked by.values false Protocol) → by.hierarchical ≡ also_by.hierarchical
+  kind_one has =
+      bool_one (IsHierarchicalByText asked by.values) by.hierarchical also_by.hierarchical (by.path_kind has)
+      (subst (λ (v : Values). IsTrue also_by.hierarchical ↔ IsHierarchicalByText asked v) (sym values_one)
+      (also_by.path_kind (subst (λ (v : Values). HasMeaning (manner_of asked v false Protocol)) values_one has)))
+
+  manner_one : HasMeaning (manner_of asked by.values false Protocol) → manner_of asked also_by.values also_by.hierarchical ≡ manner_of asked by.values by.hierarchical
+  manner_one has = ap (λ (v : Values). manner_of asked v also_by.hierarchical) (sym values_one) ∙ ap (λ (h : Bool). manner_of asked by.values h) (sym (kind_one has))
+
+  pub found_alike : (texts : Texts) (found also : Option (ComponentName → ResultView)) → AllHaveMeaning (manner_of asked by.values by.hierarchical) texts →
+      FindsInTexts (λ result. result) answer pattern texts found → FindsInTexts (λ result. result) other another texts also → IsSameFinding found also
+  found_alike texts found also all finds finds_too =
+      finding_one (manner_of asked by.values by.hierarchical) texts found also all (finding_by_text answer init asked pattern by texts found finds)
+      (subst (λ (m : ComponentName → Manner). IsFoundByText m texts also) (manner_one (all Protocol).0) (finding_by_text other init asked another also_by texts also finds_too))
+
+pub init_by_text : {E : Type 0} (engine : Engine E) (init : UrlPatternInit) (asked : UrlPatternOptions) (pattern : PatternView E) → IsPatternOfInit engine init asked pattern → MakesFirstWays engine →
+    AnswersByItsText engine.answer init asked pattern
+init_by_text engine init asked pattern (values, are_values, compiled) firsts =
+    pattern_by_took engine init asked values pattern are_values compiled (λ inner. ⊤) firsts (λ component none. tt)
+
+pub taken_by_text : {E : Type 0} (engine : Engine E) (Took : InnerView E → Type 0) → EachAnswersFirst engine Took → TakenPatternsAnswerByText engine Took
+taken_by_text engine Took firsts = λ init asked pattern (values, are_values, compiled) took.
+    pattern_by_took engine init asked values pattern are_values compiled Took firsts took
+
+pub if_pattern-weaker : {E Fault : Type 0} (result : Result (UrlPattern E) Fault) (P Q : PatternView E → Type 0) → ((pattern : PatternView E) → P pattern → Q pattern) → IfPattern result P → IfPattern result Q
+if_pattern-weaker (Ok pattern) P Q weaker is = weaker (pattern_view pattern) is
+if_pattern-weaker (Err error) P Q weaker is = tt
+
+-- what is found in an input
+input_by_text : {E : Type 0} (answer : E → List ℕ → Option Captures) (init : UrlPatternInit) (asked : UrlPatternOptions) (pattern : PatternView E) (by : AnswersByItsText answer init asked pattern)
+    (input : UrlPatternMatchInput) (found : Option (ComponentName → ResultView)) (texts : Texts) → input_texts input ≡ Ok texts → ¬ IsLongInput input → IsExecuted answer pattern input found →
+    IsFoundByText (manner_of asked by.values by.hierarchical) texts found
+input_by_text answer init asked pattern by input (Some result) texts are_texts short (others, are_others, match) =
+    let same = texts-one input others texts are_others are_texts in
+    match_by_text answer init asked pattern by texts result (subst (λ (t : Texts). IsMatchOf answer pattern t result) same match)
+input_by_text answer init asked pattern by input None texts are_texts short (inl no_input) = absurd (short (no_input-long input texts are_texts no_input))
+input_by_text answer init asked pattern by input None texts are_texts short (inr (others, are_others, refused)) =
+    let same = texts-one input others texts are_others are_texts in
+    refusal_by_text answer init asked pattern by texts (subst (λ (t : Texts). IsRefused answer pattern t) same refused)
+
+-- ---- a pattern that is matched once
+
+pub executed_by_text : {E : Type 0} (engine : Engine E) (init : UrlPatternInit) (asked : UrlPatternOptions) (input : UrlPatternMatchInput) (pattern : PatternView E) (found : Option (ComponentName → ResultView)) →
+    IsPatternOfInit engine init asked pattern → IsExecuted engine.answer pattern input found → IsExecutedByMeaning engine init asked input found
+executed_by_text engine init asked input pattern found (values, are_values, compiled) executed = record {
+  values = values;
+  pattern = pattern;
+  are_values = are_values;
+  compiled = compiled;
+  executed = executed;
+  means = λ texts are_texts short. executed_means engine asked values pattern compiled texts input found are_texts short executed;
+  by_text = init_by_text engine init asked pattern (values, are_values, compiled);
+  found_by_text = λ firsts texts are_texts short.
+      input_by_text engine.answer init asked pattern (init_by_text engine init asked pattern (values, are_values, compiled) firsts) input found texts are_texts short executed;
+}

@@ -1,0 +1,115 @@
+-- What patterns answer, in the words of their pattern texts: the first way of the parts that these read as.
+use Rattle.std.specs.Prelude.{◌≡◌, ◌↔◌, ◌⊎◌, ⊤, ℕ, Any, Bool, false, List, [], Option, None, Some, Ok, IsTrue, codes, unwrap_or}
+use Rattle.std.specs.Str.{all_scalars}
+use Rattle.urlpattern_canonical.specs.Canonical.{special_schemes}
+use Rattle.urlpattern_core.specs.Components.{ComponentView}
+use Rattle.urlpattern_core.specs.FirstWays.{AnswersFirstWays, EachAnswersFirst}
+use Rattle.urlpattern_core.specs.Generated.{AreGenerated}
+use Rattle.urlpattern_core.specs.declared.regexp.RegExp.{Ghosts as Engine}
+use Rattle.urlpattern_init.specs.declared.init.UrlPatternInit.{UrlPatternInit}
+use Rattle.urlpattern_init.specs.declared.init.UrlPatternMatchInput.{UrlPatternMatchInput}
+use Rattle.urlpattern_inputs.specs.declared.options.UrlPatternOptions.{UrlPatternOptions}
+use Rattle.urlpattern_meaning.specs.FirstAnswers.{AnswersFirstInMiddle, IsFirstOf}
+use Rattle.urlpattern_meaning.specs.Matching.{Agrees}
+use Rattle.urlpattern_meaning.specs.PartMeaning.{Captures}
+use Rattle.urlpattern_syntax.specs.declared.eight.ComponentName.{ComponentName}
+use Rattle.urlpattern_syntax.specs.declared.eight.ComponentName.TheVariants.{Protocol}
+use Rattle.urlpattern_syntax.specs.Eight.{Texts, Values, at}
+use Rattle.urlpattern_syntax.specs.Parts.{PartView}
+use Rattle.urlpattern_syntax.specs.RegexpText.{group_names}
+use Rattle.urlpattern_syntax.specs.Text.{begins_with, lacks, line_feed}
+use Rattle.urlpattern_pattern.specs.Compiled.{AreCompiled, Manner, is_mark, manner_of, pattern_values}
+use Rattle.urlpattern_pattern.specs.Match.{IsLongInput, IsResultOf, ResultView}
+use Rattle.urlpattern_pattern.specs.MatchInput.{input_texts}
+use Rattle.urlpattern_pattern.specs.Meaning.{IsExecuted, IsFoundByMeaning, ReadsAs}
+use Rattle.urlpattern_pattern.specs.Patterns.{PatternView}
+
+-- a text of characters without line feed
+abbrev pub IsPlainText : List ℕ → Type 0
+IsPlainText text = IsTrue (all_scalars text) × IsTrue (lacks line_feed text)
+
+-- The pattern text of a component has a meaning of its own: it has no custom regular expression, and case is kept.
+pub record HasMeaning (manner : Manner) : Type 0 where
+  pub generated : (parts : List PartView) → ReadsAs manner parts → AreGenerated parts
+  pub case_kept : manner.options.ignore_case ≡ false
+
+-- ---- first ways
+
+-- The captures are those of the first way in which the parts, as which the pattern text reads, take the whole text; None where
+-- they take it in no way.
+pub record IsFirstWay (manner : Manner) (text : List ℕ) (captures : Option Captures) : Type 0 where
+  pub parts : List PartView
+  pub reads : ReadsAs manner parts
+  pub is_first : IsFirstOf manner.options parts text captures
+  pub is_meant : Agrees manner.options parts text captures
+
+-- The result of a component is that of the first way of its text: as groups the names of the parts beside the captures.
+pub record IsFirstResult (manner : Manner) (text : List ℕ) (result : ResultView) : Type 0 where
+  pub captures : Captures
+  pub way : IsFirstWay manner text (Some captures)
+  pub is_result : IsResultOf (group_names way.parts) captures text result
+
+-- ---- what is found
+
+-- What is found of eight texts is by the pattern texts. Of a match each component whose pattern text has a meaning has the
+-- result of the first way. Where there is no match, and all have a meaning, one component takes its text in no way.
+abbrev pub IsFoundByText : (manner : ComponentName → Manner) → Texts → Option (ComponentName → ResultView) → Type 0
+IsFoundByText manner texts (Some result) =
+    (component : ComponentName) → HasMeaning (manner component) → IsPlainText (at texts component) →
+    IsFirstResult (manner component) (at texts component) (result component)
+IsFoundByText manner texts None =
+    ((component : ComponentName) → HasMeaning (manner component) × IsPlainText (at texts component)) →
+    (component : ComponentName) × IsFirstWay (manner component) (at texts component) None
+
+-- ---- patterns
+
+-- The component answers by its pattern text: it has the names of the parts as which that reads, and to a text of characters
+-- without line feed it answers their first way.
+pub record AnswersByText {E : Type 0} (answer : E → List ℕ → Option Captures) (manner : Manner) (compiled : ComponentView E) : Type 0 where
+  pub parts : List PartView
+  pub reads : ReadsAs manner parts
+  pub has_names : compiled.group_name_list ≡ group_names parts
+  pub answers : AnswersFirstWays answer manner.options parts compiled.matcher
+
+-- the pathname of these values is hierarchical: the protocol is empty, its pattern text takes a special scheme, or the
+-- pathname begins with a slash
+abbrev pub IsHierarchicalByText : UrlPatternOptions → Values → Type 0
+IsHierarchicalByText asked values =
+    (values.protocol ≡ Some [])
+    ⊎ Any (λ scheme. (captures : Captures) × IsFirstWay (manner_of asked values false Protocol) scheme.0 (Some captures)) special_schemes
+    ⊎ IsTrue (begins_with (is_mark (codes "/")) (unwrap_or values.pathname []))
+
+-- The pattern answers by the texts of this init: each component does whose pattern text has a meaning.
+pub record AnswersByItsText {E : Type 0} (answer : E → List ℕ → Option Captures) (init : UrlPatternInit) (asked : UrlPatternOptions) (pattern : PatternView E) : Type 0 where
+  pub values : Values
+  pub hierarchical : Bool
+  pub are_values : pattern_values init ≡ Ok values
+  pub path_kind : HasMeaning (manner_of asked values false Protocol) → IsTrue hierarchical ↔ IsHierarchicalByText asked values
+  pub answers : (component : ComponentName) → HasMeaning (manner_of asked values hierarchical component) →
+      AnswersByText answer (manner_of asked values hierarchical component) (pattern component)
+
+-- wherever an engine is left parts of which none is custom, its value answers their first way
+abbrev pub EnginesAnswerFirst : {E : Type 0} → (answer : E → List ℕ → Option Captures) → (manner : ComponentName → Manner) → PatternView E → Type 0
+EnginesAnswerFirst answer manner pattern =
+    (component : ComponentName) (parts : List PartView) → ReadsAs (manner component) parts → AreGenerated parts →
+    AnswersFirstInMiddle answer (manner component).options parts (pattern component).matcher.inner
+
+-- each matcher that the engine made answers first ways, without a premise on the engine
+abbrev pub MakesFirstWays : {E : Type 0} → Engine E → Type 0
+MakesFirstWays engine = EachAnswersFirst engine (λ inner. ⊤)
+
+-- ---- what `exec_once` answers
+
+-- The init is compiled to a pattern of which this is found on the input. It is what the pattern texts mean, and by an engine that
+-- makes first ways it is by the pattern texts.
+pub record IsExecutedByMeaning {E : Type 0} (engine : Engine E) (init : UrlPatternInit) (asked : UrlPatternOptions) (input : UrlPatternMatchInput) (found : Option (ComponentName → ResultView)) : Type 0 where
+  pub values : Values
+  pub pattern : PatternView E
+  pub are_values : pattern_values init ≡ Ok values
+  pub compiled : AreCompiled engine asked values pattern
+  pub executed : IsExecuted engine.answer pattern input found
+  pub means : (texts : Texts) → input_texts input ≡ Ok texts → ¬ IsLongInput input
+      → IsFoundByMeaning engine.answer (manner_of asked values compiled.hierarchical) pattern texts found
+  pub by_text : MakesFirstWays engine → AnswersByItsText engine.answer init asked pattern
+  pub found_by_text : MakesFirstWays engine → (texts : Texts) → input_texts input ≡ Ok texts → ¬ IsLongInput input
+      → IsFoundByText (manner_of asked values compiled.hierarchical) texts found
