@@ -1,6 +1,5 @@
 -- A matcher has an answer to each text.
 use Rattle.std.proofs.Common.{◌≡◌, ℕ, ◌+◌, ◌-◌, ◌⊎◌, Bool, true, false, List, [], ◌∷◌, ◌++◌, length, take, drop, inl, inr, refl, sym, ap, subst, ◌∙◌, arith}
-use Rattle.std.proofs.lemmas.Bool.Laws.{ltb-case}
 use Rattle.std.proofs.lemmas.List.{drop_at, length-append, length-take-le, take-append-drop, take_at}
 use Rattle.std.proofs.lemmas.Slice.Eq.{bytes_eq-Decides}
 use Rattle.std.specs.Prelude.{◌≤◌, ◌<◌, Option, Some, None, Result, Ok, Err, IsTrue, bytes_eq}
@@ -46,7 +45,7 @@ module _ {E : Type 0} (matcher : MatcherView E) (text : List ℕ) where
   back_of = drop (length rest_of - length matcher.suffix) rest_of
 
   -- a cut is this one
-  unfolding front_of, rest_of, middle_of, back_of
+  unfolding front_of rest_of middle_of back_of
   cut_is : (front middle back : List ℕ) → text ≡ front ++ middle ++ back → length front ≡ length matcher.prefix → length back ≡ length matcher.suffix →
       (front ≡ front_of) × (middle ≡ middle_of) × (back ≡ back_of)
   cut_is front middle back cut fronts backs =
@@ -60,7 +59,7 @@ module _ {E : Type 0} (matcher : MatcherView E) (text : List ℕ) where
         sym (drop_at middle back (length rest_of - length matcher.suffix) long) ∙ ap (drop (length rest_of - length matcher.suffix)) rest,
       )
 
-  unfolding front_of, rest_of, middle_of, back_of
+  unfolding front_of rest_of middle_of back_of
   whole : text ≡ front_of ++ middle_of ++ back_of
   whole = sym (take-append-drop (length matcher.prefix) text)
       ∙ ap (λ t. take (length matcher.prefix) text ++ t) (sym (take-append-drop (length rest_of - length matcher.suffix) rest_of))

@@ -1,4 +1,4 @@
-use Rattle.std.proofs.Common.{subst}
+use Rattle.std.proofs.Common.{subst, sym}
 use Rattle.std.specs.Prelude.{MatchOption}
 use Rattle.urlpattern_pattern.specs.BorrowedMatches.{pattern_captures_view}
 use Rattle.urlpattern_pattern.specs.Match.{IsMatchOf, IsRefused}
