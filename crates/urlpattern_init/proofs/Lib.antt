@@ -8,4 +8,5 @@ pub mod SplitUnique
 pub mod SplitExists
 pub mod InheritanceLemmas
 pub mod SplitExamples
+pub mod UrlTexts
 pub mod SchemeLemmas

@@ -4,3 +4,4 @@ pub mod Processing
 pub mod SpecialProtocol
 pub mod Split
 pub mod Splitting
+pub mod UrlTexts

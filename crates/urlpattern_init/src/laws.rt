@@ -1,9 +1,10 @@
-//! The law of constructor strings.
+//! The laws of constructor strings and of the texts of URLs.
 //!
 //! Each function here does nothing; what it promises is a theorem.
 
 ghost use Rattle.urlpattern_init.specs.ConstructorString.{EachTextSplits, SplitsAreOne, SplitsAreOneOrInDoubt};
 ghost use Rattle.urlpattern_init.specs.SpecialProtocol.{IsSpecialTo};
+ghost use Rattle.urlpattern_init.specs.UrlTexts.{TextsOfUrlsAreLines};
 
 use urlpattern_core::regexp::RegExp;
 
@@ -13,4 +14,9 @@ pub fn splits_are_one<R: RegExp>()
     ensures exist { EachTextSplits }
     ensures given { SplitsAreOne }
     ensures computed { SplitsAreOneOrInDoubt (IsSpecialTo R.RegExp) }
+{}
+
+/// The eight texts of a URL are lines: of characters, none of them a line feed.
+pub fn texts_of_urls_are_lines()
+    ensures { TextsOfUrlsAreLines }
 {}

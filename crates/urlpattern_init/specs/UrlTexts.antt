@@ -1,0 +1,21 @@
+-- What the texts of a URL are.
+use Rattle.std.specs.Prelude.{ℕ, List, IsTrue}
+use Rattle.std.specs.Str.{all_scalars}
+use Rattle.url.specs.Parts.{IsValid, Parts}
+use Rattle.urlpattern_init.specs.Inheritance.{texts_of_url}
+use Rattle.urlpattern_syntax.specs.declared.eight.ComponentName.{ComponentName}
+use Rattle.urlpattern_syntax.specs.Eight.{Texts, at}
+use Rattle.urlpattern_syntax.specs.Text.{lacks, line_feed}
+
+-- A line: characters, none of them a line feed.
+pub record IsLine (text : List ℕ) : Type 0 where
+  pub characters : IsTrue (all_scalars text)
+  pub no_line_feed : IsTrue (lacks line_feed text)
+
+-- each of eight texts is a line
+abbrev pub AreLines : Texts → Type 0
+AreLines texts = (component : ComponentName) → IsLine (at texts component)
+
+-- Each text of a valid URL is a line.
+abbrev pub TextsOfUrlsAreLines : Type 0
+TextsOfUrlsAreLines = (url : Parts) → IsValid url → AreLines (texts_of_url url)
