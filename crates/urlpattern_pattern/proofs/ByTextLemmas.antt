@@ -11,6 +11,7 @@ use Rattle.urlpattern_core.specs.FirstWays.{AnswersFirstWays, EachAnswersFirst, 
 use Rattle.urlpattern_core.specs.Generated.{AreGenerated}
 use Rattle.urlpattern_core.specs.declared.regexp.RegExp.{Ghosts as Engine}
 use Rattle.urlpattern_init.specs.SpecialProtocol.{AcceptsSpecialScheme}
+use Rattle.urlpattern_init.specs.UrlTexts.{IsLine}
 use Rattle.urlpattern_init.specs.declared.init.UrlPatternInit.{UrlPatternInit}
 use Rattle.urlpattern_inputs.specs.declared.options.UrlPatternOptions.{UrlPatternOptions}
 use Rattle.urlpattern_meaning.proofs.FirstAnswers.{first_agrees, first_one, matcher_first}
@@ -27,7 +28,7 @@ use Rattle.urlpattern_syntax.specs.RegexpText.{group_names}
 use Rattle.urlpattern_pattern.proofs.MatchersDecide.{answered}
 use Rattle.urlpattern_pattern.proofs.MatchLaws.{no_input-long, texts-one}
 use Rattle.urlpattern_pattern.proofs.MeaningLemmas.{executed_means, none_custom, read_once}
-use Rattle.urlpattern_pattern.specs.ByText.{AnswersByItsText, AnswersByText, EnginesAnswerFirst, HasMeaning, IsFirstResult, IsFirstWay, IsExecutedByMeaning, IsFoundByText, IsHierarchicalByText, IsPlainText, MakesFirstWays}
+use Rattle.urlpattern_pattern.specs.ByText.{AnswersByItsText, AnswersByText, EnginesAnswerFirst, HasMeaning, IsFirstResult, IsFirstWay, IsExecutedByMeaning, IsFoundByText, IsHierarchicalByText, MakesFirstWays}
 use Rattle.urlpattern_pattern.specs.Compiled.{AreCompiled, HasHierarchicalPath, IsComponentCompiled, IsPathKind, IsPatternOfInit, Manner, manner_of, pattern_values}
 use Rattle.urlpattern_pattern.specs.declared.pattern.UrlPattern.{UrlPattern}
 use Rattle.urlpattern_init.specs.declared.init.UrlPatternMatchInput.{UrlPatternMatchInput}
@@ -68,11 +69,11 @@ way_one manner text captures others first last =
 -- ---- one component
 
 module _ {E : Type 0} (answer : E → List ℕ → Option Captures) (manner : Manner) (compiled : ComponentView E) (by : AnswersByText answer manner compiled)
-    (text : List ℕ) (plain : IsPlainText text) where
+    (text : List ℕ) (line : IsLine text) where
   -- what it answers is the first way
   pub answer_first : (result : Option Captures) → Answers answer compiled.matcher text result → IsFirstWay manner text result
   answer_first result answers =
-      let (is_first, is_meant) = by.answers text result plain.1 plain.0 answers in
+      let (is_first, is_meant) = by.answers text result line.no_line_feed line.characters answers in
       record { parts = by.parts; reads = by.reads; is_first = is_first; is_meant = is_meant }
 
   -- and the first way is what it answers
@@ -104,22 +105,22 @@ component_by engine manner compiled is_compiled has firsts =
 
 -- ---- whether the pathname is hierarchical
 
-special_plain : All (λ (scheme : List ℕ × Option (List ℕ)). IsPlainText scheme.0) special_schemes
-special_plain =
-    let P : List ℕ × Option (List ℕ) → Type 0 = λ scheme. IsPlainText scheme.0 in
-    All-cons P _ _ (tt, tt) (All-cons P _ _ (tt, tt) (All-cons P _ _ (tt, tt) (All-cons P _ _ (tt, tt) (All-cons P _ _ (tt, tt) (All-cons P _ _ (tt, tt) (All-nil P))))))
+special_lines : All (λ (scheme : List ℕ × Option (List ℕ)). IsLine scheme.0) special_schemes
+special_lines =
+    let P : List ℕ × Option (List ℕ) → Type 0 = λ scheme. IsLine scheme.0 in
+    All-cons P _ _ (record { characters = tt; no_line_feed = tt }) (All-cons P _ _ (record { characters = tt; no_line_feed = tt }) (All-cons P _ _ (record { characters = tt; no_line_feed = tt }) (All-cons P _ _ (record { characters = tt; no_line_feed = tt }) (All-cons P _ _ (record { characters = tt; no_line_feed = tt }) (All-cons P _ _ (record { characters = tt; no_line_feed = tt }) (All-nil P))))))
 
 module _ {E : Type 0} (answer : E → List ℕ → Option Captures) (manner : Manner) (protocol : ComponentView E) (by : AnswersByText answer manner protocol) where
-  plain_at : (k : ℕ) (scheme : List ℕ × Option (List ℕ)) → k < length special_schemes → slice_index_or special_schemes k scheme ≡ scheme → IsPlainText scheme.0
-  plain_at k scheme lt here = subst (λ (s : List ℕ × Option (List ℕ)). IsPlainText s.0) here (special_plain k scheme lt)
+  line_at : (k : ℕ) (scheme : List ℕ × Option (List ℕ)) → k < length special_schemes → slice_index_or special_schemes k scheme ≡ scheme → IsLine scheme.0
+  line_at k scheme lt here = subst (λ (s : List ℕ × Option (List ℕ)). IsLine s.0) here (special_lines k scheme lt)
 
   scheme_taken : AcceptsSpecialScheme answer protocol.matcher → Any (λ scheme. (captures : Captures) × IsFirstWay manner scheme.0 (Some captures)) special_schemes
   scheme_taken (k, scheme, lt, here, (captures, matches)) =
-      (k, scheme, lt, here, (captures, answer_first answer manner protocol by scheme.0 (plain_at k scheme lt here) (Some captures) matches))
+      (k, scheme, lt, here, (captures, answer_first answer manner protocol by scheme.0 (line_at k scheme lt here) (Some captures) matches))
 
   scheme_accepted : Any (λ scheme. (captures : Captures) × IsFirstWay manner scheme.0 (Some captures)) special_schemes → AcceptsSpecialScheme answer protocol.matcher
   scheme_accepted (k, scheme, lt, here, (captures, way)) =
-      (k, scheme, lt, here, (captures, first_answer answer manner protocol by scheme.0 (plain_at k scheme lt here) (Some captures) way))
+      (k, scheme, lt, here, (captures, first_answer answer manner protocol by scheme.0 (line_at k scheme lt here) (Some captures) way))
 
 kind_by : {E : Type 0} (answer : E → List ℕ → Option Captures) (asked : UrlPatternOptions) (values : Values) (protocol : ComponentView E) (hierarchical : Bool) →
     AnswersByText answer (manner_of asked values false Protocol) protocol → IsPathKind answer values protocol.matcher hierarchical → IsTrue hierarchical ↔ IsHierarchicalByText asked values
@@ -185,14 +186,14 @@ module _ {E : Type 0} (engine : Engine E) (init : UrlPatternInit) (asked : UrlPa
 
 module _ {E : Type 0} (answer : E → List ℕ → Option Captures) (init : UrlPatternInit) (asked : UrlPatternOptions) (pattern : PatternView E) (by : AnswersByItsText answer init asked pattern) (texts : Texts) where
   pub match_by_text : (result : ComponentName → ResultView) → IsMatchOf answer pattern texts result → IsFoundByText (manner_of asked by.values by.hierarchical) texts (Some result)
-  match_by_text result match = λ component has plain.
-      result_first answer (manner_of asked by.values by.hierarchical component) (pattern component) (by.answers component has) (at texts component) plain
+  match_by_text result match = λ component has line.
+      result_first answer (manner_of asked by.values by.hierarchical component) (pattern component) (by.answers component has) (at texts component) line
       (match.captures component) (result component) (match.are_answers component) (match.are_results component)
 
   pub refusal_by_text : IsRefused answer pattern texts → IsFoundByText (manner_of asked by.values by.hierarchical) texts None
   refusal_by_text (component, refused) = λ all.
-      let (has, plain) = all component in
-      (component, answer_first answer (manner_of asked by.values by.hierarchical component) (pattern component) (by.answers component has) (at texts component) plain None refused)
+      let (has, line) = all component in
+      (component, answer_first answer (manner_of asked by.values by.hierarchical component) (pattern component) (by.answers component has) (at texts component) line None refused)
 
   pub finding_by_text : (found : Option (ComponentName → ResultView)) → FindsInTexts (λ result. result) answer pattern texts found → IsFoundByText (manner_of asked by.values by.hierarchical) texts found
   finding_by_text None refused = refusal_by_text refused
@@ -220,8 +221,8 @@ differ manner texts result all none found =
 pub finding_one : FindingsAreOne
 finding_one manner texts None None all found other = tt
 finding_one manner texts (Some result) (Some other) all found also = λ component.
-    let (has, plain) = all component in
-    result_one (manner component) (at texts component) (result component) (other component) (found component has plain) (also component has plain)
+    let (has, line) = all component in
+    result_one (manner component) (at texts component) (result component) (other component) (found component has line) (also component has line)
 finding_one manner texts None (Some other) all found also = differ manner texts other all found also
 finding_one manner texts (Some result) None all found also = differ manner texts result all also found
 

@@ -1,11 +1,11 @@
 -- What patterns answer, in the words of their pattern texts: the first way of the parts that these read as.
 use Rattle.std.specs.Prelude.{◌≡◌, ◌↔◌, ◌⊎◌, ⊤, ℕ, Any, Bool, false, List, [], Option, None, Some, Ok, IsTrue, codes, unwrap_or}
-use Rattle.std.specs.Str.{all_scalars}
 use Rattle.urlpattern_canonical.specs.Canonical.{special_schemes}
 use Rattle.urlpattern_core.specs.Components.{ComponentView}
 use Rattle.urlpattern_core.specs.FirstWays.{AnswersFirstWays, EachAnswersFirst}
 use Rattle.urlpattern_core.specs.Generated.{AreGenerated}
 use Rattle.urlpattern_core.specs.declared.regexp.RegExp.{Ghosts as Engine}
+use Rattle.urlpattern_init.specs.UrlTexts.{IsLine}
 use Rattle.urlpattern_init.specs.declared.init.UrlPatternInit.{UrlPatternInit}
 use Rattle.urlpattern_init.specs.declared.init.UrlPatternMatchInput.{UrlPatternMatchInput}
 use Rattle.urlpattern_inputs.specs.declared.options.UrlPatternOptions.{UrlPatternOptions}
@@ -17,16 +17,12 @@ use Rattle.urlpattern_syntax.specs.declared.eight.ComponentName.TheVariants.{Pro
 use Rattle.urlpattern_syntax.specs.Eight.{Texts, Values, at}
 use Rattle.urlpattern_syntax.specs.Parts.{PartView}
 use Rattle.urlpattern_syntax.specs.RegexpText.{group_names}
-use Rattle.urlpattern_syntax.specs.Text.{begins_with, lacks, line_feed}
+use Rattle.urlpattern_syntax.specs.Text.{begins_with}
 use Rattle.urlpattern_pattern.specs.Compiled.{AreCompiled, Manner, is_mark, manner_of, pattern_values}
 use Rattle.urlpattern_pattern.specs.Match.{IsLongInput, IsResultOf, ResultView}
 use Rattle.urlpattern_pattern.specs.MatchInput.{input_texts}
 use Rattle.urlpattern_pattern.specs.Meaning.{IsExecuted, IsFoundByMeaning, ReadsAs}
 use Rattle.urlpattern_pattern.specs.Patterns.{PatternView}
-
--- a text of characters without line feed
-abbrev pub IsPlainText : List ℕ → Type 0
-IsPlainText text = IsTrue (all_scalars text) × IsTrue (lacks line_feed text)
 
 -- The pattern text of a component has a meaning of its own: it has no custom regular expression, and case is kept.
 pub record HasMeaning (manner : Manner) : Type 0 where
@@ -55,16 +51,16 @@ pub record IsFirstResult (manner : Manner) (text : List ℕ) (result : ResultVie
 -- result of the first way. Where there is no match, and all have a meaning, one component takes its text in no way.
 abbrev pub IsFoundByText : (manner : ComponentName → Manner) → Texts → Option (ComponentName → ResultView) → Type 0
 IsFoundByText manner texts (Some result) =
-    (component : ComponentName) → HasMeaning (manner component) → IsPlainText (at texts component) →
+    (component : ComponentName) → HasMeaning (manner component) → IsLine (at texts component) →
     IsFirstResult (manner component) (at texts component) (result component)
 IsFoundByText manner texts None =
-    ((component : ComponentName) → HasMeaning (manner component) × IsPlainText (at texts component)) →
+    ((component : ComponentName) → HasMeaning (manner component) × IsLine (at texts component)) →
     (component : ComponentName) × IsFirstWay (manner component) (at texts component) None
 
 -- ---- patterns
 
--- The component answers by its pattern text: it has the names of the parts as which that reads, and to a text of characters
--- without line feed it answers their first way.
+-- The component answers by its pattern text: it has the names of the parts as which that reads, and to a line, a text of
+-- characters without line feed, it answers their first way.
 pub record AnswersByText {E : Type 0} (answer : E → List ℕ → Option Captures) (manner : Manner) (compiled : ComponentView E) : Type 0 where
   pub parts : List PartView
   pub reads : ReadsAs manner parts

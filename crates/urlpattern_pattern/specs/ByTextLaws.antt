@@ -2,6 +2,7 @@
 use Rattle.std.specs.Prelude.{◌≡◌, ℕ, false, List, Ok, Option, None, Some}
 use Rattle.urlpattern_core.specs.Components.{ComponentView}
 use Rattle.urlpattern_core.specs.declared.regexp.RegExp.{Ghosts as Engine}
+use Rattle.urlpattern_init.specs.UrlTexts.{AreLines, IsLine}
 use Rattle.urlpattern_init.specs.declared.init.UrlPatternInit.{UrlPatternInit}
 use Rattle.urlpattern_inputs.specs.declared.options.UrlPatternOptions.{UrlPatternOptions}
 use Rattle.urlpattern_meaning.specs.Matching.{InnerView}
@@ -9,7 +10,7 @@ use Rattle.urlpattern_meaning.specs.PartMeaning.{Captures}
 use Rattle.urlpattern_syntax.specs.declared.eight.ComponentName.{ComponentName}
 use Rattle.urlpattern_syntax.specs.Eight.{Texts, Values, at}
 use Rattle.urlpattern_syntax.specs.Parts.{PartView}
-use Rattle.urlpattern_pattern.specs.ByText.{AnswersByItsText, EnginesAnswerFirst, HasMeaning, IsFoundByText, IsPlainText}
+use Rattle.urlpattern_pattern.specs.ByText.{AnswersByItsText, EnginesAnswerFirst, HasMeaning, IsFoundByText}
 use Rattle.urlpattern_pattern.specs.Compiled.{AreCompiled, IsComponentCompiled, IsPatternOfInit, Manner, manner_of, pattern_values}
 use Rattle.urlpattern_pattern.specs.Match.{FindsInTexts, IsSameResult, ResultView}
 use Rattle.urlpattern_pattern.specs.Meaning.{ReadsAs}
@@ -35,9 +36,9 @@ FindingsAreByText {E} answer = (init : UrlPatternInit) (asked : UrlPatternOption
     (texts : Texts) (found : Option (ComponentName → ResultView)) → FindsInTexts (λ result. result) answer pattern texts found →
     IsFoundByText (manner_of asked by.values by.hierarchical) texts found
 
--- all pattern texts have a meaning, and all texts are plain
+-- all pattern texts have a meaning, and all texts are lines
 abbrev pub AllHaveMeaning : (manner : ComponentName → Manner) → Texts → Type 0
-AllHaveMeaning manner texts = (component : ComponentName) → HasMeaning (manner component) × IsPlainText (at texts component)
+AllHaveMeaning manner texts = (component : ComponentName) → HasMeaning (manner component) × IsLine (at texts component)
 
 -- the same results, or none twice
 abbrev pub IsSameFinding : (found other : Option (ComponentName → ResultView)) → Type 0
