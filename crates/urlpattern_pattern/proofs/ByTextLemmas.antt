@@ -1,10 +1,12 @@
 -- Patterns that were compiled answer by their pattern texts.
 use Rattle.std.proofs.Common.{◌≡◌, ◌≢◌, ℕ, ◌<◌, ◌↔◌, ◌⊎◌, Bool, true, false, List, ap, length, inl, inr, refl, subst, sym, ◌∙◌}
 use Rattle.std.proofs.lemmas.List.Folds.{list_any_none}
-use Rattle.std.proofs.lemmas.List.Elements.{All-cons, All-nil}
+use Rattle.std.proofs.lemmas.Bool.{and_parts}
+use Rattle.std.proofs.lemmas.List.Sums.{AllPass-from_list_all}
 use Rattle.std.proofs.lemmas.Option.{same_Some}
 use Rattle.std.specs.List.{All, Any}
-use Rattle.std.specs.Prelude.{⊤, Option, Some, None, Result, Ok, Err, IsTrue, codes, slice_index_or}
+use Rattle.std.specs.Str.{all_scalars}
+use Rattle.std.specs.Prelude.{◌&&◌, ⊤, Option, Some, None, Result, Ok, Err, IsTrue, codes, slice_index_or}
 use Rattle.urlpattern_canonical.specs.Canonical.{special_schemes}
 use Rattle.urlpattern_core.specs.Components.{ComponentView, IsComponentOf, IsEngineOf, engine_flags, has_regexp, is_custom}
 use Rattle.urlpattern_core.specs.FirstWays.{AnswersFirstWays, EachAnswersFirst, IsTakenBy}
@@ -25,6 +27,7 @@ use Rattle.urlpattern_syntax.specs.declared.parser.PartType.TheVariants.{FixedTe
 use Rattle.urlpattern_syntax.specs.Eight.{Texts, Values, at}
 use Rattle.urlpattern_syntax.specs.Parts.{PartView}
 use Rattle.urlpattern_syntax.specs.RegexpText.{group_names}
+use Rattle.urlpattern_syntax.specs.Text.{lacks, line_feed}
 use Rattle.urlpattern_pattern.proofs.MatchersDecide.{answered}
 use Rattle.urlpattern_pattern.proofs.MatchLaws.{no_input-long, texts-one}
 use Rattle.urlpattern_pattern.proofs.MeaningLemmas.{executed_means, none_custom, read_once}
@@ -71,7 +74,7 @@ way_one manner text captures others first last =
 module _ {E : Type 0} (answer : E → List ℕ → Option Captures) (manner : Manner) (compiled : ComponentView E) (by : AnswersByText answer manner compiled)
     (text : List ℕ) (line : IsLine text) where
   -- what it answers is the first way
-  pub answer_first : (result : Option Captures) → Answers answer compiled.matcher text result → IsFirstWay manner text result
+  abbrev pub answer_first : (result : Option Captures) → Answers answer compiled.matcher text result → IsFirstWay manner text result
   answer_first result answers =
       let (is_first, is_meant) = by.answers text result line.no_line_feed line.characters answers in
       record { parts = by.parts; reads = by.reads; is_first = is_first; is_meant = is_meant }
@@ -105,10 +108,17 @@ component_by engine manner compiled is_compiled has firsts =
 
 -- ---- whether the pathname is hierarchical
 
+is_line : List ℕ → Bool
+is_line text = all_scalars text && lacks line_feed text
+
 special_lines : All (λ (scheme : List ℕ × Option (List ℕ)). IsLine scheme.0) special_schemes
+unfolding is_line
 special_lines =
-    let P : List ℕ × Option (List ℕ) → Type 0 = λ scheme. IsLine scheme.0 in
-    All-cons P _ _ (record { characters = tt; no_line_feed = tt }) (All-cons P _ _ (record { characters = tt; no_line_feed = tt }) (All-cons P _ _ (record { characters = tt; no_line_feed = tt }) (All-cons P _ _ (record { characters = tt; no_line_feed = tt }) (All-cons P _ _ (record { characters = tt; no_line_feed = tt }) (All-cons P _ _ (record { characters = tt; no_line_feed = tt }) (All-nil P))))))
+    let all = AllPass-from_list_all (λ (scheme : List ℕ × Option (List ℕ)). is_line scheme.0) special_schemes refl in
+    λ k scheme lt.
+        let here = (slice_index_or special_schemes k scheme).0 in
+        let both = and_parts (all_scalars here) (lacks line_feed here) (all k scheme lt) in
+        record { characters = both.0; no_line_feed = both.1 }
 
 module _ {E : Type 0} (answer : E → List ℕ → Option Captures) (manner : Manner) (protocol : ComponentView E) (by : AnswersByText answer manner protocol) where
   line_at : (k : ℕ) (scheme : List ℕ × Option (List ℕ)) → k < length special_schemes → slice_index_or special_schemes k scheme ≡ scheme → IsLine scheme.0
@@ -143,10 +153,9 @@ kind_by {E} answer asked values protocol hierarchical by (only, kind) = (λ is. 
 
 module _ {E : Type 0} (engine : Engine E) (init : UrlPatternInit) (asked : UrlPatternOptions) (values : Values) (pattern : PatternView E)
     (are_values : pattern_values init ≡ Ok values) (compiled : AreCompiled engine asked values pattern) where
-  manner_here : ComponentName → Manner
+  abbrev manner_here : ComponentName → Manner
   manner_here = manner_of asked values compiled.hierarchical
 
-  unfolding manner_here
   pattern_by : ((component : ComponentName) → HasMeaning (manner_here component) → AnswersByText engine.answer (manner_here component) (pattern component)) →
       AnswersByItsText engine.answer init asked pattern
   pattern_by each = record {
@@ -158,7 +167,6 @@ module _ {E : Type 0} (engine : Engine E) (init : UrlPatternInit) (asked : UrlPa
   }
 
   -- where the values of the engine that are asked answer first ways
-  unfolding manner_here
   pub pattern_by_engines : EnginesAnswerFirst engine.answer manner_here pattern → AnswersByItsText engine.answer init asked pattern
   pattern_by_engines firsts = pattern_by (λ component has.
       let manner = manner_here component in
@@ -169,7 +177,6 @@ module _ {E : Type 0} (engine : Engine E) (init : UrlPatternInit) (asked : UrlPa
       (is, first_agrees manner.options parts text result generated is)))
 
   -- where the engine took the texts
-  unfolding manner_here
   pub pattern_by_took : (Took : InnerView E → Type 0) → EachAnswersFirst engine Took →
       ((component : ComponentName) → (pattern component).has_regexp_group ≡ false → Took (pattern component).matcher.inner) → AnswersByItsText engine.answer init asked pattern
   pattern_by_took Took firsts took = pattern_by (λ component has.
@@ -226,11 +233,14 @@ finding_one manner texts (Some result) (Some other) all found also = λ componen
 finding_one manner texts None (Some other) all found also = differ manner texts other all found also
 finding_one manner texts (Some result) None all found also = differ manner texts result all also found
 
+never_true : IsTrue false → ⊥
+never_true is = let both : false ≡ true = is in cc both
+
 bool_one : (P : Type 0) (test other : Bool) → IsTrue test ↔ P → IsTrue other ↔ P → test ≡ other
 bool_one P true true same also = refl
 bool_one P false false same also = refl
-bool_one P true false same also = absurd (also.1 (same.0 tt))
-bool_one P false true same also = absurd (same.1 (also.0 tt))
+bool_one P true false same also = absurd (never_true (also.1 (same.0 refl)))
+bool_one P false true same also = absurd (never_true (same.1 (also.0 refl)))
 
 module _ {E F : Type 0} (answer : E → List ℕ → Option Captures) (other : F → List ℕ → Option Captures) (init : UrlPatternInit) (asked : UrlPatternOptions)
     (pattern : PatternView E) (another : PatternView F) (by : AnswersByItsText answer init asked pattern) (also_by : AnswersByItsText other init asked another) where

@@ -107,5 +107,5 @@ pub record IsExecutedByMeaning {E : Type 0} (engine : Engine E) (init : UrlPatte
   pub means : (texts : Texts) → input_texts input ≡ Ok texts → ¬ IsLongInput input
       → IsFoundByMeaning engine.answer (manner_of asked values compiled.hierarchical) pattern texts found
   pub by_text : MakesFirstWays engine → AnswersByItsText engine.answer init asked pattern
-  pub found_by_text : MakesFirstWays engine → (texts : Texts) → input_texts input ≡ Ok texts → ¬ IsLongInput input
-      → IsFoundByText (manner_of asked values compiled.hierarchical) texts found
+  pub found_by_text : (firsts : MakesFirstWays engine) (texts : Texts) → input_texts input ≡ Ok texts → ¬ IsLongInput input
+      → IsFoundByText (manner_of asked (by_text firsts).values (by_text firsts).hierarchical) texts found
