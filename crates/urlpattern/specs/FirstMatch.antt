@@ -1,5 +1,5 @@
 -- What the first match of a list of patterns is.
-use Rattle.std.specs.Prelude.{◌≡◌, ◌⊎◌, ℕ, List, map, take, All, Any, Option, Some, None, option_map, slice_get}
+use Rattle.std.specs.Prelude.{◌≡◌, ◌⊎◌, ℕ, List, map, take, All, Option, Some, None, option_map, slice_get}
 use Rattle.urlpattern_init.specs.declared.init.UrlPatternMatchInput.{UrlPatternMatchInput}
 use Rattle.urlpattern_syntax.specs.declared.eight.ComponentName.{ComponentName}
 use Rattle.urlpattern_pattern.specs.declared.pattern.UrlPattern.{UrlPattern}
@@ -48,5 +48,6 @@ AsksBeforeMatch {E} answer patterns texts =
 
 -- a match is copied: an engine is asked before, or a pattern matches the texts
 abbrev pub CopiesFirstMatch : {E : Type 0} → (answer : E → List ℕ → Option Captures) → List (PatternView E) → Texts → Type 0
-CopiesFirstMatch answer patterns texts =
-    AsksBeforeMatch answer patterns texts ⊎ Any (λ pattern. AreMatched answer pattern texts) patterns
+CopiesFirstMatch {E} answer patterns texts =
+    AsksBeforeMatch answer patterns texts
+    ⊎ ((index : ℕ) × (pattern : PatternView E) × (slice_get patterns index ≡ Some pattern) × AreMatched answer pattern texts)
