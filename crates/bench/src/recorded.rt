@@ -77,7 +77,7 @@ pub enum Operation {
 }
 
 /// The operations by name, in the order in which their counts are printed.
-pub const OPERATIONS: [(&str, Operation); 17] = [
+pub const OPERATIONS: &[(&str, Operation)] = &[
     ("tokenize", Operation::Tokenize),
     ("component", Operation::Component),
     ("normal_form", Operation::NormalForm),
@@ -101,8 +101,8 @@ impl Operation {
     /// The operation of a name.
     pub fn named(name: &str) -> Result<Operation, Fault> {
         for (other, operation) in OPERATIONS {
-            if other == name {
-                return Ok(operation);
+            if *other == name {
+                return Ok(*operation);
             }
         }
         Err(Fault::NoCase)
@@ -198,23 +198,32 @@ pub fn has_texts(object: &Value, name: &str, texts: &[String]) -> bool {
 
 /// The options that a question names.
 pub fn options_of(alloc: Global, question: &Value) -> Result<Options, Fault> {
-    let mut options = match optional_text(question, "kind") {
-        Some("default") | None => Options::default(alloc),
-        Some("hostname") => Options::hostname(alloc),
-        Some("pathname") => match Options::pathname(alloc) {
-            Ok(options) => options,
-            Err(_) => return Err(Fault::OutOfMemory),
-        },
-        Some(_) => return Err(Fault::NoCase),
-    };
-    options.regex_syntax = match optional_text(question, "syntax") {
-        Some("Rust") | None => RegexSyntax::Rust,
-        Some("EcmaScript") => RegexSyntax::EcmaScript,
-        Some(_) => return Err(Fault::NoCase),
-    };
-    if let Some(delimiter) = character(question, "delimiter") {
-        options.delimiter_code_point = Some(delimiter);
+    let regex_syntax = syntax_of(question)?;
+    let options = options_of_kind(alloc, optional_text(question, "kind"))?;
+    let delimiter = character(question, "delimiter");
+    Ok(Options {
+        delimiter_code_point: delimiter.or(options.delimiter_code_point),
+        prefix_code_point: options.prefix_code_point,
+        regex_syntax,
+        ignore_case: is_set(question, "ignore_case"),
+    })
+}
+
+/// The syntax that a question names.
+fn syntax_of(question: &Value) -> Result<RegexSyntax, Fault> {
+    match optional_text(question, "syntax") {
+        Some("Rust") | None => Ok(RegexSyntax::Rust),
+        Some("EcmaScript") => Ok(RegexSyntax::EcmaScript),
+        Some(_) => Err(Fault::NoCase),
     }
-    options.ignore_case = is_set(question, "ignore_case");
-    Ok(options)
+}
+
+/// The options of a kind of component.
+fn options_of_kind(alloc: Global, kind: Option<&str>) -> Result<Options, Fault> {
+    match kind {
+        Some("default") | None => Ok(Options::default(alloc)),
+        Some("hostname") => Ok(Options::hostname(alloc)),
+        Some("pathname") => Options::pathname(alloc).map_err(|_| Fault::OutOfMemory),
+        Some(_) => Err(Fault::NoCase),
+    }
 }

@@ -36,8 +36,15 @@ pub struct Outcome {
 /// Replays the case that a line holds. The answer of a case that is marked as wrong is one that the library may not give.
 pub fn replay(alloc: Global, line: &str) -> Result<Outcome, Fault> {
     let recorded = Value::from_str(alloc, line)?;
-    let question = field(&recorded, "in")?;
-    let answer = Answer::of(&recorded)?;
+    let outcome = outcome_of(alloc, &recorded);
+    drop(recorded);
+    outcome
+}
+
+/// What comes of a recorded case.
+fn outcome_of(alloc: Global, recorded: &Value) -> Result<Outcome, Fault> {
+    let question = field(recorded, "in")?;
+    let answer = Answer::of(recorded)?;
     let operation = Operation::named(text(question, "op")?)?;
     let case = Case {
         alloc,
@@ -48,7 +55,7 @@ pub fn replay(alloc: Global, line: &str) -> Result<Outcome, Fault> {
     Ok(Outcome {
         operation,
         is_error: matches!(answer, Answer::Err(_)),
-        is_same: is_same != is_set(&recorded, "wrong"),
+        is_same: is_same != is_set(recorded, "wrong"),
     })
 }
 

@@ -54,8 +54,8 @@ impl Report {
         let mut tallies = Vec::new(alloc);
         for (name, operation) in OPERATIONS {
             tallies.push(Tally {
-                name,
-                operation,
+                name: *name,
+                operation: *operation,
                 answers: 0,
                 errors: 0,
                 differing: 0,

@@ -58,24 +58,24 @@ impl Callback {
 
 /// Whether the parts of a pattern, and what is made of them, are the recorded ones.
 pub fn is_same(case: &Case<'_>) -> Result<bool, Fault> {
-    let options = options_of(case.alloc, case.question)?;
     let callback = Callback::of(case.question)?;
-    let found = parts_of(
-        case.alloc,
-        text(case.question, "pattern")?,
-        &options,
-        callback,
-    );
-    case.is_answer(
+    let pattern = text(case.question, "pattern")?;
+    let options = options_of(case.alloc, case.question)?;
+    let found = parts_of(case.alloc, pattern, &options, callback);
+    let is_same = case.is_answer(
         found,
         |parts, recorded| succeeded(is_component(case.alloc, parts, &options, recorded)),
-    )
+    );
+    drop(options);
+    is_same
 }
 
 /// Whether the normal form of the parts of a pattern is the recorded one. The pattern's texts stay as they are.
 pub fn is_same_normal_form(case: &Case<'_>) -> Result<bool, Fault> {
+    let pattern = text(case.question, "pattern")?;
     let options = options_of(case.alloc, case.question)?;
-    let found = normal_form(case.alloc, text(case.question, "pattern")?, &options);
+    let found = normal_form(case.alloc, pattern, &options);
+    drop(options);
     case.is_answer(found, |parts, recorded| Ok(are_parts(parts, recorded)))
 }
 
@@ -104,16 +104,47 @@ fn is_component(
     options: &Options,
     recorded: &Value,
 ) -> Result<bool, Error> {
-    let (regexp, names) = generate_regular_expression_and_name_list(alloc, parts, options)?;
-    let pattern = generate_pattern_string(alloc, parts, options)?;
-    let matcher: Matcher<EcmaRegexp> = generate_matcher(alloc, parts, options, "u")?;
     Ok(
         are_parts(parts, recorded)
-            && has_text(recorded, "regexp", &regexp)
-            && has_texts(recorded, "names", &names)
-            && has_text(recorded, "pattern", &pattern)
-            && is_matcher(&matcher, recorded),
+            && is_expressed(alloc, parts, options, recorded)?
+            && is_printed(alloc, parts, options, recorded)?
+            && is_matched(alloc, parts, options, recorded)?,
     )
+}
+
+/// Whether the regular expression of parts, and the list of its names, are the recorded ones.
+fn is_expressed(
+    alloc: Global,
+    parts: &[Part],
+    options: &Options,
+    recorded: &Value,
+) -> Result<bool, Error> {
+    let (regexp, names) = generate_regular_expression_and_name_list(alloc, parts, options)?;
+    Ok(has_text(recorded, "regexp", &regexp) && has_texts(recorded, "names", &names))
+}
+
+/// Whether the pattern text of parts is the recorded one.
+fn is_printed(
+    alloc: Global,
+    parts: &[Part],
+    options: &Options,
+    recorded: &Value,
+) -> Result<bool, Error> {
+    let pattern = generate_pattern_string(alloc, parts, options)?;
+    Ok(has_text(recorded, "pattern", &pattern))
+}
+
+/// Whether the matcher of parts is the recorded one.
+fn is_matched(
+    alloc: Global,
+    parts: &[Part],
+    options: &Options,
+    recorded: &Value,
+) -> Result<bool, Error> {
+    let matcher: Matcher<EcmaRegexp> = generate_matcher(alloc, parts, options, "u")?;
+    let is_same = is_matcher(&matcher, recorded);
+    drop(matcher);
+    Ok(is_same)
 }
 
 /// Whether the parts are the recorded ones.

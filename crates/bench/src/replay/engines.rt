@@ -4,7 +4,7 @@ use super::Case;
 use crate::recorded::{Answer, Fault, has_text, is_set, list, text};
 use serde_json::Value;
 use std::alloc::Global;
-use urlpattern::error::RegExpError;
+use urlpattern::error::{OutOfMemory, RegExpError};
 use urlpattern::regexp::RegExp;
 
 /// Whether the answers of this engine are the recorded ones.
@@ -47,11 +47,24 @@ fn are_answers<R: RegExp>(
 ) -> Result<bool, Fault> {
     for (input, expected) in inputs.iter().zip(recorded) {
         let input = input.as_str().ok_or(Fault::NoCase)?;
-        if !are_captures(&engine.matches(alloc, input)?, expected) {
+        if !answers(alloc, engine, input, expected)? {
             return Ok(false);
         }
     }
     Ok(inputs.len() == recorded.len())
+}
+
+/// Whether an engine answers a text as recorded.
+fn answers<R: RegExp>(
+    alloc: Global,
+    engine: &R,
+    input: &str,
+    expected: &Value,
+) -> Result<bool, OutOfMemory> {
+    let found = engine.matches(alloc, input)?;
+    let is_same = are_captures(&found, expected);
+    drop(found);
+    Ok(is_same)
 }
 
 /// Whether captures are the recorded ones: null where nothing is matched, and for a group that took no part.

@@ -8,7 +8,7 @@ use std::alloc::Global;
 use urlpattern::quirks::{parse_match_input, process_match_input};
 use urlpattern::regexp::RegExp;
 use urlpattern::{
-    Error, UrlPatternCaptures, UrlPatternList, UrlPatternMatchInput, UrlPatternResult,
+    Error, UrlPattern, UrlPatternCaptures, UrlPatternList, UrlPatternMatchInput, UrlPatternResult,
 };
 
 /// The first match of an input: an index and its match. `None`: there is none.
@@ -51,11 +51,22 @@ fn built_list<R: RegExp>(
     alloc: Global,
     question: &Value,
 ) -> Result<Result<UrlPatternList<R>, Error>, Fault> {
+    let fields = list(question, "patterns")?;
     let mut patterns = UrlPatternList::new(alloc);
-    for pattern in list(question, "patterns")? {
-        let options = given::options(alloc, pattern)?;
-        let input = given::input(alloc, pattern)?;
-        match built::<R>(alloc, input, optional_text(pattern, "base"), options) {
+    match add_patterns(alloc, &mut patterns, fields)? {
+        Ok(()) => Ok(Ok(patterns)),
+        Err(error) => Ok(Err(error)),
+    }
+}
+
+/// Appends patterns, up to the first that is refused.
+fn add_patterns<R: RegExp>(
+    alloc: Global,
+    patterns: &mut UrlPatternList<R>,
+    fields: &[Value],
+) -> Result<Result<(), Error>, Fault> {
+    for fields in fields {
+        match pattern_of(alloc, fields)? {
             Ok(pattern) => {
                 if patterns.push(pattern).is_err() {
                     return Err(Fault::OutOfMemory);
@@ -64,7 +75,17 @@ fn built_list<R: RegExp>(
             Err(error) => return Ok(Err(error)),
         }
     }
-    Ok(Ok(patterns))
+    Ok(Ok(()))
+}
+
+/// The pattern of what a question gives.
+fn pattern_of<R: RegExp>(
+    alloc: Global,
+    fields: &Value,
+) -> Result<Result<UrlPattern<R>, Error>, Fault> {
+    let options = given::options(alloc, fields)?;
+    let input = given::input(alloc, fields)?;
+    Ok(built(alloc, input, optional_text(fields, "base"), options))
 }
 
 /// Whether what comes of each input of a question is the recorded result, by the call that the question names.
@@ -117,19 +138,23 @@ fn found_by<R: RegExp>(
 ) -> Result<First, Error> {
     match call {
         Call::FirstMatch => patterns.first_match(alloc, input),
-        Call::FirstCaptures => {
-            let found = match &input {
-                UrlPatternMatchInput::Url(url) => copied(
-                    alloc,
-                    patterns.first_captures(alloc, url),
-                ),
-                UrlPatternMatchInput::Init(_) => Ok(None),
-            };
-            drop(input);
-            found
-        }
+        Call::FirstCaptures => found_in_url(alloc, patterns, input),
         Call::FirstCapturesOfInput => found_in_texts(alloc, patterns, input),
     }
+}
+
+/// The first match of a URL. There is none of an init.
+fn found_in_url<R: RegExp>(
+    alloc: Global,
+    patterns: &UrlPatternList<R>,
+    input: UrlPatternMatchInput,
+) -> Result<First, Error> {
+    let found = match &input {
+        UrlPatternMatchInput::Url(url) => copied(alloc, patterns.first_captures(alloc, url)),
+        UrlPatternMatchInput::Init(_) => Ok(None),
+    };
+    drop(input);
+    found
 }
 
 /// The first match of the texts of an input.

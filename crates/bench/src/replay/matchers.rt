@@ -20,6 +20,7 @@ pub fn is_same<R: RegExp>(case: &Case<'_>) -> Result<bool, Fault> {
     let pattern = text(case.question, "pattern")?;
     let options = options_of(case.alloc, case.question)?;
     let found: Result<Matcher<R>, Error> = matcher_of(case.alloc, pattern, &options);
+    drop(options);
     case.is_answer(
         found,
         |matcher, recorded| is_matcher_of(case, matcher, recorded),
@@ -48,7 +49,9 @@ fn matcher_of<R: RegExp>(
 ) -> Result<Matcher<R>, Error> {
     let parts = parts_of(alloc, pattern, options, Callback::Keep)?;
     let flags = if options.ignore_case { "ui" } else { "u" };
-    generate_matcher(alloc, &parts, options, flags)
+    let matcher = generate_matcher(alloc, &parts, options, flags);
+    drop(parts);
+    matcher
 }
 
 /// Whether a matcher keeps an error in place of a regular expression.
@@ -123,7 +126,9 @@ fn answers<R: RegExp>(
 ) -> Result<bool, Error> {
     let is_accepted = matcher.accepts(alloc, input)?;
     let found = matcher.matches(alloc, input)?;
-    Ok(is_accepted == !expected.is_null() && are_captures(&found, expected))
+    let is_same = are_captures(&found, expected);
+    drop(found);
+    Ok(is_same && is_accepted == !expected.is_null())
 }
 
 /// Whether a matcher is that of a recorded component.

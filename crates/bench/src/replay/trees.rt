@@ -5,7 +5,7 @@ use crate::recorded::{Answer, Fault, field, is_set, list, optional_text, text};
 use serde::Serialize;
 use serde::de::DeserializeOwned;
 use serde_json::Value;
-use std::alloc::Global;
+use std::alloc::{AllocError, Global};
 use urlpattern::quirks::{
     self, InnerMatcher, MatchInput, Matcher, StringOrInit, UrlPattern, UrlPatternComponent,
     process_construct_pattern_input,
@@ -229,22 +229,46 @@ pub fn is_same_equality(case: &Case<'_>) -> Result<bool, Fault> {
 
 /// Whether the values of a question equal those that are recorded, and each its copy.
 fn are_equal_as_recorded<T: Read + Clone + PartialEq>(case: &Case<'_>) -> Result<bool, Fault> {
-    let mut values: Vec<T> = Vec::new(case.alloc);
-    for tree in list(case.question, "values")? {
-        let value = given::read(T::read(case.alloc, tree))?;
+    let values = values_of::<T>(case.alloc, list(case.question, "values")?)?;
+    let are_equal = are_equal_as(&values, case.answer);
+    drop(values);
+    are_equal
+}
+
+/// The values of some trees.
+fn values_of<T: Read>(alloc: Global, trees: &[Value]) -> Result<Vec<T>, Fault> {
+    let mut values = Vec::new(alloc);
+    for tree in trees {
+        let value = given::read(T::read(alloc, tree))?;
         if values.push(value).is_err() {
             return Err(Fault::OutOfMemory);
         }
     }
-    let Answer::Ok(Value::Array(recorded)) = case.answer else {
+    Ok(values)
+}
+
+/// Whether values equal those that are recorded, and each its copy.
+fn are_equal_as<T: Clone + PartialEq + Drop>(
+    values: &[T],
+    answer: Answer<'_>,
+) -> Result<bool, Fault> {
+    let Answer::Ok(Value::Array(recorded)) = answer else {
         return Ok(false);
     };
     for (value, expected) in values.iter().zip(recorded) {
-        if first_equal(&values, value) != expected.as_u64() || value.clone()? != *value {
+        if first_equal(values, value) != expected.as_u64() || !is_copied(value)? {
             return Ok(false);
         }
     }
     Ok(values.len() == recorded.len())
+}
+
+/// Whether a value equals its copy.
+fn is_copied<T: Clone + PartialEq + Drop>(value: &T) -> Result<bool, AllocError> {
+    let copy = value.clone()?;
+    let is_copied = copy == *value;
+    drop(copy);
+    Ok(is_copied)
 }
 
 /// The place of the first of some values that a value equals.

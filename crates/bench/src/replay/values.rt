@@ -13,6 +13,7 @@ use urlpattern::canonicalize_and_process::{
     process_pathname_init, process_port_init, process_protocol_init, process_search_init,
     process_username_init,
 };
+use urlpattern::parser::Options;
 use urlpattern::quirks::{MatchInput, StringOrInit, parse_match_input, process_match_input};
 
 /// Whether a canonical value is the recorded one.
@@ -41,12 +42,7 @@ pub fn is_same_processed(case: &Case<'_>) -> Result<bool, Fault> {
     let (alloc, question) = (case.alloc, case.question);
     let value = text(question, "value")?;
     let protocol = optional_text(question, "protocol");
-    let options = options_of(alloc, question)?;
-    let kind = match optional_text(question, "mode") {
-        Some("pattern") | None => ProcessType::Pattern,
-        Some("url") => ProcessType::Url,
-        Some(_) => return Err(Fault::NoCase),
-    };
+    let kind = kind_of(question)?;
     let found = match text(question, "which")? {
         "protocol" => process_protocol_init(alloc, value, &kind),
         "username" => process_username_init(alloc, value, &kind),
@@ -59,11 +55,32 @@ pub fn is_same_processed(case: &Case<'_>) -> Result<bool, Fault> {
         "port" => process_port_init(alloc, value, protocol, &kind),
         "pathname" => process_pathname_init(alloc, value, protocol, &kind),
         "escape_pattern_string" => escape_pattern_string(alloc, value),
-        "escape_regexp_string" => options.escape_regexp_string(alloc, value),
-        "segment_wildcard" => options.generate_segment_wildcard_regexp(alloc),
-        _ => return Err(Fault::NoCase),
+        which => escaped_under(alloc, &options_of(alloc, question)?, which, value)?,
     };
     is_same_text(case, found)
+}
+
+/// Whether a question is about a pattern or about a URL.
+fn kind_of(question: &Value) -> Result<ProcessType, Fault> {
+    match optional_text(question, "mode") {
+        Some("pattern") | None => Ok(ProcessType::Pattern),
+        Some("url") => Ok(ProcessType::Url),
+        Some(_) => Err(Fault::NoCase),
+    }
+}
+
+/// A text that depends on the options.
+fn escaped_under(
+    alloc: Global,
+    options: &Options,
+    which: &str,
+    value: &str,
+) -> Result<Result<String, Error>, Fault> {
+    match which {
+        "escape_regexp_string" => Ok(options.escape_regexp_string(alloc, value)),
+        "segment_wildcard" => Ok(options.generate_segment_wildcard_regexp(alloc)),
+        _ => Err(Fault::NoCase),
+    }
 }
 
 /// Whether a text, or why there is none, is what was recorded.
