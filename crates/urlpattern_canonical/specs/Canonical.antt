@@ -17,12 +17,9 @@ use Rattle.url.specs.Parts.{Parts, host_or_empty, text_between}
 use Rattle.url.specs.Quirks as quirks
 use Rattle.url.specs.Setters.{set_fragment, set_password, set_path, set_query, set_username}
 use Rattle.urlpattern_canonical.specs.declared.canonicalize_and_process.ProcessType.{ProcessType}
-use Rattle.urlpattern_canonical.specs.declared.canonicalize_and_process.ProcessType.TheVariants.{Pattern, Url}
 use Rattle.urlpattern_syntax.specs.PatternText.{escaped_pattern}
 use Rattle.urlpattern_syntax.specs.declared.error.Error.{Error}
-use Rattle.urlpattern_syntax.specs.Errors.{ErrorView, error_view}
-use Rattle.urlpattern_syntax.specs.Errors.{ErrorView as views}
-use Rattle.urlpattern_syntax.specs.Errors.{MemoryOr}
+use Rattle.urlpattern_syntax.specs.Errors.{ErrorView, error_view, MemoryOr}
 use Rattle.urlpattern_syntax.specs.Text.{begins_with, is_among, option_text, text_of}
 
 -- ---- what `url` is asked: each question is about the bytes of a value that is not empty
@@ -132,9 +129,9 @@ long_text = 2 ^ 24
 -- The error that a refusal of a question about texts of this many bytes is reported as. Where no text is long, an overflow is
 -- reported as out of memory too.
 abbrev pub reported_error : ParseError → (bytes : ℕ) → ErrorView
-reported_error OutOfMemory bytes = views.OutOfMemory
-reported_error Overflow bytes = if ltb bytes long_text then views.OutOfMemory else views.Url Overflow
-reported_error reason bytes = views.Url reason
+reported_error OutOfMemory bytes = ErrorView.OutOfMemory
+reported_error Overflow bytes = if ltb bytes long_text then ErrorView.OutOfMemory else ErrorView.Url Overflow
+reported_error reason bytes = ErrorView.Url reason
 
 -- The result is the answer of `url`, with its refusal as it is reported.
 abbrev pub IsReported : {T : Type 0} → (answer : Result T ParseError) → (bytes : ℕ) → Result T Error → Type 0
@@ -148,7 +145,7 @@ IsRefusedByUrl asked bytes = ((reason : ParseError) × (asked ≡ Err reason)) �
 -- The error is the refusal of a question about texts of this many bytes at most. That memory ran out is never reported as an error
 -- of a URL.
 abbrev pub Reports : {T : Type 0} → Parsed T → (bytes : ℕ) → ErrorView → Type 0
-Reports asked bytes (views.Url reason) = (reason ≢ OutOfMemory) × ((asked ≡ Err reason) ⊎ ((reason ≡ Overflow) × (long_text ≤ bytes)))
+Reports asked bytes (ErrorView.Url reason) = (reason ≢ OutOfMemory) × ((asked ≡ Err reason) ⊎ ((reason ≡ Overflow) × (long_text ≤ bytes)))
 Reports asked bytes error = ⊥
 
 -- A call answers a question about so many bytes: with the text, with the refusal, or that memory ran out.
@@ -178,13 +175,13 @@ left_brace = slice_index (codes "{") 0
 
 -- of so many bytes, those about which `url` is asked: none for a pattern
 abbrev pub bytes_asked : ProcessType → ℕ → ℕ
-bytes_asked Pattern bytes = 0
-bytes_asked Url bytes = bytes
+bytes_asked ProcessType.Pattern bytes = 0
+bytes_asked ProcessType.Url bytes = bytes
 
 -- a value stays as it is for a pattern, and is made canonical for a URL
 abbrev pub processed : ProcessType → (List ℕ → Parsed (List ℕ)) → List ℕ → Parsed (List ℕ)
-processed Pattern make_canonical text = Ok text
-processed Url make_canonical text = make_canonical text
+processed ProcessType.Pattern make_canonical text = Ok text
+processed ProcessType.Url make_canonical text = make_canonical text
 
 abbrev pub processed_protocol : ProcessType → List ℕ → Parsed (List ℕ)
 processed_protocol mode text = processed mode canonical_protocol (without_last colon text)
@@ -260,5 +257,5 @@ processed_hash mode text = processed mode canonical_hash (without_first number_s
 
 -- a text of the base URL stands for itself: in a pattern its marks are escaped
 abbrev pub processed_base : ProcessType → List ℕ → List ℕ
-processed_base Pattern text = escaped_pattern text
-processed_base Url text = text
+processed_base ProcessType.Pattern text = escaped_pattern text
+processed_base ProcessType.Url text = text

@@ -3,7 +3,6 @@ use Rattle.std.specs.Prelude.{ℕ, Bool, List, Option, map, IfSome, ⊤, String,
 use Rattle.std.specs.Char.{IsScalar}
 use Rattle.std.specs.declared.alloc.Global.{Global}
 use Rattle.urlpattern_compiled.specs.declared.matcher.InnerMatcher.{InnerMatcher}
-use Rattle.urlpattern_compiled.specs.declared.matcher.InnerMatcher.TheVariants as matchers
 use Rattle.urlpattern_compiled.specs.declared.matcher.Matcher.{Matcher}
 use Rattle.urlpattern_compiled.specs.declared.pattern.UrlPattern.{UrlPattern}
 use Rattle.urlpattern_compiled.specs.declared.pattern.UrlPatternComponent.{UrlPatternComponent}
@@ -20,9 +19,9 @@ pub data PlainInnerView : Type 0 where
 
 -- the value, with each text seen by this function
 abbrev pub inner_by : (String Global → List ℕ) → InnerMatcher → PlainInnerView
-inner_by seen (matchers.Literal string) = literal (seen string)
-inner_by seen (matchers.SingleCapture filter allow_empty) = single_capture filter allow_empty
-inner_by seen (matchers.RegExp string) = regexp (seen string)
+inner_by seen (InnerMatcher.Literal string) = literal (seen string)
+inner_by seen (InnerMatcher.SingleCapture filter allow_empty) = single_capture filter allow_empty
+inner_by seen (InnerMatcher.RegExp string) = regexp (seen string)
 
 abbrev pub plain_inner_view : InnerMatcher → PlainInnerView
 plain_inner_view inner = inner_by string_bytes inner

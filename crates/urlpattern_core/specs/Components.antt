@@ -10,10 +10,8 @@ use Rattle.urlpattern_meaning.specs.Matching.{AnswersByMeaning, IsMadeOf, Matche
 use Rattle.urlpattern_meaning.specs.Printing.{printed}
 use Rattle.urlpattern_syntax.specs.declared.error.Error.{Error}
 use Rattle.urlpattern_syntax.specs.declared.parser.PartType.{PartType}
-use Rattle.urlpattern_syntax.specs.declared.parser.PartType.TheVariants.{Regexp}
 use Rattle.urlpattern_syntax.specs.declared.parser.RegexSyntax.{RegexSyntax}
-use Rattle.urlpattern_syntax.specs.declared.parser.RegexSyntax.TheVariants.{EcmaScript, Rust}
-use Rattle.urlpattern_syntax.specs.Errors.{ErrorView, ErrorView as views, MemoryOr}
+use Rattle.urlpattern_syntax.specs.Errors.{ErrorView, MemoryOr}
 use Rattle.urlpattern_syntax.specs.Options.{OptionsView}
 use Rattle.urlpattern_syntax.specs.Parts.{PartView}
 use Rattle.urlpattern_syntax.specs.Reading.{Encoding, Reads, Refuses}
@@ -47,7 +45,7 @@ abbrev pub engine_flags : OptionsView → List ℕ
 engine_flags options = if options.ignore_case then codes "ui" else codes "u"
 
 abbrev pub is_custom : PartType → Bool
-is_custom Regexp = true
+is_custom PartType.Regexp = true
 is_custom kind = false
 
 -- a custom regular expression is among the parts
@@ -56,13 +54,13 @@ has_regexp parts = list_any (λ part. is_custom part.kind) parts
 
 -- an engine of this syntax, if it took the text, is asked again with `force_eval`
 abbrev pub is_asked_again : RegexSyntax → (has_regexp_group : Bool) → Bool
-is_asked_again EcmaScript has_regexp_group = has_regexp_group
-is_asked_again Rust has_regexp_group = false
+is_asked_again RegexSyntax.EcmaScript has_regexp_group = has_regexp_group
+is_asked_again RegexSyntax.Rust has_regexp_group = false
 
 -- what an engine makes of a regular expression, asked with this `force_eval`: a value, or an error where it may refuse that
 abbrev pub IsEngineOf : {E : Type 0} → Engine E → (force_eval : Bool) → (flags regexp : List ℕ) → Result E ErrorView → Type 0
 IsEngineOf engine force_eval flags regexp (Ok value) = engine.IsMade value regexp flags
-IsEngineOf engine force_eval flags regexp (Err error) = (error ≡ views.RegExp) × engine.MayRefuse regexp flags force_eval
+IsEngineOf engine force_eval flags regexp (Err error) = (error ≡ ErrorView.RegExp) × engine.MayRefuse regexp flags force_eval
 
 -- what it makes of the regular expression of a whole component: what it makes of it at first, or where it is asked again
 abbrev pub IsWholeEngineOf : {E : Type 0} → Engine E → (has_regexp_group : Bool) → (flags regexp : List ℕ) → Result E ErrorView → Type 0

@@ -1,14 +1,11 @@
 -- Matchers: what a clause sees of them.
 use Rattle.std.specs.Prelude.{◌≡◌, ℕ, Bool, true, false, List, [], Option, Some, None, Result, Ok, Err, option_to_list, ◌++◌, IfOk}
 use Rattle.urlpattern_core.specs.declared.matcher.InnerMatcher.{InnerMatcher}
-use Rattle.urlpattern_core.specs.declared.matcher.InnerMatcher.TheVariants as inners
 use Rattle.urlpattern_core.specs.declared.matcher.Matcher.{Matcher}
 use Rattle.urlpattern_meaning.specs.Matching.{ArePeeled, BeginsPlain, EndsPlain, IsRemoved, InnerView, IsSame, Literal, MatcherView, RegExp, SingleCapture, end_text}
 use Rattle.urlpattern_syntax.specs.declared.error.Error.{Error}
 use Rattle.urlpattern_syntax.specs.declared.parser.PartModifier.{PartModifier}
-use Rattle.urlpattern_syntax.specs.declared.parser.PartModifier.TheVariants as modifiers
 use Rattle.urlpattern_syntax.specs.declared.parser.PartType.{PartType}
-use Rattle.urlpattern_syntax.specs.declared.parser.PartType.TheVariants.{FullWildcard, SegmentWildcard}
 use Rattle.urlpattern_syntax.specs.Errors.{ErrorView, error_view}
 use Rattle.urlpattern_syntax.specs.Options.{OptionsView}
 use Rattle.urlpattern_syntax.specs.Parts.{PartView}
@@ -20,9 +17,9 @@ engine_view (Ok engine) = Ok engine
 engine_view (Err error) = Err (error_view error)
 
 abbrev pub inner_view : {E : Type 0} → InnerMatcher E → InnerView E
-inner_view (inners.Literal literal) = Literal (text_of literal)
-inner_view (inners.SingleCapture filter allow_empty) = SingleCapture filter allow_empty
-inner_view (inners.RegExp regexp) = RegExp (engine_view regexp)
+inner_view (InnerMatcher.Literal literal) = Literal (text_of literal)
+inner_view (InnerMatcher.SingleCapture filter allow_empty) = SingleCapture filter allow_empty
+inner_view (InnerMatcher.RegExp regexp) = RegExp (engine_view regexp)
 
 abbrev pub matcher_view : {E : Type 0} → Matcher E → MatcherView E
 matcher_view matcher = record {
@@ -59,8 +56,8 @@ PeelsBack parts middle suffix =
 
 -- what a wildcard without modifier captures: the character that may not be in it, and whether it may be empty
 abbrev pub capture_of : OptionsView → PartType → PartModifier → Option (Option ℕ × Bool)
-capture_of options FullWildcard modifiers.None = Some (None, true)
-capture_of options SegmentWildcard modifiers.None = Some (options.delimiter, false)
+capture_of options PartType.FullWildcard PartModifier.None = Some (None, true)
+capture_of options PartType.SegmentWildcard PartModifier.None = Some (options.delimiter, false)
 capture_of options kind modifier = None
 
 -- the text begins with this prefix but for the case of ASCII letters, and the rest follows

@@ -9,7 +9,6 @@ use Rattle.regex.specs.declared.string.captures.Captures.{Captures as RegexCaptu
 use Rattle.regex.specs.declared.string.regex.Regex.{Regex}
 use Rattle.regex_syntax.specs.Verdict.{Refuses, default_config as default_syntax}
 use Rattle.regex_syntax.specs.declared.error.ErrorKind.{ErrorKind}
-use Rattle.regex_syntax.specs.declared.error.ErrorKind.TheVariants.{OutOfMemory}
 use Rattle.urlpattern_core.specs.Generated.{AreGenerated}
 use Rattle.urlpattern_core.specs.declared.regexp.RegExp.{Ghosts as Engine}
 use Rattle.urlpattern_meaning.specs.Dialect.{IsTreeOf, Items, group_count}
@@ -54,7 +53,7 @@ HasFewGroups regexp = IsTrue (all_scalars regexp) × ((tree : Items) × IsTreeOf
 
 -- the grammar refuses the text only as memory ran out
 abbrev pub IsRefusedForMemory : (regexp : List ℕ) → Type 0
-IsRefusedForMemory regexp = (kind : ErrorKind) → Refuses default_syntax (encode_utf8_all regexp) kind → kind ≡ OutOfMemory
+IsRefusedForMemory regexp = (kind : ErrorKind) → Refuses default_syntax (encode_utf8_all regexp) kind → kind ≡ ErrorKind.OutOfMemory
 
 -- the regular expression of parts, none of them custom, is refused only as memory ran out, if it has few groups
 abbrev pub TakesGeneratedSyntax : Type 0

@@ -4,12 +4,11 @@ use Rattle.urlpattern_index.specs.FixedTexts.{AddressTexts, FixedPath, FixedText
 use Rattle.urlpattern_index.specs.FixedTexts as paths
 use Rattle.urlpattern_index.specs.declared.fixed.Address.{Address}
 use Rattle.urlpattern_index.specs.declared.fixed.Path.{Path}
-use Rattle.urlpattern_index.specs.declared.fixed.Path.TheVariants.{BeginsWith, Is}
 use Rattle.urlpattern_index.specs.declared.fixed.Fixed.{Fixed}
 
 abbrev pub fixed_path : Path → FixedPath
-fixed_path (BeginsWith front) = paths.BeginsWith (chars front.now)
-fixed_path (Is text) = paths.Is (chars text.now)
+fixed_path (Path.BeginsWith front) = paths.BeginsWith (chars front.now)
+fixed_path (Path.Is text) = paths.Is (chars text.now)
 
 abbrev pub fixed_texts : Fixed → FixedTexts
 fixed_texts place = record { protocol = option_map (λ text. chars text.now) place.protocol; hostname = option_map (λ text. chars text.now) place.hostname; pathname = fixed_path place.pathname }

@@ -5,7 +5,6 @@ use Rattle.urlpattern_init.specs.SpecialProtocol.{RefusesProtocol}
 use Rattle.urlpattern_init.specs.Split.{HasProtocol, IsSplit, LacksProtocol}
 use Rattle.urlpattern_init.specs.declared.init.UrlPatternInit.{UrlPatternInit}
 use Rattle.urlpattern_syntax.specs.Errors.{ErrorView}
-use Rattle.urlpattern_syntax.specs.Errors.{ErrorView as views}
 use Rattle.urlpattern_syntax.specs.Tokens.{AreLenientTokens, TokenView}
 use Rattle.urlpattern_syntax.specs.Eight.{Values}
 
@@ -26,7 +25,7 @@ AreFewTurns text turns = (tokens : List TokenView) × AreLenientTokens text toke
 abbrev pub RefusesString : (text : List ℕ) → (base_url : Option Url) → ErrorView → Type 0
 RefusesString text base_url error =
     HasProtocol text (λ protocol. RefusesProtocol protocol error)
-    ⊎ (LacksProtocol text × (base_url ≡ None) × (error ≡ views.BaseUrlRequired))
+    ⊎ (LacksProtocol text × (base_url ≡ None) × (error ≡ ErrorView.BaseUrlRequired))
 
 -- there is a protocol or a base
 abbrev pub HasProtocolOrBase : UrlPatternInit → Type 0

@@ -16,7 +16,6 @@ use Rattle.urlpattern_syntax.specs.declared.eight.ComponentName.TheVariants.{Pro
 use Rattle.urlpattern_init.specs.declared.init.UrlPatternInit.{UrlPatternInit}
 use Rattle.urlpattern_canonical.specs.Canonical.{bytes_asked, left_brace, processed_base, processed_hash, processed_hostname, processed_password, processed_pathname, processed_port, processed_protocol, processed_search, processed_username, without_first}
 use Rattle.urlpattern_canonical.specs.declared.canonicalize_and_process.ProcessType.{ProcessType}
-use Rattle.urlpattern_canonical.specs.declared.canonicalize_and_process.ProcessType.TheVariants.{Pattern, Url}
 use Rattle.urlpattern_syntax.specs.declared.eight.Eight.{Eight}
 use Rattle.urlpattern_syntax.specs.Eight.{Texts, Values, at, components, each}
 use Rattle.urlpattern_syntax.specs.Text.{begins_with, byte_len, text_of}
@@ -59,8 +58,8 @@ url_text Hash url = chars (unwrap_or url.fragment [])
 
 -- a pattern inherits no user name and no password
 abbrev pub is_inheritable : ProcessType → ComponentName → Bool
-is_inheritable Pattern Username = false
-is_inheritable Pattern Password = false
+is_inheritable ProcessType.Pattern Username = false
+is_inheritable ProcessType.Pattern Password = false
 is_inheritable mode component = true
 
 -- how a text of the init is processed, the port and the pathname under the protocol that the init results in
@@ -81,9 +80,9 @@ is_slash c = c == slash
 
 -- an absolute pathname begins with a slash; in a pattern the slash may stand after one backslash or one open brace
 abbrev pub is_absolute : ProcessType → List ℕ → Bool
-is_absolute Pattern text =
+is_absolute ProcessType.Pattern text =
     begins_with is_slash (without_first backslash text) || begins_with is_slash (without_first left_brace text)
-is_absolute Url text = begins_with is_slash text
+is_absolute ProcessType.Url text = begins_with is_slash text
 
 -- a path up to its last slash, the slash included
 abbrev pub up_to_last_slash : List ℕ → List ℕ
@@ -116,8 +115,8 @@ inherited mode values base component =
 
 -- a component that is neither given nor inherited is missing in a pattern and empty in a URL
 abbrev pub missing : ProcessType → Option (List ℕ)
-missing Pattern = None
-missing Url = Some []
+missing ProcessType.Pattern = None
+missing ProcessType.Url = Some []
 
 -- the value of a component for which the init has this
 abbrev pub value_given : ProcessType → Values → Option Parts → (protocol : Option (List ℕ)) → ComponentName → Option (List ℕ)

@@ -8,7 +8,6 @@ use Rattle.urlpattern_canonical.specs.Canonical.{IsAnswer, Reports, bytes_asked}
 use Rattle.urlpattern_init.specs.declared.init.processing.Processing.{Processing}
 use Rattle.urlpattern_init.specs.Inheritance.{bytes_of, given_bytes, given_text, inherited, init_bytes, init_values, missing, processed_text, processed_value, values_view}
 use Rattle.urlpattern_syntax.specs.declared.eight.ComponentName.{ComponentName}
-use Rattle.urlpattern_syntax.specs.declared.eight.ComponentName.TheVariants.{Pathname, Protocol}
 use Rattle.urlpattern_syntax.specs.declared.error.Error.{Error}
 use Rattle.urlpattern_syntax.specs.Eight.{Values}
 use Rattle.urlpattern_syntax.specs.Errors.{MemoryOr}
@@ -59,8 +58,8 @@ IsTextAnswer processing protocol component text result =
 -- a pathname of the init is answered, about its own bytes alone
 abbrev pub IsGivenPathnameAnswer : Processing → (protocol : Option (Bor (List ℕ))) → List ℕ → Result (String Global) Error → Type 0
 IsGivenPathnameAnswer processing protocol text result =
-    IsAnswer (text_value_in processing (option_text protocol) Pathname text)
-    (bytes_asked processing.kind.now (byte_len (given_in processing Pathname text))) result
+    IsAnswer (text_value_in processing (option_text protocol) ComponentName.Pathname text)
+    (bytes_asked processing.kind.now (byte_len (given_in processing ComponentName.Pathname text))) result
 
 -- the value of a component that the init lacks
 abbrev pub lacking_in : Processing → ComponentName → Option (List ℕ)
@@ -74,5 +73,5 @@ IsFailureIn processing protocol protocol_bytes component =
 
 -- the value of a component after the protocol, or why it has none
 pub record IsValueAfter (processing : Processing) (protocol : Option (List ℕ)) (component : ComponentName) (result : Result (Option (String Global)) Error) : Type 0 where
-  pub ok : IfOk result (λ value. component ≢ Protocol → value_in processing protocol component ≡ Ok (option_map text_of value))
+  pub ok : IfOk result (λ value. component ≢ ComponentName.Protocol → value_in processing protocol component ≡ Ok (option_map text_of value))
   pub err : IfErr result (IsFailureIn processing protocol (bytes_of protocol) component)

@@ -5,7 +5,6 @@ use Rattle.std.specs.declared.alloc.Global.{Global}
 use Rattle.urlpattern_init.specs.Split.{ends_at, is_colon_sign, is_hash_sign, is_search_sign, is_seen, is_slash_sign}
 use Rattle.urlpattern_init.specs.declared.constructor_parser.sections.Position.{Position}
 use Rattle.urlpattern_init.specs.declared.constructor_parser.sections.Section.{Section}
-use Rattle.urlpattern_init.specs.declared.constructor_parser.sections.Section.TheVariants.{Hostname}
 use Rattle.urlpattern_init.specs.declared.constructor_parser.tokens.Source.{Source}
 use Rattle.urlpattern_init.specs.declared.constructor_parser.components.Split.{Split}
 use Rattle.urlpattern_syntax.specs.Parsing.{views}
@@ -80,7 +79,7 @@ HasTurnForSlash source index depth turns =
 
 -- the section in which square brackets are counted
 abbrev pub is_hostname : Section → Bool
-is_hostname Hostname = true
+is_hostname Section.Hostname = true
 is_hostname section = false
 
 -- nothing stands before a pathname, a search or a hash

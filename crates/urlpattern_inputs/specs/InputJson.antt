@@ -9,13 +9,12 @@ use Rattle.urlpattern_inputs.specs.Trees.{◌>>=◌, each_member, flag_read, obj
 use Rattle.urlpattern_syntax.specs.Eight.{at, name_text}
 use Rattle.urlpattern_syntax.specs.declared.eight.Eight.{Eight}
 use Rattle.urlpattern_syntax.specs.declared.parser.RegexSyntax.{RegexSyntax}
-use Rattle.urlpattern_syntax.specs.declared.parser.RegexSyntax.TheVariants.{EcmaScript, Rust}
 
 -- ---- the trees
 
 abbrev pub syntax_name : RegexSyntax → List ℕ
-syntax_name Rust = codes "Rust"
-syntax_name EcmaScript = codes "EcmaScript"
+syntax_name RegexSyntax.Rust = codes "Rust"
+syntax_name RegexSyntax.EcmaScript = codes "EcmaScript"
 
 abbrev pub options_tree : UrlPatternOptions → Data
 options_tree options = object_of (
@@ -39,13 +38,13 @@ match_input_tree input = object_of (each_member (λ name. Some (string (at input
 
 abbrev pub syntax_of : List ℕ → Option RegexSyntax
 syntax_of name =
-    if bytes_eq name (codes "Rust") then Some Rust
-    else if bytes_eq name (codes "EcmaScript") then Some EcmaScript
+    if bytes_eq name (codes "Rust") then Some RegexSyntax.Rust
+    else if bytes_eq name (codes "EcmaScript") then Some RegexSyntax.EcmaScript
     else None
 
 -- the default where there is no member
 abbrev pub syntax_read : Option Data → Option RegexSyntax
-syntax_read None = Some Rust
+syntax_read None = Some RegexSyntax.Rust
 syntax_read (Some tree) = as_str tree >>= syntax_of
 
 unfoldable pub options_read : Data → Option UrlPatternOptions

@@ -4,7 +4,6 @@ use Rattle.std.specs.Cow.{cow_str_bytes}
 use Rattle.std.specs.declared.alloc.Global.{Global}
 use Rattle.urlpattern_inputs.specs.declared.init.UrlPatternInit.{UrlPatternInit}
 use Rattle.urlpattern_inputs.specs.declared.input.StringOrInit.{StringOrInit}
-use Rattle.urlpattern_inputs.specs.declared.input.StringOrInit.TheVariants as inputs
 use Rattle.urlpattern_inputs.specs.declared.match_input.MatchInput.{MatchInput}
 use Rattle.urlpattern_syntax.specs.Eight.{at, each}
 use Rattle.urlpattern_syntax.specs.declared.eight.Eight.{Eight}
@@ -32,8 +31,8 @@ pub data InputView : Type 0 where
   of_init : InitView → InputView
 
 abbrev pub input_view : StringOrInit → InputView
-input_view (inputs.String string) = of_text (cow_str_bytes string)
-input_view (inputs.Init values) = of_init (init_view values)
+input_view (StringOrInit.String string) = of_text (cow_str_bytes string)
+input_view (StringOrInit.Init values) = of_init (init_view values)
 
 -- ---- what is matched
 

@@ -1,14 +1,12 @@
 -- What the steps of reading JSON return.
 use Rattle.std.specs.Prelude.{◌≡◌, Option, None, Some, Result, Ok, Err, ⊤}
 use Rattle.urlpattern_inputs.specs.declared.reading.Unread.{Unread}
-use Rattle.urlpattern_inputs.specs.declared.reading.Unread.TheVariants as unread
 use Rattle.urlpattern_syntax.specs.declared.error.Error.{Error}
-use Rattle.urlpattern_syntax.specs.declared.error.Error.TheVariants as errors
 
 -- why nothing is read: the tree has no value, or memory ran out
 abbrev pub IsUnread : {Y : Type 0} → Unread → Option Y → Type 0
-IsUnread unread.Shape read = read ≡ None
-IsUnread unread.OutOfMemory read = ⊤
+IsUnread Unread.Shape read = read ≡ None
+IsUnread Unread.OutOfMemory read = ⊤
 
 -- what a step returned, seen by the view, is what is read, unless memory ran out
 abbrev pub ReturnsRead : {X Y : Type 0} → (X → Y) → Result X Unread → Option Y → Type 0
@@ -18,5 +16,5 @@ ReturnsRead view (Err reason) read = IsUnread reason read
 -- a tree without a value is an answer, out of memory is an error
 abbrev pub read_or_none : {X : Type 0} → Result X Unread → Result (Option X) Error
 read_or_none (Ok value) = Ok (Some value)
-read_or_none (Err unread.Shape) = Ok None
-read_or_none (Err unread.OutOfMemory) = Err errors.OutOfMemory
+read_or_none (Err Unread.Shape) = Ok None
+read_or_none (Err Unread.OutOfMemory) = Err Error.OutOfMemory

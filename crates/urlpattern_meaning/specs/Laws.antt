@@ -3,10 +3,8 @@ use Rattle.std.specs.Prelude.{◌≡◌, ◌≢◌, ℕ, suc, ◌+◌, ◌⊎◌
 use Rattle.std.specs.Char.{is_ascii_digit}
 use Rattle.std.specs.List.{list_all}
 use Rattle.urlpattern_syntax.specs.declared.tokenizer.TokenType.{TokenType}
-use Rattle.urlpattern_syntax.specs.declared.tokenizer.TokenType.TheVariants.{Regexp, Name, EscapedChar, End}
 use Rattle.urlpattern_meaning.specs.Matching.{IsMadeOf, MatcherView}
 use Rattle.urlpattern_syntax.specs.Errors.{ErrorView}
-use Rattle.urlpattern_syntax.specs.Errors.{ErrorView as errors}
 use Rattle.urlpattern_syntax.specs.Options.{OptionsView}
 use Rattle.urlpattern_syntax.specs.Parts.{PartView}
 use Rattle.urlpattern_syntax.specs.Pieces.{ArePieces, Ending, Piece}
@@ -18,10 +16,10 @@ use Rattle.urlpattern_syntax.specs.Tokens.{AreLenientTokens, AreTokens, FaultVie
 
 -- the characters that make a token of this kind and value; End has none
 abbrev pub spelling : TokenType → List ℕ → List ℕ
-spelling EscapedChar value = codes "\\" ++ value
-spelling Name value = codes ":" ++ value
-spelling Regexp value = codes "(" ++ value ++ codes ")"
-spelling End value = []
+spelling TokenType.EscapedChar value = codes "\\" ++ value
+spelling TokenType.Name value = codes ":" ++ value
+spelling TokenType.Regexp value = codes "(" ++ value ++ codes ")"
+spelling TokenType.End value = []
 spelling kind value = value
 
 -- The text, which begins at this byte, is the spellings of these tokens in order, each at its token's index, and nothing
@@ -62,7 +60,7 @@ AnswersOnce encoding = (text : List ℕ) (answer other : Result (List ℕ) Error
 abbrev pub AnswersOnceGivenMemory : Encoding → Type 0
 AnswersOnceGivenMemory encoding =
     (text : List ℕ) (answer other : Result (List ℕ) ErrorView) → encoding text answer → encoding text other →
-    answer ≢ Err errors.OutOfMemory → other ≢ Err errors.OutOfMemory → answer ≡ other
+    answer ≢ Err ErrorView.OutOfMemory → other ≢ Err ErrorView.OutOfMemory → answer ≡ other
 
 -- the encoding has an answer to the text
 abbrev pub HasAnswer : Encoding → (text : List ℕ) → Type 0

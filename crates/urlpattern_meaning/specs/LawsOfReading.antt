@@ -7,7 +7,6 @@ use Rattle.urlpattern_meaning.specs.Printing.{HaveTexts, Keeps, encoded_texts, j
 use Rattle.urlpattern_meaning.specs.RoundTrip.{ArePatternParts, FailsText, IsPrintable, KeepsAnswered, MayKeep, ReadsAsJoined, ReadsOnlyAsJoined, WereRead}
 use Rattle.urlpattern_syntax.specs.declared.tokenizer.TokenType.TheVariants.{End, Name}
 use Rattle.urlpattern_syntax.specs.Errors.{ErrorView}
-use Rattle.urlpattern_syntax.specs.Errors.{ErrorView as errors}
 use Rattle.urlpattern_syntax.specs.Options.{OptionsView}
 use Rattle.urlpattern_syntax.specs.Parts.{PartView}
 use Rattle.urlpattern_syntax.specs.Pieces.{ArePieces, Ending, Piece}
@@ -122,7 +121,7 @@ OutcomesAreOne encoding = (text : List ℕ) (options : OptionsView) (outcome oth
 -- the same, besides that memory may run out
 abbrev pub OutcomesAreOneGivenMemory : Encoding → Type 0
 OutcomesAreOneGivenMemory encoding = (text : List ℕ) (options : OptionsView) (outcome other : Outcome) → AnswersOnceGivenMemory encoding →
-    outcome ≢ Err errors.OutOfMemory → other ≢ Err errors.OutOfMemory →
+    outcome ≢ Err ErrorView.OutOfMemory → other ≢ Err ErrorView.OutOfMemory →
     HasOutcome text options encoding outcome → HasOutcome text options encoding other → outcome ≡ other
 
 -- every text has an outcome, or else it asks the encoding about a text to which that has no answer

@@ -4,9 +4,7 @@ use Rattle.std.specs.Char.{to_ascii_lowercase}
 use Rattle.std.specs.Str.{all_scalars}
 use Rattle.urlpattern_meaning.specs.Dialect.{Follows}
 use Rattle.urlpattern_syntax.specs.declared.parser.PartModifier.{PartModifier}
-use Rattle.urlpattern_syntax.specs.declared.parser.PartModifier.TheVariants as modifiers
 use Rattle.urlpattern_syntax.specs.declared.parser.PartType.{PartType}
-use Rattle.urlpattern_syntax.specs.declared.parser.PartType.TheVariants.{SegmentWildcard, FullWildcard}
 use Rattle.urlpattern_syntax.specs.Errors.{ErrorView}
 use Rattle.urlpattern_syntax.specs.Options.{OptionsView}
 use Rattle.urlpattern_meaning.specs.PartMeaning.{AreGenerated, Captures, PartsMean}
@@ -73,9 +71,9 @@ single_capture_matcher options prefix part suffix filter allow_empty = record {
 
 -- one part is left: a wildcard without modifier is a single capture
 abbrev pub IsMadeOfOne : {E : Type 0} → (IsEngine : (regexp : List ℕ) → Result E ErrorView → Type 0) → PartType → PartModifier → OptionsView → (prefix : List ℕ) → PartView → (suffix : List ℕ) → MatcherView E → Type 0
-IsMadeOfOne IsEngine FullWildcard modifiers.None options prefix part suffix matcher =
+IsMadeOfOne IsEngine PartType.FullWildcard PartModifier.None options prefix part suffix matcher =
     matcher ≡ single_capture_matcher options prefix part suffix None true
-IsMadeOfOne IsEngine SegmentWildcard modifiers.None options prefix part suffix matcher =
+IsMadeOfOne IsEngine PartType.SegmentWildcard PartModifier.None options prefix part suffix matcher =
     matcher ≡ single_capture_matcher options prefix part suffix options.delimiter false
 IsMadeOfOne IsEngine kind modifier options prefix part suffix matcher =
     IsMadeByEngine IsEngine options prefix (part ∷ []) suffix matcher

@@ -2,9 +2,7 @@
 -- meaning here.
 use Rattle.std.specs.Prelude.{◌≡◌, ◌≢◌, ◌↔◌, All, ℕ, zero, suc, ◌≤◌, Bool, true, ◌&&◌, List, [], ◌∷◌, ◌++◌, Option, Some, None, IsTrue, unwrap_or}
 use Rattle.urlpattern_syntax.specs.declared.parser.PartModifier.{PartModifier}
-use Rattle.urlpattern_syntax.specs.declared.parser.PartModifier.TheVariants as modifiers
 use Rattle.urlpattern_syntax.specs.declared.parser.PartType.{PartType}
-use Rattle.urlpattern_syntax.specs.declared.parser.PartType.TheVariants.{FixedText, Regexp, SegmentWildcard, FullWildcard}
 use Rattle.urlpattern_syntax.specs.Options.{OptionsView}
 use Rattle.urlpattern_syntax.specs.Parts.{PartView}
 use Rattle.urlpattern_syntax.specs.RegexpText.{is_empty}
@@ -19,14 +17,14 @@ Captures = List (Option (List ℕ))
 -- a wildcard may stand for the text: a segment is not empty and has no delimiter, or else no line feed; a full wildcard
 -- is any text without line feed
 abbrev pub IsWildcardText : OptionsView → PartType → List ℕ → Type 0
-IsWildcardText options SegmentWildcard text = (text ≢ []) × IsTrue (lacks (unwrap_or options.delimiter line_feed) text)
-IsWildcardText options FullWildcard text = IsTrue (lacks line_feed text)
+IsWildcardText options PartType.SegmentWildcard text = (text ≢ []) × IsTrue (lacks (unwrap_or options.delimiter line_feed) text)
+IsWildcardText options PartType.FullWildcard text = IsTrue (lacks line_feed text)
 -- no other kind is a wildcard
 IsWildcardText options kind text = ⊥
 
 -- a copy of a part of this kind: a fixed text, or a wildcard's text between prefix and suffix
 abbrev pub IsCopyOf : OptionsView → PartType → PartView → List ℕ → Type 0
-IsCopyOf options FixedText part text = text ≡ part.value
+IsCopyOf options PartType.FixedText part text = text ≡ part.value
 IsCopyOf options kind part text = (piece : List ℕ) × (text ≡ part.prefix ++ piece ++ part.suffix) × IsWildcardText options kind piece
 
 -- n copies of the part, end to end
@@ -37,14 +35,14 @@ AreCopies options part n text = IsRepeated (IsCopyOf options part.kind part) n t
 
 -- the modifier allows so many copies
 abbrev pub Allows : PartModifier → ℕ → Type 0
-Allows modifiers.None n = n ≡ 1
-Allows modifiers.Optional n = n ≤ 1
-Allows modifiers.ZeroOrMore n = Unit {0}
-Allows modifiers.OneOrMore n = 1 ≤ n
+Allows PartModifier.None n = n ≡ 1
+Allows PartModifier.Optional n = n ≤ 1
+Allows PartModifier.ZeroOrMore n = Unit {0}
+Allows PartModifier.OneOrMore n = 1 ≤ n
 
 -- the capture of no copies, by whether the part has neither prefix nor suffix
 abbrev pub capture_of_none : PartModifier → (is_bare : Bool) → Option (List ℕ)
-capture_of_none modifiers.ZeroOrMore true = Some []
+capture_of_none PartModifier.ZeroOrMore true = Some []
 capture_of_none modifier is_bare = None
 
 abbrev pub capture_of_no_copies : PartView → Option (List ℕ)
@@ -57,8 +55,8 @@ IsCapture part (suc n) text capture = (inner : List ℕ) × (text ≡ part.prefi
 
 -- what n copies of a part of this kind capture: nothing for a fixed text, and one text for a wildcard
 abbrev pub AreCaptures : PartType → PartView → ℕ → List ℕ → Captures → Type 0
-AreCaptures FixedText part n text captures = captures ≡ []
-AreCaptures Regexp part n text captures = ⊥
+AreCaptures PartType.FixedText part n text captures = captures ≡ []
+AreCaptures PartType.Regexp part n text captures = ⊥
 AreCaptures kind part n text captures = (capture : Option (List ℕ)) × IsCapture part n text capture × (captures ≡ capture ∷ [])
 
 -- The part stands for the text, and captures this.
@@ -84,4 +82,4 @@ MeanTheSame options parts others =
 
 -- none of the parts is a custom regular expression
 abbrev pub AreGenerated : List PartView → Type 0
-AreGenerated parts = All (λ part. part.kind ≢ Regexp) parts
+AreGenerated parts = All (λ part. part.kind ≢ PartType.Regexp) parts

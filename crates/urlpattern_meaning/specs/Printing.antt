@@ -4,7 +4,6 @@ use Rattle.std.specs.Prelude.{◌≡◌, ◌≢◌, ℕ, Bool, true, false, not,
 use Rattle.std.specs.Char.{is_ascii_digit}
 use Rattle.std.specs.List.{flat_map}
 use Rattle.urlpattern_syntax.specs.declared.parser.PartType.{PartType}
-use Rattle.urlpattern_syntax.specs.declared.parser.PartType.TheVariants.{FixedText, Regexp, SegmentWildcard, FullWildcard}
 use Rattle.urlpattern_syntax.specs.Errors.{ErrorView}
 use Rattle.urlpattern_syntax.specs.Options.{OptionsView}
 use Rattle.urlpattern_syntax.specs.Parts.{PartView}
@@ -20,7 +19,7 @@ abbrev pub has_custom_name : PartView → Bool
 has_custom_name part = not (begins_with is_ascii_digit part.name)
 
 abbrev pub is_segment : PartType → Bool
-is_segment SegmentWildcard = true
+is_segment PartType.SegmentWildcard = true
 is_segment kind = false
 
 -- a name alone: the segment of a name that the pattern gives
@@ -82,10 +81,10 @@ is_asterisk before part braces = not (has_custom_name part) && (admits_asterisk 
 
 -- what a part of this kind matches, after its name
 abbrev pub printed_match : OptionsView → PartType → PartView → (asterisk : Bool) → List ℕ
-printed_match options FixedText part asterisk = []
-printed_match options Regexp part asterisk = captured part.value
-printed_match options SegmentWildcard part asterisk = if has_custom_name part then [] else captured (segment_wildcard options)
-printed_match options FullWildcard part asterisk = if asterisk then codes "*" else captured full_wildcard
+printed_match options PartType.FixedText part asterisk = []
+printed_match options PartType.Regexp part asterisk = captured part.value
+printed_match options PartType.SegmentWildcard part asterisk = if has_custom_name part then [] else captured (segment_wildcard options)
+printed_match options PartType.FullWildcard part asterisk = if asterisk then codes "*" else captured full_wildcard
 
 abbrev pub printed_name : PartView → List ℕ
 printed_name part = if has_custom_name part then codes ":" ++ part.name else []

@@ -2,7 +2,6 @@
 use Rattle.std.specs.Prelude.{◌≡◌, ◌≢◌, ℕ, suc, ◌⊎◌, not, List, [], ◌∷◌, AllPairs, Contains, IsTrue, Ok, Err, decimal, if◌then◌else◌}
 use Rattle.std.specs.List.{list_all}
 use Rattle.urlpattern_syntax.specs.declared.parser.PartType.{PartType}
-use Rattle.urlpattern_syntax.specs.declared.parser.PartType.TheVariants.{FixedText, Regexp, SegmentWildcard, FullWildcard}
 use Rattle.urlpattern_syntax.specs.Errors.{ErrorView}
 use Rattle.urlpattern_syntax.specs.Options.{OptionsView, default_options, hostname_options, pathname_options}
 use Rattle.urlpattern_syntax.specs.Parts.{PartView}
@@ -33,10 +32,10 @@ IsStandard options = HasPointsOf default_options options ⊎ (HasPointsOf hostna
 -- a fixed text has nothing but its value, and a group has a value only where it is a custom regular expression, which is
 -- then neither of the wildcards; the regular expression of a segment without a name may stand in brackets
 abbrev pub HasFields : OptionsView → PartType → PartView → Type 0
-HasFields options FixedText part = (part.prefix ≡ []) × (part.suffix ≡ [])
-HasFields options Regexp part = IsRegexpBody part.value × (part.value ≢ segment_wildcard options) × (part.value ≢ full_wildcard)
-HasFields options SegmentWildcard part = (part.value ≡ []) × (¬ IsTrue (has_custom_name part) → IsRegexpBody (segment_wildcard options))
-HasFields options FullWildcard part = part.value ≡ []
+HasFields options PartType.FixedText part = (part.prefix ≡ []) × (part.suffix ≡ [])
+HasFields options PartType.Regexp part = IsRegexpBody part.value × (part.value ≢ segment_wildcard options) × (part.value ≢ full_wildcard)
+HasFields options PartType.SegmentWildcard part = (part.value ≡ []) × (¬ IsTrue (has_custom_name part) → IsRegexpBody (segment_wildcard options))
+HasFields options PartType.FullWildcard part = part.value ≡ []
 
 abbrev pub AllHaveFields : OptionsView → List PartView → Type 0
 AllHaveFields options [] = Unit {0}
@@ -44,12 +43,12 @@ AllHaveFields options (part ∷ parts) = HasFields options part.kind part × All
 
 -- a fixed text has no name, and a group has one that a pattern gives, or else its number among the groups without one
 abbrev pub IsNamed : ℕ → PartType → List ℕ → Type 0
-IsNamed number FixedText name = name ≡ []
+IsNamed number PartType.FixedText name = name ≡ []
 IsNamed number kind name = IsName name ⊎ (name ≡ decimal number)
 
 -- how many groups have no name of their own, this part too
 abbrev pub following_number : ℕ → PartType → PartView → ℕ
-following_number number FixedText part = number
+following_number number PartType.FixedText part = number
 following_number number kind part = if has_custom_name part then number else suc number
 
 -- the names of these parts, where so many groups without a name stand before them
@@ -71,7 +70,7 @@ IsUnskipped text = IsTrue (list_all (λ c. not (is_ignored c)) text)
 
 -- nothing is skipped in a fixed text, or in a group's prefix and suffix
 abbrev pub HasUnskipped : PartType → PartView → Type 0
-HasUnskipped FixedText part = IsUnskipped part.value
+HasUnskipped PartType.FixedText part = IsUnskipped part.value
 HasUnskipped kind part = IsUnskipped part.prefix × IsUnskipped part.suffix
 
 -- what is skipped between tokens stands in no part's texts

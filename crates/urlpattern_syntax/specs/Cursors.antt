@@ -5,7 +5,6 @@ use Rattle.std.specs.Str.{chars}
 use Rattle.urlpattern_syntax.specs.declared.tokenizer.cursors.Cursor.{Cursor}
 use Rattle.urlpattern_syntax.specs.declared.tokenizer.Token.{Token}
 use Rattle.urlpattern_syntax.specs.declared.tokenizer.TokenType.{TokenType}
-use Rattle.urlpattern_syntax.specs.declared.tokenizer.TokenType.TheVariants.{End}
 use Rattle.urlpattern_syntax.specs.Text.{BeginsWith, is_among}
 use Rattle.urlpattern_syntax.specs.Tokens.{IsCut, IsStrictCut, IsTokenOf, Skips, TokenView, end_of, is_ignored, marks, token_view}
 
@@ -41,7 +40,7 @@ GivesToken old token new = IsTokenAfter (cursor_text old) (cursor_rest old) (tok
 
 -- End is no token that is read on from
 abbrev pub tokens_left : TokenType → ℕ
-tokens_left End = 0
+tokens_left TokenType.End = 0
 tokens_left kind = 1
 
 -- the character is a token by itself

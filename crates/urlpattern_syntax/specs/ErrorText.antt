@@ -1,13 +1,10 @@
 -- The texts of the errors, as the bytes that are printed.
 use Rattle.std.specs.Prelude.{ℕ, List, ◌++◌, codes, decimal, encode_utf8_all, Option, Some, None}
 use Rattle.urlpattern_syntax.specs.declared.error.ParserError.{ParserError}
-use Rattle.urlpattern_syntax.specs.declared.error.ParserError.TheVariants as parser_errors
 use Rattle.urlpattern_syntax.specs.declared.tokenizer.TokenType.{TokenType}
 use Rattle.urlpattern_syntax.specs.declared.tokenizer.TokenType.TheVariants.{Asterisk, Char, Close, End, EscapedChar, InvalidChar, Name, Open, OtherModifier, Regexp}
-use Rattle.urlpattern_syntax.specs.Errors as view
 use Rattle.urlpattern_syntax.specs.Errors.{ErrorView}
 use Rattle.urlpattern_syntax.specs.Text.{text_of}
-use Rattle.urlpattern_syntax.specs.Tokens as fault
 use Rattle.urlpattern_syntax.specs.Tokens.{FaultView}
 
 -- a kind of token has its name alone
@@ -25,9 +22,9 @@ kind_name InvalidChar = codes "InvalidChar"
 
 -- a fault of a pattern text; the reasons are ASCII
 abbrev pub fault_text : FaultView → List ℕ
-fault_text fault.IncompleteEscapeCode = codes "incomplete escape code"
-fault_text fault.InvalidName = codes "invalid name; must be at least length 1"
-fault_text (fault.InvalidRegex reason) = codes "invalid regex: " ++ reason
+fault_text FaultView.IncompleteEscapeCode = codes "incomplete escape code"
+fault_text FaultView.InvalidName = codes "invalid name; must be at least length 1"
+fault_text (FaultView.InvalidRegex reason) = codes "invalid regex: " ++ reason
 
 -- a token of one kind had to stand where one of another kind does, with this value
 abbrev pub expected_token_text : (expected found : TokenType) → (value : List ℕ) → List ℕ
@@ -41,18 +38,18 @@ duplicate_name_text name = codes "pattern contains duplicate name " ++ encode_ut
 
 -- a `ParserError`
 abbrev pub parser_error_text : ParserError → List ℕ
-parser_error_text (parser_errors.ExpectedToken expected found value) = expected_token_text expected found (text_of value)
-parser_error_text (parser_errors.DuplicateName name) = duplicate_name_text (text_of name)
+parser_error_text (ParserError.ExpectedToken expected found value) = expected_token_text expected found (text_of value)
+parser_error_text (ParserError.DuplicateName name) = duplicate_name_text (text_of name)
 
 -- An `Error`. What is printed of an error of `url` is its own text, of which nothing is promised.
 abbrev pub error_text : ErrorView → Option (List ℕ)
-error_text view.BaseUrlRequired = Some (codes "a relative input without a base URL is not valid")
-error_text view.BaseUrlWithInit = Some (codes "specifying both an init object, " ++ codes "and a separate base URL is not valid")
-error_text (view.Tokenizer fault place) =
+error_text ErrorView.BaseUrlRequired = Some (codes "a relative input without a base URL is not valid")
+error_text ErrorView.BaseUrlWithInit = Some (codes "specifying both an init object, " ++ codes "and a separate base URL is not valid")
+error_text (ErrorView.Tokenizer fault place) =
     Some (codes "tokenizer error: " ++ fault_text fault ++ codes " (at char " ++ decimal place ++ codes ")")
-error_text (view.ExpectedToken expected found value) =
+error_text (ErrorView.ExpectedToken expected found value) =
     Some (codes "parser error: " ++ expected_token_text expected found value)
-error_text (view.DuplicateName name) = Some (codes "parser error: " ++ duplicate_name_text name)
-error_text (view.Url error) = None
-error_text view.RegExp = Some (codes "regexp error")
-error_text view.OutOfMemory = Some (codes "out of memory")
+error_text (ErrorView.DuplicateName name) = Some (codes "parser error: " ++ duplicate_name_text name)
+error_text (ErrorView.Url error) = None
+error_text ErrorView.RegExp = Some (codes "regexp error")
+error_text ErrorView.OutOfMemory = Some (codes "out of memory")

@@ -2,11 +2,8 @@
 use Rattle.std.specs.Prelude.{◌≡◌, ◌⊎◌, ℕ, List, Result, IsOkUnless}
 use Rattle.url.specs.declared.error.ParseError.{ParseError}
 use Rattle.urlpattern_syntax.specs.declared.error.Error.{Error}
-use Rattle.urlpattern_syntax.specs.declared.error.Error.TheVariants as errors
 use Rattle.urlpattern_syntax.specs.declared.error.ParserError.{ParserError}
-use Rattle.urlpattern_syntax.specs.declared.error.ParserError.TheVariants as parser_errors
 use Rattle.urlpattern_syntax.specs.declared.error.RegExpError.{RegExpError}
-use Rattle.urlpattern_syntax.specs.declared.error.RegExpError.TheVariants as regexp_errors
 use Rattle.urlpattern_syntax.specs.declared.tokenizer.TokenType.{TokenType}
 use Rattle.urlpattern_syntax.specs.Text.{text_of}
 use Rattle.urlpattern_syntax.specs.Tokens.{FaultView, fault_view}
@@ -22,22 +19,22 @@ pub data ErrorView : Type 0 where
   RegExp OutOfMemory : ErrorView
 
 abbrev pub parser_error_view : ParserError → ErrorView
-parser_error_view (parser_errors.ExpectedToken expected found value) = ExpectedToken expected found (text_of value)
-parser_error_view (parser_errors.DuplicateName name) = DuplicateName (text_of name)
+parser_error_view (ParserError.ExpectedToken expected found value) = ExpectedToken expected found (text_of value)
+parser_error_view (ParserError.DuplicateName name) = DuplicateName (text_of name)
 
 abbrev pub error_view : Error → ErrorView
-error_view errors.BaseUrlRequired = BaseUrlRequired
-error_view errors.BaseUrlWithInit = BaseUrlWithInit
-error_view (errors.Tokenizer fault place) = Tokenizer (fault_view fault) place
-error_view (errors.Parser error) = parser_error_view error
-error_view (errors.Url error) = Url error
-error_view (errors.RegExp error) = RegExp
-error_view errors.OutOfMemory = OutOfMemory
+error_view Error.BaseUrlRequired = BaseUrlRequired
+error_view Error.BaseUrlWithInit = BaseUrlWithInit
+error_view (Error.Tokenizer fault place) = Tokenizer (fault_view fault) place
+error_view (Error.Parser error) = parser_error_view error
+error_view (Error.Url error) = Url error
+error_view (Error.RegExp error) = RegExp
+error_view Error.OutOfMemory = OutOfMemory
 
 -- an engine's error: it refused the text of a regular expression, or memory ran out
 abbrev pub regexp_error_view : RegExpError → ErrorView
-regexp_error_view regexp_errors.Pattern = RegExp
-regexp_error_view regexp_errors.OutOfMemory = OutOfMemory
+regexp_error_view RegExpError.Pattern = RegExp
+regexp_error_view RegExpError.OutOfMemory = OutOfMemory
 
 -- The error is that memory ran out, or one of these.
 abbrev pub MemoryOr : (Is : ErrorView → Type 0) → Error → Type 0
@@ -45,4 +42,4 @@ MemoryOr Is error = (error_view error ≡ OutOfMemory) ⊎ Is (error_view error)
 
 -- A value, or the error that memory ran out.
 abbrev pub OnlyOutOfMemory : {A : Type 0} → Result A Error → Type 0
-OnlyOutOfMemory result = IsOkUnless result errors.OutOfMemory
+OnlyOutOfMemory result = IsOkUnless result Error.OutOfMemory

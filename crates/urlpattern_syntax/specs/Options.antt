@@ -2,7 +2,6 @@
 use Rattle.std.specs.Prelude.{ℕ, Bool, false, List, [], Option, None, Some, codes}
 use Rattle.url.specs.Ascii.{dot, slash}
 use Rattle.urlpattern_syntax.specs.declared.parser.RegexSyntax.{RegexSyntax}
-use Rattle.urlpattern_syntax.specs.declared.parser.RegexSyntax.TheVariants.{Rust}
 use Rattle.urlpattern_syntax.specs.declared.parser.Options.{Options}
 use Rattle.urlpattern_syntax.specs.Text.{text_of}
 
@@ -23,7 +22,7 @@ options_view options = record {
 
 -- the standard's three sets of options, in Rust's syntax: a delimiter and a prefix code point
 abbrev pub standard_options : Option ℕ → List ℕ → OptionsView
-standard_options delimiter prefix = record { delimiter = delimiter; prefix = prefix; syntax = Rust; ignore_case = false }
+standard_options delimiter prefix = record { delimiter = delimiter; prefix = prefix; syntax = RegexSyntax.Rust; ignore_case = false }
 
 abbrev pub default_options : OptionsView
 default_options = standard_options None []

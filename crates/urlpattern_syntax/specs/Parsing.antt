@@ -3,23 +3,18 @@ use Rattle.std.specs.Prelude.{◌≡◌, ◌≢◌, ◌<◌, ◌≤◌, ◌+◌,
 use Rattle.std.specs.Str.{chars, IsUtf8}
 use Rattle.std.specs.Borrow.{Bor}
 use Rattle.urlpattern_syntax.specs.declared.parser.pieces.Matched.{Matched as MatchedValue}
-use Rattle.urlpattern_syntax.specs.declared.parser.pieces.Matched.TheVariants as matched_values
 use Rattle.urlpattern_syntax.specs.declared.parser.pieces.Next.{Next}
-use Rattle.urlpattern_syntax.specs.declared.parser.pieces.Next.TheVariants as nexts
 use Rattle.urlpattern_syntax.specs.declared.parser.PartModifier.{PartModifier}
 use Rattle.urlpattern_syntax.specs.declared.parser.pieces.Piece.{Piece as PieceValue}
 use Rattle.urlpattern_syntax.specs.declared.parser.pieces.Placeholder.{Placeholder as PlaceholderValue}
-use Rattle.urlpattern_syntax.specs.declared.parser.pieces.Piece.TheVariants as piece_values
 use Rattle.urlpattern_syntax.specs.declared.tokenizer.Token.{Token}
 use Rattle.urlpattern_syntax.specs.declared.parser.pieces.Reader.{Reader}
 use Rattle.urlpattern_syntax.specs.declared.tokenizer.TokenType.TheVariants.{Close, Name, OtherModifier, End}
 use Rattle.urlpattern_syntax.specs.declared.error.Error.{Error}
 use Rattle.urlpattern_syntax.specs.declared.parser.part_list.PartList.{PartList}
-use Rattle.urlpattern_syntax.specs.declared.parser.PartModifier.TheVariants as modifiers
 use Rattle.urlpattern_syntax.specs.Cursors.{AreTokensAfter, IsPlace, cursor_rest, cursor_text, tokens_left}
 use Rattle.urlpattern_syntax.specs.Errors.{ErrorView, error_view}
 pub use Rattle.urlpattern_syntax.specs.Errors.{MemoryOr}
-use Rattle.urlpattern_syntax.specs.Errors.{ErrorView as error_views}
 use Rattle.urlpattern_syntax.specs.declared.parser.given_names.GivenNames.{GivenNames}
 use Rattle.urlpattern_syntax.specs.GivenNames.{has_name}
 use Rattle.urlpattern_syntax.specs.Options.{OptionsView}
@@ -27,7 +22,6 @@ use Rattle.urlpattern_syntax.specs.Parts.{PartView, parts_view}
 use Rattle.urlpattern_syntax.specs.RegexpText.{group_names}
 use Rattle.urlpattern_syntax.specs.Text.{BeginsWith, is_name_start, option_text, text_of}
 use Rattle.urlpattern_syntax.specs.Pieces.{Piece, Placeholder, Matched, Ending, IsPiece, IsEnding, IsPlaceholderOf, IsPrefixOf, IsModifier, TakesModifier, TakesRegexp, AreTexts, BeginsWithKind, is_text}
-use Rattle.urlpattern_syntax.specs.Pieces.{Matched as matched, Ending as endings, Piece as pieces}
 use Rattle.urlpattern_syntax.specs.Reading.{AreMet, AreParts, Demand, Encode, Encoding, FirstFails, Item, Fixed, Capture, NewName, encode_fixed, name_or}
 use Rattle.urlpattern_syntax.specs.Tokens.{AreTokens, ReportsFault, TokenView, token_view}
 
@@ -108,19 +102,19 @@ pub record StartsText (text : List ℕ) (reader : Reader) : Type 0 where
 -- ---- what the code's pieces show
 
 abbrev pub matched_view : MatchedValue → Matched
-matched_view matched_values.Segment = matched.Segment
-matched_view (matched_values.Custom body) = matched.Custom (chars body.now)
-matched_view matched_values.Anything = matched.Anything
+matched_view MatchedValue.Segment = Matched.Segment
+matched_view (MatchedValue.Custom body) = Matched.Custom (chars body.now)
+matched_view MatchedValue.Anything = Matched.Anything
 
 abbrev pub placeholder_view : PlaceholderValue → Placeholder
 placeholder_view value = record { name = option_text value.name; matched = matched_view value.matched }
 
 abbrev pub piece_view : PieceValue → Piece
-piece_view (piece_values.Text text) = pieces.Text (chars text.now)
-piece_view (piece_values.Bare prefix placeholder modifier) = pieces.Bare (chars prefix.now) (placeholder_view placeholder) modifier
-piece_view (piece_values.TextGroup text modifier) = pieces.TextGroup (text_of text) modifier
-piece_view (piece_values.Group before placeholder after modifier) =
-    pieces.Group (text_of before) (placeholder_view placeholder) (text_of after) modifier
+piece_view (PieceValue.Text text) = Piece.Text (chars text.now)
+piece_view (PieceValue.Bare prefix placeholder modifier) = Piece.Bare (chars prefix.now) (placeholder_view placeholder) modifier
+piece_view (PieceValue.TextGroup text modifier) = Piece.TextGroup (text_of text) modifier
+piece_view (PieceValue.Group before placeholder after modifier) =
+    Piece.Group (text_of before) (placeholder_view placeholder) (text_of after) modifier
 
 -- a placeholder between texts, as an item
 abbrev pub group_item : (before : List ℕ) → PlaceholderValue → (after : List ℕ) → PartModifier → ℕ → Item
@@ -133,12 +127,12 @@ IsNameGiven None = Unit {0}
 IsNameGiven (Some name) = IsGiven name
 
 abbrev pub IsPieceNamed : Piece → Type 0
-IsPieceNamed (pieces.Bare prefix placeholder modifier) = IsNameGiven placeholder.name
-IsPieceNamed (pieces.Group before placeholder after modifier) = IsNameGiven placeholder.name
+IsPieceNamed (Piece.Bare prefix placeholder modifier) = IsNameGiven placeholder.name
+IsPieceNamed (Piece.Group before placeholder after modifier) = IsNameGiven placeholder.name
 IsPieceNamed other = Unit {0}
 
 abbrev pub IsNextNamed : Next → Type 0
-IsNextNamed (nexts.Piece piece) = IsPieceNamed (piece_view piece)
+IsNextNamed (Next.Piece piece) = IsPieceNamed (piece_view piece)
 IsNextNamed other = Unit {0}
 
 -- the tokens begin with a character and then with more of them (`more`), of which there is none or another one follows
@@ -181,10 +175,10 @@ HasEndingAt tokens ending rest = (found : TokenView) × (more : List TokenView) 
 
 -- the next piece of tokens, or how they end
 abbrev pub IsNext : (point : List ℕ) → (tokens : List TokenView) → Next → (rest : List TokenView) → Type 0
-IsNext point tokens (nexts.Piece piece) rest = BeginsWithPiece point tokens (piece_view piece) rest
-IsNext point tokens (nexts.Characters first more) rest = BeginsWithRow tokens (chars first.now ++ chars more.now) rest
-IsNext point tokens nexts.Stops rest = HasEndingAt tokens endings.Stops rest
-IsNext point tokens nexts.LacksClose rest = HasEndingAt tokens endings.LacksClose rest
+IsNext point tokens (Next.Piece piece) rest = BeginsWithPiece point tokens (piece_view piece) rest
+IsNext point tokens (Next.Characters first more) rest = BeginsWithRow tokens (chars first.now ++ chars more.now) rest
+IsNext point tokens Next.Stops rest = HasEndingAt tokens Ending.Stops rest
+IsNext point tokens Next.LacksClose rest = HasEndingAt tokens Ending.LacksClose rest
 
 -- the same of these tokens after any that are the prefix
 abbrev pub IsNextAfter : (prefix : List ℕ) → (tokens : List TokenView) → Next → (rest : List TokenView) → Type 0
@@ -205,8 +199,8 @@ TakesClose old new modifier = Takes old new (λ tokens rest. BeginsWithClose tok
 
 -- what is taken leaves less
 abbrev pub IsShorter : (new old : ℕ) → Next → Type 0
-IsShorter new old (nexts.Piece piece) = new < old
-IsShorter new old (nexts.Characters first more) = new < old
+IsShorter new old (Next.Piece piece) = new < old
+IsShorter new old (Next.Characters first more) = new < old
 IsShorter new old other = Unit {0}
 
 -- ---- what is read so far
@@ -235,7 +229,7 @@ item_demands earlier (Capture prefix name match suffix modifier ∷ items) =
 -- the pending text as an item, if there is one
 abbrev pub pending_items : List ℕ → List Item
 pending_items [] = []
-pending_items (c ∷ text) = Fixed (c ∷ text) modifiers.None ∷ []
+pending_items (c ∷ text) = Fixed (c ∷ text) PartModifier.None ∷ []
 
 -- the parts of these items stand after those of before, and nothing is pending
 pub record AddsParts (options : OptionsView) (encoding : Encoding) (old : PartListView) (items : List Item) (new : PartListView) : Type 0 where
@@ -247,7 +241,7 @@ pub record AddsParts (options : OptionsView) (encoding : Encoding) (old : PartLi
 
 -- the item is added: a plain fixed text is put after the pending text, any other after the part of that
 abbrev pub AddsItem : OptionsView → Encoding → PartListView → Item → PartListView → Type 0
-AddsItem options encoding old (Fixed text modifiers.None) new = (new.parts ≡ old.parts) × (new.pending ≡ old.pending ++ text)
+AddsItem options encoding old (Fixed text PartModifier.None) new = (new.parts ≡ old.parts) × (new.pending ≡ old.pending ++ text)
 AddsItem options encoding old item new = AddsParts options encoding old (pending_items old.pending ++ item ∷ []) new
 
 -- memory ran out, or a demand of these items after the parts fails with the error
@@ -256,7 +250,7 @@ FailsItems encoding parts items error = MemoryOr (FirstFails encoding (item_dema
 
 -- the item is not added: for a plain fixed text memory ran out, any other may fail a demand
 abbrev pub FailsItem : Encoding → PartListView → Item → Error → Type 0
-FailsItem encoding old (Fixed text modifiers.None) error = error_view error ≡ error_views.OutOfMemory
+FailsItem encoding old (Fixed text PartModifier.None) error = error_view error ≡ ErrorView.OutOfMemory
 FailsItem encoding old item error = FailsItems encoding old.parts (pending_items old.pending ++ item ∷ []) error
 
 -- memory ran out, or the error is the first fault of the text, or it is one of these and the rest has tokens

@@ -13,7 +13,6 @@ use Rattle.urlpattern_syntax.specs.declared.parser.pieces.Placeholder.{Placehold
 use Rattle.urlpattern_syntax.specs.declared.tokenizer.Token.{Token}
 use Rattle.urlpattern_syntax.specs.declared.tokenizer.TokenType.TheVariants.{End}
 use Rattle.urlpattern_syntax.specs.Errors.{ErrorView}
-use Rattle.urlpattern_syntax.specs.Errors.{ErrorView as error_views}
 use Rattle.urlpattern_syntax.specs.Options.{OptionsView, options_view}
 use Rattle.urlpattern_syntax.specs.Parsing.{AddsItem, AddsParts, FailsItem, FailsItems, KnowsNames, group_item, matched_view, part_list_view, pending_items, piece_view}
 use Rattle.urlpattern_syntax.specs.Parts.{parts_view}
@@ -61,7 +60,7 @@ next_name list name = name_or (option_text name) list.next_numeric_name
 
 -- the error reports that the name of the list's next placeholder is in it already
 abbrev pub IsDuplicate : PartList → Option (Bor (List ℕ)) → ErrorView → Type 0
-IsDuplicate list name error = Contains (list_names list) (next_name list name) × (error ≡ error_views.DuplicateName (next_name list name))
+IsDuplicate list name error = Contains (list_names list) (next_name list name) × (error ≡ ErrorView.DuplicateName (next_name list name))
 
 -- ---- what a list takes
 

@@ -3,7 +3,6 @@ use Rattle.std.specs.Prelude.{ℕ, List, [], map}
 use Rattle.urlpattern_syntax.specs.declared.parser.Part.{Part}
 use Rattle.urlpattern_syntax.specs.declared.parser.PartModifier.{PartModifier}
 use Rattle.urlpattern_syntax.specs.declared.parser.PartType.{PartType}
-use Rattle.urlpattern_syntax.specs.declared.parser.PartType.TheVariants.{FixedText}
 use Rattle.urlpattern_syntax.specs.Text.{text_of}
 
 -- A part, with its texts.
@@ -30,4 +29,4 @@ parts_view parts = map part_view parts
 
 -- a fixed text
 abbrev pub fixed_text : List ℕ → PartModifier → PartView
-fixed_text value modifier = record { kind = FixedText; value = value; modifier = modifier; name = []; prefix = []; suffix = [] }
+fixed_text value modifier = record { kind = PartType.FixedText; value = value; modifier = modifier; name = []; prefix = []; suffix = [] }

@@ -3,7 +3,6 @@
 use Rattle.std.specs.Prelude.{◌≡◌, ◌≢◌, ℕ, ◌⊎◌, Bool, true, false, List, [], ◌∷◌, ◌++◌, map, codes, Option, Some, None, IsTrue}
 use Rattle.std.specs.List.{flat_map, list_all}
 use Rattle.urlpattern_syntax.specs.declared.parser.PartModifier.{PartModifier}
-use Rattle.urlpattern_syntax.specs.declared.parser.PartModifier.TheVariants as modifiers
 use Rattle.urlpattern_syntax.specs.declared.tokenizer.TokenType.{TokenType}
 use Rattle.urlpattern_syntax.specs.declared.tokenizer.TokenType.TheVariants.{Asterisk, Char, Close, End, EscapedChar, InvalidChar, Name, Open, OtherModifier, Regexp}
 use Rattle.urlpattern_syntax.specs.Tokens.{TokenView}
@@ -80,10 +79,10 @@ IsPlaceholderOf tokens (Some name) Anything = ⊥
 IsPlaceholderOf tokens None Segment = ⊥
 
 abbrev pub IsModifier : List TokenView → PartModifier → Type 0
-IsModifier tokens modifiers.None = tokens ≡ []
-IsModifier tokens modifiers.Optional = (kinds tokens ≡ OtherModifier ∷ []) × (values tokens ≡ codes "?" ∷ [])
-IsModifier tokens modifiers.OneOrMore = (kinds tokens ≡ OtherModifier ∷ []) × (values tokens ≡ codes "+" ∷ [])
-IsModifier tokens modifiers.ZeroOrMore = kinds tokens ≡ Asterisk ∷ []
+IsModifier tokens PartModifier.None = tokens ≡ []
+IsModifier tokens PartModifier.Optional = (kinds tokens ≡ OtherModifier ∷ []) × (values tokens ≡ codes "?" ∷ [])
+IsModifier tokens PartModifier.OneOrMore = (kinds tokens ≡ OtherModifier ∷ []) × (values tokens ≡ codes "+" ∷ [])
+IsModifier tokens PartModifier.ZeroOrMore = kinds tokens ≡ Asterisk ∷ []
 
 -- nothing, or a Char that is the prefix code point
 abbrev pub IsPrefixOf : (point : List ℕ) → List TokenView → List ℕ → Type 0
@@ -94,7 +93,7 @@ IsPrefixOf point tokens prefix =
 
 -- a modifier goes to what stands before it
 abbrev pub TakesModifier : PartModifier → List TokenView → Type 0
-TakesModifier modifiers.None rest = ¬ BeginsWithKind is_modifier rest
+TakesModifier PartModifier.None rest = ¬ BeginsWithKind is_modifier rest
 TakesModifier modifier rest = Unit {0}
 
 -- a Regexp goes to the name before it

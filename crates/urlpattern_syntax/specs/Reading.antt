@@ -8,19 +8,12 @@ use Rattle.std.specs.declared.vec.Vec.{Vec}
 use Rattle.urlpattern_syntax.specs.declared.error.Error.{Error}
 use Rattle.urlpattern_syntax.specs.declared.parser.Part.{Part}
 use Rattle.urlpattern_syntax.specs.declared.parser.PartModifier.{PartModifier}
-use Rattle.urlpattern_syntax.specs.declared.parser.PartModifier.TheVariants as modifiers
 use Rattle.urlpattern_syntax.specs.declared.parser.PartType.{PartType}
-use Rattle.urlpattern_syntax.specs.declared.parser.PartType.TheVariants.{Regexp, SegmentWildcard, FullWildcard}
 use Rattle.urlpattern_syntax.specs.declared.tokenizer.TokenType.{TokenType}
-use Rattle.urlpattern_syntax.specs.declared.tokenizer.TokenType.TheVariants.{Close, End}
 use Rattle.urlpattern_syntax.specs.Errors.{ErrorView, error_view}
-use Rattle.urlpattern_syntax.specs.Errors.{ErrorView as views}
 use Rattle.urlpattern_syntax.specs.Options.{OptionsView}
 use Rattle.urlpattern_syntax.specs.Parts.{PartView, fixed_text, parts_view}
 use Rattle.urlpattern_syntax.specs.Pieces.{Piece, Matched, Ending, ArePieces}
-use Rattle.urlpattern_syntax.specs.Pieces.{Piece as pieces}
-use Rattle.urlpattern_syntax.specs.Pieces.{Matched as matched}
-use Rattle.urlpattern_syntax.specs.Pieces.{Ending as endings}
 use Rattle.urlpattern_syntax.specs.RegexpText.{segment_wildcard, full_wildcard}
 use Rattle.urlpattern_syntax.specs.Text.{text_of}
 use Rattle.urlpattern_syntax.specs.Tokens.{TokenView, FaultView, AreTokens, IsFault}
@@ -43,19 +36,19 @@ next_number None number = suc number
 
 -- what a piece stands for, where so many placeholders before it have no name
 abbrev pub item : ℕ → Piece → Item
-item number (pieces.Text text) = Fixed text modifiers.None
-item number (pieces.TextGroup text modifier) = Fixed text modifier
-item number (pieces.Bare prefix placeholder modifier) =
+item number (Piece.Text text) = Fixed text PartModifier.None
+item number (Piece.TextGroup text modifier) = Fixed text modifier
+item number (Piece.Bare prefix placeholder modifier) =
     Capture prefix (name_or placeholder.name number) placeholder.matched [] modifier
-item number (pieces.Group before placeholder after modifier) =
+item number (Piece.Group before placeholder after modifier) =
     Capture before (name_or placeholder.name number) placeholder.matched after modifier
 
 -- how many placeholders have no name, this piece's too
 abbrev pub number_after : ℕ → Piece → ℕ
-number_after number (pieces.Text text) = number
-number_after number (pieces.TextGroup text modifier) = number
-number_after number (pieces.Bare prefix placeholder modifier) = next_number placeholder.name number
-number_after number (pieces.Group before placeholder after modifier) = next_number placeholder.name number
+number_after number (Piece.Text text) = number
+number_after number (Piece.TextGroup text modifier) = number
+number_after number (Piece.Bare prefix placeholder modifier) = next_number placeholder.name number
+number_after number (Piece.Group before placeholder after modifier) = next_number placeholder.name number
 
 -- what the pieces stand for, one by one
 abbrev pub items_from : ℕ → List Piece → List Item
@@ -65,13 +58,13 @@ items_from number (piece ∷ rest) = item number piece ∷ items_from (number_af
 -- a plain fixed text before items: nothing if it is empty, and one with the plain fixed text that they begin with
 abbrev pub with_text : List ℕ → List Item → List Item
 with_text [] items = items
-with_text (c ∷ text) (Fixed more modifiers.None ∷ items) = Fixed (c ∷ text ++ more) modifiers.None ∷ items
-with_text (c ∷ text) items = Fixed (c ∷ text) modifiers.None ∷ items
+with_text (c ∷ text) (Fixed more PartModifier.None ∷ items) = Fixed (c ∷ text ++ more) PartModifier.None ∷ items
+with_text (c ∷ text) items = Fixed (c ∷ text) PartModifier.None ∷ items
 
 -- neighbouring plain fixed texts made one
 abbrev pub joined_items : List Item → List Item
 joined_items [] = []
-joined_items (Fixed text modifiers.None ∷ items) = with_text text (joined_items items)
+joined_items (Fixed text PartModifier.None ∷ items) = with_text text (joined_items items)
 joined_items (item ∷ items) = item ∷ joined_items items
 
 abbrev pub items_of : List Piece → List Item
@@ -96,9 +89,9 @@ encode_fixed (c ∷ text) = Encode (c ∷ text) ∷ []
 -- The demands of the items and of what is left, in order, where these names stand before them. The pending text before
 -- a group that lacks its Close is not demanded.
 abbrev pub demands_after : List (List ℕ) → List Item → Ending → List Demand
-demands_after earlier [] (endings.Stops found) = Expect End found ∷ []
-demands_after earlier [] (endings.LacksClose found) = Expect Close found ∷ []
-demands_after earlier (Fixed text modifiers.None ∷ []) (endings.LacksClose found) = Expect Close found ∷ []
+demands_after earlier [] (Ending.Stops found) = Expect TokenType.End found ∷ []
+demands_after earlier [] (Ending.LacksClose found) = Expect TokenType.Close found ∷ []
+demands_after earlier (Fixed text PartModifier.None ∷ []) (Ending.LacksClose found) = Expect TokenType.Close found ∷ []
 demands_after earlier (Fixed text modifier ∷ items) ending = encode_fixed text ++ demands_after earlier items ending
 demands_after earlier (Capture prefix name match suffix modifier ∷ items) ending =
     NewName earlier name ∷ Encode prefix ∷ Encode suffix ∷ demands_after (earlier ++ name ∷ []) items ending
@@ -123,8 +116,8 @@ AreMet encoding (demand ∷ rest) = IsMet encoding demand × AreMet encoding res
 -- the demand is not met, and this error reports it
 abbrev pub Fails : Encoding → Demand → ErrorView → Type 0
 Fails encoding (Encode text) error = encoding text (Err error)
-Fails encoding (NewName earlier name) error = Contains earlier name × (error ≡ views.DuplicateName name)
-Fails encoding (Expect kind token) error = (token.kind ≢ kind) × (error ≡ views.ExpectedToken kind token.kind token.value)
+Fails encoding (NewName earlier name) error = Contains earlier name × (error ≡ ErrorView.DuplicateName name)
+Fails encoding (Expect kind token) error = (token.kind ≢ kind) × (error ≡ ErrorView.ExpectedToken kind token.kind token.value)
 
 -- the first demand that is not met fails with this error
 abbrev pub FirstFails : Encoding → List Demand → ErrorView → Type 0
@@ -136,19 +129,19 @@ FirstFails encoding (demand ∷ rest) error =
 
 -- the regular expression that decides the kind of a part
 abbrev pub compared : OptionsView → Matched → List ℕ
-compared options matched.Segment = segment_wildcard options
-compared options (matched.Custom body) = body
-compared options matched.Anything = full_wildcard
+compared options Matched.Segment = segment_wildcard options
+compared options (Matched.Custom body) = body
+compared options Matched.Anything = full_wildcard
 
 -- the kind of a part, by the regular expression that is compared
 abbrev pub kind_of : OptionsView → List ℕ → PartType
 kind_of options regexp =
-    if bytes_eq regexp (segment_wildcard options) then SegmentWildcard
-    else (if bytes_eq regexp full_wildcard then FullWildcard else Regexp)
+    if bytes_eq regexp (segment_wildcard options) then PartType.SegmentWildcard
+    else (if bytes_eq regexp full_wildcard then PartType.FullWildcard else PartType.Regexp)
 
 -- a custom regular expression keeps its text
 abbrev pub value_of : PartType → List ℕ → List ℕ
-value_of Regexp regexp = regexp
+value_of PartType.Regexp regexp = regexp
 value_of kind regexp = []
 
 -- the part of a group
@@ -184,8 +177,8 @@ pub record Reads (text : List ℕ) (options : OptionsView) (encoding : Encoding)
   pub pieces : List Piece
   pub found : TokenView
   pub are_tokens : AreTokens text tokens
-  pub are_pieces : ArePieces options.prefix tokens pieces (endings.Stops found)
-  pub are_met : AreMet encoding (demands (items_of pieces) (endings.Stops found))
+  pub are_pieces : ArePieces options.prefix tokens pieces (Ending.Stops found)
+  pub are_met : AreMet encoding (demands (items_of pieces) (Ending.Stops found))
   pub are_parts : AreParts options encoding (items_of pieces) parts
 
 -- the first demand of the text's pieces that is not met fails with this error
@@ -200,7 +193,7 @@ pub record FailsDemand (text : List ℕ) (options : OptionsView) (encoding : Enc
 -- the text is refused with this error: its first fault, or else its first demand that is not met
 abbrev pub Refuses : List ℕ → OptionsView → Encoding → ErrorView → Type 0
 Refuses text options encoding error =
-    ((fault : FaultView) × (place : ℕ) × IsFault text fault place × (error ≡ views.Tokenizer fault place))
+    ((fault : FaultView) × (place : ℕ) × IsFault text fault place × (error ≡ ErrorView.Tokenizer fault place))
     ⊎ FailsDemand text options encoding error
 
 -- the text means the parts of this vector

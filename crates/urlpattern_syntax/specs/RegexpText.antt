@@ -3,11 +3,8 @@
 use Rattle.std.specs.Prelude.{ℕ, Bool, true, false, not, ◌&&◌, List, [], ◌∷◌, ◌++◌, map, filter, codes, Option, Some, None, if◌then◌else◌}
 use Rattle.std.specs.List.{flat_map}
 use Rattle.urlpattern_syntax.specs.declared.parser.PartModifier.{PartModifier}
-use Rattle.urlpattern_syntax.specs.declared.parser.PartModifier.TheVariants as modifiers
 use Rattle.urlpattern_syntax.specs.declared.parser.PartType.{PartType}
-use Rattle.urlpattern_syntax.specs.declared.parser.PartType.TheVariants.{FixedText, Regexp, SegmentWildcard, FullWildcard}
 use Rattle.urlpattern_syntax.specs.declared.parser.RegexSyntax.{RegexSyntax}
-use Rattle.urlpattern_syntax.specs.declared.parser.RegexSyntax.TheVariants.{Rust, EcmaScript}
 use Rattle.urlpattern_syntax.specs.Options.{OptionsView}
 use Rattle.urlpattern_syntax.specs.Parts.{PartView}
 use Rattle.urlpattern_syntax.specs.Text.{is_among}
@@ -18,8 +15,8 @@ regexp_marks = codes ".+*?^${}()[]|\\"
 
 -- the characters that take a backslash in each syntax
 abbrev pub escaped_marks : RegexSyntax → List ℕ
-escaped_marks Rust = regexp_marks
-escaped_marks EcmaScript = regexp_marks ++ codes "/"
+escaped_marks RegexSyntax.Rust = regexp_marks
+escaped_marks RegexSyntax.EcmaScript = regexp_marks ++ codes "/"
 
 -- a backslash before each of these characters in the text
 unfoldable pub escaped : (marks text : List ℕ) → List ℕ
@@ -41,17 +38,17 @@ full_wildcard = codes ".*"
 
 -- the modifier as it is written
 abbrev pub modifier_text : PartModifier → List ℕ
-modifier_text modifiers.None = []
-modifier_text modifiers.Optional = codes "?"
-modifier_text modifiers.ZeroOrMore = codes "*"
-modifier_text modifiers.OneOrMore = codes "+"
+modifier_text PartModifier.None = []
+modifier_text PartModifier.Optional = codes "?"
+modifier_text PartModifier.ZeroOrMore = codes "*"
+modifier_text PartModifier.OneOrMore = codes "+"
 
 -- what a part's group matches
 abbrev pub matched_by : OptionsView → PartType → (value : List ℕ) → List ℕ
-matched_by options FixedText value = escaped_regexp options value
-matched_by options Regexp value = value
-matched_by options SegmentWildcard value = segment_wildcard options
-matched_by options FullWildcard value = full_wildcard
+matched_by options PartType.FixedText value = escaped_regexp options value
+matched_by options PartType.Regexp value = value
+matched_by options PartType.SegmentWildcard value = segment_wildcard options
+matched_by options PartType.FullWildcard value = full_wildcard
 
 -- brackets that capture, and brackets that do not
 abbrev pub captured : List ℕ → List ℕ
@@ -62,15 +59,15 @@ grouped text = codes "(?:" ++ text ++ codes ")"
 
 -- a fixed text, by its modifier
 abbrev pub fixed_regexp : PartModifier → List ℕ → List ℕ
-fixed_regexp modifiers.None text = text
+fixed_regexp PartModifier.None text = text
 fixed_regexp modifier text = grouped text ++ modifier_text modifier
 
 -- a group with neither prefix nor suffix, by its modifier
 abbrev pub bare_regexp : PartModifier → List ℕ → List ℕ
-bare_regexp modifiers.None text = captured text
-bare_regexp modifiers.Optional text = captured text ++ codes "?"
-bare_regexp modifiers.ZeroOrMore text = captured (grouped text ++ codes "*")
-bare_regexp modifiers.OneOrMore text = captured (grouped text ++ codes "+")
+bare_regexp PartModifier.None text = captured text
+bare_regexp PartModifier.Optional text = captured text ++ codes "?"
+bare_regexp PartModifier.ZeroOrMore text = captured (grouped text ++ codes "*")
+bare_regexp PartModifier.OneOrMore text = captured (grouped text ++ codes "+")
 
 -- one or more copies with suffix and prefix between them, all captured but for the first prefix and the last suffix
 abbrev pub repeated_regexp : (prefix text suffix : List ℕ) → List ℕ
@@ -79,26 +76,26 @@ repeated_regexp prefix text suffix =
 
 -- a group with a prefix or a suffix, by its modifier
 abbrev pub affixed_regexp : PartModifier → (prefix text suffix : List ℕ) → List ℕ
-affixed_regexp modifiers.None prefix text suffix = grouped (prefix ++ captured text ++ suffix)
-affixed_regexp modifiers.Optional prefix text suffix = grouped (prefix ++ captured text ++ suffix) ++ codes "?"
-affixed_regexp modifiers.OneOrMore prefix text suffix = repeated_regexp prefix text suffix
-affixed_regexp modifiers.ZeroOrMore prefix text suffix = repeated_regexp prefix text suffix ++ codes "?"
+affixed_regexp PartModifier.None prefix text suffix = grouped (prefix ++ captured text ++ suffix)
+affixed_regexp PartModifier.Optional prefix text suffix = grouped (prefix ++ captured text ++ suffix) ++ codes "?"
+affixed_regexp PartModifier.OneOrMore prefix text suffix = repeated_regexp prefix text suffix
+affixed_regexp PartModifier.ZeroOrMore prefix text suffix = repeated_regexp prefix text suffix ++ codes "?"
 
 abbrev pub is_empty : List ℕ → Bool
 is_empty [] = true
 is_empty (c ∷ text) = false
 
 abbrev pub is_fixed_text : PartType → Bool
-is_fixed_text FixedText = true
+is_fixed_text PartType.FixedText = true
 is_fixed_text kind = false
 
 abbrev pub IsWildcard : PartType → Type 0
-IsWildcard SegmentWildcard = Unit {0}
-IsWildcard FullWildcard = Unit {0}
+IsWildcard PartType.SegmentWildcard = Unit {0}
+IsWildcard PartType.FullWildcard = Unit {0}
 IsWildcard kind = ⊥
 
 abbrev pub is_unmodified : PartModifier → Bool
-is_unmodified modifiers.None = true
+is_unmodified PartModifier.None = true
 is_unmodified modifier = false
 
 -- a fixed text without modifier

@@ -3,15 +3,11 @@ use Rattle.std.specs.Prelude.{◌≡◌, ℕ, ◌<◌, ◌≤◌, ◌⊎◌, Boo
 use Rattle.std.specs.List.{list_all}
 use Rattle.std.specs.Str.{chars}
 use Rattle.urlpattern_syntax.specs.declared.error.Error.{Error}
-use Rattle.urlpattern_syntax.specs.declared.error.Error.TheVariants as errors
 use Rattle.urlpattern_syntax.specs.declared.error.RegexFault.{RegexFault}
-use Rattle.urlpattern_syntax.specs.declared.error.RegexFault.TheVariants as regex_faults
 use Rattle.urlpattern_syntax.specs.declared.error.TokenizerError.{TokenizerError}
-use Rattle.urlpattern_syntax.specs.declared.error.TokenizerError.TheVariants as faults
 use Rattle.urlpattern_syntax.specs.declared.tokenizer.lexemes.Lexeme.{Lexeme}
 use Rattle.urlpattern_syntax.specs.declared.tokenizer.Token.{Token}
 use Rattle.urlpattern_syntax.specs.declared.tokenizer.TokenizePolicy.{TokenizePolicy}
-use Rattle.urlpattern_syntax.specs.declared.tokenizer.TokenizePolicy.TheVariants as policies
 use Rattle.urlpattern_syntax.specs.declared.tokenizer.TokenType.{TokenType}
 use Rattle.urlpattern_syntax.specs.declared.tokenizer.TokenType.TheVariants.{Asterisk, Char, Close, End, EscapedChar, InvalidChar, Name, Open, OtherModifier, Regexp}
 use Rattle.urlpattern_syntax.specs.Text.{byte_len, BeginsAt, BeginsWith, is_among, is_name_start, is_name_part}
@@ -156,17 +152,17 @@ pub data FaultView : Type 0 where
 
 -- a reason in words
 abbrev pub regex_fault_text : RegexFault → List ℕ
-regex_fault_text regex_faults.BadCharacter = reason NotAscii
-regex_fault_text regex_faults.BadEscape = reason EscapedNotAscii
-regex_fault_text regex_faults.NestedGroupNotClosed = reason GroupAtEnd
-regex_fault_text regex_faults.NestedGroupCaptures = reason CapturingGroup
-regex_fault_text regex_faults.MissingClose = reason NotClosed
-regex_fault_text regex_faults.Empty = reason NoBody
+regex_fault_text RegexFault.BadCharacter = reason NotAscii
+regex_fault_text RegexFault.BadEscape = reason EscapedNotAscii
+regex_fault_text RegexFault.NestedGroupNotClosed = reason GroupAtEnd
+regex_fault_text RegexFault.NestedGroupCaptures = reason CapturingGroup
+regex_fault_text RegexFault.MissingClose = reason NotClosed
+regex_fault_text RegexFault.Empty = reason NoBody
 
 abbrev pub fault_view : TokenizerError → FaultView
-fault_view faults.IncompleteEscapeCode = IncompleteEscapeCode
-fault_view faults.InvalidName = InvalidName
-fault_view (faults.InvalidRegex fault) = InvalidRegex (regex_fault_text fault)
+fault_view TokenizerError.IncompleteEscapeCode = IncompleteEscapeCode
+fault_view TokenizerError.InvalidName = InvalidName
+fault_view (TokenizerError.InvalidRegex fault) = InvalidRegex (regex_fault_text fault)
 
 -- a token would begin where the text begins, and there is none for this reason
 abbrev pub IsFaultAt : List ℕ → FaultView → Type 0
@@ -235,8 +231,8 @@ pub record AreLenientTokens (text : List ℕ) (tokens : List TokenView) : Type 0
 
 -- These are the tokens of the text under the policy.
 abbrev pub AreTokensUnder : TokenizePolicy → (text : List ℕ) → List TokenView → Type 0
-AreTokensUnder policies.Strict text tokens = AreTokens text tokens
-AreTokensUnder policies.Lenient text tokens = AreLenientTokens text tokens
+AreTokensUnder TokenizePolicy.Strict text tokens = AreTokens text tokens
+AreTokensUnder TokenizePolicy.Lenient text tokens = AreLenientTokens text tokens
 
 -- ---- what calls answer
 
@@ -257,8 +253,8 @@ Lexes text result = MatchResult result
 
 -- the same under the policy: under the lenient one a character in a fault's place is a token
 abbrev pub LexesUnder : TokenizePolicy → List ℕ → Result Lexeme TokenizerError → Type 0
-LexesUnder policies.Strict text result = Lexes text result
-LexesUnder policies.Lenient text result = MatchResult result
+LexesUnder TokenizePolicy.Strict text result = Lexes text result
+LexesUnder TokenizePolicy.Lenient text result = MatchResult result
     (λ lexeme. IsLexed text lexeme.kind (chars lexeme.value.now) (chars lexeme.rest.now)
     ⊎ IsInvalidChar text lexeme.kind (chars lexeme.value.now) (chars lexeme.rest.now))
     (λ fault. ⊥)
@@ -280,11 +276,11 @@ LacksQuestionMark text (InvalidRegex reported) =
 
 -- the error reports the first fault of the text, or that memory ran out
 abbrev pub ReportsFault : List ℕ → Error → Type 0
-ReportsFault text (errors.Tokenizer fault place) = IsFault text (fault_view fault) place
-ReportsFault text errors.OutOfMemory = Unit {0}
+ReportsFault text (Error.Tokenizer fault place) = IsFault text (fault_view fault) place
+ReportsFault text Error.OutOfMemory = Unit {0}
 ReportsFault text other = ⊥
 
 -- the same under the policy: the lenient one reports no fault
 abbrev pub ReportsFaultUnder : TokenizePolicy → List ℕ → Error → Type 0
-ReportsFaultUnder policies.Strict text error = ReportsFault text error
-ReportsFaultUnder policies.Lenient text error = error ≡ errors.OutOfMemory
+ReportsFaultUnder TokenizePolicy.Strict text error = ReportsFault text error
+ReportsFaultUnder TokenizePolicy.Lenient text error = error ≡ Error.OutOfMemory

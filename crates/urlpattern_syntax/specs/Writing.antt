@@ -9,7 +9,6 @@ use Rattle.urlpattern_syntax.specs.Text.{byte_len, option_text, text_of}
 use Rattle.urlpattern_syntax.specs.declared.writing.Comparison.{Comparison}
 use Rattle.urlpattern_syntax.specs.declared.escape.Escaped.{Escaped}
 use Rattle.urlpattern_syntax.specs.declared.escape.Marks.{Marks}
-use Rattle.urlpattern_syntax.specs.declared.escape.Marks.TheVariants.{Pattern, Regexp}
 
 -- the bytes of this text were added to those that were counted, unless that is the largest number or more
 pub record Counts (before : ℕ) (piece : List ℕ) (after : ℕ) : Type 0 where
@@ -36,8 +35,8 @@ Compares (Some text) piece None = (rest : List ℕ) → ¬ (text ≡ piece ++ re
 
 -- the characters that take a backslash
 abbrev pub marks_of : Marks → List ℕ
-marks_of (Regexp syntax) = escaped_marks syntax
-marks_of Pattern = pattern_marks
+marks_of (Marks.Regexp syntax) = escaped_marks syntax
+marks_of Marks.Pattern = pattern_marks
 
 -- the text with its backslashes
 unfoldable pub escaped_text : Escaped → List ℕ
