@@ -5,7 +5,6 @@ use Rattle.std.specs.Prelude.{◌≡◌, ◌≢◌, ℕ, ◌^◌, ◌≤◌, ◌
 use Rattle.std.specs.Borrow.{Bor}
 use Rattle.std.specs.Char.{is_ascii_hexdigit, to_ascii_lowercase}
 use Rattle.std.specs.List.{list_all, starts_with}
-use Rattle.std.specs.Str.{chars}
 use Rattle.std.specs.declared.alloc.Global.{Global}
 use Rattle.url.specs.declared.error.ParseError.{ParseError}
 use Rattle.url.specs.declared.error.ParseError.TheVariants.{InvalidDomainCharacter, InvalidIpv6Address, InvalidPort, Overflow, OutOfMemory}
@@ -18,9 +17,8 @@ use Rattle.url.specs.Quirks as quirks
 use Rattle.url.specs.Setters.{set_fragment, set_password, set_path, set_query, set_username}
 use Rattle.urlpattern_canonical.specs.declared.canonicalize_and_process.ProcessType.{ProcessType}
 use Rattle.urlpattern_syntax.specs.PatternText.{escaped_pattern}
-use Rattle.urlpattern_syntax.specs.declared.error.Error.{Error}
-use Rattle.urlpattern_syntax.specs.Errors.{ErrorView, error_view, MemoryOr}
-use Rattle.urlpattern_syntax.specs.Text.{begins_with, is_among, option_text, text_of}
+use Rattle.urlpattern_syntax.specs.Errors.{Error, ErrorView, MemoryOr, error_view}
+use Rattle.urlpattern_syntax.specs.Text.{begins_with, chars, is_among, option_text, text_of}
 
 -- ---- what `url` is asked: each question is about the bytes of a value that is not empty
 

@@ -6,9 +6,7 @@ use Rattle.urlpattern_compiled.specs.declared.matcher.InnerMatcher.{InnerMatcher
 use Rattle.urlpattern_compiled.specs.declared.matcher.Matcher.{Matcher}
 use Rattle.urlpattern_compiled.specs.declared.pattern.UrlPattern.{UrlPattern}
 use Rattle.urlpattern_compiled.specs.declared.pattern.UrlPatternComponent.{UrlPatternComponent}
-use Rattle.urlpattern_syntax.specs.Eight.{at, each}
-use Rattle.urlpattern_syntax.specs.declared.eight.ComponentName.{ComponentName}
-use Rattle.urlpattern_syntax.specs.declared.eight.Eight.{Eight}
+use Rattle.urlpattern_syntax.specs.Eight.{ComponentName, Eight, at, each}
 
 -- ---- what a pattern is
 

@@ -2,21 +2,17 @@
 use Rattle.std.specs.Prelude.{◌≡◌, ◌⊎◌, ℕ, Bool, true, false, List, map, codes, Option, Some, None, Result, Ok, Err, IsTrue, if◌then◌else◌}
 use Rattle.std.specs.Borrow.{Bor}
 use Rattle.std.specs.List.{list_any}
-use Rattle.std.specs.Str.{chars}
 use Rattle.urlpattern_core.specs.declared.component.Component.{Component}
 use Rattle.urlpattern_core.specs.declared.regexp.RegExp.{Ghosts as Engine}
 use Rattle.urlpattern_core.specs.Matchers.{engine_view, matcher_view}
 use Rattle.urlpattern_meaning.specs.Matching.{AnswersByMeaning, IsMadeOf, MatcherView}
 use Rattle.urlpattern_meaning.specs.Printing.{printed}
-use Rattle.urlpattern_syntax.specs.declared.error.Error.{Error}
-use Rattle.urlpattern_syntax.specs.declared.parser.PartType.{PartType}
-use Rattle.urlpattern_syntax.specs.declared.parser.RegexSyntax.{RegexSyntax}
-use Rattle.urlpattern_syntax.specs.Errors.{ErrorView, MemoryOr}
-use Rattle.urlpattern_syntax.specs.Options.{OptionsView}
-use Rattle.urlpattern_syntax.specs.Parts.{PartView}
+use Rattle.urlpattern_syntax.specs.Errors.{Error, ErrorView, MemoryOr}
+use Rattle.urlpattern_syntax.specs.Options.{OptionsView, RegexSyntax}
+use Rattle.urlpattern_syntax.specs.Parts.{PartType, PartView}
 use Rattle.urlpattern_syntax.specs.Reading.{Encoding, Reads, Refuses}
 use Rattle.urlpattern_syntax.specs.RegexpText.{group_names, regexp_text}
-use Rattle.urlpattern_syntax.specs.Text.{text_of}
+use Rattle.urlpattern_syntax.specs.Text.{chars, text_of}
 
 -- A `Component`, with its texts.
 pub record ComponentView (E : Type 0) : Type 0 where

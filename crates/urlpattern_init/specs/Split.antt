@@ -5,10 +5,9 @@ use Rattle.std.specs.Option.{option_map_or}
 use Rattle.std.specs.Str.{bytes_eq}
 use Rattle.urlpattern_init.specs.declared.constructor_parser.sections.Section.{Section}
 use Rattle.urlpattern_init.specs.declared.constructor_parser.sections.Section.TheVariants.{Protocol, Authority, Username, Password, Hostname, Port, Pathname, Search, Hash}
-use Rattle.urlpattern_syntax.specs.declared.tokenizer.TokenType.{TokenType}
 use Rattle.urlpattern_syntax.specs.declared.tokenizer.TokenType.TheVariants.{Asterisk, Char, Close, End, EscapedChar, InvalidChar, Name, Open, Regexp}
 use Rattle.urlpattern_syntax.specs.Text.{byte_len}
-use Rattle.urlpattern_syntax.specs.Tokens.{AreLenientTokens, TokenView}
+use Rattle.urlpattern_syntax.specs.Tokens.{AreLenientTokens, TokenType, TokenView}
 use Rattle.urlpattern_syntax.specs.Eight.{Values}
 
 -- ---- the token at a position

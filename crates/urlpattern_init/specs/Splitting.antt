@@ -1,6 +1,5 @@
 -- The splitting of a constructor string: its tokens, what may follow each component, and how many tokens are looked at.
 use Rattle.std.specs.Prelude.{◌≡◌, ℕ, ◌+◌, ◌-◌, ◌*◌, ◌<◌, ◌≤◌, ◌||◌, Bool, true, false, List, length, None, Option, Result, String, option_map, IfOk, IsTrue}
-use Rattle.std.specs.Str.{chars}
 use Rattle.std.specs.declared.alloc.Global.{Global}
 use Rattle.urlpattern_init.specs.Split.{ends_at, is_colon_sign, is_hash_sign, is_search_sign, is_seen, is_slash_sign}
 use Rattle.urlpattern_init.specs.declared.constructor_parser.sections.Position.{Position}
@@ -9,10 +8,9 @@ use Rattle.urlpattern_init.specs.declared.constructor_parser.tokens.Source.{Sour
 use Rattle.urlpattern_init.specs.declared.constructor_parser.components.Split.{Split}
 use Rattle.urlpattern_syntax.specs.Parsing.{views}
 use Rattle.urlpattern_syntax.specs.Tokens.{AreLenientTokens, TokenView}
-use Rattle.urlpattern_syntax.specs.declared.error.Error.{Error}
-use Rattle.urlpattern_syntax.specs.Errors.{OnlyOutOfMemory}
+use Rattle.urlpattern_syntax.specs.Errors.{Error, OnlyOutOfMemory}
 use Rattle.urlpattern_syntax.specs.Eight.{Values, at, each}
-use Rattle.urlpattern_syntax.specs.Text.{option_text, text_of}
+use Rattle.urlpattern_syntax.specs.Text.{chars, option_text, text_of}
 
 -- the text of a source, and its tokens
 abbrev pub text_of_source : Source → List ℕ

@@ -1,12 +1,9 @@
 -- Strict tokens that are read one by one, and the place in the text that the reading has reached.
 use Rattle.std.specs.Prelude.{◌≡◌, ℕ, ◌⊎◌, ◌&&◌, not, Bool, IsTrue, List, [], ◌∷◌, ◌++◌}
 use Rattle.std.specs.List.{list_all}
-use Rattle.std.specs.Str.{chars}
 use Rattle.urlpattern_syntax.specs.declared.tokenizer.cursors.Cursor.{Cursor}
-use Rattle.urlpattern_syntax.specs.declared.tokenizer.Token.{Token}
-use Rattle.urlpattern_syntax.specs.declared.tokenizer.TokenType.{TokenType}
-use Rattle.urlpattern_syntax.specs.Text.{BeginsWith, is_among}
-use Rattle.urlpattern_syntax.specs.Tokens.{IsCut, IsStrictCut, IsTokenOf, Skips, TokenView, end_of, is_ignored, marks, token_view}
+use Rattle.urlpattern_syntax.specs.Text.{BeginsWith, chars, is_among}
+use Rattle.urlpattern_syntax.specs.Tokens.{IsCut, IsStrictCut, IsTokenOf, Skips, Token, TokenType, TokenView, end_of, is_ignored, marks, token_view}
 
 -- the text that is read
 abbrev pub cursor_text : Cursor → List ℕ

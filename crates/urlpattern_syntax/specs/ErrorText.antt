@@ -1,11 +1,10 @@
 -- The texts of the errors, as the bytes that are printed.
 use Rattle.std.specs.Prelude.{ℕ, List, ◌++◌, codes, decimal, encode_utf8_all, Option, Some, None}
 use Rattle.urlpattern_syntax.specs.declared.error.ParserError.{ParserError}
-use Rattle.urlpattern_syntax.specs.declared.tokenizer.TokenType.{TokenType}
 use Rattle.urlpattern_syntax.specs.declared.tokenizer.TokenType.TheVariants.{Asterisk, Char, Close, End, EscapedChar, InvalidChar, Name, Open, OtherModifier, Regexp}
 use Rattle.urlpattern_syntax.specs.Errors.{ErrorView}
 use Rattle.urlpattern_syntax.specs.Text.{text_of}
-use Rattle.urlpattern_syntax.specs.Tokens.{FaultView}
+use Rattle.urlpattern_syntax.specs.Tokens.{FaultView, TokenType}
 
 -- a kind of token has its name alone
 abbrev pub kind_name : TokenType → List ℕ

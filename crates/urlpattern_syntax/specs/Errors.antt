@@ -1,12 +1,11 @@
 -- The errors: what a clause sees of them.
 use Rattle.std.specs.Prelude.{◌≡◌, ◌⊎◌, ℕ, List, Result, IsOkUnless}
 use Rattle.url.specs.declared.error.ParseError.{ParseError}
-use Rattle.urlpattern_syntax.specs.declared.error.Error.{Error}
+pub use Rattle.urlpattern_syntax.specs.declared.error.Error.{Error}
 use Rattle.urlpattern_syntax.specs.declared.error.ParserError.{ParserError}
 use Rattle.urlpattern_syntax.specs.declared.error.RegExpError.{RegExpError}
-use Rattle.urlpattern_syntax.specs.declared.tokenizer.TokenType.{TokenType}
 use Rattle.urlpattern_syntax.specs.Text.{text_of}
-use Rattle.urlpattern_syntax.specs.Tokens.{FaultView, fault_view}
+use Rattle.urlpattern_syntax.specs.Tokens.{FaultView, TokenType, fault_view}
 
 -- An `Error`, with its texts.
 pub data ErrorView : Type 0 where

@@ -1,7 +1,7 @@
 -- The options of a component: what a clause sees of them.
 use Rattle.std.specs.Prelude.{ℕ, Bool, false, List, [], Option, None, Some, codes}
 use Rattle.url.specs.Ascii.{dot, slash}
-use Rattle.urlpattern_syntax.specs.declared.parser.RegexSyntax.{RegexSyntax}
+pub use Rattle.urlpattern_syntax.specs.declared.parser.RegexSyntax.{RegexSyntax}
 use Rattle.urlpattern_syntax.specs.declared.parser.Options.{Options}
 use Rattle.urlpattern_syntax.specs.Text.{text_of}
 

@@ -1,25 +1,20 @@
 -- What the parser reads, and what it adds to its list of parts, under its own options and by its own callback.
 use Rattle.std.specs.Prelude.{◌≡◌, ℕ, List, [], ◌∷◌, ◌++◌, Contains, Option}
 use Rattle.std.specs.Borrow.{Bor}
-use Rattle.std.specs.Str.{chars}
-use Rattle.urlpattern_syntax.specs.declared.error.Error.{Error}
-use Rattle.urlpattern_syntax.specs.declared.parser.Part.{Part}
 use Rattle.urlpattern_syntax.specs.declared.parser.part_list.PartList.{PartList}
-use Rattle.urlpattern_syntax.specs.declared.parser.PartModifier.{PartModifier}
 use Rattle.urlpattern_syntax.specs.declared.parser.PatternParser.{PatternParser}
 use Rattle.urlpattern_syntax.specs.declared.parser.pieces.Matched.{Matched}
 use Rattle.urlpattern_syntax.specs.declared.parser.pieces.Piece.{Piece}
 use Rattle.urlpattern_syntax.specs.declared.parser.pieces.Placeholder.{Placeholder}
-use Rattle.urlpattern_syntax.specs.declared.tokenizer.Token.{Token}
 use Rattle.urlpattern_syntax.specs.declared.tokenizer.TokenType.TheVariants.{End}
-use Rattle.urlpattern_syntax.specs.Errors.{ErrorView}
+use Rattle.urlpattern_syntax.specs.Errors.{Error, ErrorView}
 use Rattle.urlpattern_syntax.specs.Options.{OptionsView, options_view}
 use Rattle.urlpattern_syntax.specs.Parsing.{AddsItem, AddsParts, FailsItem, FailsItems, KnowsNames, group_item, matched_view, part_list_view, pending_items, piece_view}
-use Rattle.urlpattern_syntax.specs.Parts.{parts_view}
+use Rattle.urlpattern_syntax.specs.Parts.{Part, PartModifier, parts_view}
 use Rattle.urlpattern_syntax.specs.Reading.{Calls, Demand, Encoding, Expect, Fixed, Item, Reads, Refuses, compared, encode_fixed, encoding_by, item, name_or}
 use Rattle.urlpattern_syntax.specs.RegexpText.{group_names}
-use Rattle.urlpattern_syntax.specs.Tokens.{token_view}
-use Rattle.urlpattern_syntax.specs.Text.{option_text}
+use Rattle.urlpattern_syntax.specs.Tokens.{Token, token_view}
+use Rattle.urlpattern_syntax.specs.Text.{chars, option_text}
 
 -- ---- the parser
 

@@ -5,18 +5,13 @@ use Rattle.std.specs.Borrow.{Bor}
 use Rattle.std.specs.Fn.{FnReturnsAt}
 use Rattle.std.specs.declared.alloc.Global.{Global}
 use Rattle.std.specs.declared.vec.Vec.{Vec}
-use Rattle.urlpattern_syntax.specs.declared.error.Error.{Error}
-use Rattle.urlpattern_syntax.specs.declared.parser.Part.{Part}
-use Rattle.urlpattern_syntax.specs.declared.parser.PartModifier.{PartModifier}
-use Rattle.urlpattern_syntax.specs.declared.parser.PartType.{PartType}
-use Rattle.urlpattern_syntax.specs.declared.tokenizer.TokenType.{TokenType}
-use Rattle.urlpattern_syntax.specs.Errors.{ErrorView, error_view}
+use Rattle.urlpattern_syntax.specs.Errors.{Error, ErrorView, error_view}
 use Rattle.urlpattern_syntax.specs.Options.{OptionsView}
-use Rattle.urlpattern_syntax.specs.Parts.{PartView, fixed_text, parts_view}
+use Rattle.urlpattern_syntax.specs.Parts.{Part, PartModifier, PartType, PartView, fixed_text, parts_view}
 use Rattle.urlpattern_syntax.specs.Pieces.{Piece, Matched, Ending, ArePieces}
 use Rattle.urlpattern_syntax.specs.RegexpText.{segment_wildcard, full_wildcard}
 use Rattle.urlpattern_syntax.specs.Text.{text_of}
-use Rattle.urlpattern_syntax.specs.Tokens.{TokenView, FaultView, AreTokens, IsFault}
+use Rattle.urlpattern_syntax.specs.Tokens.{AreTokens, FaultView, IsFault, TokenType, TokenView}
 
 -- ---- what pieces stand for
 

@@ -2,11 +2,8 @@
 -- section "Converting part lists to regular expressions".
 use Rattle.std.specs.Prelude.{ℕ, Bool, true, false, not, ◌&&◌, List, [], ◌∷◌, ◌++◌, map, filter, codes, Option, Some, None, if◌then◌else◌}
 use Rattle.std.specs.List.{flat_map}
-use Rattle.urlpattern_syntax.specs.declared.parser.PartModifier.{PartModifier}
-use Rattle.urlpattern_syntax.specs.declared.parser.PartType.{PartType}
-use Rattle.urlpattern_syntax.specs.declared.parser.RegexSyntax.{RegexSyntax}
-use Rattle.urlpattern_syntax.specs.Options.{OptionsView}
-use Rattle.urlpattern_syntax.specs.Parts.{PartView}
+use Rattle.urlpattern_syntax.specs.Options.{OptionsView, RegexSyntax}
+use Rattle.urlpattern_syntax.specs.Parts.{PartModifier, PartType, PartView}
 use Rattle.urlpattern_syntax.specs.Text.{is_among}
 
 -- the characters that mean more than themselves in a regular expression

@@ -1,16 +1,15 @@
 -- The tokens of a pattern text, after the URLPattern Standard, section "Tokenizing".
 use Rattle.std.specs.Prelude.{◌≡◌, ℕ, ◌<◌, ◌≤◌, ◌⊎◌, Bool, List, [], ◌∷◌, ◌++◌, codes, IsTrue, MatchResult, Result}
 use Rattle.std.specs.List.{list_all}
-use Rattle.std.specs.Str.{chars}
 use Rattle.urlpattern_syntax.specs.declared.error.Error.{Error}
 use Rattle.urlpattern_syntax.specs.declared.error.RegexFault.{RegexFault}
 use Rattle.urlpattern_syntax.specs.declared.error.TokenizerError.{TokenizerError}
 use Rattle.urlpattern_syntax.specs.declared.tokenizer.lexemes.Lexeme.{Lexeme}
-use Rattle.urlpattern_syntax.specs.declared.tokenizer.Token.{Token}
+pub use Rattle.urlpattern_syntax.specs.declared.tokenizer.Token.{Token}
 use Rattle.urlpattern_syntax.specs.declared.tokenizer.TokenizePolicy.{TokenizePolicy}
-use Rattle.urlpattern_syntax.specs.declared.tokenizer.TokenType.{TokenType}
+pub use Rattle.urlpattern_syntax.specs.declared.tokenizer.TokenType.{TokenType}
 use Rattle.urlpattern_syntax.specs.declared.tokenizer.TokenType.TheVariants.{Asterisk, Char, Close, End, EscapedChar, InvalidChar, Name, Open, OtherModifier, Regexp}
-use Rattle.urlpattern_syntax.specs.Text.{byte_len, BeginsAt, BeginsWith, is_among, is_name_start, is_name_part}
+use Rattle.urlpattern_syntax.specs.Text.{BeginsAt, BeginsWith, byte_len, chars, is_among, is_name_part, is_name_start}
 
 -- A token: its kind, the byte where its spelling begins, and its value.
 pub record TokenView : Type 0 where

@@ -1,11 +1,10 @@
 -- Texts that are written piece by piece, into memory that was reserved at once.
 use Rattle.std.specs.Prelude.{◌≡◌, ◌+◌, ◌<◌, ◌≤◌, ◌++◌, ℕ, List, Option, Some, None, String, string_capacity, string_len}
 use Rattle.std.below.core.specs.declared.int.usize.TheConstants.{MAX}
-use Rattle.std.specs.Str.{chars}
 use Rattle.std.specs.declared.alloc.Global.{Global}
 use Rattle.urlpattern_syntax.specs.PatternText.{pattern_marks}
 use Rattle.urlpattern_syntax.specs.RegexpText.{escaped, escaped_marks}
-use Rattle.urlpattern_syntax.specs.Text.{byte_len, option_text, text_of}
+use Rattle.urlpattern_syntax.specs.Text.{byte_len, chars, option_text, text_of}
 use Rattle.urlpattern_syntax.specs.declared.writing.Comparison.{Comparison}
 use Rattle.urlpattern_syntax.specs.declared.escape.Escaped.{Escaped}
 use Rattle.urlpattern_syntax.specs.declared.escape.Marks.{Marks}
