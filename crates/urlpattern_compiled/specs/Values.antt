@@ -2,10 +2,8 @@
 use Rattle.std.specs.Prelude.{ℕ, Bool, List, Option, map, IfSome, ⊤, String, string_bytes}
 use Rattle.std.specs.Char.{IsScalar}
 use Rattle.std.specs.declared.alloc.Global.{Global}
-use Rattle.urlpattern_compiled.specs.declared.matcher.InnerMatcher.{InnerMatcher}
-use Rattle.urlpattern_compiled.specs.declared.matcher.Matcher.{Matcher}
-use Rattle.urlpattern_compiled.specs.declared.pattern.UrlPattern.{UrlPattern}
-use Rattle.urlpattern_compiled.specs.declared.pattern.UrlPatternComponent.{UrlPatternComponent}
+use Rattle.urlpattern_compiled.specs.declared.matcher.{InnerMatcher.InnerMatcher, Matcher.Matcher}
+use Rattle.urlpattern_compiled.specs.declared.pattern.{UrlPattern.UrlPattern, UrlPatternComponent.UrlPatternComponent}
 use Rattle.urlpattern_syntax.specs.Eight.{ComponentName, Eight, at, each}
 
 -- ---- what a pattern is

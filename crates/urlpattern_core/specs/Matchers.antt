@@ -1,7 +1,6 @@
 -- Matchers: what a clause sees of them.
 use Rattle.std.specs.Prelude.{◌≡◌, ℕ, Bool, true, false, List, [], Option, Some, None, Result, Ok, Err, option_to_list, ◌++◌, IfOk}
-use Rattle.urlpattern_core.specs.declared.matcher.InnerMatcher.{InnerMatcher}
-use Rattle.urlpattern_core.specs.declared.matcher.Matcher.{Matcher}
+use Rattle.urlpattern_core.specs.declared.matcher.{InnerMatcher.InnerMatcher, Matcher.Matcher}
 use Rattle.urlpattern_meaning.specs.Matching.{ArePeeled, BeginsPlain, EndsPlain, IsRemoved, InnerView, IsSame, Literal, MatcherView, RegExp, SingleCapture, end_text}
 use Rattle.urlpattern_syntax.specs.Errors.{Error, ErrorView, error_view}
 use Rattle.urlpattern_syntax.specs.Options.{OptionsView}

@@ -2,9 +2,7 @@
 use Rattle.std.specs.Prelude.{chars, option_map}
 use Rattle.urlpattern_index.specs.FixedTexts.{AddressTexts, FixedPath, FixedTexts}
 use Rattle.urlpattern_index.specs.FixedTexts as paths
-use Rattle.urlpattern_index.specs.declared.fixed.Address.{Address}
-use Rattle.urlpattern_index.specs.declared.fixed.Path.{Path}
-use Rattle.urlpattern_index.specs.declared.fixed.Fixed.{Fixed}
+use Rattle.urlpattern_index.specs.declared.fixed.{Address.Address, Path.Path, Fixed.Fixed}
 
 abbrev pub fixed_path : Path → FixedPath
 fixed_path (Path.BeginsWith front) = paths.BeginsWith (chars front.now)

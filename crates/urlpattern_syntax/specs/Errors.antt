@@ -2,8 +2,7 @@
 use Rattle.std.specs.Prelude.{◌≡◌, ◌⊎◌, ℕ, List, Result, IsOkUnless}
 use Rattle.url.specs.declared.error.ParseError.{ParseError}
 pub use Rattle.urlpattern_syntax.specs.declared.error.Error.{Error}
-use Rattle.urlpattern_syntax.specs.declared.error.ParserError.{ParserError}
-use Rattle.urlpattern_syntax.specs.declared.error.RegExpError.{RegExpError}
+use Rattle.urlpattern_syntax.specs.declared.error.{ParserError.ParserError, RegExpError.RegExpError}
 use Rattle.urlpattern_syntax.specs.Text.{text_of}
 use Rattle.urlpattern_syntax.specs.Tokens.{FaultView, TokenType, fault_view}
 

@@ -2,11 +2,7 @@
 use Rattle.std.specs.Prelude.{◌≡◌, ◌≢◌, ◌<◌, ◌≤◌, ◌+◌, ℕ, ◌⊎◌, List, [], ◌∷◌, ◌++◌, length, map, codes, decimal, Contains, IsTrue, ◌^◌, Option, Some, None, ◌↔◌}
 use Rattle.std.specs.Str.{chars, IsUtf8}
 use Rattle.std.specs.Borrow.{Bor}
-use Rattle.urlpattern_syntax.specs.declared.parser.pieces.Matched.{Matched as MatchedValue}
-use Rattle.urlpattern_syntax.specs.declared.parser.pieces.Next.{Next}
-use Rattle.urlpattern_syntax.specs.declared.parser.pieces.Piece.{Piece as PieceValue}
-use Rattle.urlpattern_syntax.specs.declared.parser.pieces.Placeholder.{Placeholder as PlaceholderValue}
-use Rattle.urlpattern_syntax.specs.declared.parser.pieces.Reader.{Reader}
+use Rattle.urlpattern_syntax.specs.declared.parser.pieces.{Matched.Matched as MatchedValue, Next.Next, Piece.Piece as PieceValue, Placeholder.Placeholder as PlaceholderValue, Reader.Reader}
 use Rattle.urlpattern_syntax.specs.declared.tokenizer.TokenType.TheVariants.{Close, Name, OtherModifier, End}
 use Rattle.urlpattern_syntax.specs.declared.parser.part_list.PartList.{PartList}
 use Rattle.urlpattern_syntax.specs.Cursors.{AreTokensAfter, IsPlace, cursor_rest, cursor_text, tokens_left}

@@ -1,8 +1,6 @@
 -- The parts of a pattern: what a clause sees of them.
 use Rattle.std.specs.Prelude.{ℕ, List, [], map}
-pub use Rattle.urlpattern_syntax.specs.declared.parser.Part.{Part}
-pub use Rattle.urlpattern_syntax.specs.declared.parser.PartModifier.{PartModifier}
-pub use Rattle.urlpattern_syntax.specs.declared.parser.PartType.{PartType}
+pub use Rattle.urlpattern_syntax.specs.declared.parser.{Part.Part, PartModifier.PartModifier, PartType.PartType}
 use Rattle.urlpattern_syntax.specs.Text.{text_of}
 
 -- A part, with its texts.

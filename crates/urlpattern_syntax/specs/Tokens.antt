@@ -1,13 +1,10 @@
 -- The tokens of a pattern text, after the URLPattern Standard, section "Tokenizing".
 use Rattle.std.specs.Prelude.{◌≡◌, ℕ, ◌<◌, ◌≤◌, ◌⊎◌, Bool, List, [], ◌∷◌, ◌++◌, codes, IsTrue, MatchResult, Result}
 use Rattle.std.specs.List.{list_all}
-use Rattle.urlpattern_syntax.specs.declared.error.Error.{Error}
-use Rattle.urlpattern_syntax.specs.declared.error.RegexFault.{RegexFault}
-use Rattle.urlpattern_syntax.specs.declared.error.TokenizerError.{TokenizerError}
+use Rattle.urlpattern_syntax.specs.declared.error.{Error.Error, RegexFault.RegexFault, TokenizerError.TokenizerError}
 use Rattle.urlpattern_syntax.specs.declared.tokenizer.lexemes.Lexeme.{Lexeme}
-pub use Rattle.urlpattern_syntax.specs.declared.tokenizer.Token.{Token}
+pub use Rattle.urlpattern_syntax.specs.declared.tokenizer.{Token.Token, TokenType.TokenType}
 use Rattle.urlpattern_syntax.specs.declared.tokenizer.TokenizePolicy.{TokenizePolicy}
-pub use Rattle.urlpattern_syntax.specs.declared.tokenizer.TokenType.{TokenType}
 use Rattle.urlpattern_syntax.specs.declared.tokenizer.TokenType.TheVariants.{Asterisk, Char, Close, End, EscapedChar, InvalidChar, Name, Open, OtherModifier, Regexp}
 use Rattle.urlpattern_syntax.specs.Text.{BeginsAt, BeginsWith, byte_len, chars, is_among, is_name_part, is_name_start}
 

@@ -6,8 +6,7 @@ use Rattle.urlpattern_syntax.specs.PatternText.{pattern_marks}
 use Rattle.urlpattern_syntax.specs.RegexpText.{escaped, escaped_marks}
 use Rattle.urlpattern_syntax.specs.Text.{byte_len, chars, option_text, text_of}
 use Rattle.urlpattern_syntax.specs.declared.writing.Comparison.{Comparison}
-use Rattle.urlpattern_syntax.specs.declared.escape.Escaped.{Escaped}
-use Rattle.urlpattern_syntax.specs.declared.escape.Marks.{Marks}
+use Rattle.urlpattern_syntax.specs.declared.escape.{Escaped.Escaped, Marks.Marks}
 
 -- the bytes of this text were added to those that were counted, unless that is the largest number or more
 pub record Counts (before : ℕ) (piece : List ℕ) (after : ℕ) : Type 0 where
