@@ -2,7 +2,8 @@
 use Rattle.std.specs.Prelude.{◌≡◌, ℕ, Result, Ok, IsErrAnd, MatchResult}
 use Rattle.url.specs.declared.error.ParseError.{ParseError}
 use Rattle.urlpattern_canonical.specs.Canonical.{reported_error}
-use Rattle.urlpattern_syntax.specs.Errors.{Error, ErrorView, error_view}
+use Rattle.urlpattern_syntax.specs.declared.error.Error.{Error}
+use Rattle.urlpattern_syntax.specs.Errors.{ErrorView, error_view}
 
 -- the error where each refusal but out of memory and overflow is reported as this one
 abbrev pub reported_as : (reason other : ParseError) → (bytes : ℕ) → ErrorView

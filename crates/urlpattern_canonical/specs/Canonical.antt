@@ -17,7 +17,8 @@ use Rattle.url.specs.Quirks as quirks
 use Rattle.url.specs.Setters.{set_fragment, set_password, set_path, set_query, set_username}
 use Rattle.urlpattern_canonical.specs.declared.canonicalize_and_process.ProcessType.{ProcessType}
 use Rattle.urlpattern_syntax.specs.PatternText.{escaped_pattern}
-use Rattle.urlpattern_syntax.specs.Errors.{Error, ErrorView, MemoryOr, error_view}
+use Rattle.urlpattern_syntax.specs.declared.error.Error.{Error}
+use Rattle.urlpattern_syntax.specs.Errors.{ErrorView, MemoryOr, error_view}
 use Rattle.urlpattern_syntax.specs.Text.{begins_with, chars, is_among, option_text, text_of}
 
 -- ---- what `url` is asked: each question is about the bytes of a value that is not empty

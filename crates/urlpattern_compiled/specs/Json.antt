@@ -17,19 +17,13 @@ filter_tree (Some character) = string (encode_utf8 character)
 
 -- the members for what is between prefix and suffix
 abbrev pub inner_members : PlainInnerView → List (List ℕ × Option Data)
-inner_members (literal bytes) =
-    (codes "kind", Some (string (codes "literal")))
-    ∷ (codes "literal", Some (string bytes))
-    ∷ []
+inner_members (literal bytes) = (codes "kind", Some (string (codes "literal"))) ∷ (codes "literal", Some (string bytes)) ∷ []
 inner_members (single_capture filter allow_empty) =
     (codes "kind", Some (string (codes "singleCapture")))
     ∷ (codes "filter", Some (filter_tree filter))
     ∷ (codes "allowEmpty", Some (boolean allow_empty))
     ∷ []
-inner_members (regexp bytes) =
-    (codes "kind", Some (string (codes "regExp")))
-    ∷ (codes "regexp", Some (string bytes))
-    ∷ []
+inner_members (regexp bytes) = (codes "kind", Some (string (codes "regExp"))) ∷ (codes "regexp", Some (string bytes)) ∷ []
 
 abbrev pub inner_tree : PlainInnerView → Data
 inner_tree inner = object_of (inner_members inner)

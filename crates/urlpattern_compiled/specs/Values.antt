@@ -2,9 +2,9 @@
 use Rattle.std.specs.Prelude.{ℕ, Bool, List, Option, map, IfSome, ⊤, String, string_bytes}
 use Rattle.std.specs.Char.{IsScalar}
 use Rattle.std.specs.declared.alloc.Global.{Global}
-use Rattle.urlpattern_compiled.specs.declared.matcher.{InnerMatcher.InnerMatcher, Matcher.Matcher}
-use Rattle.urlpattern_compiled.specs.declared.pattern.{UrlPattern.UrlPattern, UrlPatternComponent.UrlPatternComponent}
-use Rattle.urlpattern_syntax.specs.Eight.{ComponentName, Eight, at, each}
+use Rattle.urlpattern_compiled.specs.declared.{matcher.InnerMatcher.InnerMatcher, matcher.Matcher.Matcher, pattern.UrlPattern.UrlPattern, pattern.UrlPatternComponent.UrlPatternComponent}
+use Rattle.urlpattern_syntax.specs.declared.eight.{ComponentName.ComponentName, Eight.Eight}
+use Rattle.urlpattern_syntax.specs.Eight.{at, each}
 
 -- ---- what a pattern is
 

@@ -7,9 +7,11 @@ use Rattle.urlpattern_core.specs.declared.regexp.RegExp.{Ghosts as Engine}
 use Rattle.urlpattern_core.specs.Matchers.{engine_view, matcher_view}
 use Rattle.urlpattern_meaning.specs.Matching.{AnswersByMeaning, IsMadeOf, MatcherView}
 use Rattle.urlpattern_meaning.specs.Printing.{printed}
-use Rattle.urlpattern_syntax.specs.Errors.{Error, ErrorView, MemoryOr}
-use Rattle.urlpattern_syntax.specs.Options.{OptionsView, RegexSyntax}
-use Rattle.urlpattern_syntax.specs.Parts.{PartType, PartView}
+use Rattle.urlpattern_syntax.specs.declared.error.Error.{Error}
+use Rattle.urlpattern_syntax.specs.Errors.{ErrorView, MemoryOr}
+use Rattle.urlpattern_syntax.specs.declared.parser.{RegexSyntax.RegexSyntax, PartType.PartType}
+use Rattle.urlpattern_syntax.specs.Options.{OptionsView}
+use Rattle.urlpattern_syntax.specs.Parts.{PartView}
 use Rattle.urlpattern_syntax.specs.Reading.{Encoding, Reads, Refuses}
 use Rattle.urlpattern_syntax.specs.RegexpText.{group_names, regexp_text}
 use Rattle.urlpattern_syntax.specs.Text.{chars, text_of}

@@ -33,16 +33,7 @@ HasProtocolOrBase init = ¬ ((init.protocol ≡ None) × (init.base_url ≡ None
 
 -- ---- splits are one
 
--- a text has a split under each answer on whether its protocol is special
-abbrev pub EachTextSplits : Type 0
-EachTextSplits = (text : List ℕ) (special : Bool) → (components : Values) × SplitsAs text special components
-
--- it has one at most under each answer
-abbrev pub SplitsAreOne : Type 0
-SplitsAreOne = (text : List ℕ) (special : Bool) (components others : Values) →
-    SplitsAs text special components → SplitsAs text special others → components ≡ others
-
--- it has one at most where the answers are these, unless its protocol is special by them and also not
+-- a text has one split at most where the answers on protocols are these, unless its protocol is special by them and also not
 abbrev pub SplitsAreOneOrInDoubt : (IsSpecial : List ℕ → Bool → Type 0) → Type 0
 SplitsAreOneOrInDoubt IsSpecial = (text : List ℕ) (components others : Values) →
     SplitsInto IsSpecial text components → SplitsInto IsSpecial text others →

@@ -5,9 +5,9 @@ use Rattle.std.specs.Option.{option_map_or}
 use Rattle.std.specs.Str.{bytes_eq}
 use Rattle.urlpattern_init.specs.declared.constructor_parser.sections.Section.{Section}
 use Rattle.urlpattern_init.specs.declared.constructor_parser.sections.Section.TheVariants.{Protocol, Authority, Username, Password, Hostname, Port, Pathname, Search, Hash}
-use Rattle.urlpattern_syntax.specs.declared.tokenizer.TokenType.TheVariants.{Asterisk, Char, Close, End, EscapedChar, InvalidChar, Name, Open, Regexp}
 use Rattle.urlpattern_syntax.specs.Text.{byte_len}
-use Rattle.urlpattern_syntax.specs.Tokens.{AreLenientTokens, TokenType, TokenView}
+use Rattle.urlpattern_syntax.specs.declared.tokenizer.TokenType.{TokenType}
+use Rattle.urlpattern_syntax.specs.Tokens.{AreLenientTokens, TokenView}
 use Rattle.urlpattern_syntax.specs.Eight.{Values}
 
 -- ---- the token at a position
@@ -17,11 +17,11 @@ abbrev pub passes_at : (TokenView → Bool) → List TokenView → ℕ → Bool
 passes_at test tokens position = option_map_or test (slice_get tokens position) false
 
 abbrev pub is_open : TokenType → Bool
-is_open Open = true
+is_open TokenType.Open = true
 is_open kind = false
 
 abbrev pub is_end : TokenType → Bool
-is_end End = true
+is_end TokenType.End = true
 is_end kind = false
 
 -- the End token stands there
@@ -32,9 +32,9 @@ ends_at tokens position = passes_at (λ token. is_end token.kind) tokens positio
 
 -- a token of this kind stands for one character as it is
 abbrev pub is_character : TokenType → Bool
-is_character Char = true
-is_character EscapedChar = true
-is_character InvalidChar = true
+is_character TokenType.Char = true
+is_character TokenType.EscapedChar = true
+is_character TokenType.InvalidChar = true
 is_character kind = false
 
 -- the token stands for this character
@@ -59,10 +59,10 @@ is_hash_sign tokens position = passes_at (is_sign (codes "#")) tokens position
 
 -- a question mark after a token of this kind is a modifier
 abbrev pub takes_modifier : TokenType → Bool
-takes_modifier Name = true
-takes_modifier Regexp = true
-takes_modifier Close = true
-takes_modifier Asterisk = true
+takes_modifier TokenType.Name = true
+takes_modifier TokenType.Regexp = true
+takes_modifier TokenType.Close = true
+takes_modifier TokenType.Asterisk = true
 takes_modifier kind = false
 
 -- the token before the position takes a question mark there as a modifier
@@ -80,8 +80,8 @@ is_search_sign tokens position =
 
 -- the depth of groups after a token: an open brace adds one, a closing one takes one off where there is one
 abbrev pub depth_after : TokenType → ℕ → ℕ
-depth_after Open depth = depth + 1
-depth_after Close depth = depth - 1
+depth_after TokenType.Open depth = depth + 1
+depth_after TokenType.Close depth = depth - 1
 depth_after kind depth = depth
 
 -- the depth before a position, where it is `depth` before the token at `from`
@@ -218,6 +218,11 @@ AuthorityFrom text tokens special from components =
 
 -- ---- the whole string
 
+-- nothing stands before a pathname, a search or a hash
+abbrev pub NoAuthority : Values → Type 0
+NoAuthority components = (components.protocol ≡ None) × (components.username ≡ None) × (components.password ≡ None)
+    × (components.hostname ≡ None) × (components.port ≡ None)
+
 -- no protocol: the first token decides where the hash, the search or else the pathname begins
 pub record IsRelativeSplit (text : List ℕ) (tokens : List TokenView) (components : Values) : Type 0 where
   pub until : ℕ
@@ -229,8 +234,7 @@ pub record IsRelativeSplit (text : List ℕ) (tokens : List TokenView) (componen
       × SearchFrom text tokens 1 (depth_before tokens 0 0 until) components)
       ⊎ (¬ IsTrue (is_hash_sign tokens 0 || is_search_sign tokens 0)
       × PathnameFrom text tokens 0 (depth_before tokens 0 0 until) components)
-  pub nothing_before : (components.protocol ≡ None) × (components.username ≡ None) × (components.password ≡ None)
-      × (components.hostname ≡ None) × (components.port ≡ None)
+  pub nothing_before : NoAuthority components
 
 -- two slashes follow the position
 abbrev pub has_slashes : List TokenView → ℕ → Bool

@@ -1,13 +1,14 @@
 -- The splitting of a constructor string: its tokens, what may follow each component, and how many tokens are looked at.
 use Rattle.std.specs.Prelude.{◌≡◌, ℕ, ◌+◌, ◌-◌, ◌*◌, ◌<◌, ◌≤◌, ◌||◌, Bool, true, false, List, length, None, Option, Result, String, option_map, IfOk, IsTrue}
 use Rattle.std.specs.declared.alloc.Global.{Global}
-use Rattle.urlpattern_init.specs.Split.{ends_at, is_colon_sign, is_hash_sign, is_search_sign, is_seen, is_slash_sign}
+use Rattle.urlpattern_init.specs.Split.{NoAuthority, ends_at, is_ending, is_seen, is_slash_sign}
 use Rattle.urlpattern_init.specs.declared.constructor_parser.sections.{Position.Position, Section.Section}
 use Rattle.urlpattern_init.specs.declared.constructor_parser.tokens.Source.{Source}
 use Rattle.urlpattern_init.specs.declared.constructor_parser.components.Split.{Split}
 use Rattle.urlpattern_syntax.specs.Parsing.{views}
 use Rattle.urlpattern_syntax.specs.Tokens.{AreLenientTokens, TokenView}
-use Rattle.urlpattern_syntax.specs.Errors.{Error, OnlyOutOfMemory}
+use Rattle.urlpattern_syntax.specs.declared.error.Error.{Error}
+use Rattle.urlpattern_syntax.specs.Errors.{OnlyOutOfMemory}
 use Rattle.urlpattern_syntax.specs.Eight.{Values, at, each}
 use Rattle.urlpattern_syntax.specs.Text.{chars, option_text, text_of}
 
@@ -31,25 +32,9 @@ pub record IsOwned (component : Option (List ℕ)) (result : Result (Option (Str
 abbrev pub IsSource : Source → Type 0
 IsSource source = AreLenientTokens (text_of_source source) (tokens_of source)
 
--- ---- what may stand where a component is over
-
--- after a search: the sign of the hash, or End
-abbrev pub may_follow_search : List TokenView → ℕ → Bool
-may_follow_search tokens position = is_hash_sign tokens position || ends_at tokens position
-
--- after a pathname: the sign of the search or of the hash, or End
-abbrev pub may_follow_pathname : List TokenView → ℕ → Bool
-may_follow_pathname tokens position = is_search_sign tokens position || is_hash_sign tokens position || ends_at tokens position
-
--- after a port: the slash of a pathname, or what may follow a pathname
-abbrev pub may_follow_port : List TokenView → ℕ → Bool
-may_follow_port tokens position =
-    is_slash_sign tokens position || is_search_sign tokens position || is_hash_sign tokens position || ends_at tokens position
-
--- after a hostname: the colon of a port, or what may follow a port
-abbrev pub may_follow_hostname : List TokenView → ℕ → Bool
-may_follow_hostname tokens position =
-    is_colon_sign tokens position || is_slash_sign tokens position || is_search_sign tokens position || is_hash_sign tokens position || ends_at tokens position
+-- what may stand where a section is over: a sign with which it ends, outside of square brackets, or End
+abbrev pub may_follow : Section → List TokenView → ℕ → Bool
+may_follow section tokens position = is_ending section true tokens position || ends_at tokens position
 
 -- ---- turns
 
@@ -78,11 +63,6 @@ HasTurnForSlash source index depth turns =
 abbrev pub is_hostname : Section → Bool
 is_hostname Section.Hostname = true
 is_hostname section = false
-
--- nothing stands before a pathname, a search or a hash
-abbrev pub NoAuthority : Values → Type 0
-NoAuthority components = (components.protocol ≡ None) × (components.username ≡ None) × (components.password ≡ None)
-    × (components.hostname ≡ None) × (components.port ≡ None)
 
 abbrev pub NoPathname : Values → Type 0
 NoPathname components = NoAuthority components × (components.pathname ≡ None)

@@ -1,11 +1,12 @@
 -- What is given, without where it lies in memory. Texts are seen as their bytes in UTF-8, which are those of JSON.
-use Rattle.std.specs.Prelude.{ℕ, List, [], Option, String, option_map, string_bytes}
+use Rattle.std.specs.Prelude.{ℕ, List, Option, String, option_map, string_bytes}
 use Rattle.std.specs.Cow.{cow_str_bytes}
 use Rattle.std.specs.declared.alloc.Global.{Global}
 use Rattle.urlpattern_inputs.specs.declared.init.UrlPatternInit.{UrlPatternInit}
 use Rattle.urlpattern_inputs.specs.declared.input.StringOrInit.{StringOrInit}
 use Rattle.urlpattern_inputs.specs.declared.match_input.MatchInput.{MatchInput}
-use Rattle.urlpattern_syntax.specs.Eight.{Eight, at, each}
+use Rattle.urlpattern_syntax.specs.declared.eight.Eight.{Eight}
+use Rattle.urlpattern_syntax.specs.Eight.{at, each}
 
 -- ---- what is given
 
@@ -41,7 +42,3 @@ matched_texts input = record { protocol = input.protocol; username = input.usern
 
 abbrev pub match_input_view : MatchInput → Eight (List ℕ)
 match_input_view input = each (λ name. string_bytes (at (matched_texts input) name))
-
--- eight empty texts
-abbrev pub empty_match_input : Eight (List ℕ)
-empty_match_input = each (λ name. [])

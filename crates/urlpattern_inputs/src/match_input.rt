@@ -1,10 +1,10 @@
 //! The texts that a pattern is matched against.
-ghost use Rattle.std.specs.Prelude.{◌≡◌, IfOk, option_map, string_bytes};
+ghost use Rattle.std.specs.Prelude.{◌≡◌, [], IfOk, option_map, string_bytes};
 ghost use Rattle.serde_json.specs.View.{view};
 ghost use Rattle.urlpattern_inputs.specs.InputJson.{match_input_read, match_input_tree};
 ghost use Rattle.urlpattern_inputs.specs.ReadResults.{ReturnsRead};
-ghost use Rattle.urlpattern_inputs.specs.InputValues.{empty_match_input, match_input_view, matched_texts};
-ghost use Rattle.urlpattern_syntax.specs.Eight.{at};
+ghost use Rattle.urlpattern_inputs.specs.InputValues.{match_input_view, matched_texts};
+ghost use Rattle.urlpattern_syntax.specs.Eight.{at, each};
 ghost use Rattle.urlpattern_syntax.specs.Errors.{OnlyOutOfMemory};
 
 use crate::reading::{Unread, read_or_none, text_field};
@@ -39,7 +39,7 @@ pub struct MatchInput {
 impl MatchInput {
     /// Eight empty texts.
     pub fn default(alloc: Global) -> Self
-        ensures { match_input_view result ≡ empty_match_input }
+        ensures { match_input_view result ≡ each (λ name. []) }
     {
         Self::from_eight(Eight::from_fn(|_| String::new(alloc)))
     }

@@ -9,7 +9,12 @@ use Rattle.urlpattern_syntax.specs.Parts.{PartView}
 use Rattle.urlpattern_syntax.specs.Pieces.{ArePieces, Ending, Piece}
 use Rattle.urlpattern_syntax.specs.Reading.{AreMet, Demand, Encode, Encoding, Reads, Refuses, demands, items_of}
 use Rattle.urlpattern_syntax.specs.Text.{begins_with, byte_len}
-use Rattle.urlpattern_syntax.specs.Tokens.{AreLenientTokens, AreTokens, FaultView, IsFault, TokenType, TokenView, is_ignored}
+use Rattle.urlpattern_syntax.specs.declared.tokenizer.TokenType.{TokenType}
+use Rattle.urlpattern_syntax.specs.Tokens.{AreLenientTokens, AreTokens, FaultView, IsFault, TokenView, is_ignored}
+
+-- one value at most is such
+abbrev pub AtMostOne : {A : Type 0} → (Is : A → Type 0) → Type 0
+AtMostOne {A} Is = (value other : A) → Is value → Is other → value ≡ other
 
 -- ---- where tokens stand
 
@@ -20,6 +25,11 @@ spelling TokenType.Name value = codes ":" ++ value
 spelling TokenType.Regexp value = codes "(" ++ value ++ codes ")"
 spelling TokenType.End value = []
 spelling kind value = value
+
+-- the token's spelling stands in the text where its index says
+abbrev pub IsSpelledAt : (text : List ℕ) → TokenView → Type 0
+IsSpelledAt text token =
+    (before after : List ℕ) × (text ≡ before ++ spelling token.kind token.value ++ after) × (token.index ≡ byte_len before)
 
 -- The text, which begins at this byte, is the spellings of these tokens in order, each at its token's index, and nothing
 -- but skipped characters stands before each of them.
@@ -53,7 +63,7 @@ listed answers text answer = Contains answers (text, answer)
 
 -- the encoding has one answer at most to each text
 abbrev pub AnswersOnce : Encoding → Type 0
-AnswersOnce encoding = (text : List ℕ) (answer other : Result (List ℕ) ErrorView) → encoding text answer → encoding text other → answer ≡ other
+AnswersOnce encoding = (text : List ℕ) → AtMostOne (encoding text)
 
 -- the same, besides that memory may run out
 abbrev pub AnswersOnceGivenMemory : Encoding → Type 0

@@ -1,78 +1,36 @@
 -- What the laws say of tokens, pieces, readings and printed patterns. Of a sentence that takes an encoding, a law says of which
 -- encodings it holds.
-use Rattle.std.specs.Prelude.{◌≡◌, ◌≢◌, ◌⊎◌, ℕ, ◌<◌, List, [], ◌∷◌, ◌++◌, All, AllPairs, Err}
-use Rattle.std.specs.Char.{is_ascii_digit}
-use Rattle.urlpattern_meaning.specs.Laws.{Answered, AnswersAsked, AnswersOnce, AnswersOnceGivenMemory, CountFrom, HasLenientTokens, HasOutcome, HasSomeOutcome, HasTokensOrFault, LacksAnswer, Lays, Outcome, listed, numbers_among, spelling}
-use Rattle.urlpattern_meaning.specs.Printing.{HaveTexts, Keeps, encoded_texts, joined, printed}
-use Rattle.urlpattern_meaning.specs.RoundTrip.{ArePatternParts, FailsText, IsPrintable, KeepsAnswered, MayKeep, ReadsAsJoined, ReadsOnlyAsJoined, WereRead}
-use Rattle.urlpattern_syntax.specs.declared.tokenizer.TokenType.TheVariants.{End, Name}
+use Rattle.std.specs.Prelude.{◌≡◌, ◌≢◌, ◌⊎◌, ℕ, ◌<◌, List, ◌∷◌, ◌++◌, Err}
+use Rattle.urlpattern_meaning.specs.Laws.{Answered, AnswersAsked, AnswersOnce, AnswersOnceGivenMemory, HasOutcome, HasSomeOutcome, LacksAnswer, Outcome, listed}
+use Rattle.urlpattern_meaning.specs.Printing.{Keeps, encoded_texts, joined, printed}
+use Rattle.urlpattern_meaning.specs.RoundTrip.{FailsText, IsPrintable, KeepsAnswered, MayKeep, ReadsAsJoined, ReadsOnlyAsJoined, WereRead}
 use Rattle.urlpattern_syntax.specs.Errors.{ErrorView}
 use Rattle.urlpattern_syntax.specs.Options.{OptionsView}
 use Rattle.urlpattern_syntax.specs.Parts.{PartView}
 use Rattle.urlpattern_syntax.specs.Pieces.{ArePieces, Ending, Piece}
 use Rattle.urlpattern_syntax.specs.Reading.{Calls, Encoding, Reads, Refuses, encoding_by}
-use Rattle.urlpattern_syntax.specs.RegexpText.{group_names}
-use Rattle.urlpattern_syntax.specs.Text.{BeginsWith, byte_len}
-use Rattle.urlpattern_syntax.specs.Tokens.{AreLenientTokens, AreTokens, FaultView, IsFault, TokenView, end_of}
+use Rattle.urlpattern_syntax.specs.Tokens.{AreTokens, FaultView, IsFault, TokenView}
 
--- ---- which tokens a text has
+-- ---- tokens
 
--- a text has one list of strict tokens at most
-abbrev pub TokensAreOne : Type 0
-TokensAreOne = (text : List ℕ) (tokens others : List TokenView) → AreTokens text tokens → AreTokens text others → tokens ≡ others
-
--- it has one first fault at most, at one place
+-- a text has one first fault at most, at one place
 abbrev pub FaultsAreOne : Type 0
 FaultsAreOne = (text : List ℕ) (fault other : FaultView) (place another : ℕ) →
     IsFault text fault place → IsFault text other another → (fault ≡ other) × (place ≡ another)
 
--- it never has both
+-- it never has strict tokens and a fault
 abbrev pub TokensExcludeFaults : Type 0
 TokensExcludeFaults = (text : List ℕ) (tokens : List TokenView) (fault : FaultView) (place : ℕ) →
     AreTokens text tokens → ¬ IsFault text fault place
 
--- it has one list of lenient tokens at most
-abbrev pub LenientTokensAreOne : Type 0
-LenientTokensAreOne = (text : List ℕ) (tokens others : List TokenView) →
-    AreLenientTokens text tokens → AreLenientTokens text others → tokens ≡ others
-
--- every text has strict tokens, or a first fault
-abbrev pub EachTextHasTokensOrFault : Type 0
-EachTextHasTokensOrFault = (text : List ℕ) → HasTokensOrFault text
-
--- every text has lenient tokens
-abbrev pub EachTextHasLenientTokens : Type 0
-EachTextHasLenientTokens = (text : List ℕ) → HasLenientTokens text
-
--- ---- where tokens stand in their text
-
--- the spellings of the tokens, with what is skipped between them, are the whole text
-abbrev pub TokensLoseNothing : Type 0
-TokensLoseNothing = (text : List ℕ) (tokens : List TokenView) → AreTokens text tokens → Lays 0 tokens text
+-- this is said of each strict token of each text, and of the tokens after it
+abbrev pub OfEachToken : (Says : (text : List ℕ) → TokenView → (later : List TokenView) → Type 0) → Type 0
+OfEachToken Says = (text : List ℕ) (front later : List TokenView) (token : TokenView) → AreTokens text (front ++ token ∷ later) → Says text token later
 
 -- each token begins after the one before it
 abbrev pub IndicesRise : Type 0
 IndicesRise = (text : List ℕ) (front between back : List TokenView) (token later : TokenView) →
     AreTokens text (front ++ token ∷ (between ++ later ∷ back)) → token.index < later.index
-
--- its spelling is where its index says
-abbrev pub TokensStandAtTheirIndices : Type 0
-TokensStandAtTheirIndices = (text : List ℕ) (front back : List TokenView) (token : TokenView) → AreTokens text (front ++ token ∷ back) →
-    (before after : List ℕ) × (text ≡ before ++ spelling token.kind token.value ++ after) × (token.index ≡ byte_len before)
-
--- its value is a slice of the text
-abbrev pub ValuesAreSlices : Type 0
-ValuesAreSlices = (text : List ℕ) (front back : List TokenView) (token : TokenView) → AreTokens text (front ++ token ∷ back) →
-    (before after : List ℕ) × (text ≡ before ++ token.value ++ after)
-
--- the last token is End
-abbrev pub LastTokenIsEnd : Type 0
-LastTokenIsEnd = (text : List ℕ) (front : List TokenView) (token : TokenView) → AreTokens text (front ++ token ∷ []) → token ≡ end_of text
-
--- End is the last token
-abbrev pub EndIsTheLastToken : Type 0
-EndIsTheLastToken = (text : List ℕ) (front back : List TokenView) (token : TokenView) →
-    AreTokens text (front ++ token ∷ back) → token.kind ≡ End → back ≡ []
 
 -- ---- pieces
 
@@ -98,27 +56,21 @@ UnderEachCallback {F} calls Sentence = (callback : F) → Sentence (encoding_by 
 
 -- ---- readings and refusals
 
--- a text has one reading at most, where the encoding has one answer at most to each text
-abbrev pub ReadingsAreOne : Encoding → Type 0
-ReadingsAreOne encoding = (text : List ℕ) (options : OptionsView) (parts others : List PartView) →
-    AnswersOnce encoding → Reads text options encoding parts → Reads text options encoding others → parts ≡ others
+-- a text has one such value at most, where the encoding has one answer at most to each text
+abbrev pub HaveOneAtMost : {A : Type 0} → (Has : (text : List ℕ) → OptionsView → Encoding → A → Type 0) → Encoding → Type 0
+HaveOneAtMost {A} Has encoding = (text : List ℕ) (options : OptionsView) (value other : A) → AnswersOnce encoding →
+    Has text options encoding value → Has text options encoding other → value ≡ other
 
--- it has one refusal at most there
-abbrev pub RefusalsAreOne : Encoding → Type 0
-RefusalsAreOne encoding = (text : List ℕ) (options : OptionsView) (error other : ErrorView) →
-    AnswersOnce encoding → Refuses text options encoding error → Refuses text options encoding other → error ≡ other
+-- it has one outcome at most there
+abbrev pub OutcomesAreOne : Encoding → Type 0
+OutcomesAreOne encoding = HaveOneAtMost HasOutcome encoding
 
--- it never has both there
+-- it never has a reading and a refusal there
 abbrev pub ReadingsExcludeRefusals : Encoding → Type 0
 ReadingsExcludeRefusals encoding = (text : List ℕ) (options : OptionsView) (parts : List PartView) (error : ErrorView) →
     AnswersOnce encoding → Reads text options encoding parts → ¬ Refuses text options encoding error
 
--- a text has one outcome at most, where the encoding has one answer at most to each text
-abbrev pub OutcomesAreOne : Encoding → Type 0
-OutcomesAreOne encoding = (text : List ℕ) (options : OptionsView) (outcome other : Outcome) → AnswersOnce encoding →
-    HasOutcome text options encoding outcome → HasOutcome text options encoding other → outcome ≡ other
-
--- the same, besides that memory may run out
+-- a text has one outcome at most besides that memory may run out, where that holds of the encoding's answers
 abbrev pub OutcomesAreOneGivenMemory : Encoding → Type 0
 OutcomesAreOneGivenMemory encoding = (text : List ℕ) (options : OptionsView) (outcome other : Outcome) → AnswersOnceGivenMemory encoding →
     outcome ≢ Err ErrorView.OutOfMemory → other ≢ Err ErrorView.OutOfMemory →
@@ -134,40 +86,13 @@ abbrev pub AnsweredTextsHaveOutcomes : Encoding → Type 0
 AnsweredTextsHaveOutcomes encoding = (text : List ℕ) (options : OptionsView) →
     AnswersAsked text options encoding → HasSomeOutcome text options encoding
 
--- ---- names
-
--- the names of the groups of a reading are not empty
-abbrev pub NamesAreNotEmpty : Encoding → Type 0
-NamesAreNotEmpty encoding = (text : List ℕ) (options : OptionsView) (parts : List PartView) →
-    Reads text options encoding parts → All (λ name. name ≢ []) (group_names parts)
-
--- no two are equal
-abbrev pub NamesAreDistinct : Encoding → Type 0
-NamesAreDistinct encoding = (text : List ℕ) (options : OptionsView) (parts : List PartView) →
-    Reads text options encoding parts → AllPairs (λ name other. name ≢ other) (group_names parts)
-
--- those that begin with a digit are `0`, `1` and so on in order
-abbrev pub NumbersCount : Encoding → Type 0
-NumbersCount encoding = (text : List ℕ) (options : OptionsView) (parts : List PartView) →
-    Reads text options encoding parts → CountFrom 0 (numbers_among (group_names parts))
-
--- a name that the pattern gives begins with no digit
-abbrev pub GivenNamesHaveNoNumber : Type 0
-GivenNamesHaveNoNumber = (text : List ℕ) (front back : List TokenView) (token : TokenView) →
-    AreTokens text (front ++ token ∷ back) → token.kind ≡ Name → ¬ BeginsWith is_ascii_digit token.value
+-- this is said of the parts of each reading
+abbrev pub OfEachReading : (Says : OptionsView → List PartView → Type 0) → Encoding → Type 0
+OfEachReading Says encoding = (text : List ℕ) (options : OptionsView) (parts : List PartView) → Reads text options encoding parts → Says options parts
 
 -- ---- printed patterns
 
--- neighbouring plain fixed texts print as one, where no fixed text is empty
-abbrev pub JoiningKeepsPrintedText : Type 0
-JoiningKeepsPrintedText = (options : OptionsView) (parts : List PartView) → HaveTexts parts → printed options (joined parts) ≡ printed options parts
-
--- parts that a text reads as are such as a pattern text may be read as
-abbrev pub ReadPartsArePatternParts : Encoding → Type 0
-ReadPartsArePatternParts encoding = (text : List ℕ) (options : OptionsView) (parts : List PartView) →
-    Reads text options encoding parts → ArePatternParts options parts
-
--- those that were read under standard options, with texts such as may be printed, are printable
+-- parts that were read under standard options, with texts such as may be printed, are printable
 abbrev pub ReadPartsArePrintable : Encoding → Type 0
 ReadPartsArePrintable encoding = (text : List ℕ) (options : OptionsView) (parts : List PartView) →
     WereRead text options encoding parts → IsPrintable options parts
@@ -185,10 +110,6 @@ OfPrintableParts Says = (options : OptionsView) (answers : Answered) (parts : Li
 abbrev pub OfPartsThatWereRead : Saying → Type 0
 OfPartsThatWereRead Says = (text : List ℕ) (options : OptionsView) (first answers : Answered) (parts : List PartView) →
     WereRead text options (listed first) parts → Keeps (listed answers) parts → Says (printed options parts) options (listed answers) parts
-
--- for all parts there is a list of answers that keeps their texts
-abbrev pub SomeListKeepsTheTexts : Type 0
-SomeListKeepsTheTexts = (parts : List PartView) → (answers : Answered) × Keeps (listed answers) parts
 
 -- the printed pattern may be read as the joined parts, where the encoding may answer each of their texts by itself
 abbrev pub PrintedMayReadAsJoined : Encoding → Type 0

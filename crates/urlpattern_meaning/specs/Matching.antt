@@ -6,7 +6,8 @@ use Rattle.urlpattern_meaning.specs.Dialect.{Follows}
 use Rattle.urlpattern_syntax.specs.Errors.{ErrorView}
 use Rattle.urlpattern_syntax.specs.Options.{OptionsView}
 use Rattle.urlpattern_meaning.specs.PartMeaning.{AreGenerated, Captures, PartsMean}
-use Rattle.urlpattern_syntax.specs.Parts.{PartModifier, PartType, PartView}
+use Rattle.urlpattern_syntax.specs.declared.parser.{PartModifier.PartModifier, PartType.PartType}
+use Rattle.urlpattern_syntax.specs.Parts.{PartView}
 use Rattle.urlpattern_syntax.specs.RegexpText.{is_plain, regexp_text}
 use Rattle.urlpattern_syntax.specs.Text.{lacks, line_feed}
 

@@ -2,7 +2,8 @@
 -- meaning here.
 use Rattle.std.specs.Prelude.{◌≡◌, ◌≢◌, ◌↔◌, All, ℕ, zero, suc, ◌≤◌, Bool, true, ◌&&◌, List, [], ◌∷◌, ◌++◌, Option, Some, None, IsTrue, unwrap_or}
 use Rattle.urlpattern_syntax.specs.Options.{OptionsView}
-use Rattle.urlpattern_syntax.specs.Parts.{PartModifier, PartType, PartView}
+use Rattle.urlpattern_syntax.specs.declared.parser.{PartModifier.PartModifier, PartType.PartType}
+use Rattle.urlpattern_syntax.specs.Parts.{PartView}
 use Rattle.urlpattern_syntax.specs.RegexpText.{is_empty}
 use Rattle.urlpattern_syntax.specs.Text.{lacks, line_feed, IsRepeated}
 

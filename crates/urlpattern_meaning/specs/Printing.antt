@@ -5,7 +5,8 @@ use Rattle.std.specs.Char.{is_ascii_digit}
 use Rattle.std.specs.List.{flat_map}
 use Rattle.urlpattern_syntax.specs.Errors.{ErrorView}
 use Rattle.urlpattern_syntax.specs.Options.{OptionsView}
-use Rattle.urlpattern_syntax.specs.Parts.{PartType, PartView}
+use Rattle.urlpattern_syntax.specs.declared.parser.PartType.{PartType}
+use Rattle.urlpattern_syntax.specs.Parts.{PartView}
 use Rattle.urlpattern_syntax.specs.Reading.{Encoding}
 use Rattle.urlpattern_syntax.specs.RegexpText.{captured, full_wildcard, is_empty, is_fixed_text, is_plain, is_unmodified, modifier_text, segment_wildcard}
 use Rattle.urlpattern_syntax.specs.Text.{begins_with, is_name_part}

@@ -2,9 +2,25 @@
 //!
 //! Each function here does nothing; what it promises is a theorem.
 
-ghost use Rattle.urlpattern_meaning.specs.LawsOfMeaning.{CapturesHaveNames, CopiesAreOneCapture, FirstWayIsMeant, FirstWayIsOne, FirstWaysAreMeanings, FirstWaysCaptureEachGroup, FirstWaysFollow, FollowingIsAgreeing, JoiningKeepsMeaning, JoiningKeepsNames, JoiningKeepsRegexp, MatchersAgreeWhereEnginesAgree, MatchersAgreeWhereEnginesFollow, MatchersAnswerFirstWhereEnginesDo, NoCopiesAreOneCapture, NoWayMeansNothing, PlainEndsAreRemoved, RegexpsHaveTheMeaning, TreesAreOne, TreesMeanTheParts, WaysAreMeanings, WildcardsCaptureNothingElse};
-ghost use Rattle.urlpattern_meaning.specs.LawsOfReading.{AnsweredTextsHaveOutcomes, EachTextHasLenientTokens, EachTextHasTokensOrFault, EndIsTheLastToken, FaultsAreOne, GivenNamesHaveNoNumber, IndicesRise, JoiningKeepsPrintedText, LastTokenIsEnd, LenientTokensAreOne, NamesAreDistinct, NamesAreNotEmpty, NumbersCount, OfPartsThatWereRead, OfPrintableParts, OutcomesAreOneGivenMemory, OutcomesLackOnlyAnswers, PiecesAreOne, PrintedFailsByTheEncoding, PrintedMayReadAsJoined, PrintedReadsOnlyAsJoined, ReadPartsArePatternParts, ReadPartsArePrintable, ReadingsAreOne, ReadingsExcludeRefusals, RefusalsAreOne, SomeListKeepsTheTexts, TokensAreOne, TokensExcludeFaults, TokensHavePieces, TokensLoseNothing, TokensStandAtTheirIndices, UnderEachCallback, UnderEachList, ValuesAreSlices};
-ghost use Rattle.urlpattern_meaning.specs.RoundTrip.{IsNotRefused, PrintsTheSame, ReadsAsJoined, ReadsOnlyAsJoined};
+ghost use Rattle.std.specs.Prelude.{◌≡◌, ◌≢◌, ℕ, List, [], ◌++◌, All, AllPairs, None, Some, length};
+ghost use Rattle.std.specs.Char.{is_ascii_digit};
+ghost use Rattle.urlpattern_meaning.specs.Dialect.{Follows, HasMeaningOf, IsTreeOf, Items, Means, group_count};
+ghost use Rattle.urlpattern_meaning.specs.FirstAnswers.{AnswersByFirstWay};
+ghost use Rattle.urlpattern_meaning.specs.Laws.{Answered, AtMostOne, CountFrom, HasLenientTokens, HasTokensOrFault, IsSpelledAt, Lays, listed, numbers_among};
+ghost use Rattle.urlpattern_meaning.specs.LawsOfMeaning.{AnswersWhereEnginesAgree, CapturesHaveNames, CopiesAreOneCapture, FirstWayIsMeant, FirstWayIsOne, FollowingIsAgreeing, NoCopiesAreOneCapture, OfEachMatcher, OfEachTree, PlainEndsAreRemoved, TreesMeanTheParts, WaysAreMeanings, WildcardsCaptureNothingElse};
+ghost use Rattle.urlpattern_meaning.specs.LawsOfReading.{AnsweredTextsHaveOutcomes, FaultsAreOne, HaveOneAtMost, IndicesRise, OfEachReading, OfEachToken, OfPartsThatWereRead, OfPrintableParts, OutcomesAreOneGivenMemory, OutcomesLackOnlyAnswers, PiecesAreOne, PrintedFailsByTheEncoding, PrintedMayReadAsJoined, PrintedReadsOnlyAsJoined, ReadPartsArePrintable, ReadingsExcludeRefusals, TokensExcludeFaults, TokensHavePieces, UnderEachCallback, UnderEachList};
+ghost use Rattle.urlpattern_meaning.specs.Matching.{AnswersByMeaning};
+ghost use Rattle.urlpattern_meaning.specs.PartMeaning.{AreGenerated, MeanTheSame};
+ghost use Rattle.urlpattern_meaning.specs.Printing.{HaveTexts, Keeps, joined, printed};
+ghost use Rattle.urlpattern_meaning.specs.RoundTrip.{ArePatternParts, IsNotRefused, PrintsTheSame, ReadsAsJoined, ReadsOnlyAsJoined};
+ghost use Rattle.urlpattern_meaning.specs.Ways.{first_way};
+ghost use Rattle.urlpattern_syntax.specs.Options.{OptionsView};
+ghost use Rattle.urlpattern_syntax.specs.Parts.{PartView};
+ghost use Rattle.urlpattern_syntax.specs.Reading.{Reads, Refuses};
+ghost use Rattle.urlpattern_syntax.specs.RegexpText.{group_names, regexp_text};
+ghost use Rattle.urlpattern_syntax.specs.Text.{BeginsWith};
+ghost use Rattle.urlpattern_syntax.specs.Tokens.{AreLenientTokens, AreTokens, TokenView, end_of};
+ghost use Rattle.urlpattern_syntax.specs.declared.tokenizer.TokenType.TheVariants.{End, Name};
 
 use urlpattern_syntax::Error;
 
@@ -16,12 +32,12 @@ pub fn plain_ends_are_removed()
 
 /// Neighbouring plain fixed texts mean the same as one.
 pub fn joining_keeps_meaning()
-    ensures { JoiningKeepsMeaning }
+    ensures { (options : OptionsView) (parts : List PartView) → MeanTheSame options (joined parts) parts }
 {}
 
 /// Neighbouring plain fixed texts print as one, where no fixed text is empty.
 pub fn joining_keeps_printed_text()
-    ensures { JoiningKeepsPrintedText }
+    ensures { (options : OptionsView) (parts : List PartView) → HaveTexts parts → printed options (joined parts) ≡ printed options parts }
 {}
 
 /// Copies of a wildcard are captured as one text, which is all of them but the first prefix and the last suffix. No
@@ -36,28 +52,28 @@ pub fn copies_are_one_capture()
 /// A text has one list of strict tokens at most, or one first fault, and never both. Its lenient tokens are one list at
 /// most. That it has them says [`every_text_has_tokens`].
 pub fn tokens_are_one()
-    ensures tokens { TokensAreOne }
+    ensures tokens { (text : List ℕ) → AtMostOne (AreTokens text) }
     ensures faults { FaultsAreOne }
     ensures not_both { TokensExcludeFaults }
-    ensures lenient { LenientTokensAreOne }
+    ensures lenient { (text : List ℕ) → AtMostOne (AreLenientTokens text) }
 {}
 
 /// Every text has strict tokens, or a first fault with its place. Every text has lenient tokens.
 pub fn every_text_has_tokens()
-    ensures strict { EachTextHasTokensOrFault }
-    ensures lenient { EachTextHasLenientTokens }
+    ensures strict { (text : List ℕ) → HasTokensOrFault text }
+    ensures lenient { (text : List ℕ) → HasLenientTokens text }
 {}
 
 /// Nothing of a text is lost in its tokens but what is skipped between them and the marks of an escape, a name and a
 /// regular expression. Each token begins where its index says, after the token before it, and its value stands there in
 /// the text. End is the last token, and no other.
 pub fn tokens_lose_nothing()
-    ensures lay { TokensLoseNothing }
+    ensures lay { (text : List ℕ) (tokens : List TokenView) → AreTokens text tokens → Lays 0 tokens text }
     ensures rise { IndicesRise }
-    ensures stand { TokensStandAtTheirIndices }
-    ensures slice { ValuesAreSlices }
-    ensures ends { LastTokenIsEnd }
-    ensures only_end { EndIsTheLastToken }
+    ensures stand { OfEachToken (λ text token later. IsSpelledAt text token) }
+    ensures slice { OfEachToken (λ text token later. (before after : List ℕ) × (text ≡ before ++ token.value ++ after)) }
+    ensures ends { OfEachToken (λ text token later. later ≡ [] → token ≡ end_of text) }
+    ensures only_end { OfEachToken (λ text token later. token.kind ≡ End → later ≡ []) }
 {}
 
 /// The tokens of a text have one list of pieces with the tokens that are left.
@@ -69,8 +85,8 @@ pub fn pieces_are_one()
 /// A text has one outcome at most, which is a reading or a refusal, wherever the encoding has one answer at most to each
 /// text. That it has one says [`every_text_has_an_outcome`]. The encoding is any list of texts with their answers.
 pub fn readings_are_one()
-    ensures readings { UnderEachList ReadingsAreOne }
-    ensures refusals { UnderEachList RefusalsAreOne }
+    ensures readings { UnderEachList (HaveOneAtMost Reads) }
+    ensures refusals { UnderEachList (HaveOneAtMost Refuses) }
     ensures not_both { UnderEachList ReadingsExcludeRefusals }
 {}
 
@@ -92,15 +108,15 @@ pub fn every_text_has_an_outcome<F: Fn(&str) -> Result<String, Error>>()
 /// In a reading the names of the groups are not empty, and no two are equal. Those that begin with a digit are `0`, `1`
 /// and so on in order. A name that the pattern gives begins with none, so they are the groups without a name.
 pub fn names_are_new()
-    ensures nonempty { UnderEachList NamesAreNotEmpty }
-    ensures distinct { UnderEachList NamesAreDistinct }
-    ensures numbered { UnderEachList NumbersCount }
-    ensures given { GivenNamesHaveNoNumber }
+    ensures nonempty { UnderEachList (OfEachReading (λ options parts. All (λ name. name ≢ []) (group_names parts))) }
+    ensures distinct { UnderEachList (OfEachReading (λ options parts. AllPairs (λ name other. name ≢ other) (group_names parts))) }
+    ensures numbered { UnderEachList (OfEachReading (λ options parts. CountFrom 0 (numbers_among (group_names parts)))) }
+    ensures given { OfEachToken (λ text token later. token.kind ≡ Name → ¬ BeginsWith is_ascii_digit token.value) }
 {}
 
 /// A text has one tree of the dialect at most.
 pub fn dialect_trees_are_one()
-    ensures { TreesAreOne }
+    ensures { (text : List ℕ) → AtMostOne (IsTreeOf text) }
 {}
 
 /// The ways of a tree are exactly its meanings of the fronts of a text. So the first way that takes the whole text captures
@@ -108,17 +124,17 @@ pub fn dialect_trees_are_one()
 /// has groups. What answers it follows the text of the tree: each text of the dialect can be followed.
 pub fn first_ways_are_meant()
     ensures ways { WaysAreMeanings }
-    ensures some { FirstWaysAreMeanings }
-    ensures none { NoWayMeansNothing }
-    ensures count { FirstWaysCaptureEachGroup }
-    ensures follows { FirstWaysFollow }
+    ensures some { OfEachTree (λ tree text captures. first_way tree text ≡ Some captures → Means tree text captures) }
+    ensures none { OfEachTree (λ tree text captures. first_way tree text ≡ None → ¬ Means tree text captures) }
+    ensures count { OfEachTree (λ tree text captures. first_way tree text ≡ Some captures → length captures ≡ group_count tree) }
+    ensures follows { (regexp : List ℕ) (tree : Items) → IsTreeOf regexp tree → Follows regexp (first_way tree) }
 {}
 
 /// The regular expression of parts has one tree, and it means what the parts mean: each text, with the same captures.
 /// This holds under all options and for all names, prefixes, suffixes and values, where no part has a regular expression
 /// of its own.
 pub fn parts_and_regexp_mean_the_same()
-    ensures tree { RegexpsHaveTheMeaning }
+    ensures tree { (options : OptionsView) (parts : List PartView) → AreGenerated parts → HasMeaningOf (regexp_text options parts) options parts }
     ensures means { TreesMeanTheParts }
     ensures engines { FollowingIsAgreeing }
 {}
@@ -133,8 +149,8 @@ pub fn captures_are_as_many_as_names()
 /// An engine's value either follows the regular expression of the parts that are left between the ends, where no part has
 /// one of its own, or answers what those parts mean. `E` is any type of engines' values.
 pub fn matchers_answer_what_parts_mean<E>()
-    ensures follows { MatchersAgreeWhereEnginesFollow E }
-    ensures agrees { MatchersAgreeWhereEnginesAgree E }
+    ensures follows { OfEachMatcher E AnswersByMeaning }
+    ensures agrees { OfEachMatcher E AnswersWhereEnginesAgree }
 {}
 
 /// A matcher of parts answers the first way of the tree of their regular expression, and that is one answer, which is a
@@ -142,21 +158,21 @@ pub fn matchers_answer_what_parts_mean<E>()
 /// line feed. An engine that is asked answers the first way of the tree of its own text; where none is asked, this holds of
 /// every matcher. `E` is any type of engines' values.
 pub fn matchers_answer_the_first_way<E>()
-    ensures first { MatchersAnswerFirstWhereEnginesDo E }
+    ensures first { OfEachMatcher E AnswersByFirstWay }
     ensures one { FirstWayIsOne }
     ensures meant { FirstWayIsMeant }
 {}
 
 /// Neighbouring plain fixed texts have the same regular expression, and the same names, as one.
 pub fn joining_keeps_regexp()
-    ensures text { JoiningKeepsRegexp }
-    ensures names { JoiningKeepsNames }
+    ensures text { (options : OptionsView) (parts : List PartView) → regexp_text options (joined parts) ≡ regexp_text options parts }
+    ensures names { (parts : List PartView) → group_names (joined parts) ≡ group_names parts }
 {}
 
 /// Parts that a text reads as are such as a pattern text may be read as: their kinds, values and names fit together.
 /// This holds under any options and any encoding.
 pub fn read_parts_are_pattern_parts()
-    ensures { UnderEachList ReadPartsArePatternParts }
+    ensures { UnderEachList (OfEachReading ArePatternParts) }
 {}
 
 /// Printing and parsing are inverse. The printed pattern of the parts reads as the joined parts, and as nothing else, and
@@ -167,7 +183,7 @@ pub fn printed_patterns_read_back()
     ensures only { OfPrintableParts ReadsOnlyAsJoined }
     ensures not_refused { OfPrintableParts IsNotRefused }
     ensures same { OfPrintableParts PrintsTheSame }
-    ensures kept { SomeListKeepsTheTexts }
+    ensures kept { (parts : List PartView) → (answers : Answered) × Keeps (listed answers) parts }
 {}
 
 /// A printed pattern is refused only by an error that the encoding answers to one of the texts of the joined parts. Where

@@ -1,23 +1,22 @@
 -- The texts of the errors, as the bytes that are printed.
 use Rattle.std.specs.Prelude.{ℕ, List, ◌++◌, codes, decimal, encode_utf8_all, Option, Some, None}
 use Rattle.urlpattern_syntax.specs.declared.error.ParserError.{ParserError}
-use Rattle.urlpattern_syntax.specs.declared.tokenizer.TokenType.TheVariants.{Asterisk, Char, Close, End, EscapedChar, InvalidChar, Name, Open, OtherModifier, Regexp}
 use Rattle.urlpattern_syntax.specs.Errors.{ErrorView}
 use Rattle.urlpattern_syntax.specs.Text.{text_of}
 use Rattle.urlpattern_syntax.specs.Tokens.{FaultView, TokenType}
 
 -- a kind of token has its name alone
 abbrev pub kind_name : TokenType → List ℕ
-kind_name Open = codes "Open"
-kind_name Close = codes "Close"
-kind_name Regexp = codes "Regexp"
-kind_name Name = codes "Name"
-kind_name Char = codes "Char"
-kind_name EscapedChar = codes "EscapedChar"
-kind_name OtherModifier = codes "OtherModifier"
-kind_name Asterisk = codes "Asterisk"
-kind_name End = codes "End"
-kind_name InvalidChar = codes "InvalidChar"
+kind_name TokenType.Open = codes "Open"
+kind_name TokenType.Close = codes "Close"
+kind_name TokenType.Regexp = codes "Regexp"
+kind_name TokenType.Name = codes "Name"
+kind_name TokenType.Char = codes "Char"
+kind_name TokenType.EscapedChar = codes "EscapedChar"
+kind_name TokenType.OtherModifier = codes "OtherModifier"
+kind_name TokenType.Asterisk = codes "Asterisk"
+kind_name TokenType.End = codes "End"
+kind_name TokenType.InvalidChar = codes "InvalidChar"
 
 -- a fault of a pattern text; the reasons are ASCII
 abbrev pub fault_text : FaultView → List ℕ

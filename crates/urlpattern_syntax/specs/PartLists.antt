@@ -2,8 +2,7 @@
 use Rattle.std.specs.Prelude.{◌≡◌, ℕ, List, [], ◌∷◌, ◌++◌, Contains, Option}
 use Rattle.std.specs.Borrow.{Bor}
 use Rattle.urlpattern_syntax.specs.declared.parser.part_list.PartList.{PartList}
-use Rattle.urlpattern_syntax.specs.declared.parser.PatternParser.{PatternParser}
-use Rattle.urlpattern_syntax.specs.declared.parser.pieces.{Matched.Matched, Piece.Piece, Placeholder.Placeholder}
+use Rattle.urlpattern_syntax.specs.declared.parser.{PatternParser.PatternParser, pieces.Matched.Matched, pieces.Piece.Piece, pieces.Placeholder.Placeholder}
 use Rattle.urlpattern_syntax.specs.declared.tokenizer.TokenType.TheVariants.{End}
 use Rattle.urlpattern_syntax.specs.Errors.{Error, ErrorView}
 use Rattle.urlpattern_syntax.specs.Options.{OptionsView, options_view}

@@ -2,8 +2,9 @@
 ghost use Rattle.std.specs.Prelude.{◌≡◌, IfOk, Some, ◌+◌, ◌*◌, ◌<◌, ◌≤◌, length, IsTrue, None};
 ghost use Rattle.std.specs.Str.{chars};
 ghost use Rattle.urlpattern_init.specs.Inheritance.{values_view};
-ghost use Rattle.urlpattern_init.specs.Split.{AuthorityFrom, EndsAt, HashAt, HashFrom, HostnameFrom, IsAbsoluteSplit, IsRelativeSplit, IsTextBetween, PathnameAt, PathnameFrom, PortAt, SearchAt, SearchFrom, UserinfoFrom, depth_before, ends_at, implied_pathname, is_at_sign, is_colon_sign, is_slash_sign};
-ghost use Rattle.urlpattern_init.specs.Splitting.{CanRead, HasRead, HasTurnForSlash, HasTurns, IsOwned, IsSource, NoAuthority, NoPathname, NoSearch, split_values, may_follow_hostname, may_follow_pathname, may_follow_port, may_follow_search, text_of_source, tokens_of};
+ghost use Rattle.urlpattern_init.specs.declared.constructor_parser.sections.Section.TheVariants.{Hostname, Pathname, Port, Search};
+ghost use Rattle.urlpattern_init.specs.Split.{AuthorityFrom, EndsAt, HashAt, HashFrom, HostnameFrom, IsAbsoluteSplit, IsRelativeSplit, IsTextBetween, NoAuthority, PathnameAt, PathnameFrom, PortAt, SearchAt, SearchFrom, UserinfoFrom, depth_before, ends_at, implied_pathname, is_at_sign, is_colon_sign, is_slash_sign};
+ghost use Rattle.urlpattern_init.specs.Splitting.{CanRead, HasRead, HasTurnForSlash, HasTurns, IsOwned, IsSource, NoPathname, NoSearch, may_follow, split_values, text_of_source, tokens_of};
 ghost use Rattle.urlpattern_syntax.specs.Eight.{at};
 ghost use Rattle.urlpattern_syntax.specs.Errors.{OnlyOutOfMemory};
 ghost use Rattle.urlpattern_syntax.specs.Text.{option_text};
@@ -192,7 +193,7 @@ impl<'t, 'a> Source<'t, 'a> {
     fn port_at(&self, end: Position, special: bool) -> Split<'a>
         requires source { IsSource self.now }
         requires reads { HasRead self.now end }
-        requires sign { IsTrue (may_follow_hostname (tokens_of self.now) end.index) }
+        requires sign { IsTrue (may_follow Hostname (tokens_of self.now) end.index) }
         requires slash { HasTurnForSlash self.now end.index 0 end.turns }
         ensures split { PortAt (text_of_source self.now) (tokens_of self.now) special end.index (split_values result) }
         ensures turns { result.turns ≤ 2 * length self.now.tokens.now }
@@ -213,7 +214,7 @@ impl<'t, 'a> Source<'t, 'a> {
     fn pathname_at(&self, end: Position, special: bool) -> Split<'a>
         requires source { IsSource self.now }
         requires reads { HasRead self.now end }
-        requires sign { IsTrue (may_follow_port (tokens_of self.now) end.index) }
+        requires sign { IsTrue (may_follow Port (tokens_of self.now) end.index) }
         requires slash { IsTrue (is_slash_sign (tokens_of self.now) end.index) → HasTurns self.now end.index end.turns }
         ensures split { PathnameAt (text_of_source self.now) (tokens_of self.now) special end.index (split_values result) }
         ensures nothing { NoAuthority (split_values result) }
@@ -248,7 +249,7 @@ impl<'t, 'a> Source<'t, 'a> {
     fn search_at(&self, end: Position) -> Split<'a>
         requires source { IsSource self.now }
         requires reads { HasRead self.now end }
-        requires sign { IsTrue (may_follow_pathname (tokens_of self.now) end.index) }
+        requires sign { IsTrue (may_follow Pathname (tokens_of self.now) end.index) }
         ensures split { SearchAt (text_of_source self.now) (tokens_of self.now) end.index (split_values result) }
         ensures nothing { NoPathname (split_values result) }
         ensures turns { result.turns ≤ 2 * length self.now.tokens.now }
@@ -282,7 +283,7 @@ impl<'t, 'a> Source<'t, 'a> {
     fn hash_at(&self, end: Position) -> Split<'a>
         requires source { IsSource self.now }
         requires reads { HasRead self.now end }
-        requires sign { IsTrue (may_follow_search (tokens_of self.now) end.index) }
+        requires sign { IsTrue (may_follow Search (tokens_of self.now) end.index) }
         ensures split { HashAt (text_of_source self.now) (tokens_of self.now) end.index (split_values result) }
         ensures nothing { NoSearch (split_values result) }
         ensures turns { result.turns ≤ 2 * length self.now.tokens.now }

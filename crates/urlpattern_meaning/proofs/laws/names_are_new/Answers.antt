@@ -8,5 +8,5 @@ returns c = record {
   nonempty = λ answers text options. names_nonempty text options (listed answers);
   distinct = λ answers text options. names_distinct text options (listed answers);
   numbered = λ answers text options. names_numbered text options (listed answers);
-  given = λ text front back token are. given_undigited text (front ++ token ∷ back) front back token are refl;
+  given = λ text front later token are. given_undigited text (front ++ token ∷ later) front later token are refl;
 }

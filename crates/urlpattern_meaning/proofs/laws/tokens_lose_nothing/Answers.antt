@@ -1,4 +1,4 @@
-use Rattle.std.proofs.Common.{[], ◌∷◌, ◌++◌, refl}
+use Rattle.std.proofs.Common.{[], ◌∷◌, ◌++◌, ap, refl}
 use Rattle.urlpattern_meaning.proofs.TokenLaws.{value_stands}
 use Rattle.urlpattern_meaning.proofs.TokensPlaced.{tokens_lay, tokens_rise, tokens_stand, last_end, end_last}
 use Rattle.urlpattern_meaning.proofs.laws.tokens_lose_nothing.Goals as goal
@@ -7,8 +7,8 @@ pub returns : goal.returns
 returns c = record {
   lay = tokens_lay;
   rise = λ text front between back token later are. tokens_rise text (front ++ token ∷ (between ++ later ∷ back)) front between back token later are refl;
-  stand = λ text front back token are. tokens_stand text (front ++ token ∷ back) front back token are refl;
-  slice = λ text front back token are. value_stands text (front ++ token ∷ back) front back token are refl;
-  ends = λ text front token are. last_end text (front ++ token ∷ []) front token are refl;
-  only_end = λ text front back token are. end_last text (front ++ token ∷ back) front back token are refl;
+  stand = λ text front later token are. tokens_stand text (front ++ token ∷ later) front later token are refl;
+  slice = λ text front later token are. value_stands text (front ++ token ∷ later) front later token are refl;
+  ends = λ text front later token are none. last_end text (front ++ token ∷ later) front token are (ap (λ rest. front ++ token ∷ rest) none);
+  only_end = λ text front later token are. end_last text (front ++ token ∷ later) front later token are refl;
 }
