@@ -39,6 +39,10 @@ is_text Char = true
 is_text EscapedChar = true
 is_text kind = false
 
+abbrev pub is_regexp : TokenType → Bool
+is_regexp Regexp = true
+is_regexp kind = false
+
 -- a placeholder begins with such a token
 abbrev pub is_placeholder : TokenType → Bool
 is_placeholder Name = true
@@ -50,10 +54,6 @@ abbrev pub is_modifier : TokenType → Bool
 is_modifier OtherModifier = true
 is_modifier Asterisk = true
 is_modifier kind = false
-
-abbrev pub is_regexp : TokenType → Bool
-is_regexp Regexp = true
-is_regexp kind = false
 
 -- the first token is of such a kind
 abbrev pub BeginsWithKind : (TokenType → Bool) → List TokenView → Type 0

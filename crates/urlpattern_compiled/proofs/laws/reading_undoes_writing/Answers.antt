@@ -3,13 +3,4 @@ use Rattle.urlpattern_inputs.proofs.RoundTrip.{init_again, input_again, match_in
 use Rattle.urlpattern_compiled.proofs.laws.reading_undoes_writing.Goals as goal
 
 pub returns : goal.returns
-returns c = record {
-  options = options_again;
-  init = init_again;
-  input = input_again;
-  match_input = match_input_again;
-  inner = inner_again;
-  matcher = matcher_again;
-  component = component_again;
-  pattern = pattern_again;
-}
+returns c = record { options = options_again; init = init_again; input = input_again; match_input = match_input_again; inner = inner_again; matcher = matcher_again; component = component_again; pattern = pattern_again }
