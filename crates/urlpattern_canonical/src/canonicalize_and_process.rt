@@ -2,8 +2,7 @@
 //!
 //! <https://urlpattern.spec.whatwg.org/#canon>
 ghost use Rattle.std.specs.Prelude.{◌≡◌, Ok, length, IfOk};
-ghost use Rattle.std.specs.Option.{ForSome};
-ghost use Rattle.std.specs.Str.{chars};
+ghost use Rattle.std.specs.{Option.ForSome, Str.chars};
 ghost use Rattle.urlpattern_syntax.specs.Text.{text_of, option_text};
 ghost use Rattle.urlpattern_syntax.specs.Errors.{OnlyOutOfMemory};
 ghost use Rattle.urlpattern_canonical.specs.Canonical.{IsAnswer, IsPathnameAnswer, IsPortAnswer, bytes_asked, canonical_hash, canonical_hostname, canonical_opaque_pathname, canonical_password, canonical_pathname, canonical_port, canonical_protocol, canonical_search, canonical_username, dummy_url, port_bytes, processed_base, processed_hash, processed_hostname, processed_password, processed_protocol, processed_search, processed_username};

@@ -4,12 +4,10 @@ ghost use Rattle.std.specs.Prelude.{◌≡◌, IfOk, OnOk, option_map};
 ghost use Rattle.serde_json.specs.View.{view};
 ghost use Rattle.urlpattern_compiled.specs.Json.{capture_read, inner_members, inner_read, inner_tree, matcher_read, matcher_tree};
 ghost use Rattle.urlpattern_core.specs.Matchers as compiled;
-ghost use Rattle.urlpattern_inputs.specs.ReadResults.{ReturnsRead};
-ghost use Rattle.urlpattern_inputs.specs.Trees.{GainAll};
+ghost use Rattle.urlpattern_inputs.specs.{ReadResults.ReturnsRead, Trees.GainAll};
 ghost use Rattle.urlpattern_compiled.specs.Plain.{engine_text, plain_inner, plain_matcher};
 ghost use Rattle.urlpattern_compiled.specs.Values.{inner_by, plain_inner_view, matcher_by, plain_matcher_view};
-ghost use Rattle.urlpattern_syntax.specs.Errors.{OnlyOutOfMemory};
-ghost use Rattle.urlpattern_syntax.specs.Text.{text_of};
+ghost use Rattle.urlpattern_syntax.specs.{Errors.OnlyOutOfMemory, Text.text_of};
 
 use crate::reading::optional_character_field;
 use crate::writing::filter_value;

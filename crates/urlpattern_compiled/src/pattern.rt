@@ -8,9 +8,7 @@ ghost use Rattle.urlpattern_compiled.specs.Plain.{plain_component};
 ghost use Rattle.urlpattern_inputs.specs.ReadResults.{ReturnsRead};
 ghost use Rattle.urlpattern_inputs.specs.Trees.{Gain, member_read};
 ghost use Rattle.urlpattern_compiled.specs.Values.{component_by, component_patterns, plain_component_view, plain_matcher_view, plain_pattern_view};
-ghost use Rattle.urlpattern_syntax.specs.Eight.{at};
-ghost use Rattle.urlpattern_syntax.specs.Errors.{OnlyOutOfMemory};
-ghost use Rattle.urlpattern_syntax.specs.Text.{text_of};
+ghost use Rattle.urlpattern_syntax.specs.{Eight.at, Errors.OnlyOutOfMemory, Text.text_of};
 
 use crate::matcher::{Matcher, engine_text};
 use crate::reading::texts_field;

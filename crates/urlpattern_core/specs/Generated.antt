@@ -3,8 +3,7 @@ use Rattle.std.specs.Prelude.{◌≡◌, ℕ, List, length}
 use Rattle.urlpattern_meaning.specs.Dialect.{HasMeaningOf}
 use Rattle.urlpattern_meaning.specs.PartMeaning.{Captures, PartsMean}
 pub use Rattle.urlpattern_meaning.specs.PartMeaning.{AreGenerated}
-use Rattle.urlpattern_syntax.specs.Options.{OptionsView}
-use Rattle.urlpattern_syntax.specs.Parts.{PartView}
+use Rattle.urlpattern_syntax.specs.{Options.OptionsView, Parts.PartView}
 
 -- where none of the parts is custom, the regular expression means exactly what they mean
 abbrev pub HasGeneratedMeaning : (regexp : List ℕ) → OptionsView → List PartView → Type 0

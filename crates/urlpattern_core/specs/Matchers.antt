@@ -4,10 +4,8 @@ use Rattle.urlpattern_core.specs.declared.matcher.{InnerMatcher.InnerMatcher, Ma
 use Rattle.urlpattern_meaning.specs.Matching.{ArePeeled, BeginsPlain, EndsPlain, IsRemoved, InnerView, IsSame, Literal, MatcherView, RegExp, SingleCapture, end_text}
 use Rattle.urlpattern_syntax.specs.declared.error.Error.{Error}
 use Rattle.urlpattern_syntax.specs.Errors.{ErrorView, error_view}
-use Rattle.urlpattern_syntax.specs.Options.{OptionsView}
+use Rattle.urlpattern_syntax.specs.{Options.OptionsView, Parts.PartView, Text.text_of}
 use Rattle.urlpattern_syntax.specs.declared.parser.{PartModifier.PartModifier, PartType.PartType}
-use Rattle.urlpattern_syntax.specs.Parts.{PartView}
-use Rattle.urlpattern_syntax.specs.Text.{text_of}
 
 -- an engine's value, or the error that is kept in its place
 abbrev pub engine_view : {E : Type 0} → Result E Error → Result E ErrorView

@@ -2,10 +2,9 @@
 use denote.Ref.{Bor}
 use Rattle.std.specs.Prelude.{◌&&◌, Bool, bytes_eq, ℕ, List, not, Option, option_map}
 use Rattle.urlpattern_meaning.specs.Printing.{last_of}
-use Rattle.urlpattern_syntax.specs.Options.{OptionsView}
+use Rattle.urlpattern_syntax.specs.{Options.OptionsView, RegexpText.is_empty}
 use Rattle.urlpattern_syntax.specs.declared.parser.Part.{Part}
 use Rattle.urlpattern_syntax.specs.Parts.{PartView, part_view}
-use Rattle.urlpattern_syntax.specs.RegexpText.{is_empty}
 
 -- the part there, if there is one
 abbrev pub neighbour : Option (Bor Part) → Option PartView

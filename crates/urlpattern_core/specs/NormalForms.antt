@@ -6,8 +6,7 @@ use Rattle.urlpattern_meaning.specs.Laws.{Answered, listed}
 use Rattle.urlpattern_meaning.specs.Printing.{Keeps, encoded_texts, joined, printed}
 use Rattle.urlpattern_meaning.specs.RoundTrip.{FailsText, IsPrintable, KeepsAnswered, ReadsBack}
 use Rattle.urlpattern_syntax.specs.declared.error.Error.{Error}
-use Rattle.urlpattern_syntax.specs.Errors.{MemoryOr}
-use Rattle.urlpattern_syntax.specs.Options.{OptionsView}
+use Rattle.urlpattern_syntax.specs.{Errors.MemoryOr, Options.OptionsView}
 use Rattle.urlpattern_syntax.specs.declared.parser.Part.{Part}
 use Rattle.urlpattern_syntax.specs.Parts.{PartView, parts_view}
 use Rattle.urlpattern_syntax.specs.Reading.{Encoding, Reads, Refuses}

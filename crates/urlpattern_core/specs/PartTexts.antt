@@ -4,10 +4,8 @@ use Rattle.urlpattern_core.specs.declared.component.printed.PrintedPart.{Printed
 use Rattle.urlpattern_core.specs.declared.component.regexp_text.PartRegexp.{PartRegexp}
 use Rattle.urlpattern_core.specs.Neighbours.{neighbour}
 use Rattle.urlpattern_meaning.specs.Printing.{printed_group}
-use Rattle.urlpattern_syntax.specs.Options.{options_view}
-use Rattle.urlpattern_syntax.specs.Parts.{part_view}
+use Rattle.urlpattern_syntax.specs.{Options.options_view, Parts.part_view, Text.text_of}
 use Rattle.urlpattern_syntax.specs.RegexpText.{affixed_regexp, bare_regexp, escaped_regexp, fixed_regexp, matched_by}
-use Rattle.urlpattern_syntax.specs.Text.{text_of}
 
 -- ---- in the regular expression
 

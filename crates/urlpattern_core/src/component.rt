@@ -4,11 +4,8 @@
 
 ghost use Rattle.std.specs.Prelude.{◌≡◌, ◌&&◌, length, map, not, IfOk};
 ghost use Rattle.urlpattern_core.specs.Generated.{HasGeneratedMeaning, HaveCaptures};
-ghost use Rattle.urlpattern_syntax.specs.Errors.{OnlyOutOfMemory};
-ghost use Rattle.urlpattern_syntax.specs.Options.{options_view};
-ghost use Rattle.urlpattern_syntax.specs.Parts.{parts_view};
+ghost use Rattle.urlpattern_syntax.specs.{Errors.OnlyOutOfMemory, Options.options_view, Parts.parts_view, Text.text_of};
 ghost use Rattle.urlpattern_syntax.specs.RegexpText.{group_names, is_empty, is_fixed_text, regexp_text};
-ghost use Rattle.urlpattern_syntax.specs.Text.{text_of};
 
 mod compile;
 mod matchers;

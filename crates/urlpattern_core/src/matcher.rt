@@ -1,13 +1,11 @@
 //! Matchers: what a component is matched with, past the engine of regular expressions where that is not needed.
 
 ghost use Rattle.std.specs.Prelude.{◌≡◌, ◌↔◌, [], ℕ, List, IfErr, IfNone, IfOk, IfSome, IsTrue, map, not};
-ghost use Rattle.std.specs.Char.{to_ascii_lowercase};
-ghost use Rattle.std.specs.Str.{chars};
+ghost use Rattle.std.specs.{Char.to_ascii_lowercase, Str.chars};
 ghost use Rattle.urlpattern_core.specs.CaptureTexts.{captures_view};
 ghost use Rattle.urlpattern_core.specs.Matchers.{BeginsWithFolded, EndsWithFolded, matcher_view};
 ghost use Rattle.urlpattern_meaning.specs.Matching.{Answers, AsksEngine, HasMiddle, IsMatched, IsSame, MayBeEmpty, MayRunOutOfMemory, PassesFilter};
-ghost use Rattle.urlpattern_syntax.specs.Errors.{OnlyOutOfMemory};
-ghost use Rattle.urlpattern_syntax.specs.Text.{lacks};
+ghost use Rattle.urlpattern_syntax.specs.{Errors.OnlyOutOfMemory, Text.lacks};
 
 mod look;
 

@@ -1,16 +1,14 @@
 -- The values that an init gives and those that it results in, one component at a time.
 use Rattle.std.specs.Prelude.{◌≡◌, ◌≢◌, ℕ, List, [], length, max, Option, Result, String, Ok, option_copied, option_map, unwrap_or, IfErr, IfOk}
-use Rattle.std.specs.Borrow.{Bor}
-use Rattle.std.specs.Option.{option_or}
+use Rattle.std.specs.{Borrow.Bor, Option.option_or}
 use Rattle.std.specs.declared.alloc.Global.{Global}
 use Rattle.url.specs.Parser.{Parsed}
 use Rattle.urlpattern_canonical.specs.Canonical.{IsAnswer, Reports, bytes_asked}
 use Rattle.urlpattern_init.specs.declared.init.processing.Processing.{Processing}
 use Rattle.urlpattern_init.specs.Inheritance.{bytes_of, given_bytes, given_text, inherited, init_bytes, init_values, missing, processed_text, processed_value, values_view}
 use Rattle.urlpattern_syntax.specs.declared.eight.ComponentName.{ComponentName}
-use Rattle.urlpattern_syntax.specs.Eight.{Values}
+use Rattle.urlpattern_syntax.specs.{Eight.Values, Errors.MemoryOr}
 use Rattle.urlpattern_syntax.specs.declared.error.Error.{Error}
-use Rattle.urlpattern_syntax.specs.Errors.{MemoryOr}
 use Rattle.urlpattern_syntax.specs.Text.{byte_len, option_text, text_of}
 
 -- the values that the init gives

@@ -1,20 +1,16 @@
 -- Whether the protocol of a constructor string is special, after the URLPattern Standard, section "Compute protocol
 -- matches a special scheme flag".
 use Rattle.std.specs.Prelude.{ℕ, ◌↔◌, Bool, false, List, Any, IsTrue, Option, Result, String, codes, length}
-use Rattle.std.specs.Borrow.{Bor}
-use Rattle.std.specs.Str.{chars}
+use Rattle.std.specs.{Borrow.Bor, Str.chars}
 use Rattle.std.specs.declared.alloc.Global.{Global}
 use Rattle.urlpattern_canonical.specs.Canonical.{IsAnswer, canonical_protocol, special_schemes}
-use Rattle.urlpattern_core.specs.Matchers.{matcher_view}
+use Rattle.urlpattern_core.specs.{Matchers.matcher_view, Components.IsEngineOf}
 use Rattle.urlpattern_core.specs.declared.matcher.Matcher.{Matcher}
 use Rattle.urlpattern_core.specs.declared.regexp.RegExp.{Ghosts as Engine}
-use Rattle.urlpattern_core.specs.Components.{IsEngineOf}
 use Rattle.urlpattern_meaning.specs.Matching.{IsMadeOf, IsMatched, MatcherView}
 use Rattle.urlpattern_meaning.specs.PartMeaning.{Captures}
 use Rattle.urlpattern_syntax.specs.declared.error.Error.{Error}
-use Rattle.urlpattern_syntax.specs.Errors.{ErrorView}
-use Rattle.urlpattern_syntax.specs.Options.{default_options}
-use Rattle.urlpattern_syntax.specs.Parts.{PartView}
+use Rattle.urlpattern_syntax.specs.{Errors.ErrorView, Options.default_options, Parts.PartView}
 use Rattle.urlpattern_syntax.specs.Reading.{Encoding, Reads, Refuses, encoding_of}
 
 -- what `canonicalize_protocol` may return for the bytes of a text

@@ -1,14 +1,12 @@
 -- The components of a constructor string, after the URLPattern Standard, section "Constructor string parsing".
 use Rattle.std.specs.Prelude.{◌≡◌, ℕ, zero, suc, ◌+◌, ◌-◌, ◌<◌, ◌≤◌, ◌⊎◌, Bool, true, false, not, ◌&&◌, ◌||◌, ◌==◌, List, [], ◌++◌, length, codes, Option, Some, None, IsTrue, IsSomeAnd, slice_get, slice_range}
 use Rattle.std.specs.List.{count_by, fold, range_with_len}
-use Rattle.std.specs.Option.{option_map_or}
-use Rattle.std.specs.Str.{bytes_eq}
+use Rattle.std.specs.{Option.option_map_or, Str.bytes_eq}
 use Rattle.urlpattern_init.specs.declared.constructor_parser.sections.Section.{Section}
 use Rattle.urlpattern_init.specs.declared.constructor_parser.sections.Section.TheVariants.{Protocol, Authority, Username, Password, Hostname, Port, Pathname, Search, Hash}
-use Rattle.urlpattern_syntax.specs.Text.{byte_len}
+use Rattle.urlpattern_syntax.specs.{Eight.Values, Text.byte_len}
 use Rattle.urlpattern_syntax.specs.declared.tokenizer.TokenType.{TokenType}
 use Rattle.urlpattern_syntax.specs.Tokens.{AreLenientTokens, TokenView}
-use Rattle.urlpattern_syntax.specs.Eight.{Values}
 
 -- ---- the token at a position
 

@@ -5,10 +5,9 @@ use Rattle.urlpattern_init.specs.Split.{NoAuthority, ends_at, is_ending, is_seen
 use Rattle.urlpattern_init.specs.declared.constructor_parser.sections.{Position.Position, Section.Section}
 use Rattle.urlpattern_init.specs.declared.constructor_parser.tokens.Source.{Source}
 use Rattle.urlpattern_init.specs.declared.constructor_parser.components.Split.{Split}
-use Rattle.urlpattern_syntax.specs.Parsing.{views}
+use Rattle.urlpattern_syntax.specs.{Errors.OnlyOutOfMemory, Parsing.views}
 use Rattle.urlpattern_syntax.specs.Tokens.{AreLenientTokens, TokenView}
 use Rattle.urlpattern_syntax.specs.declared.error.Error.{Error}
-use Rattle.urlpattern_syntax.specs.Errors.{OnlyOutOfMemory}
 use Rattle.urlpattern_syntax.specs.Eight.{Values, at, each}
 use Rattle.urlpattern_syntax.specs.Text.{chars, option_text, text_of}
 

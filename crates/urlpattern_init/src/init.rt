@@ -5,8 +5,7 @@ mod processing;
 
 ghost use Rattle.std.specs.Prelude.{◌≡◌, option_map};
 ghost use Rattle.urlpattern_init.specs.Inheritance.{values_of, values_view};
-ghost use Rattle.urlpattern_syntax.specs.Eight.{at};
-ghost use Rattle.urlpattern_syntax.specs.Text.{text_of};
+ghost use Rattle.urlpattern_syntax.specs.{Eight.at, Text.text_of};
 
 pub use processing::{process, process_values, url_text};
 use url::Url;

@@ -6,8 +6,7 @@ ghost use Rattle.serde_json.specs.View.{members_view, view};
 ghost use Rattle.urlpattern_inputs.specs.InputJson.{init_read, init_tree};
 ghost use Rattle.urlpattern_inputs.specs.ReadResults.{ReturnsRead};
 ghost use Rattle.urlpattern_inputs.specs.InputValues.{plain_init_texts, init_view};
-ghost use Rattle.urlpattern_syntax.specs.Eight.{at};
-ghost use Rattle.urlpattern_syntax.specs.Errors.{OnlyOutOfMemory};
+ghost use Rattle.urlpattern_syntax.specs.{Eight.at, Errors.OnlyOutOfMemory};
 
 use crate::reading::{Unread, optional_text_field, read_or_none};
 use crate::writing::put_optional;

@@ -3,8 +3,7 @@
 ghost use Rattle.std.specs.Prelude.{◌≡◌, IfOk, option_map};
 ghost use Rattle.serde_json.specs.View.{view};
 ghost use Rattle.urlpattern_inputs.specs.InputJson.{input_read, input_tree};
-ghost use Rattle.urlpattern_inputs.specs.ReadResults.{ReturnsRead};
-ghost use Rattle.urlpattern_inputs.specs.InputValues.{input_view};
+ghost use Rattle.urlpattern_inputs.specs.{ReadResults.ReturnsRead, InputValues.input_view};
 ghost use Rattle.urlpattern_syntax.specs.Errors.{OnlyOutOfMemory};
 
 use crate::init::UrlPatternInit;

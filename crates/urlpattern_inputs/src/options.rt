@@ -1,8 +1,7 @@
 //! How a whole pattern is built.
 
 ghost use Rattle.std.specs.Prelude.{◌≡◌, IfOk, Ok};
-ghost use Rattle.serde_json.specs.Find.{get};
-ghost use Rattle.serde_json.specs.View.{view};
+ghost use Rattle.serde_json.specs.{Find.get, View.view};
 ghost use Rattle.urlpattern_inputs.specs.InputJson.{options_read, options_tree, syntax_name, syntax_of, syntax_read};
 ghost use Rattle.urlpattern_syntax.specs.Errors.{OnlyOutOfMemory};
 

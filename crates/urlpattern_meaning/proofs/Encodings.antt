@@ -40,7 +40,12 @@ are_parts strong weak h options (Capture prefix name match suffix modifier ∷ i
     (p.0, p.1, p.2, p.3, h prefix (Ok p.0) p.4, h suffix (Ok p.1) p.5, are_parts strong weak h options items p.2 p.6)
 
 pub reads_weaker : (strong weak : Encoding) → Weakens strong weak → (text : List ℕ) (options : OptionsView) (parts : List PartView) → Reads text options strong parts → Reads text options weak parts
-reads_weaker strong weak h text options parts r = record r {
+reads_weaker strong weak h text options parts r = record {
+  tokens = r.tokens;
+  pieces = r.pieces;
+  found = r.found;
+  are_tokens = r.are_tokens;
+  are_pieces = r.are_pieces;
   are_met = are_met strong weak h (demands (items_of r.pieces) (endings.Stops r.found)) r.are_met;
   are_parts = are_parts strong weak h options (items_of r.pieces) parts r.are_parts;
 }

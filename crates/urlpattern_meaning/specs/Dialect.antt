@@ -2,8 +2,7 @@
 use Rattle.std.specs.Prelude.{◌≡◌, ◌↔◌, ℕ, suc, ◌+◌, ◌⊎◌, not, ◌==◌, List, [], ◌∷◌, ◌++◌, replicate, codes, Option, Some, None, IsTrue, MatchOption}
 use Rattle.std.specs.Str.{all_scalars}
 use Rattle.urlpattern_meaning.specs.PartMeaning.{Captures, PartsMean}
-use Rattle.urlpattern_syntax.specs.Options.{OptionsView}
-use Rattle.urlpattern_syntax.specs.Parts.{PartView}
+use Rattle.urlpattern_syntax.specs.{Options.OptionsView, Parts.PartView}
 use Rattle.urlpattern_syntax.specs.RegexpText.{captured, grouped, regexp_marks}
 use Rattle.urlpattern_syntax.specs.Text.{is_among, line_feed, IsRepeated}
 

@@ -5,9 +5,7 @@ use Rattle.urlpattern_meaning.specs.Dialect.{IsTreeOf, Items}
 use Rattle.urlpattern_meaning.specs.Matching.{EachAnswerIs, InnerView, IsOfMiddle, MatcherView, RegExp}
 use Rattle.urlpattern_meaning.specs.PartMeaning.{AreGenerated, Captures}
 use Rattle.urlpattern_meaning.specs.Ways.{first_way}
-use Rattle.urlpattern_syntax.specs.Options.{OptionsView}
-use Rattle.urlpattern_syntax.specs.Parts.{PartView}
-use Rattle.urlpattern_syntax.specs.RegexpText.{regexp_text}
+use Rattle.urlpattern_syntax.specs.{Options.OptionsView, Parts.PartView, RegexpText.regexp_text}
 
 -- The result is what the first way captures that the tree of the parts' regular expression takes the whole text in, or None
 -- where it takes it in no way.

@@ -7,8 +7,7 @@ use Rattle.urlpattern_meaning.specs.Laws.{AtMostOne, HasShapeOf}
 use Rattle.urlpattern_meaning.specs.Matching.{Agrees, AgreesInMiddle, ArePeeled, EachAnswerIs, MatcherView, end_text}
 use Rattle.urlpattern_meaning.specs.PartMeaning.{Allows, AreCopies, AreGenerated, Captures, PartMeans, PartsMean, capture_of_no_copies}
 use Rattle.urlpattern_meaning.specs.Ways.{Way, ways}
-use Rattle.urlpattern_syntax.specs.Options.{OptionsView}
-use Rattle.urlpattern_syntax.specs.Parts.{PartView}
+use Rattle.urlpattern_syntax.specs.{Options.OptionsView, Parts.PartView}
 use Rattle.urlpattern_syntax.specs.RegexpText.{IsWildcard, group_names, regexp_text}
 
 -- ---- lists of parts

@@ -4,9 +4,7 @@ use Rattle.std.specs.Prelude.{◌≡◌, ◌≢◌, ◌⊎◌, ℕ, ◌<◌, Lis
 use Rattle.urlpattern_meaning.specs.Laws.{Answered, AnswersAsked, AnswersOnce, AnswersOnceGivenMemory, HasOutcome, HasSomeOutcome, LacksAnswer, Outcome, listed}
 use Rattle.urlpattern_meaning.specs.Printing.{Keeps, encoded_texts, joined, printed}
 use Rattle.urlpattern_meaning.specs.RoundTrip.{FailsText, IsPrintable, KeepsAnswered, MayKeep, ReadsAsJoined, ReadsOnlyAsJoined, WereRead}
-use Rattle.urlpattern_syntax.specs.Errors.{ErrorView}
-use Rattle.urlpattern_syntax.specs.Options.{OptionsView}
-use Rattle.urlpattern_syntax.specs.Parts.{PartView}
+use Rattle.urlpattern_syntax.specs.{Errors.ErrorView, Options.OptionsView, Parts.PartView}
 use Rattle.urlpattern_syntax.specs.Pieces.{ArePieces, Ending, Piece}
 use Rattle.urlpattern_syntax.specs.Reading.{Calls, Encoding, Reads, Refuses, encoding_by}
 use Rattle.urlpattern_syntax.specs.Tokens.{AreTokens, FaultView, IsFault, TokenView}

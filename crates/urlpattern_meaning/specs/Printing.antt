@@ -1,13 +1,9 @@
 -- The pattern text of a list of parts, after the URLPattern Standard, section "Converting part lists to pattern
 -- strings". It is close to the standard's steps, so what it is worth shows when the text is read again.
 use Rattle.std.specs.Prelude.{◌≡◌, ◌≢◌, ℕ, Bool, true, false, not, ◌&&◌, ◌||◌, List, [], ◌∷◌, ◌++◌, bytes_eq, codes, Option, Some, None, Result, Ok, IsTrue, if◌then◌else◌, ◌↔◌}
-use Rattle.std.specs.Char.{is_ascii_digit}
-use Rattle.std.specs.List.{flat_map}
-use Rattle.urlpattern_syntax.specs.Errors.{ErrorView}
-use Rattle.urlpattern_syntax.specs.Options.{OptionsView}
+use Rattle.std.specs.{Char.is_ascii_digit, List.flat_map}
+use Rattle.urlpattern_syntax.specs.{Errors.ErrorView, Options.OptionsView, Parts.PartView, Reading.Encoding}
 use Rattle.urlpattern_syntax.specs.declared.parser.PartType.{PartType}
-use Rattle.urlpattern_syntax.specs.Parts.{PartView}
-use Rattle.urlpattern_syntax.specs.Reading.{Encoding}
 use Rattle.urlpattern_syntax.specs.RegexpText.{captured, full_wildcard, is_empty, is_fixed_text, is_plain, is_unmodified, modifier_text, segment_wildcard}
 use Rattle.urlpattern_syntax.specs.Text.{begins_with, is_name_part}
 pub use Rattle.urlpattern_syntax.specs.PatternText.{escaped_pattern, pattern_marks}

@@ -1,10 +1,9 @@
 -- Lists of parts whose printed pattern reads as these parts again: the premises of that theorem.
 use Rattle.std.specs.Prelude.{◌≡◌, ◌≢◌, ℕ, suc, ◌⊎◌, not, List, [], ◌∷◌, AllPairs, Contains, IsTrue, Ok, Err, decimal, if◌then◌else◌}
 use Rattle.std.specs.List.{list_all}
-use Rattle.urlpattern_syntax.specs.Errors.{ErrorView}
+use Rattle.urlpattern_syntax.specs.{Errors.ErrorView, Parts.PartView}
 use Rattle.urlpattern_syntax.specs.Options.{OptionsView, default_options, hostname_options, pathname_options}
 use Rattle.urlpattern_syntax.specs.declared.parser.PartType.{PartType}
-use Rattle.urlpattern_syntax.specs.Parts.{PartView}
 use Rattle.urlpattern_syntax.specs.Reading.{Encoding, Reads, Refuses}
 use Rattle.urlpattern_syntax.specs.RegexpText.{full_wildcard, group_names, segment_wildcard}
 use Rattle.urlpattern_syntax.specs.Text.{is_among, is_name_part}

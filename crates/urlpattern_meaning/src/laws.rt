@@ -4,21 +4,17 @@
 
 ghost use Rattle.std.specs.Prelude.{◌≡◌, ◌≢◌, ℕ, List, [], ◌++◌, All, AllPairs, None, Some, length};
 ghost use Rattle.std.specs.Char.{is_ascii_digit};
+ghost use Rattle.urlpattern_meaning.specs.{FirstAnswers.AnswersByFirstWay, Matching.AnswersByMeaning, Ways.first_way};
 ghost use Rattle.urlpattern_meaning.specs.Dialect.{Follows, HasMeaningOf, IsTreeOf, Items, Means, group_count};
-ghost use Rattle.urlpattern_meaning.specs.FirstAnswers.{AnswersByFirstWay};
 ghost use Rattle.urlpattern_meaning.specs.Laws.{Answered, AtMostOne, CountFrom, HasLenientTokens, HasTokensOrFault, IsSpelledAt, Lays, listed, numbers_among};
 ghost use Rattle.urlpattern_meaning.specs.LawsOfMeaning.{AnswersWhereEnginesAgree, CapturesHaveNames, CopiesAreOneCapture, FirstWayIsMeant, FirstWayIsOne, FollowingIsAgreeing, NoCopiesAreOneCapture, OfEachMatcher, OfEachTree, PlainEndsAreRemoved, TreesMeanTheParts, WaysAreMeanings, WildcardsCaptureNothingElse};
 ghost use Rattle.urlpattern_meaning.specs.LawsOfReading.{AnsweredTextsHaveOutcomes, FaultsAreOne, HaveOneAtMost, IndicesRise, OfEachReading, OfEachToken, OfPartsThatWereRead, OfPrintableParts, OutcomesAreOneGivenMemory, OutcomesLackOnlyAnswers, PiecesAreOne, PrintedFailsByTheEncoding, PrintedMayReadAsJoined, PrintedReadsOnlyAsJoined, ReadPartsArePrintable, ReadingsExcludeRefusals, TokensExcludeFaults, TokensHavePieces, UnderEachCallback, UnderEachList};
-ghost use Rattle.urlpattern_meaning.specs.Matching.{AnswersByMeaning};
 ghost use Rattle.urlpattern_meaning.specs.PartMeaning.{AreGenerated, MeanTheSame};
 ghost use Rattle.urlpattern_meaning.specs.Printing.{HaveTexts, Keeps, joined, printed};
 ghost use Rattle.urlpattern_meaning.specs.RoundTrip.{ArePatternParts, IsNotRefused, PrintsTheSame, ReadsAsJoined, ReadsOnlyAsJoined};
-ghost use Rattle.urlpattern_meaning.specs.Ways.{first_way};
-ghost use Rattle.urlpattern_syntax.specs.Options.{OptionsView};
-ghost use Rattle.urlpattern_syntax.specs.Parts.{PartView};
+ghost use Rattle.urlpattern_syntax.specs.{Options.OptionsView, Parts.PartView, Text.BeginsWith};
 ghost use Rattle.urlpattern_syntax.specs.Reading.{Reads, Refuses};
 ghost use Rattle.urlpattern_syntax.specs.RegexpText.{group_names, regexp_text};
-ghost use Rattle.urlpattern_syntax.specs.Text.{BeginsWith};
 ghost use Rattle.urlpattern_syntax.specs.Tokens.{AreLenientTokens, AreTokens, TokenView, end_of};
 ghost use Rattle.urlpattern_syntax.specs.declared.tokenizer.TokenType.TheVariants.{End, Name};
 

@@ -1,8 +1,7 @@
 -- The texts of the errors, as the bytes that are printed.
 use Rattle.std.specs.Prelude.{ℕ, List, ◌++◌, codes, decimal, encode_utf8_all, Option, Some, None}
 use Rattle.urlpattern_syntax.specs.declared.error.ParserError.{ParserError}
-use Rattle.urlpattern_syntax.specs.Errors.{ErrorView}
-use Rattle.urlpattern_syntax.specs.Text.{text_of}
+use Rattle.urlpattern_syntax.specs.{Errors.ErrorView, Text.text_of}
 use Rattle.urlpattern_syntax.specs.Tokens.{FaultView, TokenType}
 
 -- a kind of token has its name alone

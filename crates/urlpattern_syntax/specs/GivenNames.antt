@@ -1,10 +1,7 @@
 -- The names that a pattern gives to its placeholders, as they are kept.
 use Rattle.std.specs.Prelude.{ℕ, ◌||◌, Bool, List, bytes_eq}
-use Rattle.std.specs.Borrow.{Bor}
-use Rattle.std.specs.BTreeSet.{contains_by}
+use Rattle.std.specs.{Borrow.Bor, BTreeSet.contains_by, List.list_any, Ordering.nat_cmp}
 use Rattle.std.specs.Cmp.Lexicographic.{slice_cmp}
-use Rattle.std.specs.List.{list_any}
-use Rattle.std.specs.Ordering.{nat_cmp}
 use Rattle.urlpattern_syntax.specs.declared.parser.given_names.GivenNames.{GivenNames}
 
 -- the text's bytes are these

@@ -9,10 +9,8 @@ use Rattle.urlpattern_syntax.specs.Cursors.{AreTokensAfter, IsPlace, cursor_rest
 use Rattle.urlpattern_syntax.specs.Errors.{Error, ErrorView, error_view}
 pub use Rattle.urlpattern_syntax.specs.Errors.{MemoryOr}
 use Rattle.urlpattern_syntax.specs.declared.parser.given_names.GivenNames.{GivenNames}
-use Rattle.urlpattern_syntax.specs.GivenNames.{has_name}
-use Rattle.urlpattern_syntax.specs.Options.{OptionsView}
+use Rattle.urlpattern_syntax.specs.{GivenNames.has_name, Options.OptionsView, RegexpText.group_names}
 use Rattle.urlpattern_syntax.specs.Parts.{PartModifier, PartView, parts_view}
-use Rattle.urlpattern_syntax.specs.RegexpText.{group_names}
 use Rattle.urlpattern_syntax.specs.Text.{BeginsWith, is_name_start, option_text, text_of}
 use Rattle.urlpattern_syntax.specs.Pieces.{Piece, Placeholder, Matched, Ending, IsPiece, IsEnding, IsPlaceholderOf, IsPrefixOf, IsModifier, TakesModifier, TakesRegexp, AreTexts, BeginsWithKind, is_text}
 use Rattle.urlpattern_syntax.specs.Reading.{AreMet, AreParts, Demand, Encode, Encoding, FirstFails, Item, Fixed, Capture, NewName, encode_fixed, name_or}

@@ -1,16 +1,14 @@
 -- What a pattern text means, or why it is refused, after the URLPattern Standard, section "Parsing pattern strings".
 use denote.Param.Members.{Shared}
 use Rattle.std.specs.Prelude.{◌≡◌, ◌≢◌, ℕ, suc, ◌⊎◌, List, [], ◌∷◌, ◌++◌, bytes_eq, decimal, Option, Some, None, Result, Ok, Err, String, Contains, if◌then◌else◌, encode_utf8_all}
-use Rattle.std.specs.Borrow.{Bor}
-use Rattle.std.specs.Fn.{FnReturnsAt}
+use Rattle.std.specs.{Borrow.Bor, Fn.FnReturnsAt}
 use Rattle.std.specs.declared.alloc.Global.{Global}
 use Rattle.std.specs.declared.vec.Vec.{Vec}
 use Rattle.urlpattern_syntax.specs.Errors.{Error, ErrorView, error_view}
-use Rattle.urlpattern_syntax.specs.Options.{OptionsView}
+use Rattle.urlpattern_syntax.specs.{Options.OptionsView, Text.text_of}
 use Rattle.urlpattern_syntax.specs.Parts.{Part, PartModifier, PartType, PartView, fixed_text, parts_view}
 use Rattle.urlpattern_syntax.specs.Pieces.{Piece, Matched, Ending, ArePieces}
 use Rattle.urlpattern_syntax.specs.RegexpText.{segment_wildcard, full_wildcard}
-use Rattle.urlpattern_syntax.specs.Text.{text_of}
 use Rattle.urlpattern_syntax.specs.Tokens.{AreTokens, FaultView, IsFault, TokenType, TokenView}
 
 -- ---- what pieces stand for

@@ -1,8 +1,7 @@
 //! Texts with a backslash before each character that means more than itself.
 ghost use Rattle.std.specs.Prelude.{◌≡◌, ◌∷◌, [], IfOk};
 ghost use Rattle.std.specs.Str.{chars};
-ghost use Rattle.urlpattern_syntax.specs.Errors.{OnlyOutOfMemory};
-ghost use Rattle.urlpattern_syntax.specs.Options.{options_view};
+ghost use Rattle.urlpattern_syntax.specs.{Errors.OnlyOutOfMemory, Options.options_view};
 ghost use Rattle.urlpattern_syntax.specs.PatternText.{escaped_pattern, pattern_marks};
 ghost use Rattle.urlpattern_syntax.specs.RegexpText.{escaped, escaped_regexp, regexp_marks, segment_wildcard};
 ghost use Rattle.urlpattern_syntax.specs.Text.{is_among, text_of};

@@ -4,13 +4,11 @@
 ghost use Rattle.std.specs.Prelude.{◌≤◌, ◌≡◌, Result, Some, IfOk, IfErr, OnOk};
 ghost use Rattle.std.specs.Str.{chars};
 ghost use Rattle.urlpattern_syntax.specs.Errors.{ErrorView, error_view};
-ghost use Rattle.urlpattern_syntax.specs.Options.{options_view};
+ghost use Rattle.urlpattern_syntax.specs.{Options.options_view, RegexpText.modifier_text, Text.text_of};
 ghost use Rattle.urlpattern_syntax.specs.Parsing.{FaultOr, MemoryOr, Stands, StartsText, reader_left, reader_text};
 ghost use Rattle.urlpattern_syntax.specs.PartLists.{AddsAll, ParserReads, ParserRefuses, end_demands, matched_regexp, parser_encoding, parser_options, pending_item};
 ghost use Rattle.urlpattern_syntax.specs.Parts.{fixed_text, part_view};
 ghost use Rattle.urlpattern_syntax.specs.Reading.{FirstFails, IsReadAs, Refuses, encoding_by, kind_of, value_of};
-ghost use Rattle.urlpattern_syntax.specs.RegexpText.{modifier_text};
-ghost use Rattle.urlpattern_syntax.specs.Text.{text_of};
 
 mod given_names;
 mod option_sets;

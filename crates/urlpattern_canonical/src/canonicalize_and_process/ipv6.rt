@@ -1,7 +1,6 @@
 //! IPv6 addresses in brackets.
 ghost use Rattle.std.specs.Prelude.{◌≡◌};
-ghost use Rattle.std.specs.List.{list_all};
-ghost use Rattle.std.specs.Str.{chars};
+ghost use Rattle.std.specs.{List.list_all, Str.chars};
 ghost use Rattle.urlpattern_canonical.specs.Canonical.{IsAnswer, canonical_ipv6_hostname, is_ipv6_character};
 
 use std::alloc::Global;

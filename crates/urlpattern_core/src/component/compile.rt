@@ -4,10 +4,7 @@ ghost use Rattle.std.specs.Prelude.{◌≡◌, IfErr, IfOk};
 ghost use Rattle.std.specs.Str.{chars};
 ghost use Rattle.urlpattern_core.specs.Components.{AnswersByItsParts, FailsToRead, IsCompiledFrom, IsComponentOf, IsWholeEngineOf, component_view, engine_flags, has_regexp, pattern_text};
 ghost use Rattle.urlpattern_core.specs.Matchers.{engine_view};
-ghost use Rattle.urlpattern_syntax.specs.Errors.{OnlyOutOfMemory};
-ghost use Rattle.urlpattern_syntax.specs.Options.{options_view};
-ghost use Rattle.urlpattern_syntax.specs.Parts.{parts_view};
-ghost use Rattle.urlpattern_syntax.specs.Reading.{encoding_by};
+ghost use Rattle.urlpattern_syntax.specs.{Errors.OnlyOutOfMemory, Options.options_view, Parts.parts_view, Reading.encoding_by};
 
 use super::matchers::{ask_engine, generate_matcher_knowing};
 use super::printed::generate_pattern_string;

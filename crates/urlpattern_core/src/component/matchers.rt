@@ -5,11 +5,9 @@ ghost use Rattle.std.specs.Str.{chars};
 ghost use Rattle.urlpattern_core.specs.Components.{IsEngineOf};
 ghost use Rattle.urlpattern_core.specs.Matchers.{IfMatcher, PeelsBack, PeelsFront, PeelsTo, capture_of, engine_view, literal_view};
 ghost use Rattle.urlpattern_meaning.specs.Matching.{AnswersByMeaning, single_capture_matcher, IsMadeByEngine, IsMadeOf};
-ghost use Rattle.urlpattern_syntax.specs.Errors.{OnlyOutOfMemory};
-ghost use Rattle.urlpattern_syntax.specs.Options.{options_view};
+ghost use Rattle.urlpattern_syntax.specs.{Errors.OnlyOutOfMemory, Options.options_view, Text.text_of};
 ghost use Rattle.urlpattern_syntax.specs.Parts.{part_view, parts_view};
 ghost use Rattle.urlpattern_syntax.specs.RegexpText.{is_plain, regexp_text};
-ghost use Rattle.urlpattern_syntax.specs.Text.{text_of};
 
 use super::regexp_text::generate_regular_expression;
 use crate::error::{Error, RegExpError};

@@ -2,9 +2,7 @@
 
 ghost use Rattle.std.specs.Prelude.{IfErr, IfOk};
 ghost use Rattle.urlpattern_core.specs.NormalForms.{FailsIfPrintable, IsJoinedIfKept, IsReadFrom, RefusesPrinted};
-ghost use Rattle.urlpattern_syntax.specs.Options.{options_view};
-ghost use Rattle.urlpattern_syntax.specs.Parts.{parts_view};
-ghost use Rattle.urlpattern_syntax.specs.Reading.{encoding_by};
+ghost use Rattle.urlpattern_syntax.specs.{Options.options_view, Parts.parts_view, Reading.encoding_by};
 
 use super::printed::generate_pattern_string;
 use crate::error::Error;

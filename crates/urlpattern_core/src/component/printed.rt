@@ -5,13 +5,10 @@
 ghost use Rattle.std.specs.Prelude.{◌≡◌, ◌&&◌, ◌||◌, false, not, IfOk};
 ghost use Rattle.std.specs.Str.{chars};
 ghost use Rattle.urlpattern_core.specs.Neighbours.{ends_with_prefix, neighbour};
-ghost use Rattle.urlpattern_core.specs.NormalForms.{ReadsBackIfKept};
-ghost use Rattle.urlpattern_core.specs.PartTexts.{group_part};
+ghost use Rattle.urlpattern_core.specs.{NormalForms.ReadsBackIfKept, PartTexts.group_part};
 ghost use Rattle.urlpattern_meaning.specs.Printing.{goes_on, has_custom_name, has_other_prefix, has_suffix, in_braces, is_asterisk, is_name_alone, needs_braces, printed, printed_fixed, printed_match, printed_name, printed_part, printed_suffix, takes_before, takes_next, admits_asterisk};
-ghost use Rattle.urlpattern_syntax.specs.Errors.{OnlyOutOfMemory};
-ghost use Rattle.urlpattern_syntax.specs.Options.{options_view};
+ghost use Rattle.urlpattern_syntax.specs.{Errors.OnlyOutOfMemory, Options.options_view, RegexpText.is_fixed_text};
 ghost use Rattle.urlpattern_syntax.specs.Parts.{part_view, parts_view};
-ghost use Rattle.urlpattern_syntax.specs.RegexpText.{is_fixed_text};
 ghost use Rattle.urlpattern_syntax.specs.Text.{begins_with, is_name_part, text_of};
 
 use super::is_bare;

@@ -4,11 +4,9 @@
 
 ghost use Rattle.std.specs.Prelude.{◌≡◌, ◌++◌, IfOk};
 ghost use Rattle.urlpattern_core.specs.PartTexts.{affixed_part, bare_part, escaped_prefix, escaped_suffix, escaped_value, fixed_part, matched_text};
-ghost use Rattle.urlpattern_syntax.specs.Options.{options_view};
+ghost use Rattle.urlpattern_syntax.specs.{Options.options_view, Text.text_of, Writing.escaped_text};
 ghost use Rattle.urlpattern_syntax.specs.Parts.{part_view, parts_view};
 ghost use Rattle.urlpattern_syntax.specs.RegexpText.{captured, grouped, part_regexp, regexp_text, repeated_regexp};
-ghost use Rattle.urlpattern_syntax.specs.Text.{text_of};
-ghost use Rattle.urlpattern_syntax.specs.Writing.{escaped_text};
 
 use super::is_bare;
 use crate::parser::{FULL_WILDCARD_REGEXP_VALUE, Options, Part, PartModifier, PartType};

@@ -5,9 +5,7 @@ ghost use Rattle.urlpattern_init.specs.Inheritance.{values_view};
 ghost use Rattle.urlpattern_init.specs.declared.constructor_parser.sections.Section.TheVariants.{Hostname, Pathname, Port, Search};
 ghost use Rattle.urlpattern_init.specs.Split.{AuthorityFrom, EndsAt, HashAt, HashFrom, HostnameFrom, IsAbsoluteSplit, IsRelativeSplit, IsTextBetween, NoAuthority, PathnameAt, PathnameFrom, PortAt, SearchAt, SearchFrom, UserinfoFrom, depth_before, ends_at, implied_pathname, is_at_sign, is_colon_sign, is_slash_sign};
 ghost use Rattle.urlpattern_init.specs.Splitting.{CanRead, HasRead, HasTurnForSlash, HasTurns, IsOwned, IsSource, NoPathname, NoSearch, may_follow, split_values, text_of_source, tokens_of};
-ghost use Rattle.urlpattern_syntax.specs.Eight.{at};
-ghost use Rattle.urlpattern_syntax.specs.Errors.{OnlyOutOfMemory};
-ghost use Rattle.urlpattern_syntax.specs.Text.{option_text};
+ghost use Rattle.urlpattern_syntax.specs.{Eight.at, Errors.OnlyOutOfMemory, Text.option_text};
 
 use super::sections::{Position, Section};
 use super::tokens::Source;

@@ -1,10 +1,9 @@
 //! The options of the components, and the texts that go by them.
 ghost use Rattle.std.specs.Prelude.{◌≡◌, IfOk};
 ghost use Rattle.std.specs.Str.{chars};
-ghost use Rattle.urlpattern_syntax.specs.Errors.{OnlyOutOfMemory};
+ghost use Rattle.urlpattern_syntax.specs.{Errors.OnlyOutOfMemory, Text.text_of};
 ghost use Rattle.urlpattern_syntax.specs.Options.{default_options, hostname_options, options_view, pathname_options};
 ghost use Rattle.urlpattern_syntax.specs.RegexpText.{escaped_regexp, segment_wildcard};
-ghost use Rattle.urlpattern_syntax.specs.Text.{text_of};
 
 use super::{Options, RegexSyntax};
 use crate::error::Error;

@@ -23,13 +23,12 @@ authority_from-turns-requires-then-special-clause-within c =
 
 pub returns-then-special-clause-split : goal.returns-then-special-clause-split
 returns-then-special-clause-split c =
-    let no_slashes = ap not (sym c.has_slashes.ensures ∙ c.if-has_slashes.false) in
     record {
       is_colon_there = c.requires.sign;
       protocol_ends = c.requires.ends;
       protocol = c.requires.protocol;
       after = inr (inl (
-        and_from (not (has_slashes (tokens_of c.args.self.now) c.args.colon.index)) c.args.special no_slashes c.if-special.true,
+        and_from (not (has_slashes (tokens_of c.args.self.now) c.args.colon.index)) c.args.special (ap not (sym c.has_slashes.ensures ∙ c.if-has_slashes.false)) c.if-special.true,
         rw c.after-then-special.ensures.index at c.authority_from-turns-then-special.ensures.split,
       ));
     }
@@ -46,13 +45,12 @@ pathname_from-turns-requires-clause-reads c =
 
 pub returns-clause-split : goal.returns-clause-split
 returns-clause-split c =
-    let no_slashes = ap not (sym c.has_slashes.ensures ∙ c.if-has_slashes.false) in
     record {
       is_colon_there = c.requires.sign;
       protocol_ends = c.requires.ends;
       protocol = c.requires.protocol;
       after = inr (inr (
-        and_from (not (has_slashes (tokens_of c.args.self.now) c.args.colon.index)) (not c.args.special) no_slashes (ap not c.if-special.false),
+        and_from (not (has_slashes (tokens_of c.args.self.now) c.args.colon.index)) (not c.args.special) (ap not (sym c.has_slashes.ensures ∙ c.if-has_slashes.false)) (ap not c.if-special.false),
         c.pathname_from-turns.ensures.nothing.1,
         c.pathname_from-turns.ensures.nothing.2,
         ap Some chars-nil,

@@ -10,25 +10,22 @@ use Rattle.urlpattern_init.proofs.constructor_parser.tokens.Source.split.Goals a
 pub absolute-requires-clause-sign : goal.absolute-requires-clause-sign
 absolute-requires-clause-sign g c =
     let tokens = tokens_of c.args.self.now in
-    let closed = source_closed c.args.self.now c.requires in
     let colon = sym c.is_sign.ensures ∙ c.if-not-is_sign.false in
-    let found = colon_found tokens _ _ _ closed c.end_of-end.ensures.ends colon c.end_of-end.ensures.depth c.end_of-colon.ensures.ends in
+    let found = colon_found tokens _ _ _ (source_closed c.args.self.now c.requires) c.end_of-end.ensures.ends colon c.end_of-end.ensures.depth c.end_of-colon.ensures.ends in
     ap (is_colon_sign tokens) found.0 ∙ colon
 
 pub absolute-requires-clause-turns : goal.absolute-requires-clause-turns
 absolute-requires-clause-turns g c =
     let tokens = tokens_of c.args.self.now in
-    let closed = source_closed c.args.self.now c.requires in
     let colon = sym c.is_sign.ensures ∙ c.if-not-is_sign.false in
-    let found = colon_found tokens _ _ _ closed c.end_of-end.ensures.ends colon c.end_of-end.ensures.depth c.end_of-colon.ensures.ends in
+    let found = colon_found tokens _ _ _ (source_closed c.args.self.now c.requires) c.end_of-end.ensures.ends colon c.end_of-end.ensures.depth c.end_of-colon.ensures.ends in
     omega (arith, found.0, c.end_of-colon.ensures.turns, c.end_of-end.ensures.turns)
 
 pub returns-in_err-special-clause-refused : goal.returns-in_err-special-clause-refused
 returns-in_err-special-clause-refused g c =
     let tokens = tokens_of c.args.self.now in
-    let closed = source_closed c.args.self.now c.requires in
     let colon = sym c.is_sign.ensures ∙ c.if-not-is_sign.false in
-    let found = colon_found tokens _ _ _ closed c.end_of-end.ensures.ends colon c.end_of-end.ensures.depth c.end_of-colon.ensures.ends in
+    let found = colon_found tokens _ _ _ (source_closed c.args.self.now c.requires) c.end_of-end.ensures.ends colon c.end_of-end.ensures.depth c.end_of-colon.ensures.ends in
     let p = err_from_is_err_and c.from_residual.result c.from_residual.ensures.1 in
     rw (p.1, p.2)
     (elim c.in_err-special.ensures.refused [
