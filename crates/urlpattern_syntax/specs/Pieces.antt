@@ -39,21 +39,12 @@ is_text Char = true
 is_text EscapedChar = true
 is_text kind = false
 
-abbrev pub is_regexp : TokenType → Bool
-is_regexp Regexp = true
-is_regexp kind = false
-
 -- a placeholder begins with such a token
 abbrev pub is_placeholder : TokenType → Bool
 is_placeholder Name = true
 is_placeholder Regexp = true
 is_placeholder Asterisk = true
 is_placeholder kind = false
-
-abbrev pub is_modifier : TokenType → Bool
-is_modifier OtherModifier = true
-is_modifier Asterisk = true
-is_modifier kind = false
 
 -- the first token is of such a kind
 abbrev pub BeginsWithKind : (TokenType → Bool) → List TokenView → Type 0
@@ -90,10 +81,19 @@ IsPrefixOf point tokens prefix =
 
 -- ---- what may be taken is taken
 
+abbrev pub is_modifier : TokenType → Bool
+is_modifier OtherModifier = true
+is_modifier Asterisk = true
+is_modifier kind = false
+
 -- a modifier goes to what stands before it
 abbrev pub TakesModifier : PartModifier → List TokenView → Type 0
 TakesModifier PartModifier.None rest = ¬ BeginsWithKind is_modifier rest
 TakesModifier modifier rest = Unit {0}
+
+abbrev pub is_regexp : TokenType → Bool
+is_regexp Regexp = true
+is_regexp kind = false
 
 -- a Regexp goes to the name before it
 abbrev pub TakesRegexp : Matched → List TokenView → Type 0

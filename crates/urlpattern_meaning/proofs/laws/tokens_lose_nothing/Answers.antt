@@ -1,4 +1,4 @@
-use Rattle.std.proofs.Common.{[], ◌∷◌, ◌++◌, ap, refl}
+use Rattle.std.proofs.Common.{◌∷◌, ◌++◌, ap, refl}
 use Rattle.urlpattern_meaning.proofs.TokenLaws.{value_stands}
 use Rattle.urlpattern_meaning.proofs.TokensPlaced.{tokens_lay, tokens_rise, tokens_stand, last_end, end_last}
 use Rattle.urlpattern_meaning.proofs.laws.tokens_lose_nothing.Goals as goal
