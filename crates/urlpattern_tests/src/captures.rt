@@ -2,38 +2,63 @@
 
 use crate::given::{pattern_of, url_of};
 use std::alloc::Global;
+use std::process::Abort;
 use std::test::Fail;
-use urlpattern::{ComponentName, Error, UrlPattern};
+use url::Url;
+use urlpattern::{ComponentName, Error, UrlPattern, UrlPatternCaptures};
+
+/// Compares the path that a match borrows, and its groups.
+fn expect_borrowed(rt: &impl Abort, found: &UrlPatternCaptures<'_>) {
+    assert_eq!(rt; found.input(ComponentName::Pathname), "/a/b");
+    for (name, capture) in [("x", Some(Some("b"))), ("y", Some(None)), ("z", None)] {
+        let group = found.get(ComponentName::Pathname, name);
+        assert_eq!(rt; group, capture, "of {name:?}");
+    }
+}
+
+/// Compares the match of a URL by a pattern.
+fn expect_match(
+    rt: &impl Abort,
+    alloc: Global,
+    pattern: &UrlPattern,
+    url: &Url,
+) -> Result<(), Error> {
+    let found = pattern.captures(alloc, url)?;
+    match &found {
+        Some(found) => expect_borrowed(rt, found),
+        None => panic!(rt; "no match"),
+    }
+    drop(found);
+    Ok(())
+}
 
 #[test]
 fn a_match_is_borrowed(rt: HostRuntime) -> Result<(), Fail> {
     let alloc = rt.alloc();
-    let pattern: UrlPattern = pattern_of(alloc, &[("pathname", "/a/:x{/:y}?")])?;
     let url = url_of(alloc, "https://example.com/a/b")?;
-    let found = pattern.captures(alloc, &url)?;
-    let path = found
-        .as_ref()
-        .map(|found| found.input(ComponentName::Pathname));
-    assert_eq!(rt; path, Some("/a/b"));
-    for (name, capture) in [("x", Some(Some("b"))), ("y", Some(None)), ("z", None)] {
-        let group = found
-            .as_ref()
-            .and_then(|found| found.get(ComponentName::Pathname, name));
-        assert_eq!(rt; group, capture, "of {name:?}");
-    }
-    drop(found);
-    drop(url);
+    let pattern = pattern_of(alloc, &[("pathname", "/a/:x{/:y}?")])?;
+    let outcome = expect_match(&rt, alloc, &pattern, &url);
     drop(pattern);
+    drop(url);
+    outcome?;
     Ok(())
+}
+
+/// Whether a pattern matches a URL. A request for memory that is refused is no match.
+fn has_match(alloc: Global, pattern: &UrlPattern, url: &Url) -> bool {
+    let found = pattern.captures(alloc, url);
+    let has_match = matches!(&found, Ok(Some(_)));
+    drop(found);
+    has_match
 }
 
 /// Whether a URL is matched without an engine. The error is that there was no memory for the pattern or for the URL.
 fn is_found(alloc: Global) -> Result<bool, Error> {
-    let pattern: UrlPattern = pattern_of(alloc, &[("pathname", "/users/:id")])?;
     let url = url_of(alloc, "https://example.com/users/123")?;
-    let is_found = matches!(pattern.captures(alloc, &url), Ok(Some(_)));
-    drop(url);
+    let pattern = pattern_of(alloc, &[("pathname", "/users/:id")])?;
+    let is_found = has_match(alloc, &pattern, &url);
     drop(pattern);
+    drop(url);
     Ok(is_found)
 }
 

@@ -11,7 +11,7 @@ use urlpattern::component::{Component, generate_matcher};
 use urlpattern::matcher::{InnerMatcher, Matcher};
 use urlpattern::parser::{Options, parse_pattern_string};
 use urlpattern::regexp::RegExp;
-use urlpattern::{Error, UrlPattern, UrlPatternComponentResult};
+use urlpattern::{Error, UrlPattern, UrlPatternComponentResult, UrlPatternResult};
 
 /// A URL with a path.
 const URL: &str = "https://example.com/path";
@@ -66,6 +66,33 @@ fn expect_captured(rt: &impl Abort, found: &UrlPatternComponentResult, groups: G
     }
 }
 
+/// A pattern whose path has these names, of which an engine captures this.
+fn capturing(
+    alloc: Global,
+    names: &[&str],
+    captures: Captures,
+) -> Result<UrlPattern<KeptText>, Error> {
+    let names = names_of(alloc, names)?;
+    let engine = Stubborn {
+        text: String::new(alloc),
+        captures: Some(captures),
+    };
+    with_pathname(alloc, by_hand(alloc, names, Ok(engine)))
+}
+
+/// The match of a URL by such a pattern.
+fn captured(
+    alloc: Global,
+    names: &[&str],
+    captures: Captures,
+) -> Result<Option<UrlPatternResult>, Error> {
+    let input = url_input(alloc, URL)?;
+    let pattern = capturing(alloc, names, captures)?;
+    let found = pattern.exec(alloc, input);
+    drop(pattern);
+    found
+}
+
 /// Compares the groups of a path: what an engine captures of it, beside these names.
 fn expect_groups(
     rt: &impl Abort,
@@ -74,18 +101,10 @@ fn expect_groups(
     captures: Captures,
     groups: Groups<'_>,
 ) -> Result<(), Error> {
-    let engine: KeptText = Stubborn {
-        text: String::new(alloc),
-        captures: Some(captures),
-    };
-    let pathname = by_hand(alloc, names_of(alloc, names)?, Ok(engine));
-    let pattern = with_pathname(alloc, pathname)?;
-    let found = pattern.exec(alloc, url_input(alloc, URL)?);
-    drop(pattern);
+    let found = captured(alloc, names, captures)?;
     match &found {
-        Ok(Some(found)) => expect_captured(rt, &found.pathname, groups),
-        Ok(None) => panic!(rt; "no match"),
-        Err(_) => return Err(Error::OutOfMemory),
+        Some(found) => expect_captured(rt, &found.pathname, groups),
+        None => panic!(rt; "no match"),
     }
     drop(found);
     Ok(())
@@ -117,9 +136,10 @@ fn captures_that_are_too_many_too_few_or_foreign(rt: HostRuntime) -> Result<(), 
 #[test]
 fn an_error_in_place_of_an_engine_matches_nothing(rt: HostRuntime) -> Result<(), Fail> {
     let alloc = rt.alloc();
+    let input = url_input(alloc, URL)?;
     let pathname: Component<Regex> = by_hand(alloc, Vec::new(alloc), Err(Error::RegExp(())));
     let pattern = with_pathname(alloc, pathname)?;
-    let is_matched = pattern.test(alloc, url_input(alloc, URL)?);
+    let is_matched = pattern.test(alloc, input);
     drop(pattern);
     assert!(rt; !is_matched?);
     Ok(())
@@ -145,10 +165,12 @@ fn is_pattern_refused<R: RegExp>(alloc: Global) -> Result<bool, Error> {
     is_refused
 }
 
-#[test]
-fn what_an_engine_refuses_is_kept_and_matches_nothing(rt: HostRuntime) -> Result<(), Fail> {
-    let alloc = rt.alloc();
-    let matcher = matcher_of::<Refusing>(alloc)?;
+/// Compares a matcher whose engine refused its text: it keeps the error, and matches nothing.
+fn expect_refused(
+    rt: &impl Abort,
+    alloc: Global,
+    matcher: &Matcher<Refusing>,
+) -> Result<(), Error> {
     assert!(rt;
         matches!(
             &matcher.inner,
@@ -159,7 +181,25 @@ fn what_an_engine_refuses_is_kept_and_matches_nothing(rt: HostRuntime) -> Result
     );
     assert!(rt; matcher.matches(alloc, "b")?.is_none());
     assert!(rt; !matcher.accepts(alloc, "ab")?);
+    Ok(())
+}
+
+#[test]
+fn what_an_engine_refuses_is_kept_and_matches_nothing(rt: HostRuntime) -> Result<(), Fail> {
+    let alloc = rt.alloc();
     assert!(rt; is_pattern_refused::<Refusing>(alloc)?);
+    let matcher = matcher_of(alloc)?;
+    let outcome = expect_refused(&rt, alloc, &matcher);
+    drop(matcher);
+    outcome?;
+    Ok(())
+}
+
+/// Compares a matcher whose engine finds no memory: it asks the engine about what ends with `b`.
+fn expect_wanting(rt: &impl Abort, alloc: Global, matcher: &Matcher<Wanting>) -> Result<(), Error> {
+    assert!(rt; matches!(matcher.matches(alloc, "b"), Err(Error::OutOfMemory)));
+    assert!(rt; matches!(matcher.accepts(alloc, "b"), Err(Error::OutOfMemory)));
+    assert!(rt; matcher.matches(alloc, "a")?.is_none());
     Ok(())
 }
 
@@ -173,9 +213,9 @@ fn an_engine_without_memory_is_reported_as_such(rt: HostRuntime) -> Result<(), F
             Err(Error::OutOfMemory)
         )
     );
-    let matcher = matcher_of::<Wanting>(alloc)?;
-    assert!(rt; matches!(matcher.matches(alloc, "b"), Err(Error::OutOfMemory)));
-    assert!(rt; matches!(matcher.accepts(alloc, "b"), Err(Error::OutOfMemory)));
-    assert!(rt; matcher.matches(alloc, "a")?.is_none());
+    let matcher = matcher_of(alloc)?;
+    let outcome = expect_wanting(&rt, alloc, &matcher);
+    drop(matcher);
+    outcome?;
     Ok(())
 }

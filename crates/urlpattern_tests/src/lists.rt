@@ -4,6 +4,7 @@ use crate::given::{pattern_of, url_input};
 use crate::stubborn::Wanting;
 use regex::Regex;
 use std::alloc::Global;
+use std::process::Abort;
 use std::test::Fail;
 use urlpattern::regexp::RegExp;
 use urlpattern::{Error, UrlPattern, UrlPatternList};
@@ -47,19 +48,39 @@ fn first_index<R: RegExp>(
     index
 }
 
+/// Whether something is written for a list.
+fn is_shown(alloc: Global, list: &UrlPatternList) -> Result<bool, Error> {
+    let written = format!(in alloc; "{list:?}")?;
+    Ok(!written.is_empty())
+}
+
+/// Compares what a list holds.
+fn expect_held(
+    rt: &impl Abort,
+    alloc: Global,
+    list: &UrlPatternList,
+    pathnames: &[&str],
+) -> Result<(), Error> {
+    assert_eq!(rt; list.len(), pathnames.len());
+    for (pattern, pathname) in list.iter().zip(pathnames) {
+        assert_eq!(rt; pattern.pathname(), *pathname);
+    }
+    assert!(rt; list.get(pathnames.len()).is_none());
+    assert!(rt; is_shown(alloc, list)?);
+    Ok(())
+}
+
 #[test]
 fn a_list_holds_its_patterns_in_their_order(rt: HostRuntime) -> Result<(), Fail> {
     let empty = <UrlPatternList>::new(rt.alloc());
     assert!(rt; empty.is_empty());
     assert!(rt; empty.get(0).is_none());
+    drop(empty);
     let pathnames = [NAME, ASKS, "/a/*"];
-    let list = list_of::<Regex>(rt.alloc(), &pathnames)?;
-    assert_eq!(rt; list.len(), 3);
-    for (pattern, pathname) in list.iter().zip(pathnames) {
-        assert_eq!(rt; pattern.pathname(), pathname);
-    }
-    assert!(rt; list.get(3).is_none());
-    assert!(rt; !format!(in rt.alloc(); "{list:?}")?.is_empty());
+    let list = list_of(rt.alloc(), &pathnames)?;
+    let outcome = expect_held(&rt, rt.alloc(), &list, &pathnames);
+    drop(list);
+    outcome?;
     Ok(())
 }
 
@@ -80,15 +101,25 @@ fn patterns_are_asked_up_to_the_first_match(rt: HostRuntime) -> Result<(), Fail>
     Ok(())
 }
 
-/// Two patterns with components put together by hand: one ignores case, and one has a host that was changed after it was compiled.
-fn list_by_hand(alloc: Global) -> Result<UrlPatternList, Error> {
-    let mut list = UrlPatternList::new(alloc);
+/// A pattern with a component that was made to ignore case.
+fn pattern_ignoring_case(alloc: Global) -> Result<UrlPattern, Error> {
     let mut pattern = pattern_of(alloc, &[("pathname", NAME)])?;
     pattern.pathname.matcher.ignore_case = true;
-    add(&mut list, pattern)?;
+    Ok(pattern)
+}
+
+/// A pattern with a host that was changed after it was compiled.
+fn pattern_of_a_changed_host(alloc: Global) -> Result<UrlPattern, Error> {
     let mut pattern = pattern_of(alloc, &[("hostname", "example.com")])?;
     pattern.hostname.matcher.suffix.push_str(".org")?;
-    add(&mut list, pattern)?;
+    Ok(pattern)
+}
+
+/// Two patterns with components put together by hand.
+fn list_by_hand(alloc: Global) -> Result<UrlPatternList, Error> {
+    let mut list = UrlPatternList::new(alloc);
+    add(&mut list, pattern_ignoring_case(alloc)?)?;
+    add(&mut list, pattern_of_a_changed_host(alloc)?)?;
     Ok(list)
 }
 
@@ -105,6 +136,21 @@ fn a_component_put_together_by_hand_is_found(rt: HostRuntime) -> Result<(), Fail
     Ok(())
 }
 
+/// Compares a list that holds a pattern, or is empty where the pattern came back.
+fn expect_back<R: RegExp>(
+    rt: &impl Abort,
+    list: &UrlPatternList<R>,
+    pushed: &Result<(), UrlPattern<R>>,
+) {
+    match pushed {
+        Ok(()) => assert_eq!(rt; list.len(), 1),
+        Err(pattern) => {
+            assert_eq!(rt; pattern.pathname(), NAME);
+            assert!(rt; list.is_empty());
+        }
+    }
+}
+
 /// Holds whichever request for memory is refused.
 #[test]
 fn a_pattern_that_finds_no_room_comes_back(rt: HostRuntime) {
@@ -112,11 +158,8 @@ fn a_pattern_that_finds_no_room_comes_back(rt: HostRuntime) {
         return;
     };
     let mut list = UrlPatternList::new(rt.alloc());
-    match list.push(pattern) {
-        Ok(()) => assert_eq!(rt; list.len(), 1),
-        Err(pattern) => {
-            assert_eq!(rt; pattern.pathname(), NAME);
-            assert!(rt; list.is_empty());
-        }
-    }
+    let pushed = list.push(pattern);
+    expect_back(&rt, &list, &pushed);
+    drop(pushed);
+    drop(list);
 }

@@ -8,8 +8,9 @@ use urlpattern::{Error, UrlPattern, UrlPatternComponentResult, UrlPatternResult}
 
 /// The match of a URL by a pattern with these texts.
 fn found_by(alloc: Global, fields: Fields<'_>, url: &str) -> Result<UrlPatternResult, Fail> {
+    let input = url_input(alloc, url)?;
     let pattern: UrlPattern = pattern_of(alloc, fields)?;
-    let found = pattern.exec(alloc, url_input(alloc, url)?);
+    let found = pattern.exec(alloc, input);
     drop(pattern);
     match found? {
         Some(found) => Ok(found),
@@ -48,23 +49,45 @@ fn names_are_sorted(rt: HostRuntime) -> Result<(), Fail> {
     Ok(())
 }
 
+/// Compares a result with its copy.
+fn expect_copied(rt: &impl Abort, found: &UrlPatternResult) -> Result<(), Error> {
+    let copy = found.clone()?;
+    assert!(rt; copy == *found);
+    drop(copy);
+    Ok(())
+}
+
+/// Compares a result with that of a URL and of a path that is one name.
+fn expect_other(
+    rt: &impl Abort,
+    alloc: Global,
+    found: &UrlPatternResult,
+    pathname: &str,
+    url: &str,
+) -> Result<(), Fail> {
+    let other = found_by(alloc, &[("pathname", pathname)], url)?;
+    assert!(rt; other != *found, "{pathname} {url}");
+    drop(other);
+    Ok(())
+}
+
+/// Compares the result of `/:x` at a URL with its copy and with others.
+fn expect_unlike_others(
+    rt: &impl Abort,
+    alloc: Global,
+    found: &UrlPatternResult,
+) -> Result<(), Fail> {
+    assert!(rt; found.pathname != found.search);
+    expect_copied(rt, found)?;
+    expect_other(rt, alloc, found, "/:y", "https://example.com/1")?;
+    expect_other(rt, alloc, found, "/:x", "https://example.org/1")
+}
+
 #[test]
 fn a_copy_of_a_result_equals_it_and_no_other(rt: HostRuntime) -> Result<(), Fail> {
     let alloc = rt.alloc();
     let found = found_by(alloc, &[("pathname", "/:x")], "https://example.com/1")?;
-    let copy = found.clone()?;
-    assert!(rt; copy == found);
-    assert!(rt; found.pathname != found.search);
-    for (name, url) in [
-        ("y", "https://example.com/1"),
-        ("x", "https://example.org/1"),
-    ] {
-        let pathname = format!(in alloc; "/:{name}")?;
-        let other = found_by(alloc, &[("pathname", pathname.as_str())], url)?;
-        assert!(rt; other != found, "{name} {url}");
-        drop(other);
-    }
-    drop(copy);
+    let outcome = expect_unlike_others(&rt, alloc, &found);
     drop(found);
-    Ok(())
+    outcome
 }
