@@ -1,15 +1,12 @@
 -- The inputs of a browser: what a pattern is constructed from, and what it is matched against, after the URLPattern
 -- Standard, sections "Constructor", and "Matching", at "match".
 use Rattle.std.specs.Prelude.{◌≡◌, ⊤, ℕ, List, length, max, Option, None, Some, Result, Ok, IfOk, String, option_map, string_bytes, MatchOption}
-use Rattle.std.specs.Cow.{cow_str_bytes}
-use Rattle.std.specs.Str.{chars}
-use Rattle.std.specs.declared.alloc.AllocError.{AllocError}
-use Rattle.std.specs.declared.alloc.Global.{Global}
+use Rattle.std.specs.{Cow.cow_str_bytes, Str.chars}
+use Rattle.std.specs.declared.alloc.{AllocError.AllocError, Global.Global}
 use Rattle.url.specs.Parser.{Parsed, and_then, parse_url}
 use Rattle.url.specs.Parts.{Parts}
 use Rattle.urlpattern_init.specs.Inheritance.{values_of, values_view}
-use Rattle.urlpattern_init.specs.declared.init.UrlPatternInit.{UrlPatternInit}
-use Rattle.urlpattern_init.specs.declared.init.UrlPatternMatchInput.{UrlPatternMatchInput}
+use Rattle.urlpattern_init.specs.declared.init.{UrlPatternInit.UrlPatternInit, UrlPatternMatchInput.UrlPatternMatchInput}
 use Rattle.urlpattern_init.specs.declared.init.UrlPatternMatchInput.TheVariants as match_inputs
 use Rattle.urlpattern_canonical.specs.Canonical.{IsRefusedByUrl, Reports}
 use Rattle.urlpattern_core.specs.Regexes.{regex_engine}
@@ -20,8 +17,7 @@ use Rattle.urlpattern_inputs.specs.InputValues.{plain_init_texts, input_view}
 pub use Rattle.urlpattern_pattern.specs.FromString.{RefusesText, parsed_base, text_bytes}
 use Rattle.urlpattern_pattern.specs.FromString.{IsInitOfText}
 use Rattle.urlpattern_syntax.specs.Errors.{ErrorView, ErrorView as views}
-use Rattle.urlpattern_syntax.specs.Text.{text_of}
-use Rattle.urlpattern_syntax.specs.Eight.{Values}
+use Rattle.urlpattern_syntax.specs.{Text.text_of, Eight.Values}
 
 -- ---- URLs: texts are their bytes
 

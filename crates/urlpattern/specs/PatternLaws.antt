@@ -10,10 +10,8 @@ use Rattle.urlpattern_syntax.specs.declared.eight.ComponentName.{ComponentName}
 use Rattle.urlpattern_syntax.specs.Eight.{Texts, Values, at}
 use Rattle.urlpattern_pattern.specs.Compiled.{AreCompiled, Manner, manner_of}
 use Rattle.urlpattern_pattern.specs.Match.{HasMatch, HasNoMatch, IsLongInput, IsMatch, IsSameResult, ResultView}
-use Rattle.urlpattern_pattern.specs.MatchInput.{input_texts}
-use Rattle.urlpattern_pattern.specs.ByText.{IsFirstResult}
+use Rattle.urlpattern_pattern.specs.{MatchInput.input_texts, ByText.IsFirstResult, Patterns.PatternView}
 use Rattle.urlpattern_pattern.specs.Meaning.{IsExecuted, IsFoundByMeaning, MeaningPremises, RegexPremises}
-use Rattle.urlpattern_pattern.specs.Patterns.{PatternView}
 
 -- What a compiled pattern answers to an input is what its pattern texts mean.
 abbrev pub AnswersMeanTheParts : {E : Type 0} → Engine E → Type 0

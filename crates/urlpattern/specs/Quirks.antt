@@ -1,20 +1,16 @@
 -- What browsers are answered.
 use Rattle.std.specs.Prelude.{◌≡◌, ℕ, List, Result, IfOk}
-use Rattle.urlpattern_pattern.specs.Compiled.{IsPatternOfInit}
-use Rattle.urlpattern_pattern.specs.Patterns.{PatternView, has_regexp_groups}
+use Rattle.urlpattern_pattern.specs.{Compiled.IsPatternOfInit, Patterns.PatternView, Patterns.has_regexp_groups}
 use Rattle.urlpattern_core.specs.Components.{component_view}
 use Rattle.urlpattern_core.specs.declared.component.Component.{Component}
 use Rattle.urlpattern_compiled.specs.Plain.{plain_component}
 use Rattle.urlpattern_compiled.specs.Values as plain
-use Rattle.urlpattern_compiled.specs.declared.pattern.UrlPatternComponent.{UrlPatternComponent}
+use Rattle.urlpattern_compiled.specs.declared.pattern.{UrlPatternComponent.UrlPatternComponent, UrlPattern.UrlPattern}
 use Rattle.urlpattern_core.specs.declared.regexp.RegExp.{Ghosts as Engine}
 use Rattle.urlpattern_init.specs.declared.init.UrlPatternInit.{UrlPatternInit}
 use Rattle.urlpattern_inputs.specs.declared.options.UrlPatternOptions.{UrlPatternOptions}
-use Rattle.urlpattern_compiled.specs.declared.pattern.UrlPattern.{UrlPattern}
-use Rattle.urlpattern_syntax.specs.Eight.{each}
-use Rattle.urlpattern_syntax.specs.Text.{text_of}
+use Rattle.urlpattern_syntax.specs.{Eight.each, Text.text_of, Errors.OnlyOutOfMemory}
 use Rattle.urlpattern_syntax.specs.declared.error.Error.{Error}
-use Rattle.urlpattern_syntax.specs.Errors.{OnlyOutOfMemory}
 
 -- the plain value of a component is this, unless memory ran out
 pub record IsPlainOf {E : Type 0} (text_made_of : E → List ℕ) (component : Component E) (result : Result UrlPatternComponent Error) : Type 0 where

@@ -1,22 +1,17 @@
 -- The sentences of the main theorem, some of which are those of laws. Where one speaks of an encoding, it is any list of texts
 -- with their answers.
 use Rattle.std.specs.Prelude.{⊤, ℕ, false, List, Option}
-use Rattle.urlpattern_core.specs.Components.{IsEngineOf}
+use Rattle.urlpattern_core.specs.{Components.IsEngineOf, Regexes.regex_engine, FirstWays.EachAnswersFirst}
 use Rattle.urlpattern_core.specs.declared.regexp.RegExp.{Ghosts as Engine}
-use Rattle.urlpattern_core.specs.Regexes.{regex_engine}
-use Rattle.urlpattern_core.specs.FirstWays.{EachAnswersFirst}
 use Rattle.urlpattern_engine.specs.PatternRegexps.{pattern_engine}
-use Rattle.urlpattern_meaning.specs.Dialect.{IsOnlyTreeOf, Items}
-use Rattle.urlpattern_meaning.specs.FirstAnswers.{AnswersByFirstWay, TookText}
+use Rattle.urlpattern_meaning.specs.{Dialect.IsOnlyTreeOf, Dialect.Items, FirstAnswers.AnswersByFirstWay, FirstAnswers.TookText}
+use Rattle.urlpattern_meaning.specs.PartMeaning.{AreGenerated, Captures}
 pub use Rattle.urlpattern_meaning.specs.LawsOfMeaning.{CapturesHaveNames, FirstWayIsOne, TreesMeanTheParts}
 use Rattle.urlpattern_meaning.specs.LawsOfReading.{OfPartsThatWereRead, OutcomesAreOne, OutcomesLackOnlyAnswers, UnderEachList}
 use Rattle.urlpattern_meaning.specs.Matching.{AnswersByMeaning, IsMadeOf, MatcherView}
-use Rattle.urlpattern_meaning.specs.PartMeaning.{AreGenerated, Captures}
 use Rattle.urlpattern_meaning.specs.RoundTrip.{IsNotRefused, ReadsAsJoined, ReadsOnlyAsJoined}
 use Rattle.urlpattern.specs.PatternLaws.{TestsAgree, TestsAreOne}
-use Rattle.urlpattern_syntax.specs.Options.{OptionsView}
-use Rattle.urlpattern_syntax.specs.Parts.{PartView}
-use Rattle.urlpattern_syntax.specs.RegexpText.{regexp_text}
+use Rattle.urlpattern_syntax.specs.{Options.OptionsView, Parts.PartView, RegexpText.regexp_text}
 
 -- A text has an outcome, parts or an error, or else it asks the encoding about a text to which that has no answer. It has one
 -- outcome at most where the encoding has one answer at most to each text.

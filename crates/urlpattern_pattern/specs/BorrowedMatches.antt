@@ -3,10 +3,8 @@ use Rattle.std.specs.Prelude.{ℕ, List, map, zip, IfOk, IfSome, Option, Result}
 use Rattle.std.specs.Str.{chars}
 use Rattle.urlpattern_syntax.specs.declared.eight.ComponentName.{ComponentName}
 use Rattle.urlpattern_pattern.specs.declared.pattern.captures.UrlPatternCaptures.{UrlPatternCaptures}
-use Rattle.urlpattern_pattern.specs.Calls.{captures_of}
-use Rattle.urlpattern_pattern.specs.Match.{ResultView, group_of}
-use Rattle.urlpattern_syntax.specs.Text.{text_of}
-use Rattle.urlpattern_syntax.specs.Eight.{at}
+use Rattle.urlpattern_pattern.specs.{Calls.captures_of, Match.ResultView, Match.group_of}
+use Rattle.urlpattern_syntax.specs.{Text.text_of, Eight.at}
 
 -- the names of a component's groups
 abbrev pub names_view : UrlPatternCaptures → ComponentName → List (List ℕ)

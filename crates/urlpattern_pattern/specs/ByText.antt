@@ -1,28 +1,19 @@
 -- What patterns answer, in the words of their pattern texts: the first way of the parts that these read as.
 use Rattle.std.specs.Prelude.{◌≡◌, ◌↔◌, ◌⊎◌, ⊤, ℕ, Any, Bool, false, List, [], Option, None, Some, Ok, IsTrue, codes, unwrap_or}
 use Rattle.urlpattern_canonical.specs.Canonical.{special_schemes}
-use Rattle.urlpattern_core.specs.Components.{ComponentView}
-use Rattle.urlpattern_core.specs.FirstWays.{AnswersFirstWays, EachAnswersFirst}
-use Rattle.urlpattern_core.specs.Generated.{AreGenerated}
+use Rattle.urlpattern_core.specs.{Components.ComponentView, FirstWays.AnswersFirstWays, FirstWays.EachAnswersFirst, Generated.AreGenerated}
 use Rattle.urlpattern_core.specs.declared.regexp.RegExp.{Ghosts as Engine}
 use Rattle.urlpattern_init.specs.UrlTexts.{IsLine}
-use Rattle.urlpattern_init.specs.declared.init.UrlPatternInit.{UrlPatternInit}
-use Rattle.urlpattern_init.specs.declared.init.UrlPatternMatchInput.{UrlPatternMatchInput}
+use Rattle.urlpattern_init.specs.declared.init.{UrlPatternInit.UrlPatternInit, UrlPatternMatchInput.UrlPatternMatchInput}
 use Rattle.urlpattern_inputs.specs.declared.options.UrlPatternOptions.{UrlPatternOptions}
-use Rattle.urlpattern_meaning.specs.FirstAnswers.{AnswersFirstInMiddle, IsFirstOf}
-use Rattle.urlpattern_meaning.specs.Matching.{Agrees}
-use Rattle.urlpattern_meaning.specs.PartMeaning.{Captures}
-use Rattle.urlpattern_syntax.specs.declared.eight.ComponentName.{ComponentName}
-use Rattle.urlpattern_syntax.specs.declared.eight.ComponentName.TheVariants.{Protocol}
+use Rattle.urlpattern_meaning.specs.{FirstAnswers.AnswersFirstInMiddle, FirstAnswers.IsFirstOf, Matching.Agrees, PartMeaning.Captures}
+use Rattle.urlpattern_syntax.specs.declared.eight.{ComponentName.ComponentName, ComponentName.TheVariants.Protocol}
 use Rattle.urlpattern_syntax.specs.Eight.{Texts, Values, at}
-use Rattle.urlpattern_syntax.specs.Parts.{PartView}
-use Rattle.urlpattern_syntax.specs.RegexpText.{group_names}
-use Rattle.urlpattern_syntax.specs.Text.{begins_with}
+use Rattle.urlpattern_syntax.specs.{Parts.PartView, RegexpText.group_names, Text.begins_with}
 use Rattle.urlpattern_pattern.specs.Compiled.{AreCompiled, Manner, is_mark, manner_of, pattern_values}
 use Rattle.urlpattern_pattern.specs.Match.{IsLongInput, IsResultOf, ResultView}
-use Rattle.urlpattern_pattern.specs.MatchInput.{input_texts}
+use Rattle.urlpattern_pattern.specs.{MatchInput.input_texts, Patterns.PatternView}
 use Rattle.urlpattern_pattern.specs.Meaning.{IsExecuted, IsFoundByMeaning, ReadsAs}
-use Rattle.urlpattern_pattern.specs.Patterns.{PatternView}
 
 -- The pattern text of a component has a meaning of its own: it has no custom regular expression, and case is kept.
 pub record HasMeaning (manner : Manner) : Type 0 where

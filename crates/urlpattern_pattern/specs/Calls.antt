@@ -1,21 +1,15 @@
 -- What groups capture while a match is made: captures, looks at the eight texts, and maps of groups.
 use Rattle.std.specs.Prelude.{◌≡◌, ℕ, List, [], ◌∷◌, map, Option, None, Some, Result, Ok, Err, IfOk, String, string_bytes}
-use Rattle.std.specs.Borrow.{Bor}
-use Rattle.std.specs.HashMap.{HashMap}
-use Rattle.std.specs.Str.{chars}
-use Rattle.std.specs.declared.alloc.AllocError.{AllocError}
-use Rattle.std.specs.declared.alloc.Global.{Global}
-use Rattle.urlpattern_syntax.specs.declared.eight.ComponentName.{ComponentName}
-use Rattle.urlpattern_syntax.specs.declared.eight.Eight.{Eight}
-use Rattle.urlpattern_pattern.specs.declared.pattern.captures.GroupCaptures.{GroupCaptures}
+use Rattle.std.specs.{Borrow.Bor, HashMap.HashMap, Str.chars}
+use Rattle.std.specs.declared.alloc.{AllocError.AllocError, Global.Global}
+use Rattle.urlpattern_syntax.specs.declared.eight.{ComponentName.ComponentName, Eight.Eight}
+use Rattle.urlpattern_pattern.specs.declared.pattern.{captures.GroupCaptures.GroupCaptures, captures.Missed.Missed}
 use Rattle.urlpattern_pattern.specs.declared.pattern.captures.GroupCaptures.TheVariants as captured
-use Rattle.urlpattern_pattern.specs.declared.pattern.captures.Missed.{Missed}
 use Rattle.urlpattern_pattern.specs.declared.pattern.captures.Missed.TheVariants as missed
 use Rattle.urlpattern_pattern.specs.Match.{IsResultOf, ResultView, UrlPatternResult, group_in, group_of, result_view}
 use Rattle.urlpattern_core.specs.Looks.{look_answer, IsAsking}
 use Rattle.urlpattern_core.specs.declared.matcher.look.Look.{Look}
-use Rattle.urlpattern_meaning.specs.Matching.{Answers, AsksEngine}
-use Rattle.urlpattern_meaning.specs.PartMeaning.{Captures}
+use Rattle.urlpattern_meaning.specs.{Matching.Answers, Matching.AsksEngine, PartMeaning.Captures}
 use Rattle.urlpattern_pattern.specs.Patterns.{PatternView}
 use Rattle.urlpattern_syntax.specs.Text.{option_text, text_of}
 use Rattle.urlpattern_syntax.specs.Eight.{Texts, at, each}

@@ -3,9 +3,8 @@
 use Rattle.std.specs.Prelude.{◌≡◌, ◌↔◌, ◌⊎◌, ℕ, Bool, true, false, not, ◌&&◌, ◌||◌, ◌==◌, List, [], ◌∷◌, bytes_eq, codes, length, slice_index, Option, Some, None, unwrap_or, Ok, Err, IsOk, IsTrue, if◌then◌else◌}
 use Rattle.std.specs.Str.{chars}
 use Rattle.url.specs.Parser.{Parsed, and_then}
-use Rattle.urlpattern_init.specs.Inheritance.{init_values}
+use Rattle.urlpattern_init.specs.{Inheritance.init_values, SpecialProtocol.AcceptsSpecialScheme}
 use Rattle.urlpattern_pattern.specs.Patterns.{PatternView}
-use Rattle.urlpattern_init.specs.SpecialProtocol.{AcceptsSpecialScheme}
 use Rattle.urlpattern_init.specs.declared.init.UrlPatternInit.{UrlPatternInit}
 use Rattle.urlpattern_syntax.specs.declared.eight.ComponentName.{ComponentName}
 use Rattle.urlpattern_syntax.specs.declared.eight.ComponentName.TheVariants.{Protocol, Username, Password, Hostname, Port, Pathname, Search, Hash}
@@ -14,13 +13,11 @@ use Rattle.urlpattern_canonical.specs.Canonical.{IsAnswer, canonical_hash, canon
 use Rattle.urlpattern_core.specs.Components.{ComponentView, IsCompiledFrom}
 use Rattle.urlpattern_core.specs.declared.regexp.RegExp.{Ghosts as Engine}
 use Rattle.urlpattern_canonical.specs.declared.canonicalize_and_process.ProcessType.TheVariants.{Pattern}
-use Rattle.urlpattern_meaning.specs.Matching.{MatcherView}
-use Rattle.urlpattern_meaning.specs.PartMeaning.{Captures}
+use Rattle.urlpattern_meaning.specs.{Matching.MatcherView, PartMeaning.Captures}
 use Rattle.urlpattern_syntax.specs.Errors.{ErrorView, ErrorView as views}
 use Rattle.urlpattern_syntax.specs.Options.{OptionsView, default_options, hostname_options, pathname_options}
 use Rattle.urlpattern_syntax.specs.Reading.{Encoding, Refuses, encoding_of}
-use Rattle.urlpattern_syntax.specs.Text.{begins_with}
-use Rattle.urlpattern_syntax.specs.Eight.{Values, at}
+use Rattle.urlpattern_syntax.specs.{Text.begins_with, Eight.Values, Eight.at}
 
 -- ---- the values that are compiled
 

@@ -6,13 +6,10 @@ use Rattle.url.specs.Parts.{Parts}
 use Rattle.urlpattern_canonical.specs.Canonical.{Reports}
 use Rattle.urlpattern_core.specs.declared.regexp.RegExp.{Ghosts as Engine}
 use Rattle.urlpattern_init.specs.ConstructorString.{HasProtocolOrBase, RefusesString, SplitsInto}
-use Rattle.urlpattern_init.specs.Inheritance.{values_view}
-use Rattle.urlpattern_init.specs.SpecialProtocol.{IsSpecialTo}
+use Rattle.urlpattern_init.specs.{Inheritance.values_view, SpecialProtocol.IsSpecialTo}
 use Rattle.urlpattern_init.specs.declared.init.UrlPatternInit.{UrlPatternInit}
 use Rattle.urlpattern_inputs.specs.declared.options.UrlPatternOptions.{UrlPatternOptions}
-use Rattle.urlpattern_pattern.specs.ByText.{AnswersByItsText}
-use Rattle.urlpattern_pattern.specs.Compiled.{IsPatternOfInit, RefusesInit}
-use Rattle.urlpattern_pattern.specs.Patterns.{PatternView}
+use Rattle.urlpattern_pattern.specs.{ByText.AnswersByItsText, Compiled.IsPatternOfInit, Compiled.RefusesInit, Patterns.PatternView}
 use Rattle.urlpattern_syntax.specs.Errors.{ErrorView}
 
 -- ---- base URLs: texts are their bytes

@@ -1,11 +1,9 @@
 -- What it means that a pattern matches an input, and the groups of a match, after the URLPattern Standard, section
 -- "Matching", at "match".
 use Rattle.std.specs.Prelude.{◌≡◌, ◌≤◌, ◌⊎◌, ℕ, Bool, List, MatchBool, MatchOption, reverse, zip, bytes_eq, Option, Some, None, option_map, Ok, String}
-use Rattle.std.specs.HashMap.{HashMap, get_by}
-use Rattle.std.specs.Map.{lookup}
+use Rattle.std.specs.{HashMap.HashMap, HashMap.get_by, Map.lookup}
 use Rattle.std.specs.declared.alloc.Global.{Global}
-use Rattle.urlpattern_syntax.specs.declared.eight.ComponentName.{ComponentName}
-use Rattle.urlpattern_syntax.specs.declared.eight.Eight.{Eight}
+use Rattle.urlpattern_syntax.specs.declared.eight.{ComponentName.ComponentName, Eight.Eight}
 use Rattle.urlpattern_init.specs.Inheritance.{texts_of_url}
 use Rattle.urlpattern_init.specs.declared.init.UrlPatternMatchInput.{UrlPatternMatchInput}
 use Rattle.urlpattern_init.specs.declared.init.UrlPatternMatchInput.TheVariants.{Init, Url as UrlInput}
@@ -15,8 +13,7 @@ use Rattle.urlpattern_pattern.specs.Patterns.{PatternView}
 use Rattle.urlpattern_canonical.specs.Canonical.{long_text}
 use Rattle.urlpattern_meaning.specs.Matching.{Answers, AsksEngine, IsMatched}
 use Rattle.urlpattern_meaning.specs.PartMeaning.{Captures}
-use Rattle.urlpattern_syntax.specs.Text.{text_of}
-use Rattle.urlpattern_syntax.specs.Eight.{Texts, at}
+use Rattle.urlpattern_syntax.specs.{Text.text_of, Eight.Texts, Eight.at}
 
 -- ---- groups
 

@@ -2,24 +2,17 @@
 -- are the names of these parts beside what they capture.
 use Rattle.std.specs.Prelude.{◌≡◌, ⊤, ℕ, false, List, Option, Some, None, MatchOption, Ok, IsTrue}
 use Rattle.std.specs.Str.{all_scalars}
-use Rattle.urlpattern_init.specs.declared.init.UrlPatternInit.{UrlPatternInit}
-use Rattle.urlpattern_init.specs.declared.init.UrlPatternMatchInput.{UrlPatternMatchInput}
+use Rattle.urlpattern_init.specs.declared.init.{UrlPatternInit.UrlPatternInit, UrlPatternMatchInput.UrlPatternMatchInput}
 use Rattle.urlpattern_syntax.specs.declared.eight.ComponentName.{ComponentName}
 use Rattle.urlpattern_inputs.specs.declared.options.UrlPatternOptions.{UrlPatternOptions}
 use Rattle.regex.specs.declared.string.regex.Regex.{Regex}
 use Rattle.urlpattern_core.specs.Components.{ComponentView}
 use Rattle.urlpattern_core.specs.declared.regexp.RegExp.{Ghosts as Engine}
-use Rattle.urlpattern_meaning.specs.FirstAnswers.{TookText}
-use Rattle.urlpattern_meaning.specs.Matching.{FollowsMiddle}
-use Rattle.urlpattern_meaning.specs.PartMeaning.{Captures, PartsMean}
+use Rattle.urlpattern_meaning.specs.{FirstAnswers.TookText, Matching.FollowsMiddle, PartMeaning.Captures, PartMeaning.PartsMean}
 use Rattle.urlpattern_pattern.specs.Compiled.{AreCompiled, Manner, canonical_encoding, manner_of, pattern_values}
 use Rattle.urlpattern_pattern.specs.Match.{HasNoMatch, IsLongInput, IsMatch, IsResultOf, ResultView}
-use Rattle.urlpattern_pattern.specs.MatchInput.{input_texts}
-use Rattle.urlpattern_pattern.specs.Patterns.{PatternView}
-use Rattle.urlpattern_syntax.specs.Parts.{PartView}
-use Rattle.urlpattern_syntax.specs.Reading.{Reads}
-use Rattle.urlpattern_syntax.specs.RegexpText.{group_names}
-use Rattle.urlpattern_syntax.specs.Text.{lacks, line_feed}
+use Rattle.urlpattern_pattern.specs.{MatchInput.input_texts, Patterns.PatternView}
+use Rattle.urlpattern_syntax.specs.{Parts.PartView, Reading.Reads, RegexpText.group_names, Text.lacks, Text.line_feed}
 use Rattle.urlpattern_syntax.specs.Eight.{Texts, Values, at}
 
 -- ---- what a pattern text means
