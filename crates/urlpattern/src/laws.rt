@@ -6,6 +6,7 @@ ghost use Rattle.std.specs.Prelude.{⊤, ℕ, List, Option};
 ghost use Rattle.urlpattern_pattern.specs.ByText.{MakesFirstWays};
 ghost use Rattle.urlpattern.specs.EcmaRegexps.{KeepsRegex, ecma_engine};
 ghost use Rattle.urlpattern.specs.PatternLaws.{AnswersMeanTheParts, FirstResultsAreOne, MatchesAreOne, RegexMeetsPremises, RegexResultsAreFirst, TestsAgree, TestsAreOne};
+ghost use Rattle.urlpattern_pattern.specs.Outcomes.{DecidesGenerated, FirstWaysDecide, InitRefusalsAreOne, InitsHaveOutcomes, InitsHaveValues, PatternsExcludeRefusals};
 ghost use Rattle.urlpattern_pattern.specs.ByTextLaws.{CompiledHaveMeaning, FindingsAreByText, FindingsAreOne, PatternsAnswerAlike, PatternsAnswerByText, ReadingsAsAreOne, TakenPatternsAnswerByText};
 ghost use Rattle.urlpattern_core.specs.FirstWays.{EachAnswersFirst};
 ghost use Rattle.urlpattern_core.specs.Regexes.{regex_engine};
@@ -89,4 +90,21 @@ pub fn patterns_by_these_engines_answer_by_their_texts()
     ensures pattern_regexp { MakesFirstWays pattern_engine }
     ensures regex { TakenPatternsAnswerByText regex_engine (TookText (λ value. ⊤)) }
     ensures ecma_regexp { TakenPatternsAnswerByText ecma_engine (TookText KeepsRegex) }
+{}
+
+/// An init has one outcome: it is compiled to a pattern, or it is refused with one error, and not both. It has that outcome
+/// where `url` answers each text that it is asked about, and the engine makes a value of each regular expression or may refuse
+/// it. The values of an init as a pattern are never refused. Left aside are two errors: that memory ran out, and that a text is
+/// too long for `url`.
+///
+/// Of the engine it is asked that it does not both take and refuse the regular expression of a component, and that two of its
+/// matchers for the protocol accept a special scheme alike. An engine that makes first ways meets the second where no pattern
+/// text has a custom regular expression, and `PatternRegexp` meets both there.
+pub fn inits_have_one_outcome<R: RegExp>()
+    ensures not_both { PatternsExcludeRefusals R.RegExp }
+    ensures refusals { InitRefusalsAreOne R.RegExp }
+    ensures values { InitsHaveValues }
+    ensures exist { InitsHaveOutcomes R.RegExp }
+    ensures by_first_ways { FirstWaysDecide R.RegExp }
+    ensures pattern_regexp { DecidesGenerated pattern_engine }
 {}

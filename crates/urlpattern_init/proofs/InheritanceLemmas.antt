@@ -246,7 +246,7 @@ pattern-value : (values : Values) (base : Option Parts) (protocol : Option (List
     → (value : Option (List ℕ)) × (processed_value Pattern values base protocol component ≡ Ok value)
 pattern-value values base protocol component = pattern-given values base protocol component (at values component)
 
-pattern-processed : (values : Values) (base : Option Parts) → (found : Values) × (processed_values Pattern values base ≡ Ok found)
+pub pattern-processed : (values : Values) (base : Option Parts) → (found : Values) × (processed_values Pattern values base ≡ Ok found)
 pattern-processed values base =
     let protocol = pattern-value values base None Protocol in
     let found : (name : ComponentName) → HasValue (processed_value Pattern values base protocol.0) name = λ name. pattern-value values base protocol.0 name in (

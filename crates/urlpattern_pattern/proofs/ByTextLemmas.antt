@@ -94,7 +94,7 @@ module _ {E : Type 0} (answer : E → List ℕ → Option Captures) (manner : Ma
   }
 
 -- a component that was compiled answers by its text, if its matcher answers first ways
-component_by : {E : Type 0} (engine : Engine E) (manner : Manner) (compiled : ComponentView E) → IsComponentCompiled engine manner compiled → HasMeaning manner →
+pub component_by : {E : Type 0} (engine : Engine E) (manner : Manner) (compiled : ComponentView E) → IsComponentCompiled engine manner compiled → HasMeaning manner →
     ((parts : List PartView) → ReadsAs manner parts → IsComponentOf engine manner.options parts compiled → AreGenerated parts → AnswersFirstWays engine.answer manner.options parts compiled.matcher) →
     AnswersByText engine.answer manner compiled
 component_by engine manner compiled is_compiled has firsts =
@@ -124,11 +124,11 @@ module _ {E : Type 0} (answer : E → List ℕ → Option Captures) (manner : Ma
   line_at : (k : ℕ) (scheme : List ℕ × Option (List ℕ)) → k < length special_schemes → slice_index_or special_schemes k scheme ≡ scheme → IsLine scheme.0
   line_at k scheme lt here = subst (λ (s : List ℕ × Option (List ℕ)). IsLine s.0) here (special_lines k scheme lt)
 
-  scheme_taken : AcceptsSpecialScheme answer protocol.matcher → Any (λ scheme. (captures : Captures) × IsFirstWay manner scheme.0 (Some captures)) special_schemes
+  pub scheme_taken : AcceptsSpecialScheme answer protocol.matcher → Any (λ scheme. (captures : Captures) × IsFirstWay manner scheme.0 (Some captures)) special_schemes
   scheme_taken (k, scheme, lt, here, (captures, matches)) =
       (k, scheme, lt, here, (captures, answer_first answer manner protocol by scheme.0 (line_at k scheme lt here) (Some captures) matches))
 
-  scheme_accepted : Any (λ scheme. (captures : Captures) × IsFirstWay manner scheme.0 (Some captures)) special_schemes → AcceptsSpecialScheme answer protocol.matcher
+  pub scheme_accepted : Any (λ scheme. (captures : Captures) × IsFirstWay manner scheme.0 (Some captures)) special_schemes → AcceptsSpecialScheme answer protocol.matcher
   scheme_accepted (k, scheme, lt, here, (captures, way)) =
       (k, scheme, lt, here, (captures, first_answer answer manner protocol by scheme.0 (line_at k scheme lt here) (Some captures) way))
 
@@ -236,7 +236,7 @@ finding_one manner texts (Some result) None all found also = differ manner texts
 never_true : IsTrue false → ⊥
 never_true is = let both : false ≡ true = is in cc both
 
-bool_one : (P : Type 0) (test other : Bool) → IsTrue test ↔ P → IsTrue other ↔ P → test ≡ other
+pub bool_one : (P : Type 0) (test other : Bool) → IsTrue test ↔ P → IsTrue other ↔ P → test ≡ other
 bool_one P true true same also = refl
 bool_one P false false same also = refl
 bool_one P true false same also = absurd (never_true (also.1 (same.0 refl)))

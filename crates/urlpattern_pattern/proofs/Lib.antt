@@ -9,3 +9,6 @@ pub mod MatchExamples
 pub mod MeaningLemmas
 pub mod MatchersDecide
 pub mod ByTextLemmas
+pub mod OutcomesOne
+pub mod OutcomesExist
+pub mod FoldedWays

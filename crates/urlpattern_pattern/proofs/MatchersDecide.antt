@@ -10,14 +10,14 @@ use Rattle.urlpattern_syntax.specs.Text.{lacks}
 
 -- ---- tests
 
-abbrev Decided : Type 0 → Type 0
+abbrev pub Decided : Type 0 → Type 0
 Decided P = P ⊎ ¬ P
 
-bool_decided : (test : Bool) → Decided (IsTrue test)
+pub bool_decided : (test : Bool) → Decided (IsTrue test)
 bool_decided true = inl refl
 bool_decided false = inr (λ is. let both : false ≡ true = is in cc both)
 
-text_decided : (xs ys : List ℕ) → Decided (xs ≡ ys)
+pub text_decided : (xs ys : List ℕ) → Decided (xs ≡ ys)
 text_decided xs ys = by (bytes_eq xs ys) refl
   where
     by : (test : Bool) → bytes_eq xs ys ≡ test → Decided (xs ≡ ys)
@@ -32,7 +32,7 @@ both_decided P Q (inl p) (inr not_q) = inr (λ both. not_q both.1)
 -- ---- the text between the ends
 
 -- a text that is cut in three is the text of the three
-cut_in_three : (a b : ℕ) (text : List ℕ) → text ≡ take a text ++ take b (drop a text) ++ drop b (drop a text)
+pub cut_in_three : (a b : ℕ) (text : List ℕ) → text ≡ take a text ++ take b (drop a text) ++ drop b (drop a text)
 cut_in_three a b text =
     sym (take-append-drop a text) ∙ ap (λ t. take a text ++ t) (sym (take-append-drop b (drop a text)))
     ∙ sym (append_assoc (take a text) (take b (drop a text)) (drop b (drop a text)))

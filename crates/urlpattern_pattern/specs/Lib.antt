@@ -4,8 +4,10 @@ pub mod ByTextLaws
 pub mod Calls
 pub mod Compiled
 pub mod CompilerSteps
+pub mod Folded
 pub mod FromString
 pub mod Match
 pub mod MatchInput
 pub mod Meaning
+pub mod Outcomes
 pub mod Patterns

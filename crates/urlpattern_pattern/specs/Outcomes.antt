@@ -1,0 +1,115 @@
+-- The sentences of the laws on what becomes of an init: a pattern, or a refusal.
+use Rattle.std.specs.Prelude.{◌≡◌, ◌≢◌, ◌⊎◌, ℕ, Bool, false, List, Option, Result, Ok, Err}
+use Rattle.url.specs.declared.error.ParseError.TheVariants.{Overflow}
+use Rattle.urlpattern_core.specs.Components.{ComponentView, IsEngineOf, IsWholeEngineOf, engine_flags, has_regexp}
+use Rattle.urlpattern_core.specs.Generated.{AreGenerated}
+use Rattle.urlpattern_core.specs.declared.regexp.RegExp.{Ghosts as Engine}
+use Rattle.urlpattern_init.specs.SpecialProtocol.{AcceptsSpecialScheme}
+use Rattle.urlpattern_init.specs.declared.init.UrlPatternInit.{UrlPatternInit}
+use Rattle.urlpattern_inputs.specs.declared.options.UrlPatternOptions.{UrlPatternOptions}
+use Rattle.urlpattern_meaning.specs.Laws.{AnswersAsked}
+use Rattle.urlpattern_syntax.specs.declared.eight.ComponentName.{ComponentName}
+use Rattle.urlpattern_syntax.specs.declared.eight.ComponentName.TheVariants.{Protocol}
+use Rattle.urlpattern_syntax.specs.Eight.{Values}
+use Rattle.urlpattern_syntax.specs.Errors.{ErrorView}
+use Rattle.urlpattern_syntax.specs.Errors.{ErrorView as views}
+use Rattle.urlpattern_syntax.specs.Parts.{PartView}
+use Rattle.urlpattern_syntax.specs.Reading.{Encoding}
+use Rattle.urlpattern_syntax.specs.RegexpText.{regexp_text}
+use Rattle.urlpattern_pattern.specs.ByText.{MakesFirstWays}
+use Rattle.urlpattern_pattern.specs.Compiled.{IsComponentCompiled, IsPatternOfInit, Manner, RefusesInit, canonical_encoding, manner_of, pattern_values}
+use Rattle.urlpattern_pattern.specs.Meaning.{ReadsAs}
+use Rattle.urlpattern_pattern.specs.Patterns.{PatternView}
+
+-- ---- errors
+
+-- the error is neither that memory ran out nor that a text is too long for `url`
+abbrev pub IsOfTexts : ErrorView → Type 0
+IsOfTexts error = (error ≢ views.OutOfMemory) × (error ≢ views.Url Overflow)
+
+-- the encoding with no other errors than these
+abbrev pub of_texts : Encoding → Encoding
+of_texts encoding text answer = encoding text answer × ((error : ErrorView) → answer ≡ Err error → IsOfTexts error)
+
+-- ---- what is asked of an engine
+
+-- the engine does not both take and refuse this regular expression of a whole component
+abbrev pub TakesOrRefuses : {E : Type 0} → Engine E → (has_regexp_group : Bool) → (flags regexp : List ℕ) → Type 0
+TakesOrRefuses {E} engine has_regexp_group flags regexp =
+    (value : E) (error : ErrorView) → IsWholeEngineOf engine has_regexp_group flags regexp (Ok value) →
+    ¬ IsWholeEngineOf engine has_regexp_group flags regexp (Err error)
+
+-- so it is of the parts that the pattern text reads as
+abbrev pub TakesOrRefusesText : {E : Type 0} → Engine E → Manner → Type 0
+TakesOrRefusesText engine manner = (parts : List PartView) → ReadsAs manner parts →
+    TakesOrRefuses engine (has_regexp parts) (engine_flags manner.options) (regexp_text manner.options parts)
+
+-- of two components compiled in this manner the one accepts a special scheme where the other does
+abbrev pub AcceptsAlike : {E : Type 0} → Engine E → Manner → Type 0
+AcceptsAlike {E} engine manner = (compiled other : ComponentView E) →
+    IsComponentCompiled engine manner compiled → IsComponentCompiled engine manner other →
+    AcceptsSpecialScheme engine.answer compiled.matcher → AcceptsSpecialScheme engine.answer other.matcher
+
+-- The engine decides what becomes of these values: whether the protocol is special, and which texts are taken.
+pub record Decides {E : Type 0} (engine : Engine E) (asked : UrlPatternOptions) (values : Values) : Type 0 where
+  pub accepts_alike : AcceptsAlike engine (manner_of asked values false Protocol)
+  pub takes_or_refuses : (hierarchical : Bool) (component : ComponentName)
+      → TakesOrRefusesText engine (manner_of asked values hierarchical component)
+
+-- no pattern text of these values has a custom regular expression
+abbrev pub NoneIsCustom : UrlPatternOptions → Values → Type 0
+NoneIsCustom asked values = (hierarchical : Bool) (component : ComponentName) (parts : List PartView) →
+    ReadsAs (manner_of asked values hierarchical component) parts → AreGenerated parts
+
+-- the engine does not both take and refuse the regular expression of parts of which none is custom
+abbrev pub TakesOrRefusesGenerated : {E : Type 0} → Engine E → Type 0
+TakesOrRefusesGenerated engine = (manner : Manner) →
+    ((parts : List PartView) → ReadsAs manner parts → AreGenerated parts) → TakesOrRefusesText engine manner
+
+-- the engine decides what becomes of values where no pattern text has a custom regular expression
+abbrev pub DecidesGenerated : {E : Type 0} → Engine E → Type 0
+DecidesGenerated engine = (asked : UrlPatternOptions) (values : Values) → NoneIsCustom asked values → Decides engine asked values
+
+-- an engine does that makes first ways, and does not both take and refuse
+abbrev pub FirstWaysDecide : {E : Type 0} → Engine E → Type 0
+FirstWaysDecide engine = MakesFirstWays engine → TakesOrRefusesGenerated engine → DecidesGenerated engine
+
+-- of each regular expression the engine makes a value, or it may refuse it
+abbrev pub TakesOrMayRefuse : {E : Type 0} → Engine E → Type 0
+TakesOrMayRefuse {E} engine = (flags regexp : List ℕ) → (made : Result E ErrorView) × IsEngineOf engine false flags regexp made
+
+-- ---- one outcome
+
+-- the init is not both compiled to a pattern and refused
+abbrev pub PatternsExcludeRefusals : {E : Type 0} → Engine E → Type 0
+PatternsExcludeRefusals {E} engine =
+    (init : UrlPatternInit) (asked : UrlPatternOptions) (values : Values) (pattern : PatternView E) (error : ErrorView) →
+    pattern_values init ≡ Ok values → Decides engine asked values → IsOfTexts error →
+    IsPatternOfInit engine init asked pattern → ¬ RefusesInit engine init asked error
+
+-- it is refused with one error
+abbrev pub InitRefusalsAreOne : {E : Type 0} → Engine E → Type 0
+InitRefusalsAreOne engine =
+    (init : UrlPatternInit) (asked : UrlPatternOptions) (values : Values) (error other : ErrorView) →
+    pattern_values init ≡ Ok values → Decides engine asked values → IsOfTexts error → IsOfTexts other →
+    RefusesInit engine init asked error → RefusesInit engine init asked other → error ≡ other
+
+-- ---- some outcome
+
+-- each init has values as a pattern
+abbrev pub InitsHaveValues : Type 0
+InitsHaveValues = (init : UrlPatternInit) → (values : Values) × (pattern_values init ≡ Ok values)
+
+-- `url` has an answer to each text that a pattern text asks it about
+abbrev pub UrlAnswers : UrlPatternOptions → Values → Type 0
+UrlAnswers asked values = (hierarchical : Bool) (component : ComponentName) →
+    let manner = manner_of asked values hierarchical component in
+    AnswersAsked manner.text manner.options (of_texts (canonical_encoding manner.canonical))
+
+-- the init is compiled to a pattern, or it is refused
+abbrev pub InitsHaveOutcomes : {E : Type 0} → Engine E → Type 0
+InitsHaveOutcomes {E} engine =
+    TakesOrMayRefuse engine → (init : UrlPatternInit) (asked : UrlPatternOptions) (values : Values) →
+    pattern_values init ≡ Ok values → UrlAnswers asked values →
+    ((pattern : PatternView E) × IsPatternOfInit engine init asked pattern)
+    ⊎ ((error : ErrorView) × IsOfTexts error × RefusesInit engine init asked error)
