@@ -6,6 +6,7 @@ ghost use Rattle.std.specs.Prelude.{⊤, ℕ, List, Option};
 ghost use Rattle.urlpattern_pattern.specs.ByText.{MakesFirstWays};
 ghost use Rattle.urlpattern.specs.EcmaRegexps.{KeepsRegex, ecma_engine};
 ghost use Rattle.urlpattern.specs.PatternLaws.{AnswersMeanTheParts, FirstResultsAreOne, MatchesAreOne, RegexMeetsPremises, RegexResultsAreFirst, TestsAgree, TestsAreOne};
+ghost use Rattle.urlpattern_pattern.specs.Folded.{FoldedWaysAreAnswered};
 ghost use Rattle.urlpattern_pattern.specs.Outcomes.{DecidesGenerated, FirstWaysDecide, InitRefusalsAreOne, InitsHaveOutcomes, InitsHaveValues, PatternsExcludeRefusals};
 ghost use Rattle.urlpattern_pattern.specs.ByTextLaws.{CompiledHaveMeaning, FindingsAreByText, FindingsAreOne, PatternsAnswerAlike, PatternsAnswerByText, ReadingsAsAreOne, TakenPatternsAnswerByText};
 ghost use Rattle.urlpattern_core.specs.FirstWays.{EachAnswersFirst};
@@ -107,4 +108,14 @@ pub fn inits_have_one_outcome<R: RegExp>()
     ensures exist { InitsHaveOutcomes R.RegExp }
     ensures by_first_ways { FirstWaysDecide R.RegExp }
     ensures pattern_regexp { DecidesGenerated pattern_engine }
+{}
+
+/// A component whose case is ignored, and whose matcher needs no engine, answers by its pattern text too: to each text of
+/// characters without line feed it answers captures exactly where the parts with the ASCII letters of their texts folded take
+/// the folded text, by their first way, and the captures are the pieces of the text itself at the places of that way.
+///
+/// Where an engine stands between prefix and suffix, these two are compared folded, and what is between them is left to the
+/// engine; `PatternRegexp` and `regex::Regex` compare it as it is.
+pub fn folded_ways_are_answered<R: RegExp>()
+    ensures { FoldedWaysAreAnswered R.RegExp }
 {}

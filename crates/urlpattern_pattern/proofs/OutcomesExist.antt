@@ -115,12 +115,13 @@ refusal_of_texts text options encoding error (inr demand) = first_of_texts encod
 
 -- ---- one component
 
-module _ {E : Type 0} (engine : Engine E) (every : TakesOrMayRefuse engine) (manner : Manner) where
-  abbrev Outcome : Type 0
-  Outcome = ((compiled : ComponentView E) × IsComponentCompiled engine manner compiled) ⊎ ((error : ErrorView) × IsOfTexts error × IsComponentRefused engine manner error)
+abbrev Outcome : {E : Type 0} → Engine E → Manner → Type 0
+Outcome {E} engine manner =
+    ((compiled : ComponentView E) × IsComponentCompiled engine manner compiled) ⊎ ((error : ErrorView) × IsOfTexts error × IsComponentRefused engine manner error)
 
+module _ {E : Type 0} (engine : Engine E) (every : TakesOrMayRefuse engine) (manner : Manner) where
   of_made : (parts : List PartView) (matcher : MatcherView E) (made : Result E ErrorView) → ReadsAs manner parts → IsMadeOf (IsEngineOf engine false (engine_flags manner.options)) manner.options parts matcher →
-      IsEngineOf engine false (engine_flags manner.options) (regexp_text manner.options parts) made → Outcome
+      IsEngineOf engine false (engine_flags manner.options) (regexp_text manner.options parts) made → Outcome engine manner
   of_made parts matcher (Ok value) reads is_made is = inl (
     record { pattern_string = printed manner.options parts; regexp = Ok value; group_name_list = group_names parts; matcher = matcher; has_regexp_group = has_regexp parts },
     ((parts, reads, record { is_printed = refl; has_engine = inl is; has_names = refl; has_matcher = is_made; regexp_flag = refl }), refl),
@@ -136,7 +137,7 @@ module _ {E : Type 0} (engine : Engine E) (every : TakesOrMayRefuse engine) (man
     ),
   )
 
-  of_reading : HasSomeOutcome manner.text manner.options (of_texts (canonical_encoding manner.canonical)) → Outcome
+  of_reading : HasSomeOutcome manner.text manner.options (of_texts (canonical_encoding manner.canonical)) → Outcome engine manner
   of_reading (Ok parts, reads) =
       let flags = engine_flags manner.options in
       let (made, is) = every flags (regexp_text manner.options parts) in
@@ -149,7 +150,7 @@ module _ {E : Type 0} (engine : Engine E) (every : TakesOrMayRefuse engine) (man
     inl (refuses_weaker (of_texts (canonical_encoding manner.canonical)) (canonical_encoding manner.canonical) (λ text answer both. both.0) manner.text manner.options error refuses),
   )
 
-  component_outcome : AnswersAsked manner.text manner.options (of_texts (canonical_encoding manner.canonical)) → Outcome
+  component_outcome : AnswersAsked manner.text manner.options (of_texts (canonical_encoding manner.canonical)) → Outcome engine manner
   component_outcome answers = of_reading (outcome_answered manner.text manner.options (of_texts (canonical_encoding manner.canonical)) answers)
 
 -- ---- whether the pathname is hierarchical
@@ -255,6 +256,7 @@ module _ {E : Type 0} (engine : Engine E) (every : TakesOrMayRefuse engine) (ini
 
   by_rest : (protocol : ComponentView E) (kind : Bool) → IsComponentCompiled engine (manner_by false Protocol) protocol → IsPathKind engine.answer values protocol.matcher kind →
       AllCompiled engine (manner_by kind) after_protocol ⊎ SomeRefused engine (manner_by kind) after_protocol → InitOutcome
+  unfolding each_compiled
   by_rest protocol kind is_compiled path_kind (inl all) =
       let each = each_compiled engine (manner_by kind) (protocol, is_compiled) all in
       inl (λ component. (each component).0, (values, are_values, record { hierarchical = kind; path_kind = path_kind; are_compiled = λ component. (each component).1 }))
