@@ -19,16 +19,18 @@ use Rattle.urlpattern_syntax.specs.Options.{OptionsView}
 use Rattle.urlpattern_syntax.specs.Parts.{PartView}
 use Rattle.urlpattern_syntax.specs.RegexpText.{regexp_text}
 use Rattle.urlpattern_engine.specs.declared.pattern_regexp.Expression.{Expression}
-use Rattle.urlpattern_engine.specs.declared.pattern_regexp.Expression.TheVariants.{Own, Other}
+use Rattle.urlpattern_engine.specs.declared.pattern_regexp.Expression.TheVariants.{Own, Compiled, Other}
 use Rattle.urlpattern_engine.specs.declared.pattern_regexp.PatternRegexp.{PatternRegexp}
 use Rattle.urlpattern_engine.specs.PatternRegexps.{IsExpressionOf, IsPatternRegexpOf, expression_answer, pattern_answer, pattern_engine}
 use Rattle.urlpattern_meaning.proofs.FirstAnswers.{took_all}
-use Rattle.urlpattern_engine.proofs.TwoRegexes.{regexes_same}
+use Rattle.urlpattern_engine.proofs.AutomatonLemmas.{automaton_first, automaton_same}
+use Rattle.urlpattern_engine.proofs.TwoReadings.{regexes_same}
 
 expression_first : (regexp : List ℕ) (tree : Items) (expression : Expression) (text : List ℕ) → IsTreeOf regexp tree → IsExpressionOf regexp expression → IsTrue (all_scalars text)
     → expression_answer expression text ≡ first_way tree text
 expression_first regexp tree (Own own) text is made fine =
     made.1.answers text ∙ ap (λ t. first_way t text) (trees_are_one regexp made.1.tree tree made.1.is_tree is)
+expression_first regexp tree (Compiled automaton) text is made fine = automaton_first regexp automaton.value made text fine tree is
 expression_first regexp tree (Other regex) text is made fine = regex_answers_first regexp tree regex.value text is made fine
 
 pub pattern_regexp_first : (regexp : List ℕ) (tree : Items) (value : PatternRegexp) (text : List ℕ) → IsTreeOf regexp tree → IsPatternRegexpOf regexp value → IsTrue (all_scalars text)
@@ -47,6 +49,7 @@ expression_same : (regexp : List ℕ) (expression : Expression) (regex : Regex) 
     → expression_answer expression text ≡ regex_answer regex text
 expression_same regexp (Own own) regex text made also fine =
     made.1.answers text ∙ sym (regex_answers_first regexp made.1.tree regex text made.1.is_tree also fine)
+expression_same regexp (Compiled automaton) regex text made also fine = automaton_same regexp automaton.value made text fine regex also
 expression_same regexp (Other other) regex text made also fine = regexes_same regexp other.value regex made also text fine
 
 pub pattern_regexp_same : (regexp : List ℕ) (value : PatternRegexp) (regex : Regex) (text : List ℕ) → IsPatternRegexpOf regexp value → IsRegexOf regexp regex → IsTrue (all_scalars text)

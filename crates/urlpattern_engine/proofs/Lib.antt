@@ -23,6 +23,8 @@ pub mod EndLemmas
 pub mod TakenFronts
 pub mod PlaceLemmas
 pub mod TableLemmas
-pub mod TwoRegexes
+pub mod TwoReadings
+pub mod TextParts
+pub mod AutomatonLemmas
 pub mod EngineLaws
 pub mod StepExamples

@@ -3,4 +3,5 @@ pub mod Failed
 pub mod Taken
 pub mod Table
 pub mod ReadSteps
+pub mod Automatons
 pub mod PatternRegexps

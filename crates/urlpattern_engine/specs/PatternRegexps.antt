@@ -2,8 +2,9 @@
 use Rattle.std.specs.Prelude.{◌≡◌, ℕ, List, Option}
 use Rattle.urlpattern_core.specs.declared.regexp.RegExp.{Ghosts as Engine}
 use Rattle.urlpattern_core.specs.Regexes.{IsRegexOf, regex_answer, regex_text}
+use Rattle.urlpattern_engine.specs.Automatons.{IsAutomatonOf, automaton_answer}
 use Rattle.urlpattern_engine.specs.declared.pattern_regexp.Expression.{Expression}
-use Rattle.urlpattern_engine.specs.declared.pattern_regexp.Expression.TheVariants.{Own, Other}
+use Rattle.urlpattern_engine.specs.declared.pattern_regexp.Expression.TheVariants.{Own, Compiled, Other}
 use Rattle.urlpattern_engine.specs.declared.pattern_regexp.PatternRegexp.{PatternRegexp}
 use Rattle.urlpattern_engine.specs.ReadSteps.{AreStepsOf, IsGenerated}
 use Rattle.urlpattern_engine.specs.Walk.{walk}
@@ -14,16 +15,19 @@ use Rattle.urlpattern_syntax.specs.Text.{text_of}
 -- the text that it was made of
 abbrev pub expression_text : Expression → List ℕ
 expression_text (Own own) = text_of own.text
+expression_text (Compiled automaton) = text_of automaton.value.text
 expression_text (Other regex) = regex_text regex.value
 
 -- what it answers
 abbrev pub expression_answer : Expression → List ℕ → Option Captures
 expression_answer (Own own) text = walk own.steps.items text
+expression_answer (Compiled automaton) text = automaton_answer automaton.value.nfa text
 expression_answer (Other regex) text = regex_answer regex.value text
 
--- it was made of the text: of steps that answer the first way, or by `regex`
+-- it was made of the text: of steps that answer the first way, of an automaton, or by `regex`
 abbrev pub IsExpressionOf : (regexp : List ℕ) → Expression → Type 0
 IsExpressionOf regexp (Own own) = (text_of own.text ≡ regexp) × AreStepsOf regexp own.steps.items
+IsExpressionOf regexp (Compiled automaton) = IsAutomatonOf regexp automaton.value
 IsExpressionOf regexp (Other regex) = IsRegexOf regexp regex.value
 
 abbrev pub pattern_regexp_text : PatternRegexp → List ℕ

@@ -6,6 +6,7 @@ ghost use Rattle.urlpattern_core.specs.CaptureTexts.{captures_view};
 ghost use Rattle.urlpattern_engine.specs.PatternRegexps.{pattern_engine};
 ghost use Rattle.urlpattern_engine.specs.Walk.{walk};
 
+use crate::automaton::Automaton;
 use crate::by_table::walk_by_table;
 use crate::choices::{Strategy, strategy_of};
 use crate::reading::read_steps;
@@ -19,7 +20,8 @@ use urlpattern_core::regexp::RegExp;
 
 /// An engine that answers what `regex::Regex` answers.
 ///
-/// It matches by itself each expression of texts and groups as patterns have them, and every other by a `regex::Regex`.
+/// It matches by itself each expression of texts and groups as patterns have them, and by an automaton every other that matches
+/// only at the start of a text, as those of patterns do. What is left is matched by a `regex::Regex`.
 #[derive(Drop)]
 pub struct PatternRegexp {
     expression: Expression,
@@ -29,6 +31,7 @@ pub struct PatternRegexp {
 #[derive(Drop)]
 enum Expression {
     Own(Steps),
+    Compiled(Box<Automaton>),
     Other(Box<Regex>),
 }
 
@@ -68,10 +71,13 @@ impl RegExp for PatternRegexp {
                 strategy: strategy_of(&steps),
                 steps,
             }),
-            None => {
-                let regex = <Regex as RegExp>::parse(alloc, pattern, flags, force_eval)?;
-                Expression::Other(boxed(alloc, regex)?)
-            }
+            None => match Automaton::new(alloc, pattern)? {
+                Some(automaton) => Expression::Compiled(boxed(alloc, automaton)?),
+                None => {
+                    let regex = <Regex as RegExp>::parse(alloc, pattern, flags, force_eval)?;
+                    Expression::Other(boxed(alloc, regex)?)
+                }
+            },
         };
         Ok(PatternRegexp { expression })
     }
@@ -83,6 +89,7 @@ impl RegExp for PatternRegexp {
     ) -> Result<Option<Vec<Option<&'a str>>>, OutOfMemory> {
         match &self.expression {
             Expression::Own(own) => match_steps(alloc, &own.steps, own.strategy, text),
+            Expression::Compiled(automaton) => automaton.matches(alloc, text),
             Expression::Other(regex) => RegExp::matches(&**regex, alloc, text),
         }
     }
@@ -90,6 +97,7 @@ impl RegExp for PatternRegexp {
     fn pattern_string(&self) -> &str {
         match &self.expression {
             Expression::Own(own) => own.text.as_str(),
+            Expression::Compiled(automaton) => automaton.text.as_str(),
             Expression::Other(regex) => RegExp::pattern_string(&**regex),
         }
     }
@@ -113,10 +121,10 @@ fn match_steps<'t>(
 }
 
 /// A value on the heap.
-fn boxed(alloc: Global, regex: Regex) -> Result<Box<Regex>, AllocError>
-    ensures { IfOk result (λ boxed. boxed.value ≡ regex) }
+fn boxed<T: Drop>(alloc: Global, value: T) -> Result<Box<T>, AllocError>
+    ensures { IfOk result (λ boxed. boxed.value ≡ value) }
 {
-    match Box::new(alloc, regex) {
+    match Box::new(alloc, value) {
         Ok(boxed) => Ok(boxed),
         Err(error) => Err(AllocError::from(error)),
     }

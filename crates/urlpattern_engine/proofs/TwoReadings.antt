@@ -1,14 +1,16 @@
--- Two values of the crate `regex` that were made of the same text answer the same.
+-- Two trees that the grammar reads in the same text answer the same.
 use Rattle.std.proofs.Common.{◌≡◌, ℕ, ◌+◌, ◌-◌, ◌*◌, List, map, length, Option, Some, None, IsSomeAnd, is_some, option_map, true, true≢false, refl, sym, ap, ◌∙◌}
 use Rattle.std.specs.List.{range_with_len}
 use Rattle.std.specs.Prelude.{IsTrue, encode_utf8_all}
-use Rattle.std.specs.Str.{all_scalars}
+use Rattle.std.specs.Str.{all_scalars, chars}
 use Rattle.regex_hir.specs.Find.{Match, find_str, slot_of}
+use Rattle.regex_hir.specs.Meaning.{meaning}
+use Rattle.regex_hir.specs.declared.hir.Hir.{Hir}
 use Rattle.regex_syntax.specs.Captures.{SameCaptures}
-use Rattle.regex_syntax.specs.Grammar.{read}
+use Rattle.regex_syntax.specs.Grammar.{Names, read}
 use Rattle.regex_syntax.specs.Verdict.{default_config, Reads}
 use Rattle.regex_syntax.proofs.CapturesLemmas.{alike_sym, ◌also◌}
-use Rattle.regex.specs.Strings.{regex_names, regex_pattern}
+use Rattle.regex.specs.Strings.{regex_names, regex_source}
 use Rattle.regex.specs.Writes.{both, group_of}
 use Rattle.regex.specs.declared.string.regex.Regex.{Regex}
 use Rattle.regex.proofs.ForCallers.{found_alike, is_match_alike}
@@ -20,12 +22,22 @@ both_hold : {A B : Type 0} (o : Option A) (P Q : A → Type 0) → ((x : A) → 
 both_hold None P Q f p q = absurd p
 both_hold (Some x) P Q f p q = f x p q
 
-module _ (regexp : List ℕ) (regex other : Regex) (made : IsRegexOf regexp regex) (again : IsRegexOf regexp other) where
-  alike : SameCaptures (regex_pattern regex) (regex_pattern other) × (regex_names regex ≡ regex_names other)
+-- what the groups of the first match of a tree with these names of groups span
+abbrev pub tree_answer : Hir → Names → List ℕ → Option Captures
+tree_answer hir names text =
+    let bytes = encode_utf8_all text in
+    option_map (λ found. group_texts bytes (length names - 1) (group_of found)) (find_str (meaning hir) bytes 0)
+
+-- the grammar reads the tree and the names in the text
+abbrev pub IsReadIn : (regexp : List ℕ) → Hir → Names → Type 0
+IsReadIn regexp hir names = (source : List ℕ) × (chars source ≡ regexp) × Reads default_config source hir names
+
+module _ (regexp : List ℕ) (hir other : Hir) (names others : Names) (made : IsReadIn regexp hir names) (again : IsReadIn regexp other others) where
+  alike : SameCaptures (meaning hir) (meaning other) × (names ≡ others)
   unfolding Reads
   alike =
       both_hold (read default_config regexp) _ _ (λ x h q. (h.1 also (alike_sym q.1), h.2 ∙ sym q.2))
-      (rw (made.by_default, made.of_text) at made.is_read) (rw (again.by_default, again.of_text) at again.is_read)
+      (rw (made.1) at made.2) (rw (again.1) at again.2)
 
   module _ (text : List ℕ) (fine : IsTrue (all_scalars text)) where
     abbrev bytes : List ℕ
@@ -46,10 +58,25 @@ module _ (regexp : List ℕ) (regex other : Regex) (made : IsRegexOf regexp rege
         let found = f m refl in
         ap Some (same_texts count m found.0 found.2) ∙ ap (option_map (texts_of count)) (sym found.1)
 
-    pub regexes_same : regex_answer regex text ≡ regex_answer other text
-    unfolding regex_answer
-    regexes_same =
+    pub readings_same : tree_answer hir names text ≡ tree_answer other others text
+    readings_same =
         let below = bytes_below text fine in
-        ap (λ names. option_map (texts_of (length names - 1)) (find_str (regex_pattern regex) bytes 0)) alike.1
-        ∙ carried (length (regex_names other) - 1) (find_str (regex_pattern regex) bytes 0) (find_str (regex_pattern other) bytes 0)
+        ap (λ (all : Names). option_map (texts_of (length all - 1)) (find_str (meaning hir) bytes 0)) alike.1
+        ∙ carried (length others - 1) (find_str (meaning hir) bytes 0) (find_str (meaning other) bytes 0)
         (is_match_alike alike.0 bytes below true 0) (found_alike alike.0 bytes below true 0)
+
+-- ---- values of the crate `regex`
+
+pub regex_is_read : (regexp : List ℕ) (regex : Regex) → IsRegexOf regexp regex → IsReadIn regexp regex.pattern.program.hir (regex_names regex)
+regex_is_read regexp regex made = (regex_source regex, made.of_text, rw (made.by_default) at made.is_read)
+
+pub regex_answer_is : (regex : Regex) (text : List ℕ) → regex_answer regex text ≡ tree_answer regex.pattern.program.hir (regex_names regex) text
+unfolding regex_answer
+regex_answer_is regex text = refl
+
+pub regexes_same : (regexp : List ℕ) (regex other : Regex) → IsRegexOf regexp regex → IsRegexOf regexp other → (text : List ℕ) → IsTrue (all_scalars text)
+    → regex_answer regex text ≡ regex_answer other text
+regexes_same regexp regex other made again text fine =
+    regex_answer_is regex text
+    ∙ readings_same regexp _ _ _ _ (regex_is_read regexp regex made) (regex_is_read regexp other again) text fine
+    ∙ sym (regex_answer_is other text)

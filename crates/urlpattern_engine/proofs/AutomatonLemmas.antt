@@ -1,0 +1,193 @@
+-- What an automaton answers is what its tree does.
+use Rattle.std.proofs.Common.{◌≡◌, ℕ, zero, suc, ◌+◌, ◌-◌, ◌*◌, ◌/◌, ◌<◌, ◌≤◌, true, cond, ◌==◌, List, ◌∷◌, map, length, Option, Some, None, option_map, IsUtf8, IsCharBoundary, slice_index, refl, sym, ap, ap₂, ◌∙◌, subst, ⊎_elim, arith, ne_eqb, le-leb}
+use Rattle.std.proofs.lemmas.Bool.{and_from, cond-true, cond-false}
+use Rattle.std.proofs.lemmas.List.FromFn.{get_or-map-range_with_len}
+use Rattle.std.proofs.lemmas.Option.{none-some}
+use Rattle.std.proofs.lemmas.Str.{IsCharBoundary-start, IsUtf8-string_bytes, encodes-chars}
+use Rattle.std.specs.List.{range_with_len}
+use Rattle.std.specs.Option.{option_or}
+use Rattle.std.specs.Prelude.{IfSome, IsTrue, encode_utf8_all, option_and_then, string_bytes}
+use Rattle.std.specs.Str.{all_scalars, chars}
+use Rattle.regex.specs.Writes.{IsTidy, both, group_of}
+use Rattle.regex.proofs.Utf8Lemmas.{IsCharBoundary-of_test, is_cut_at-text, test_of_IsCharBoundary}
+use Rattle.regex.proofs.WritesLemmas.{last_write_has, writes_are_tidy_in_text}
+use Rattle.regex_compile.specs.Implements.{Implements}
+use Rattle.regex_extract.specs.Bounds.{IsAnchored}
+use Rattle.regex_hir.specs.Find.{Match, find_str, first_between, last_write, slot_of}
+use Rattle.regex_hir.specs.Meaning.{meaning}
+use Rattle.regex_hir.specs.Re.{Re, accept, attempt}
+use Rattle.regex_hir.specs.Text.{is_boundary}
+use Rattle.regex_hir.proofs.AttemptLemmas.{cond_some}
+use Rattle.regex_hir.proofs.FindLemmas.{IsFirst-of_first_between, first_between_cong, first_between_here, first_between_none}
+use Rattle.regex_hir.proofs.OptionLemmas.{none_of_no_value, option_cases, option_or-None}
+use Rattle.regex_meta.proofs.LeftmostLemmas.{Matches-of_attempt}
+use Rattle.regex_nfa.specs.declared.nfa.Nfa.{Nfa}
+use Rattle.regex_vm.specs.Found.{cell, first_match, group_cells, span}
+use Rattle.regex.specs.Writes.{HasTextParts}
+use Rattle.urlpattern_core.specs.Regexes.{IsRegexOf, group_texts, regex_answer, text_between}
+use Rattle.urlpattern_core.proofs.RegexWays.{read_answers_first}
+use Rattle.urlpattern_engine.specs.Automatons.{IsAutomatonOf, automaton_answer, captures_of, cell_texts, place_of, text_cut}
+use Rattle.urlpattern_engine.specs.declared.automaton.Automaton.{Automaton}
+use Rattle.urlpattern_engine.proofs.TextParts.{text_parts}
+use Rattle.urlpattern_engine.proofs.TwoReadings.{readings_same, regex_answer_is, regex_is_read, tree_answer}
+use Rattle.urlpattern_meaning.specs.Dialect.{IsTreeOf, Items}
+use Rattle.urlpattern_meaning.specs.PartMeaning.{Captures}
+use Rattle.urlpattern_meaning.specs.Ways.{first_way}
+use Rattle.regex.specs.declared.string.regex.Regex.{Regex}
+
+-- ---- a match at the start of a text
+
+module _ (nfa : Nfa) (re : Re) (implements : Implements nfa re) (anchored : IsAnchored true re) (hay : List ℕ) (utf8 : IsUtf8 hay) where
+  nowhere : attempt hay re accept 0 ≡ None → (i : ℕ) → i ≤ length hay → attempt hay re accept i ≡ None
+  nowhere none i inside = none_of_no_value _ (λ t e.
+      let start : i ≡ 0 = anchored.at hay i t.end inside (Matches-of_attempt re hay i t e) in
+      none-some t (sym none ∙ subst (λ x. attempt hay re accept x ≡ Some t) start e))
+
+  cond_none : (i : ℕ) → attempt hay re accept i ≡ None → cond (is_boundary hay i) (attempt hay re accept i) None ≡ None
+  cond_none i none = ap (λ o. cond (is_boundary hay i) o None) none ∙ both_none (is_boundary hay i)
+    where
+      both_none : (b : _) → cond b None None ≡ None
+      both_none b = elim b [ true ↦ refl | _ ↦ refl ]
+
+  first_is_found : first_match nfa hay (length hay) 0 0 ≡ find_str re hay 0
+  unfolding find_str
+  first_is_found =
+      first_between_cong _ (attempt hay re accept) 0 0 (λ i _ _. implements hay i)
+      ∙ ⊎_elim
+      (λ none.
+      first_between_none (attempt hay re accept) 0 0 (λ i p q. nowhere none i (omega arith))
+      ∙ sym (first_between_none _ 0 (length hay) (λ i p q. cond_none i (nowhere none i q))))
+      (λ found.
+      first_between_here (attempt hay re accept) 0 0 found.0 (omega arith) found.1
+      ∙ sym (first_between_here _ 0 (length hay) found.0 (omega arith)
+      (cond-true (is_boundary hay 0) _ None (test_of_IsCharBoundary hay 0 (IsCharBoundary-start hay utf8)) ∙ found.1)))
+      (option_cases (attempt hay re accept 0))
+
+-- ---- what groups capture
+
+slot_after : (m : Match) (slot : ℕ) → 2 ≤ slot → slot_of m slot ≡ last_write m.trace.writes slot
+unfolding slot_of
+slot_after m slot high =
+    ap₂ option_or
+    (ap (option_or (last_write m.trace.writes slot)) (cond-false _ (Some m.trace.end) None (ne_eqb 1 slot (omega arith)))
+    ∙ option_or-None _)
+    (cond-false _ (Some m.start) None (ne_eqb 0 slot (omega arith)))
+    ∙ option_or-None _
+
+text_is_cut : (hay : List ℕ) (first last : ℕ) → first ≤ last → IsCharBoundary hay first → IsCharBoundary hay last
+    → text_cut hay (first, last) ≡ Some (text_between hay (first, last))
+text_is_cut hay first last ordered from to =
+    cond-true _ _ None (and_from _ _ (le-leb first last ordered) (and_from _ _ (is_cut_at-text hay first from) (is_cut_at-text hay last to)))
+
+group_is_cut : (hay : List ℕ) (m : Match) → IsTidy (IsCharBoundary hay) m.start m.trace.end m.trace.writes → (n : ℕ) → 1 ≤ n
+    → option_and_then (text_cut hay) (group_of m n) ≡ option_map (text_between hay) (group_of m n)
+group_is_cut hay m tidy n positive =
+    let writes = m.trace.writes in
+    let Placed : ℕ → Type 0 = λ i. (m.start ≤ i) × (i ≤ m.trace.end) × IsCharBoundary hay i in
+    let low = slot_after m (2 * n) (omega arith) in
+    let high = slot_after m (2 * n + 1) (omega arith) in
+    ⊎_elim
+    (λ unset.
+    let none : group_of m n ≡ None = ap₂ both (low ∙ unset.0) (high ∙ unset.1) in
+    ap (option_and_then (text_cut hay)) none ∙ sym (ap (option_map (text_between hay)) none))
+    (λ set.
+    let some : group_of m n ≡ Some (set.0, set.1) = ap₂ both (low ∙ set.2) (high ∙ set.3) in
+    let first = last_write_has Placed writes (2 * n) set.0 tidy.placed set.2 in
+    let last = last_write_has Placed writes (2 * n + 1) set.1 tidy.placed set.3 in
+    ap (option_and_then (text_cut hay)) some ∙ text_is_cut hay set.0 set.1 set.4 first.2 last.2
+    ∙ sym (ap (option_map (text_between hay)) some))
+    (tidy.paired n)
+
+same_groups : (f g : ℕ → Option (List ℕ)) (first count : ℕ) → ((n : ℕ) → first ≤ n → n < first + count → f n ≡ g n)
+    → map f (range_with_len first count) ≡ map g (range_with_len first count)
+same_groups f g first zero same = refl
+same_groups f g first (suc count) same =
+    ap₂ ◌∷◌ (same first (omega arith) (omega arith)) (same_groups f g (first + 1) count (λ n low high. same n (omega arith) (omega arith)))
+
+captures_are_texts : (hay : List ℕ) (re : Re) (m : Match) (count : ℕ) → IsUtf8 hay → HasTextParts re → find_str re hay 0 ≡ Some m
+    → captures_of hay count m ≡ group_texts hay count (group_of m)
+unfolding find_str
+captures_are_texts hay re m count utf8 parts found =
+    let first = IsFirst-of_first_between _ 0 (length hay) m found in
+    let here = cond_some (is_boundary hay m.start) _ m.trace first.here in
+    let tidy = writes_are_tidy_in_text hay re m.start m.trace utf8 parts (IsCharBoundary-of_test hay m.start first.to here.0) here.1 in
+    same_groups _ _ 1 count (λ n low _. group_is_cut hay m tidy n low)
+
+option_map_same : {A B : Type 0} (o : Option A) (f g : A → B) → ((x : A) → o ≡ Some x → f x ≡ g x) → option_map f o ≡ option_map g o
+option_map_same None f g same = refl
+option_map_same (Some x) f g same = ap Some (same x refl)
+
+-- ---- the laws
+
+module _ (regexp : List ℕ) (automaton : Automaton) (made : IsAutomatonOf regexp automaton) (text : List ℕ) (fine : IsTrue (all_scalars text)) where
+  answers_as_tree : automaton_answer automaton.nfa text ≡ tree_answer made.tree made.names text
+  unfolding automaton_answer
+  answers_as_tree =
+      let bytes = encode_utf8_all text in
+      let utf8 : IsUtf8 bytes = (text, (fine, refl)) in
+      let re = meaning made.tree in
+      let count : automaton.nfa.slot_count / 2 - 1 ≡ length made.names - 1 = omega (arith, made.slots) in
+      ap₂ (λ n o. option_map (captures_of bytes n) o) count (first_is_found automaton.nfa re made.implements made.is_anchored bytes utf8)
+      ∙ option_map_same (find_str re bytes 0) _ _ (λ m found. captures_are_texts bytes re m _ utf8 (text_parts made.tree made.is_formed) found)
+
+  pub automaton_first : (tree : Items) → IsTreeOf regexp tree → automaton_answer automaton.nfa text ≡ first_way tree text
+  automaton_first tree is =
+      answers_as_tree
+      ∙ read_answers_first regexp tree (string_bytes automaton.text) made.tree made.names text is (IsUtf8-string_bytes automaton.text) made.of_text made.is_read fine
+
+  pub automaton_same : (regex : Regex) → IsRegexOf regexp regex → automaton_answer automaton.nfa text ≡ regex_answer regex text
+  automaton_same regex also =
+      answers_as_tree
+      ∙ readings_same regexp _ _ _ _ (string_bytes automaton.text, made.of_text, made.is_read) (regex_is_read regexp regex also) text fine
+      ∙ sym (regex_answer_is regex text)
+
+-- ---- the cells that a search writes
+
+place_of_cell : (o : Option ℕ) → place_of (cell o) ≡ o
+place_of_cell None = refl
+place_of_cell (Some i) =
+    let back : i + 1 - 1 ≡ i = omega arith in
+    cond-false (i + 1 == 0) None _ (ne_eqb (i + 1) 0 (λ e. omega arith)) ∙ ap (λ (place : ℕ). Some place) back
+
+cell_at : (m : Match) (width k slot : ℕ) → 2 ≤ slot → k < width → k + 2 ≡ slot → place_of (slice_index (group_cells m width) k) ≡ slot_of m slot
+unfolding group_cells
+cell_at m width k slot high inside is =
+    ap place_of
+    (get_or-map-range_with_len (λ j. cell (last_write m.trace.writes (j + 2))) 0 width k k 0 inside (omega arith)
+    ∙ ap (λ (s : ℕ). cell (last_write m.trace.writes s)) is)
+    ∙ place_of_cell (last_write m.trace.writes slot) ∙ sym (slot_after m slot high)
+
+cells_show : (hay : List ℕ) (m : Match) (width count : ℕ) → 2 * count ≤ width → cell_texts hay (group_cells m width) count ≡ captures_of hay count m
+cells_show hay m width count fits =
+    same_groups _ _ 1 count (λ n low high.
+    ap (option_and_then (text_cut hay))
+    (ap₂ both (cell_at m width (2 * n - 2) (2 * n) (omega arith) (omega arith) (omega arith))
+    (cell_at m width (2 * n - 1) (2 * n + 1) (omega arith) (omega arith) (omega arith))))
+
+-- the cells of the match that was found, and no match
+pub answer_of_cells : (nfa : Nfa) (bytes cells : List ℕ) (width : ℕ) (found : ℕ × ℕ) (texts : Captures) → IsUtf8 bytes → width ≡ nfa.slot_count - 2
+    → Some found ≡ option_map span (first_match nfa bytes (length bytes) 0 0)
+    → IfSome (first_match nfa bytes (length bytes) 0 0) (λ m. cells ≡ group_cells m width)
+    → texts ≡ cell_texts bytes cells (width / 2) → Some texts ≡ automaton_answer nfa (chars bytes)
+unfolding automaton_answer
+answer_of_cells nfa bytes cells width found texts utf8 wide is shown read =
+    rw (encodes-chars bytes utf8) (at (first_match nfa bytes (length bytes) 0 0) is shown)
+  where
+    at : (o : Option Match) → Some found ≡ option_map span o → IfSome o (λ m. cells ≡ group_cells m width)
+        → Some texts ≡ option_map (captures_of bytes (nfa.slot_count / 2 - 1)) o
+    at None is shown = absurd (none-some found (sym is))
+    at (Some m) is shown =
+        let count : width / 2 ≡ nfa.slot_count / 2 - 1 = omega (arith, wide) in
+        ap (λ (t : Captures). Some t)
+        (read ∙ ap (λ c. cell_texts bytes c (width / 2)) shown ∙ cells_show bytes m width (width / 2) (omega arith)
+        ∙ ap (λ n. captures_of bytes n m) count)
+
+pub answer_of_nothing : (nfa : Nfa) (bytes : List ℕ) → IsUtf8 bytes → None ≡ option_map span (first_match nfa bytes (length bytes) 0 0)
+    → None ≡ automaton_answer nfa (chars bytes)
+unfolding automaton_answer
+answer_of_nothing nfa bytes utf8 is =
+    rw (encodes-chars bytes utf8) (at (first_match nfa bytes (length bytes) 0 0) is)
+  where
+    at : (o : Option Match) → None ≡ option_map span o → None ≡ option_map (captures_of bytes (nfa.slot_count / 2 - 1)) o
+    at None is = refl
+    at (Some m) is = absurd (none-some (span m) is)

@@ -1,0 +1,57 @@
+-- What an automaton is made of, and what it answers.
+use Rattle.std.specs.Prelude.{◌≡◌, ℕ, ◌-◌, ◌*◌, ◌/◌, ◌&&◌, ◌==◌, true, List, map, length, Option, Some, None, nat_le, if◌then◌else◌, option_and_then, option_map, encode_utf8_all, slice_index, string_bytes}
+use Rattle.std.specs.List.{range_with_len}
+use Rattle.regex.specs.Search.{is_cut_at}
+use Rattle.regex.specs.Writes.{both, group_of}
+use Rattle.regex_compile.specs.Implements.{Implements}
+use Rattle.regex_extract.specs.Bounds.{IsAnchored}
+use Rattle.regex_hir.specs.Find.{Match}
+use Rattle.regex_hir.specs.Meaning.{meaning}
+use Rattle.regex_hir.specs.declared.hir.Hir.{Hir}
+use Rattle.regex_nfa.specs.declared.nfa.Nfa.{Nfa}
+use Rattle.regex_syntax.specs.Grammar.{Names}
+use Rattle.regex_syntax.specs.Verdict.{Reads, default_config}
+use Rattle.regex_syntax.specs.WellFormed.{IsWellFormed}
+use Rattle.regex_vm.specs.Found.{first_match}
+use Rattle.urlpattern_core.specs.Regexes.{text_between}
+use Rattle.urlpattern_engine.specs.declared.automaton.Automaton.{Automaton}
+use Rattle.urlpattern_meaning.specs.PartMeaning.{Captures}
+use Rattle.urlpattern_syntax.specs.Text.{text_of}
+
+-- the characters from one byte place to another, if these are in order and between characters
+abbrev pub text_cut : (bytes : List ℕ) → ℕ × ℕ → Option (List ℕ)
+text_cut bytes span =
+    if nat_le span.0 span.1 && (is_cut_at true bytes span.0 && is_cut_at true bytes span.1) then Some (text_between bytes span) else None
+
+-- what so many groups of a match capture, from group 1 on
+abbrev pub captures_of : (bytes : List ℕ) → (count : ℕ) → Match → Captures
+captures_of bytes count found = map (λ n. option_and_then (text_cut bytes) (group_of found n)) (range_with_len 1 count)
+
+-- what the groups of the match at the start of the text capture, without group 0, which is the match; None without a match
+unfoldable pub automaton_answer : Nfa → List ℕ → Option Captures
+automaton_answer nfa text =
+    let bytes = encode_utf8_all text in
+    option_map (captures_of bytes (nfa.slot_count / 2 - 1)) (first_match nfa bytes (length bytes) 0 0)
+
+-- The automaton was made of the text: it gives the matches of the tree that the grammar reads there, which begin at the start.
+pub record IsAutomatonOf (regexp : List ℕ) (automaton : Automaton) : Type 0 where
+  pub of_text : text_of automaton.text ≡ regexp
+  pub tree : Hir
+  pub names : Names
+  pub is_read : Reads default_config (string_bytes automaton.text) tree names
+  pub is_formed : IsWellFormed true tree
+  pub is_anchored : IsAnchored true (meaning tree)
+  pub implements : Implements automaton.nfa (meaning tree)
+  pub slots : automaton.nfa.slot_count ≡ 2 * length names
+
+-- ---- cells, as a search writes them
+
+-- the place that a cell holds
+abbrev pub place_of : (cell : ℕ) → Option ℕ
+place_of cell = if cell == 0 then None else Some (cell - 1)
+
+-- what so many groups capture, by their cells
+abbrev pub cell_texts : (bytes cells : List ℕ) → (count : ℕ) → Captures
+cell_texts bytes cells count =
+    map (λ n. option_and_then (text_cut bytes) (both (place_of (slice_index cells (2 * n - 2))) (place_of (slice_index cells (2 * n - 1)))))
+    (range_with_len 1 count)

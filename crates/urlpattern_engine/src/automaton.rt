@@ -1,0 +1,123 @@
+//! Matches a text by an automaton.
+
+ghost use Rattle.std.specs.Prelude.{◌≡◌, ◌/◌, length, map, option_and_then, IfOk, IfSome};
+ghost use Rattle.std.specs.Str.{chars};
+ghost use Rattle.regex.specs.Writes.{both};
+ghost use Rattle.urlpattern_core.specs.CaptureTexts.{captures_view};
+ghost use Rattle.urlpattern_engine.specs.Automatons.{IsAutomatonOf, automaton_answer, cell_texts, place_of, text_cut};
+ghost use Rattle.urlpattern_syntax.specs.Text.{option_text};
+
+use regex_compile::compile;
+use regex_extract::is_anchored_start;
+use regex_nfa::Nfa;
+use regex_syntax::{Config, ErrorKind, Parsed};
+use regex_vm::{Backtracker, PikeVm};
+use std::alloc::Global;
+use urlpattern_core::error::{OutOfMemory, RegExpError};
+
+/// The most bytes that the tables of an automaton may take, which is also the limit of `regex::Regex::new`.
+const SIZE_LIMIT: usize = 10 << 20;
+
+/// An expression that matches only at the start of a text, as the automaton that `regex` would make of it.
+#[derive(Drop)]
+pub(crate) struct Automaton {
+    pub(crate) text: String,
+    pub(crate) nfa: Nfa,
+}
+
+impl Automaton {
+    /// The automaton of an expression. `None`: it may match elsewhere than at the start of a text.
+    ///
+    /// The error says whether `regex` refuses the expression or memory ran out.
+    pub(crate) fn new(alloc: Global, regexp: &str) -> Result<Option<Automaton>, RegExpError>
+        ensures { IfOk result (λ made. IfSome made (IsAutomatonOf (chars regexp.now))) }
+    {
+        let Parsed { hir, names } = match regex_syntax::parse(alloc, regexp, &Config::default()) {
+            Ok(parsed) => parsed,
+            Err(error) => {
+                return Err(match error.kind {
+                    ErrorKind::OutOfMemory => RegExpError::OutOfMemory,
+                    _ => RegExpError::Pattern,
+                });
+            }
+        };
+        if !is_anchored_start(&hir) {
+            return Ok(None);
+        }
+        let Ok(groups) = u32::try_from(names.len()) else {
+            return Err(RegExpError::Pattern);
+        };
+        let nfa = match compile(alloc, &hir, groups, SIZE_LIMIT) {
+            Ok(nfa) => nfa,
+            Err(regex_compile::Error::OutOfMemory) => return Err(RegExpError::OutOfMemory),
+            Err(_) => return Err(RegExpError::Pattern),
+        };
+        let text = String::from_str(alloc, regexp)?;
+        Ok(Some(Automaton { text, nfa }))
+    }
+
+    /// What the groups capture of a text that the expression matches. `None`: it does not match it.
+    ///
+    /// It takes time in proportion to the product of the numbers of states and of bytes. A text that is too long for a search that
+    /// goes back is searched in one pass.
+    ///
+    /// The error is that memory ran out.
+    pub(crate) fn matches<'t>(
+        &self,
+        alloc: Global,
+        text: &'t str,
+    ) -> Result<Option<Vec<Option<&'t str>>>, OutOfMemory>
+        ensures { IfOk result (λ found. captures_view found ≡ automaton_answer self.now.nfa (chars text.now)) }
+    {
+        let nfa = &self.nfa;
+        let bytes = text.as_bytes();
+        let mut cells = vec![in alloc; 0usize; nfa.slot_count as usize - 2]?;
+        let short = Backtracker::new(alloc).find(nfa, bytes, 0, 0, bytes.len(), &mut cells);
+        let found = match short {
+            Ok(found) => found,
+            Err(_) => PikeVm::new(alloc, nfa)?.find(nfa, bytes, 0, 0, bytes.len(), &mut cells),
+        };
+        match found {
+            Some(_) => Ok(Some(groups(alloc, text, &cells)?)),
+            None => Ok(None),
+        }
+    }
+}
+
+/// What groups captured of a text. Each has two cells, its start and its end, each a place plus one, or 0 if it took no part.
+///
+/// The error is that memory ran out.
+fn groups<'t>(
+    alloc: Global,
+    text: &'t str,
+    cells: &[usize],
+) -> Result<Vec<Option<&'t str>>, OutOfMemory>
+    ensures { IfOk result (λ groups. map option_text groups.items ≡ cell_texts text.now cells.now (length cells.now / 2)) }
+{
+    let count = cells.len() / 2;
+    let mut groups = Vec::with_capacity(alloc, count)?;
+    for index in 1..count + 1 {
+        groups.push(group(text, cells[2 * index - 2], cells[2 * index - 1]))?;
+    }
+    Ok(groups)
+}
+
+/// What a group captured of a text, whose cells are these.
+fn group(text: &str, first: usize, last: usize) -> Option<&str>
+    ensures { option_text result ≡ option_and_then (text_cut text.now) (both (place_of first) (place_of last)) }
+{
+    let start = first.checked_sub(1)?;
+    let end = last.checked_sub(1)?;
+    cut(text, start, end)
+}
+
+/// A piece of a text. `None`: it ends before it begins, or it begins or ends within a character or past the text.
+fn cut(text: &str, start: usize, end: usize) -> Option<&str>
+    ensures { option_text result ≡ text_cut text.now (start, end) }
+{
+    if start <= end && text.is_char_boundary(start) && text.is_char_boundary(end) {
+        Some(&text[start..end])
+    } else {
+        None
+    }
+}
