@@ -1,6 +1,6 @@
 -- What an automaton answers is what its tree does.
-use Rattle.std.proofs.Common.{◌≡◌, ℕ, zero, suc, ◌+◌, ◌-◌, ◌*◌, ◌/◌, ◌<◌, ◌≤◌, true, cond, ◌==◌, List, ◌∷◌, map, length, Option, Some, None, option_map, IsUtf8, IsCharBoundary, slice_index, refl, sym, ap, ap₂, ◌∙◌, subst, ⊎_elim, arith, ne_eqb, le-leb}
-use Rattle.std.proofs.lemmas.Bool.{and_from, cond-true, cond-false}
+use Rattle.std.proofs.Common.{◌≡◌, ℕ, zero, suc, ◌+◌, ◌-◌, ◌*◌, ◌/◌, ◌<◌, ◌≤◌, true, cond, nat_le, ◌&&◌, ◌==◌, inl, inr, List, ◌∷◌, map, length, Option, Some, None, option_map, is_some, false, true≢false, IsUtf8, IsCharBoundary, slice_index, refl, sym, ap, ap₂, ◌∙◌, subst, ⊎_elim, arith, ne_eqb, le-leb}
+use Rattle.std.proofs.lemmas.Bool.{and_from, and_parts, cases_Bool, cond-true, cond-false, leb-true}
 use Rattle.std.proofs.lemmas.List.FromFn.{get_or-map-range_with_len}
 use Rattle.std.proofs.lemmas.Option.{none-some}
 use Rattle.std.proofs.lemmas.Str.{IsCharBoundary-start, IsUtf8-string_bytes, encodes-chars}
@@ -8,7 +8,8 @@ use Rattle.std.specs.List.{range_with_len}
 use Rattle.std.specs.Option.{option_or}
 use Rattle.std.specs.Prelude.{IfSome, IsTrue, encode_utf8_all, option_and_then, string_bytes}
 use Rattle.std.specs.Str.{all_scalars, chars}
-use Rattle.regex.specs.Writes.{IsTidy, both, group_of}
+use Rattle.regex.specs.Search.{is_cut_at}
+use Rattle.regex.specs.Writes.{HasTextParts, IsTidy, both, group_of}
 use Rattle.regex.proofs.Utf8Lemmas.{IsCharBoundary-of_test, is_cut_at-text, test_of_IsCharBoundary}
 use Rattle.regex.proofs.WritesLemmas.{last_write_has, writes_are_tidy_in_text}
 use Rattle.regex_compile.specs.Implements.{Implements}
@@ -22,11 +23,10 @@ use Rattle.regex_hir.proofs.FindLemmas.{IsFirst-of_first_between, first_between_
 use Rattle.regex_hir.proofs.OptionLemmas.{none_of_no_value, option_cases, option_or-None}
 use Rattle.regex_meta.proofs.LeftmostLemmas.{Matches-of_attempt}
 use Rattle.regex_nfa.specs.declared.nfa.Nfa.{Nfa}
-use Rattle.regex_vm.specs.Found.{cell, first_match, group_cells, span}
-use Rattle.regex.specs.Writes.{HasTextParts}
+use Rattle.regex_vm.specs.Found.{cell, first_match, group_cells}
 use Rattle.urlpattern_core.specs.Regexes.{IsRegexOf, group_texts, regex_answer, text_between}
 use Rattle.urlpattern_core.proofs.RegexWays.{read_answers_first}
-use Rattle.urlpattern_engine.specs.Automatons.{IsAutomatonOf, automaton_answer, captures_of, cell_texts, place_of, text_cut}
+use Rattle.urlpattern_engine.specs.Automatons.{IsAutomatonOf, automaton_answer, captures_of, cell_texts, match_at_start, place_of, text_cut}
 use Rattle.urlpattern_engine.specs.declared.automaton.Automaton.{Automaton}
 use Rattle.urlpattern_engine.proofs.TextParts.{text_parts}
 use Rattle.urlpattern_engine.proofs.TwoReadings.{readings_same, regex_answer_is, regex_is_read, tree_answer}
@@ -74,10 +74,23 @@ slot_after m slot high =
     (cond-false _ (Some m.start) None (ne_eqb 0 slot (omega arith)))
     ∙ option_or-None _
 
-text_is_cut : (hay : List ℕ) (first last : ℕ) → first ≤ last → IsCharBoundary hay first → IsCharBoundary hay last
+pub text_is_cut : (hay : List ℕ) (first last : ℕ) → first ≤ last → IsCharBoundary hay first → IsCharBoundary hay last
     → text_cut hay (first, last) ≡ Some (text_between hay (first, last))
 text_is_cut hay first last ordered from to =
     cond-true _ _ None (and_from _ _ (le-leb first last ordered) (and_from _ _ (is_cut_at-text hay first from) (is_cut_at-text hay last to)))
+
+boundary_of_cut : (hay : List ℕ) (i : ℕ) → is_cut_at true hay i ≡ true → IsCharBoundary hay i
+unfolding is_cut_at
+boundary_of_cut hay i h = let both = and_parts _ _ h in IsCharBoundary-of_test hay i (leb-true i (length hay) both.0) both.1
+
+pub text_is_not_cut : (hay : List ℕ) (first last : ℕ) → ¬ ((first ≤ last) × IsCharBoundary hay first × IsCharBoundary hay last) → text_cut hay (first, last) ≡ None
+text_is_not_cut hay first last never = elim (cases_Bool (nat_le first last && (is_cut_at true hay first && is_cut_at true hay last))) [
+  | inl cut ↦
+      let ordered = and_parts _ _ cut in
+      let ends = and_parts _ _ ordered.1 in
+      absurd (never (leb-true first last ordered.0, boundary_of_cut hay first ends.0, boundary_of_cut hay last ends.1))
+  | inr refused ↦ cond-false _ _ None refused
+]
 
 group_is_cut : (hay : List ℕ) (m : Match) → IsTidy (IsCharBoundary hay) m.start m.trace.end m.trace.writes → (n : ℕ) → 1 ≤ n
     → option_and_then (text_cut hay) (group_of m n) ≡ option_map (text_between hay) (group_of m n)
@@ -164,30 +177,28 @@ cells_show hay m width count fits =
     (ap₂ both (cell_at m width (2 * n - 2) (2 * n) (omega arith) (omega arith) (omega arith))
     (cell_at m width (2 * n - 1) (2 * n + 1) (omega arith) (omega arith) (omega arith))))
 
--- the cells of the match that was found, and no match
-pub answer_of_cells : (nfa : Nfa) (bytes cells : List ℕ) (width : ℕ) (found : ℕ × ℕ) (texts : Captures) → IsUtf8 bytes → width ≡ nfa.slot_count - 2
-    → Some found ≡ option_map span (first_match nfa bytes (length bytes) 0 0)
-    → IfSome (first_match nfa bytes (length bytes) 0 0) (λ m. cells ≡ group_cells m width)
+-- the cells of a match that was found, and no match
+pub answer_of_cells : (nfa : Nfa) (bytes cells : List ℕ) (width : ℕ) (texts : Captures) → IsUtf8 bytes → width ≡ nfa.slot_count - 2
+    → true ≡ is_some (match_at_start nfa bytes) → IfSome (match_at_start nfa bytes) (λ m. cells ≡ group_cells m width)
     → texts ≡ cell_texts bytes cells (width / 2) → Some texts ≡ automaton_answer nfa (chars bytes)
 unfolding automaton_answer
-answer_of_cells nfa bytes cells width found texts utf8 wide is shown read =
-    rw (encodes-chars bytes utf8) (at (first_match nfa bytes (length bytes) 0 0) is shown)
+answer_of_cells nfa bytes cells width texts utf8 wide is shown read =
+    rw (encodes-chars bytes utf8) (at (match_at_start nfa bytes) is shown)
   where
-    at : (o : Option Match) → Some found ≡ option_map span o → IfSome o (λ m. cells ≡ group_cells m width)
+    at : (o : Option Match) → true ≡ is_some o → IfSome o (λ m. cells ≡ group_cells m width)
         → Some texts ≡ option_map (captures_of bytes (nfa.slot_count / 2 - 1)) o
-    at None is shown = absurd (none-some found (sym is))
+    at None is shown = absurd (true≢false is)
     at (Some m) is shown =
         let count : width / 2 ≡ nfa.slot_count / 2 - 1 = omega (arith, wide) in
         ap (λ (t : Captures). Some t)
         (read ∙ ap (λ c. cell_texts bytes c (width / 2)) shown ∙ cells_show bytes m width (width / 2) (omega arith)
         ∙ ap (λ n. captures_of bytes n m) count)
 
-pub answer_of_nothing : (nfa : Nfa) (bytes : List ℕ) → IsUtf8 bytes → None ≡ option_map span (first_match nfa bytes (length bytes) 0 0)
-    → None ≡ automaton_answer nfa (chars bytes)
+pub answer_of_nothing : (nfa : Nfa) (bytes : List ℕ) → IsUtf8 bytes → false ≡ is_some (match_at_start nfa bytes) → None ≡ automaton_answer nfa (chars bytes)
 unfolding automaton_answer
 answer_of_nothing nfa bytes utf8 is =
-    rw (encodes-chars bytes utf8) (at (first_match nfa bytes (length bytes) 0 0) is)
+    rw (encodes-chars bytes utf8) (at (match_at_start nfa bytes) is)
   where
-    at : (o : Option Match) → None ≡ option_map span o → None ≡ option_map (captures_of bytes (nfa.slot_count / 2 - 1)) o
+    at : (o : Option Match) → false ≡ is_some o → None ≡ option_map (captures_of bytes (nfa.slot_count / 2 - 1)) o
     at None is = refl
-    at (Some m) is = absurd (none-some (span m) is)
+    at (Some m) is = absurd (true≢false (sym is))

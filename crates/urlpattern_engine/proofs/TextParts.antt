@@ -1,6 +1,6 @@
 -- What the parser reads for text, reads whole characters.
-use Rattle.std.proofs.Common.{◌≡◌, true, true≢false, map, refl, sym, ap, ◌∙◌, subst}
-use Rattle.regex_class.proofs.RangesLemmas.{in_ranges-nil}
+use Rattle.std.proofs.Common.{true, [], map, refl, sym, ap, ◌∙◌, subst}
+use Rattle.std.proofs.lemmas.List.Elements.{All-nil}
 use Rattle.regex_hir.specs.Re.{Re}
 use Rattle.regex_hir.specs.Meaning.{meaning, node_meaning, cat_all, alt_all}
 use Rattle.regex_hir.specs.declared.hir.Hir.{Hir, Empty, Literal, Bytes, Chars, Look, Repetition', Capture', Concat', Alternation', Row_of-Hir, end_of-Hir, more_of-Hir, items-the_row-Hir, items_shown-the_row-Hir-0, map-Hir, fold_out-Hir}
@@ -8,7 +8,7 @@ use Rattle.regex_hir.specs.declared.hir.Hir.TheVariants.{outs-Concat', outs-Alte
 use Rattle.regex_hir.proofs.MeaningLemmas.{meaning-Empty, meaning-Literal, meaning-Bytes, meaning-Chars, meaning-Look, meaning-Repetition, meaning-Capture}
 use Rattle.regex_syntax.specs.WellFormed.{IsWellFormed, AreWellFormed}
 use Rattle.regex.specs.Writes.{HasTextParts}
-use Rattle.regex.proofs.WritesLemmas.{HasTextParts-repeat}
+use Rattle.regex.proofs.WritesLemmas.{HasTextParts-alt_all, HasTextParts-repeat}
 
 mutual
   pub text_parts : (h : Hir) → IsWellFormed true h → HasTextParts (meaning h)
@@ -31,6 +31,6 @@ mutual
 
   row_parts : (n : _) (row : Row_of-Hir n) → AreWellFormed true row →
       HasTextParts (cat_all (map meaning (items-the_row-Hir n row))) × HasTextParts (alt_all (map meaning (items-the_row-Hir n row)))
-  row_parts n end_of-Hir formed = (tt, λ b member. absurd (true≢false (sym member ∙ in_ranges-nil b)))
+  row_parts n end_of-Hir formed = (tt, HasTextParts-alt_all [] (All-nil HasTextParts))
   row_parts n (more_of-Hir sub rest) formed =
       let others = row_parts _ rest formed.1 in ((text_parts sub formed.0, others.0), (text_parts sub formed.0, others.1))

@@ -27,11 +27,15 @@ text_cut bytes span =
 abbrev pub captures_of : (bytes : List ℕ) → (count : ℕ) → Match → Captures
 captures_of bytes count found = map (λ n. option_and_then (text_cut bytes) (group_of found n)) (range_with_len 1 count)
 
+-- the match at the start of the bytes
+abbrev pub match_at_start : Nfa → (bytes : List ℕ) → Option Match
+match_at_start nfa bytes = first_match nfa bytes (length bytes) 0 0
+
 -- what the groups of the match at the start of the text capture, without group 0, which is the match; None without a match
 unfoldable pub automaton_answer : Nfa → List ℕ → Option Captures
 automaton_answer nfa text =
     let bytes = encode_utf8_all text in
-    option_map (captures_of bytes (nfa.slot_count / 2 - 1)) (first_match nfa bytes (length bytes) 0 0)
+    option_map (captures_of bytes (nfa.slot_count / 2 - 1)) (match_at_start nfa bytes)
 
 -- The automaton was made of the text: it gives the matches of the tree that the grammar reads there, which begin at the start.
 pub record IsAutomatonOf (regexp : List ℕ) (automaton : Automaton) : Type 0 where

@@ -1,17 +1,18 @@
 //! Matches a text by an automaton.
 
-ghost use Rattle.std.specs.Prelude.{◌≡◌, ◌/◌, length, map, option_and_then, IfOk, IfSome};
+ghost use Rattle.std.specs.Prelude.{◌≡◌, ◌-◌, ◌/◌, ◌≤◌, is_some, length, map, option_and_then, IfOk, IfSome, OnOk};
 ghost use Rattle.std.specs.Str.{chars};
 ghost use Rattle.regex.specs.Writes.{both};
+ghost use Rattle.regex_vm.specs.Found.{group_cells};
 ghost use Rattle.urlpattern_core.specs.CaptureTexts.{captures_view};
-ghost use Rattle.urlpattern_engine.specs.Automatons.{IsAutomatonOf, automaton_answer, cell_texts, place_of, text_cut};
+ghost use Rattle.urlpattern_engine.specs.Automatons.{IsAutomatonOf, automaton_answer, cell_texts, match_at_start, place_of, text_cut};
 ghost use Rattle.urlpattern_syntax.specs.Text.{option_text};
 
 use regex_compile::compile;
 use regex_extract::is_anchored_start;
 use regex_nfa::Nfa;
 use regex_syntax::{Config, ErrorKind, Parsed};
-use regex_vm::{Backtracker, PikeVm};
+use regex_vm::{Backtracker, Declined, PikeVm};
 use std::alloc::Global;
 use urlpattern_core::error::{OutOfMemory, RegExpError};
 
@@ -69,17 +70,34 @@ impl Automaton {
     ) -> Result<Option<Vec<Option<&'t str>>>, OutOfMemory>
         ensures { IfOk result (λ found. captures_view found ≡ automaton_answer self.now.nfa (chars text.now)) }
     {
-        let nfa = &self.nfa;
-        let bytes = text.as_bytes();
-        let mut cells = vec![in alloc; 0usize; nfa.slot_count as usize - 2]?;
-        let short = Backtracker::new(alloc).find(nfa, bytes, 0, 0, bytes.len(), &mut cells);
-        let found = match short {
-            Ok(found) => found,
-            Err(_) => PikeVm::new(alloc, nfa)?.find(nfa, bytes, 0, 0, bytes.len(), &mut cells),
-        };
-        match found {
-            Some(_) => Ok(Some(groups(alloc, text, &cells)?)),
-            None => Ok(None),
+        let mut cells = vec![in alloc; 0usize; self.nfa.slot_count as usize - 2]?;
+        if self.search(alloc, text.as_bytes(), &mut cells)? {
+            Ok(Some(groups(alloc, text, &cells)?))
+        } else {
+            Ok(None)
+        }
+    }
+
+    /// Whether the expression matches at the start of the bytes. Where it does, the cells are those of its groups.
+    ///
+    /// The error is that memory ran out.
+    fn search(
+        &self,
+        alloc: Global,
+        bytes: &[u8],
+        cells: &mut [usize],
+    ) -> Result<bool, OutOfMemory>
+        requires { length cells.old ≤ self.now.nfa.slot_count - 2 }
+        ensures found { IfOk result (λ is_match. is_match ≡ is_some (match_at_start self.now.nfa bytes.now)) }
+        ensures cells { OnOk result (IfSome (match_at_start self.now.nfa bytes.now) (λ found. cells.new ≡ group_cells found (length cells.old))) }
+    {
+        let end = bytes.len();
+        match Backtracker::new(alloc).find(&self.nfa, bytes, 0, 0, end, cells) {
+            Ok(found) => Ok(found.is_some()),
+            Err(Declined) => {
+                let mut search = PikeVm::new(alloc, &self.nfa)?;
+                Ok(search.find(&self.nfa, bytes, 0, 0, end, cells).is_some())
+            }
         }
     }
 }

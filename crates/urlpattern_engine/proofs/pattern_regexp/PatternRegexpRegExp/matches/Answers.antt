@@ -3,6 +3,7 @@ use Rattle.std.specs.Prelude.{IfOk}
 use Rattle.std.specs.Str.{chars}
 use Rattle.urlpattern_core.specs.CaptureTexts.{captures_view}
 use Rattle.urlpattern_core.specs.Regexes.{regex_answer}
+use Rattle.urlpattern_engine.specs.Automatons.{automaton_answer}
 use Rattle.urlpattern_engine.specs.PatternRegexps.{expression_answer, pattern_answer}
 use Rattle.urlpattern_engine.specs.Walk.{walk}
 use Rattle.urlpattern_engine.proofs.pattern_regexp.PatternRegexpRegExp.matches.Goals as goal
@@ -14,9 +15,16 @@ returns-in-Own c =
     subst (λ e. IfOk c.match_steps.result (λ found. captures_view found ≡ expression_answer e text)) (sym c.in-Own.is)
     (subst (λ s. IfOk c.match_steps.result (λ found. captures_view found ≡ walk s text)) c.deref.ensures.value c.match_steps.ensures)
 
+pub returns-in-Compiled : goal.returns-in-Compiled
+unfolding pattern_answer
+returns-in-Compiled c =
+    let text = chars c.args.text.now in
+    subst (λ e. IfOk c.matches.result (λ found. captures_view found ≡ expression_answer e text)) (sym c.in-Compiled.is)
+    (subst (λ a. IfOk c.matches.result (λ found. captures_view found ≡ automaton_answer a.nfa text)) c.deref-in-Compiled.ensures c.matches.ensures)
+
 pub returns-in-Other : goal.returns-in-Other
 unfolding pattern_answer
 returns-in-Other c =
     let text = chars c.args.text.now in
-    subst (λ e. IfOk c.matches.result (λ found. captures_view found ≡ expression_answer e text)) (sym c.in-Other.is)
-    (subst (λ r. IfOk c.matches.result (λ found. captures_view found ≡ regex_answer r text)) c.deref-in-Other.ensures c.matches.ensures)
+    subst (λ e. IfOk c.matches-in-Other.result (λ found. captures_view found ≡ expression_answer e text)) (sym c.in-Other.is)
+    (subst (λ r. IfOk c.matches-in-Other.result (λ found. captures_view found ≡ regex_answer r text)) c.deref-in-Other.ensures c.matches-in-Other.ensures)
