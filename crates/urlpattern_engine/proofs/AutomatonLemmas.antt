@@ -1,12 +1,15 @@
 -- What an automaton answers is what its tree does.
-use Rattle.std.proofs.Common.{◌≡◌, ℕ, zero, suc, ◌+◌, ◌-◌, ◌*◌, ◌/◌, ◌<◌, ◌≤◌, true, cond, nat_le, ◌&&◌, ◌==◌, inl, inr, List, ◌∷◌, map, length, Option, Some, None, option_map, is_some, false, true≢false, IsUtf8, IsCharBoundary, slice_index, refl, sym, ap, ap₂, ◌∙◌, subst, ⊎_elim, arith, ne_eqb, le-leb}
+use Rattle.std.proofs.Common.{◌≡◌, ℕ, zero, suc, ◌+◌, ◌-◌, ◌*◌, ◌/◌, ◌<◌, ◌≤◌, Bool, true, cond, nat_le, ◌&&◌, ◌==◌, inl, inr, List, ◌∷◌, map, length, Option, Some, None, option_map, is_some, false, true≢false, IsUtf8, IsCharBoundary, slice_index, refl, sym, ap, ap₂, ◌∙◌, subst, ⊎_elim, arith, ne_eqb, le-leb}
 use Rattle.std.proofs.lemmas.Bool.{and_from, and_parts, cases_Bool, cond-true, cond-false, leb-true}
 use Rattle.std.proofs.lemmas.List.FromFn.{get_or-map-range_with_len}
 use Rattle.std.proofs.lemmas.Option.{none-some}
-use Rattle.std.proofs.lemmas.Str.{IsCharBoundary-start, IsUtf8-string_bytes, encodes-chars}
+use Rattle.std.proofs.lemmas.Str.{IsCharBoundary-start, encodes-chars, scalars-chars}
+use Rattle.std.proofs.Math.Logic.{∥∥₁_elim}
+use Rattle.std.specs.Coded.{coded_list, coded_option, coded_ℕ}
+use base.Stored.{Coded-set}
 use Rattle.std.specs.List.{range_with_len}
 use Rattle.std.specs.Option.{option_or}
-use Rattle.std.specs.Prelude.{IfSome, IsTrue, encode_utf8_all, option_and_then, string_bytes}
+use Rattle.std.specs.Prelude.{IfSome, IsTrue, encode_utf8_all, option_and_then}
 use Rattle.std.specs.Str.{all_scalars, chars}
 use Rattle.regex.specs.Search.{is_cut_at}
 use Rattle.regex.specs.Writes.{HasTextParts, IsTidy, both, group_of}
@@ -26,8 +29,7 @@ use Rattle.regex_nfa.specs.declared.nfa.Nfa.{Nfa}
 use Rattle.regex_vm.specs.Found.{cell, first_match, group_cells}
 use Rattle.urlpattern_core.specs.Regexes.{IsRegexOf, group_texts, regex_answer, text_between}
 use Rattle.urlpattern_core.proofs.RegexWays.{read_answers_first}
-use Rattle.urlpattern_engine.specs.Automatons.{IsAutomatonOf, automaton_answer, captures_of, cell_texts, match_at_start, place_of, text_cut}
-use Rattle.urlpattern_engine.specs.declared.automaton.Automaton.{Automaton}
+use Rattle.urlpattern_engine.specs.Automatons.{IsNfaOf, automaton_answer, captures_of, cell_texts, match_at_start, place_of, text_cut}
 use Rattle.urlpattern_engine.proofs.TextParts.{text_parts}
 use Rattle.urlpattern_engine.proofs.TwoReadings.{readings_same, regex_answer_is, regex_is_read, tree_answer}
 use Rattle.urlpattern_meaning.specs.Dialect.{IsTreeOf, Items}
@@ -37,17 +39,15 @@ use Rattle.regex.specs.declared.string.regex.Regex.{Regex}
 
 -- ---- a match at the start of a text
 
+none_either_way : {A : Type 0} (b : Bool) (o : Option A) → o ≡ None → cond b o None ≡ None
+none_either_way true o none = none
+none_either_way false o none = refl
+
 module _ (nfa : Nfa) (re : Re) (implements : Implements nfa re) (anchored : IsAnchored true re) (hay : List ℕ) (utf8 : IsUtf8 hay) where
   nowhere : attempt hay re accept 0 ≡ None → (i : ℕ) → i ≤ length hay → attempt hay re accept i ≡ None
   nowhere none i inside = none_of_no_value _ (λ t e.
       let start : i ≡ 0 = anchored.at hay i t.end inside (Matches-of_attempt re hay i t e) in
       none-some t (sym none ∙ subst (λ x. attempt hay re accept x ≡ Some t) start e))
-
-  cond_none : (i : ℕ) → attempt hay re accept i ≡ None → cond (is_boundary hay i) (attempt hay re accept i) None ≡ None
-  cond_none i none = ap (λ o. cond (is_boundary hay i) o None) none ∙ both_none (is_boundary hay i)
-    where
-      both_none : (b : _) → cond b None None ≡ None
-      both_none b = elim b [ true ↦ refl | _ ↦ refl ]
 
   first_is_found : first_match nfa hay (length hay) 0 0 ≡ find_str re hay 0
   unfolding find_str
@@ -56,7 +56,7 @@ module _ (nfa : Nfa) (re : Re) (implements : Implements nfa re) (anchored : IsAn
       ∙ ⊎_elim
       (λ none.
       first_between_none (attempt hay re accept) 0 0 (λ i p q. nowhere none i (omega arith))
-      ∙ sym (first_between_none _ 0 (length hay) (λ i p q. cond_none i (nowhere none i q))))
+      ∙ sym (first_between_none _ 0 (length hay) (λ i p q. none_either_way (is_boundary hay i) _ (nowhere none i q))))
       (λ found.
       first_between_here (attempt hay re accept) 0 0 found.0 (omega arith) found.1
       ∙ sym (first_between_here _ 0 (length hay) found.0 (omega arith)
@@ -92,23 +92,26 @@ text_is_not_cut hay first last never = elim (cases_Bool (nat_le first last && (i
   | inr refused ↦ cond-false _ _ None refused
 ]
 
-group_is_cut : (hay : List ℕ) (m : Match) → IsTidy (IsCharBoundary hay) m.start m.trace.end m.trace.writes → (n : ℕ) → 1 ≤ n
-    → option_and_then (text_cut hay) (group_of m n) ≡ option_map (text_between hay) (group_of m n)
-group_is_cut hay m tidy n positive =
+-- the span is in order, between characters
+abbrev Fits : List ℕ → ℕ × ℕ → Type 0
+Fits hay s = (s.0 ≤ s.1) × IsCharBoundary hay s.0 × IsCharBoundary hay s.1
+
+span_is_cut : (hay : List ℕ) (o : Option (ℕ × ℕ)) → IfSome o (Fits hay) → option_and_then (text_cut hay) o ≡ option_map (text_between hay) o
+span_is_cut hay None fits = refl
+span_is_cut hay (Some s) fits = text_is_cut hay s.0 s.1 fits.0 fits.1 fits.2
+
+group_fits : (hay : List ℕ) (m : Match) → IsTidy (IsCharBoundary hay) m.start m.trace.end m.trace.writes → (n : ℕ) → 1 ≤ n → IfSome (group_of m n) (Fits hay)
+group_fits hay m tidy n positive =
     let writes = m.trace.writes in
     let Placed : ℕ → Type 0 = λ i. (m.start ≤ i) × (i ≤ m.trace.end) × IsCharBoundary hay i in
     let low = slot_after m (2 * n) (omega arith) in
     let high = slot_after m (2 * n + 1) (omega arith) in
     ⊎_elim
-    (λ unset.
-    let none : group_of m n ≡ None = ap₂ both (low ∙ unset.0) (high ∙ unset.1) in
-    ap (option_and_then (text_cut hay)) none ∙ sym (ap (option_map (text_between hay)) none))
+    (λ unset. subst (λ o. IfSome o (Fits hay)) (sym (ap₂ both (low ∙ unset.0) (high ∙ unset.1))) tt)
     (λ set.
-    let some : group_of m n ≡ Some (set.0, set.1) = ap₂ both (low ∙ set.2) (high ∙ set.3) in
     let first = last_write_has Placed writes (2 * n) set.0 tidy.placed set.2 in
     let last = last_write_has Placed writes (2 * n + 1) set.1 tidy.placed set.3 in
-    ap (option_and_then (text_cut hay)) some ∙ text_is_cut hay set.0 set.1 set.4 first.2 last.2
-    ∙ sym (ap (option_map (text_between hay)) some))
+    subst (λ o. IfSome o (Fits hay)) (sym (ap₂ both (low ∙ set.2) (high ∙ set.3))) (set.4, first.2, last.2))
     (tidy.paired n)
 
 same_groups : (f g : ℕ → Option (List ℕ)) (first count : ℕ) → ((n : ℕ) → first ≤ n → n < first + count → f n ≡ g n)
@@ -124,7 +127,7 @@ captures_are_texts hay re m count utf8 parts found =
     let first = IsFirst-of_first_between _ 0 (length hay) m found in
     let here = cond_some (is_boundary hay m.start) _ m.trace first.here in
     let tidy = writes_are_tidy_in_text hay re m.start m.trace utf8 parts (IsCharBoundary-of_test hay m.start first.to here.0) here.1 in
-    same_groups _ _ 1 count (λ n low _. group_is_cut hay m tidy n low)
+    same_groups _ _ 1 count (λ n low _. span_is_cut hay (group_of m n) (group_fits hay m tidy n low))
 
 option_map_same : {A B : Type 0} (o : Option A) (f g : A → B) → ((x : A) → o ≡ Some x → f x ≡ g x) → option_map f o ≡ option_map g o
 option_map_same None f g same = refl
@@ -132,27 +135,32 @@ option_map_same (Some x) f g same = ap Some (same x refl)
 
 -- ---- the laws
 
-module _ (regexp : List ℕ) (automaton : Automaton) (made : IsAutomatonOf regexp automaton) (text : List ℕ) (fine : IsTrue (all_scalars text)) where
-  answers_as_tree : automaton_answer automaton.nfa text ≡ tree_answer made.tree made.names text
+module _ (regexp source : List ℕ) (nfa : Nfa) (utf8 : IsUtf8 source) (of_text : chars source ≡ regexp) (made : IsNfaOf source nfa) (text : List ℕ) (fine : IsTrue (all_scalars text)) where
+  answers_as_tree : automaton_answer nfa text ≡ tree_answer made.tree made.names text
   unfolding automaton_answer
   answers_as_tree =
       let bytes = encode_utf8_all text in
-      let utf8 : IsUtf8 bytes = (text, (fine, refl)) in
+      let spelled : IsUtf8 bytes = (text, (fine, refl)) in
       let re = meaning made.tree in
-      let count : automaton.nfa.slot_count / 2 - 1 ≡ length made.names - 1 = omega (arith, made.slots) in
-      ap₂ (λ n o. option_map (captures_of bytes n) o) count (first_is_found automaton.nfa re made.implements made.is_anchored bytes utf8)
-      ∙ option_map_same (find_str re bytes 0) _ _ (λ m found. captures_are_texts bytes re m _ utf8 (text_parts made.tree made.is_formed) found)
+      let count : nfa.slot_count / 2 - 1 ≡ length made.names - 1 = omega (arith, made.slots) in
+      ap₂ (λ n o. option_map (captures_of bytes n) o) count (first_is_found nfa re made.implements made.is_anchored bytes spelled)
+      ∙ option_map_same (find_str re bytes 0) _ _ (λ m found. captures_are_texts bytes re m _ spelled (text_parts made.tree made.is_formed) found)
 
-  pub automaton_first : (tree : Items) → IsTreeOf regexp tree → automaton_answer automaton.nfa text ≡ first_way tree text
-  automaton_first tree is =
-      answers_as_tree
-      ∙ read_answers_first regexp tree (string_bytes automaton.text) made.tree made.names text is (IsUtf8-string_bytes automaton.text) made.of_text made.is_read fine
+  pub automaton_first : (tree : Items) → IsTreeOf regexp tree → automaton_answer nfa text ≡ first_way tree text
+  automaton_first tree is = answers_as_tree ∙ read_answers_first regexp tree source made.tree made.names text is utf8 of_text made.is_read fine
 
-  pub automaton_same : (regex : Regex) → IsRegexOf regexp regex → automaton_answer automaton.nfa text ≡ regex_answer regex text
+  pub automaton_same : (regex : Regex) → IsRegexOf regexp regex → automaton_answer nfa text ≡ regex_answer regex text
   automaton_same regex also =
       answers_as_tree
-      ∙ readings_same regexp _ _ _ _ (string_bytes automaton.text, made.of_text, made.is_read) (regex_is_read regexp regex also) text fine
+      ∙ readings_same regexp _ _ _ _ (source, of_text, made.is_read) (regex_is_read regexp regex also) text fine
       ∙ sym (regex_answer_is regex text)
+
+-- what is known of an automaton as a fact with one proof is enough
+pub automaton_same_once : (source : List ℕ) (nfa : Nfa) → IsUtf8 source → ∥ IsNfaOf source nfa ∥₁ → (regex : Regex) → IsRegexOf (chars source) regex → (bytes : List ℕ) → IsUtf8 bytes
+    → automaton_answer nfa (chars bytes) ≡ regex_answer regex (chars bytes)
+automaton_same_once source nfa utf8 made regex also bytes text =
+    ∥∥₁_elim made (Coded-set (coded_option (coded_list (coded_option (coded_list coded_ℕ)))) _ _)
+    (λ made. automaton_same (chars source) source nfa utf8 refl made (chars bytes) (scalars-chars bytes text) regex also)
 
 -- ---- the cells that a search writes
 
@@ -178,21 +186,21 @@ cells_show hay m width count fits =
     (cell_at m width (2 * n - 1) (2 * n + 1) (omega arith) (omega arith) (omega arith))))
 
 -- the cells of a match that was found, and no match
-pub answer_of_cells : (nfa : Nfa) (bytes cells : List ℕ) (width : ℕ) (texts : Captures) → IsUtf8 bytes → width ≡ nfa.slot_count - 2
+pub answer_of_cells : (nfa : Nfa) (bytes cells : List ℕ) (width : ℕ) (texts : Captures) → IsUtf8 bytes → width ≡ nfa.slot_count - 2 → length cells ≡ width
     → true ≡ is_some (match_at_start nfa bytes) → IfSome (match_at_start nfa bytes) (λ m. cells ≡ group_cells m width)
-    → texts ≡ cell_texts bytes cells (width / 2) → Some texts ≡ automaton_answer nfa (chars bytes)
+    → texts ≡ cell_texts bytes cells (length cells / 2) → Some texts ≡ automaton_answer nfa (chars bytes)
 unfolding automaton_answer
-answer_of_cells nfa bytes cells width texts utf8 wide is shown read =
+answer_of_cells nfa bytes cells width texts utf8 wide kept is shown read =
     rw (encodes-chars bytes utf8) (at (match_at_start nfa bytes) is shown)
   where
     at : (o : Option Match) → true ≡ is_some o → IfSome o (λ m. cells ≡ group_cells m width)
         → Some texts ≡ option_map (captures_of bytes (nfa.slot_count / 2 - 1)) o
     at None is shown = absurd (true≢false is)
     at (Some m) is shown =
-        let count : width / 2 ≡ nfa.slot_count / 2 - 1 = omega (arith, wide) in
+        let count : length cells / 2 ≡ nfa.slot_count / 2 - 1 = omega (arith, wide, kept) in
         ap (λ (t : Captures). Some t)
-        (read ∙ ap (λ c. cell_texts bytes c (width / 2)) shown ∙ cells_show bytes m width (width / 2) (omega arith)
-        ∙ ap (λ n. captures_of bytes n m) count)
+        (read ∙ ap (cell_texts bytes cells) count ∙ ap (λ c. cell_texts bytes c (nfa.slot_count / 2 - 1)) shown
+        ∙ cells_show bytes m width (nfa.slot_count / 2 - 1) (omega arith))
 
 pub answer_of_nothing : (nfa : Nfa) (bytes : List ℕ) → IsUtf8 bytes → false ≡ is_some (match_at_start nfa bytes) → None ≡ automaton_answer nfa (chars bytes)
 unfolding automaton_answer

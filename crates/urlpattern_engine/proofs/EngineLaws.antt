@@ -1,6 +1,7 @@
 -- A value of the engine answers the first way, and what `regex::Regex` answers.
 use Rattle.std.proofs.Common.{◌≡◌, ℕ, Bool, false, true, List, refl, sym, ap, ◌∙◌, inl, inr}
-use Rattle.std.specs.Prelude.{⊤, IsOk, IsTrue, Ok, Err, Result}
+use Rattle.std.proofs.lemmas.Str.{IsUtf8-string_bytes}
+use Rattle.std.specs.Prelude.{⊤, IsOk, IsTrue, Ok, Err, Result, string_bytes}
 use Rattle.std.specs.Str.{all_scalars}
 use Rattle.regex.specs.declared.string.regex.Regex.{Regex}
 use Rattle.urlpattern_core.specs.Regexes.{IsRegexOf, regex_answer}
@@ -30,7 +31,8 @@ expression_first : (regexp : List ℕ) (tree : Items) (expression : Expression) 
     → expression_answer expression text ≡ first_way tree text
 expression_first regexp tree (Own own) text is made fine =
     made.1.answers text ∙ ap (λ t. first_way t text) (trees_are_one regexp made.1.tree tree made.1.is_tree is)
-expression_first regexp tree (Compiled automaton) text is made fine = automaton_first regexp automaton.value made text fine tree is
+expression_first regexp tree (Compiled automaton) text is made fine =
+    automaton_first regexp (string_bytes automaton.value.text) automaton.value.nfa (IsUtf8-string_bytes automaton.value.text) made.0 made.1 text fine tree is
 expression_first regexp tree (Other regex) text is made fine = regex_answers_first regexp tree regex.value text is made fine
 
 pub pattern_regexp_first : (regexp : List ℕ) (tree : Items) (value : PatternRegexp) (text : List ℕ) → IsTreeOf regexp tree → IsPatternRegexpOf regexp value → IsTrue (all_scalars text)
@@ -49,7 +51,8 @@ expression_same : (regexp : List ℕ) (expression : Expression) (regex : Regex) 
     → expression_answer expression text ≡ regex_answer regex text
 expression_same regexp (Own own) regex text made also fine =
     made.1.answers text ∙ sym (regex_answers_first regexp made.1.tree regex text made.1.is_tree also fine)
-expression_same regexp (Compiled automaton) regex text made also fine = automaton_same regexp automaton.value made text fine regex also
+expression_same regexp (Compiled automaton) regex text made also fine =
+    automaton_same regexp (string_bytes automaton.value.text) automaton.value.nfa (IsUtf8-string_bytes automaton.value.text) made.0 made.1 text fine regex also
 expression_same regexp (Other other) regex text made also fine = regexes_same regexp other.value regex made also text fine
 
 pub pattern_regexp_same : (regexp : List ℕ) (value : PatternRegexp) (regex : Regex) (text : List ℕ) → IsPatternRegexpOf regexp value → IsRegexOf regexp regex → IsTrue (all_scalars text)

@@ -1,5 +1,5 @@
 -- What an automaton is made of, and what it answers.
-use Rattle.std.specs.Prelude.{◌≡◌, ℕ, ◌-◌, ◌*◌, ◌/◌, ◌&&◌, ◌==◌, true, List, map, length, Option, Some, None, nat_le, if◌then◌else◌, option_and_then, option_map, encode_utf8_all, slice_index, string_bytes}
+use Rattle.std.specs.Prelude.{◌≡◌, ℕ, ◌-◌, ◌*◌, ◌/◌, ◌&&◌, ◌==◌, true, List, map, length, Option, Some, None, nat_le, if◌then◌else◌, option_and_then, option_map, encode_utf8_all, slice_index}
 use Rattle.std.specs.List.{range_with_len}
 use Rattle.regex.specs.Search.{is_cut_at}
 use Rattle.regex.specs.Writes.{both, group_of}
@@ -14,9 +14,7 @@ use Rattle.regex_syntax.specs.Verdict.{Reads, default_config}
 use Rattle.regex_syntax.specs.WellFormed.{IsWellFormed}
 use Rattle.regex_vm.specs.Found.{first_match}
 use Rattle.urlpattern_core.specs.Regexes.{text_between}
-use Rattle.urlpattern_engine.specs.declared.automaton.Automaton.{Automaton}
 use Rattle.urlpattern_meaning.specs.PartMeaning.{Captures}
-use Rattle.urlpattern_syntax.specs.Text.{text_of}
 
 -- the characters from one byte place to another, if these are in order and between characters
 abbrev pub text_cut : (bytes : List ℕ) → ℕ × ℕ → Option (List ℕ)
@@ -38,15 +36,14 @@ automaton_answer nfa text =
     option_map (captures_of bytes (nfa.slot_count / 2 - 1)) (match_at_start nfa bytes)
 
 -- The automaton was made of the text: it gives the matches of the tree that the grammar reads there, which begin at the start.
-pub record IsAutomatonOf (regexp : List ℕ) (automaton : Automaton) : Type 0 where
-  pub of_text : text_of automaton.text ≡ regexp
+pub record IsNfaOf (source : List ℕ) (nfa : Nfa) : Type 0 where
   pub tree : Hir
   pub names : Names
-  pub is_read : Reads default_config (string_bytes automaton.text) tree names
+  pub is_read : Reads default_config source tree names
   pub is_formed : IsWellFormed true tree
   pub is_anchored : IsAnchored true (meaning tree)
-  pub implements : Implements automaton.nfa (meaning tree)
-  pub slots : automaton.nfa.slot_count ≡ 2 * length names
+  pub implements : Implements nfa (meaning tree)
+  pub slots : nfa.slot_count ≡ 2 * length names
 
 -- ---- cells, as a search writes them
 

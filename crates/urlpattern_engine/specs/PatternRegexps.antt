@@ -1,8 +1,8 @@
 -- What a value of the engine is made of, and what it answers.
-use Rattle.std.specs.Prelude.{◌≡◌, ℕ, List, Option}
+use Rattle.std.specs.Prelude.{◌≡◌, ℕ, List, Option, string_bytes}
 use Rattle.urlpattern_core.specs.declared.regexp.RegExp.{Ghosts as Engine}
 use Rattle.urlpattern_core.specs.Regexes.{IsRegexOf, regex_answer, regex_text}
-use Rattle.urlpattern_engine.specs.Automatons.{IsAutomatonOf, automaton_answer}
+use Rattle.urlpattern_engine.specs.Automatons.{IsNfaOf, automaton_answer}
 use Rattle.urlpattern_engine.specs.declared.pattern_regexp.Expression.{Expression}
 use Rattle.urlpattern_engine.specs.declared.pattern_regexp.Expression.TheVariants.{Own, Compiled, Other}
 use Rattle.urlpattern_engine.specs.declared.pattern_regexp.PatternRegexp.{PatternRegexp}
@@ -27,7 +27,8 @@ expression_answer (Other regex) text = regex_answer regex.value text
 -- it was made of the text: of steps that answer the first way, of an automaton, or by `regex`
 abbrev pub IsExpressionOf : (regexp : List ℕ) → Expression → Type 0
 IsExpressionOf regexp (Own own) = (text_of own.text ≡ regexp) × AreStepsOf regexp own.steps.items
-IsExpressionOf regexp (Compiled automaton) = IsAutomatonOf regexp automaton.value
+IsExpressionOf regexp (Compiled automaton) =
+    (text_of automaton.value.text ≡ regexp) × IsNfaOf (string_bytes automaton.value.text) automaton.value.nfa
 IsExpressionOf regexp (Other regex) = IsRegexOf regexp regex.value
 
 abbrev pub pattern_regexp_text : PatternRegexp → List ℕ

@@ -1,13 +1,14 @@
 //! Matches a text by an automaton.
 
-ghost use Rattle.std.specs.Prelude.{◌≡◌, ◌-◌, ◌/◌, ◌≤◌, is_some, length, map, option_and_then, IfOk, IfSome, OnOk};
+ghost use Rattle.std.specs.Prelude.{◌≡◌, ◌-◌, ◌/◌, ◌≤◌, is_some, length, map, option_and_then, string_bytes, IfOk, IfSome, OnOk};
 ghost use Rattle.std.specs.Str.{chars};
 ghost use Rattle.regex.specs.Writes.{both};
 ghost use Rattle.regex_vm.specs.Found.{group_cells};
 ghost use Rattle.urlpattern_core.specs.CaptureTexts.{captures_view};
-ghost use Rattle.urlpattern_engine.specs.Automatons.{IsAutomatonOf, automaton_answer, cell_texts, match_at_start, place_of, text_cut};
+ghost use Rattle.urlpattern_engine.specs.Automatons.{IsNfaOf, automaton_answer, cell_texts, match_at_start, place_of, text_cut};
 ghost use Rattle.urlpattern_syntax.specs.Text.{option_text};
 
+use regex::Regex;
 use regex_compile::compile;
 use regex_extract::is_anchored_start;
 use regex_nfa::Nfa;
@@ -15,15 +16,21 @@ use regex_syntax::{Config, ErrorKind, Parsed};
 use regex_vm::{Backtracker, Declined, PikeVm};
 use std::alloc::Global;
 use urlpattern_core::error::{OutOfMemory, RegExpError};
+use urlpattern_core::regexp::RegExp;
 
 /// The most bytes that the tables of an automaton may take, which is also the limit of `regex::Regex::new`.
 const SIZE_LIMIT: usize = 10 << 20;
+
+/// From how many bytes on a text is matched by a `regex::Regex` that is made for it. The making then takes less time than a search
+/// state by state.
+const LONG: usize = 1 << 10;
 
 /// An expression that matches only at the start of a text, as the automaton that `regex` would make of it.
 #[derive(Drop)]
 pub(crate) struct Automaton {
     pub(crate) text: String,
     pub(crate) nfa: Nfa,
+    ghost is_made: { ∥ IsNfaOf (string_bytes text) nfa ∥₁ },
 }
 
 impl Automaton {
@@ -31,7 +38,8 @@ impl Automaton {
     ///
     /// The error says whether `regex` refuses the expression or memory ran out.
     pub(crate) fn new(alloc: Global, regexp: &str) -> Result<Option<Automaton>, RegExpError>
-        ensures { IfOk result (λ made. IfSome made (IsAutomatonOf (chars regexp.now))) }
+        ensures text { IfOk result (λ made. IfSome made (λ automaton. string_bytes automaton.text ≡ regexp.now)) }
+        ensures made { IfOk result (λ made. IfSome made (λ automaton. IsNfaOf regexp.now automaton.nfa)) }
     {
         let Parsed { hir, names } = match regex_syntax::parse(alloc, regexp, &Config::default()) {
             Ok(parsed) => parsed,
@@ -59,8 +67,7 @@ impl Automaton {
 
     /// What the groups capture of a text that the expression matches. `None`: it does not match it.
     ///
-    /// It takes time in proportion to the product of the numbers of states and of bytes. A text that is too long for a search that
-    /// goes back is searched in one pass.
+    /// It takes time in proportion to the product of the numbers of states and of bytes, and less for a long text.
     ///
     /// The error is that memory ran out.
     pub(crate) fn matches<'t>(
@@ -70,6 +77,9 @@ impl Automaton {
     ) -> Result<Option<Vec<Option<&'t str>>>, OutOfMemory>
         ensures { IfOk result (λ found. captures_view found ≡ automaton_answer self.now.nfa (chars text.now)) }
     {
+        if text.len() >= LONG {
+            return self.matches_long(alloc, text);
+        }
         let mut cells = vec![in alloc; 0usize; self.nfa.slot_count as usize - 2]?;
         if self.search(alloc, text.as_bytes(), &mut cells)? {
             Ok(Some(groups(alloc, text, &cells)?))
@@ -78,7 +88,26 @@ impl Automaton {
         }
     }
 
+    /// What the groups capture of a text, by a `regex::Regex`, which refuses the expression only as memory runs out.
+    ///
+    /// The error is that memory ran out.
+    fn matches_long<'t>(
+        &self,
+        alloc: Global,
+        text: &'t str,
+    ) -> Result<Option<Vec<Option<&'t str>>>, OutOfMemory>
+        ensures { IfOk result (λ found. captures_view found ≡ automaton_answer self.now.nfa (chars text.now)) }
+    {
+        let made: Result<Regex, RegExpError> = RegExp::parse(alloc, &self.text, "", true);
+        match made {
+            Ok(regex) => RegExp::matches(&regex, alloc, text),
+            Err(_) => Err(OutOfMemory),
+        }
+    }
+
     /// Whether the expression matches at the start of the bytes. Where it does, the cells are those of its groups.
+    ///
+    /// Where a search that goes back would need too many bits, the bytes are searched in one pass.
     ///
     /// The error is that memory ran out.
     fn search(
