@@ -17,7 +17,7 @@ use Rattle.regex.proofs.Utf8Lemmas.{IsCharBoundary-of_test, is_cut_at-text, test
 use Rattle.regex.proofs.WritesLemmas.{last_write_has, writes_are_tidy_in_text}
 use Rattle.regex_compile.specs.Implements.{Implements}
 use Rattle.regex_extract.specs.Bounds.{IsAnchored}
-use Rattle.regex_hir.specs.Find.{Match, find_str, first_between, last_write, slot_of}
+use Rattle.regex_hir.specs.Find.{Match, find_str, last_write, slot_of}
 use Rattle.regex_hir.specs.Meaning.{meaning}
 use Rattle.regex_hir.specs.Re.{Re, accept, attempt}
 use Rattle.regex_hir.specs.Text.{is_boundary}

@@ -110,12 +110,7 @@ impl Automaton {
     /// Where a search that goes back would need too many bits, the bytes are searched in one pass.
     ///
     /// The error is that memory ran out.
-    fn search(
-        &self,
-        alloc: Global,
-        bytes: &[u8],
-        cells: &mut [usize],
-    ) -> Result<bool, OutOfMemory>
+    fn search(&self, alloc: Global, bytes: &[u8], cells: &mut [usize]) -> Result<bool, OutOfMemory>
         requires { length cells.old ≤ self.now.nfa.slot_count - 2 }
         ensures found { IfOk result (λ is_match. is_match ≡ is_some (match_at_start self.now.nfa bytes.now)) }
         ensures cells { OnOk result (IfSome (match_at_start self.now.nfa bytes.now) (λ found. cells.new ≡ group_cells found (length cells.old))) }
