@@ -8,5 +8,6 @@ pub mod SplitUnique
 pub mod SplitExists
 pub mod InheritanceLemmas
 pub mod SplitExamples
+pub mod PlainTexts
 pub mod UrlTexts
 pub mod SchemeLemmas

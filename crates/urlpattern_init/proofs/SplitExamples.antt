@@ -1,26 +1,26 @@
 -- Worked examples of the split: constructor strings with their tokens, and where each component begins and ends.
-use Rattle.std.proofs.Common.{◌≡◌, ℕ, zero, suc, ◌+◌, ◌<◌, ◌≤◌, Bool, true, false, not, ◌&&◌, ◌||◌, Some, None, List, [], ◌∷◌, ◌++◌, length, refl, sym, ap, ◌∙◌, inl, inr, arith, lit<}
+use Rattle.std.proofs.Common.{◌≡◌, ◌⊎◌, ℕ, zero, suc, ◌+◌, ◌<◌, ◌≤◌, Bool, true, false, not, ◌&&◌, ◌||◌, Some, None, List, [], ◌∷◌, ◌++◌, length, refl, sym, ap, ◌∙◌, inl, inr, arith, lit<}
 use Rattle.std.proofs.lemmas.Bool.{and_parts, both_ways, cases_eq, false≢true, not-true}
 use Rattle.std.specs.Char.{encode_utf8}
-use Rattle.std.specs.Prelude.{codes, IsTrue, IsSomeAnd, slice_get}
+use Rattle.std.specs.Prelude.{codes, IsTrue, IsSomeAnd, Option, slice_get}
+use Rattle.urlpattern_init.proofs.PlainTexts.{letters, plain_cut}
+use Rattle.urlpattern_init.proofs.SplitUnique.{splits_one_given}
+use Rattle.urlpattern_init.specs.ConstructorString.{SplitsAs, SplitsInto}
 use Rattle.urlpattern_init.specs.Split.{EndsAt, IsAbsoluteSplit, IsRelativeSplit, IsTextBetween, ends_at, may_end}
 use Rattle.urlpattern_init.specs.declared.constructor_parser.sections.Section.{Section}
 use Rattle.urlpattern_init.specs.declared.constructor_parser.sections.Section.TheVariants.{Protocol, Authority, Username, Hostname, Port, Pathname, Search}
 use Rattle.urlpattern_syntax.specs.declared.tokenizer.TokenType.{TokenType}
-use Rattle.urlpattern_syntax.specs.declared.tokenizer.TokenType.TheVariants.{Char, End, EscapedChar, InvalidChar, Open, OtherModifier}
+use Rattle.urlpattern_syntax.specs.declared.tokenizer.TokenType.TheVariants.{Char, End, EscapedChar, InvalidChar, Name, Open, OtherModifier}
+use Rattle.urlpattern_syntax.proofs.TokenExamples.{literals, name, no, none, token}
+use Rattle.urlpattern_syntax.specs.Eight.{Values}
 use Rattle.urlpattern_syntax.specs.Text.{byte_len}
-use Rattle.urlpattern_syntax.specs.Tokens.{TokenView}
+use Rattle.urlpattern_syntax.specs.Tokens.{AreLenientTokens, InvalidName, IsInvalidCharOf, IsTokenOf, TokenView}
 
 -- ---- how the examples are shown
 
 -- one token of a single character
 abbrev one : TokenType → ℕ → List ℕ → List TokenView
 one kind index value = record { kind = kind; index = index; value = value } ∷ []
-
--- ASCII characters from an index on
-abbrev letters : ℕ → List ℕ → List TokenView
-letters index [] = []
-letters index (c ∷ text) = record { kind = Char; index = index; value = c ∷ [] } ∷ letters (index + 1) text
 
 -- the section may end at none of so many positions
 abbrev may_not : Section → List TokenView → (from depth place count : ℕ) → Bool
@@ -257,3 +257,88 @@ all_components = record {
     ),
   );
 }
+
+-- ---- https://example.com/users/:id
+
+abbrev pub users_text : List ℕ
+users_text = codes "https://example.com/users/:id"
+
+abbrev users_tokens_front : List TokenView
+users_tokens_front =
+    letters 0 (codes "https") ++ token InvalidChar 5 (codes ":") ∷ letters 6 (codes "//example.com/users/") ++ token Name 26 (codes "id") ∷ []
+
+abbrev users_tokens : List TokenView
+users_tokens = users_tokens_front ++ token End 29 [] ∷ []
+
+are_users_tokens : AreLenientTokens users_text users_tokens
+unfolding literals
+are_users_tokens = record {
+  front = users_tokens_front;
+  cut =
+      plain_cut (λ start one rest. IsTokenOf users_text start one rest ⊎ IsInvalidCharOf users_text start one rest) users_text (λ start rest one is. inl is)
+      (codes "https") (codes "://example.com/users/:id") [] 0 (token InvalidChar 5 (codes ":") ∷ letters 6 (codes "//example.com/users/") ++ token Name 26 (codes "id") ∷ []) refl refl (
+        codes "://example.com/users/:id",
+        codes "//example.com/users/:id",
+        none,
+        inr (record { character = _; cut = refl; fault = InvalidName; is_fault = (codes "//example.com/users/:id", refl, no); is_token = refl; place = refl }),
+        plain_cut (λ start one rest. IsTokenOf users_text start one rest ⊎ IsInvalidCharOf users_text start one rest) users_text (λ start rest one is. inl is)
+        (codes "//example.com/users/") (codes ":id") [] 6 (token Name 26 (codes "id") ∷ []) refl refl (codes ":id", [], none, inl (name (codes "id") (refl, refl) no refl), none),
+      );
+  all = refl;
+}
+
+abbrev pub users_values : Values
+users_values = record { protocol = Some (codes "https"); username = None; password = None; hostname = Some (codes "example.com"); port = Some []; pathname = Some (codes "/users/:id"); search = None; hash = None }
+
+-- whether the protocol is special makes no difference where slashes follow it
+users_absolute : (special : Bool) → IsAbsoluteSplit users_text users_tokens special 5 users_values
+unfolding byte_len encode_utf8
+users_absolute special = record {
+  is_colon_there = refl;
+  protocol_ends = ends Protocol users_tokens 0 0 5 5 refl (lit< tt) refl refl;
+  protocol = between users_tokens 0 5 [] (codes "https") (codes "://example.com/users/:id") refl refl refl refl;
+  after = inl (
+    refl,
+    (
+      19,
+      ends Authority users_tokens 8 0 11 19 refl (lit< tt) refl refl,
+      inr (
+        false≢true,
+        refl,
+        refl,
+        (
+          19,
+          ends Hostname users_tokens 8 0 11 19 refl (lit< tt) refl refl,
+          between users_tokens 8 19 (codes "https://") (codes "example.com") (codes "/users/:id") refl refl refl refl,
+          inr (
+            false≢true,
+            refl,
+            inl (
+              refl,
+              (
+                27,
+                ends Pathname users_tokens 19 0 8 27 refl (lit< tt) refl refl,
+                between users_tokens 19 27 (codes "https://example.com") (codes "/users/:id") [] refl refl refl refl,
+                inr (inr (refl, refl, refl)),
+              ),
+            ),
+          ),
+        ),
+      ),
+    ),
+  );
+}
+
+users_splits : (special : Bool) → SplitsAs users_text special users_values
+users_splits special = (users_tokens, are_users_tokens, inr (5, special, users_absolute special, refl))
+
+answered : {A : Type 0} (special : Bool) (found : Option A) (Is : A → Type 0) → IsSomeAnd found Is → IsSomeAnd found (λ one. special ≡ special)
+answered special (Some one) Is is = refl
+answered special None Is is = absurd is
+
+-- it has one split, whichever protocols are special
+pub users_split : (IsSpecial : List ℕ → Bool → Type 0) (components : Values) → SplitsInto IsSpecial users_text components → components ≡ users_values
+users_split IsSpecial components (tokens, are_tokens, inl relative) =
+    splits_one_given users_text true components users_values (tokens, are_tokens, inl relative) (users_splits true)
+users_split IsSpecial components (tokens, are_tokens, inr (colon, special, absolute, known)) =
+    splits_one_given users_text special components users_values (tokens, are_tokens, inr (colon, special, absolute, answered special _ _ known)) (users_splits special)

@@ -3,12 +3,15 @@
 //! Each function here does nothing; what it promises is a theorem.
 
 ghost use Rattle.std.specs.Prelude.{ℕ, Bool, List};
+ghost use Rattle.url.specs.Parts.{IsValid};
 ghost use Rattle.urlpattern_init.specs.ConstructorString.{SplitsAreOneOrInDoubt, SplitsAs};
+ghost use Rattle.urlpattern_init.specs.Inheritance.{texts_of_url};
 ghost use Rattle.urlpattern_init.specs.SpecialProtocol.{IsSpecialTo};
-ghost use Rattle.urlpattern_init.specs.UrlTexts.{TextsOfUrlsAreLines};
+ghost use Rattle.urlpattern_init.specs.UrlTexts.{AreLines, TextsOfUrlsAreLines};
 ghost use Rattle.urlpattern_meaning.specs.Laws.{AtMostOne};
 ghost use Rattle.urlpattern_syntax.specs.Eight.{Values};
 
+use url::Url;
 use urlpattern_core::regexp::RegExp;
 
 /// A constructor string has one split under a given answer on whether its protocol is special. By the answers of a type of
@@ -19,7 +22,16 @@ pub fn splits_are_one<R: RegExp>()
     ensures computed { SplitsAreOneOrInDoubt (IsSpecialTo R.RegExp) }
 {}
 
-/// The eight texts of a URL are lines: of characters, none of them a line feed.
+/// The eight texts of a valid URL are lines: of characters, none of them a line feed.
 pub fn texts_of_urls_are_lines()
     ensures { TextsOfUrlsAreLines }
 {}
+
+/// This URL is valid, as each is, and so its eight texts are lines.
+pub fn texts_are_lines(url: &Url)
+    ensures valid { IsValid url.now }
+    ensures lines { AreLines (texts_of_url url.now) }
+{
+    // Nothing is done with the text: the call says that the URL is valid.
+    let _ = url.as_str();
+}
