@@ -4,3 +4,5 @@ pub mod ListLemmas
 pub mod InputLemmas
 pub mod EcmaMatchers
 pub mod RegexGroups
+pub mod ReadTexts
+pub mod UsersExample

@@ -1,27 +1,29 @@
 -- The texts of a valid URL are lines.
-use Rattle.std.proofs.Common.{◌≡◌, ◌∙◌, ◌<◌, ℕ, Bool, not, ◌==◌, ◌&&◌, ltb, List, [], All, None, Some, ap, refl, subst, sym, ⊎_elim, arith}
+use Rattle.std.proofs.Common.{◌≡◌, ◌∙◌, ◌<◌, ℕ, Bool, false, not, ◌==◌, ◌&&◌, ltb, List, [], ◌++◌, length, All, None, Some, Ok, ap, refl, subst, sym, ⊎_elim, arith}
 use Rattle.std.proofs.lemmas.Bool.{and_parts}
 use Rattle.std.proofs.lemmas.Bool.Decides.{nat_tests}
-use Rattle.std.proofs.lemmas.Fmt.{digits_decimal}
+use Rattle.std.proofs.lemmas.Fmt.{decimal_nonempty, digits_decimal}
 use Rattle.std.proofs.lemmas.List.Elements.{All-append, All-from_get_or, All-nil, All-weaker}
+use Rattle.std.proofs.lemmas.List.{append-nil}
 use Rattle.std.proofs.lemmas.Str.{IsUtf8-from_ascii, chars-IsAscii, scalars-chars}
 use Rattle.std.proofs.lemmas.Str.Ascii.{IsAscii-from_all}
 use Rattle.std.proofs.lemmas.Str.Parse.{numerals_by_value, tells_by_index}
 use Rattle.std.specs.Int.{IsInRange}
-use Rattle.std.specs.Prelude.{IsAscii, Option, decimal, option_map, unwrap_or}
+use Rattle.std.specs.Prelude.{IsAscii, MatchOption, Option, decimal, option_map, unwrap_or}
 use Rattle.std.specs.Str.{chars}
 use Rattle.percent_encoding.specs.Percent.{IsKept}
 use Rattle.percent_encoding.specs.declared.ascii_set.TheConstants.{CONTROLS}
 use Rattle.url.proofs.HostLemmas.{All-host_text}
+use Rattle.url.proofs.HostRoundTrip.{parse_special_host-host_text}
 use Rattle.url.proofs.InputLemmas.{Passes, list_all_from_All}
 use Rattle.url.proofs.PiecesLemmas.{option_cases}
 use Rattle.url.proofs.SchemeLemmas.{scheme_bytes}
 use Rattle.url.proofs.SetLemmas.{passes_from_kept}
 use Rattle.url.proofs.TextLemmas.{All_kept, All_part}
 use Rattle.url.proofs.ValidLemmas.{path_kept}
-use Rattle.url.specs.Host.{IsHostOf, host_text}
-use Rattle.url.specs.Parts.{IsPortOf, IsValidHead, Parts, host_or_empty, kind_of, query_set, text_between}
-use Rattle.url.specs.Scheme.{is_scheme_byte}
+use Rattle.url.specs.Host.{IsHostOf, host_text, parse_special_host}
+use Rattle.url.specs.Parts.{IsPortOf, IsValid, IsValidHead, Parts, host_or_empty, kind_of, query_set, text_between}
+use Rattle.url.specs.Scheme.{is_scheme_byte, is_special}
 use Rattle.url.specs.declared.host.Host.{Host}
 use Rattle.url.specs.declared.host.Host.TheVariants.{Domain}
 use Rattle.url.specs.declared.scheme.SchemeType.{SchemeType}
@@ -44,14 +46,19 @@ ascii_byte b passes = grind (arith, nat_tests)
 no_feed : (b : ℕ) → Passes is_line_byte b → Passes (λ c. not (c == line_feed)) b
 no_feed b passes = (and_parts _ _ passes).1
 
+ascii_of : (bytes : List ℕ) → All (Passes is_line_byte) bytes → IsAscii bytes
+ascii_of bytes all = IsAscii-from_all bytes (All-weaker (Passes is_line_byte) (λ b. b < 128) ascii_byte bytes all)
+
+-- their characters are the bytes
+chars_of : (bytes : List ℕ) → All (Passes is_line_byte) bytes → chars bytes ≡ bytes
+chars_of bytes all = chars-IsAscii bytes (ascii_of bytes all)
+
 -- such bytes are a line
 line_of : (bytes : List ℕ) → All (Passes is_line_byte) bytes → IsLine (chars bytes)
-line_of bytes all =
-    let ascii : IsAscii bytes = IsAscii-from_all bytes (All-weaker (Passes is_line_byte) (λ b. b < 128) ascii_byte bytes all) in
-    record {
-      characters = scalars-chars bytes (IsUtf8-from_ascii bytes ascii);
-      no_line_feed = ap (lacks line_feed) (chars-IsAscii bytes ascii) ∙ list_all_from_All _ bytes (All-weaker (Passes is_line_byte) _ no_feed bytes all);
-    }
+line_of bytes all = record {
+  characters = scalars-chars bytes (IsUtf8-from_ascii bytes (ascii_of bytes all));
+  no_line_feed = ap (lacks line_feed) (chars_of bytes all) ∙ list_all_from_All _ bytes (All-weaker (Passes is_line_byte) _ no_feed bytes all);
+}
 
 host_line : (kind : SchemeType) (host : Host (List ℕ)) → IsHostOf kind host → All (Passes is_line_byte) (host_text host)
 host_line kind host =
@@ -78,14 +85,54 @@ query_line File = passes_from_kept SPECIAL_QUERY is_line_byte refl
 query_line SpecialNotFile = passes_from_kept SPECIAL_QUERY is_line_byte refl
 query_line NotSpecial = passes_from_kept QUERY is_line_byte refl
 
+own_scheme_line : (url : Parts) → IsValidHead url → All (Passes is_line_byte) url.scheme
+own_scheme_line url valid = All-weaker (Passes is_scheme_byte) (Passes is_line_byte) scheme_line url.scheme (scheme_bytes url.scheme valid.scheme)
+
+path_line : (url : Parts) → IsValid url → All (Passes is_line_byte) url.path
+path_line url valid = All_kept is_line_byte OPAQUE_PATH refl url.path (path_kept url valid.path)
+
+-- all eight are lines
 pub texts_of_urls : TextsOfUrlsAreLines
 texts_of_urls url valid =
     by_name (λ name. IsLine (at (texts_of_url url) name))
-    (line_of url.scheme (All-weaker (Passes is_scheme_byte) (Passes is_line_byte) scheme_line url.scheme (scheme_bytes url.scheme valid.head.scheme)))
+    (line_of url.scheme (own_scheme_line url valid.head))
     (line_of url.username (All_kept is_line_byte USERINFO refl url.username valid.head.username))
     (line_of url.password (All_kept is_line_byte USERINFO refl url.password valid.head.password))
     (line_of (host_text (host_or_empty url)) (own_host_line url valid.head))
     (line_of (text_between url BeforePort AfterPort) (All-append (Passes is_line_byte) (unwrap_or (option_map decimal url.port) []) [] (port_line url.scheme url.port valid.head.port) (All-nil (Passes is_line_byte))))
-    (line_of url.path (All_kept is_line_byte OPAQUE_PATH refl url.path (path_kept url valid.path)))
+    (line_of url.path (path_line url valid))
     (line_of (unwrap_or url.query []) (All_part (Passes is_line_byte) _ url.query (query_line (kind_of url)) valid.query))
     (line_of (unwrap_or url.fragment []) (All_part (Passes is_line_byte) FRAGMENT url.fragment (passes_from_kept FRAGMENT is_line_byte refl) valid.fragment))
+
+-- ---- from texts to parts
+
+-- the scheme and the path are their texts
+pub chars-scheme : (url : Parts) → IsValid url → chars url.scheme ≡ url.scheme
+chars-scheme url valid = chars_of url.scheme (own_scheme_line url valid.head)
+
+pub chars-path : (url : Parts) → IsValid url → chars url.path ≡ url.path
+chars-path url valid = chars_of url.path (path_line url valid)
+
+-- the host of a special URL is what its text is parsed to
+special_host : (url : Parts) (host : Option (Host (List ℕ))) (text : List ℕ) (parsed : Host (List ℕ)) → MatchOption host (is_special SpecialNotFile ≡ false) (IsHostOf SpecialNotFile)
+    → chars (host_text (unwrap_or host (Domain []))) ≡ text → parse_special_host text ≡ Ok parsed → host ≡ Some parsed
+special_host url None text parsed valid e is = absurd (cc valid)
+special_host url (Some host) text parsed valid e is =
+    let spelled : host_text host ≡ text = sym (chars_of (host_text host) (host_line SpecialNotFile host valid)) ∙ e in
+    let found : Ok host ≡ Ok parsed = sym (parse_special_host-host_text host valid) ∙ ap parse_special_host spelled ∙ is in
+    ap Some (cc found)
+
+pub host_by_text : (url : Parts) (text : List ℕ) (parsed : Host (List ℕ)) → IsValid url → kind_of url ≡ SpecialNotFile →
+    chars (host_text (host_or_empty url)) ≡ text → parse_special_host text ≡ Ok parsed → url.host ≡ Some parsed
+host_by_text url text parsed valid kind e is = special_host url url.host text parsed (rw kind at valid.head.host) e is
+
+-- where the text of the port is empty there is none
+empty_port : (scheme : List ℕ) (port : Option ℕ) → IsPortOf scheme port → chars (unwrap_or (option_map decimal port) [] ++ []) ≡ [] → port ≡ None
+empty_port scheme None valid e = refl
+empty_port scheme (Some n) valid e =
+    let digits : chars (decimal n ++ []) ≡ [] = e in
+    let none : decimal n ≡ [] = sym (chars_of (decimal n) (port_line scheme (Some n) valid)) ∙ (rw append-nil at digits) in
+    absurd (omega (arith, decimal_nonempty n (omega (arith, valid.0)), ap length none))
+
+pub no_port : (url : Parts) → IsValid url → chars (text_between url BeforePort AfterPort) ≡ [] → url.port ≡ None
+no_port url valid e = empty_port url.scheme url.port valid.head.port e

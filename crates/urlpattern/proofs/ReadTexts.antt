@@ -1,0 +1,189 @@
+-- What is made of texts that are a plain fixed text, an asterisk or nothing: their parts, what these mean, and what a component
+-- of them answers.
+use Rattle.std.proofs.Common.{◌≡◌, ℕ, List, [], ◌∷◌, ◌++◌, refl, sym, ap, ◌∙◌, append_assoc, subst, inl, None, Some, Ok, Err, ◌↔◌}
+use Rattle.std.proofs.lemmas.List.{append-nil}
+use Rattle.std.specs.Char.{encode_utf8}
+use Rattle.std.specs.Fmt.{digits}
+use Rattle.std.specs.List.{list_all}
+use Rattle.std.specs.Prelude.{Option, IsTrue, codes, encode_utf8_all, false}
+use Rattle.std.specs.Str.{chars}
+use Rattle.url.specs.Parser.{Parsed}
+use Rattle.urlpattern.proofs.MeaningLemmas.{none_custom}
+use Rattle.urlpattern.specs.Compiled.{IsComponentCompiled, Manner, canonical_encoding}
+use Rattle.urlpattern.specs.Meaning.{ReadsAs}
+use Rattle.urlpattern_core.specs.Components.{ComponentView, engine_flags, has_regexp}
+use Rattle.urlpattern_engine.proofs.EngineLaws.{taken_first}
+use Rattle.urlpattern_engine.specs.PatternRegexps.{pattern_answer, pattern_engine}
+use Rattle.urlpattern_engine.specs.declared.pattern_regexp.PatternRegexp.{PatternRegexp}
+use Rattle.urlpattern_init.proofs.PlainTexts.{is_plain_character, parts_of, plain_parts}
+use Rattle.urlpattern_init.specs.UrlTexts.{IsLine}
+use Rattle.urlpattern_meaning.proofs.MatchingLaws.{middle_cancel}
+use Rattle.urlpattern_meaning.proofs.MeaningExamples.{alone_means, part_alone}
+use Rattle.urlpattern_meaning.proofs.MeaningLaws.{one_copy, peeled_means, plain_means}
+use Rattle.urlpattern_meaning.specs.Matching.{Agrees, Answers, ArePeeled}
+use Rattle.urlpattern_meaning.specs.PartMeaning.{AreGenerated, Captures, IsWildcardText, PartsMean}
+use Rattle.urlpattern_syntax.proofs.PieceExamples.{PieceCut, bare, ends, piece, pieces_of}
+use Rattle.urlpattern_syntax.proofs.ReadingExamples.{tokens_of, unnamed}
+use Rattle.urlpattern_syntax.proofs.RegexpTextExamples.{group}
+use Rattle.urlpattern_syntax.proofs.TokenExamples.{done, empty, literals, mark, next, no, token}
+use Rattle.urlpattern_syntax.specs.Options.{OptionsView, default_options}
+use Rattle.urlpattern_syntax.specs.Parts.{PartView, fixed_text}
+use Rattle.urlpattern_syntax.specs.Pieces.{Anything, Bare, Piece, Stops}
+use Rattle.urlpattern_syntax.specs.Reading.{AreParts, Encoding, Reads, items_of}
+use Rattle.urlpattern_syntax.specs.RegexpText.{escaped, group_names}
+use Rattle.urlpattern_syntax.specs.Text.{lacks, line_feed, text_of}
+use Rattle.urlpattern_syntax.specs.Tokens.{AreTokens, TokenView}
+use Rattle.urlpattern_syntax.specs.declared.parser.PartModifier.TheVariants as modifiers
+use Rattle.urlpattern_syntax.specs.declared.parser.PartType.TheVariants.{FullWildcard, SegmentWildcard}
+use Rattle.urlpattern_syntax.specs.declared.tokenizer.TokenType.TheVariants.{Asterisk, End}
+
+-- ---- parts
+
+-- what is made of a fixed text
+pub canonical_value : (canonical : List ℕ → Parsed (List ℕ)) (text value answer : List ℕ) → chars (encode_utf8_all text) ≡ text → canonical text ≡ Ok answer →
+    canonical_encoding canonical text (Ok value) → value ≡ answer
+canonical_value canonical text value answer kept is (Ok string, asked, same) =
+    let one : canonical text ≡ Ok (text_of string) = ap canonical (sym kept) ∙ asked in cc
+canonical_value canonical text value answer kept is (Err error, asked, same) = absurd cc
+
+-- one plain fixed text
+abbrev pub literal : List ℕ → List PartView
+literal text = fixed_text text modifiers.None ∷ []
+
+-- a text that has one plain fixed text, which is kept
+pub literal_read : (canonical : List ℕ → Parsed (List ℕ)) (text : List ℕ) (parts : List PartView) → chars (encode_utf8_all text) ≡ text → canonical text ≡ Ok text →
+    (value : List ℕ) × (rest : List PartView) × (parts ≡ fixed_text value modifiers.None ∷ rest) × canonical_encoding canonical text (Ok value) × (rest ≡ []) → parts ≡ literal text
+literal_read canonical text parts kept is (value, rest, e, encoded, ended) =
+    let same = canonical_value canonical text value text kept is encoded in cc
+
+-- a full wildcard without a name
+abbrev pub anything : List PartView
+anything = group FullWildcard [] (codes "0") [] modifiers.None ∷ []
+
+abbrev asterisk_tokens : List TokenView
+asterisk_tokens = token Asterisk 0 (codes "*") ∷ token End 1 [] ∷ []
+
+abbrev asterisk_pieces : List Piece
+asterisk_pieces = Bare [] (unnamed Anything) modifiers.None ∷ []
+
+asterisk_cut : PieceCut [] (Stops (token End 1 [])) asterisk_tokens asterisk_pieces
+asterisk_cut = piece 1 (bare 0 1 (inl (refl, refl)) refl refl tt no) (ends (_, refl, refl))
+
+are_asterisk_tokens : AreTokens (codes "*") asterisk_tokens
+unfolding literals
+are_asterisk_tokens = tokens_of (token Asterisk 0 (codes "*") ∷ []) (next (mark (refl, refl) tt refl) done)
+
+-- an asterisk reads as one
+pub anything_read : (canonical : List ℕ → Parsed (List ℕ)) (parts : List PartView) → canonical [] ≡ Ok [] →
+    Reads (codes "*") default_options (canonical_encoding canonical) parts → parts ≡ anything
+unfolding escaped encode_utf8 chars digits
+anything_read canonical parts is reads =
+    let read : AreParts default_options (canonical_encoding canonical) (items_of asterisk_pieces) parts =
+    parts_of asterisk_tokens asterisk_pieces (token End 1 []) are_asterisk_tokens (pieces_of asterisk_cut) reads in
+    let before = canonical_value canonical [] read.0 [] refl is read.4 in
+    let after = canonical_value canonical [] read.1 [] refl is read.5 in
+    let found : parts ≡ group FullWildcard read.0 (codes "0") read.1 modifiers.None ∷ read.2 = read.3 in
+    let ended : read.2 ≡ [] = read.6 in
+    cc
+
+-- an empty text reads as no part
+pub nothing_read : (options : OptionsView) (encoding : Encoding) (parts : List PartView) → Reads [] options encoding parts → parts ≡ []
+nothing_read options encoding parts reads = parts_of (token End 0 [] ∷ []) [] (token End 0 []) empty ([], refl, refl) reads
+
+-- ---- what they mean
+
+pub literal_means : (options : OptionsView) (value text : List ℕ) (captures : Captures) → PartsMean options (literal value) text captures ↔ ((text ≡ value) × (captures ≡ []))
+literal_means options value text captures = (
+  λ means. (plain_means (fixed_text value modifiers.None) refl).0 (part_alone means),
+  λ is. alone_means ((plain_means (fixed_text value modifiers.None) refl).1 is),
+)
+
+pub anything_means : (options : OptionsView) (text : List ℕ) → IsTrue (lacks line_feed text) → PartsMean options anything text (Some text ∷ [])
+anything_means options text line = alone_means (record {
+  count = 1;
+  allowed = refl;
+  are_copies = (text, [], sym (append-nil text), (text, sym (append-nil text), line), refl);
+  are_captures = (Some text, (text, sym (append-nil text), refl), refl);
+})
+
+-- one segment after its prefix
+abbrev IsSegment : OptionsView → (prefix text : List ℕ) → Captures → Type 0
+IsSegment options prefix text captures = (id : List ℕ) × (text ≡ prefix ++ id) × IsWildcardText options SegmentWildcard id × (captures ≡ Some id ∷ [])
+
+one_segment : (options : OptionsView) (prefix text id inner : List ℕ) (captures : Captures) (capture : Option (List ℕ)) → text ≡ prefix ++ id ++ [] →
+    IsWildcardText options SegmentWildcard id → text ≡ prefix ++ inner ++ [] → capture ≡ Some inner → captures ≡ capture ∷ [] → IsSegment options prefix text captures
+one_segment options prefix text id inner captures capture e is f g h =
+    let same : inner ≡ id = middle_cancel prefix inner id [] (sym f ∙ e) in
+    (id, e ∙ append-nil (prefix ++ id), is, h ∙ ap (λ c. c ∷ []) (g ∙ ap Some same))
+
+abbrev segment : (prefix name : List ℕ) → PartView
+segment prefix name = group SegmentWildcard prefix name [] modifiers.None
+
+segment_means : (options : OptionsView) (prefix name text : List ℕ) (captures : Captures) →
+    PartsMean options (segment prefix name ∷ []) text captures ↔ IsSegment options prefix text captures
+segment_means options prefix name text captures = (
+  λ means.
+      let one = part_alone means in
+      let copy = one_copy _ _ _ one.are_copies one.allowed in
+      let captured = rw one.allowed at one.are_captures in
+      one_segment options prefix text copy.0 captured.1.0 captures captured.0 copy.1 copy.2 captured.1.1 captured.1.2 captured.2,
+  λ (id, e, is, h). alone_means (record {
+    count = 1;
+    allowed = refl;
+    are_copies = (text, [], sym (append-nil text), (id, e ∙ sym (append-nil (prefix ++ id)), is), refl);
+    are_captures = (Some id, (id, e ∙ sym (append-nil (prefix ++ id)), refl), h);
+  }),
+)
+
+-- a plain fixed text, and then a segment after its prefix
+abbrev pub text_and_segment : (front prefix name : List ℕ) → List PartView
+text_and_segment front prefix name = fixed_text front modifiers.None ∷ segment prefix name ∷ []
+
+segment_peeled : (front prefix name : List ℕ) → ArePeeled (text_and_segment front prefix name) (Some (fixed_text front modifiers.None)) (segment prefix name ∷ []) None
+segment_peeled front prefix name = record { cut = refl; front_removed = refl; back_removed = no }
+
+-- what they mean: the text, the prefix and the segment, which is captured
+abbrev pub IsTextAndSegment : OptionsView → (front prefix text : List ℕ) → Captures → Type 0
+IsTextAndSegment options front prefix text captures =
+    (id : List ℕ) × (text ≡ front ++ prefix ++ id) × IsWildcardText options SegmentWildcard id × (captures ≡ Some id ∷ [])
+
+pub text_and_segment_mean : (options : OptionsView) (front prefix name text : List ℕ) (captures : Captures) →
+    PartsMean options (text_and_segment front prefix name) text captures ↔ IsTextAndSegment options front prefix text captures
+text_and_segment_mean options front prefix name text captures =
+    let peeled = peeled_means options (text_and_segment front prefix name) _ _ _ text captures (segment_peeled front prefix name) in (
+      λ means.
+          let found = peeled.0 means in
+          let (id, e, is, h) = (segment_means options prefix name found.0 captures).0 found.2 in
+          (id, found.1 ∙ append-nil (front ++ found.0) ∙ ap (λ t. front ++ t) e ∙ sym (append_assoc front prefix id), is, h),
+      λ (id, e, is, h). peeled.1 (
+        prefix ++ id,
+        e ∙ append_assoc front prefix id ∙ sym (append-nil (front ++ (prefix ++ id))),
+        (segment_means options prefix name (prefix ++ id) captures).1 (id, refl, is, h),
+      ),
+    )
+
+-- ---- a component
+
+-- A component answers, to a line, what these parts mean, and has their names.
+pub record IsOfParts (options : OptionsView) (parts : List PartView) (compiled : ComponentView PatternRegexp) : Type 0 where
+  pub means : (text : List ℕ) (result : Option Captures) → IsLine text → Answers pattern_answer compiled.matcher text result → Agrees options parts text result
+  pub names : compiled.group_name_list ≡ group_names parts
+
+-- a compiled component whose text reads as these parts alone, none of them custom, where case is kept
+pub of_parts : (manner : Manner) (expected : List PartView) (compiled : ComponentView PatternRegexp) → IsComponentCompiled pattern_engine manner compiled →
+    manner.options.ignore_case ≡ false → has_regexp expected ≡ false → ((parts : List PartView) → ReadsAs manner parts → parts ≡ expected) →
+    IsOfParts manner.options expected compiled
+of_parts manner expected compiled is kept generated read =
+    let (parts, reads, made) = is.0 in
+    let same : expected ≡ parts = sym (read parts reads) in
+    record {
+      means = λ text result line answers.
+          subst (λ (of : List PartView). Agrees manner.options of text result) (sym same)
+          (taken_first manner.options (engine_flags manner.options) parts compiled.matcher (record {
+            is_made = made.has_matcher;
+            generated = subst (λ (of : List PartView). AreGenerated of) same (none_custom expected generated);
+            case_kept = kept;
+            took = tt;
+          }) text result line.no_line_feed line.characters answers).1;
+      names = made.has_names ∙ ap (λ (of : List PartView). group_names of) (sym same);
+    }
