@@ -1,3 +1,4 @@
 pub mod NamedUsers
 pub mod FirstRule
 pub mod Same
+pub mod Users

@@ -8,6 +8,7 @@ mod cache;
 mod permission;
 mod printed;
 mod router;
+mod users;
 
 use std::alloc::Global;
 use std::io;

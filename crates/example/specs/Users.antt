@@ -1,0 +1,31 @@
+-- The URLs of users.
+use Rattle.std.specs.Prelude.{◌≡◌, ◌≢◌, ℕ, false, List, [], ◌++◌, codes, None, Some, IsTrue}
+use Rattle.std.specs.Str.{chars}
+use Rattle.url.specs.Ascii.{slash}
+use Rattle.url.specs.Parts.{Parts}
+use Rattle.url.specs.declared.host.Host.TheVariants.{Domain}
+use Rattle.urlpattern.specs.FromString.{IsPatternOfText}
+use Rattle.urlpattern.specs.Patterns.{PatternView}
+use Rattle.urlpattern_engine.specs.PatternRegexps.{pattern_engine}
+use Rattle.urlpattern_engine.specs.declared.pattern_regexp.PatternRegexp.{PatternRegexp}
+use Rattle.urlpattern_syntax.specs.declared.parser.RegexSyntax.TheVariants.{Rust}
+use Rattle.urlpattern_syntax.specs.Text.{lacks}
+
+-- The URL is that of the user with this id: `https`, the host `example.com` without a port, and the path `/users/` with the
+-- id, which is not empty and has no slash.
+pub record IsUser (url : Parts) (id : List ℕ) : Type 0 where
+  pub scheme : url.scheme ≡ codes "https"
+  pub host : url.host ≡ Some (Domain (codes "example.com"))
+  pub port : url.port ≡ None
+  pub path : url.path ≡ codes "/users/" ++ id
+  pub not_empty : id ≢ []
+  pub no_slash : IsTrue (lacks slash id)
+
+-- the URL is that of no user
+abbrev pub IsNoUser : Parts → Type 0
+IsNoUser url = (id : List ℕ) → ¬ IsUser url id
+
+-- the pattern is the one of these URLs
+abbrev pub IsPatternOfUsers : PatternView PatternRegexp → Type 0
+IsPatternOfUsers pattern =
+    IsPatternOfText pattern_engine (chars (codes "https://example.com/users/:id")) None (record { regex_syntax = Rust; ignore_case = false }) pattern

@@ -1,0 +1,59 @@
+//! Users by their URLs, promised in the words of URLs alone.
+
+ghost use Rattle.std.specs.Prelude.{IfNone, IfOk, IfSome};
+ghost use Rattle.std.specs.Str.{chars};
+ghost use Rattle.example.specs.Users.{IsNoUser, IsPatternOfUsers, IsUser};
+ghost use Rattle.urlpattern.specs.Errors.{OnlyOutOfMemory};
+ghost use Rattle.urlpattern.specs.Patterns.{pattern_view};
+
+use crate::router;
+use std::alloc::Global;
+use std::marker::Model;
+use url::Url;
+use urlpattern::regexp::PatternRegexp;
+use urlpattern::{Error, UrlPattern, UrlPatternOptions};
+use urlpattern_init::laws::texts_are_lines;
+
+/// The users under `https://example.com/users/`, with the pattern of their URLs, which is compiled once.
+#[derive(Drop)]
+pub struct Users {
+    pattern: UrlPattern<PatternRegexp>,
+}
+
+// The pattern is that of the text. Contracts see nothing of it.
+impl Model for Users {
+    ghost use Rattle.std.specs.Prelude.{⊤};
+
+    ghost Value = { ⊤ };
+
+    ghost view = { λ users. tt };
+
+    ghost invariant = { λ users. IsPatternOfUsers (pattern_view users.pattern) };
+}
+
+impl Users {
+    /// Compiles the pattern.
+    ///
+    /// The error is that of `UrlPattern::from_constructor_string`.
+    pub fn new(alloc: Global) -> Result<Self, Error> {
+        let options = UrlPatternOptions::default();
+        let pattern = UrlPattern::from_constructor_string(alloc, router::USERS, None, options)?;
+        Ok(Self { pattern })
+    }
+
+    /// The id of the user whose URL this is, borrowed from the URL. `None`: it is the URL of no user.
+    ///
+    /// The URL of a user is `https://example.com/users/` and the id, which is not empty and has no slash. It has no port. Its
+    /// user name, password, query and fragment may be any, as the pattern says nothing of them.
+    ///
+    /// The error is that memory ran out.
+    pub fn id<'a>(&'a self, alloc: Global, url: &'a Url) -> Result<Option<&'a str>, Error>
+        ensures some { IfOk result (λ found. IfSome found (λ id. IsUser url.now (chars id.now))) }
+        ensures none { IfOk result (λ found. IfNone found (IsNoUser url.now)) }
+        ensures memory { OnlyOutOfMemory result }
+    {
+        // A law of the library: each text of a URL is of characters without line feed.
+        texts_are_lines(url);
+        router::user(alloc, &self.pattern, url)
+    }
+}
