@@ -1,7 +1,8 @@
 -- What a pattern of `https://example.com/users/:id` answers to a URL, in the words of URLs.
-use Rattle.std.proofs.Common.{◌≡◌, ℕ, List, [], ◌∷◌, refl, sym, ap, ◌∙◌, subst, inl, inr, None, Some, Ok, arith}
+use Rattle.std.proofs.Common.{◌≡◌, ℕ, List, [], ◌∷◌, refl, sym, ap, ◌∙◌, subst, inl, inr, None, Some, Ok, Err, arith}
+use Rattle.std.specs.Borrow.{Bor}
 use Rattle.std.specs.Option.{option_flatten}
-use Rattle.std.specs.Prelude.{◌++◌, Option, codes, decimal, option_map, unwrap_or}
+use Rattle.std.specs.Prelude.{◌++◌, IfNone, IfOk, IfSome, Option, Result, codes, decimal, option_map, unwrap_or}
 use Rattle.std.specs.Str.{chars}
 use Rattle.example.specs.NamedUsers.{NamesNone, NamesUser}
 use Rattle.example.specs.Users.{IsNoUser, IsPatternOfUsers, IsUser}
@@ -29,6 +30,7 @@ use Rattle.urlpattern_meaning.specs.PartMeaning.{Captures, PartsMean}
 use Rattle.urlpattern_syntax.specs.Eight.{Texts, at}
 use Rattle.urlpattern_syntax.specs.Options.{default_options, hostname_options, pathname_options}
 use Rattle.urlpattern_syntax.specs.declared.eight.ComponentName.{ComponentName}
+use Rattle.urlpattern_syntax.specs.declared.error.Error.{Error}
 use Rattle.urlpattern_syntax.specs.declared.eight.ComponentName.TheVariants.{Protocol, Username, Password, Hostname, Port, Pathname, Search, Hash}
 
 -- ---- texts and parts
@@ -117,3 +119,19 @@ module _ (pattern : PatternView PatternRegexp) (is : IsPatternOfUsers pattern) (
   named_none (inr (result, match, captured)) = λ id user.
       let found = user_found result match in
       let same : Some found.0 ≡ None = sym (ap option_flatten found.2) ∙ captured in absurd (cc same)
+
+-- ---- what a call returns
+
+abbrev pub Found : Type 0
+Found = Result (Option (Bor (List ℕ))) Error
+
+pub found_weaker : (P Q : List ℕ → Type 0) → ((id : List ℕ) → P id → Q id) → (result : Found) → IfOk result (λ found. IfSome found (λ id. P (chars id.now))) →
+    IfOk result (λ found. IfSome found (λ id. Q (chars id.now)))
+found_weaker P Q weaker (Ok (Some id)) holds = weaker (chars id.now) holds
+found_weaker P Q weaker (Ok None) holds = tt
+found_weaker P Q weaker (Err error) holds = tt
+
+pub none_weaker : (P Q : Type 0) → (P → Q) → (result : Found) → IfOk result (λ found. IfNone found P) → IfOk result (λ found. IfNone found Q)
+none_weaker P Q weaker (Ok (Some id)) holds = tt
+none_weaker P Q weaker (Ok None) holds = weaker holds
+none_weaker P Q weaker (Err error) holds = tt

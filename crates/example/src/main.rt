@@ -1,5 +1,5 @@
-//! Four small programs that use the library, each with a contract in the library's words: a router, a permission check, rules
-//! for a cache, and a pattern that is printed and read again.
+//! Small programs that use the library, each with a contract in the library's words: a router, a permission check, rules for a
+//! cache, and a pattern that is printed and read again. A fifth promises in the words of URLs alone which user a URL names.
 #![tactic(auto)]
 
 ghost use Rattle.std.specs.Prelude.{◌≡◌, ◌+◌, length, OnOk};
@@ -18,6 +18,7 @@ use urlpattern::component::generate_pattern_string;
 use urlpattern::parser::{Options, parse_pattern_string};
 use urlpattern::regexp::PatternRegexp;
 use urlpattern::{Error, UrlPattern, UrlPatternList, UrlPatternOptions};
+use users::Users;
 
 // docs: pattern
 /// A pattern over the library's own engine. It answers as `regex::Regex` does, the engine of `UrlPattern` alone, mostly faster.
@@ -31,8 +32,8 @@ fn pattern(alloc: Global, text: &str) -> Result<Pattern, Error> {
 
 /// The user that a URL names, in words.
 fn user_line(alloc: Global, url: &Url) -> Result<String, Error> {
-    let users = pattern(alloc, router::USERS)?;
-    let line = match router::user(alloc, &users, url) {
+    let users = Users::new(alloc)?;
+    let line = match users.id(alloc, url) {
         Ok(Some(id)) => named(alloc, id),
         Ok(None) => text(alloc, "no user"),
         Err(error) => Err(error),

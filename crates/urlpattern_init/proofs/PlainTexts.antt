@@ -1,5 +1,5 @@
 -- Texts of characters that begin no other token.
-use Rattle.std.proofs.Common.{◌≡◌, ℕ, ◌+◌, ◌<◌, Bool, true, false, not, ◌&&◌, ltb, List, [], ◌∷◌, ◌++◌, length, refl, sym, ap, ◌∙◌, subst, arith, inl, Ok}
+use Rattle.std.proofs.Common.{◌≡◌, ℕ, ◌+◌, ◌<◌, Bool, not, ◌&&◌, ltb, List, [], ◌∷◌, ◌++◌, length, refl, ap, subst, arith}
 use Rattle.std.proofs.lemmas.Bool.{and_parts, not-true, ltb-true}
 use Rattle.std.proofs.lemmas.List.{append-nil}
 use Rattle.std.proofs.lemmas.Str.{encodes-IsAscii}
@@ -15,7 +15,7 @@ use Rattle.urlpattern_syntax.specs.Pieces.{ArePieces, BeginsWithKind, Ending, Pi
 use Rattle.urlpattern_syntax.specs.Reading.{AreParts, Encoding, Reads, items_of}
 use Rattle.urlpattern_syntax.specs.Text.{BeginsAt, byte_len, is_among}
 use Rattle.urlpattern_syntax.specs.Tokens.{AreTokens, IsCut, IsTokenOf, TokenView, end_of, is_ignored, marks}
-use Rattle.urlpattern_syntax.specs.declared.tokenizer.TokenType.TheVariants.{Char, End}
+use Rattle.urlpattern_syntax.specs.declared.tokenizer.TokenType.TheVariants.{Char}
 
 -- ASCII, and neither a mark nor what is skipped
 abbrev pub is_plain_character : ℕ → Bool

@@ -10,7 +10,7 @@ use Rattle.urlpattern_init.specs.Split.{EndsAt, IsAbsoluteSplit, IsRelativeSplit
 use Rattle.urlpattern_init.specs.declared.constructor_parser.sections.Section.{Section}
 use Rattle.urlpattern_init.specs.declared.constructor_parser.sections.Section.TheVariants.{Protocol, Authority, Username, Hostname, Port, Pathname, Search}
 use Rattle.urlpattern_syntax.specs.declared.tokenizer.TokenType.{TokenType}
-use Rattle.urlpattern_syntax.specs.declared.tokenizer.TokenType.TheVariants.{Char, End, EscapedChar, InvalidChar, Name, Open, OtherModifier}
+use Rattle.urlpattern_syntax.specs.declared.tokenizer.TokenType.TheVariants.{End, EscapedChar, InvalidChar, Name, Open, OtherModifier}
 use Rattle.urlpattern_syntax.proofs.TokenExamples.{literals, name, no, none, token}
 use Rattle.urlpattern_syntax.specs.Eight.{Values}
 use Rattle.urlpattern_syntax.specs.Text.{byte_len}
