@@ -1,2 +1,2 @@
 mod Copies
-mod Users
+mod UserUrls

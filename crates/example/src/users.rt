@@ -2,9 +2,8 @@
 
 ghost use Rattle.std.specs.Prelude.{IfNone, IfOk, IfSome};
 ghost use Rattle.std.specs.Str.{chars};
-ghost use Rattle.example.specs.Users.{IsNoUser, IsPatternOfUsers, IsUser};
+ghost use Rattle.example.specs.Users.{IsNoUser, IsUser};
 ghost use Rattle.urlpattern.specs.Errors.{OnlyOutOfMemory};
-ghost use Rattle.urlpattern.specs.Patterns.{pattern_view};
 
 use crate::router;
 use std::alloc::Global;
@@ -22,7 +21,9 @@ pub struct Users {
 
 // The pattern is that of the text. Contracts see nothing of it.
 impl Model for Users {
+    ghost use Rattle.example.specs.Users.{IsPatternOfUsers};
     ghost use Rattle.std.specs.Prelude.{⊤};
+    ghost use Rattle.urlpattern.specs.Patterns.{pattern_view};
 
     ghost Value = { ⊤ };
 

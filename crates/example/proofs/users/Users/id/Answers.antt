@@ -1,4 +1,4 @@
-use Rattle.example.proofs.Users.{found_weaker, named, named_none, none_weaker}
+use Rattle.example.proofs.UserUrls.{found_weaker, named, named_none, none_weaker}
 use Rattle.example.proofs.users.Users.id.Goals as goal
 
 pub returns-clause-some : goal.returns-clause-some

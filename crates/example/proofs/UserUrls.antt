@@ -8,7 +8,7 @@ use Rattle.example.specs.NamedUsers.{NamesNone, NamesUser}
 use Rattle.example.specs.Users.{IsNoUser, IsPatternOfUsers, IsUser}
 use Rattle.url.proofs.OnLiterals.{url_on_literals}
 use Rattle.url.specs.Host.{host_text, parse_special_host}
-use Rattle.url.specs.Parts.{IsValid, Parts, host_or_empty, kind_of, text_between}
+use Rattle.url.specs.Parts.{IsValid, Parts, host_or_empty, text_between}
 use Rattle.url.specs.Scheme.{scheme_type}
 use Rattle.url.specs.declared.host.Host.{Host}
 use Rattle.url.specs.declared.host.Host.TheVariants.{Domain}

@@ -1,0 +1,16 @@
+use Rattle.std.proofs.Common.{◌≡◌, None, subst}
+use Rattle.std.specs.Prelude.{codes}
+use Rattle.std.specs.Str.{chars}
+use Rattle.example.proofs.users.Users.new.Goals as goal
+use Rattle.urlpattern.proofs.UsersExample.{default_asked}
+use Rattle.urlpattern.specs.FromString.{IsPatternOfText}
+use Rattle.urlpattern.specs.Patterns.{pattern_view}
+use Rattle.urlpattern_engine.specs.PatternRegexps.{pattern_engine}
+use Rattle.urlpattern_inputs.specs.declared.options.UrlPatternOptions.{UrlPatternOptions}
+
+pub invariant_of-result : goal.invariant_of-result
+invariant_of-result c =
+    let fields = c.default-options.ensures in
+    let same : c.default-options.result ≡ default_asked = λ i. record { regex_syntax = fields.0 i; ignore_case = fields.1 i } in
+    subst (λ (options : UrlPatternOptions). IsPatternOfText pattern_engine (chars (codes "https://example.com/users/:id")) None options (pattern_view c.in_ok-pattern.pattern))
+    same c.in_ok-pattern.ensures.compiled
