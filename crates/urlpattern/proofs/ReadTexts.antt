@@ -8,9 +8,9 @@ use Rattle.std.specs.List.{list_all}
 use Rattle.std.specs.Prelude.{Option, IsTrue, codes, encode_utf8_all, false}
 use Rattle.std.specs.Str.{chars}
 use Rattle.url.specs.Parser.{Parsed}
-use Rattle.urlpattern.proofs.MeaningLemmas.{none_custom}
-use Rattle.urlpattern.specs.Compiled.{IsComponentCompiled, Manner, canonical_encoding}
-use Rattle.urlpattern.specs.Meaning.{ReadsAs}
+use Rattle.urlpattern_pattern.proofs.MeaningLemmas.{none_custom}
+use Rattle.urlpattern_pattern.specs.Compiled.{IsComponentCompiled, Manner, canonical_encoding}
+use Rattle.urlpattern_pattern.specs.Meaning.{ReadsAs}
 use Rattle.urlpattern_core.specs.Components.{ComponentView, engine_flags, has_regexp}
 use Rattle.urlpattern_engine.proofs.EngineLaws.{taken_first}
 use Rattle.urlpattern_engine.specs.PatternRegexps.{pattern_answer, pattern_engine}
