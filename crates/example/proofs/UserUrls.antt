@@ -23,7 +23,7 @@ use Rattle.urlpattern_engine.specs.PatternRegexps.{pattern_answer}
 use Rattle.urlpattern_engine.specs.declared.pattern_regexp.PatternRegexp.{PatternRegexp}
 use Rattle.urlpattern_init.proofs.UrlTexts.{chars-path, chars-scheme, host_by_text, no_port}
 use Rattle.urlpattern_init.specs.Inheritance.{texts_of_url}
-use Rattle.urlpattern_init.specs.UrlTexts.{AreLines}
+use Rattle.urlpattern_init.specs.UrlTexts.{EachIsLine}
 use Rattle.urlpattern_init.specs.declared.init.UrlPatternMatchInput.TheVariants as inputs
 use Rattle.urlpattern_meaning.specs.Matching.{Agrees, Answers}
 use Rattle.urlpattern_meaning.specs.PartMeaning.{Captures, PartsMean}
@@ -58,7 +58,7 @@ user_of_texts url captures valid is_scheme is_host is_port (id, is_path, segment
     }
 
 -- the pattern texts mean the texts of a user's URL
-user_meant : (url : Parts) (id : List ℕ) → IsValid url → AreLines (texts_of_url url) → IsUser url id → (component : ComponentName) →
+user_meant : (url : Parts) (id : List ℕ) → IsValid url → EachIsLine (texts_of_url url) → IsUser url id → (component : ComponentName) →
     (captures : Captures) × PartsMean (users_options component) (users_parts component) (at (texts_of_url url) component) captures
 unfolding chars
 user_meant url id valid lines user Protocol = ([], (literal_means default_options (codes "https") _ []).1 (ap chars user.scheme, refl))
@@ -74,7 +74,7 @@ user_meant url id valid lines user Hash = (_, anything_means default_options _ (
 
 -- ---- what is answered
 
-module _ (pattern : PatternView PatternRegexp) (is : IsPatternOfUsers pattern) (url : Parts) (valid : IsValid url) (lines : AreLines (texts_of_url url)) where
+module _ (pattern : PatternView PatternRegexp) (is : IsPatternOfUsers pattern) (url : Parts) (valid : IsValid url) (lines : EachIsLine (texts_of_url url)) where
   agrees : (texts : Texts) (component : ComponentName) (result : Option Captures) → input_texts (inputs.Url url) ≡ Ok texts →
       Answers pattern_answer (pattern component).matcher (at texts component) result →
       Agrees (users_options component) (users_parts component) (at (texts_of_url url) component) result

@@ -1,11 +1,55 @@
 pub use Rattle.urlpattern_canonical.specs.Canonical
-pub use Rattle.urlpattern_core.specs.{CaptureTexts, Components, FirstWays, Generated, Matchers, NormalForms, Regexes}
-pub use Rattle.urlpattern_init.specs.{ConstructorString, Inheritance, SpecialProtocol, Split, Splitting, UrlTexts}
-pub use Rattle.urlpattern_meaning.specs.{Dialect, FirstAnswers, Laws, LawsOfMeaning, LawsOfReading, Matching, PartMeaning, Printing, RoundTrip, Ways}
-pub use Rattle.urlpattern_inputs.specs.{InputJson, InputValues}
-pub use Rattle.urlpattern_compiled.specs.{Json, Plain, Values}
-pub use Rattle.urlpattern_pattern.specs.{BorrowedMatches, ByText, ByTextLaws, Calls, Compiled, CompilerSteps, FromString, Match, MatchInput, Meaning, Patterns}
-pub use Rattle.urlpattern_syntax.specs.{Eight, ErrorText, Errors, Options, Parsing, Parts, Pieces, Reading, Refusals, RegexpText, Text, Tokens}
+pub use Rattle.urlpattern_core.specs.CaptureTexts
+pub use Rattle.urlpattern_core.specs.Components
+pub use Rattle.urlpattern_core.specs.FirstWays
+pub use Rattle.urlpattern_core.specs.Generated
+pub use Rattle.urlpattern_core.specs.Matchers
+pub use Rattle.urlpattern_core.specs.NormalForms
+pub use Rattle.urlpattern_core.specs.Regexes
+pub use Rattle.urlpattern_init.specs.ConstructorString
+pub use Rattle.urlpattern_init.specs.Inheritance
+pub use Rattle.urlpattern_init.specs.SpecialProtocol
+pub use Rattle.urlpattern_init.specs.Split
+pub use Rattle.urlpattern_init.specs.Splitting
+pub use Rattle.urlpattern_init.specs.UrlTexts
+pub use Rattle.urlpattern_meaning.specs.Dialect
+pub use Rattle.urlpattern_meaning.specs.FirstAnswers
+pub use Rattle.urlpattern_meaning.specs.Laws
+pub use Rattle.urlpattern_meaning.specs.LawsOfMeaning
+pub use Rattle.urlpattern_meaning.specs.LawsOfReading
+pub use Rattle.urlpattern_meaning.specs.Matching
+pub use Rattle.urlpattern_meaning.specs.PartMeaning
+pub use Rattle.urlpattern_meaning.specs.Printing
+pub use Rattle.urlpattern_meaning.specs.RoundTrip
+pub use Rattle.urlpattern_meaning.specs.Ways
+pub use Rattle.urlpattern_inputs.specs.InputJson
+pub use Rattle.urlpattern_inputs.specs.InputValues
+pub use Rattle.urlpattern_compiled.specs.Json
+pub use Rattle.urlpattern_compiled.specs.Plain
+pub use Rattle.urlpattern_compiled.specs.Values
+pub use Rattle.urlpattern_pattern.specs.BorrowedMatches
+pub use Rattle.urlpattern_pattern.specs.ByText
+pub use Rattle.urlpattern_pattern.specs.ByTextLaws
+pub use Rattle.urlpattern_pattern.specs.Calls
+pub use Rattle.urlpattern_pattern.specs.Compiled
+pub use Rattle.urlpattern_pattern.specs.CompilerSteps
+pub use Rattle.urlpattern_pattern.specs.FromString
+pub use Rattle.urlpattern_pattern.specs.Match
+pub use Rattle.urlpattern_pattern.specs.MatchInput
+pub use Rattle.urlpattern_pattern.specs.Meaning
+pub use Rattle.urlpattern_pattern.specs.Patterns
+pub use Rattle.urlpattern_syntax.specs.Eight
+pub use Rattle.urlpattern_syntax.specs.ErrorText
+pub use Rattle.urlpattern_syntax.specs.Errors
+pub use Rattle.urlpattern_syntax.specs.Options
+pub use Rattle.urlpattern_syntax.specs.Parsing
+pub use Rattle.urlpattern_syntax.specs.Parts
+pub use Rattle.urlpattern_syntax.specs.Pieces
+pub use Rattle.urlpattern_syntax.specs.Reading
+pub use Rattle.urlpattern_syntax.specs.Refusals
+pub use Rattle.urlpattern_syntax.specs.RegexpText
+pub use Rattle.urlpattern_syntax.specs.Text
+pub use Rattle.urlpattern_syntax.specs.Tokens
 pub use Rattle.urlpattern_pattern.specs.declared.pattern.UrlPattern
 pub use Rattle.urlpattern_pattern.specs.declared.pattern.captures.UrlPatternCaptures
 pub use Rattle.urlpattern_pattern.specs.declared.pattern.result.UrlPatternComponentResult

@@ -13,9 +13,9 @@ pub record IsLine (text : List ℕ) : Type 0 where
   pub no_line_feed : IsTrue (lacks line_feed text)
 
 -- each of eight texts is a line
-abbrev pub AreLines : Texts → Type 0
-AreLines texts = (component : ComponentName) → IsLine (at texts component)
+abbrev pub EachIsLine : Texts → Type 0
+EachIsLine texts = (component : ComponentName) → IsLine (at texts component)
 
 -- Each text of a valid URL is a line.
 abbrev pub TextsOfUrlsAreLines : Type 0
-TextsOfUrlsAreLines = (url : Parts) → IsValid url → AreLines (texts_of_url url)
+TextsOfUrlsAreLines = (url : Parts) → IsValid url → EachIsLine (texts_of_url url)

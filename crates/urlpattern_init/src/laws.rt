@@ -7,7 +7,7 @@ ghost use Rattle.url.specs.Parts.{IsValid};
 ghost use Rattle.urlpattern_init.specs.ConstructorString.{SplitsAreOneOrInDoubt, SplitsAs};
 ghost use Rattle.urlpattern_init.specs.Inheritance.{texts_of_url};
 ghost use Rattle.urlpattern_init.specs.SpecialProtocol.{IsSpecialTo};
-ghost use Rattle.urlpattern_init.specs.UrlTexts.{AreLines, TextsOfUrlsAreLines};
+ghost use Rattle.urlpattern_init.specs.UrlTexts.{EachIsLine, TextsOfUrlsAreLines};
 ghost use Rattle.urlpattern_meaning.specs.Laws.{AtMostOne};
 ghost use Rattle.urlpattern_syntax.specs.Eight.{Values};
 
@@ -30,7 +30,7 @@ pub fn texts_of_urls_are_lines()
 /// This URL is valid, as each is, and so its eight texts are lines.
 pub fn texts_are_lines(url: &Url)
     ensures valid { IsValid url.now }
-    ensures lines { AreLines (texts_of_url url.now) }
+    ensures lines { EachIsLine (texts_of_url url.now) }
 {
     // Nothing is done with the text: the call says that the URL is valid.
     let _ = url.as_str();

@@ -2,7 +2,7 @@
 use Rattle.std.specs.Prelude.{◌≡◌, ℕ, false, List, Ok, Option, None, Some}
 use Rattle.urlpattern_core.specs.Components.{ComponentView}
 use Rattle.urlpattern_core.specs.declared.regexp.RegExp.{Ghosts as Engine}
-use Rattle.urlpattern_init.specs.UrlTexts.{AreLines, IsLine}
+use Rattle.urlpattern_init.specs.UrlTexts.{EachIsLine, IsLine}
 use Rattle.urlpattern_init.specs.declared.init.UrlPatternInit.{UrlPatternInit}
 use Rattle.urlpattern_inputs.specs.declared.options.UrlPatternOptions.{UrlPatternOptions}
 use Rattle.urlpattern_meaning.specs.{Matching.InnerView, PartMeaning.Captures}
