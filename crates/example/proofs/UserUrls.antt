@@ -96,7 +96,7 @@ module _ (pattern : PatternView PatternRegexp) (is : IsPatternOfUsers pattern) (
         path.0,
         user_of_texts url (match.captures Pathname) valid scheme host (means Port).0 path,
         (match.are_results Pathname).has_groups (codes "id") ∙ ap (λ names. group_of names (match.captures Pathname) (codes "id")) (users_of_parts pattern is Pathname).names
-        ∙ ap (λ (captures : Captures). group_of (codes "id" ∷ []) captures (codes "id")) path.3,
+            ∙ ap (λ (captures : Captures). group_of (codes "id" ∷ []) captures (codes "id")) path.3,
       )
 
   no_user : HasNoMatch pattern_answer pattern (inputs.Url url) → IsNoUser url

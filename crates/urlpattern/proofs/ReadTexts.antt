@@ -4,7 +4,6 @@ use Rattle.std.proofs.Common.{◌≡◌, ℕ, List, [], ◌∷◌, ◌++◌, ref
 use Rattle.std.proofs.lemmas.List.{append-nil}
 use Rattle.std.specs.Char.{encode_utf8}
 use Rattle.std.specs.Fmt.{digits}
-use Rattle.std.specs.List.{list_all}
 use Rattle.std.specs.Prelude.{Option, IsTrue, codes, encode_utf8_all, false}
 use Rattle.std.specs.Str.{chars}
 use Rattle.url.specs.Parser.{Parsed}
@@ -15,7 +14,7 @@ use Rattle.urlpattern_core.specs.Components.{ComponentView, engine_flags, has_re
 use Rattle.urlpattern_engine.proofs.EngineLaws.{taken_first}
 use Rattle.urlpattern_engine.specs.PatternRegexps.{pattern_answer, pattern_engine}
 use Rattle.urlpattern_engine.specs.declared.pattern_regexp.PatternRegexp.{PatternRegexp}
-use Rattle.urlpattern_init.proofs.PlainTexts.{is_plain_character, parts_of, plain_parts}
+use Rattle.urlpattern_init.proofs.PlainTexts.{parts_of}
 use Rattle.urlpattern_init.specs.UrlTexts.{IsLine}
 use Rattle.urlpattern_meaning.proofs.MatchingLaws.{middle_cancel}
 use Rattle.urlpattern_meaning.proofs.MeaningExamples.{alone_means, part_alone}
