@@ -25,7 +25,10 @@ pub record IsUser (url : Parts) (id : List ℕ) : Type 0 where
 abbrev pub IsNoUser : Parts → Type 0
 IsNoUser url = (id : List ℕ) → ¬ IsUser url id
 
--- the pattern is the one of these URLs
+-- the text of their pattern
+abbrev pub users_text : List ℕ
+users_text = chars (codes "https://example.com/users/:id")
+
+-- the pattern is that of this text, under the default options
 abbrev pub IsPatternOfUsers : PatternView PatternRegexp → Type 0
-IsPatternOfUsers pattern =
-    IsPatternOfText pattern_engine (chars (codes "https://example.com/users/:id")) None (record { regex_syntax = Rust; ignore_case = false }) pattern
+IsPatternOfUsers pattern = IsPatternOfText pattern_engine users_text None (record { regex_syntax = Rust; ignore_case = false }) pattern

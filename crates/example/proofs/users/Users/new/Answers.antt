@@ -1,6 +1,5 @@
 use Rattle.std.proofs.Common.{◌≡◌, None, subst}
-use Rattle.std.specs.Prelude.{codes}
-use Rattle.std.specs.Str.{chars}
+use Rattle.example.specs.Users.{users_text}
 use Rattle.example.proofs.users.Users.new.Goals as goal
 use Rattle.urlpattern.proofs.UsersExample.{default_asked}
 use Rattle.urlpattern.specs.FromString.{IsPatternOfText}
@@ -12,5 +11,5 @@ pub invariant_of-result : goal.invariant_of-result
 invariant_of-result c =
     let fields = c.default-options.ensures in
     let same : c.default-options.result ≡ default_asked = λ i. record { regex_syntax = fields.0 i; ignore_case = fields.1 i } in
-    subst (λ (options : UrlPatternOptions). IsPatternOfText pattern_engine (chars (codes "https://example.com/users/:id")) None options (pattern_view c.in_ok-pattern.pattern))
+    subst (λ (options : UrlPatternOptions). IsPatternOfText pattern_engine users_text None options (pattern_view c.in_ok-pattern.pattern))
     same c.in_ok-pattern.ensures.compiled
