@@ -94,8 +94,8 @@ pub fn patterns_by_these_engines_answer_by_their_texts()
 {}
 
 /// An init has one outcome: it is compiled to a pattern, or it is refused with one error, and not both. It has that outcome
-/// where `url` answers each text that it is asked about, and the engine makes a value of each regular expression or may refuse
-/// it. The values of an init as a pattern are never refused. Left aside are two errors: that memory ran out, and that a text is
+/// where `url` answers each text that it is asked about, and the engine makes a value of each regular expression that it is asked
+/// for or may refuse it. The values of an init as a pattern are never refused. Left aside are two errors: that memory ran out, and that a text is
 /// too long for `url`.
 ///
 /// Of the engine it is asked that it does not both take and refuse the regular expression of a component, and that two of its
@@ -111,8 +111,9 @@ pub fn inits_have_one_outcome<R: RegExp>()
 {}
 
 /// A component whose case is ignored, and whose matcher needs no engine, answers by its pattern text too: to each text of
-/// characters without line feed it answers captures exactly where the parts with the ASCII letters of their texts folded take
-/// the folded text, by their first way, and the captures are the pieces of the text itself at the places of that way.
+/// characters without line feed it answers captures exactly where the parts, with the ASCII letters of their texts folded, take
+/// the folded text. Folded, the captures are those of the first way in which they do. As they are, they are pieces of the text
+/// itself, which is cut into a stretch for each part.
 ///
 /// Where an engine stands between prefix and suffix, these two are compared folded, and what is between them is left to the
 /// engine; `PatternRegexp` and `regex::Regex` compare it as it is.

@@ -1,21 +1,20 @@
 -- A component that ignores case, and needs no engine, answers the folded way.
-use Rattle.std.proofs.Common.{◌≡◌, ◌≢◌, ℕ, ◌+◌, ◌≤◌, ◌<◌, ◌⊎◌, Bool, true, false, List, [], ◌∷◌, ◌++◌, length, take, drop, map, ap, inl, inr, refl, subst, sym, ◌∙◌, append_assoc, arith}
-use Rattle.std.proofs.lemmas.Bool.{and_from, and_parts, cases_lt}
-use Rattle.std.proofs.lemmas.Bool.Decides.{nat_tests}
-use Rattle.std.proofs.lemmas.List.{drop-map, drop_at, map-append, take-map, take_at}
-use Rattle.std.proofs.lemmas.List.Elements.{All-map}
-use Rattle.std.proofs.lemmas.Str.Ascii.{lowercase_is}
-use Rattle.std.specs.Char.{to_ascii_lowercase}
-use Rattle.std.specs.Prelude.{◌==◌, not, Option, Some, None, Result, IsTrue, option_map, option_to_list}
+use Rattle.std.proofs.Common.{◌≡◌, ◌≢◌, ℕ, ◌+◌, Bool, true, false, List, [], ◌∷◌, ◌++◌, length, take, drop, ap, refl, subst, sym, ◌∙◌, append_assoc, arith}
+use Rattle.std.proofs.lemmas.List.{append-nil, length-append, length-drop, length-take-le, take-append-drop, take_at}
+use Rattle.std.proofs.lemmas.List.Elements.{All-cons, All-map, All-nil}
+use Rattle.std.specs.Prelude.{◌-◌, All, IfSome, Option, Some, None, Result, IsTrue, option_map, option_to_list}
 use Rattle.std.specs.Str.{all_scalars}
-use Rattle.urlpattern_core.specs.Components.{ComponentView, IsEngineOf, engine_flags}
+use Rattle.urlpattern_core.specs.Components.{IsEngineOf, engine_flags}
 use Rattle.urlpattern_core.specs.declared.regexp.RegExp.{Ghosts as Engine}
-use Rattle.urlpattern_meaning.proofs.FirstAnswers.{matcher_first}
-use Rattle.urlpattern_meaning.specs.FirstAnswers.{AnswersFirstInMiddle}
-use Rattle.urlpattern_meaning.specs.Matching.{Accepts, Answers, ArePeeled, BeginsPlain, EndsPlain, InnerView, IsMadeBetween, IsMadeOf, IsMadeOfOne, IsRemoved, IsSame, Literal, MatcherView, Matches, MayBeEmpty, PassesFilter, RegExp, SingleCapture, end_text, folded, folded_character, single_capture_matcher}
-use Rattle.urlpattern_meaning.specs.PartMeaning.{AreGenerated, Captures}
-use Rattle.urlpattern_pattern.proofs.MatchersDecide.{cut_in_three}
-use Rattle.urlpattern_pattern.specs.Folded.{FoldedWaysAreAnswered, HoldsNoEngine, IsFoldedFirst, Places, folded_options, folded_part, folded_parts, text_at, texts_at}
+use Rattle.urlpattern_meaning.proofs.FirstAnswers.{first_agrees, matcher_first}
+use Rattle.urlpattern_meaning.proofs.MeaningExamples.{part_alone}
+use Rattle.urlpattern_meaning.proofs.MeaningLaws.{peeled_means, plain_means}
+use Rattle.urlpattern_meaning.proofs.Middles.{rest_one, same-length}
+use Rattle.urlpattern_meaning.specs.FirstAnswers.{IsFirstOf}
+use Rattle.urlpattern_meaning.specs.Matching.{Agrees, Answers, BeginsPlain, EndsPlain, IsMadeBetween, IsMadeOf, IsMadeOfOne, IsRemoved, MatcherView, Matches, end_text, folded, single_capture_matcher}
+use Rattle.urlpattern_meaning.specs.PartMeaning.{AreGenerated, Captures, PartsMean}
+use Rattle.urlpattern_pattern.proofs.FoldedMatchers.{answers_folded, asks_none, between_ignores, cut_unfolded, end_folded, folded_matcher, lower, lower_lacks, lower_scalars, made_folded, no_engine, peeled_folded}
+use Rattle.urlpattern_pattern.specs.Folded.{FoldedMean, FoldedWaysAreAnswered, HoldsNoEngine, IsFoldedFirst, IsFoldedStretch, IsPiece, folded_captures, folded_options, folded_part, folded_parts}
 use Rattle.urlpattern_syntax.specs.declared.parser.PartModifier.{PartModifier}
 use Rattle.urlpattern_syntax.specs.declared.parser.PartModifier.TheVariants as modifiers
 use Rattle.urlpattern_syntax.specs.declared.parser.PartType.{PartType}
@@ -24,282 +23,150 @@ use Rattle.urlpattern_syntax.specs.Errors.{ErrorView}
 use Rattle.urlpattern_syntax.specs.Options.{OptionsView}
 use Rattle.urlpattern_syntax.specs.Parts.{PartView}
 use Rattle.urlpattern_syntax.specs.Text.{lacks, line_feed}
-use lib.Utf8.{low_scalar, scalar}
 
--- ---- characters
+-- ---- stretches
 
-abbrev lower : List ℕ → List ℕ
-lower text = folded true text
+nothing_folded : (text : List ℕ) → lower text ≡ [] → text ≡ []
+nothing_folded [] same = refl
+nothing_folded (c ∷ text) same = absurd cc
 
--- an upper case letter is moved, and any other character stays
-moved_or_same : (c : ℕ) → ((65 ≤ c) × (c ≤ 90) × (to_ascii_lowercase c ≡ c + 32)) ⊎ (to_ascii_lowercase c ≡ c)
-moved_or_same c = elim (cases_lt c 65) [
-  | inl before ↦ inr ((lowercase_is c).1 before)
-  | inr at_least ↦ elim (cases_lt 90 c) [
-    | inl after ↦ inr ((lowercase_is c).2 after)
-    | inr at_most ↦ inl (at_least, at_most, (lowercase_is c).0 (at_least, at_most))
-  ]
-]
+none_folded : (captures : Captures) → folded_captures captures ≡ [] → captures ≡ []
+none_folded [] same = refl
+none_folded (capture ∷ captures) same = absurd cc
 
-lower_feed : (c : ℕ) → IsTrue (not (c == line_feed)) → IsTrue (not (to_ascii_lowercase c == line_feed))
-lower_feed c other = by (moved_or_same c)
-  where
-    by : ((65 ≤ c) × (c ≤ 90) × (to_ascii_lowercase c ≡ c + 32)) ⊎ (to_ascii_lowercase c ≡ c) → IsTrue (not (to_ascii_lowercase c == line_feed))
-    by (inl (at_least, at_most, moved)) = grind (arith, nat_tests, moved, at_least)
-    by (inr same) = subst (λ (d : ℕ). IsTrue (not (d == line_feed))) (sym same) other
-
-lower_scalar : (c : ℕ) → IsTrue (scalar c) → IsTrue (scalar (to_ascii_lowercase c))
-lower_scalar c is = by (moved_or_same c)
-  where
-    by : ((65 ≤ c) × (c ≤ 90) × (to_ascii_lowercase c ≡ c + 32)) ⊎ (to_ascii_lowercase c ≡ c) → IsTrue (scalar (to_ascii_lowercase c))
-    by (inl (at_least, at_most, moved)) = low_scalar (to_ascii_lowercase c) (omega (arith, moved, at_most))
-    by (inr same) = subst (λ (d : ℕ). IsTrue (scalar d)) (sym same) is
-
-lower_lacks : (text : List ℕ) → IsTrue (lacks line_feed text) → IsTrue (lacks line_feed (lower text))
-lower_lacks [] is = is
-lower_lacks (c ∷ text) is =
-    let both = and_parts (not (c == line_feed)) (lacks line_feed text) is in
-    and_from (not (to_ascii_lowercase c == line_feed)) (lacks line_feed (lower text)) (lower_feed c both.0) (lower_lacks text both.1)
-
-lower_scalars : (text : List ℕ) → IsTrue (all_scalars text) → IsTrue (all_scalars (lower text))
-lower_scalars [] is = is
-lower_scalars (c ∷ text) is =
-    let both = and_parts (scalar c) (all_scalars text) is in
-    and_from (scalar (to_ascii_lowercase c)) (all_scalars (lower text)) (lower_scalar c both.0) (lower_scalars text both.1)
-
--- ---- parts without their plain ends
-
-list_folded : (part : Option PartView) → folded_parts (option_to_list part) ≡ option_to_list (option_map folded_part part)
-list_folded (Some part) = refl
-list_folded None = refl
-
-end_folded : (part : Option PartView) → folded true (end_text part) ≡ end_text (option_map folded_part part)
-end_folded (Some part) = refl
-end_folded None = refl
-
-begins_folded : (parts : List PartView) → BeginsPlain (folded_parts parts) → BeginsPlain parts
-begins_folded [] plain = plain
-begins_folded (part ∷ parts) plain = plain
-
-ends_folded : (parts : List PartView) → EndsPlain (folded_parts parts) → EndsPlain parts
-ends_folded [] plain = plain
-ends_folded (part ∷ []) plain = plain
-ends_folded (part ∷ next ∷ parts) plain = ends_folded (next ∷ parts) plain
-
-removed_folded : (part : Option PartView) (There Folded : Type 0) → (Folded → There) → IsRemoved part There → IsRemoved (option_map folded_part part) Folded
-removed_folded (Some part) There Folded back removed = removed
-removed_folded None There Folded back removed = λ there. removed (back there)
-
-peeled_folded : (parts : List PartView) (front : Option PartView) (middle : List PartView) (back : Option PartView) → ArePeeled parts front middle back →
-    ArePeeled (folded_parts parts) (option_map folded_part front) (folded_parts middle) (option_map folded_part back)
-peeled_folded parts front middle back peeled = record {
-  cut =
-      ap folded_parts peeled.cut ∙ map-append folded_part (option_to_list front ++ middle) (option_to_list back)
-      ∙ ap (λ (ps : List PartView). ps ++ folded_parts (option_to_list back)) (map-append folded_part (option_to_list front) middle)
-      ∙ ap (λ (ps : List PartView). ps ++ folded_parts middle ++ folded_parts (option_to_list back)) (list_folded front)
-      ∙ ap (λ (ps : List PartView). option_to_list (option_map folded_part front) ++ folded_parts middle ++ ps) (list_folded back);
-  front_removed = removed_folded front (BeginsPlain parts) (BeginsPlain (folded_parts parts)) (begins_folded parts) peeled.front_removed;
-  back_removed = removed_folded back (EndsPlain middle) (EndsPlain (folded_parts middle)) (ends_folded middle) peeled.back_removed;
-}
-
--- ---- the folded matcher
-
-folded_inner : {E : Type 0} → InnerView E → InnerView E
-folded_inner (Literal literal) = Literal (folded true literal)
-folded_inner (SingleCapture filter allow_empty) = SingleCapture (option_map (folded_character true) filter) allow_empty
-folded_inner (RegExp engine) = RegExp engine
-
-abbrev folded_matcher : {E : Type 0} → MatcherView E → MatcherView E
-folded_matcher matcher = record {
-  prefix = folded true matcher.prefix;
-  suffix = folded true matcher.suffix;
-  inner = folded_inner matcher.inner;
-  ignore_case = false;
-}
-
-module _ {E : Type 0} (IsEngine : List ℕ → Result E ErrorView → Type 0) (options : OptionsView) where
-  no_engine : (matcher other : MatcherView E) (engine : Result E ErrorView) → HoldsNoEngine matcher.inner → matcher ≡ other → other.inner ≡ RegExp engine → ⊥
-  no_engine matcher other engine none same is = subst (λ (inner : InnerView E). HoldsNoEngine inner) (ap (λ (m : MatcherView E). m.inner) same ∙ is) none
-
-  capture_folded : (prefix : List ℕ) (part : PartView) (suffix : List ℕ) (filter : Option ℕ) (allow_empty : Bool) →
-      folded_matcher (single_capture_matcher {E = E} options prefix part suffix filter allow_empty)
-      ≡ single_capture_matcher {E = E} (folded_options options) (folded true prefix) (folded_part part) (folded true suffix) (option_map (folded_character true) filter) allow_empty
-  unfolding folded_inner
-  capture_folded prefix part suffix filter allow_empty =
-      ap (λ (begin : List ℕ). record { prefix = begin; suffix = folded true (part.suffix ++ suffix); inner = SingleCapture (option_map (folded_character true) filter) allow_empty; ignore_case = false })
-      (map-append to_ascii_lowercase prefix part.prefix)
-      ∙ ap (λ (end : List ℕ). record { prefix = folded true prefix ++ folded true part.prefix; suffix = end; inner = SingleCapture (option_map (folded_character true) filter) allow_empty; ignore_case = false })
-      (map-append to_ascii_lowercase part.suffix suffix)
-
-  one_folded : (kind : PartType) (modifier : PartModifier) (prefix : List ℕ) (part : PartView) (suffix : List ℕ) (matcher : MatcherView E) → HoldsNoEngine matcher.inner →
-      IsMadeOfOne IsEngine kind modifier options prefix part suffix matcher →
-      IsMadeOfOne IsEngine kind modifier (folded_options options) (folded true prefix) (folded_part part) (folded true suffix) (folded_matcher matcher)
-  one_folded FullWildcard modifiers.None prefix part suffix matcher none made = ap folded_matcher made ∙ capture_folded prefix part suffix None true
-  one_folded SegmentWildcard modifiers.None prefix part suffix matcher none made = ap folded_matcher made ∙ capture_folded prefix part suffix options.delimiter false
-  one_folded kind modifier prefix part suffix matcher none (engine, is, made) = absurd (no_engine matcher _ engine none made refl)
-
-  between_folded : (prefix : List ℕ) (middle : List PartView) (suffix : List ℕ) (matcher : MatcherView E) → HoldsNoEngine matcher.inner →
-      IsMadeBetween IsEngine options prefix middle suffix matcher →
-      IsMadeBetween IsEngine (folded_options options) (folded true prefix) (folded_parts middle) (folded true suffix) (folded_matcher matcher)
-  unfolding folded_inner
-  between_folded prefix [] suffix matcher none made =
-      ap folded_matcher made
-      ∙ ap (λ (literal : List ℕ). record { prefix = []; suffix = []; inner = Literal literal; ignore_case = false }) (map-append to_ascii_lowercase prefix suffix)
-  between_folded prefix (part ∷ []) suffix matcher none made = one_folded part.kind part.modifier prefix part suffix matcher none made
-  between_folded prefix (part ∷ next ∷ parts) suffix matcher none (engine, is, made) = absurd (no_engine matcher _ engine none made refl)
-
-  made_folded : (parts : List PartView) (matcher : MatcherView E) → HoldsNoEngine matcher.inner → IsMadeOf IsEngine options parts matcher →
-      IsMadeOf IsEngine (folded_options options) (folded_parts parts) (folded_matcher matcher)
-  made_folded parts matcher none made = record {
-    front = option_map folded_part made.front;
-    middle = folded_parts made.middle;
-    back = option_map folded_part made.back;
-    are_peeled = peeled_folded parts made.front made.middle made.back made.are_peeled;
-    is_made =
-        subst (λ (begin : List ℕ). IsMadeBetween IsEngine (folded_options options) begin (folded_parts made.middle) (end_text (option_map folded_part made.back)) (folded_matcher matcher)) (end_folded made.front)
-        (subst (λ (end : List ℕ). IsMadeBetween IsEngine (folded_options options) (folded true (end_text made.front)) (folded_parts made.middle) end (folded_matcher matcher)) (end_folded made.back)
-        (between_folded (end_text made.front) made.middle (end_text made.back) matcher none made.is_made));
-  }
-
-  -- a matcher ignores case where its options do
-  one_ignores : (kind : PartType) (modifier : PartModifier) (prefix : List ℕ) (part : PartView) (suffix : List ℕ) (matcher : MatcherView E) →
-      IsMadeOfOne IsEngine kind modifier options prefix part suffix matcher → matcher.ignore_case ≡ options.ignore_case
-  one_ignores FullWildcard modifiers.None prefix part suffix matcher made = ap (λ (m : MatcherView E). m.ignore_case) made
-  one_ignores SegmentWildcard modifiers.None prefix part suffix matcher made = ap (λ (m : MatcherView E). m.ignore_case) made
-  one_ignores kind modifier prefix part suffix matcher (engine, is, made) = ap (λ (m : MatcherView E). m.ignore_case) made
-
-  between_ignores : (prefix : List ℕ) (middle : List PartView) (suffix : List ℕ) (matcher : MatcherView E) → IsMadeBetween IsEngine options prefix middle suffix matcher → matcher.ignore_case ≡ options.ignore_case
-  between_ignores prefix [] suffix matcher made = ap (λ (m : MatcherView E). m.ignore_case) made
-  between_ignores prefix (part ∷ []) suffix matcher made = one_ignores part.kind part.modifier prefix part suffix matcher made
-  between_ignores prefix (part ∷ next ∷ parts) suffix matcher (engine, is, made) = ap (λ (m : MatcherView E). m.ignore_case) made
-
--- ---- what is accepted
-
-filled_folded : (allow_empty : Bool) (text : List ℕ) → MayBeEmpty allow_empty text → MayBeEmpty allow_empty (lower text)
-filled_folded true text filled = filled
-filled_folded false [] filled = absurd (filled refl)
-filled_folded false (c ∷ text) filled = λ same. cc
-
-filled_unfolded : (allow_empty : Bool) (text : List ℕ) → MayBeEmpty allow_empty (lower text) → MayBeEmpty allow_empty text
-filled_unfolded true text filled = filled
-filled_unfolded false text filled = λ same. filled (ap lower same)
-
-passes_folded : (filter : Option ℕ) (text : List ℕ) → PassesFilter true filter text → PassesFilter false (option_map (folded_character true) filter) (lower text)
-passes_folded None text passes = passes
-passes_folded (Some c) text passes = passes
-
-passes_unfolded : (filter : Option ℕ) (text : List ℕ) → PassesFilter false (option_map (folded_character true) filter) (lower text) → PassesFilter true filter text
-passes_unfolded None text passes = passes
-passes_unfolded (Some c) text passes = passes
-
--- the piece at its place
-piece : (front middle back text : List ℕ) → text ≡ front ++ middle ++ back → text_at text (length front, length middle) ≡ middle
-piece front middle back text cut =
-    ap (λ (t : List ℕ). take (length middle) (drop (length front) t)) (cut ∙ append_assoc front middle back)
-    ∙ ap (λ (t : List ℕ). take (length middle) t) (drop_at front (middle ++ back) (length front) refl) ∙ take_at middle back (length middle) refl
-
-text_at-folded : (text : List ℕ) (place : ℕ × ℕ) → text_at (lower text) place ≡ lower (text_at text place)
-text_at-folded text place =
-    ap (λ (t : List ℕ). take place.1 t) (drop-map to_ascii_lowercase place.0 text) ∙ take-map to_ascii_lowercase place.1 (drop place.0 text)
-
-module _ {E : Type 0} (answer : E → List ℕ → Option Captures) where
-  accepted_folded : (inner : InnerView E) (text middle : List ℕ) (place : ℕ × ℕ) (captures : Captures) → HoldsNoEngine inner → text_at text place ≡ middle → Accepts answer true inner middle captures →
-      (places : Places) × (captures ≡ texts_at text places) × Accepts answer false (folded_inner inner) (lower middle) (texts_at (lower text) places)
-  unfolding folded_inner
-  accepted_folded (Literal literal) text middle place captures none here (same, nothing) = ([], nothing, (same, refl))
-  accepted_folded (SingleCapture filter allow_empty) text middle place captures none here (filled, passes, is) = (
-    Some place ∷ [],
-    is ∙ ap (λ (t : List ℕ). Some t ∷ []) (sym here),
-    (
-      filled_folded allow_empty middle filled,
-      passes_folded filter middle passes,
-      ap (λ (t : List ℕ). Some t ∷ []) (text_at-folded text place ∙ ap lower here),
-    ),
+module _ (options : OptionsView) where
+  folded-append : (parts others : List PartView) (text rest : List ℕ) (captures more : Captures) → FoldedMean options parts text captures → FoldedMean options others rest more →
+      FoldedMean options (parts ++ others) (text ++ rest) (captures ++ more)
+  folded-append [] others text rest captures more (empty, nothing) means =
+      subst (λ (t : List ℕ). FoldedMean options others t (captures ++ more)) (ap (λ (t : List ℕ). t ++ rest) (sym empty))
+      (subst (λ (c : Captures). FoldedMean options others rest c) (ap (λ (c : Captures). c ++ more) (sym nothing)) means)
+  folded-append (part ∷ parts) others text rest captures more (first, after, own, behind, cut, is, stretch, mean) means = (
+    first,
+    after ++ rest,
+    own,
+    behind ++ more,
+    ap (λ (t : List ℕ). t ++ rest) cut ∙ append_assoc first after rest,
+    ap (λ (c : Captures). c ++ more) is ∙ append_assoc own behind more,
+    stretch,
+    folded-append parts others after rest behind more mean means,
   )
-  accepted_folded (RegExp engine) text middle place captures none here accepts = absurd none
 
-  accepted_unfolded : (inner : InnerView E) (middle : List ℕ) (captures : Captures) → HoldsNoEngine inner → Accepts answer false (folded_inner inner) (lower middle) captures →
-      (own : Captures) × Accepts answer true inner middle own
-  unfolding folded_inner
-  accepted_unfolded (Literal literal) middle captures none (same, nothing) = ([], (same, refl))
-  accepted_unfolded (SingleCapture filter allow_empty) middle captures none (filled, passes, is) =
-      (Some middle ∷ [], (filled_unfolded allow_empty middle filled, passes_unfolded filter middle passes, refl))
-  accepted_unfolded (RegExp engine) middle captures none accepts = absurd none
+  alone : (part : PartView) (stretch : List ℕ) (captures : Captures) → IsFoldedStretch options part stretch captures → FoldedMean options (part ∷ []) stretch captures
+  alone part stretch captures is = (stretch, [], captures, [], sym (append-nil stretch), sym (append-nil captures), is, (refl, refl))
 
-  -- ---- answers
+  -- a plain fixed text that is removed
+  end_means : (end : Option PartView) (IsThere : Type 0) (text : List ℕ) → IsRemoved end IsThere → lower text ≡ folded true (end_text end) → FoldedMean options (option_to_list end) text []
+  end_means None IsThere text removed same = (nothing_folded text same, refl)
+  end_means (Some part) IsThere text plain same = alone part text [] (record {
+    means = (plain_means {options = folded_options options} {text = lower text} {captures = []} (folded_part part) plain).1 (same, refl);
+    are_pieces = All-nil (IsPiece part text);
+  })
 
-  module _ (matcher : MatcherView E) (ignored : matcher.ignore_case ≡ true) (none : HoldsNoEngine matcher.inner) (text : List ℕ) where
-    matched_folded : (captures : Captures) → Matches answer matcher text captures → (places : Places) × (captures ≡ texts_at text places) × Matches answer (folded_matcher matcher) (lower text) (texts_at (lower text) places)
-    matched_folded captures (middle, (front, back, cut, begins, ends), accepts) =
-        let (places, pieces, folds) =
-        accepted_folded matcher.inner text middle (length front, length middle) captures none (piece front middle back text cut)
-        (subst (λ (b : Bool). Accepts answer b matcher.inner middle captures) ignored accepts) in
-        let folded_cut : lower text ≡ lower front ++ lower middle ++ lower back =
-        ap lower cut ∙ map-append to_ascii_lowercase (front ++ middle) back ∙ ap (λ (t : List ℕ). t ++ lower back) (map-append to_ascii_lowercase front middle) in (
-          places,
-          pieces,
-          (
-            lower middle,
-            (lower front, lower back, folded_cut, subst (λ (b : Bool). IsSame b front matcher.prefix) ignored begins, subst (λ (b : Bool). IsSame b back matcher.suffix) ignored ends),
-            folds,
-          ),
-        )
+  -- what a single capture takes is a piece of the part's stretch
+  piece_of : (part : PartView) (front back text begin stretch end head middle tail : List ℕ) → text ≡ begin ++ stretch ++ end → text ≡ head ++ middle ++ tail →
+      length begin ≡ length front → length end ≡ length back → length head ≡ length (front ++ part.prefix) → length tail ≡ length (part.suffix ++ back) → IsPiece part stretch (Some middle)
+  piece_of part front back text begin stretch end head middle tail cut also begins ends heads tails =
+      let n = length front in
+      let k = length part.suffix in
+      let heads_sum : length head ≡ n + length part.prefix = heads ∙ length-append front part.prefix in
+      let tails_sum : length tail ≡ k + length back = tails ∙ length-append part.suffix back in
+      let take_head : length (take n head) ≡ n = length-take-le n head (omega arith) in
+      let take_tail : length (take k tail) ≡ k = length-take-le k tail (omega arith) in
+      let before = drop n head in
+      let after = take k tail in
+      let drop_head : length before ≡ length part.prefix = length-drop n head ∙ omega arith in
+      let drop_tail : length (drop k tail) ≡ length back = length-drop k tail ∙ omega arith in
+      let behind = drop k tail in
+      let inner : (before ++ middle ++ after) ++ behind ≡ before ++ (middle ++ (after ++ behind)) = append_assoc (before ++ middle) after behind ∙ append_assoc before middle (after ++ behind) in
+      let whole : begin ++ (stretch ++ end) ≡ take n head ++ ((before ++ middle ++ after) ++ behind) =
+      sym (cut ∙ append_assoc begin stretch end) ∙ also ∙ append_assoc head middle tail
+      ∙ ap (λ (t : List ℕ). t ++ (middle ++ tail)) (sym (take-append-drop n head)) ∙ append_assoc (take n head) before (middle ++ tail)
+      ∙ ap (λ (t : List ℕ). take n head ++ (before ++ (middle ++ t))) (sym (take-append-drop k tail)) ∙ ap (λ (t : List ℕ). take n head ++ t) (sym inner) in
+      let rests : stretch ++ end ≡ (before ++ middle ++ after) ++ behind = rest_one begin (take n head) (stretch ++ end) ((before ++ middle ++ after) ++ behind) (begins ∙ sym take_head) whole in
+      let sums : length stretch + length end ≡ length (before ++ middle ++ after) + length behind = sym (length-append stretch end) ∙ ap length rests ∙ length-append (before ++ middle ++ after) behind in
+      let same : length stretch ≡ length (before ++ middle ++ after) = omega arith in
+      let is : stretch ≡ before ++ middle ++ after =
+      sym (take_at stretch end (length (before ++ middle ++ after)) same) ∙ ap (λ (t : List ℕ). take (length (before ++ middle ++ after)) t) rests
+      ∙ take_at (before ++ middle ++ after) behind (length (before ++ middle ++ after)) refl in
+      (before, after, is, drop_head, take_tail)
 
-    matched_unfolded : (captures : Captures) → Matches answer (folded_matcher matcher) (lower text) captures → (own : Captures) × Matches answer matcher text own
-    matched_unfolded captures (middle, (front, back, cut, begins, ends), accepts) =
-        let a = length front in
-        let m = length middle in
-        let rest = drop a text in
-        let is_rest : lower rest ≡ middle ++ back =
-        sym (drop-map to_ascii_lowercase a text) ∙ ap (λ (t : List ℕ). drop a t) (cut ∙ append_assoc front middle back) ∙ drop_at front (middle ++ back) a refl in
-        let is_front : lower (take a text) ≡ front =
-        sym (take-map to_ascii_lowercase a text) ∙ ap (λ (t : List ℕ). take a t) (cut ∙ append_assoc front middle back) ∙ take_at front (middle ++ back) a refl in
-        let is_middle : lower (take m rest) ≡ middle = sym (take-map to_ascii_lowercase m rest) ∙ ap (λ (t : List ℕ). take m t) is_rest ∙ take_at middle back m refl in
-        let is_back : lower (drop m rest) ≡ back = sym (drop-map to_ascii_lowercase m rest) ∙ ap (λ (t : List ℕ). drop m t) is_rest ∙ drop_at middle back m refl in
-        let (own, takes) =
-        accepted_unfolded matcher.inner (take m rest) captures none
-        (subst (λ (t : List ℕ). Accepts answer false (folded_inner matcher.inner) t captures) (sym is_middle) accepts) in (
-          own,
-          (
-            take m rest,
-            (
-              take a text,
-              drop m rest,
-              cut_in_three a m text,
-              subst (λ (b : Bool). IsSame b (take a text) matcher.prefix) (sym ignored) (is_front ∙ begins),
-              subst (λ (b : Bool). IsSame b (drop m rest) matcher.suffix) (sym ignored) (is_back ∙ ends),
-            ),
-            subst (λ (b : Bool). Accepts answer b matcher.inner (take m rest) own) (sym ignored) takes,
-          ),
-        )
+module _ {E : Type 0} (answer : E → List ℕ → Option Captures) (IsEngine : List ℕ → Result E ErrorView → Type 0) (options : OptionsView) where
+  capture_pieces : (front : List ℕ) (part : PartView) (back : List ℕ) (filter : Option ℕ) (allow_empty : Bool) (text begin stretch end : List ℕ) (captures : Captures) →
+      Matches answer (single_capture_matcher options front part back filter allow_empty) text captures → text ≡ begin ++ stretch ++ end → length begin ≡ length front → length end ≡ length back →
+      All (IsPiece part stretch) captures
+  capture_pieces front part back filter allow_empty text begin stretch end captures (middle, (head, tail, also, heads, tails), (filled, passes, is)) cut begins ends =
+      subst (λ (c : Captures). All (IsPiece part stretch) c) (sym is)
+      (All-cons (IsPiece part stretch) (Some middle) []
+      (piece_of options part front back text begin stretch end head middle tail cut also begins ends (same-length options.ignore_case head (front ++ part.prefix) heads)
+      (same-length options.ignore_case tail (part.suffix ++ back) tails))
+      (All-nil (IsPiece part stretch)))
 
-    answers_folded : (result : Option Captures) → Answers answer matcher text result →
-        (places : Option Places) × (result ≡ option_map (texts_at text) places) × Answers answer (folded_matcher matcher) (lower text) (option_map (texts_at (lower text)) places)
-    answers_folded (Some captures) matches =
-        let (places, pieces, folds) = matched_folded captures matches in
-        (Some places, ap Some pieces, folds)
-    answers_folded None never = (None, refl, λ captures matches. let (own, is) = matched_unfolded captures matches in never own is)
+  one_pieces : (kind : PartType) (modifier : PartModifier) (front : List ℕ) (part : PartView) (back : List ℕ) (matcher : MatcherView E) (text begin stretch end : List ℕ) (captures : Captures) →
+      HoldsNoEngine matcher.inner → IsMadeOfOne IsEngine kind modifier options front part back matcher → Matches answer matcher text captures →
+      text ≡ begin ++ stretch ++ end → length begin ≡ length front → length end ≡ length back → All (IsPiece part stretch) captures
+  one_pieces FullWildcard modifiers.None front part back matcher text begin stretch end captures none made matches cut begins ends =
+      capture_pieces front part back None true text begin stretch end captures (subst (λ (m : MatcherView E). Matches answer m text captures) made matches) cut begins ends
+  one_pieces SegmentWildcard modifiers.None front part back matcher text begin stretch end captures none made matches cut begins ends =
+      capture_pieces front part back options.delimiter false text begin stretch end captures (subst (λ (m : MatcherView E). Matches answer m text captures) made matches) cut begins ends
+  one_pieces kind modifier front part back matcher text begin stretch end captures none (engine, is, made) matches cut begins ends = absurd (no_engine IsEngine options matcher _ engine none made refl)
 
-  asks_none : (options : OptionsView) (parts : List PartView) (inner : InnerView E) → HoldsNoEngine inner → AnswersFirstInMiddle answer options parts (folded_inner inner)
-  unfolding folded_inner
-  asks_none options parts (Literal literal) none = tt
-  asks_none options parts (SingleCapture filter allow_empty) none = tt
-  asks_none options parts (RegExp engine) none = absurd none
+  between_means : (front : List ℕ) (middle : List PartView) (back : List ℕ) (matcher : MatcherView E) (text begin stretch end : List ℕ) (captures : Captures) →
+      HoldsNoEngine matcher.inner → IsMadeBetween IsEngine options front middle back matcher → Matches answer matcher text captures →
+      text ≡ begin ++ stretch ++ end → length begin ≡ length front → length end ≡ length back →
+      PartsMean (folded_options options) (folded_parts middle) (lower stretch) (folded_captures captures) → FoldedMean options middle stretch captures
+  between_means front [] back matcher text begin stretch end captures none made matches cut begins ends (empty, nothing) = (nothing_folded stretch empty, none_folded captures nothing)
+  between_means front (part ∷ []) back matcher text begin stretch end captures none made matches cut begins ends means = alone options part stretch captures (record {
+    means = part_alone {options = folded_options options} {part = folded_part part} {text = lower stretch} {captures = folded_captures captures} means;
+    are_pieces = one_pieces part.kind part.modifier front part back matcher text begin stretch end captures none made matches cut begins ends;
+  })
+  between_means front (part ∷ next ∷ parts) back matcher text begin stretch end captures none (engine, is, made) matches cut begins ends means =
+      absurd (no_engine IsEngine options matcher _ engine none made refl)
 
-  matcher_folded : (IsEngine : List ℕ → Result E ErrorView → Type 0) (options : OptionsView) (parts : List PartView) (matcher : MatcherView E) (text : List ℕ) (result : Option Captures) →
-      IsMadeOf IsEngine options parts matcher → AreGenerated parts → options.ignore_case ≡ true → HoldsNoEngine matcher.inner → IsTrue (lacks line_feed text) → IsTrue (all_scalars text) →
-      Answers answer matcher text result → IsFoldedFirst options parts text result
-  matcher_folded IsEngine options parts matcher text result made generated ignored none no_feed scalars answers =
-      let ignores : matcher.ignore_case ≡ true = between_ignores IsEngine options (end_text made.front) made.middle (end_text made.back) matcher made.is_made ∙ ignored in
-      let (places, pieces, folds) = answers_folded matcher ignores none text result answers in
-      record {
-        places = places;
-        are_pieces = pieces;
-        is_first =
-            matcher_first answer IsEngine (folded_options options) (folded_parts parts) (folded_matcher matcher) (lower text) (option_map (texts_at (lower text)) places)
-            (made_folded IsEngine options parts matcher none made) (All-map (λ (part : PartView). part.kind ≢ Regexp) folded_part parts generated) refl
-            (lower_lacks text no_feed) (lower_scalars text scalars) (asks_none (folded_options options) (folded_parts parts) matcher.inner none) folds;
-      }
+  matched_means : (parts : List PartView) (matcher : MatcherView E) (text : List ℕ) (captures : Captures) → HoldsNoEngine matcher.inner → IsMadeOf IsEngine options parts matcher → Matches answer matcher text captures →
+      PartsMean (folded_options options) (folded_parts parts) (lower text) (folded_captures captures) → FoldedMean options parts text captures
+  matched_means parts matcher text captures none made matches means =
+      let front = made.front in
+      let middle = made.middle in
+      let back = made.back in
+      let peeled = peeled_folded parts front middle back made.are_peeled in
+      let (inner, cut, inside) =
+      (peeled_means (folded_options options) (folded_parts parts) (option_map folded_part front) (folded_parts middle) (option_map folded_part back) (lower text) (folded_captures captures) peeled).0 means in
+      let (begin, stretch, end, is_cut, is_begin, is_stretch, is_end) = cut_unfolded text (end_text (option_map folded_part front)) inner (end_text (option_map folded_part back)) cut in
+      let begins : lower begin ≡ folded true (end_text front) = is_begin ∙ sym (end_folded front) in
+      let ends : lower end ≡ folded true (end_text back) = is_end ∙ sym (end_folded back) in
+      let between : FoldedMean options middle stretch captures =
+      between_means (end_text front) middle (end_text back) matcher text begin stretch end captures none made.is_made matches is_cut
+      (same-length true begin (end_text front) begins) (same-length true end (end_text back) ends)
+      (subst (λ (t : List ℕ). PartsMean (folded_options options) (folded_parts middle) t (folded_captures captures)) (sym is_stretch) inside) in
+      let first : FoldedMean options (option_to_list front ++ middle) (begin ++ stretch) captures =
+      folded-append options (option_to_list front) middle begin stretch [] captures (end_means options front (BeginsPlain parts) begin made.are_peeled.front_removed begins) between in
+      let whole : FoldedMean options (option_to_list front ++ middle ++ option_to_list back) (begin ++ stretch ++ end) (captures ++ []) =
+      folded-append options (option_to_list front ++ middle) (option_to_list back) (begin ++ stretch) end captures [] first (end_means options back (EndsPlain middle) end made.are_peeled.back_removed ends) in
+      subst (λ (c : Captures). FoldedMean options parts text c) (append-nil captures)
+      (subst (λ (t : List ℕ). FoldedMean options parts t (captures ++ [])) (sym is_cut)
+      (subst (λ (ps : List PartView). FoldedMean options ps (begin ++ stretch ++ end) (captures ++ [])) (sym made.are_peeled.cut) whole))
+
+  matcher_folded : (parts : List PartView) (matcher : MatcherView E) (text : List ℕ) (result : Option Captures) → IsMadeOf IsEngine options parts matcher → AreGenerated parts → options.ignore_case ≡ true →
+      HoldsNoEngine matcher.inner → IsTrue (lacks line_feed text) → IsTrue (all_scalars text) → Answers answer matcher text result → IsFoldedFirst options parts text result
+  matcher_folded parts matcher text result made generated ignored none no_feed scalars answers =
+      record { is_first = first; are_pieces = pieces result answers (first_agrees (folded_options options) (folded_parts parts) (lower text) (option_map folded_captures result) also_generated first) }
+    where
+      ignores : matcher.ignore_case ≡ true
+      ignores = between_ignores IsEngine options (end_text made.front) made.middle (end_text made.back) matcher made.is_made ∙ ignored
+
+      also_generated : AreGenerated (folded_parts parts)
+      also_generated = All-map (λ (part : PartView). part.kind ≢ Regexp) folded_part parts generated
+
+      first : IsFirstOf (folded_options options) (folded_parts parts) (lower text) (option_map folded_captures result)
+      first =
+          matcher_first answer IsEngine (folded_options options) (folded_parts parts) (folded_matcher matcher) (lower text) (option_map folded_captures result)
+          (made_folded IsEngine options parts matcher none made) also_generated refl (lower_lacks text no_feed) (lower_scalars text scalars)
+          (asks_none answer (folded_options options) (folded_parts parts) matcher.inner none) (answers_folded answer matcher ignores none text result answers)
+
+      pieces : (found : Option Captures) → Answers answer matcher text found → Agrees (folded_options options) (folded_parts parts) (lower text) (option_map folded_captures found) →
+          IfSome found (FoldedMean options parts text)
+      pieces None never agrees = tt
+      pieces (Some captures) matches means = matched_means parts matcher text captures none made matches means
 
 -- ---- components
 

@@ -11,4 +11,5 @@ pub mod MatchersDecide
 pub mod ByTextLemmas
 pub mod OutcomesOne
 pub mod OutcomesExist
+pub mod FoldedMatchers
 pub mod FoldedWays

@@ -21,7 +21,7 @@ use Rattle.urlpattern_meaning.specs.Printing.{printed}
 use Rattle.urlpattern_pattern.proofs.MatchersDecide.{Decided, answered, bool_decided, text_decided}
 use Rattle.urlpattern_pattern.specs.Compiled.{FirstRefused, HasHierarchicalPath, IsComponentCompiled, IsComponentRefused, IsPathKind, IsPatternOfInit, Manner, RefusesInit, after_protocol, canonical_encoding, is_mark, manner_of, pattern_values, without_default_port}
 use Rattle.urlpattern_pattern.specs.Meaning.{ReadsAs}
-use Rattle.urlpattern_pattern.specs.Outcomes.{InitsHaveOutcomes, InitsHaveValues, IsOfTexts, TakesOrMayRefuse, UrlAnswers, of_texts}
+use Rattle.urlpattern_pattern.specs.Outcomes.{EngineAnswers, InitsHaveOutcomes, InitsHaveValues, IsOfTexts, UrlAnswers, of_texts}
 use Rattle.urlpattern_pattern.specs.Patterns.{PatternView}
 use Rattle.urlpattern_syntax.specs.declared.eight.ComponentName.{ComponentName}
 use Rattle.urlpattern_syntax.specs.declared.eight.ComponentName.TheVariants.{Protocol, Username, Password, Hostname, Port, Pathname, Search, Hash}
@@ -78,26 +78,29 @@ peeled (part ∷ parts) = front_end part parts (bool_decided (is_plain part))
 
 -- ---- matchers
 
-module _ {E : Type 0} (IsEngine : List ℕ → Result E ErrorView → Type 0) (every : (regexp : List ℕ) → (made : Result E ErrorView) × IsEngine regexp made) (options : OptionsView) where
-  by_engine : (prefix : List ℕ) (middle : List PartView) (suffix : List ℕ) → (matcher : MatcherView E) × IsMadeByEngine IsEngine options prefix middle suffix matcher
-  by_engine prefix middle suffix =
-      let (made, is) = every (regexp_text options middle) in
-      (record { prefix = prefix; suffix = suffix; inner = RegExp made; ignore_case = options.ignore_case }, (made, is, refl))
+module _ {E : Type 0} (IsEngine : List ℕ → Result E ErrorView → Type 0) (options : OptionsView) where
+  -- what the engine makes of these parts
+  abbrev Makes : List PartView → Type 0
+  Makes parts = (made : Result E ErrorView) × IsEngine (regexp_text options parts) made
 
-  of_one : (kind : PartType) (modifier : PartModifier) (prefix : List ℕ) (part : PartView) (suffix : List ℕ) → (matcher : MatcherView E) × IsMadeOfOne IsEngine kind modifier options prefix part suffix matcher
-  of_one FullWildcard modifiers.None prefix part suffix = (single_capture_matcher options prefix part suffix None true, refl)
-  of_one SegmentWildcard modifiers.None prefix part suffix = (single_capture_matcher options prefix part suffix options.delimiter false, refl)
-  of_one kind modifier prefix part suffix = by_engine prefix (part ∷ []) suffix
+  by_engine : (prefix : List ℕ) (middle : List PartView) (suffix : List ℕ) → Makes middle → (matcher : MatcherView E) × IsMadeByEngine IsEngine options prefix middle suffix matcher
+  by_engine prefix middle suffix (made, is) = (record { prefix = prefix; suffix = suffix; inner = RegExp made; ignore_case = options.ignore_case }, (made, is, refl))
 
-  between : (prefix : List ℕ) (middle : List PartView) (suffix : List ℕ) → (matcher : MatcherView E) × IsMadeBetween IsEngine options prefix middle suffix matcher
-  between prefix [] suffix = (record { prefix = []; suffix = []; inner = Literal (prefix ++ suffix); ignore_case = options.ignore_case }, refl)
-  between prefix (part ∷ []) suffix = of_one part.kind part.modifier prefix part suffix
-  between prefix (part ∷ next ∷ parts) suffix = by_engine prefix (part ∷ next ∷ parts) suffix
+  of_one : (kind : PartType) (modifier : PartModifier) (prefix : List ℕ) (part : PartView) (suffix : List ℕ) → Makes (part ∷ []) →
+      (matcher : MatcherView E) × IsMadeOfOne IsEngine kind modifier options prefix part suffix matcher
+  of_one FullWildcard modifiers.None prefix part suffix makes = (single_capture_matcher options prefix part suffix None true, refl)
+  of_one SegmentWildcard modifiers.None prefix part suffix makes = (single_capture_matcher options prefix part suffix options.delimiter false, refl)
+  of_one kind modifier prefix part suffix makes = by_engine prefix (part ∷ []) suffix makes
 
-  matcher_exists : (parts : List PartView) → (matcher : MatcherView E) × IsMadeOf IsEngine options parts matcher
-  matcher_exists parts =
+  between : (prefix : List ℕ) (middle : List PartView) (suffix : List ℕ) → Makes middle → (matcher : MatcherView E) × IsMadeBetween IsEngine options prefix middle suffix matcher
+  between prefix [] suffix makes = (record { prefix = []; suffix = []; inner = Literal (prefix ++ suffix); ignore_case = options.ignore_case }, refl)
+  between prefix (part ∷ []) suffix makes = of_one part.kind part.modifier prefix part suffix makes
+  between prefix (part ∷ next ∷ parts) suffix makes = by_engine prefix (part ∷ next ∷ parts) suffix makes
+
+  matcher_exists : (parts : List PartView) → ((before middle after : List PartView) → parts ≡ before ++ middle ++ after → Makes middle) → (matcher : MatcherView E) × IsMadeOf IsEngine options parts matcher
+  matcher_exists parts makes =
       let (front, middle, back, are_peeled) = peeled parts in
-      let (matcher, is_made) = between (end_text front) middle (end_text back) in
+      let (matcher, is_made) = between (end_text front) middle (end_text back) (makes (option_to_list front) middle (option_to_list back) are_peeled.cut) in
       (matcher, record { front = front; middle = middle; back = back; are_peeled = are_peeled; is_made = is_made })
 
 -- ---- refusals of texts
@@ -119,7 +122,12 @@ abbrev Outcome : {E : Type 0} → Engine E → Manner → Type 0
 Outcome {E} engine manner =
     ((compiled : ComponentView E) × IsComponentCompiled engine manner compiled) ⊎ ((error : ErrorView) × IsOfTexts error × IsComponentRefused engine manner error)
 
-module _ {E : Type 0} (engine : Engine E) (every : TakesOrMayRefuse engine) (manner : Manner) where
+-- the engine answers for parts in a row that the pattern text reads as
+abbrev AnswersParts : {E : Type 0} → Engine E → Manner → Type 0
+AnswersParts {E} engine manner = (parts before middle after : List PartView) → ReadsAs manner parts → parts ≡ before ++ middle ++ after →
+    (made : Result E ErrorView) × IsEngineOf engine false (engine_flags manner.options) (regexp_text manner.options middle) made
+
+module _ {E : Type 0} (engine : Engine E) (manner : Manner) (every : AnswersParts engine manner) where
   of_made : (parts : List PartView) (matcher : MatcherView E) (made : Result E ErrorView) → ReadsAs manner parts → IsMadeOf (IsEngineOf engine false (engine_flags manner.options)) manner.options parts matcher →
       IsEngineOf engine false (engine_flags manner.options) (regexp_text manner.options parts) made → Outcome engine manner
   of_made parts matcher (Ok value) reads is_made is = inl (
@@ -138,12 +146,13 @@ module _ {E : Type 0} (engine : Engine E) (every : TakesOrMayRefuse engine) (man
   )
 
   of_reading : HasSomeOutcome manner.text manner.options (of_texts (canonical_encoding manner.canonical)) → Outcome engine manner
-  of_reading (Ok parts, reads) =
-      let flags = engine_flags manner.options in
-      let (made, is) = every flags (regexp_text manner.options parts) in
-      let (matcher, is_made) = matcher_exists (IsEngineOf engine false flags) (every flags) manner.options parts in
-      of_made parts matcher made
-      (reads_weaker (of_texts (canonical_encoding manner.canonical)) (canonical_encoding manner.canonical) (λ text answer both. both.0) manner.text manner.options parts reads) is_made is
+  of_reading (Ok parts, strongly) =
+      let reads : ReadsAs manner parts =
+      reads_weaker (of_texts (canonical_encoding manner.canonical)) (canonical_encoding manner.canonical) (λ text answer both. both.0) manner.text manner.options parts strongly in
+      let (made, is) = every parts [] parts [] reads (sym (append-nil parts)) in
+      let (matcher, is_made) =
+      matcher_exists (IsEngineOf engine false (engine_flags manner.options)) manner.options parts (λ before middle after cut. every parts before middle after reads cut) in
+      of_made parts matcher made reads is_made is
   of_reading (Err error, refuses) = inr (
     error,
     refusal_of_texts manner.text manner.options (canonical_encoding manner.canonical) error refuses,
@@ -246,7 +255,7 @@ inits_have_values init =
     let (values, is) = pattern-processed (values_view init) init.base_url in
     (without_default_port values, rw is refl)
 
-module _ {E : Type 0} (engine : Engine E) (every : TakesOrMayRefuse engine) (init : UrlPatternInit) (asked : UrlPatternOptions) (values : Values) (are_values : pattern_values init ≡ Ok values)
+module _ {E : Type 0} (engine : Engine E) (init : UrlPatternInit) (asked : UrlPatternOptions) (values : Values) (are_values : pattern_values init ≡ Ok values) (every : EngineAnswers engine asked values)
     (answers : UrlAnswers asked values) where
   abbrev manner_by : Bool → ComponentName → Manner
   manner_by kind = manner_of asked values kind
@@ -268,8 +277,9 @@ module _ {E : Type 0} (engine : Engine E) (every : TakesOrMayRefuse engine) (ini
   by_protocol (inl (protocol, is_compiled)) =
       let (kind, path_kind) = path_kind_exists engine.answer protocol.matcher values in
       by_rest protocol kind is_compiled path_kind
-      (all_or_refused engine (manner_by kind) (λ component. component_outcome engine every (manner_by kind component) (answers kind component)) after_protocol)
+      (all_or_refused engine (manner_by kind) (λ component. component_outcome engine (manner_by kind component) (every kind component) (answers kind component)) after_protocol)
 
 pub init_outcome : {E : Type 0} (engine : Engine E) → InitsHaveOutcomes engine
-init_outcome engine every init asked values are_values answers =
-    by_protocol engine every init asked values are_values answers (component_outcome engine every (manner_of asked values false Protocol) (answers false Protocol))
+init_outcome engine init asked values are_values every answers =
+    by_protocol engine init asked values are_values every answers
+    (component_outcome engine (manner_of asked values false Protocol) (every false Protocol) (answers false Protocol))

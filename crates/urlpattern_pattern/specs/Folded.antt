@@ -1,12 +1,16 @@
 -- What a component answers where case is ignored: the texts are folded to be compared, and the captures are of the text itself.
-use Rattle.std.specs.Prelude.{◌≡◌, ℕ, true, false, List, Option, option_map, map, take, drop}
-use Rattle.urlpattern_core.specs.{Components.ComponentView, Generated.AreGenerated}
+use Rattle.std.specs.Prelude.{◌≡◌, All, ℕ, true, false, List, [], ◌∷◌, ◌++◌, length, map, Option, Some, None, IfSome, option_map}
+use Rattle.urlpattern_core.specs.Components.{ComponentView}
+use Rattle.urlpattern_core.specs.Generated.{AreGenerated}
 use Rattle.urlpattern_core.specs.declared.regexp.RegExp.{Ghosts as Engine}
 use Rattle.urlpattern_init.specs.UrlTexts.{IsLine}
-use Rattle.urlpattern_meaning.specs.{FirstAnswers.IsFirstOf, PartMeaning.Captures}
+use Rattle.urlpattern_meaning.specs.FirstAnswers.{IsFirstOf}
 use Rattle.urlpattern_meaning.specs.Matching.{Answers, InnerView, Literal, RegExp, SingleCapture, folded, folded_character}
-use Rattle.urlpattern_syntax.specs.{Options.OptionsView, Parts.PartView}
-use Rattle.urlpattern_pattern.specs.{Compiled.IsComponentCompiled, Compiled.Manner, Meaning.ReadsAs}
+use Rattle.urlpattern_meaning.specs.PartMeaning.{Captures, PartMeans}
+use Rattle.urlpattern_syntax.specs.Options.{OptionsView}
+use Rattle.urlpattern_syntax.specs.Parts.{PartView}
+use Rattle.urlpattern_pattern.specs.Compiled.{IsComponentCompiled, Manner}
+use Rattle.urlpattern_pattern.specs.Meaning.{ReadsAs}
 
 -- ---- what is compared
 
@@ -23,23 +27,34 @@ folded_options options = record options { delimiter = option_map (folded_charact
 
 -- ---- what is captured
 
--- where groups capture: after so many characters so many; None where a group takes no part
-abbrev pub Places : Type 0
-Places = List (Option (ℕ × ℕ))
+abbrev pub folded_captures : Captures → Captures
+folded_captures captures = map (λ capture. option_map (folded true) capture) captures
 
-abbrev pub text_at : List ℕ → ℕ × ℕ → List ℕ
-text_at text place = take place.1 (drop place.0 text)
+-- a capture is a piece of the part's stretch: before it stand as many characters as the prefix has, and after it as many as
+-- the suffix has
+abbrev pub IsPiece : PartView → (stretch : List ℕ) → Option (List ℕ) → Type 0
+IsPiece part stretch None = Unit {0}
+IsPiece part stretch (Some piece) =
+    (before after : List ℕ) × (stretch ≡ before ++ piece ++ after)
+    × (length before ≡ length part.prefix) × (length after ≡ length part.suffix)
 
-abbrev pub texts_at : List ℕ → Places → Captures
-texts_at text places = map (λ place. option_map (text_at text) place) places
+-- The part stands for the stretch but for case, and captures these pieces of it.
+pub record IsFoldedStretch (options : OptionsView) (part : PartView) (stretch : List ℕ) (captures : Captures) : Type 0 where
+  pub means : PartMeans (folded_options options) (folded_part part) (folded true stretch) (folded_captures captures)
+  pub are_pieces : All (IsPiece part stretch) captures
 
--- The captures are the pieces of the text at the places of the first way in which the folded parts take the folded text; None
--- where they take it in no way.
+-- the parts stand for the text but for case, one stretch each, and capture this
+abbrev pub FoldedMean : OptionsView → List PartView → List ℕ → Captures → Type 0
+FoldedMean options [] text captures = (text ≡ []) × (captures ≡ [])
+FoldedMean options (part ∷ parts) text captures =
+    (first rest : List ℕ) × (own others : Captures) × (text ≡ first ++ rest) × (captures ≡ own ++ others)
+    × IsFoldedStretch options part first own × FoldedMean options parts rest others
+
+-- Folded, the captures are those of the first way in which the folded parts take the folded text, or None where they take it in
+-- no way. The captures themselves are pieces of the text.
 pub record IsFoldedFirst (options : OptionsView) (parts : List PartView) (text : List ℕ) (captures : Option Captures) : Type 0 where
-  pub places : Option Places
-  pub are_pieces : captures ≡ option_map (texts_at text) places
-  pub is_first : IsFirstOf (folded_options options) (folded_parts parts) (folded true text)
-      (option_map (texts_at (folded true text)) places)
+  pub is_first : IsFirstOf (folded_options options) (folded_parts parts) (folded true text) (option_map folded_captures captures)
+  pub are_pieces : IfSome captures (FoldedMean options parts text)
 
 -- So it is of the parts as which the pattern text reads.
 pub record IsFoldedWay (manner : Manner) (text : List ℕ) (captures : Option Captures) : Type 0 where

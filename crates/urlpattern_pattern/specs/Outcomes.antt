@@ -1,5 +1,5 @@
 -- The sentences of the laws on what becomes of an init: a pattern, or a refusal.
-use Rattle.std.specs.Prelude.{◌≡◌, ◌≢◌, ◌⊎◌, ℕ, Bool, false, List, Option, Result, Ok, Err}
+use Rattle.std.specs.Prelude.{◌≡◌, ◌≢◌, ◌⊎◌, ℕ, Bool, false, List, ◌++◌, Result, Ok, Err}
 use Rattle.url.specs.declared.error.ParseError.TheVariants.{Overflow}
 use Rattle.urlpattern_core.specs.Components.{ComponentView, IsEngineOf, IsWholeEngineOf, engine_flags, has_regexp}
 use Rattle.urlpattern_core.specs.Generated.{AreGenerated}
@@ -67,10 +67,6 @@ DecidesGenerated engine = (asked : UrlPatternOptions) (values : Values) → None
 abbrev pub FirstWaysDecide : {E : Type 0} → Engine E → Type 0
 FirstWaysDecide engine = MakesFirstWays engine → TakesOrRefusesGenerated engine → DecidesGenerated engine
 
--- of each regular expression the engine makes a value, or it may refuse it
-abbrev pub TakesOrMayRefuse : {E : Type 0} → Engine E → Type 0
-TakesOrMayRefuse {E} engine = (flags regexp : List ℕ) → (made : Result E ErrorView) × IsEngineOf engine false flags regexp made
-
 -- ---- one outcome
 
 -- the init is not both compiled to a pattern and refused
@@ -99,10 +95,18 @@ UrlAnswers asked values = (hierarchical : Bool) (component : ComponentName) →
     let manner = manner_of asked values hierarchical component in
     AnswersAsked manner.text manner.options (of_texts (canonical_encoding manner.canonical))
 
+-- the engine makes a value of the regular expression of parts in a row that a pattern text reads as, or it may refuse it
+abbrev pub EngineAnswers : {E : Type 0} → Engine E → UrlPatternOptions → Values → Type 0
+EngineAnswers {E} engine asked values =
+    (hierarchical : Bool) (component : ComponentName) (parts before middle after : List PartView) →
+    let manner = manner_of asked values hierarchical component in
+    ReadsAs manner parts → parts ≡ before ++ middle ++ after →
+    (made : Result E ErrorView) × IsEngineOf engine false (engine_flags manner.options) (regexp_text manner.options middle) made
+
 -- the init is compiled to a pattern, or it is refused
 abbrev pub InitsHaveOutcomes : {E : Type 0} → Engine E → Type 0
 InitsHaveOutcomes {E} engine =
-    TakesOrMayRefuse engine → (init : UrlPatternInit) (asked : UrlPatternOptions) (values : Values) →
-    pattern_values init ≡ Ok values → UrlAnswers asked values →
+    (init : UrlPatternInit) (asked : UrlPatternOptions) (values : Values) →
+    pattern_values init ≡ Ok values → EngineAnswers engine asked values → UrlAnswers asked values →
     ((pattern : PatternView E) × IsPatternOfInit engine init asked pattern)
     ⊎ ((error : ErrorView) × IsOfTexts error × RefusesInit engine init asked error)
