@@ -1,16 +1,12 @@
 -- What a component answers where case is ignored: the texts are folded to be compared, and the captures are of the text itself.
 use Rattle.std.specs.Prelude.{◌≡◌, All, ℕ, true, false, List, [], ◌∷◌, ◌++◌, length, map, Option, Some, None, IfSome, option_map}
-use Rattle.urlpattern_core.specs.Components.{ComponentView}
-use Rattle.urlpattern_core.specs.Generated.{AreGenerated}
+use Rattle.urlpattern_core.specs.{Components.ComponentView, Generated.AreGenerated}
 use Rattle.urlpattern_core.specs.declared.regexp.RegExp.{Ghosts as Engine}
 use Rattle.urlpattern_init.specs.UrlTexts.{IsLine}
-use Rattle.urlpattern_meaning.specs.FirstAnswers.{IsFirstOf}
+use Rattle.urlpattern_meaning.specs.{FirstAnswers.IsFirstOf, PartMeaning.Captures, PartMeaning.PartMeans}
 use Rattle.urlpattern_meaning.specs.Matching.{Answers, InnerView, Literal, RegExp, SingleCapture, folded, folded_character}
-use Rattle.urlpattern_meaning.specs.PartMeaning.{Captures, PartMeans}
-use Rattle.urlpattern_syntax.specs.Options.{OptionsView}
-use Rattle.urlpattern_syntax.specs.Parts.{PartView}
-use Rattle.urlpattern_pattern.specs.Compiled.{IsComponentCompiled, Manner}
-use Rattle.urlpattern_pattern.specs.Meaning.{ReadsAs}
+use Rattle.urlpattern_syntax.specs.{Options.OptionsView, Parts.PartView}
+use Rattle.urlpattern_pattern.specs.{Compiled.IsComponentCompiled, Compiled.Manner, Meaning.ReadsAs}
 
 -- ---- what is compared
 
