@@ -13,6 +13,7 @@ use urlpattern::regexp::PatternRegexp;
 use urlpattern::{Error, UrlPattern, UrlPatternOptions};
 use urlpattern_init::laws::texts_are_lines;
 
+// docs: users
 /// The users under `https://example.com/users/`, with the pattern of their URLs, which is compiled once.
 #[derive(Drop)]
 pub struct Users {
@@ -58,3 +59,4 @@ impl Users {
         router::user(alloc, &self.pattern, url)
     }
 }
+// docs: end
