@@ -116,9 +116,9 @@ unfolding is_line
 special_lines =
     let all = AllPass-from_list_all (λ (scheme : List ℕ × Option (List ℕ)). is_line scheme.0) special_schemes refl in
     λ k scheme lt.
-        let here = (slice_index_or special_schemes k scheme).0 in
-        let both = and_parts (all_scalars here) (lacks line_feed here) (all k scheme lt) in
-        record { characters = both.0; no_line_feed = both.1 }
+    let here = (slice_index_or special_schemes k scheme).0 in
+    let both = and_parts (all_scalars here) (lacks line_feed here) (all k scheme lt) in
+    record { characters = both.0; no_line_feed = both.1 }
 
 module _ {E : Type 0} (answer : E → List ℕ → Option Captures) (manner : Manner) (protocol : ComponentView E) (by : AnswersByText answer manner protocol) where
   line_at : (k : ℕ) (scheme : List ℕ × Option (List ℕ)) → k < length special_schemes → slice_index_or special_schemes k scheme ≡ scheme → IsLine scheme.0

@@ -44,8 +44,7 @@ three_cut front middle back text a c cut fronts backs =
     let whole : text ≡ front ++ (middle ++ back) = cut ∙ append_assoc front middle back in
     let rest : middle ++ back ≡ drop a text = sym (drop_at front (middle ++ back) a fronts) ∙ ap (λ t. drop a t) (sym whole) in
     let sum : length middle + length back ≡ length (drop a text) = sym (length-append middle back) ∙ ap length rest in
-    let long : length middle ≡ length (drop a text) - c = omega arith in
-    (
+    let long : length middle ≡ length (drop a text) - c = omega arith in (
       sym (take_at front (middle ++ back) a fronts) ∙ ap (λ t. take a t) (sym whole),
       sym (drop_at middle back (length (drop a text) - c) long) ∙ ap (λ t. drop (length (drop a text) - c) t) rest,
     )
@@ -65,8 +64,7 @@ module _ {E : Type 0} (matcher : MatcherView E) (text : List ℕ) where
 
   ends_of : (cut : IsCut) → (IsSame matcher.ignore_case front_of matcher.prefix) × (IsSame matcher.ignore_case back_of matcher.suffix)
   ends_of (middle, (front, back, cut, begins, ends)) =
-      let here = three_cut front middle back text (length matcher.prefix) (length matcher.suffix) cut (same-length matcher.ignore_case front matcher.prefix begins) (same-length matcher.ignore_case back matcher.suffix ends) in
-      (
+      let here = three_cut front middle back text (length matcher.prefix) (length matcher.suffix) cut (same-length matcher.ignore_case front matcher.prefix begins) (same-length matcher.ignore_case back matcher.suffix ends) in (
         subst (λ (t : List ℕ). IsSame matcher.ignore_case t matcher.prefix) here.0 begins,
         subst (λ (t : List ℕ). IsSame matcher.ignore_case t matcher.suffix) here.1 ends,
       )
@@ -122,8 +120,11 @@ answered {E} answer matcher text = by_middle (cut_decided matcher text)
   where
     by_inner : (middle : List ℕ) → HasMiddle matcher text middle → Decided (IsAccepted answer matcher.ignore_case matcher.inner middle) → (result : Option Captures) × Answers answer matcher text result
     by_inner middle has (inl (captures, accepts)) = (Some captures, (middle, has, accepts))
-    by_inner middle has (inr neither) = (None, λ captures matches.
-        neither (captures, subst (λ (t : List ℕ). Accepts answer matcher.ignore_case matcher.inner t captures) (middle-one matcher text matches.0 middle matches.1 has) matches.2))
+    by_inner middle has (inr neither) = (
+      None,
+      λ captures matches.
+          neither (captures, subst (λ (t : List ℕ). Accepts answer matcher.ignore_case matcher.inner t captures) (middle-one matcher text matches.0 middle matches.1 has) matches.2),
+    )
 
     by_middle : Decided (IsCut matcher text) → (result : Option Captures) × Answers answer matcher text result
     by_middle (inl (middle, has)) = by_inner middle has (accepted_decided answer matcher.ignore_case matcher.inner middle)

@@ -1,8 +1,8 @@
 -- Each init is compiled to a pattern, or it is refused.
-use Rattle.std.proofs.Common.{◌≡◌, ◌≢◌, ℕ, ◌⊎◌, ◌↔◌, Bool, true, false, List, [], ◌∷◌, ◌++◌, ap, inl, inr, refl, subst, sym, ◌∙◌}
+use Rattle.std.proofs.Common.{◌≡◌, ℕ, ◌⊎◌, Bool, true, false, List, [], ◌∷◌, ◌++◌, ap, inl, inr, refl, subst, sym, ◌∙◌}
 use Rattle.std.proofs.lemmas.List.{append-nil}
 use Rattle.std.proofs.lemmas.List.Folds.{Any-from_list_any, list_any-from_Any}
-use Rattle.std.specs.List.{Any, list_any}
+use Rattle.std.specs.List.{list_any}
 use Rattle.std.specs.Prelude.{Option, Some, None, Result, Ok, Err, IsTrue, codes, is_some, option_to_list, unwrap_or}
 use Rattle.urlpattern_canonical.specs.Canonical.{special_schemes}
 use Rattle.urlpattern_core.specs.Components.{ComponentView, IsEngineOf, engine_flags, has_regexp}
@@ -15,7 +15,7 @@ use Rattle.urlpattern_inputs.specs.declared.options.UrlPatternOptions.{UrlPatter
 use Rattle.urlpattern_meaning.proofs.Encodings.{reads_weaker, refuses_weaker}
 use Rattle.urlpattern_meaning.proofs.OutcomesExist.{outcome_answered}
 use Rattle.urlpattern_meaning.specs.Laws.{AnswersAsked, HasSomeOutcome}
-use Rattle.urlpattern_meaning.specs.Matching.{Answers, ArePeeled, BeginsPlain, EndsPlain, IsMadeBetween, IsMadeByEngine, IsMadeOf, IsMadeOfOne, IsMatched, IsRemoved, Literal, MatcherView, RegExp, end_text, single_capture_matcher}
+use Rattle.urlpattern_meaning.specs.Matching.{Answers, ArePeeled, EndsPlain, IsMadeBetween, IsMadeByEngine, IsMadeOf, IsMadeOfOne, IsMatched, IsRemoved, Literal, MatcherView, RegExp, end_text, single_capture_matcher}
 use Rattle.urlpattern_meaning.specs.PartMeaning.{Captures}
 use Rattle.urlpattern_meaning.specs.Printing.{printed}
 use Rattle.urlpattern_pattern.proofs.MatchersDecide.{Decided, answered, bool_decided, text_decided}

@@ -1,11 +1,10 @@
 -- An init is compiled to a pattern or refused, and not both.
-use Rattle.std.proofs.Common.{◌≡◌, ◌≢◌, ℕ, ◌⊎◌, ◌↔◌, Bool, true, false, List, [], ◌∷◌, ap, inl, inr, refl, subst, sym, ◌∙◌}
-use Rattle.std.specs.Prelude.{⊤, Option, Result, Ok, Err, String, IsOk, IsTrue, encode_utf8_all, length}
+use Rattle.std.proofs.Common.{◌≡◌, ℕ, Bool, true, false, List, [], ◌∷◌, ap, inl, inr, refl, subst, sym, ◌∙◌}
+use Rattle.std.specs.Prelude.{Option, Result, Ok, Err, String, IsOk, encode_utf8_all, length}
 use Rattle.std.specs.Str.{chars}
 use Rattle.std.specs.declared.alloc.Global.{Global}
 use Rattle.url.specs.Parser.{Parsed}
 use Rattle.url.specs.declared.error.ParseError.{ParseError}
-use Rattle.url.specs.declared.error.ParseError.TheVariants.{Overflow}
 use Rattle.urlpattern_canonical.specs.Canonical.{IsAnswer, Reports}
 use Rattle.urlpattern_core.specs.Components.{ComponentView, IsWholeEngineOf, engine_flags, has_regexp}
 use Rattle.urlpattern_core.specs.declared.regexp.RegExp.{Ghosts as Engine}
@@ -20,9 +19,9 @@ use Rattle.urlpattern_meaning.specs.PartMeaning.{Captures}
 use Rattle.urlpattern_pattern.proofs.ByTextLemmas.{bool_one, component_by, scheme_accepted, scheme_taken}
 use Rattle.urlpattern_pattern.proofs.MeaningLemmas.{read_once}
 use Rattle.urlpattern_pattern.specs.ByText.{AnswersByText, HasMeaning, MakesFirstWays}
-use Rattle.urlpattern_pattern.specs.Compiled.{AreCompiled, FirstRefused, HasHierarchicalPath, IsComponentCompiled, IsComponentRefused, IsPathKind, Manner, RefusesAfterProtocol, RefusesValues, after_protocol, canonical_encoding, manner_of, pattern_values}
+use Rattle.urlpattern_pattern.specs.Compiled.{AreCompiled, FirstRefused, HasHierarchicalPath, IsComponentCompiled, IsComponentRefused, IsPathKind, Manner, RefusesValues, after_protocol, canonical_encoding, manner_of, pattern_values}
 use Rattle.urlpattern_pattern.specs.Meaning.{ReadsAs}
-use Rattle.urlpattern_pattern.specs.Outcomes.{AcceptsAlike, Decides, FirstWaysDecide, InitRefusalsAreOne, IsOfTexts, NoneIsCustom, PatternsExcludeRefusals, TakesOrRefuses, TakesOrRefusesGenerated, TakesOrRefusesText, of_texts}
+use Rattle.urlpattern_pattern.specs.Outcomes.{AcceptsAlike, Decides, FirstWaysDecide, InitRefusalsAreOne, IsOfTexts, PatternsExcludeRefusals, TakesOrRefuses, TakesOrRefusesText, of_texts}
 use Rattle.urlpattern_pattern.specs.Patterns.{PatternView}
 use Rattle.urlpattern_syntax.specs.declared.eight.ComponentName.{ComponentName}
 use Rattle.urlpattern_syntax.specs.declared.eight.ComponentName.TheVariants.{Protocol}
@@ -31,9 +30,8 @@ use Rattle.urlpattern_syntax.specs.Eight.{Values}
 use Rattle.urlpattern_syntax.specs.Errors.{ErrorView, error_view}
 use Rattle.urlpattern_syntax.specs.Errors.{ErrorView as views}
 use Rattle.urlpattern_syntax.specs.Parts.{PartView}
-use Rattle.urlpattern_syntax.specs.Reading.{Encoding, Reads, Refuses, answer_view}
+use Rattle.urlpattern_syntax.specs.Reading.{Refuses, answer_view}
 use Rattle.urlpattern_syntax.specs.RegexpText.{regexp_text}
-use Rattle.urlpattern_syntax.specs.Text.{text_of}
 
 -- ---- answers of `url`
 
