@@ -282,7 +282,7 @@ are_users_tokens = record {
         none,
         inr (record { character = _; cut = refl; fault = InvalidName; is_fault = (codes "//example.com/users/:id", refl, no); is_token = refl; place = refl }),
         plain_cut (λ start one rest. IsTokenOf users_text start one rest ⊎ IsInvalidCharOf users_text start one rest) users_text (λ start rest one is. inl is)
-        (codes "//example.com/users/") (codes ":id") [] 6 (token Name 26 (codes "id") ∷ []) refl refl (codes ":id", [], none, inl (name (codes "id") (refl, refl) no refl), none),
+            (codes "//example.com/users/") (codes ":id") [] 6 (token Name 26 (codes "id") ∷ []) refl refl (codes ":id", [], none, inl (name (codes "id") (refl, refl) no refl), none),
       );
   all = refl;
 }
