@@ -8,7 +8,7 @@ ghost use Rattle.urlpattern.specs.EcmaRegexps.{KeepsRegex, ecma_engine};
 ghost use Rattle.urlpattern.specs.PatternLaws.{AnswersMeanTheParts, FirstResultsAreOne, MatchesAreOne, RegexMeetsPremises, RegexResultsAreFirst, TestsAgree, TestsAreOne};
 ghost use Rattle.urlpattern_pattern.specs.Folded.{FoldedWaysAreAnswered};
 ghost use Rattle.urlpattern_pattern.specs.Outcomes.{DecidesGenerated, FirstWaysDecide, InitRefusalsAreOne, InitsHaveOutcomes, InitsHaveValues, PatternsExcludeRefusals};
-ghost use Rattle.urlpattern_pattern.specs.ByTextLaws.{CompiledHaveMeaning, FindingsAreByText, FindingsAreOne, PatternsAnswerAlike, PatternsAnswerByText, ReadingsAsAreOne, TakenPatternsAnswerByText};
+ghost use Rattle.urlpattern_pattern.specs.ByTextLaws.{CompiledHaveMeaning, FindingsAreByText, FindingsAreOne, InputFindingsAreByText, PatternsAnswerAlike, PatternsAnswerByText, ReadingsAsAreOne, TakenPatternsAnswerByText};
 ghost use Rattle.urlpattern_core.specs.FirstWays.{EachAnswersFirst};
 ghost use Rattle.urlpattern_core.specs.Regexes.{regex_engine};
 ghost use Rattle.urlpattern_engine.specs.PatternRegexps.{pattern_engine};
@@ -33,7 +33,7 @@ pub use urlpattern_engine::laws::{
     matchers_by_pattern_regexp_answer_the_first_way, pattern_regexps_answer_as_regex_does,
     pattern_regexps_answer_the_first_way, pattern_regexps_take_each_generated_text,
 };
-pub use urlpattern_init::laws::splits_are_one;
+pub use urlpattern_init::laws::{splits_are_one, texts_are_lines, texts_of_urls_are_lines};
 
 /// What a pattern answers to an input is what its pattern texts mean. In a match each component's pattern text means the
 /// component's text, and the groups are the names of its parts beside the captures of one such meaning. No match is answered
@@ -71,22 +71,27 @@ pub fn matchers_by_ecma_regexp_answer_the_first_way()
 
 /// A pattern that was compiled answers by its texts: each component whose pattern text has no custom regular expression, where
 /// case is kept, has the names of the parts that its text reads as, and answers their first way to each text of characters
-/// without line feed. So what it finds in eight texts is determined by the pattern texts, and what two patterns of one init
-/// find is the same.
+/// without line feed. So what it finds in eight texts, or in an input, is determined by the pattern texts.
 ///
 /// It is asked of an engine that its values answer the first way of the parts that are left to them.
 pub fn patterns_answer_by_their_texts<R: RegExp>()
     ensures by_text { PatternsAnswerByText R.RegExp }
     ensures found { FindingsAreByText R.answer }
+    ensures executed { InputFindingsAreByText R.answer }
     ensures one { FindingsAreOne }
-    ensures alike { PatternsAnswerAlike R.answer R.answer }
     ensures readings { ReadingsAsAreOne }
     ensures meaning { CompiledHaveMeaning R.RegExp }
 {}
 
+/// Two patterns of one init find the same in eight texts, whatever engines they are over, if both answer by its texts and all
+/// of these have a meaning.
+pub fn patterns_of_one_init_answer_alike<R: RegExp, S: RegExp>()
+    ensures { PatternsAnswerAlike R.answer S.answer }
+{}
+
 /// Of the three engines here nothing is asked but what the pattern shows: of `PatternRegexp` nothing at all, of `regex::Regex`
-/// that it took the regular expressions of the components that have none of their own, of `EcmaRegexp` that it kept a value
-/// of `regex` for them.
+/// that it took what the components without a custom regular expression ask it for, of `EcmaRegexp` that it kept a value of
+/// `regex` for them.
 pub fn patterns_by_these_engines_answer_by_their_texts()
     ensures pattern_regexp { MakesFirstWays pattern_engine }
     ensures regex { TakenPatternsAnswerByText regex_engine (TookText (λ value. ⊤)) }
@@ -95,8 +100,8 @@ pub fn patterns_by_these_engines_answer_by_their_texts()
 
 /// An init has one outcome: it is compiled to a pattern, or it is refused with one error, and not both. It has that outcome
 /// where `url` answers each text that it is asked about, and the engine makes a value of each regular expression that it is asked
-/// for or may refuse it. The values of an init as a pattern are never refused. Left aside are two errors: that memory ran out, and that a text is
-/// too long for `url`.
+/// for or may refuse it. The values of an init as a pattern are never refused. Left aside are two errors: that memory ran out,
+/// and that a text is too long for `url`.
 ///
 /// Of the engine it is asked that it does not both take and refuse the regular expression of a component, and that two of its
 /// matchers for the protocol accept a special scheme alike. An engine that makes first ways meets the second where no pattern

@@ -29,7 +29,7 @@ use Rattle.regex_nfa.specs.declared.nfa.Nfa.{Nfa}
 use Rattle.regex_vm.specs.Found.{cell, first_match, group_cells}
 use Rattle.urlpattern_core.specs.Regexes.{IsRegexOf, group_texts, regex_answer, text_between}
 use Rattle.urlpattern_core.proofs.RegexWays.{read_answers_first}
-use Rattle.urlpattern_engine.specs.Automatons.{IsNfaOf, automaton_answer, captures_of, cell_texts, match_at_start, place_of, text_cut}
+use Rattle.urlpattern_engine.specs.Automatons.{IsNfaOf, automaton_answer, match_captures, cell_texts, match_at_start, place_of, text_cut}
 use Rattle.urlpattern_engine.proofs.TextParts.{text_parts}
 use Rattle.urlpattern_engine.proofs.TwoReadings.{readings_same, regex_answer_is, regex_is_read, tree_answer}
 use Rattle.urlpattern_meaning.specs.Dialect.{IsTreeOf, Items}
@@ -121,7 +121,7 @@ same_groups f g first (suc count) same =
     ap₂ ◌∷◌ (same first (omega arith) (omega arith)) (same_groups f g (first + 1) count (λ n low high. same n (omega arith) (omega arith)))
 
 captures_are_texts : (hay : List ℕ) (re : Re) (m : Match) (count : ℕ) → IsUtf8 hay → HasTextParts re → find_str re hay 0 ≡ Some m
-    → captures_of hay count m ≡ group_texts hay count (group_of m)
+    → match_captures hay count m ≡ group_texts hay count (group_of m)
 unfolding find_str
 captures_are_texts hay re m count utf8 parts found =
     let first = IsFirst-of_first_between _ 0 (length hay) m found in
@@ -143,7 +143,7 @@ module _ (regexp source : List ℕ) (nfa : Nfa) (utf8 : IsUtf8 source) (of_text 
       let spelled : IsUtf8 bytes = (text, (fine, refl)) in
       let re = meaning made.tree in
       let count : nfa.slot_count / 2 - 1 ≡ length made.names - 1 = omega (arith, made.slots) in
-      ap₂ (λ n o. option_map (captures_of bytes n) o) count (first_is_found nfa re made.implements made.is_anchored bytes spelled)
+      ap₂ (λ n o. option_map (match_captures bytes n) o) count (first_is_found nfa re made.implements made.is_anchored bytes spelled)
       ∙ option_map_same (find_str re bytes 0) _ _ (λ m found. captures_are_texts bytes re m _ spelled (text_parts made.tree made.is_formed) found)
 
   pub automaton_first : (tree : Items) → IsTreeOf regexp tree → automaton_answer nfa text ≡ first_way tree text
@@ -178,7 +178,7 @@ cell_at m width k slot high inside is =
     ∙ ap (λ (s : ℕ). cell (last_write m.trace.writes s)) is)
     ∙ place_of_cell (last_write m.trace.writes slot) ∙ sym (slot_after m slot high)
 
-cells_show : (hay : List ℕ) (m : Match) (width count : ℕ) → 2 * count ≤ width → cell_texts hay (group_cells m width) count ≡ captures_of hay count m
+cells_show : (hay : List ℕ) (m : Match) (width count : ℕ) → 2 * count ≤ width → cell_texts hay (group_cells m width) count ≡ match_captures hay count m
 cells_show hay m width count fits =
     same_groups _ _ 1 count (λ n low high.
     ap (option_and_then (text_cut hay))
@@ -194,7 +194,7 @@ answer_of_cells nfa bytes cells width texts utf8 wide kept is shown read =
     rw (encodes-chars bytes utf8) (at (match_at_start nfa bytes) is shown)
   where
     at : (o : Option Match) → true ≡ is_some o → IfSome o (λ m. cells ≡ group_cells m width)
-        → Some texts ≡ option_map (captures_of bytes (nfa.slot_count / 2 - 1)) o
+        → Some texts ≡ option_map (match_captures bytes (nfa.slot_count / 2 - 1)) o
     at None is shown = absurd (true≢false is)
     at (Some m) is shown =
         let count : length cells / 2 ≡ nfa.slot_count / 2 - 1 = omega (arith, wide, kept) in
@@ -207,6 +207,6 @@ unfolding automaton_answer
 answer_of_nothing nfa bytes utf8 is =
     rw (encodes-chars bytes utf8) (at (match_at_start nfa bytes) is)
   where
-    at : (o : Option Match) → false ≡ is_some o → None ≡ option_map (captures_of bytes (nfa.slot_count / 2 - 1)) o
+    at : (o : Option Match) → false ≡ is_some o → None ≡ option_map (match_captures bytes (nfa.slot_count / 2 - 1)) o
     at None is = refl
     at (Some m) is = absurd (true≢false (sym is))

@@ -22,8 +22,8 @@ text_cut bytes span =
     if nat_le span.0 span.1 && (is_cut_at true bytes span.0 && is_cut_at true bytes span.1) then Some (text_between bytes span) else None
 
 -- what so many groups of a match capture, from group 1 on
-abbrev pub captures_of : (bytes : List ℕ) → (count : ℕ) → Match → Captures
-captures_of bytes count found = map (λ n. option_and_then (text_cut bytes) (group_of found n)) (range_with_len 1 count)
+abbrev pub match_captures : (bytes : List ℕ) → (count : ℕ) → Match → Captures
+match_captures bytes count found = map (λ n. option_and_then (text_cut bytes) (group_of found n)) (range_with_len 1 count)
 
 -- the match at the start of the bytes
 abbrev pub match_at_start : Nfa → (bytes : List ℕ) → Option Match
@@ -33,7 +33,7 @@ match_at_start nfa bytes = first_match nfa bytes (length bytes) 0 0
 unfoldable pub automaton_answer : Nfa → List ℕ → Option Captures
 automaton_answer nfa text =
     let bytes = encode_utf8_all text in
-    option_map (captures_of bytes (nfa.slot_count / 2 - 1)) (match_at_start nfa bytes)
+    option_map (match_captures bytes (nfa.slot_count / 2 - 1)) (match_at_start nfa bytes)
 
 -- The automaton was made of the text: it gives the matches of the tree that the grammar reads there, which begin at the start.
 pub record IsNfaOf (source : List ℕ) (nfa : Nfa) : Type 0 where

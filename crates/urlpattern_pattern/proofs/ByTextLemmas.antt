@@ -161,6 +161,7 @@ module _ {E : Type 0} (engine : Engine E) (init : UrlPatternInit) (asked : UrlPa
   pattern_by each = record {
     values = values;
     hierarchical = compiled.hierarchical;
+    by_protocol = compiled.path_kind;
     are_values = are_values;
     path_kind = λ has. kind_by engine.answer asked values (pattern Protocol) compiled.hierarchical (each Protocol has) compiled.path_kind;
     answers = each;
@@ -173,7 +174,7 @@ module _ {E : Type 0} (engine : Engine E) (init : UrlPatternInit) (asked : UrlPa
       component_by engine manner (pattern component) (compiled.are_compiled component) has
       (λ parts reads is_component generated text result no_feed scalars answers.
       let is = matcher_first engine.answer (IsEngineOf engine false (engine_flags manner.options)) manner.options parts (pattern component).matcher text result is_component.has_matcher
-      generated has.case_kept no_feed scalars (firsts component parts reads generated) answers in
+      generated has.case_kept no_feed scalars (firsts component parts has reads) answers in
       (is, first_agrees manner.options parts text result generated is)))
 
   -- where the engine took the texts
@@ -276,7 +277,7 @@ if_pattern-weaker (Ok pattern) P Q weaker is = weaker (pattern_view pattern) is
 if_pattern-weaker (Err error) P Q weaker is = tt
 
 -- what is found in an input
-input_by_text : {E : Type 0} (answer : E → List ℕ → Option Captures) (init : UrlPatternInit) (asked : UrlPatternOptions) (pattern : PatternView E) (by : AnswersByItsText answer init asked pattern)
+pub input_by_text : {E : Type 0} (answer : E → List ℕ → Option Captures) (init : UrlPatternInit) (asked : UrlPatternOptions) (pattern : PatternView E) (by : AnswersByItsText answer init asked pattern)
     (input : UrlPatternMatchInput) (found : Option (ComponentName → ResultView)) (texts : Texts) → input_texts input ≡ Ok texts → ¬ IsLongInput input → IsExecuted answer pattern input found →
     IsFoundByText (manner_of asked by.values by.hierarchical) texts found
 input_by_text answer init asked pattern by input (Some result) texts are_texts short (others, are_others, match) =

@@ -10,20 +10,24 @@ use Rattle.urlpattern_meaning.specs.{FirstAnswers.AnswersFirstInMiddle, FirstAns
 use Rattle.urlpattern_syntax.specs.declared.eight.{ComponentName.ComponentName, ComponentName.TheVariants.Protocol}
 use Rattle.urlpattern_syntax.specs.Eight.{Texts, Values, at}
 use Rattle.urlpattern_syntax.specs.{Parts.PartView, RegexpText.group_names, Text.begins_with}
-use Rattle.urlpattern_pattern.specs.Compiled.{AreCompiled, Manner, is_mark, manner_of, pattern_values}
+use Rattle.urlpattern_pattern.specs.Compiled.{AreCompiled, IsPathKind, Manner, is_mark, manner_of, pattern_values}
 use Rattle.urlpattern_pattern.specs.Match.{IsLongInput, IsResultOf, ResultView}
 use Rattle.urlpattern_pattern.specs.{MatchInput.input_texts, Patterns.PatternView}
 use Rattle.urlpattern_pattern.specs.Meaning.{IsExecuted, IsFoundByMeaning, ReadsAs}
 
+-- the pattern text has no custom regular expression
+abbrev pub ReadsNoCustom : Manner → Type 0
+ReadsNoCustom manner = (parts : List PartView) → ReadsAs manner parts → AreGenerated parts
+
 -- The pattern text of a component has a meaning of its own: it has no custom regular expression, and case is kept.
 pub record HasMeaning (manner : Manner) : Type 0 where
-  pub generated : (parts : List PartView) → ReadsAs manner parts → AreGenerated parts
+  pub generated : ReadsNoCustom manner
   pub case_kept : manner.options.ignore_case ≡ false
 
 -- ---- first ways
 
--- The captures are those of the first way in which the parts, as which the pattern text reads, take the whole text; None where
--- they take it in no way.
+-- The pattern text reads as parts, and the captures are those of the first way in which they take the whole text, or None if
+-- there is none.
 pub record IsFirstWay (manner : Manner) (text : List ℕ) (captures : Option Captures) : Type 0 where
   pub parts : List PartView
   pub reads : ReadsAs manner parts
@@ -38,8 +42,8 @@ pub record IsFirstResult (manner : Manner) (text : List ℕ) (result : ResultVie
 
 -- ---- what is found
 
--- What is found of eight texts is by the pattern texts. Of a match each component whose pattern text has a meaning has the
--- result of the first way. Where there is no match, and all have a meaning, one component takes its text in no way.
+-- What is found of eight texts is by the pattern texts. In a match each component whose pattern text has a meaning, and whose
+-- text is a line, has the result of the first way. Where there is no match, and all are such, one takes its text in no way.
 abbrev pub IsFoundByText : (manner : ComponentName → Manner) → Texts → Option (ComponentName → ResultView) → Type 0
 IsFoundByText manner texts (Some result) =
     (component : ComponentName) → HasMeaning (manner component) → IsLine (at texts component) →
@@ -66,19 +70,21 @@ IsHierarchicalByText asked values =
     ⊎ Any (λ scheme. (captures : Captures) × IsFirstWay (manner_of asked values false Protocol) scheme.0 (Some captures)) special_schemes
     ⊎ IsTrue (begins_with (is_mark (codes "/")) (unwrap_or values.pathname []))
 
--- The pattern answers by the texts of this init: each component does whose pattern text has a meaning.
+-- The pattern answers by the texts of this init: each component does whose pattern text has a meaning. Whether the pathname is
+-- hierarchical is decided by the protocol's matcher, and by its pattern text if that has a meaning.
 pub record AnswersByItsText {E : Type 0} (answer : E → List ℕ → Option Captures) (init : UrlPatternInit) (asked : UrlPatternOptions) (pattern : PatternView E) : Type 0 where
   pub values : Values
   pub hierarchical : Bool
   pub are_values : pattern_values init ≡ Ok values
+  pub by_protocol : IsPathKind answer values (pattern Protocol).matcher hierarchical
   pub path_kind : HasMeaning (manner_of asked values false Protocol) → IsTrue hierarchical ↔ IsHierarchicalByText asked values
   pub answers : (component : ComponentName) → HasMeaning (manner_of asked values hierarchical component) →
       AnswersByText answer (manner_of asked values hierarchical component) (pattern component)
 
--- wherever an engine is left parts of which none is custom, its value answers their first way
+-- where a component has a meaning and asks an engine, the engine's value answers the first way of the parts that are left to it
 abbrev pub EnginesAnswerFirst : {E : Type 0} → (answer : E → List ℕ → Option Captures) → (manner : ComponentName → Manner) → PatternView E → Type 0
 EnginesAnswerFirst answer manner pattern =
-    (component : ComponentName) (parts : List PartView) → ReadsAs (manner component) parts → AreGenerated parts →
+    (component : ComponentName) (parts : List PartView) → HasMeaning (manner component) → ReadsAs (manner component) parts →
     AnswersFirstInMiddle answer (manner component).options parts (pattern component).matcher.inner
 
 -- each matcher that the engine made answers first ways, without a premise on the engine

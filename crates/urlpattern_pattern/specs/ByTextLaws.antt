@@ -2,8 +2,8 @@
 use Rattle.std.specs.Prelude.{◌≡◌, ℕ, false, List, Ok, Option, None, Some}
 use Rattle.urlpattern_core.specs.Components.{ComponentView}
 use Rattle.urlpattern_core.specs.declared.regexp.RegExp.{Ghosts as Engine}
-use Rattle.urlpattern_init.specs.UrlTexts.{EachIsLine, IsLine}
-use Rattle.urlpattern_init.specs.declared.init.UrlPatternInit.{UrlPatternInit}
+use Rattle.urlpattern_init.specs.UrlTexts.{IsLine}
+use Rattle.urlpattern_init.specs.declared.init.{UrlPatternInit.UrlPatternInit, UrlPatternMatchInput.UrlPatternMatchInput}
 use Rattle.urlpattern_inputs.specs.declared.options.UrlPatternOptions.{UrlPatternOptions}
 use Rattle.urlpattern_meaning.specs.{Matching.InnerView, PartMeaning.Captures}
 use Rattle.urlpattern_syntax.specs.declared.eight.ComponentName.{ComponentName}
@@ -11,8 +11,8 @@ use Rattle.urlpattern_syntax.specs.Eight.{Texts, Values, at}
 use Rattle.urlpattern_syntax.specs.Parts.{PartView}
 use Rattle.urlpattern_pattern.specs.ByText.{AnswersByItsText, EnginesAnswerFirst, HasMeaning, IsFoundByText}
 use Rattle.urlpattern_pattern.specs.Compiled.{AreCompiled, IsComponentCompiled, IsPatternOfInit, Manner, manner_of, pattern_values}
-use Rattle.urlpattern_pattern.specs.Match.{FindsInTexts, IsSameResult, ResultView}
-use Rattle.urlpattern_pattern.specs.{Meaning.ReadsAs, Patterns.PatternView}
+use Rattle.urlpattern_pattern.specs.Match.{FindsInTexts, IsLongInput, IsSameResult, ResultView}
+use Rattle.urlpattern_pattern.specs.{MatchInput.input_texts, Meaning.IsExecuted, Meaning.ReadsAs, Patterns.PatternView}
 
 -- ---- patterns that answer by their texts
 
@@ -22,7 +22,7 @@ PatternsAnswerByText {E} engine = (init : UrlPatternInit) (asked : UrlPatternOpt
     pattern_values init ≡ Ok values → (compiled : AreCompiled engine asked values pattern) →
     EnginesAnswerFirst engine.answer (manner_of asked values compiled.hierarchical) pattern → AnswersByItsText engine.answer init asked pattern
 
--- It does where the engine took, in this sense, the regular expressions of the components that have none of their own.
+-- It does where the engine took, in this sense, what the components without a custom regular expression ask it for.
 abbrev pub TakenPatternsAnswerByText : {E : Type 0} → Engine E → (Took : InnerView E → Type 0) → Type 0
 TakenPatternsAnswerByText {E} engine Took = (init : UrlPatternInit) (asked : UrlPatternOptions) (pattern : PatternView E) →
     IsPatternOfInit engine init asked pattern → ((component : ComponentName) → (pattern component).has_regexp_group ≡ false → Took (pattern component).matcher.inner) →
@@ -32,6 +32,13 @@ TakenPatternsAnswerByText {E} engine Took = (init : UrlPatternInit) (asked : Url
 abbrev pub FindingsAreByText : {E : Type 0} → (answer : E → List ℕ → Option Captures) → Type 0
 FindingsAreByText {E} answer = (init : UrlPatternInit) (asked : UrlPatternOptions) (pattern : PatternView E) (by : AnswersByItsText answer init asked pattern)
     (texts : Texts) (found : Option (ComponentName → ResultView)) → FindsInTexts (λ result. result) answer pattern texts found →
+    IsFoundByText (manner_of asked by.values by.hierarchical) texts found
+
+-- So is what it finds in an input that has texts, none of them too long for `url`.
+abbrev pub InputFindingsAreByText : {E : Type 0} → (answer : E → List ℕ → Option Captures) → Type 0
+InputFindingsAreByText {E} answer = (init : UrlPatternInit) (asked : UrlPatternOptions) (pattern : PatternView E) (by : AnswersByItsText answer init asked pattern)
+    (input : UrlPatternMatchInput) (found : Option (ComponentName → ResultView)) (texts : Texts) →
+    input_texts input ≡ Ok texts → ¬ IsLongInput input → IsExecuted answer pattern input found →
     IsFoundByText (manner_of asked by.values by.hierarchical) texts found
 
 -- all pattern texts have a meaning, and all texts are lines

@@ -1,12 +1,12 @@
 -- What a component answers where case is ignored: the texts are folded to be compared, and the captures are of the text itself.
 use Rattle.std.specs.Prelude.{◌≡◌, All, ℕ, true, false, List, [], ◌∷◌, ◌++◌, length, map, Option, Some, None, IfSome, option_map}
-use Rattle.urlpattern_core.specs.{Components.ComponentView, Generated.AreGenerated}
+use Rattle.urlpattern_core.specs.Components.{ComponentView}
 use Rattle.urlpattern_core.specs.declared.regexp.RegExp.{Ghosts as Engine}
 use Rattle.urlpattern_init.specs.UrlTexts.{IsLine}
 use Rattle.urlpattern_meaning.specs.{FirstAnswers.IsFirstOf, PartMeaning.Captures, PartMeaning.PartMeans}
 use Rattle.urlpattern_meaning.specs.Matching.{Answers, InnerView, Literal, RegExp, SingleCapture, folded, folded_character}
 use Rattle.urlpattern_syntax.specs.{Options.OptionsView, Parts.PartView}
-use Rattle.urlpattern_pattern.specs.{Compiled.IsComponentCompiled, Compiled.Manner, Meaning.ReadsAs}
+use Rattle.urlpattern_pattern.specs.{ByText.ReadsNoCustom, Compiled.IsComponentCompiled, Compiled.Manner, Meaning.ReadsAs}
 
 -- ---- what is compared
 
@@ -17,7 +17,7 @@ folded_part part = record part { value = folded true part.value; prefix = folded
 abbrev pub folded_parts : List PartView → List PartView
 folded_parts parts = map folded_part parts
 
--- the delimiter is folded too, and of what is folded case is kept
+-- the delimiter is folded too; folded texts are compared exactly
 abbrev pub folded_options : OptionsView → OptionsView
 folded_options options = record options { delimiter = option_map (folded_character true) options.delimiter; ignore_case = false }
 
@@ -69,7 +69,7 @@ HoldsNoEngine (RegExp engine) = ⊥
 -- The component ignores case, and needs no engine: none of the parts that its pattern text reads as is custom.
 pub record IgnoresCase {E : Type 0} (manner : Manner) (compiled : ComponentView E) : Type 0 where
   pub case_ignored : manner.options.ignore_case ≡ true
-  pub generated : (parts : List PartView) → ReadsAs manner parts → AreGenerated parts
+  pub generated : ReadsNoCustom manner
   pub no_engine : HoldsNoEngine compiled.matcher.inner
 
 -- Such a component answers the folded way of its pattern text to each line.

@@ -2,7 +2,6 @@
 use Rattle.std.specs.Prelude.{◌≡◌, ◌≢◌, ◌⊎◌, ℕ, Bool, false, List, ◌++◌, Result, Ok, Err}
 use Rattle.url.specs.declared.error.ParseError.TheVariants.{Overflow}
 use Rattle.urlpattern_core.specs.Components.{ComponentView, IsEngineOf, IsWholeEngineOf, engine_flags, has_regexp}
-use Rattle.urlpattern_core.specs.Generated.{AreGenerated}
 use Rattle.urlpattern_core.specs.declared.regexp.RegExp.{Ghosts as Engine}
 use Rattle.urlpattern_init.specs.SpecialProtocol.{AcceptsSpecialScheme}
 use Rattle.urlpattern_init.specs.declared.init.UrlPatternInit.{UrlPatternInit}
@@ -11,7 +10,7 @@ use Rattle.urlpattern_meaning.specs.Laws.{AnswersAsked}
 use Rattle.urlpattern_syntax.specs.declared.eight.{ComponentName.ComponentName, ComponentName.TheVariants.Protocol}
 use Rattle.urlpattern_syntax.specs.{Eight.Values, Errors.ErrorView, Parts.PartView, Reading.Encoding, RegexpText.regexp_text}
 use Rattle.urlpattern_syntax.specs.Errors.{ErrorView as views}
-use Rattle.urlpattern_pattern.specs.{ByText.MakesFirstWays, Meaning.ReadsAs, Patterns.PatternView}
+use Rattle.urlpattern_pattern.specs.{ByText.MakesFirstWays, ByText.ReadsNoCustom, Meaning.ReadsAs, Patterns.PatternView}
 use Rattle.urlpattern_pattern.specs.Compiled.{IsComponentCompiled, IsPatternOfInit, Manner, RefusesInit, canonical_encoding, manner_of, pattern_values}
 
 -- ---- errors
@@ -51,13 +50,11 @@ pub record Decides {E : Type 0} (engine : Engine E) (asked : UrlPatternOptions) 
 
 -- no pattern text of these values has a custom regular expression
 abbrev pub NoneIsCustom : UrlPatternOptions → Values → Type 0
-NoneIsCustom asked values = (hierarchical : Bool) (component : ComponentName) (parts : List PartView) →
-    ReadsAs (manner_of asked values hierarchical component) parts → AreGenerated parts
+NoneIsCustom asked values = (hierarchical : Bool) (component : ComponentName) → ReadsNoCustom (manner_of asked values hierarchical component)
 
 -- the engine does not both take and refuse the regular expression of parts of which none is custom
 abbrev pub TakesOrRefusesGenerated : {E : Type 0} → Engine E → Type 0
-TakesOrRefusesGenerated engine = (manner : Manner) →
-    ((parts : List PartView) → ReadsAs manner parts → AreGenerated parts) → TakesOrRefusesText engine manner
+TakesOrRefusesGenerated engine = (manner : Manner) → ReadsNoCustom manner → TakesOrRefusesText engine manner
 
 -- the engine decides what becomes of values where no pattern text has a custom regular expression
 abbrev pub DecidesGenerated : {E : Type 0} → Engine E → Type 0

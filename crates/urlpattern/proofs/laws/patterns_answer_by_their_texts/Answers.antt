@@ -1,4 +1,4 @@
-use Rattle.urlpattern_pattern.proofs.ByTextLemmas.{finding_by_text, finding_one, found_alike, has_meaning, pattern_by_engines}
+use Rattle.urlpattern_pattern.proofs.ByTextLemmas.{finding_by_text, finding_one, has_meaning, input_by_text, pattern_by_engines}
 use Rattle.urlpattern_pattern.proofs.MeaningLemmas.{read_once}
 use Rattle.urlpattern.proofs.laws.patterns_answer_by_their_texts.Goals as goal
 
@@ -11,8 +11,8 @@ returns-clause-found g c = finding_by_text g.R.RegExp.answer
 pub returns-clause-one : goal.returns-clause-one
 returns-clause-one g c = finding_one
 
-pub returns-clause-alike : goal.returns-clause-alike
-returns-clause-alike g c = found_alike g.R.RegExp.answer g.R.RegExp.answer
+pub returns-clause-executed : goal.returns-clause-executed
+returns-clause-executed g c = λ init asked pattern by input found texts. input_by_text g.R.RegExp.answer init asked pattern by input found texts
 
 pub returns-clause-readings : goal.returns-clause-readings
 returns-clause-readings g c = read_once
