@@ -14,7 +14,7 @@ use Rattle.urlpattern_meaning.specs.FirstAnswers.{IsFirstOf}
 use Rattle.urlpattern_meaning.specs.Matching.{Agrees, Answers, BeginsPlain, EndsPlain, IsMadeBetween, IsMadeOf, IsMadeOfOne, IsRemoved, MatcherView, Matches, end_text, folded, single_capture_matcher}
 use Rattle.urlpattern_meaning.specs.PartMeaning.{AreGenerated, Captures, PartsMean}
 use Rattle.urlpattern_pattern.proofs.FoldedMatchers.{answers_folded, asks_none, between_ignores, cut_unfolded, end_folded, folded_matcher, lower, lower_lacks, lower_scalars, made_folded, no_engine, peeled_folded}
-use Rattle.urlpattern_pattern.specs.Folded.{FoldedMean, FoldedWaysAreAnswered, HoldsNoEngine, IsFoldedFirst, IsFoldedStretch, IsPiece, folded_captures, folded_options, folded_part, folded_parts}
+use Rattle.urlpattern_pattern.specs.Folded.{FoldedMean, FoldedWaysAreAnswered, HoldsNoEngine, IsFoldedFirst, IsFoldedStretch, IsWithinStretch, folded_captures, folded_options, folded_part, folded_parts}
 use Rattle.urlpattern_syntax.specs.declared.parser.PartModifier.{PartModifier}
 use Rattle.urlpattern_syntax.specs.declared.parser.PartModifier.TheVariants as modifiers
 use Rattle.urlpattern_syntax.specs.declared.parser.PartType.{PartType}
@@ -59,12 +59,12 @@ module _ (options : OptionsView) where
   end_means None IsThere text removed same = (nothing_folded text same, refl)
   end_means (Some part) IsThere text plain same = alone part text [] (record {
     means = (plain_means {options = folded_options options} {text = lower text} {captures = []} (folded_part part) plain).1 (same, refl);
-    are_pieces = All-nil (IsPiece part text);
+    are_pieces = All-nil (IsWithinStretch part text);
   })
 
   -- what a single capture takes is a piece of the part's stretch
   piece_of : (part : PartView) (front back text begin stretch end head middle tail : List ℕ) → text ≡ begin ++ stretch ++ end → text ≡ head ++ middle ++ tail →
-      length begin ≡ length front → length end ≡ length back → length head ≡ length (front ++ part.prefix) → length tail ≡ length (part.suffix ++ back) → IsPiece part stretch (Some middle)
+      length begin ≡ length front → length end ≡ length back → length head ≡ length (front ++ part.prefix) → length tail ≡ length (part.suffix ++ back) → IsWithinStretch part stretch (Some middle)
   piece_of part front back text begin stretch end head middle tail cut also begins ends heads tails =
       let n = length front in
       let k = length part.suffix in
@@ -93,17 +93,17 @@ module _ (options : OptionsView) where
 module _ {E : Type 0} (answer : E → List ℕ → Option Captures) (IsEngine : List ℕ → Result E ErrorView → Type 0) (options : OptionsView) where
   capture_pieces : (front : List ℕ) (part : PartView) (back : List ℕ) (filter : Option ℕ) (allow_empty : Bool) (text begin stretch end : List ℕ) (captures : Captures) →
       Matches answer (single_capture_matcher options front part back filter allow_empty) text captures → text ≡ begin ++ stretch ++ end → length begin ≡ length front → length end ≡ length back →
-      All (IsPiece part stretch) captures
+      All (IsWithinStretch part stretch) captures
   capture_pieces front part back filter allow_empty text begin stretch end captures (middle, (head, tail, also, heads, tails), (filled, passes, is)) cut begins ends =
-      subst (λ (c : Captures). All (IsPiece part stretch) c) (sym is)
-      (All-cons (IsPiece part stretch) (Some middle) []
+      subst (λ (c : Captures). All (IsWithinStretch part stretch) c) (sym is)
+      (All-cons (IsWithinStretch part stretch) (Some middle) []
       (piece_of options part front back text begin stretch end head middle tail cut also begins ends (same-length options.ignore_case head (front ++ part.prefix) heads)
       (same-length options.ignore_case tail (part.suffix ++ back) tails))
-      (All-nil (IsPiece part stretch)))
+      (All-nil (IsWithinStretch part stretch)))
 
   one_pieces : (kind : PartType) (modifier : PartModifier) (front : List ℕ) (part : PartView) (back : List ℕ) (matcher : MatcherView E) (text begin stretch end : List ℕ) (captures : Captures) →
       HoldsNoEngine matcher.inner → IsMadeOfOne IsEngine kind modifier options front part back matcher → Matches answer matcher text captures →
-      text ≡ begin ++ stretch ++ end → length begin ≡ length front → length end ≡ length back → All (IsPiece part stretch) captures
+      text ≡ begin ++ stretch ++ end → length begin ≡ length front → length end ≡ length back → All (IsWithinStretch part stretch) captures
   one_pieces FullWildcard modifiers.None front part back matcher text begin stretch end captures none made matches cut begins ends =
       capture_pieces front part back None true text begin stretch end captures (subst (λ (m : MatcherView E). Matches answer m text captures) made matches) cut begins ends
   one_pieces SegmentWildcard modifiers.None front part back matcher text begin stretch end captures none made matches cut begins ends =

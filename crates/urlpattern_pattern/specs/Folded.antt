@@ -28,16 +28,16 @@ folded_captures captures = map (λ capture. option_map (folded true) capture) ca
 
 -- a capture is a piece of the part's stretch: before it stand as many characters as the prefix has, and after it as many as
 -- the suffix has
-abbrev pub IsPiece : PartView → (stretch : List ℕ) → Option (List ℕ) → Type 0
-IsPiece part stretch None = Unit {0}
-IsPiece part stretch (Some piece) =
+abbrev pub IsWithinStretch : PartView → (stretch : List ℕ) → Option (List ℕ) → Type 0
+IsWithinStretch part stretch None = Unit {0}
+IsWithinStretch part stretch (Some piece) =
     (before after : List ℕ) × (stretch ≡ before ++ piece ++ after)
     × (length before ≡ length part.prefix) × (length after ≡ length part.suffix)
 
 -- The part stands for the stretch but for case, and captures these pieces of it.
 pub record IsFoldedStretch (options : OptionsView) (part : PartView) (stretch : List ℕ) (captures : Captures) : Type 0 where
   pub means : PartMeans (folded_options options) (folded_part part) (folded true stretch) (folded_captures captures)
-  pub are_pieces : All (IsPiece part stretch) captures
+  pub are_pieces : All (IsWithinStretch part stretch) captures
 
 -- the parts stand for the text but for case, one stretch each, and capture this
 abbrev pub FoldedMean : OptionsView → List PartView → List ℕ → Captures → Type 0
