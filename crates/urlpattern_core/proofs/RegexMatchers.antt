@@ -6,11 +6,11 @@ use Rattle.urlpattern_core.proofs.FirstMatchers.{first_alike, made_first}
 use Rattle.urlpattern_core.proofs.RegexWays.{answers_first_of}
 use Rattle.urlpattern_meaning.specs.FirstAnswers.{TookText}
 
-pub values_first : ValuesAnswerFirst regex_engine
-values_first regexp flags regex made = answers_first_of regexp regex made
+pub values_first : ValuesAnswerFirst regex_engine (λ flags. ⊤)
+values_first regexp flags regex keeps made = answers_first_of regexp regex made
 
-pub taken_first : EachAnswersFirst regex_engine (TookText (λ regex. ⊤))
-taken_first = made_first regex_engine _ (λ regex. ⊤) (λ options flags parts matcher taken. taken.took) (λ regexp flags regex made took. values_first regexp flags regex made)
+pub taken_first : EachAnswersFirst regex_engine (λ options flags. TookText (λ regex. ⊤))
+taken_first = made_first regex_engine _ (λ regex. ⊤) (λ options flags parts matcher taken. taken.took) (λ options regexp flags regex inner kept taken made took. values_first regexp flags regex tt made)
 
-pub taken_one : AllAnswerAlike regex_engine (TookText (λ regex. ⊤))
+pub taken_one : AllAnswerAlike regex_engine (λ options flags. TookText (λ regex. ⊤))
 taken_one = first_alike regex_engine _ taken_first

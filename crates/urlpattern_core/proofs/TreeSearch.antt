@@ -18,7 +18,7 @@ use Rattle.regex_hir.proofs.TextLemmas.{byte_before-zero, byte_before-add-one}
 use Rattle.regex.specs.Writes.{both, group_of}
 use Rattle.urlpattern_meaning.specs.PartMeaning.{Captures}
 use Rattle.urlpattern_meaning.specs.Dialect.{Items, group_count, AreItems, Means}
-use Rattle.urlpattern_meaning.specs.Ways.{Way, ways, first_way}
+use Rattle.urlpattern_meaning.specs.Ways.{Way, ways, first_way, first_way_by}
 use Rattle.urlpattern_meaning.proofs.WayLists.{Every}
 use Rattle.urlpattern_meaning.proofs.WaysSound.{IsSound, ways-sound, means-count}
 use Rattle.urlpattern_core.proofs.WayAnswers.{at, Gave}
@@ -128,7 +128,7 @@ module _ (tree : Items) (h : AreItems tree) (text : List ℕ) (good : scalars te
 
   -- the groups of what is found are the captures of the first way
   pub found_is_first : option_map (λ m. texts_from hay m 1 (group_count tree)) (find_str pattern hay 0) ≡ first_way tree text
-  unfolding first_way find_str
+  unfolding first_way_by find_str
   found_is_first = by (attempt hay (re_items 1 tree) (to_end hay) 0) refl
     where
       by : (o : Option Trace) → attempt hay (re_items 1 tree) (to_end hay) 0 ≡ o

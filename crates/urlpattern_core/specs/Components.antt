@@ -1,5 +1,5 @@
 -- What a component is that is compiled from a pattern text.
-use Rattle.std.specs.Prelude.{◌≡◌, ◌⊎◌, ℕ, Bool, true, false, List, map, codes, Option, Some, None, Result, Ok, Err, IsTrue, if◌then◌else◌}
+use Rattle.std.specs.Prelude.{◌≡◌, ◌⊎◌, ℕ, Bool, true, false, not, List, map, codes, Option, Some, None, Result, Ok, Err, IsTrue, if◌then◌else◌}
 use Rattle.std.specs.{Borrow.Bor, List.list_any}
 use Rattle.urlpattern_core.specs.declared.component.Component.{Component}
 use Rattle.urlpattern_core.specs.declared.regexp.RegExp.{Ghosts as Engine}
@@ -12,7 +12,7 @@ use Rattle.urlpattern_syntax.specs.declared.parser.{RegexSyntax.RegexSyntax, Par
 use Rattle.urlpattern_syntax.specs.{Options.OptionsView, Parts.PartView}
 use Rattle.urlpattern_syntax.specs.Reading.{Encoding, Reads, Refuses}
 use Rattle.urlpattern_syntax.specs.RegexpText.{group_names, regexp_text}
-use Rattle.urlpattern_syntax.specs.Text.{chars, text_of}
+use Rattle.urlpattern_syntax.specs.Text.{chars, lacks, text_of}
 
 -- A `Component`, with its texts.
 pub record ComponentView (E : Type 0) : Type 0 where
@@ -39,6 +39,14 @@ pattern_text (Some pattern) = chars pattern.now
 -- the flags for the engine: `u`, and `i` where case is ignored
 abbrev pub engine_flags : OptionsView → List ℕ
 engine_flags options = if options.ignore_case then codes "ui" else codes "u"
+
+-- the flags have an `i`: case is ignored
+abbrev pub ignores_case : (flags : List ℕ) → Bool
+ignores_case flags = not (lacks 0x69 flags)
+
+-- the flags ignore case where the options do
+abbrev pub FlagsAgree : OptionsView → (flags : List ℕ) → Type 0
+FlagsAgree options flags = ignores_case flags ≡ options.ignore_case
 
 abbrev pub is_custom : PartType → Bool
 is_custom PartType.Regexp = true

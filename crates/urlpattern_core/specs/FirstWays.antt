@@ -3,47 +3,67 @@ use Rattle.std.specs.Prelude.{◌≡◌, ⊤, ℕ, false, List, Option, IsOk, Is
 use Rattle.std.specs.Str.{all_scalars}
 use Rattle.urlpattern_meaning.specs.FirstAnswers.{IsFirstOf, AnswersFirst, TookText}
 use Rattle.urlpattern_meaning.specs.Matching.{Agrees, Answers, EachAnswerIs, MatcherView, InnerView, IsMadeOf}
-use Rattle.urlpattern_core.specs.Components.{ComponentView, IsComponentOf, IsEngineOf}
+use Rattle.urlpattern_core.specs.Components.{ComponentView, IsComponentOf, IsEngineOf, ignores_case}
 use Rattle.urlpattern_core.specs.declared.regexp.RegExp.{Ghosts as Engine}
 use Rattle.urlpattern_core.specs.Generated.{AreGenerated}
 use Rattle.urlpattern_meaning.specs.Dialect.{Follows, IsTreeOf, Items}
 use Rattle.urlpattern_meaning.specs.PartMeaning.{Captures}
+use Rattle.urlpattern_meaning.specs.Ways.{first_way_by}
 use Rattle.urlpattern_syntax.specs.{Options.OptionsView, Parts.PartView, RegexpText.regexp_text}
 use Rattle.urlpattern_syntax.specs.Text.{lacks, line_feed}
 
 -- ---- values
 
--- each value of the engine answers the first way of the tree of the text that it was made of
-abbrev pub ValuesAnswerFirst : {E : Type 0} → Engine E → Type 0
-ValuesAnswerFirst {E} engine =
-    (regexp flags : List ℕ) (value : E) → engine.IsMade value regexp flags → AnswersFirst regexp (engine.answer value)
+-- made with such flags, an engine's values keep case
+abbrev pub Keeping : Type 1
+Keeping = (flags : List ℕ) → Type 0
+
+-- the flags have no `i`
+abbrev pub KeepsCase : Keeping
+KeepsCase flags = ignores_case flags ≡ false
+
+-- each value of the engine that was made with such flags answers the first way of the tree of the text that it was made of
+abbrev pub ValuesAnswerFirst : {E : Type 0} → Engine E → Keeping → Type 0
+ValuesAnswerFirst {E} engine Keeps =
+    (regexp flags : List ℕ) (value : E) → Keeps flags → engine.IsMade value regexp flags → AnswersFirst regexp (engine.answer value)
 
 -- each follows that text, if it has a tree
-abbrev pub ValuesFollowTexts : {E : Type 0} → Engine E → Type 0
-ValuesFollowTexts {E} engine =
-    (regexp flags : List ℕ) (tree : Items) (value : E) → IsTreeOf regexp tree → engine.IsMade value regexp flags → Follows regexp (engine.answer value)
+abbrev pub ValuesFollowTexts : {E : Type 0} → Engine E → Keeping → Type 0
+ValuesFollowTexts {E} engine Keeps =
+    (regexp flags : List ℕ) (tree : Items) (value : E) → IsTreeOf regexp tree → Keeps flags → engine.IsMade value regexp flags → Follows regexp (engine.answer value)
 
 -- each that was made of the regular expression of parts, none of them custom, follows it
-abbrev pub ValuesFollowParts : {E : Type 0} → Engine E → Type 0
-ValuesFollowParts {E} engine =
-    (options : OptionsView) (flags : List ℕ) (parts : List PartView) (value : E) → AreGenerated parts →
+abbrev pub ValuesFollowParts : {E : Type 0} → Engine E → Keeping → Type 0
+ValuesFollowParts {E} engine Keeps =
+    (options : OptionsView) (flags : List ℕ) (parts : List PartView) (value : E) → AreGenerated parts → Keeps flags →
     engine.IsMade value (regexp_text options parts) flags → Follows (regexp_text options parts) (engine.answer value)
 
+-- each that was made of the regular expression of parts, none of them custom, answers the first way of its tree, in which case
+-- counts or not by the flags
+abbrev pub ValuesAnswerByFlags : {E : Type 0} → Engine E → Type 0
+ValuesAnswerByFlags {E} engine =
+    (options : OptionsView) (flags : List ℕ) (parts : List PartView) (tree : Items) (value : E) → AreGenerated parts → IsTreeOf (regexp_text options parts) tree →
+    engine.IsMade value (regexp_text options parts) flags → (text : List ℕ) → engine.answer value text ≡ first_way_by (ignores_case flags) tree text
+
 -- a value of the one engine and a value of the other that were made of the same text answer the same to texts of characters
-abbrev pub ValuesAnswerAlike : {E F : Type 0} → Engine E → (other : Engine F) → Type 0
-ValuesAnswerAlike {E} {F} engine other =
-    (regexp flags : List ℕ) (value : E) (another : F) (text : List ℕ) → engine.IsMade value regexp flags → other.IsMade another regexp flags →
+abbrev pub ValuesAnswerAlike : {E F : Type 0} → Engine E → (other : Engine F) → Keeping → Type 0
+ValuesAnswerAlike {E} {F} engine other Keeps =
+    (regexp flags : List ℕ) (value : E) (another : F) (text : List ℕ) → Keeps flags → engine.IsMade value regexp flags → other.IsMade another regexp flags →
     IsTrue (all_scalars text) → engine.answer value text ≡ other.answer another text
 
 -- ---- matchers
 
+-- in which sense an engine took, with these options and flags, what a matcher needs it for
+abbrev pub Taking : Type 0 → Type 1
+Taking E = OptionsView → (flags : List ℕ) → InnerView E → Type 0
+
 -- The matcher is made by the engine of parts of which none is custom, case is kept, and the engine took the text, in this
 -- sense, where it was needed.
-pub record IsTakenBy {E : Type 0} (engine : Engine E) (Took : InnerView E → Type 0) (options : OptionsView) (flags : List ℕ) (parts : List PartView) (matcher : MatcherView E) : Type 0 where
+pub record IsTakenBy {E : Type 0} (engine : Engine E) (Took : Taking E) (options : OptionsView) (flags : List ℕ) (parts : List PartView) (matcher : MatcherView E) : Type 0 where
   pub is_made : IsMadeOf (IsEngineOf engine false flags) options parts matcher
   pub generated : AreGenerated parts
   pub case_kept : options.ignore_case ≡ false
-  pub took : Took matcher.inner
+  pub took : Took options flags matcher.inner
 
 -- each answer of the matcher, to a text of characters without line feed, is the first way of the tree of the parts: a meaning
 -- of the parts, or None where they have none
@@ -58,13 +78,13 @@ AnswerAlike answer matcher another =
     Answers answer matcher text result → Answers answer another text other → result ≡ other
 
 -- each matcher that the engine made, and took in this sense, answers so
-abbrev pub EachAnswersFirst : {E : Type 0} → (engine : Engine E) → (Took : InnerView E → Type 0) → Type 0
+abbrev pub EachAnswersFirst : {E : Type 0} → (engine : Engine E) → (Took : Taking E) → Type 0
 EachAnswersFirst {E} engine Took =
     (options : OptionsView) (flags : List ℕ) (parts : List PartView) (matcher : MatcherView E) →
     IsTakenBy engine Took options flags parts matcher → AnswersFirstWays engine.answer options parts matcher
 
 -- and two such matchers of the same parts answer the same
-abbrev pub AllAnswerAlike : {E : Type 0} → (engine : Engine E) → (Took : InnerView E → Type 0) → Type 0
+abbrev pub AllAnswerAlike : {E : Type 0} → (engine : Engine E) → (Took : Taking E) → Type 0
 AllAnswerAlike {E} engine Took =
     (options : OptionsView) (flags : List ℕ) (parts : List PartView) (matcher another : MatcherView E) →
     IsTakenBy engine Took options flags parts matcher → IsTakenBy engine Took options flags parts another → AnswerAlike engine.answer matcher another

@@ -74,67 +74,67 @@ call_follows_on old new whole part (Ok is_taken) same follows = subst (FollowsOn
 call_follows_on old new whole part (Err error) same follows = tt
 
 -- the steps of a group that may be missing do not lead on, and those after it are followed
-pub maybe_left : {E : Type 0} (old now added new : Attempt) (group : Group) (others left : List Step) (text : List ℕ) (is_taken : Bool) (result : Result Bool E) → is_taken ≡ false
-    → FollowsSteps old now is_taken (walk others text) → added.captures.items ≡ now.captures.items ++ replicate group.captures None → added.failed ≡ now.failed → left ≡ drop group.steps others
-    → IfOk result (λ is_left. FollowsOn added new is_left (walk left text)) → IfOk result (λ is_left. FollowsOn old new is_left (walk (Maybe group ∷ others) text))
-maybe_left old now added new group others left text is_taken (Ok is_left) missed follows missing whole passed later =
-    let none = follows_none old now is_taken (walk others text) missed follows in
+pub maybe_left : (ignore_case : Bool) → {E : Type 0} (old now added new : Attempt) (group : Group) (others left : List Step) (text : List ℕ) (is_taken : Bool) (result : Result Bool E) → is_taken ≡ false
+    → FollowsSteps old now is_taken (walk ignore_case others text) → added.captures.items ≡ now.captures.items ++ replicate group.captures None → added.failed ≡ now.failed → left ≡ drop group.steps others
+    → IfOk result (λ is_left. FollowsOn added new is_left (walk ignore_case left text)) → IfOk result (λ is_left. FollowsOn old new is_left (walk ignore_case (Maybe group ∷ others) text))
+maybe_left ignore_case old now added new group others left text is_taken (Ok is_left) missed follows missing whole passed later =
+    let none = follows_none old now is_taken (walk ignore_case others text) missed follows in
     let before : added.captures.items ≡ old.captures.items ++ replicate group.captures None = missing ∙ ap (λ l. l ++ replicate group.captures None) (follows.same missed) in
     record {
-      adds = later.adds ∙ ap (λ l. plus added.captures.items (walk l text)) passed
-          ∙ sym (plus_maybe old.captures.items now.captures.items added.captures.items group others text none (follows.same missed) missing);
+      adds = later.adds ∙ ap (λ l. plus added.captures.items (walk ignore_case l text)) passed
+          ∙ sym (plus_maybe ignore_case old.captures.items now.captures.items added.captures.items group others text none (follows.same missed) missing);
       more = λ e.
           let more = later.more e in
           subst (Extends old.captures.items) (sym more.1) (extends_more old.captures.items added.captures.items more.0 (replicate group.captures None, before));
       whole = later.whole ∙ whole ∙ follows.whole;
     }
-maybe_left old now added new group others left text is_taken (Err error) missed follows missing whole passed later = tt
+maybe_left ignore_case old now added new group others left text is_taken (Err error) missed follows missing whole passed later = tt
 
 -- ---- the steps and the text that are left
 
 -- what the steps that are left capture of what is left is what the steps do of the text, with what was captured before each
-pub record Leaves (old now : Attempt) (steps left : List Step) (text rest : List ℕ) : Type 0 where
-  pub place : IsStateOf now.failed left rest
-  pub so_far : with_captures old.captures.items (walk steps text) ≡ with_captures now.captures.items (walk left rest)
+pub record Leaves (ignore_case : Bool) (old now : Attempt) (steps left : List Step) (text rest : List ℕ) : Type 0 where
+  pub place : IsStateOf ignore_case now.failed left rest
+  pub so_far : with_captures old.captures.items (walk ignore_case steps text) ≡ with_captures now.captures.items (walk ignore_case left rest)
   pub more : Extends old.captures.items now.captures.items
   pub whole : now.failed ≡ old.failed
 
-module _ (old now : Attempt) (steps left : List Step) (text rest : List ℕ) (leaves : Leaves old now steps left text rest) where
+module _ (ignore_case : Bool) (old now : Attempt) (steps left : List Step) (text rest : List ℕ) (leaves : Leaves ignore_case old now steps left text rest) where
   -- a step takes a front of the rest, and may capture it
   pub leaves_passed : (new : Attempt) (step : Step) (others : List Step) (front remaining : List ℕ) → left ≡ step ∷ others → rest ≡ front ++ remaining
-      → with_captures now.captures.items (walk (step ∷ others) rest) ≡ with_captures new.captures.items (walk others remaining)
-      → Extends now.captures.items new.captures.items → new.failed ≡ now.failed → Leaves old new steps others text remaining
+      → with_captures now.captures.items (walk ignore_case (step ∷ others) rest) ≡ with_captures new.captures.items (walk ignore_case others remaining)
+      → Extends now.captures.items new.captures.items → new.failed ≡ now.failed → Leaves ignore_case old new steps others text remaining
   leaves_passed new step others front remaining first cut same more whole = record {
-    place = place_within now.failed new.failed left others rest remaining whole leaves.place (step ∷ [], first) (front, cut);
-    so_far = leaves.so_far ∙ ap (λ l. with_captures now.captures.items (walk l rest)) first ∙ same;
+    place = place_within ignore_case now.failed new.failed left others rest remaining whole leaves.place (step ∷ [], first) (front, cut);
+    so_far = leaves.so_far ∙ ap (λ l. with_captures now.captures.items (walk ignore_case l rest)) first ∙ same;
     more = subst (Extends old.captures.items) (sym more.1) (extends_more old.captures.items now.captures.items more.0 leaves.more);
     whole = whole ∙ leaves.whole;
   }
 
   -- a step captures the front
   pub leaves_captured : (new : Attempt) (step : Step) (others : List Step) (front : Bor (List ℕ)) (remaining : List ℕ) → left ≡ step ∷ others → rest ≡ chars front.now ++ remaining
-      → walk (step ∷ others) rest ≡ captured_front (walk others) (chars front.now) remaining
-      → new.captures.items ≡ now.captures.items ++ Some front ∷ [] → new.failed ≡ now.failed → Leaves old new steps others text remaining
+      → walk ignore_case (step ∷ others) rest ≡ captured_front (walk ignore_case others) (chars front.now) remaining
+      → new.captures.items ≡ now.captures.items ++ Some front ∷ [] → new.failed ≡ now.failed → Leaves ignore_case old new steps others text remaining
   leaves_captured new step others front remaining first cut found pushed whole =
       leaves_passed new step others (chars front.now) remaining first cut
-      (ap (plus now.captures.items) found ∙ plus_captured now.captures.items front (walk others remaining) ∙ ap (λ l. plus l (walk others remaining)) (sym pushed))
+      (ap (plus now.captures.items) found ∙ plus_captured now.captures.items front (walk ignore_case others remaining) ∙ ap (λ l. plus l (walk ignore_case others remaining)) (sym pushed))
       (Some front ∷ [], pushed) whole
 
   -- the rest is not taken
-  pub leaves_missed : walk left rest ≡ None → FollowsOn old now false (walk steps text)
+  pub leaves_missed : walk ignore_case left rest ≡ None → FollowsOn old now false (walk ignore_case steps text)
   leaves_missed none = record { adds = sym (leaves.so_far ∙ ap (plus now.captures.items) none); more = λ e. leaves.more; whole = leaves.whole }
 
   -- no step is left
-  pub leaves_end : (is_empty : Bool) → left ≡ [] → (is_empty ≡ true → rest ≡ []) → (is_empty ≡ false → ¬ (rest ≡ [])) → FollowsOn old now is_empty (walk steps text)
+  pub leaves_end : (is_empty : Bool) → left ≡ [] → (is_empty ≡ true → rest ≡ []) → (is_empty ≡ false → ¬ (rest ≡ [])) → FollowsOn old now is_empty (walk ignore_case steps text)
   leaves_end is_empty none full some = record {
-    adds = end_taken now.captures.items left rest is_empty is_empty none full some refl ∙ sym leaves.so_far;
+    adds = end_taken ignore_case now.captures.items left rest is_empty is_empty none full some refl ∙ sym leaves.so_far;
     more = λ e. leaves.more;
     whole = leaves.whole;
   }
 
   -- what a call does with the rest is what is done in all
   pub leaves_later : {E : Type 0} (new : Attempt) (result : Result Bool E)
-      → IfOk result (λ is_taken. FollowsOn now new is_taken (walk left rest)) → IfOk result (λ is_taken. FollowsOn old new is_taken (walk steps text))
+      → IfOk result (λ is_taken. FollowsOn now new is_taken (walk ignore_case left rest)) → IfOk result (λ is_taken. FollowsOn old new is_taken (walk ignore_case steps text))
   leaves_later new (Ok is_taken) follows = record {
     adds = follows.adds ∙ sym leaves.so_far;
     more = λ e.

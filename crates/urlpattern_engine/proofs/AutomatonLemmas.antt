@@ -26,10 +26,11 @@ use Rattle.regex_hir.proofs.FindLemmas.{IsFirst-of_first_between, first_between_
 use Rattle.regex_hir.proofs.OptionLemmas.{none_of_no_value, option_cases, option_or-None}
 use Rattle.regex_meta.proofs.LeftmostLemmas.{Matches-of_attempt}
 use Rattle.regex_nfa.specs.declared.nfa.Nfa.{Nfa}
+use Rattle.regex_syntax.specs.Verdict.{Reads}
 use Rattle.regex_vm.specs.Found.{cell, first_match, group_cells}
-use Rattle.urlpattern_core.specs.Regexes.{IsRegexOf, group_texts, regex_answer, text_between}
+use Rattle.urlpattern_core.specs.Regexes.{group_texts, regex_answer, text_between}
 use Rattle.urlpattern_core.proofs.RegexWays.{read_answers_first}
-use Rattle.urlpattern_engine.specs.Automatons.{IsNfaOf, automaton_answer, match_captures, cell_texts, match_at_start, place_of, text_cut}
+use Rattle.urlpattern_engine.specs.Automatons.{IsRegexReadAs, IsNfaOf, automaton_answer, config_for, match_captures, cell_texts, match_at_start, place_of, text_cut}
 use Rattle.urlpattern_engine.proofs.TextParts.{text_parts}
 use Rattle.urlpattern_engine.proofs.TwoReadings.{readings_same, regex_answer_is, regex_is_read, tree_answer}
 use Rattle.urlpattern_meaning.specs.Dialect.{IsTreeOf, Items}
@@ -135,7 +136,7 @@ option_map_same (Some x) f g same = ap Some (same x refl)
 
 -- ---- the laws
 
-module _ (regexp source : List ℕ) (nfa : Nfa) (utf8 : IsUtf8 source) (of_text : chars source ≡ regexp) (made : IsNfaOf source nfa) (text : List ℕ) (fine : IsTrue (all_scalars text)) where
+module _ (ignore_case : Bool) (regexp source : List ℕ) (nfa : Nfa) (utf8 : IsUtf8 source) (of_text : chars source ≡ regexp) (made : IsNfaOf ignore_case source nfa) (text : List ℕ) (fine : IsTrue (all_scalars text)) where
   answers_as_tree : automaton_answer nfa text ≡ tree_answer made.tree made.names text
   unfolding automaton_answer
   answers_as_tree =
@@ -146,21 +147,23 @@ module _ (regexp source : List ℕ) (nfa : Nfa) (utf8 : IsUtf8 source) (of_text 
       ap₂ (λ n o. option_map (match_captures bytes n) o) count (first_is_found nfa re made.implements made.is_anchored bytes spelled)
       ∙ option_map_same (find_str re bytes 0) _ _ (λ m found. captures_are_texts bytes re m _ spelled (text_parts made.tree made.is_formed) found)
 
-  pub automaton_first : (tree : Items) → IsTreeOf regexp tree → automaton_answer nfa text ≡ first_way tree text
-  automaton_first tree is = answers_as_tree ∙ read_answers_first regexp tree source made.tree made.names text is utf8 of_text made.is_read fine
+  pub automaton_first : ignore_case ≡ false → (tree : Items) → IsTreeOf regexp tree → automaton_answer nfa text ≡ first_way tree text
+  automaton_first kept tree is =
+      answers_as_tree
+      ∙ read_answers_first regexp tree source made.tree made.names text is utf8 of_text (subst (λ (b : Bool). Reads (config_for b) source made.tree made.names) kept made.is_read) fine
 
-  pub automaton_same : (regex : Regex) → IsRegexOf regexp regex → automaton_answer nfa text ≡ regex_answer regex text
+  pub automaton_same : (regex : Regex) → IsRegexReadAs ignore_case regexp regex → automaton_answer nfa text ≡ regex_answer regex text
   automaton_same regex also =
       answers_as_tree
-      ∙ readings_same regexp _ _ _ _ (source, of_text, made.is_read) (regex_is_read regexp regex also) text fine
+      ∙ readings_same (config_for ignore_case) regexp _ _ _ _ (source, of_text, made.is_read) (regex_is_read ignore_case regexp regex also) text fine
       ∙ sym (regex_answer_is regex text)
 
 -- what is known of an automaton as a fact with one proof is enough
-pub automaton_same_once : (source : List ℕ) (nfa : Nfa) → IsUtf8 source → ∥ IsNfaOf source nfa ∥₁ → (regex : Regex) → IsRegexOf (chars source) regex → (bytes : List ℕ) → IsUtf8 bytes
+pub automaton_same_once : (ignore_case : Bool) (source : List ℕ) (nfa : Nfa) → IsUtf8 source → ∥ IsNfaOf ignore_case source nfa ∥₁ → (regex : Regex) → IsRegexReadAs ignore_case (chars source) regex → (bytes : List ℕ) → IsUtf8 bytes
     → automaton_answer nfa (chars bytes) ≡ regex_answer regex (chars bytes)
-automaton_same_once source nfa utf8 made regex also bytes text =
+automaton_same_once ignore_case source nfa utf8 made regex also bytes text =
     ∥∥₁_elim made (Coded-set (coded_option (coded_list (coded_option (coded_list coded_ℕ)))) _ _)
-    (λ made. automaton_same (chars source) source nfa utf8 refl made (chars bytes) (scalars-chars bytes text) regex also)
+    (λ made. automaton_same ignore_case (chars source) source nfa utf8 refl made (chars bytes) (scalars-chars bytes text) regex also)
 
 -- ---- the cells that a search writes
 

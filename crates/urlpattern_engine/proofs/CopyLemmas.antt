@@ -1,5 +1,5 @@
 -- Copies of a text, found from the front and tried from the end.
-use Rattle.std.proofs.Common.{◌≡◌, ℕ, zero, suc, ◌<◌, List, [], ◌∷◌, ◌++◌, length, take, drop, Option, Some, None, Bool, true, false, cond, ◌==◌, refl, sym, ap, ap₂, ◌∙◌, append-nil, append_assoc, length-append, arith, eq-eqb, eqb-true}
+use Rattle.std.proofs.Common.{◌≡◌, ℕ, zero, suc, ◌<◌, List, [], ◌∷◌, ◌++◌, length, take, drop, Option, Some, None, Bool, true, false, cond, ◌==◌, refl, sym, ap, ap₂, ◌∙◌, append-nil, append_assoc, length-append, arith, subst}
 use Rattle.std.proofs.lemmas.List.{append_cancel_left}
 use Rattle.std.proofs.lemmas.Str.{chars-append}
 use Rattle.std.proofs.Math.Seq.{take-append_seam}
@@ -8,92 +8,112 @@ use Rattle.std.specs.Str.{chars, IsUtf8}
 use Rattle.urlpattern_meaning.specs.PartMeaning.{Captures}
 use Rattle.urlpattern_engine.specs.declared.step.Copies.{Copies as Copied}
 use Rattle.urlpattern_engine.specs.declared.step.Step.{Step}
-use Rattle.urlpattern_engine.specs.declared.step.Step.TheVariants.{Copies}
-use Rattle.urlpattern_engine.specs.Walk.{Continuation, after_text, any_rounds, copies_of, literal_text, literals, repeated, rounds, some_rounds, walk, walk_after, walk_copies}
+use Rattle.urlpattern_engine.specs.declared.step.Step.TheVariants.{Literal, Segment, Anything, Maybe, Longest, Copies, Segments}
+use Rattle.urlpattern_engine.specs.Walk.{AreCopiesOf, BeginsAs, Continuation, after_text, any_rounds, joined, literal_text, literals, repeated, rounds, some_rounds, walk, walk_after, walk_copies}
 use Rattle.urlpattern_engine.proofs.Rounds.{advances-after, any-unrolled, keeps-any, keeps-some}
 use Rattle.urlpattern_engine.proofs.StepLemmas.{walk_after-drop}
-use Rattle.urlpattern_engine.proofs.Tried.{Next, option_or-assoc}
+use Rattle.urlpattern_engine.proofs.Tried.{Next}
+use Rattle.urlpattern_meaning.specs.Matching.{IsSame, is_same_character}
+use Rattle.urlpattern_meaning.proofs.Middles.{same-length}
+use Rattle.urlpattern_engine.proofs.SameLemmas.{begins_more, begins_none, no_same, none_same, same_less}
 
 -- ---- a text at the front
 
-pub after-found : (characters rest : List ℕ) (gives : Continuation) (front : List ℕ) → after_text characters gives front (characters ++ rest) ≡ gives (front ++ characters) rest
-after-found [] rest gives front = ap (λ f. gives f rest) (sym (append-nil front))
-after-found (c ∷ characters) rest gives front =
-    ap (λ b. cond b (after_text characters gives (front ++ c ∷ []) (characters ++ rest)) None) (eq-eqb c c refl)
-    ∙ after-found characters rest gives (front ++ c ∷ [])
-    ∙ ap (λ f. gives f rest) (append_assoc front (c ∷ []) characters)
+pub after-found : (ignore_case : Bool) (characters text rest : List ℕ) (gives : Continuation) (front : List ℕ) (begins : BeginsAs ignore_case characters text rest)
+    → after_text ignore_case characters gives front text ≡ gives (front ++ begins.0) rest
+after-found ignore_case [] text rest gives front (own, cut, same) =
+    let none : own ≡ [] = none_same ignore_case own same in
+    ap (gives front) (cut ∙ ap (λ t. t ++ rest) none) ∙ ap (λ f. gives f rest) (sym (ap (λ t. front ++ t) none ∙ append-nil front))
+after-found ignore_case (c ∷ characters) [] rest gives front begins = absurd (begins_none ignore_case c characters rest begins)
+after-found ignore_case (c ∷ characters) (d ∷ text) rest gives front ([], cut, same) = absurd (no_same ignore_case c characters same)
+after-found ignore_case (c ∷ characters) (d ∷ text) rest gives front (e ∷ own, cut, same) =
+    let whole : d ∷ text ≡ e ∷ (own ++ rest) = cut in
+    let first : d ≡ e = cc in
+    let others : text ≡ own ++ rest = cc in
+    let both = same_less ignore_case e c own characters same in
+    ap (λ b. cond b (after_text ignore_case characters gives (front ++ d ∷ []) text) None) (subst (λ x. is_same_character ignore_case x c ≡ true) (sym first) both.0)
+    ∙ after-found ignore_case characters text rest gives (front ++ d ∷ []) (own, others, both.1)
+    ∙ ap (λ f. gives f rest) (append_assoc front (d ∷ []) own ∙ ap (λ x. front ++ x ∷ own) first)
 
-pub after-other : (characters text : List ℕ) (gives : Continuation) (front : List ℕ) → ((rest : List ℕ) → ¬ (text ≡ characters ++ rest)) → after_text characters gives front text ≡ None
-after-other [] text gives front other = absurd (other text refl)
-after-other (c ∷ characters) [] gives front other = refl
-after-other (c ∷ characters) (d ∷ text) gives front other =
-    by (d == c) refl (λ e. after-other characters text gives (front ++ d ∷ []) (λ rest same. other rest (ap₂ (λ x l. x ∷ l) (eqb-true d c e) same)))
+pub after-other : (ignore_case : Bool) (characters text : List ℕ) (gives : Continuation) (front : List ℕ) → ((rest : List ℕ) → ¬ BeginsAs ignore_case characters text rest)
+    → after_text ignore_case characters gives front text ≡ None
+after-other ignore_case [] text gives front other = absurd (other text ([], refl, refl))
+after-other ignore_case (c ∷ characters) [] gives front other = refl
+after-other ignore_case (c ∷ characters) (d ∷ text) gives front other =
+    by (is_same_character ignore_case d c) refl
+    (λ e. after-other ignore_case characters text gives (front ++ d ∷ []) (λ rest begins. other rest (begins_more ignore_case c characters d text rest e begins)))
   where
-    by : (b : Bool) → (d == c) ≡ b → ((d == c) ≡ true → after_text characters gives (front ++ d ∷ []) text ≡ None) → cond b (after_text characters gives (front ++ d ∷ []) text) None ≡ None
+    by : (b : Bool) → is_same_character ignore_case d c ≡ b → (is_same_character ignore_case d c ≡ true → after_text ignore_case characters gives (front ++ d ∷ []) text ≡ None)
+        → cond b (after_text ignore_case characters gives (front ++ d ∷ []) text) None ≡ None
     by true e later = later e
     by false e later = refl
 
--- fronts do not matter where what is given does not depend on them
-after-fronts : (characters : List ℕ) (f g : Continuation) → ((before other rest : List ℕ) → f before rest ≡ g other rest) → (front another text : List ℕ)
-    → after_text characters f front text ≡ after_text characters g another text
-after-fronts [] f g same front another text = same front another text
-after-fronts (c ∷ characters) f g same front another [] = refl
-after-fronts (c ∷ characters) f g same front another (d ∷ text) = ap (λ o. cond (d == c) o None) (after-fronts characters f g same (front ++ d ∷ []) (another ++ d ∷ []) text)
+-- another step has no character
+pub literals_skip : (step : Step) (others : List Step) → ((c : ℕ) → ¬ (step ≡ Literal c)) → literals (step ∷ others) ≡ literals others
+literals_skip (Literal c) others other = absurd (other c refl)
+literals_skip (Segment end) others other = refl
+literals_skip Anything others other = refl
+literals_skip (Maybe group) others other = refl
+literals_skip (Longest run) others other = refl
+literals_skip (Copies copies) others other = refl
+literals_skip (Segments segments) others other = refl
 
-rounds-fronts : (characters : List ℕ) (next : Next) (n : ℕ) (front another text : List ℕ)
-    → rounds (after_text characters) n (λ front rest. next rest) front text ≡ rounds (after_text characters) n (λ front rest. next rest) another text
-rounds-fronts characters next zero front another text = refl
-rounds-fronts characters next (suc n) front another text =
+-- fronts do not matter where what is given does not depend on them
+after-fronts : (ignore_case : Bool) (characters : List ℕ) (f g : Continuation) → ((before other rest : List ℕ) → f before rest ≡ g other rest) → (front another text : List ℕ)
+    → after_text ignore_case characters f front text ≡ after_text ignore_case characters g another text
+after-fronts ignore_case [] f g same front another text = same front another text
+after-fronts ignore_case (c ∷ characters) f g same front another [] = refl
+after-fronts ignore_case (c ∷ characters) f g same front another (d ∷ text) = ap (λ o. cond (is_same_character ignore_case d c) o None) (after-fronts ignore_case characters f g same (front ++ d ∷ []) (another ++ d ∷ []) text)
+
+rounds-fronts : (ignore_case : Bool) (characters : List ℕ) (next : Next) (n : ℕ) (front another text : List ℕ)
+    → rounds (after_text ignore_case characters) n (λ front rest. next rest) front text ≡ rounds (after_text ignore_case characters) n (λ front rest. next rest) another text
+rounds-fronts ignore_case characters next zero front another text = refl
+rounds-fronts ignore_case characters next (suc n) front another text =
     ap (λ o. option_or o (next text))
-    (after-fronts characters (rounds (after_text characters) n (λ front rest. next rest)) (rounds (after_text characters) n (λ front rest. next rest))
-    (λ before other rest. rounds-fronts characters next n before other rest) front another text)
+    (after-fronts ignore_case characters (rounds (after_text ignore_case characters) n (λ front rest. next rest)) (rounds (after_text ignore_case characters) n (λ front rest. next rest))
+    (λ before other rest. rounds-fronts ignore_case characters next n before other rest) front another text)
 
 -- ---- copies
 
-pub copies-last : (n : ℕ) (text : List ℕ) → copies_of (suc n) text ≡ copies_of n text ++ text
-copies-last zero text = append-nil text
-copies-last (suc n) text = ap (λ t. text ++ t) (copies-last n text) ∙ sym (append_assoc text (copies_of n text) text)
+-- what is found after fewer and fewer copies, where this was found after all of them
+abbrev pub led : Next → List (List ℕ) → (rest : List ℕ) → Option Captures → Option Captures
+led next [] rest found = found
+led next (last ∷ copies) rest found = led next copies (last ++ rest) (option_or found (next (last ++ rest)))
 
-pub one_copy_more : (n : ℕ) (copy rest : List ℕ) → copies_of n copy ++ (copy ++ rest) ≡ copies_of (suc n) copy ++ rest
-one_copy_more n copy rest = sym (append_assoc (copies_of n copy) copy rest) ∙ ap (λ t. t ++ rest) (sym (copies-last n copy))
+pub led-found : (next : Next) (copies : List (List ℕ)) (rest : List ℕ) (found : Captures) → led next copies rest (Some found) ≡ Some found
+led-found next [] rest found = refl
+led-found next (last ∷ copies) rest found = led-found next copies (last ++ rest) found
 
--- what is given of the rest, and then with the last copies again, one after the other
-abbrev pub fewer : (copy : List ℕ) → Next → (n : ℕ) → (rest : List ℕ) → Option Captures
-fewer copy next zero rest = next rest
-fewer copy next (suc n) rest = option_or (next rest) (fewer copy next n (copy ++ rest))
-
-fewer-last : (copy : List ℕ) (next : Next) (n : ℕ) (rest : List ℕ) → fewer copy next (suc n) rest ≡ option_or (fewer copy next n rest) (next (copies_of (suc n) copy ++ rest))
-fewer-last copy next zero rest = ap (λ t. option_or (next rest) (next (t ++ rest))) (sym (append-nil copy))
-fewer-last copy next (suc n) rest =
-    ap (option_or (next rest))
-    (fewer-last copy next n (copy ++ rest)
-    ∙ ap (λ t. option_or (fewer copy next n (copy ++ rest)) (next t)) (one_copy_more (suc n) copy rest))
-    ∙ sym (option_or-assoc (next rest) (fewer copy next n (copy ++ rest)) (next (copies_of (suc (suc n)) copy ++ rest)))
-
-pub fewer-found : (copy : List ℕ) (next : Next) (n : ℕ) (rest : List ℕ) (found : Captures) → next rest ≡ Some found → fewer copy next n rest ≡ Some found
-fewer-found copy next zero rest found e = e
-fewer-found copy next (suc n) rest found e = ap (λ o. option_or o (fewer copy next n (copy ++ rest))) e
-
-module _ (c : ℕ) (literal : List ℕ) (next : Next) where
+module _ (ignore_case : Bool) (c : ℕ) (literal : List ℕ) (next : Next) where
   abbrev copy : List ℕ
   copy = c ∷ literal
 
   abbrev going_on : Continuation
   going_on front rest = next rest
 
-  pub copies_fewer : (n : ℕ) (front rest : List ℕ) → ((end : List ℕ) → ¬ (rest ≡ copy ++ end))
-      → any_rounds (after_text copy) going_on front (copies_of n copy ++ rest) ≡ fewer copy next n rest
-  copies_fewer zero front rest other =
-      any-unrolled (after_text copy) (advances-after c literal) going_on front rest
-      ∙ ap (λ o. option_or o (next rest)) (after-other copy rest (any_rounds (after_text copy) going_on) front other)
-  copies_fewer (suc n) front rest other =
-      let whole = copies_of n copy ++ rest in
-      ap (any_rounds (after_text copy) going_on front) (append_assoc copy (copies_of n copy) rest)
-      ∙ any-unrolled (after_text copy) (advances-after c literal) going_on front (copy ++ whole)
-      ∙ ap (λ o. option_or o (next (copy ++ whole)))
-      (after-found copy whole (any_rounds (after_text copy) going_on) front ∙ copies_fewer n (front ++ copy) rest other)
-      ∙ ap (λ t. option_or (fewer copy next n rest) (next t)) (sym (append_assoc copy (copies_of n copy) rest))
-      ∙ sym (fewer-last copy next n rest)
+  -- what is given after as many copies as lead on
+  abbrev after_all : (front text : List ℕ) → Option Captures
+  after_all front text = any_rounds (after_text ignore_case copy) going_on front text
+
+  one_more : (last rest : List ℕ) → IsSame ignore_case last copy → after_all [] (last ++ rest) ≡ option_or (after_all [] rest) (next (last ++ rest))
+  one_more last rest same =
+      any-unrolled (after_text ignore_case copy) (advances-after ignore_case c literal) going_on [] (last ++ rest)
+      ∙ ap (λ o. option_or o (next (last ++ rest)))
+      (after-found ignore_case copy (last ++ rest) rest (any_rounds (after_text ignore_case copy) going_on) [] (last, refl, same)
+      ∙ rounds-fronts ignore_case copy next (length rest) last [] rest)
+
+  all_led : (copies : List (List ℕ)) (rest : List ℕ) → AreCopiesOf ignore_case copy copies → after_all [] (joined copies ++ rest) ≡ led next copies rest (after_all [] rest)
+  all_led [] rest are = refl
+  all_led (last ∷ copies) rest (same, are) =
+      ap (after_all []) (append_assoc (joined copies) last rest) ∙ all_led copies (last ++ rest) are ∙ ap (led next copies (last ++ rest)) (one_more last rest same)
+
+  pub copies_led : (copies : List (List ℕ)) (rest : List ℕ) → AreCopiesOf ignore_case copy copies → ((end : List ℕ) → ¬ BeginsAs ignore_case copy rest end)
+      → any_rounds (after_text ignore_case copy) going_on [] (joined copies ++ rest) ≡ led next copies rest (next rest)
+  copies_led copies rest are other =
+      all_led copies rest are
+      ∙ ap (led next copies rest)
+      (any-unrolled (after_text ignore_case copy) (advances-after ignore_case c literal) going_on [] rest
+      ∙ ap (λ o. option_or o (next rest)) (after-other ignore_case copy rest (any_rounds (after_text ignore_case copy) going_on) [] other))
 
   -- both parts are the same where their ends are of one length
   same_ends : (front end front' end' : List ℕ) → front ++ end ≡ front' ++ end' → length end ≡ length end' → (front ≡ front') × (end ≡ end')
@@ -103,65 +123,69 @@ module _ (c : ℕ) (literal : List ℕ) (next : Next) where
       (fronts, append_cancel_left front end end' (e ∙ ap (λ f. f ++ end') (sym fronts)))
 
   -- the last copy goes to the rest
-  pub copy_shrinks : (n : ℕ) (front shorter end rest : List ℕ) → IsUtf8 shorter → IsUtf8 end → front ≡ shorter ++ end → chars front ≡ copies_of n copy → length (chars end) ≡ length copy
-      → next (chars rest) ≡ None → (m : ℕ) × (chars shorter ≡ copies_of m copy) × (fewer copy next n (chars rest) ≡ fewer copy next m (chars (end ++ rest)))
-  copy_shrinks zero front shorter end rest u v e f same none =
+  pub copy_shrinks : (copies : List (List ℕ)) (front shorter end rest : List ℕ) → IsUtf8 shorter → IsUtf8 end → front ≡ shorter ++ end → chars front ≡ joined copies → AreCopiesOf ignore_case copy copies
+      → length (chars end) ≡ length copy → next (chars rest) ≡ None
+      → (fewer : List (List ℕ)) × (chars shorter ≡ joined fewer) × AreCopiesOf ignore_case copy fewer
+      × (led next copies (chars rest) (next (chars rest)) ≡ led next fewer (chars (end ++ rest)) (next (chars (end ++ rest))))
+  copy_shrinks [] front shorter end rest u v e f are same none =
       let nothing = ap length (sym (ap chars e ∙ chars-append shorter end u) ∙ f) in
       absurd (omega (arith, nothing, length-append (chars shorter) (chars end), same))
-  copy_shrinks (suc n) front shorter end rest u v e f same none =
-      let both = same_ends (chars shorter) (chars end) (copies_of n copy) copy (sym (ap chars e ∙ chars-append shorter end u) ∙ f ∙ copies-last n copy) same in (
-        n,
+  copy_shrinks (last ∷ copies) front shorter end rest u v e f (is, are) same none =
+      let both = same_ends (chars shorter) (chars end) (joined copies) last (sym (ap chars e ∙ chars-append shorter end u) ∙ f) (same ∙ sym (same-length ignore_case last copy is)) in
+      let longer : last ++ chars rest ≡ chars (end ++ rest) = ap (λ t. t ++ chars rest) (sym both.1) ∙ sym (chars-append end rest v) in (
+        copies,
         both.0,
-        ap (λ o. option_or o (fewer copy next n (copy ++ chars rest))) none
-            ∙ ap (λ t. fewer copy next n (t ++ chars rest)) (sym both.1) ∙ ap (fewer copy next n) (sym (chars-append end rest v)),
+        are,
+        ap (λ o. led next copies (last ++ chars rest) (option_or o (next (last ++ chars rest)))) none ∙ ap (λ t. led next copies t (next t)) longer,
       )
 
   -- where the front is too short for a copy, none is left
-  pub no_copy_left : (n : ℕ) (front rest : List ℕ) → front ≡ copies_of n copy → length front < length copy → fewer copy next n rest ≡ next rest
-  no_copy_left zero front rest e lt = refl
-  no_copy_left (suc n) front rest e lt = absurd (omega (arith, ap length e, length-append copy (copies_of n copy)))
+  pub no_copy_left : (copies : List (List ℕ)) (front rest : List ℕ) (found : Option Captures) → front ≡ joined copies → AreCopiesOf ignore_case copy copies → length front < length copy
+      → led next copies rest found ≡ found
+  no_copy_left [] front rest found e are lt = refl
+  no_copy_left (last ∷ copies) front rest found e (is, are) lt =
+      absurd (omega (arith, ap length e, length-append (joined copies) last, same-length ignore_case last copy is, lt))
 
   -- one copy is taken at least
-  pub copies_after : (rest : List ℕ) → some_rounds (after_text copy) going_on [] (copy ++ rest) ≡ any_rounds (after_text copy) going_on [] rest
-  copies_after rest =
-      after-found copy rest (any_rounds (after_text copy) going_on) [] ∙ rounds-fronts copy next (length rest) copy [] rest
+  pub copies_after : (text rest : List ℕ) → BeginsAs ignore_case copy text rest
+      → some_rounds (after_text ignore_case copy) going_on [] text ≡ any_rounds (after_text ignore_case copy) going_on [] rest
+  copies_after text rest begins =
+      after-found ignore_case copy text rest (any_rounds (after_text ignore_case copy) going_on) [] begins ∙ rounds-fronts ignore_case copy next (length rest) begins.0 [] rest
 
 -- ---- the step
 
 -- the step of copies, by its parts
-pub copies_step : (copies : Copied) (steps literal others : List Step) (text : List ℕ) → literal ≡ take copies.text.others steps → others ≡ drop copies.text.others steps
-    → walk (Copies copies ∷ steps) text ≡ repeated copies.may_be_missing (after_text (copies.text.first ∷ literals literal)) (λ front rest. walk others rest) [] text
-copies_step copies steps literal others text e f =
-    ap (λ l. repeated copies.may_be_missing (after_text (copies.text.first ∷ literals l)) (λ front rest. walk_after copies.text.others steps rest) [] text) (sym e)
+pub copies_step : (ignore_case : Bool) (copies : Copied) (steps literal others : List Step) (text : List ℕ) → literal ≡ take copies.text.others steps → others ≡ drop copies.text.others steps
+    → walk ignore_case (Copies copies ∷ steps) text ≡ repeated copies.may_be_missing (after_text ignore_case (copies.text.first ∷ literals literal)) (λ front rest. walk ignore_case others rest) [] text
+copies_step ignore_case copies steps literal others text e f =
+    ap (λ l. repeated copies.may_be_missing (after_text ignore_case (copies.text.first ∷ literals l)) (λ front rest. walk_after ignore_case copies.text.others steps rest) [] text) (sym e)
     ∙ by copies.may_be_missing
   where
-    same : (before rest : List ℕ) → walk_after copies.text.others steps rest ≡ walk others rest
-    same before rest = walk_after-drop copies.text.others steps rest ∙ ap (λ l. walk l rest) (sym f)
+    same : (before rest : List ℕ) → walk_after ignore_case copies.text.others steps rest ≡ walk ignore_case others rest
+    same before rest = walk_after-drop ignore_case copies.text.others steps rest ∙ ap (λ l. walk ignore_case l rest) (sym f)
 
-    by : (b : Bool) → repeated b (after_text (copies.text.first ∷ literals literal)) (λ front rest. walk_after copies.text.others steps rest) [] text
-        ≡ repeated b (after_text (copies.text.first ∷ literals literal)) (λ front rest. walk others rest) [] text
-    by true = (keeps-any (after_text (copies.text.first ∷ literals literal)) (advances-after copies.text.first (literals literal))).same
-        (λ front rest. walk_after copies.text.others steps rest) (λ front rest. walk others rest) [] text (λ before rest le. same before rest)
-    by false = (keeps-some (after_text (copies.text.first ∷ literals literal)) (advances-after copies.text.first (literals literal))).same
-        (λ front rest. walk_after copies.text.others steps rest) (λ front rest. walk others rest) [] text (λ before rest le. same before rest)
+    by : (b : Bool) → repeated b (after_text ignore_case (copies.text.first ∷ literals literal)) (λ front rest. walk_after ignore_case copies.text.others steps rest) [] text
+        ≡ repeated b (after_text ignore_case (copies.text.first ∷ literals literal)) (λ front rest. walk ignore_case others rest) [] text
+    by true = (keeps-any (after_text ignore_case (copies.text.first ∷ literals literal)) (advances-after ignore_case copies.text.first (literals literal))).same
+        (λ front rest. walk_after ignore_case copies.text.others steps rest) (λ front rest. walk ignore_case others rest) [] text (λ before rest le. same before rest)
+    by false = (keeps-some (after_text ignore_case (copies.text.first ∷ literals literal)) (advances-after ignore_case copies.text.first (literals literal))).same
+        (λ front rest. walk_after ignore_case copies.text.others steps rest) (λ front rest. walk ignore_case others rest) [] text (λ before rest le. same before rest)
 
 -- the same by whether there may be none
-module _ (copies : Copied) (steps literal others : List Step) (text : List ℕ) (own : literal ≡ take copies.text.others steps) (passed : others ≡ drop copies.text.others steps) where
-  known : (b : Bool) → copies.may_be_missing ≡ b → walk (Copies copies ∷ steps) text ≡ repeated b (after_text (literal_text copies.text.first literal)) (λ front rest. walk others rest) [] text
-  known b is = copies_step copies steps literal others text own passed ∙ ap (λ o. repeated o (after_text (literal_text copies.text.first literal)) (λ front rest. walk others rest) [] text) is
+module _ (ignore_case : Bool) (copies : Copied) (steps literal others : List Step) (text : List ℕ) (own : literal ≡ take copies.text.others steps) (passed : others ≡ drop copies.text.others steps) where
+  known : (b : Bool) → copies.may_be_missing ≡ b → walk ignore_case (Copies copies ∷ steps) text ≡ repeated b (after_text ignore_case (literal_text copies.text.first literal)) (λ front rest. walk ignore_case others rest) [] text
+  known b is = copies_step ignore_case copies steps literal others text own passed ∙ ap (λ o. repeated o (after_text ignore_case (literal_text copies.text.first literal)) (λ front rest. walk ignore_case others rest) [] text) is
 
-  pub copies_any : copies.may_be_missing ≡ true → walk (Copies copies ∷ steps) text ≡ walk_copies copies.text.first literal others text
+  pub copies_any : copies.may_be_missing ≡ true → walk ignore_case (Copies copies ∷ steps) text ≡ walk_copies ignore_case copies.text.first literal others text
   copies_any is = known true is
 
   -- the text goes on with one
-  pub copies_some : copies.may_be_missing ≡ false → (rest : List ℕ) → text ≡ literal_text copies.text.first literal ++ rest → walk (Copies copies ∷ steps) text ≡ walk_copies copies.text.first literal others rest
+  pub copies_some : copies.may_be_missing ≡ false → (rest : List ℕ) → BeginsAs ignore_case (literal_text copies.text.first literal) text rest → walk ignore_case (Copies copies ∷ steps) text ≡ walk_copies ignore_case copies.text.first literal others rest
   copies_some is rest cut =
-      known false is
-      ∙ ap (some_rounds (after_text (literal_text copies.text.first literal)) (λ front rest. walk others rest) []) cut
-      ∙ copies_after copies.text.first (literals literal) (walk others) rest
+      known false is ∙ copies_after ignore_case copies.text.first (literals literal) (walk ignore_case others) text rest cut
 
   -- it does not
-  pub copies_none : copies.may_be_missing ≡ false → ((rest : List ℕ) → ¬ (text ≡ literal_text copies.text.first literal ++ rest)) → walk (Copies copies ∷ steps) text ≡ None
+  pub copies_none : copies.may_be_missing ≡ false → ((rest : List ℕ) → ¬ BeginsAs ignore_case (literal_text copies.text.first literal) text rest) → walk ignore_case (Copies copies ∷ steps) text ≡ None
   copies_none is other =
       known false is
-      ∙ after-other (literal_text copies.text.first literal) text (any_rounds (after_text (literal_text copies.text.first literal)) (λ front rest. walk others rest)) [] other
+      ∙ after-other ignore_case (literal_text copies.text.first literal) text (any_rounds (after_text ignore_case (literal_text copies.text.first literal)) (λ front rest. walk ignore_case others rest)) [] other

@@ -1,19 +1,19 @@
 -- A value of the engine answers the first way, and what `regex::Regex` answers.
-use Rattle.std.proofs.Common.{◌≡◌, ℕ, Bool, false, true, List, refl, sym, ap, ◌∙◌, inl, inr}
+use Rattle.std.proofs.Common.{◌≡◌, ℕ, Bool, false, true, List, refl, sym, ap, ◌∙◌, subst, inl, inr}
 use Rattle.std.proofs.lemmas.Str.{IsUtf8-string_bytes}
 use Rattle.std.specs.Prelude.{⊤, IsOk, IsTrue, Ok, Err, Result, string_bytes}
 use Rattle.std.specs.Str.{all_scalars}
 use Rattle.regex.specs.declared.string.regex.Regex.{Regex}
-use Rattle.urlpattern_core.specs.Regexes.{IsRegexOf, regex_answer}
-use Rattle.urlpattern_core.specs.FirstWays.{AllAnswerAlike, ComponentsTakeGenerated, EachAnswersFirst, MatchersTakeGenerated, ValuesAnswerFirst}
+use Rattle.urlpattern_core.specs.Regexes.{IsRegexOf, regex_answer, regex_engine}
+use Rattle.urlpattern_core.specs.FirstWays.{AllAnswerAlike, ComponentsTakeGenerated, EachAnswersFirst, KeepsCase, MatchersTakeGenerated, ValuesAnswerAlike, ValuesAnswerByFlags, ValuesAnswerFirst}
 use Rattle.urlpattern_core.specs.Generated.{AreGenerated}
 use Rattle.urlpattern_core.proofs.FirstMatchers.{first_alike, made_first}
 use Rattle.urlpattern_core.proofs.RegexWays.{regex_answers_first}
 use Rattle.urlpattern_meaning.specs.Dialect.{IsTreeOf, Items}
 use Rattle.urlpattern_meaning.specs.FirstAnswers.{AnswersFirst}
-use Rattle.urlpattern_meaning.specs.Ways.{first_way}
+use Rattle.urlpattern_meaning.specs.Ways.{first_way, first_way_by}
 use Rattle.urlpattern_meaning.proofs.DialectUnique.{trees_are_one}
-use Rattle.urlpattern_core.specs.Components.{IsEngineOf, IsWholeEngineOf, engine_flags, has_regexp}
+use Rattle.urlpattern_core.specs.Components.{FlagsAgree, IsEngineOf, IsWholeEngineOf, engine_flags, has_regexp, ignores_case}
 use Rattle.urlpattern_syntax.specs.declared.parser.RegexSyntax.{RegexSyntax}
 use Rattle.urlpattern_syntax.specs.Errors.{ErrorView}
 use Rattle.urlpattern_syntax.specs.Options.{OptionsView}
@@ -23,42 +23,68 @@ use Rattle.urlpattern_engine.specs.declared.pattern_regexp.Expression.{Expressio
 use Rattle.urlpattern_engine.specs.declared.pattern_regexp.Expression.TheVariants.{Own, Compiled, Other}
 use Rattle.urlpattern_engine.specs.declared.pattern_regexp.PatternRegexp.{PatternRegexp}
 use Rattle.urlpattern_engine.specs.PatternRegexps.{IsExpressionOf, IsPatternRegexpOf, expression_answer, pattern_answer, pattern_engine}
+use Rattle.urlpattern_engine.specs.declared.step.Step.{Step}
+use Rattle.urlpattern_engine.specs.Automatons.{IsRegexReadAs}
+use Rattle.urlpattern_engine.specs.ReadSteps.{AreStepsOf, IsGenerated}
+use Rattle.urlpattern_engine.specs.Walk.{walk}
 use Rattle.urlpattern_meaning.proofs.FirstAnswers.{took_all}
 use Rattle.urlpattern_engine.proofs.AutomatonLemmas.{automaton_first, automaton_same}
-use Rattle.urlpattern_engine.proofs.TwoReadings.{regexes_same}
+use Rattle.urlpattern_engine.proofs.TwoReadings.{default_read, read_by_default, regexes_same}
 
-expression_first : (regexp : List ℕ) (tree : Items) (expression : Expression) (text : List ℕ) → IsTreeOf regexp tree → IsExpressionOf regexp expression → IsTrue (all_scalars text)
-    → expression_answer expression text ≡ first_way tree text
-expression_first regexp tree (Own own) text is made fine =
-    made.1.answers text ∙ ap (λ t. first_way t text) (trees_are_one regexp made.1.tree tree made.1.is_tree is)
-expression_first regexp tree (Compiled automaton) text is made fine =
-    automaton_first regexp (string_bytes automaton.value.text) automaton.value.nfa (IsUtf8-string_bytes automaton.value.text) made.0 made.1 text fine tree is
-expression_first regexp tree (Other regex) text is made fine = regex_answers_first regexp tree regex.value text is made fine
+-- the steps of an expression answer the first way of its tree, whether case counts or not
+steps_first : (ignore_case : Bool) (regexp : List ℕ) (tree : Items) (steps : List Step) (text : List ℕ) → IsTreeOf regexp tree → AreStepsOf regexp steps → walk ignore_case steps text ≡ first_way_by ignore_case tree text
+steps_first ignore_case regexp tree steps text is of =
+    of.answers ignore_case text ∙ ap (λ t. first_way_by ignore_case t text) (trees_are_one regexp of.tree tree of.is_tree is)
 
-pub pattern_regexp_first : (regexp : List ℕ) (tree : Items) (value : PatternRegexp) (text : List ℕ) → IsTreeOf regexp tree → IsPatternRegexpOf regexp value → IsTrue (all_scalars text)
+by_default : (ignore_case : Bool) (regexp : List ℕ) (regex : Regex) → ignore_case ≡ false → IsRegexReadAs ignore_case regexp regex → IsRegexOf regexp regex
+by_default ignore_case regexp regex kept made = default_read regexp regex (subst (λ (b : Bool). IsRegexReadAs b regexp regex) kept made)
+
+expression_first : (ignore_case : Bool) (regexp : List ℕ) (tree : Items) (expression : Expression) (text : List ℕ) → ignore_case ≡ false → IsTreeOf regexp tree → IsExpressionOf ignore_case regexp expression
+    → IsTrue (all_scalars text) → expression_answer ignore_case expression text ≡ first_way tree text
+expression_first ignore_case regexp tree (Own own) text kept is made fine =
+    steps_first ignore_case regexp tree own.steps.items text is made.1 ∙ ap (λ b. first_way_by b tree text) kept
+expression_first ignore_case regexp tree (Compiled automaton) text kept is made fine =
+    automaton_first ignore_case regexp (string_bytes automaton.value.text) automaton.value.nfa (IsUtf8-string_bytes automaton.value.text) made.0 made.1 text fine kept tree is
+expression_first ignore_case regexp tree (Other regex) text kept is made fine = regex_answers_first regexp tree regex.value text is (by_default ignore_case regexp regex.value kept made.0) fine
+
+pub pattern_regexp_first : (regexp flags : List ℕ) (tree : Items) (value : PatternRegexp) (text : List ℕ) → ignores_case flags ≡ false → IsTreeOf regexp tree → IsPatternRegexpOf regexp flags value → IsTrue (all_scalars text)
     → pattern_answer value text ≡ first_way tree text
 unfolding pattern_answer
-pattern_regexp_first regexp tree value text is made fine = expression_first regexp tree value.expression text is made.of_text fine
+pattern_regexp_first regexp flags tree value text keeps is made fine = expression_first value.ignore_case regexp tree value.expression text (made.by_flags ∙ keeps) is made.of_text fine
 
--- a value that was made of a text answers the first way of its tree, and so it follows the text
-pub answers_first_of : (regexp : List ℕ) (value : PatternRegexp) → IsPatternRegexpOf regexp value → AnswersFirst regexp (pattern_answer value)
-answers_first_of regexp value made = λ tree text is fine. pattern_regexp_first regexp tree value text is made fine
+-- a value that was made of a text answers the first way of its tree, if case is kept, and so it follows the text
+pub answers_first_of : (regexp flags : List ℕ) (value : PatternRegexp) → ignores_case flags ≡ false → IsPatternRegexpOf regexp flags value → AnswersFirst regexp (pattern_answer value)
+answers_first_of regexp flags value keeps made = λ tree text is fine. pattern_regexp_first regexp flags tree value text keeps is made fine
 
-pub values_first : ValuesAnswerFirst pattern_engine
-values_first regexp flags value made = answers_first_of regexp value made
+pub values_first : ValuesAnswerFirst pattern_engine KeepsCase
+values_first regexp flags value keeps made = answers_first_of regexp flags value keeps made
 
-expression_same : (regexp : List ℕ) (expression : Expression) (regex : Regex) (text : List ℕ) → IsExpressionOf regexp expression → IsRegexOf regexp regex → IsTrue (all_scalars text)
-    → expression_answer expression text ≡ regex_answer regex text
-expression_same regexp (Own own) regex text made also fine =
-    made.1.answers text ∙ sym (regex_answers_first regexp made.1.tree regex text made.1.is_tree also fine)
-expression_same regexp (Compiled automaton) regex text made also fine =
-    automaton_same regexp (string_bytes automaton.value.text) automaton.value.nfa (IsUtf8-string_bytes automaton.value.text) made.0 made.1 text fine regex also
-expression_same regexp (Other other) regex text made also fine = regexes_same regexp other.value regex made also text fine
+-- a value that was made of the regular expression of parts without a custom one answers by its steps
+expression_generated : (ignore_case : Bool) (regexp : List ℕ) (tree : Items) (expression : Expression) (text : List ℕ) → IsGenerated regexp → IsTreeOf regexp tree → IsExpressionOf ignore_case regexp expression
+    → expression_answer ignore_case expression text ≡ first_way_by ignore_case tree text
+expression_generated ignore_case regexp tree (Own own) text generated is made = steps_first ignore_case regexp tree own.steps.items text is made.1
+expression_generated ignore_case regexp tree (Compiled automaton) text generated is made = absurd (made.2 generated)
+expression_generated ignore_case regexp tree (Other regex) text generated is made = absurd (made.1 generated)
 
-pub pattern_regexp_same : (regexp : List ℕ) (value : PatternRegexp) (regex : Regex) (text : List ℕ) → IsPatternRegexpOf regexp value → IsRegexOf regexp regex → IsTrue (all_scalars text)
-    → pattern_answer value text ≡ regex_answer regex text
+pub values_by_flags : ValuesAnswerByFlags pattern_engine
 unfolding pattern_answer
-pattern_regexp_same regexp value regex text made also fine = expression_same regexp value.expression regex text made.of_text also fine
+values_by_flags options flags parts tree value generated is made = λ text.
+    expression_generated value.ignore_case (regexp_text options parts) tree value.expression text (options, parts, generated, refl) is made.of_text
+    ∙ ap (λ b. first_way_by b tree text) made.by_flags
+
+expression_same : (ignore_case : Bool) (regexp : List ℕ) (expression : Expression) (regex : Regex) (text : List ℕ) → ignore_case ≡ false → IsExpressionOf ignore_case regexp expression → IsRegexOf regexp regex
+    → IsTrue (all_scalars text) → expression_answer ignore_case expression text ≡ regex_answer regex text
+expression_same ignore_case regexp (Own own) regex text kept made also fine =
+    ap (λ b. walk b own.steps.items text) kept ∙ made.1.answers false text ∙ sym (regex_answers_first regexp made.1.tree regex text made.1.is_tree also fine)
+expression_same ignore_case regexp (Compiled automaton) regex text kept made also fine =
+    automaton_same ignore_case regexp (string_bytes automaton.value.text) automaton.value.nfa (IsUtf8-string_bytes automaton.value.text) made.0 made.1 text fine regex
+    (subst (λ (b : Bool). IsRegexReadAs b regexp regex) (sym kept) (read_by_default regexp regex also))
+expression_same ignore_case regexp (Other other) regex text kept made also fine =
+    regexes_same ignore_case regexp other.value regex made.0 (subst (λ (b : Bool). IsRegexReadAs b regexp regex) (sym kept) (read_by_default regexp regex also)) text fine
+
+pub pattern_regexp_same : ValuesAnswerAlike pattern_engine regex_engine KeepsCase
+unfolding pattern_answer
+pattern_regexp_same regexp flags value regex text keeps made also fine = expression_same value.ignore_case regexp value.expression regex text (made.by_flags ∙ keeps) made.of_text also fine
 
 -- ---- matchers
 
@@ -85,9 +111,9 @@ component_takes syntax options parts component is generated = (
   matcher_takes options (engine_flags options) parts component.matcher is.has_matcher generated,
 )
 
-pub taken_first : EachAnswersFirst pattern_engine (λ inner. ⊤)
+pub taken_first : EachAnswersFirst pattern_engine (λ options flags inner. FlagsAgree options flags)
 taken_first = made_first pattern_engine _ (λ value. ⊤) (λ options flags parts matcher taken. matcher_takes options flags parts matcher taken.is_made taken.generated)
-    (λ regexp flags value made took. values_first regexp flags value made)
+    (λ options regexp flags value inner kept agree made took. values_first regexp flags value (agree ∙ kept) made)
 
-pub taken_one : AllAnswerAlike pattern_engine (λ inner. ⊤)
+pub taken_one : AllAnswerAlike pattern_engine (λ options flags inner. FlagsAgree options flags)
 taken_one = first_alike pattern_engine _ taken_first

@@ -1,5 +1,5 @@
 -- States of a match, and their bits.
-use Rattle.std.proofs.Common.{◌≡◌, ◌≢◌, ℕ, ◌+◌, ◌*◌, ◌/◌, ◌%◌, ◌^◌, ◌<◌, ◌⊎◌, List, [], ◌∷◌, ◌++◌, length, get_or, set, None, refl, sym, ap, ◌∙◌, subst, inl, inr, arith, append_assoc, length-append, drop, take, bit_and, bit_or, w64, replicate, zero, suc}
+use Rattle.std.proofs.Common.{Bool, ◌≡◌, ◌≢◌, ℕ, ◌+◌, ◌*◌, ◌/◌, ◌%◌, ◌^◌, ◌<◌, ◌⊎◌, List, [], ◌∷◌, ◌++◌, length, get_or, set, None, refl, sym, ap, ◌∙◌, subst, inl, inr, arith, append_assoc, length-append, drop, take, bit_and, bit_or, w64, replicate, zero, suc}
 use Rattle.std.specs.Int.{bit_at}
 use Rattle.std.proofs.lemmas.Nat.Bits.{bit_at-zero, shr_and_one, bit_at_set_other}
 use Rattle.std.proofs.lemmas.Bool.{cases_eq}
@@ -24,8 +24,9 @@ pub ends_drop : {A : Type 0} (n : ℕ) (whole : List A) → EndsWith whole (drop
 ends_drop n whole = (take n whole, sym (take-append-drop n whole))
 
 -- less of both is left
-pub place_within : (whole now : Whole) (steps others : List Step) (text rest : List ℕ) → now ≡ whole → IsStateOf whole steps text → EndsWith steps others → EndsWith text rest → IsStateOf now others rest
-place_within whole now steps others text rest same place first second = subst (λ w. IsStateOf w others rest) (sym same) (record {
+pub place_within : (ignore_case : Bool) (whole now : Whole) (steps others : List Step) (text rest : List ℕ) → now ≡ whole → IsStateOf ignore_case whole steps text → EndsWith steps others → EndsWith text rest → IsStateOf ignore_case now others rest
+place_within ignore_case whole now steps others text rest same place first second = subst (λ w. IsStateOf ignore_case w others rest) (sym same) (record {
+  of_case = place.of_case;
   of_steps = ends_longer whole.steps steps others place.of_steps first;
   of_text = ends_longer whole.text text rest place.of_text second;
 })
@@ -56,8 +57,8 @@ short_text : (whole text : List ℕ) → EndsWith whole text → byte_len text <
 short_text whole text end = omega (arith, ap byte_len end.1, byte_len-append end.0 text)
 
 -- the state of a bit is one
-same_place : (whole : Whole) (steps others : List Step) (text other : List ℕ) → IsStateOf whole steps text → IsStateOf whole others other → bit_of whole.text steps text ≡ bit_of whole.text others other → (steps ≡ others) × (text ≡ other)
-same_place whole steps others text other place also e =
+same_place : (ignore_case also_ignored : Bool) (whole : Whole) (steps others : List Step) (text other : List ℕ) → IsStateOf ignore_case whole steps text → IsStateOf also_ignored whole others other → bit_of whole.text steps text ≡ bit_of whole.text others other → (steps ≡ others) × (text ≡ other)
+same_place ignore_case also_ignored whole steps others text other place also e =
     let width : ℕ = byte_len whole.text + 1 in
     let rows : length steps ≡ length others =
     sym (div-mul-add (length steps) width (byte_len text) (short_text whole.text text place.of_text))
@@ -68,14 +69,14 @@ same_place whole steps others text other place also e =
     )
 
 -- a state more
-pub dead_more : (whole : Whole) (old new : List ℕ) (bit : ℕ) (steps : List Step) (text : List ℕ) → IsStateOf whole steps text → walk steps text ≡ None → bit ≡ bit_of whole.text steps text
+pub dead_more : (ignore_case : Bool) (whole : Whole) (old new : List ℕ) (bit : ℕ) (steps : List Step) (text : List ℕ) → IsStateOf ignore_case whole steps text → walk ignore_case steps text ≡ None → bit ≡ bit_of whole.text steps text
     → ((other : ℕ) → HasBit new other → HasBit old other ⊎ (other ≡ bit)) → AreDead whole old → AreDead whole new
-dead_more whole old new bit steps text place none is more dead = λ others other also has.
+dead_more ignore_case whole old new bit steps text place none is more dead = λ others other also has.
     elim (more (bit_of whole.text others other) has) [
       | inl was ↦ dead others other also was
       | inr same ↦
-          let one = same_place whole others steps other text also place (same ∙ is) in
-          ap (λ s. walk s other) one.0 ∙ ap (walk steps) one.1 ∙ none
+          let one = same_place whole.ignore_case ignore_case whole others steps other text also place (same ∙ is) in
+          ap (λ i. walk i others other) place.of_case ∙ ap (λ s. walk ignore_case s other) one.0 ∙ ap (walk ignore_case steps) one.1 ∙ none
     ]
 
 -- a bit of a word

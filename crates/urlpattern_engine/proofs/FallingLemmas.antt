@@ -9,21 +9,22 @@ use Rattle.urlpattern_syntax.proofs.StringTexts.{chars-encode}
 use Rattle.urlpattern_engine.specs.Walk.{Continuation, up_to_first, from_first, longest}
 use Rattle.urlpattern_engine.proofs.RunLemmas.{both_ends}
 use Rattle.urlpattern_engine.proofs.Tried.{option_or-assoc}
+use Rattle.urlpattern_meaning.specs.Matching.{is_same_character}
 
 -- what the longest front of these characters gives that gives something
 abbrev pub falling : Continuation → (taken front rest : List ℕ) → Option Captures
 falling gives taken [] rest = gives taken rest
 falling gives taken (c ∷ front) rest = option_or (falling gives (taken ++ c ∷ []) front rest) (gives taken (c ∷ (front ++ rest)))
 
-pub longest_falling : (end : ℕ) (gives : Continuation) (taken text : List ℕ) → longest end gives taken text ≡ falling gives taken (up_to_first end text) (from_first end text)
-longest_falling end gives taken [] = refl
-longest_falling end gives taken (c ∷ text) = by (c == end) (longest_falling end gives (taken ++ c ∷ []) text)
+pub longest_falling : (ignore_case : Bool) (end : ℕ) (gives : Continuation) (taken text : List ℕ) → longest ignore_case end gives taken text ≡ falling gives taken (up_to_first ignore_case end text) (from_first ignore_case end text)
+longest_falling ignore_case end gives taken [] = refl
+longest_falling ignore_case end gives taken (c ∷ text) = by (is_same_character ignore_case c end) (longest_falling ignore_case end gives (taken ++ c ∷ []) text)
   where
-    by : (b : Bool) → longest end gives (taken ++ c ∷ []) text ≡ falling gives (taken ++ c ∷ []) (up_to_first end text) (from_first end text)
-        → cond b (gives taken (c ∷ text)) (option_or (longest end gives (taken ++ c ∷ []) text) (gives taken (c ∷ text)))
-        ≡ falling gives taken (cond b [] (c ∷ up_to_first end text)) (cond b (c ∷ text) (from_first end text))
+    by : (b : Bool) → longest ignore_case end gives (taken ++ c ∷ []) text ≡ falling gives (taken ++ c ∷ []) (up_to_first ignore_case end text) (from_first ignore_case end text)
+        → cond b (gives taken (c ∷ text)) (option_or (longest ignore_case end gives (taken ++ c ∷ []) text) (gives taken (c ∷ text)))
+        ≡ falling gives taken (cond b [] (c ∷ up_to_first ignore_case end text)) (cond b (c ∷ text) (from_first ignore_case end text))
     by true later = refl
-    by false later = ap₂ option_or later (ap (λ t. gives taken (c ∷ t)) (sym (both_ends end text)))
+    by false later = ap₂ option_or later (ap (λ t. gives taken (c ∷ t)) (sym (both_ends ignore_case end text)))
 
 -- the longest of all comes first, and then those without its last character
 pub falling-last : (gives : Continuation) (taken front : List ℕ) (c : ℕ) (rest : List ℕ)

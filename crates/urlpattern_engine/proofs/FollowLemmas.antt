@@ -13,11 +13,13 @@ use Rattle.urlpattern_engine.specs.declared.step.Group.{Group}
 use Rattle.urlpattern_engine.specs.declared.step.Step.{Step}
 use Rattle.urlpattern_engine.specs.declared.step.Step.TheVariants.{Anything, Literal, Maybe, Segment}
 use Rattle.urlpattern_engine.specs.Failed.{EndsWith, HasEnded}
-use Rattle.urlpattern_engine.specs.Walk.{Continuation, captured_front, longest, shortest, up_to_first, walk}
+use Rattle.urlpattern_engine.specs.Walk.{BeginsAs, Continuation, captured_front, longest, shortest, up_to_first, walk}
 use Rattle.urlpattern_engine.specs.Taken.{AreAdded, Extends, Kept}
+use Rattle.urlpattern_engine.proofs.SameLemmas.{one_begins}
 use Rattle.urlpattern_engine.proofs.RunLemmas.{longest_found, longest_no_more, shortest_ended}
 use Rattle.urlpattern_engine.proofs.StepLemmas.{maybe_missing}
 use Rattle.urlpattern_syntax.specs.Text.{line_feed, option_text}
+use Rattle.urlpattern_meaning.specs.Matching.{is_same_character}
 
 -- what was captured before, and what is captured now
 abbrev pub plus : Kept → Option Captures → Option Captures
@@ -64,36 +66,45 @@ plus_missing now n (Some others) =
     ∙ ap (λ l. l ++ others) (ap (λ l. map option_text now ++ l) (sym (map_missing n)) ∙ sym (map-append option_text now (replicate n None))))
 
 -- a group that is missing, after it was tried
-pub plus_maybe : (now new more : Kept) (group : Group) (others : List Step) (rest : List ℕ) → walk others rest ≡ None → new ≡ now → more ≡ new ++ replicate group.captures None
-    → plus now (walk (Maybe group ∷ others) rest) ≡ plus more (walk (drop group.steps others) rest)
-plus_maybe now new more group others rest none same missing =
-    ap (plus now) (maybe_missing group others rest none)
-    ∙ plus_missing now group.captures (walk (drop group.steps others) rest)
-    ∙ ap (λ l. plus l (walk (drop group.steps others) rest)) (ap (λ l. l ++ replicate group.captures None) (sym same) ∙ sym missing)
+pub plus_maybe : (ignore_case : Bool) (now new more : Kept) (group : Group) (others : List Step) (rest : List ℕ) → walk ignore_case others rest ≡ None → new ≡ now → more ≡ new ++ replicate group.captures None
+    → plus now (walk ignore_case (Maybe group ∷ others) rest) ≡ plus more (walk ignore_case (drop group.steps others) rest)
+plus_maybe ignore_case now new more group others rest none same missing =
+    ap (plus now) (maybe_missing ignore_case group others rest none)
+    ∙ plus_missing now group.captures (walk ignore_case (drop group.steps others) rest)
+    ∙ ap (λ l. plus l (walk ignore_case (drop group.steps others) rest)) (ap (λ l. l ++ replicate group.captures None) (sym same) ∙ sym missing)
 
 -- a character that stands there
-pub literal_passed : (c : ℕ) (others : List Step) (rest remaining : List ℕ) → rest ≡ c ∷ remaining → walk (Literal c ∷ others) rest ≡ walk others remaining
-literal_passed c others rest remaining e = ap (walk (Literal c ∷ others)) e ∙ ap (λ b. cond b (walk others remaining) None) (eq-eqb c c refl)
+pub literal_passed : (ignore_case : Bool) (c other : ℕ) (others : List Step) (rest remaining : List ℕ) → rest ≡ other ∷ remaining → is_same_character ignore_case other c ≡ true → walk ignore_case (Literal c ∷ others) rest ≡ walk ignore_case others remaining
+literal_passed ignore_case c other others rest remaining e one = ap (walk ignore_case (Literal c ∷ others)) e ∙ ap (λ b. cond b (walk ignore_case others remaining) None) one
+
+-- another character stands there, or none
+pub literal_other : (ignore_case : Bool) (c : ℕ) (others : List Step) (text : List ℕ) → ((rest : List ℕ) → ¬ BeginsAs ignore_case (c ∷ []) text rest) → walk ignore_case (Literal c ∷ others) text ≡ None
+literal_other ignore_case c others [] other = refl
+literal_other ignore_case c others (d ∷ text) other = by (is_same_character ignore_case d c) refl
+  where
+    by : (b : Bool) → is_same_character ignore_case d c ≡ b → cond b (walk ignore_case others text) None ≡ None
+    by true e = absurd (other text (one_begins ignore_case c d (d ∷ text) text refl e))
+    by false e = refl
 
 -- the end of the steps
-end_adds : (now : Kept) (rest : List ℕ) (is_empty : Bool) → (is_empty ≡ true → rest ≡ []) → (is_empty ≡ false → ¬ (rest ≡ [])) → AreAdded now now is_empty (walk [] rest)
-end_adds now [] true full some = ap Some (sym (append-nil (map option_text now)))
-end_adds now (c ∷ rest) true full some = let e : (c ∷ rest) ≡ [] = full refl in cc
-end_adds now [] false full some = absurd (some refl refl)
-end_adds now (c ∷ rest) false full some = refl
+end_adds : (ignore_case : Bool) (now : Kept) (rest : List ℕ) (is_empty : Bool) → (is_empty ≡ true → rest ≡ []) → (is_empty ≡ false → ¬ (rest ≡ [])) → AreAdded now now is_empty (walk ignore_case [] rest)
+end_adds ignore_case now [] true full some = ap Some (sym (append-nil (map option_text now)))
+end_adds ignore_case now (c ∷ rest) true full some = let e : (c ∷ rest) ≡ [] = full refl in cc
+end_adds ignore_case now [] false full some = absurd (some refl refl)
+end_adds ignore_case now (c ∷ rest) false full some = refl
 
 -- the same where no step is left
-pub end_taken : (now : Kept) (left : List Step) (rest : List ℕ) (is_empty is_taken : Bool) → left ≡ [] → (is_empty ≡ true → rest ≡ []) → (is_empty ≡ false → ¬ (rest ≡ [])) → is_empty ≡ is_taken
-    → AreAdded now now is_taken (walk left rest)
-end_taken now left rest is_empty is_taken none full some same =
-    subst (λ b. AreAdded now now b (walk [] rest)) same (end_adds now rest is_empty full some) ∙ sym (ap (λ l. plus now (walk l rest)) none)
+pub end_taken : (ignore_case : Bool) (now : Kept) (left : List Step) (rest : List ℕ) (is_empty is_taken : Bool) → left ≡ [] → (is_empty ≡ true → rest ≡ []) → (is_empty ≡ false → ¬ (rest ≡ [])) → is_empty ≡ is_taken
+    → AreAdded now now is_taken (walk ignore_case left rest)
+end_taken ignore_case now left rest is_empty is_taken none full some same =
+    subst (λ b. AreAdded now now b (walk ignore_case [] rest)) same (end_adds ignore_case now rest is_empty full some) ∙ sym (ap (λ l. plus now (walk ignore_case l rest)) none)
 
 -- ---- the shortest front
 
 -- a character is passed, and then there is a front that ends here
-shortest_passed : (end : ℕ) (gives : Continuation) (front : List ℕ) (c : ℕ) (rest : List ℕ) → (c == end) ≡ false
-    → shortest end gives front (c ∷ rest) ≡ option_or (gives (front ++ c ∷ []) rest) (shortest end gives (front ++ c ∷ []) rest)
-shortest_passed end gives front c rest e = ap (λ b. cond b None (option_or (gives (front ++ c ∷ []) rest) (shortest end gives (front ++ c ∷ []) rest))) e
+shortest_passed : (ignore_case : Bool) (end : ℕ) (gives : Continuation) (front : List ℕ) (c : ℕ) (rest : List ℕ) → (is_same_character ignore_case c end) ≡ false
+    → shortest ignore_case end gives front (c ∷ rest) ≡ option_or (gives (front ++ c ∷ []) rest) (shortest ignore_case end gives (front ++ c ∷ []) rest)
+shortest_passed ignore_case end gives front c rest e = ap (λ b. cond b None (option_or (gives (front ++ c ∷ []) rest) (shortest ignore_case end gives (front ++ c ∷ []) rest))) e
 
 -- what precedes the rest, with a character more
 front_grows : (text front before rest remaining : List ℕ) (c : ℕ) → text ≡ front ++ rest → rest ≡ c ∷ remaining → text ≡ before ++ remaining → before ≡ front ++ c ∷ []
@@ -105,16 +116,16 @@ pub run_passed : (front text rest : List ℕ) (c : ℕ) (remaining : List ℕ) �
 run_passed front text rest c remaining e f = e ∙ ap (λ r. front ++ r) f ∙ sym (append_assoc front (c ∷ []) remaining)
 
 -- a front with a character more is tried before those that are longer
-pub shortest_grown : (end : ℕ) (gives : Continuation) (text front before rest remaining : List ℕ) (c : ℕ) → text ≡ front ++ rest → rest ≡ c ∷ remaining → ¬ (c ≡ end) → text ≡ before ++ remaining
-    → shortest end gives front rest ≡ option_or (gives before remaining) (shortest end gives (front ++ c ∷ []) remaining)
-shortest_grown end gives text front before rest remaining c e f other g =
-    ap (shortest end gives front) f
-    ∙ shortest_passed end gives front c remaining (ne_eqb c end other)
-    ∙ ap (λ b. option_or (gives b remaining) (shortest end gives (front ++ c ∷ []) remaining)) (sym (front_grows text front before rest remaining c e f g))
+pub shortest_grown : (ignore_case : Bool) (end : ℕ) (gives : Continuation) (text front before rest remaining : List ℕ) (c : ℕ) → text ≡ front ++ rest → rest ≡ c ∷ remaining → is_same_character ignore_case c end ≡ false → text ≡ before ++ remaining
+    → shortest ignore_case end gives front rest ≡ option_or (gives before remaining) (shortest ignore_case end gives (front ++ c ∷ []) remaining)
+shortest_grown ignore_case end gives text front before rest remaining c e f other g =
+    ap (shortest ignore_case end gives front) f
+    ∙ shortest_passed ignore_case end gives front c remaining other
+    ∙ ap (λ b. option_or (gives b remaining) (shortest ignore_case end gives (front ++ c ∷ []) remaining)) (sym (front_grows text front before rest remaining c e f g))
 
 -- where the run has ended, no longer front leads on
-pub run_ended : (end : ℕ) (steps others : List Step) (front rest : List ℕ) → steps ≡ Segment end ∷ others → HasEnded end steps rest → shortest end (captured_front (walk others)) front rest ≡ None
-run_ended end steps others front rest first ended = shortest_ended end (walk others) front rest (subst (λ s. HasEnded end s rest) first ended)
+pub run_ended : (ignore_case : Bool) (end : ℕ) (steps others : List Step) (front rest : List ℕ) → steps ≡ Segment end ∷ others → HasEnded ignore_case end steps rest → shortest ignore_case end (captured_front (walk ignore_case others)) front rest ≡ None
+run_ended ignore_case end steps others front rest first ended = shortest_ended ignore_case end (walk ignore_case others) front rest (subst (λ s. HasEnded ignore_case end s rest) first ended)
 
 -- ---- the longest front
 
@@ -141,29 +152,29 @@ front_shortened text front shorter rest c scalar u e f =
     (IsUtf8-append (encode_utf8 c) rest (IsUtf8-encode c scalar) u, e ∙ ap (λ l. l ++ rest) f ∙ append_assoc shorter (encode_utf8 c) rest)
 
 -- where no longer front leads on, and this one does not, none from this one on does
-pub longest_missed : (others : List Step) (text front rest left : List ℕ) (old new : Kept) (is_taken : Bool) → text ≡ front ++ rest → text ≡ front ++ left
-    → longest line_feed (captured_front (walk others)) (chars front) (chars left) ≡ captured_front (walk others) (chars front) (chars left)
-    → is_taken ≡ false → AreAdded old new is_taken (captured_front (walk others) (chars front) (chars rest))
-    → longest line_feed (captured_front (walk others)) (chars front) (chars rest) ≡ None
-longest_missed others text front rest left old new is_taken e f no_longer missed adds =
-    let gives : Continuation = captured_front (walk others) in
+pub longest_missed : (ignore_case : Bool) (others : List Step) (text front rest left : List ℕ) (old new : Kept) (is_taken : Bool) → text ≡ front ++ rest → text ≡ front ++ left
+    → longest ignore_case line_feed (captured_front (walk ignore_case others)) (chars front) (chars left) ≡ captured_front (walk ignore_case others) (chars front) (chars left)
+    → is_taken ≡ false → AreAdded old new is_taken (captured_front (walk ignore_case others) (chars front) (chars rest))
+    → longest ignore_case line_feed (captured_front (walk ignore_case others)) (chars front) (chars rest) ≡ None
+longest_missed ignore_case others text front rest left old new is_taken e f no_longer missed adds =
+    let gives : Continuation = captured_front (walk ignore_case others) in
     let behind : rest ≡ left = append_cancel_left front rest left (sym e ∙ f) in
-    subst (λ r. longest line_feed gives (chars front) (chars r) ≡ gives (chars front) (chars r)) (sym behind) no_longer
+    subst (λ r. longest ignore_case line_feed gives (chars front) (chars r) ≡ gives (chars front) (chars r)) (sym behind) no_longer
     ∙ adds_none old new is_taken (gives (chars front) (chars rest)) missed adds
 
-module _ (steps others : List Step) (first : steps ≡ Anything ∷ others) where
+module _ (ignore_case : Bool) (steps others : List Step) (first : steps ≡ Anything ∷ others) where
   -- no front from this one on leads on
-  pub longest_dead : (front rest : List ℕ) → longest line_feed (captured_front (walk others)) front rest ≡ None → walk steps rest ≡ None
-  longest_dead front rest none = ap (λ s. walk s rest) first ∙ longest_no_more line_feed (walk others) front [] rest none
+  pub longest_dead : (front rest : List ℕ) → longest ignore_case line_feed (captured_front (walk ignore_case others)) front rest ≡ None → walk ignore_case steps rest ≡ None
+  longest_dead front rest none = ap (λ s. walk ignore_case s rest) first ∙ longest_no_more ignore_case line_feed (walk ignore_case others) front [] rest none
 
   -- this front is the longest that leads on
-  pub longest_taken : (text front rest left : List ℕ) (found : Captures) → IsUtf8 front → text ≡ front ++ rest → text ≡ front ++ left → up_to_first line_feed (chars front) ≡ chars front
-      → longest line_feed (captured_front (walk others)) (chars front) (chars left) ≡ captured_front (walk others) (chars front) (chars left)
-      → captured_front (walk others) (chars front) (chars rest) ≡ Some found → walk steps (chars text) ≡ Some found
+  pub longest_taken : (text front rest left : List ℕ) (found : Captures) → IsUtf8 front → text ≡ front ++ rest → text ≡ front ++ left → up_to_first ignore_case line_feed (chars front) ≡ chars front
+      → longest ignore_case line_feed (captured_front (walk ignore_case others)) (chars front) (chars left) ≡ captured_front (walk ignore_case others) (chars front) (chars left)
+      → captured_front (walk ignore_case others) (chars front) (chars rest) ≡ Some found → walk ignore_case steps (chars text) ≡ Some found
   longest_taken text front rest left found u e f lacks no_longer some =
-      let gives : Continuation = captured_front (walk others) in
+      let gives : Continuation = captured_front (walk ignore_case others) in
       let behind : rest ≡ left = append_cancel_left front rest left (sym e ∙ f) in
-      ap (λ s. walk s (chars text)) first
-      ∙ ap (walk (Anything ∷ others)) (ap chars e ∙ chars-append front rest u)
-      ∙ longest_found line_feed gives [] (chars front) (chars rest) found lacks
-      (subst (λ r. longest line_feed gives (chars front) (chars r) ≡ gives (chars front) (chars r)) (sym behind) no_longer ∙ some)
+      ap (λ s. walk ignore_case s (chars text)) first
+      ∙ ap (walk ignore_case (Anything ∷ others)) (ap chars e ∙ chars-append front rest u)
+      ∙ longest_found ignore_case line_feed gives [] (chars front) (chars rest) found lacks
+      (subst (λ r. longest ignore_case line_feed gives (chars front) (chars r) ≡ gives (chars front) (chars r)) (sym behind) no_longer ∙ some)

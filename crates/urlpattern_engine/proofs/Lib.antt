@@ -1,5 +1,6 @@
 pub mod Tried
 pub mod Rounds
+mod SameLemmas
 pub mod RunLemmas
 pub mod FallingLemmas
 pub mod LongestLemmas

@@ -15,14 +15,14 @@ use Rattle.urlpattern_engine.specs.Walk.{capture_count}
 use Rattle.urlpattern_engine.proofs.LongestLemmas.{run_uncaptured}
 use Rattle.urlpattern_engine.proofs.RepeatLemmas.{copied, walks-copies, walks-nothing_grouped}
 use Rattle.urlpattern_engine.proofs.SegmentLemmas.{in_order, in_order_count, segment_items, walks-segments}
-use Rattle.urlpattern_engine.proofs.Walks.{Walks, literals_uncaptured, walks-nothing, walks-inside, walks-once, walks-maybe, walks-step, walk_is_first}
+use Rattle.urlpattern_engine.proofs.Walks.{AtomWalks, EitherWalks, Walks, literals_uncaptured, walks-nothing, walks-inside, walks-once, walks-maybe, walks-step, walk_is_first}
 use Rattle.urlpattern_engine.proofs.SegmentTextLemmas.{in_order_text, in_order_allowed, spelled_segments}
 
 -- ---- a tree and its steps
 
 -- items stand before the text that remains, with their steps
 abbrev pub StandBefore : (remaining text : List ℕ) → List Step → Type 0
-StandBefore remaining text steps = (tree : Items) × (text ≡ items_text tree ++ remaining) × AreItems tree × Walks tree steps
+StandBefore remaining text steps = (tree : Items) × (text ≡ items_text tree ++ remaining) × AreItems tree × EitherWalks tree steps
 
 -- the end of an expression, outside of brackets, with its steps
 abbrev pub IsEnd : (text : List ℕ) → List Step → Type 0
@@ -34,7 +34,7 @@ IsInnerEnd text own times others = (outer : List ℕ) × StandBefore (codes ")" 
 
 -- a whole expression with its steps
 abbrev pub IsWhole : (regexp : List ℕ) → List Step → Type 0
-IsWhole regexp steps = (tree : Items) × IsTreeOf regexp tree × Walks tree steps
+IsWhole regexp steps = (tree : Items) × IsTreeOf regexp tree × EitherWalks tree steps
 
 -- whatever is read of the text that is left, the whole is read with what was read before; inside of brackets the steps of these
 -- begin at a place
@@ -52,7 +52,7 @@ pub record SpellsAll (own : List Step) (front : List ℕ) : Type 0 where
   pub is_atom : IsAtom atom
   pub allows : AllowsGroups quantifier (atom_group_count atom)
   pub spelled : front ≡ atom_text atom ++ quantifier_text quantifier
-  pub walks : (items : Items) (others : List Step) → Walks items others → Walks (Item atom quantifier items) (own ++ others)
+  pub walks : (items : Items) (others : List Step) → EitherWalks items others → EitherWalks (Item atom quantifier items) (own ++ others)
 
 before-more : (own : List Step) (remaining text front rest : List ℕ) (steps : List Step) → SpellsAll own front → text ≡ front ++ rest
     → StandBefore remaining rest steps → StandBefore remaining text (own ++ steps)
@@ -71,7 +71,7 @@ spells-once step front (atom, is, of, f) = record {
   is_atom = is;
   allows = tt;
   spelled = f ∙ sym (append-nil (atom_text atom));
-  walks = λ items others next. walks-once atom items (step ∷ []) others (walks-step step atom of) next;
+  walks = λ items others next ignore_case. walks-once ignore_case atom items (step ∷ []) others (walks-step ignore_case step atom of) (next ignore_case);
 }
 
 pub spells-maybe : (step : Step) (group : Group) (front : List ℕ) → group.steps ≡ 1 → group.captures ≡ capture_count (step ∷ []) → IsToken (MaybeStep step) front
@@ -82,7 +82,7 @@ spells-maybe step group front e f (inner, one, (atom, is, of, g), h) = record {
   is_atom = is;
   allows = tt;
   spelled = h ∙ ap (λ t. t ++ codes "?") g;
-  walks = λ items others next. walks-maybe atom items group (step ∷ []) others (walks-step step atom of) next e f;
+  walks = λ items others next ignore_case. walks-maybe ignore_case atom items group (step ∷ []) others (walks-step ignore_case step atom of) (next ignore_case) e f;
 }
 
 -- the text of a group with its quantifier
@@ -90,14 +90,14 @@ grouped_text : (inner others : List ℕ) → codes "(?:" ++ (inner ++ (codes ")"
 grouped_text inner others = ap (λ t. codes "(?:" ++ t) (sym (append_assoc inner (codes ")") others))
 
 -- a group that takes nothing has no steps
-nothing-spells : (times : Times) (inner : Items) → AreItems inner → Walks inner [] → SpellsAll [] (codes "(?:" ++ (items_text inner ++ (codes ")" ++ times_text times)))
+nothing-spells : (times : Times) (inner : Items) → AreItems inner → EitherWalks inner [] → SpellsAll [] (codes "(?:" ++ (items_text inner ++ (codes ")" ++ times_text times)))
 nothing-spells times inner are walks = record {
   atom = Grouped inner;
   quantifier = quantifier_of times;
   is_atom = are;
-  allows = allowed times walks.count;
+  allows = allowed times (walks false).count;
   spelled = grouped_text (items_text inner) (times_text times);
-  walks = λ items further next. walks-nothing_grouped times inner items further walks next;
+  walks = λ items further next ignore_case. walks-nothing_grouped ignore_case times inner items further (walks ignore_case) (next ignore_case);
 }
   where
     allowed : (times : Times) → group_count inner ≡ 0 → AllowsGroups (quantifier_of times) (group_count inner)
@@ -106,11 +106,12 @@ nothing-spells times inner are walks = record {
     allowed often.ZeroOrMore none = none
     allowed often.OneOrMore none = none
 
-copies-spell : (may_be_missing : Bool) (inner : Items) (own group : List Step) → AreItems inner → Walks inner own → AreCopySteps may_be_missing own group
+copies-spell : (may_be_missing : Bool) (inner : Items) (own group : List Step) → AreItems inner → EitherWalks inner own → AreCopySteps may_be_missing own group
     → SpellsAll group (codes "(?:" ++ (items_text inner ++ (codes ")" ++ quantifier_text (copied may_be_missing))))
 copies-spell may_be_missing inner own group are walks (c, others, first, plain, is) =
-    let inside = walks-inside inner (Literal c ∷ others) (subst (Walks inner) first walks) in
-    let none : atom_group_count (Grouped inner) ≡ 0 = inside.count ∙ literals_uncaptured others plain in
+    let inside : (ignore_case : Bool) → AtomWalks ignore_case (Grouped inner) (Literal c ∷ others) =
+    λ ignore_case. walks-inside ignore_case inner (Literal c ∷ others) (subst (Walks ignore_case inner) first (walks ignore_case)) in
+    let none : atom_group_count (Grouped inner) ≡ 0 = (inside false).count ∙ literals_uncaptured others plain in
     subst (λ (steps : List Step). SpellsAll steps (codes "(?:" ++ (items_text inner ++ (codes ")" ++ quantifier_text (copied may_be_missing))))) (sym is)
     (record {
       atom = Grouped inner;
@@ -118,14 +119,14 @@ copies-spell may_be_missing inner own group are walks (c, others, first, plain, 
       is_atom = are;
       allows = copied_allows may_be_missing (atom_group_count (Grouped inner)) none;
       spelled = grouped_text (items_text inner) (quantifier_text (copied may_be_missing));
-      walks = λ items further next. walks-copies may_be_missing (Grouped inner) items c others further inside plain next;
+      walks = λ items further next ignore_case. walks-copies ignore_case may_be_missing (Grouped inner) items c others further (inside ignore_case) plain (next ignore_case);
     })
   where
     copied_allows : (may_be_missing : Bool) (groups : ℕ) → groups ≡ 0 → AllowsGroups (copied may_be_missing) groups
     copied_allows true groups e = e
     copied_allows false groups e = e
 
-some-spells : (times : Times) (inner : Items) (own group : List Step) → AreItems inner → Walks inner own → IsSomeGroup times own group
+some-spells : (times : Times) (inner : Items) (own group : List Step) → AreItems inner → EitherWalks inner own → IsSomeGroup times own group
     → SpellsAll group (codes "(?:" ++ (items_text inner ++ (codes ")" ++ times_text times)))
 some-spells often.Once inner own group are walks is = record {
   atom = Grouped inner;
@@ -133,7 +134,8 @@ some-spells often.Once inner own group are walks is = record {
   is_atom = are;
   allows = tt;
   spelled = grouped_text (items_text inner) [];
-  walks = λ items others next. subst (λ (steps : List Step). Walks (Item (Grouped inner) Once items) (steps ++ others)) (sym is) (walks-once (Grouped inner) items own others (walks-inside inner own walks) next);
+  walks = λ items others next ignore_case. subst (λ (steps : List Step). Walks ignore_case (Item (Grouped inner) Once items) (steps ++ others)) (sym is)
+      (walks-once ignore_case (Grouped inner) items own others (walks-inside ignore_case inner own (walks ignore_case)) (next ignore_case));
 }
 some-spells often.Optional inner own group are walks is =
     let missing : Group = record { steps = length own; captures = capture_count own } in
@@ -143,17 +145,17 @@ some-spells often.Optional inner own group are walks is =
       is_atom = are;
       allows = tt;
       spelled = grouped_text (items_text inner) (codes "?");
-      walks = λ items others next. subst (λ (steps : List Step). Walks (Item (Grouped inner) Optional items) (steps ++ others)) (sym is)
-          (walks-maybe (Grouped inner) items missing own others (walks-inside inner own walks) next refl refl);
+      walks = λ items others next ignore_case. subst (λ (steps : List Step). Walks ignore_case (Item (Grouped inner) Optional items) (steps ++ others)) (sym is)
+          (walks-maybe ignore_case (Grouped inner) items missing own others (walks-inside ignore_case inner own (walks ignore_case)) (next ignore_case) refl refl);
     }
 some-spells often.ZeroOrMore inner own group are walks is = copies-spell true inner own group are walks is
 some-spells often.OneOrMore inner own group are walks is = copies-spell false inner own group are walks is
 
-grouped-spells : (times : Times) (inner : Items) (own group : List Step) → AreItems inner → Walks inner own → IsGroup times own group
+grouped-spells : (times : Times) (inner : Items) (own group : List Step) → AreItems inner → EitherWalks inner own → IsGroup times own group
     → SpellsAll group (codes "(?:" ++ (items_text inner ++ (codes ")" ++ times_text times)))
 grouped-spells times inner own group are walks (inl (none, same)) =
     subst (λ (steps : List Step). SpellsAll steps (codes "(?:" ++ (items_text inner ++ (codes ")" ++ times_text times)))) (sym same)
-    (nothing-spells times inner are (subst (Walks inner) none walks))
+    (nothing-spells times inner are (subst (EitherWalks inner) none walks))
 grouped-spells times inner own group are walks (inr some) = some-spells times inner own group are walks some
 
 pub begun : (regexp rest : List ℕ) → regexp ≡ codes "^" ++ rest → IsBegun regexp None rest []
@@ -195,12 +197,12 @@ pub begun-close : (regexp text front rest : List ℕ) (first : ℕ) (times : Tim
 begun-close regexp text front rest first times done group (le, so_far) is f e steps end =
     let whole : text ≡ codes ")" ++ (times_text times ++ rest) = e ∙ ap (λ t. t ++ rest) f ∙ append_assoc (codes ")") (times_text times) rest in
     subst (IsWhole regexp) (sym (append_assoc (take first done) group steps))
-    (so_far [] times group steps (subst (λ (l : List Step). IsGroup times l group) (sym (append-nil (drop first done))) is) (rest, (Nothing, whole, tt, walks-nothing), end))
+    (so_far [] times group steps (subst (λ (l : List Step). IsGroup times l group) (sym (append-nil (drop first done))) is) (rest, (Nothing, whole, tt, λ ignore_case. walks-nothing ignore_case), end))
 
 pub begun-ends : (regexp rest : List ℕ) (done : List Step) → IsBegun regexp None rest done → rest ≡ codes "$" → AreStepsOf regexp done
 begun-ends regexp rest done so_far e =
-    let whole : IsWhole regexp done = subst (IsWhole regexp) (append-nil done) (so_far [] (Nothing, e, tt, walks-nothing)) in
-    record { tree = whole.0; is_tree = whole.1; answers = walk_is_first whole.0 done whole.2 }
+    let whole : IsWhole regexp done = subst (IsWhole regexp) (append-nil done) (so_far [] (Nothing, e, tt, λ ignore_case. walks-nothing ignore_case)) in
+    record { tree = whole.0; is_tree = whole.1; answers = λ ignore_case text. walk_is_first ignore_case whole.0 done (whole.2 ignore_case) text }
 
 -- ---- segments
 
@@ -210,7 +212,7 @@ segments-spell end is_greedy front (first, first_are, one, e) own text rest (cha
     let last : Items = Item (Grouped second) Once Nothing in
     let inner : Items = in_order characters last in
     let atom : Atom = Captured (segment_items first characters second) in
-    let atom_walks = walks-segments end is_greedy first characters second own one two steps in
+    let atom_walks : (ignore_case : Bool) → AtomWalks ignore_case atom own = λ ignore_case. walks-segments ignore_case end is_greedy first characters second own one two steps in
     let none : group_count inner ≡ 0 = in_order_count characters last ∙ (let second_none = run_uncaptured end is_greedy second two in omega (arith, second_none)) in (
       atom_text atom ++ [],
       record {
@@ -219,7 +221,7 @@ segments-spell end is_greedy front (first, first_are, one, e) own text rest (cha
         is_atom = (first_are, tt, (in_order_allowed characters last all (second_are, tt, tt), none, tt));
         allows = tt;
         spelled = refl;
-        walks = λ items others next. walks-once atom items own others atom_walks next;
+        walks = λ items others next ignore_case. walks-once ignore_case atom items own others (atom_walks ignore_case) (next ignore_case);
       },
       ap₂ (λ a b. a ++ b) e f
           ∙ spelled_segments (items_text first) (characters_text characters) (items_text second) rest

@@ -4,7 +4,7 @@ use Rattle.std.proofs.lemmas.Bool.{le-ltb}
 use Rattle.std.specs.Option.{option_or}
 use Rattle.std.proofs.Math.Seq.{take-append_seam}
 use Rattle.urlpattern_meaning.specs.Dialect.{Quantifier, ZeroOrMore, OneOrMore, Items, Item, Atom, Grouped, atom_group_count, group_count}
-use Rattle.urlpattern_meaning.specs.Ways.{Choice, idle, is_shorter, looped, more_rounds, quantified_ways, atom_ways, ways}
+use Rattle.urlpattern_meaning.specs.Ways.{Choice, idle, is_shorter, looped, more_rounds, quantified_ways, atom_ways_by, ways_by}
 use Rattle.urlpattern_engine.specs.declared.tokens.Times.{Times}
 use Rattle.urlpattern_engine.specs.declared.tokens.Times.TheVariants as often
 use Rattle.urlpattern_engine.specs.declared.step.Step.{Step}
@@ -44,14 +44,14 @@ taken_next choice round takes keeps next text =
     takes.takes (led_on next) [] text
     ∙ keeps.same (bare (led_on next)) (λ front rest. next rest) [] text (λ before rest le. option_map-still (next rest))
 
-pub walks-copies : (may_be_missing : Bool) (atom : Atom) (items : Items) (c : ℕ) (own others : List Step) → AtomWalks atom (Literal c ∷ own) → AreLiterals own → Walks items others
-    → Walks (Item atom (copied may_be_missing) items)
+pub walks-copies : (ignore_case : Bool) (may_be_missing : Bool) (atom : Atom) (items : Items) (c : ℕ) (own others : List Step) → AtomWalks ignore_case atom (Literal c ∷ own) → AreLiterals own → Walks ignore_case items others
+    → Walks ignore_case (Item atom (copied may_be_missing) items)
     (Copies (record { text = record { first = c; others = length own }; may_be_missing = may_be_missing }) ∷ (own ++ others))
-walks-copies may_be_missing atom items c own others first plain next =
+walks-copies ignore_case may_be_missing atom items c own others first plain next =
     let none : atom_group_count atom ≡ 0 = first.count ∙ literals_uncaptured own plain in
-    let round : Continuation → Continuation = after_text (c ∷ literals own) in
-    let takes = looped_takes may_be_missing (atom_group_count atom) (atom_ways atom) round none (first.text plain) (advances-after c (literals own)) in
-    let keeps = keeps_repeated may_be_missing round (advances-after c (literals own)) in
+    let round : Continuation → Continuation = after_text ignore_case (c ∷ literals own) in
+    let takes = looped_takes may_be_missing (atom_group_count atom) (atom_ways_by ignore_case atom) round none (first.text plain) (advances-after ignore_case c (literals own)) in
+    let keeps = keeps_repeated may_be_missing round (advances-after ignore_case c (literals own)) in
     record {
       count = ap₂ (λ m n. m + n) first.count next.count ∙ sym (capture_count-append own others);
       text = λ plain. absurd plain;
@@ -59,11 +59,11 @@ walks-copies may_be_missing atom items c own others first plain next =
           let all = (own ++ others) ++ after in
           let seam : all ≡ own ++ (others ++ after) = append_assoc own others after in
           let left : take (length own) all ≡ own = ap (take (length own)) seam ∙ take-append_seam own (others ++ after) in
-          after_atom items others next after (quantified_ways (copied may_be_missing) (atom_group_count atom) (atom_ways atom) text)
-          ∙ taken_next _ (repeated may_be_missing round) takes keeps (walk (others ++ after)) text
-          ∙ keeps.same (λ front rest. walk (others ++ after) rest) (λ front rest. walk_after (length own) all rest) [] text
-          (λ before rest le. sym (walk_after-own own (others ++ after) rest) ∙ ap (λ l. walk_after (length own) l rest) (sym seam))
-          ∙ ap (λ l. repeated may_be_missing (after_text (c ∷ literals l)) (λ front rest. walk_after (length own) all rest) [] text) (sym left);
+          after_atom ignore_case items others next after (quantified_ways (copied may_be_missing) (atom_group_count atom) (atom_ways_by ignore_case atom) text)
+          ∙ taken_next _ (repeated may_be_missing round) takes keeps (walk ignore_case (others ++ after)) text
+          ∙ keeps.same (λ front rest. walk ignore_case (others ++ after) rest) (λ front rest. walk_after ignore_case (length own) all rest) [] text
+          (λ before rest le. sym (walk_after-own ignore_case own (others ++ after) rest) ∙ ap (λ l. walk_after ignore_case (length own) l rest) (sym seam))
+          ∙ ap (λ l. repeated may_be_missing (after_text ignore_case (c ∷ literals l)) (λ front rest. walk_after ignore_case (length own) all rest) [] text) (sym left);
     }
 
 -- ---- what takes nothing
@@ -72,8 +72,8 @@ twice_one : {A : Type 0} (o : Option A) → option_or o o ≡ o
 twice_one None = refl
 twice_one (Some x) = refl
 
-looped_nothing : (atom : Choice) → Takes atom (after_text []) → Takes (looped true atom) (after_text [])
-looped_nothing atom takes = record {
+looped_nothing : (ignore_case : Bool) (atom : Choice) → Takes atom (after_text ignore_case []) → Takes (looped true atom) (after_text ignore_case [])
+looped_nothing ignore_case atom takes = record {
   takes = λ h front text.
       let next : Choice = λ rest. cond (is_shorter rest text) (more_rounds true atom (length rest) rest) (idle 0 rest ∷ []) in
       let same : is_shorter text text ≡ false = le-ltb (length text) (length text) (omega arith) in
@@ -83,29 +83,29 @@ looped_nothing atom takes = record {
       ∙ tried_idle h front text;
 }
 
-or_nothing : (choice : Choice) → Takes choice (after_text []) → Takes (λ text. choice text ++ idle 0 text ∷ []) (after_text [])
-or_nothing choice takes = record {
+or_nothing : (ignore_case : Bool) (choice : Choice) → Takes choice (after_text ignore_case []) → Takes (λ text. choice text ++ idle 0 text ∷ []) (after_text ignore_case [])
+or_nothing ignore_case choice takes = record {
   takes = λ h front text.
       tried-append (given (beyond front h)) (choice text) (idle 0 text ∷ [])
       ∙ ap₂ option_or (takes.takes h front text) (tried_idle h front text)
       ∙ twice_one (h front [] text);
 }
 
-quantified_nothing : (times : Times) (atom : Choice) → Takes atom (after_text []) → Takes (quantified_ways (quantifier_of times) 0 atom) (after_text [])
-quantified_nothing often.Once atom takes = takes
-quantified_nothing often.Optional atom takes = or_nothing atom takes
-quantified_nothing often.ZeroOrMore atom takes = or_nothing (looped true atom) (looped_nothing atom takes)
-quantified_nothing often.OneOrMore atom takes = looped_nothing atom takes
+quantified_nothing : (ignore_case : Bool) (times : Times) (atom : Choice) → Takes atom (after_text ignore_case []) → Takes (quantified_ways (quantifier_of times) 0 atom) (after_text ignore_case [])
+quantified_nothing ignore_case often.Once atom takes = takes
+quantified_nothing ignore_case often.Optional atom takes = or_nothing ignore_case atom takes
+quantified_nothing ignore_case often.ZeroOrMore atom takes = or_nothing ignore_case (looped true atom) (looped_nothing ignore_case atom takes)
+quantified_nothing ignore_case often.OneOrMore atom takes = looped_nothing ignore_case atom takes
 
 -- a group that takes nothing adds no steps, however often it is taken
-pub walks-nothing_grouped : (times : Times) (inner items : Items) (others : List Step) → Walks inner [] → Walks items others → Walks (Item (Grouped inner) (quantifier_of times) items) others
-walks-nothing_grouped times inner items others first next =
-    let takes : Takes (quantified_ways (quantifier_of times) (group_count inner) (ways inner)) (after_text []) =
-    subst (λ n. Takes (quantified_ways (quantifier_of times) n (ways inner)) (after_text [])) (sym first.count) (quantified_nothing times (ways inner) (first.text tt)) in
+pub walks-nothing_grouped : (ignore_case : Bool) (times : Times) (inner items : Items) (others : List Step) → Walks ignore_case inner [] → Walks ignore_case items others → Walks ignore_case (Item (Grouped inner) (quantifier_of times) items) others
+walks-nothing_grouped ignore_case times inner items others first next =
+    let takes : Takes (quantified_ways (quantifier_of times) (group_count inner) (ways_by ignore_case inner)) (after_text ignore_case []) =
+    subst (λ n. Takes (quantified_ways (quantifier_of times) n (ways_by ignore_case inner)) (after_text ignore_case [])) (sym first.count) (quantified_nothing ignore_case times (ways_by ignore_case inner) (first.text tt)) in
     record {
       count = ap₂ (λ m n. m + n) first.count next.count ∙ zero-add (capture_count others);
-      text = λ plain. let both = takes-then _ (ways items) (after_text []) (after_text (literals others)) takes (keeps-after []) (next.text plain) in record { takes = both.takes };
+      text = λ plain. let both = takes-then _ (ways_by ignore_case items) (after_text ignore_case []) (after_text ignore_case (literals others)) takes (keeps-after ignore_case []) (next.text plain) in record { takes = both.takes };
       walks = λ after text.
-          after_atom items others next after (quantified_ways (quantifier_of times) (group_count inner) (ways inner) text)
-          ∙ taken_next _ (after_text []) takes (keeps-after []) (walk (others ++ after)) text;
+          after_atom ignore_case items others next after (quantified_ways (quantifier_of times) (group_count inner) (ways_by ignore_case inner) text)
+          ∙ taken_next _ (after_text ignore_case []) takes (keeps-after ignore_case []) (walk ignore_case (others ++ after)) text;
     }

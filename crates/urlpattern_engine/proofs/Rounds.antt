@@ -3,9 +3,10 @@ use Rattle.std.proofs.Common.{◌≡◌, ℕ, zero, suc, ◌<◌, ◌≤◌, Lis
 use Rattle.std.specs.Option.{option_or}
 use Rattle.regex_hir.proofs.OptionLemmas.{option_or-None}
 use Rattle.urlpattern_meaning.specs.Dialect.{Nothing}
-use Rattle.urlpattern_meaning.specs.Ways.{Way, Choice, idle, continued, one_that, is_shorter, more_rounds, looped, ways}
+use Rattle.urlpattern_meaning.specs.Ways.{Way, Choice, idle, continued, one_that, is_shorter, more_rounds, looped, ways_by}
 use Rattle.urlpattern_engine.specs.Walk.{Continuation, after_text, rounds, any_rounds, some_rounds}
 use Rattle.urlpattern_engine.proofs.Tried.{Given, given, bare, tried, tried-append, tried-same, tried-continued}
+use Rattle.urlpattern_meaning.specs.Matching.{is_same_character}
 
 -- the same after this front
 abbrev pub beyond : List ℕ → Given → Given
@@ -26,29 +27,29 @@ pub record Advances (round : Continuation → Continuation) : Type 0 where
 
 -- ---- texts
 
-keeps_after : (characters : List ℕ) (f g : Continuation) (front text : List ℕ) → ((before rest : List ℕ) → length rest ≤ length text → f before rest ≡ g before rest)
-    → after_text characters f front text ≡ after_text characters g front text
-keeps_after [] f g front text same = same front text (omega arith)
-keeps_after (c ∷ characters) f g front [] same = refl
-keeps_after (c ∷ characters) f g front (other ∷ text) same =
-    ap (λ o. cond (other == c) o None) (keeps_after characters f g (front ++ other ∷ []) text (λ before rest le. same before rest (omega (arith, le))))
+keeps_after : (ignore_case : Bool) (characters : List ℕ) (f g : Continuation) (front text : List ℕ) → ((before rest : List ℕ) → length rest ≤ length text → f before rest ≡ g before rest)
+    → after_text ignore_case characters f front text ≡ after_text ignore_case characters g front text
+keeps_after ignore_case [] f g front text same = same front text (omega arith)
+keeps_after ignore_case (c ∷ characters) f g front [] same = refl
+keeps_after ignore_case (c ∷ characters) f g front (other ∷ text) same =
+    ap (λ o. cond (is_same_character ignore_case other c) o None) (keeps_after ignore_case characters f g (front ++ other ∷ []) text (λ before rest le. same before rest (omega (arith, le))))
 
-pub keeps-after : (characters : List ℕ) → Keeps (after_text characters)
-keeps-after characters = record { same = keeps_after characters }
+pub keeps-after : (ignore_case : Bool) (characters : List ℕ) → Keeps (after_text ignore_case characters)
+keeps-after ignore_case characters = record { same = keeps_after ignore_case characters }
 
-advances_after : (c : ℕ) (characters : List ℕ) (f g : Continuation) (front text : List ℕ) → ((before rest : List ℕ) → length rest < length text → f before rest ≡ g before rest)
-    → after_text (c ∷ characters) f front text ≡ after_text (c ∷ characters) g front text
-advances_after c characters f g front [] same = refl
-advances_after c characters f g front (other ∷ text) same =
-    ap (λ o. cond (other == c) o None) (keeps_after characters f g (front ++ other ∷ []) text (λ before rest le. same before rest (omega (arith, le))))
+advances_after : (ignore_case : Bool) (c : ℕ) (characters : List ℕ) (f g : Continuation) (front text : List ℕ) → ((before rest : List ℕ) → length rest < length text → f before rest ≡ g before rest)
+    → after_text ignore_case (c ∷ characters) f front text ≡ after_text ignore_case (c ∷ characters) g front text
+advances_after ignore_case c characters f g front [] same = refl
+advances_after ignore_case c characters f g front (other ∷ text) same =
+    ap (λ o. cond (is_same_character ignore_case other c) o None) (keeps_after ignore_case characters f g (front ++ other ∷ []) text (λ before rest le. same before rest (omega (arith, le))))
 
-pub advances-after : (c : ℕ) (characters : List ℕ) → Advances (after_text (c ∷ characters))
-advances-after c characters = record { same = advances_after c characters; none = λ gives front. refl }
+pub advances-after : (ignore_case : Bool) (c : ℕ) (characters : List ℕ) → Advances (after_text ignore_case (c ∷ characters))
+advances-after ignore_case c characters = record { same = advances_after ignore_case c characters; none = λ gives front. refl }
 
-pub after-append : (own others : List ℕ) (gives : Continuation) (front text : List ℕ) → after_text own (after_text others gives) front text ≡ after_text (own ++ others) gives front text
-after-append [] others gives front text = refl
-after-append (c ∷ own) others gives front [] = refl
-after-append (c ∷ own) others gives front (other ∷ text) = ap (λ o. cond (other == c) o None) (after-append own others gives (front ++ other ∷ []) text)
+pub after-append : (ignore_case : Bool) (own others : List ℕ) (gives : Continuation) (front text : List ℕ) → after_text ignore_case own (after_text ignore_case others gives) front text ≡ after_text ignore_case (own ++ others) gives front text
+after-append ignore_case [] others gives front text = refl
+after-append ignore_case (c ∷ own) others gives front [] = refl
+after-append ignore_case (c ∷ own) others gives front (other ∷ text) = ap (λ o. cond (is_same_character ignore_case other c) o None) (after-append ignore_case own others gives (front ++ other ∷ []) text)
 
 -- ---- one after the other
 
@@ -88,15 +89,15 @@ takes-then choice next first second one keeps two = record {
 pub tried_idle : (h : Given) (front text : List ℕ) → tried (given (beyond front h)) (idle 0 text ∷ []) ≡ h front [] text
 tried_idle h front text = option_or-None _ ∙ ap (λ f. h f [] text) (append-nil front)
 
-pub takes-nothing : Takes (ways Nothing) (after_text [])
-takes-nothing = record { takes = tried_idle }
+pub takes-nothing : (ignore_case : Bool) → Takes (ways_by ignore_case Nothing) (after_text ignore_case [])
+takes-nothing ignore_case = record { takes = tried_idle }
 
-pub takes-one : (c : ℕ) → Takes (one_that (λ other. other == c)) (after_text (c ∷ []))
-takes-one c = record { takes = by }
+pub takes-one : (ignore_case : Bool) (c : ℕ) → Takes (one_that (λ other. is_same_character ignore_case other c)) (after_text ignore_case (c ∷ []))
+takes-one ignore_case c = record { takes = by }
   where
-    by : (h : Given) (front text : List ℕ) → tried (given (beyond front h)) (one_that (λ other. other == c) text) ≡ after_text (c ∷ []) (bare h) front text
+    by : (h : Given) (front text : List ℕ) → tried (given (beyond front h)) (one_that (λ other. is_same_character ignore_case other c) text) ≡ after_text ignore_case (c ∷ []) (bare h) front text
     by h front [] = refl
-    by h front (other ∷ text) = at (other == c)
+    by h front (other ∷ text) = at (is_same_character ignore_case other c)
       where
         at : (b : Bool) → tried (given (beyond front h)) (cond b (record { taken = other ∷ []; captures = []; rest = text } ∷ []) []) ≡ cond b (h (front ++ other ∷ []) [] text) None
         at true = option_or-None _

@@ -2,13 +2,14 @@
 use Rattle.std.proofs.Common.{◌≡◌, ℕ, List, [], ◌∷◌, ◌++◌, map, length, Some, option_map, Bool, ◌==◌, refl, sym, ap, ◌∙◌, subst, arith}
 use Rattle.std.proofs.Math.Seq.{take-append_seam}
 use Rattle.urlpattern_meaning.specs.Dialect.{Captured, Character, Grouped, Item, Items, Literal, Nothing, Once, ZeroOrMore, character_of, group_count}
-use Rattle.urlpattern_meaning.specs.Ways.{one_that, quantified_ways, ways}
+use Rattle.urlpattern_meaning.specs.Ways.{one_that, quantified_ways, ways_by}
 use Rattle.urlpattern_engine.specs.declared.step.Step.{Step}
 use Rattle.urlpattern_engine.specs.ReadSteps.{AreLiterals, AreSegments, IsRunOf, literal_steps}
 use Rattle.urlpattern_engine.specs.Walk.{Continuation, after_separator, after_text, any_rounds, captured_front, literals, segmented, single_run, walk, walk_after}
 use Rattle.urlpattern_engine.proofs.LongestLemmas.{captured_takes, keeps-run, run_uncaptured, takes-run}
 use Rattle.urlpattern_engine.proofs.Rounds.{Advances, Keeps, Takes, advances-after, advances-then, after-append, keeps-after, keeps-any, keeps-then, takes-looped_or_not, takes-nothing, takes-one, takes-then}
 use Rattle.urlpattern_engine.proofs.Walks.{AtomWalks, literals_uncaptured, walk_after-own}
+use Rattle.urlpattern_meaning.specs.Matching.{is_same_character}
 
 -- ---- characters one after the other
 
@@ -29,24 +30,24 @@ literal_steps-text : (characters : List Character) → literals (literal_steps c
 literal_steps-text [] = refl
 literal_steps-text (character ∷ characters) = ap (λ l. character_of character ∷ l) (literal_steps-text characters)
 
-takes-in_order : (characters : List Character) (items : Items) (round : Continuation → Continuation) → Takes (ways items) round
-    → Takes (ways (in_order characters items)) (after_separator (map character_of characters) round)
-takes-in_order [] items round takes = takes
-takes-in_order (character ∷ characters) items round takes =
+takes-in_order : (ignore_case : Bool) (characters : List Character) (items : Items) (round : Continuation → Continuation) → Takes (ways_by ignore_case items) round
+    → Takes (ways_by ignore_case (in_order characters items)) (after_separator ignore_case (map character_of characters) round)
+takes-in_order ignore_case [] items round takes = takes
+takes-in_order ignore_case (character ∷ characters) items round takes =
     let c = character_of character in
-    let others : Continuation → Continuation = after_separator (map character_of characters) round in
-    let both = takes-then (one_that (λ other. other == c)) (ways (in_order characters items)) (after_text (c ∷ [])) others (takes-one c) (keeps-after (c ∷ [])) (takes-in_order characters items round takes) in
-    record { takes = λ h front text. both.takes h front text ∙ after-append (c ∷ []) (map character_of characters) (round (λ front rest. h front [] rest)) front text }
+    let others : Continuation → Continuation = after_separator ignore_case (map character_of characters) round in
+    let both = takes-then (one_that (λ other. is_same_character ignore_case other c)) (ways_by ignore_case (in_order characters items)) (after_text ignore_case (c ∷ [])) others (takes-one ignore_case c) (keeps-after ignore_case (c ∷ [])) (takes-in_order ignore_case characters items round takes) in
+    record { takes = λ h front text. both.takes h front text ∙ after-append ignore_case (c ∷ []) (map character_of characters) (round (λ front rest. h front [] rest)) front text }
 
 -- ---- runs with a text between each two
 
-pub advances-separator : (c : ℕ) (literal : List ℕ) (is_greedy : Bool) (end : ℕ) → Advances (after_separator (c ∷ literal) (single_run is_greedy end))
-advances-separator c literal is_greedy end = advances-then (after_text (c ∷ literal)) (single_run is_greedy end) (advances-after c literal) (keeps-run is_greedy end)
+pub advances-separator : (ignore_case : Bool) (c : ℕ) (literal : List ℕ) (is_greedy : Bool) (end : ℕ) → Advances (after_separator ignore_case (c ∷ literal) (single_run ignore_case is_greedy end))
+advances-separator ignore_case c literal is_greedy end = advances-then (after_text ignore_case (c ∷ literal)) (single_run ignore_case is_greedy end) (advances-after ignore_case c literal) (keeps-run ignore_case is_greedy end)
 
-pub keeps-segmented : (c : ℕ) (literal : List ℕ) (is_greedy : Bool) (end : ℕ) → Keeps (segmented (c ∷ literal) (single_run is_greedy end))
-keeps-segmented c literal is_greedy end =
-    keeps-then (single_run is_greedy end) (any_rounds (after_separator (c ∷ literal) (single_run is_greedy end))) (keeps-run is_greedy end)
-    (keeps-any (after_separator (c ∷ literal) (single_run is_greedy end)) (advances-separator c literal is_greedy end))
+pub keeps-segmented : (ignore_case : Bool) (c : ℕ) (literal : List ℕ) (is_greedy : Bool) (end : ℕ) → Keeps (segmented ignore_case (c ∷ literal) (single_run ignore_case is_greedy end))
+keeps-segmented ignore_case c literal is_greedy end =
+    keeps-then (single_run ignore_case is_greedy end) (any_rounds (after_separator ignore_case (c ∷ literal) (single_run ignore_case is_greedy end))) (keeps-run ignore_case is_greedy end)
+    (keeps-any (after_separator ignore_case (c ∷ literal) (single_run ignore_case is_greedy end)) (advances-separator ignore_case c literal is_greedy end))
 
 -- a run, and then a text and a run as often as may be
 abbrev pub segment_items : (first : Items) → List Character → (second : Items) → Items
@@ -58,34 +59,34 @@ inner_count end is_greedy characters second is =
     let none = run_uncaptured end is_greedy second is in
     omega (arith, none, in_order_count characters (Item (Grouped second) Once Nothing))
 
-pub takes-segments : (end : ℕ) (is_greedy : Bool) (first : Items) (characters : List Character) (second : Items) (c : ℕ) (literal : List ℕ)
+pub takes-segments : (ignore_case : Bool) (end : ℕ) (is_greedy : Bool) (first : Items) (characters : List Character) (second : Items) (c : ℕ) (literal : List ℕ)
     → IsRunOf end is_greedy first → IsRunOf end is_greedy second → map character_of characters ≡ c ∷ literal
-    → Takes (ways (segment_items first characters second)) (segmented (c ∷ literal) (single_run is_greedy end))
-takes-segments end is_greedy first characters second c literal one two e =
-    let single : Continuation → Continuation = single_run is_greedy end in
-    let round : Continuation → Continuation = after_separator (c ∷ literal) single in
+    → Takes (ways_by ignore_case (segment_items first characters second)) (segmented ignore_case (c ∷ literal) (single_run ignore_case is_greedy end))
+takes-segments ignore_case end is_greedy first characters second c literal one two e =
+    let single : Continuation → Continuation = single_run ignore_case is_greedy end in
+    let round : Continuation → Continuation = after_separator ignore_case (c ∷ literal) single in
     let inner : Items = in_order characters (Item (Grouped second) Once Nothing) in
-    let advances = advances-separator c literal is_greedy end in
-    let last : Takes (ways (Item (Grouped second) Once Nothing)) single =
-    takes-then (ways second) (ways Nothing) single (after_text []) (takes-run end is_greedy second two) (keeps-run is_greedy end) takes-nothing in
-    let more : Takes (ways inner) round =
-    subst (λ l. Takes (ways inner) (after_separator l single)) e (takes-in_order characters (Item (Grouped second) Once Nothing) single last) in
-    let loop : Takes (quantified_ways ZeroOrMore (group_count inner) (ways inner)) (any_rounds round) =
-    subst (λ n. Takes (quantified_ways ZeroOrMore n (ways inner)) (any_rounds round)) (sym (inner_count end is_greedy characters second two)) (takes-looped_or_not (ways inner) round more advances) in
-    let rest : Takes (ways (Item (Grouped inner) ZeroOrMore Nothing)) (any_rounds round) =
-    takes-then (quantified_ways ZeroOrMore (group_count inner) (ways inner)) (ways Nothing) (any_rounds round) (after_text []) loop (keeps-any round advances) takes-nothing in
-    takes-then (ways first) (ways (Item (Grouped inner) ZeroOrMore Nothing)) single (any_rounds round) (takes-run end is_greedy first one) (keeps-run is_greedy end) rest
+    let advances = advances-separator ignore_case c literal is_greedy end in
+    let last : Takes (ways_by ignore_case (Item (Grouped second) Once Nothing)) single =
+    takes-then (ways_by ignore_case second) (ways_by ignore_case Nothing) single (after_text ignore_case []) (takes-run ignore_case end is_greedy second two) (keeps-run ignore_case is_greedy end) (takes-nothing ignore_case) in
+    let more : Takes (ways_by ignore_case inner) round =
+    subst (λ l. Takes (ways_by ignore_case inner) (after_separator ignore_case l single)) e (takes-in_order ignore_case characters (Item (Grouped second) Once Nothing) single last) in
+    let loop : Takes (quantified_ways ZeroOrMore (group_count inner) (ways_by ignore_case inner)) (any_rounds round) =
+    subst (λ n. Takes (quantified_ways ZeroOrMore n (ways_by ignore_case inner)) (any_rounds round)) (sym (inner_count end is_greedy characters second two)) (takes-looped_or_not (ways_by ignore_case inner) round more advances) in
+    let rest : Takes (ways_by ignore_case (Item (Grouped inner) ZeroOrMore Nothing)) (any_rounds round) =
+    takes-then (quantified_ways ZeroOrMore (group_count inner) (ways_by ignore_case inner)) (ways_by ignore_case Nothing) (any_rounds round) (after_text ignore_case []) loop (keeps-any round advances) (takes-nothing ignore_case) in
+    takes-then (ways_by ignore_case first) (ways_by ignore_case (Item (Grouped inner) ZeroOrMore Nothing)) single (any_rounds round) (takes-run ignore_case end is_greedy first one) (keeps-run ignore_case is_greedy end) rest
 
-pub walks-segments : (end : ℕ) (is_greedy : Bool) (first : Items) (characters : List Character) (second : Items) (own : List Step)
+pub walks-segments : (ignore_case : Bool) (end : ℕ) (is_greedy : Bool) (first : Items) (characters : List Character) (second : Items) (own : List Step)
     → IsRunOf end is_greedy first → IsRunOf end is_greedy second → AreSegments end is_greedy characters own
-    → AtomWalks (Captured (segment_items first characters second)) own
-walks-segments end is_greedy first characters second own one two (c, others, e, is) =
+    → AtomWalks ignore_case (Captured (segment_items first characters second)) own
+walks-segments ignore_case end is_greedy first characters second own one two (c, others, e, is) =
     let plain : AreLiterals others = subst AreLiterals e (literal_steps-plain characters) in
     let spelled : map character_of characters ≡ c ∷ literals others = sym (literal_steps-text characters) ∙ ap literals e in
-    let single : Continuation → Continuation = single_run is_greedy end in
-    let takes = takes-segments end is_greedy first characters second c (literals others) one two spelled in
-    let keeps = keeps-segmented c (literals others) is_greedy end in
-    subst (λ (steps : List Step). AtomWalks (Captured (segment_items first characters second)) steps) (sym is)
+    let single : Continuation → Continuation = single_run ignore_case is_greedy end in
+    let takes = takes-segments ignore_case end is_greedy first characters second c (literals others) one two spelled in
+    let keeps = keeps-segmented ignore_case c (literals others) is_greedy end in
+    subst (λ (steps : List Step). AtomWalks ignore_case (Captured (segment_items first characters second)) steps) (sym is)
     (record {
       count =
           let none = literals_uncaptured others plain in
@@ -95,8 +96,8 @@ walks-segments end is_greedy first characters second own one two (c, others, e, 
       text = λ plain. absurd plain;
       walks = λ after text.
           let all = others ++ after in
-          captured_takes (ways (segment_items first characters second)) (segmented (c ∷ literals others) single) takes (walk after) text
-          ∙ keeps.same (captured_front (walk after)) (captured_front (walk_after (length others) all)) [] text
-          (λ before rest le. ap (option_map (λ more. Some before ∷ more)) (sym (walk_after-own others after rest)))
-          ∙ ap (λ l. segmented (c ∷ literals l) single (captured_front (walk_after (length others) all)) [] text) (sym (take-append_seam others after));
+          captured_takes (ways_by ignore_case (segment_items first characters second)) (segmented ignore_case (c ∷ literals others) single) takes (walk ignore_case after) text
+          ∙ keeps.same (captured_front (walk ignore_case after)) (captured_front (walk_after ignore_case (length others) all)) [] text
+          (λ before rest le. ap (option_map (λ more. Some before ∷ more)) (sym (walk_after-own ignore_case others after rest)))
+          ∙ ap (λ l. segmented ignore_case (c ∷ literals l) single (captured_front (walk_after ignore_case (length others) all)) [] text) (sym (take-append_seam others after));
     })

@@ -12,6 +12,7 @@ use Rattle.urlpattern_engine.specs.Taken.{IsCutFor}
 use Rattle.urlpattern_engine.proofs.EndLemmas as ends
 use Rattle.urlpattern_engine.proofs.Rounds.{advances-after, any-unrolled, keeps-any, keeps-some}
 use Rattle.urlpattern_engine.proofs.StepLemmas.{walk_after-drop}
+use Rattle.urlpattern_meaning.specs.Matching.{is_same_character}
 
 -- ---- whether something is given does not depend on the front
 
@@ -33,28 +34,28 @@ pub some_mapped : {A B : Type 0} (f : A → B) (o : Option A) → is_some (optio
 some_mapped f None = refl
 some_mapped f (Some x) = refl
 
-alike-shortest : (end : ℕ) (gives : Continuation) → Alike gives → Alike (shortest end gives)
-alike-shortest end gives alike front other [] = refl
-alike-shortest end gives alike front other (c ∷ text) =
-    some_cond (c == end) None None _ _ refl
-    (some_or _ _ _ _ (alike (front ++ c ∷ []) (other ++ c ∷ []) text) (alike-shortest end gives alike (front ++ c ∷ []) (other ++ c ∷ []) text))
+alike-shortest : (ignore_case : Bool) (end : ℕ) (gives : Continuation) → Alike gives → Alike (shortest ignore_case end gives)
+alike-shortest ignore_case end gives alike front other [] = refl
+alike-shortest ignore_case end gives alike front other (c ∷ text) =
+    some_cond (is_same_character ignore_case c end) None None _ _ refl
+    (some_or _ _ _ _ (alike (front ++ c ∷ []) (other ++ c ∷ []) text) (alike-shortest ignore_case end gives alike (front ++ c ∷ []) (other ++ c ∷ []) text))
 
-alike-longest : (end : ℕ) (gives : Continuation) → Alike gives → Alike (longest end gives)
-alike-longest end gives alike front other [] = alike front other []
-alike-longest end gives alike front other (c ∷ text) =
-    some_cond (c == end) _ _ _ _ (alike front other (c ∷ text))
-    (some_or _ _ _ _ (alike-longest end gives alike (front ++ c ∷ []) (other ++ c ∷ []) text) (alike front other (c ∷ text)))
+alike-longest : (ignore_case : Bool) (end : ℕ) (gives : Continuation) → Alike gives → Alike (longest ignore_case end gives)
+alike-longest ignore_case end gives alike front other [] = alike front other []
+alike-longest ignore_case end gives alike front other (c ∷ text) =
+    some_cond (is_same_character ignore_case c end) _ _ _ _ (alike front other (c ∷ text))
+    (some_or _ _ _ _ (alike-longest ignore_case end gives alike (front ++ c ∷ []) (other ++ c ∷ []) text) (alike front other (c ∷ text)))
 
-alike-longest_some : (end : ℕ) (gives : Continuation) → Alike gives → Alike (longest_some end gives)
-alike-longest_some end gives alike front other [] = refl
-alike-longest_some end gives alike front other (c ∷ text) =
-    some_cond (c == end) None None _ _ refl (alike-longest end gives alike (front ++ c ∷ []) (other ++ c ∷ []) text)
+alike-longest_some : (ignore_case : Bool) (end : ℕ) (gives : Continuation) → Alike gives → Alike (longest_some ignore_case end gives)
+alike-longest_some ignore_case end gives alike front other [] = refl
+alike-longest_some ignore_case end gives alike front other (c ∷ text) =
+    some_cond (is_same_character ignore_case c end) None None _ _ refl (alike-longest ignore_case end gives alike (front ++ c ∷ []) (other ++ c ∷ []) text)
 
-alike-after : (characters : List ℕ) (gives : Continuation) → Alike gives → Alike (after_text characters gives)
-alike-after [] gives alike front other text = alike front other text
-alike-after (c ∷ characters) gives alike front other [] = refl
-alike-after (c ∷ characters) gives alike front other (d ∷ text) =
-    some_cond (d == c) _ _ None None (alike-after characters gives alike (front ++ d ∷ []) (other ++ d ∷ []) text) refl
+alike-after : (ignore_case : Bool) (characters : List ℕ) (gives : Continuation) → Alike gives → Alike (after_text ignore_case characters gives)
+alike-after ignore_case [] gives alike front other text = alike front other text
+alike-after ignore_case (c ∷ characters) gives alike front other [] = refl
+alike-after ignore_case (c ∷ characters) gives alike front other (d ∷ text) =
+    some_cond (is_same_character ignore_case d c) _ _ None None (alike-after ignore_case characters gives alike (front ++ d ∷ []) (other ++ d ∷ []) text) refl
 
 -- a round keeps it
 abbrev AlikeRound : (Continuation → Continuation) → Type 0
@@ -72,19 +73,19 @@ alike-repeated : (may_be_missing : Bool) (round : Continuation → Continuation)
 alike-repeated true round keeps gives alike = alike-any round keeps gives alike
 alike-repeated false round keeps gives alike = keeps (any_rounds round gives) (alike-any round keeps gives alike)
 
-alike-single : (is_greedy : Bool) (end : ℕ) → AlikeRound (single_run is_greedy end)
-alike-single true end = alike-longest end
-alike-single false end = alike-shortest end
+alike-single : (ignore_case : Bool) (is_greedy : Bool) (end : ℕ) → AlikeRound (single_run ignore_case is_greedy end)
+alike-single ignore_case true end = alike-longest ignore_case end
+alike-single ignore_case false end = alike-shortest ignore_case end
 
-alike-run : (may_be_empty : Bool) (end : ℕ) → AlikeRound (longest_run may_be_empty end)
-alike-run true end = alike-longest end
-alike-run false end = alike-longest_some end
+alike-run : (ignore_case : Bool) (may_be_empty : Bool) (end : ℕ) → AlikeRound (longest_run ignore_case may_be_empty end)
+alike-run ignore_case true end = alike-longest ignore_case end
+alike-run ignore_case false end = alike-longest_some ignore_case end
 
-alike-segmented : (separator : List ℕ) (is_greedy : Bool) (end : ℕ) → AlikeRound (segmented separator (single_run is_greedy end))
-alike-segmented separator is_greedy end gives alike =
-    let single : Continuation → Continuation = single_run is_greedy end in
-    alike-single is_greedy end (any_rounds (after_separator separator single) gives)
-    (alike-any (after_separator separator single) (λ g a. alike-after separator (single g) (alike-single is_greedy end g a)) gives alike)
+alike-segmented : (ignore_case : Bool) (separator : List ℕ) (is_greedy : Bool) (end : ℕ) → AlikeRound (segmented ignore_case separator (single_run ignore_case is_greedy end))
+alike-segmented ignore_case separator is_greedy end gives alike =
+    let single : Continuation → Continuation = single_run ignore_case is_greedy end in
+    alike-single ignore_case is_greedy end (any_rounds (after_separator ignore_case separator single) gives)
+    (alike-any (after_separator ignore_case separator single) (λ g a. alike-after ignore_case separator (single g) (alike-single ignore_case is_greedy end g a)) gives alike)
 
 -- ---- a step, where a front was taken before
 
@@ -92,56 +93,56 @@ some_either : (b : Bool) (next : List ℕ → Option Captures) (front rest : Lis
 some_either true next front rest = some_mapped (λ others. Some front ∷ others) (next rest)
 some_either false next front rest = refl
 
-pub some_given : (step : Step) (others : List Step) (front rest : List ℕ) → is_some (given step others front rest) ≡ is_some (walk (following step others) rest)
-some_given step others front rest = some_either (is_capture step) (walk (following step others)) front rest
+pub some_given : (ignore_case : Bool) (step : Step) (others : List Step) (front rest : List ℕ) → is_some (given ignore_case step others front rest) ≡ is_some (walk ignore_case (following step others) rest)
+some_given ignore_case step others front rest = some_either (is_capture step) (walk ignore_case (following step others)) front rest
 
-alike-given : (step : Step) (others : List Step) → Alike (given step others)
-alike-given step others front other text = some_given step others front text ∙ sym (some_given step others other text)
+alike-given : (ignore_case : Bool) (step : Step) (others : List Step) → Alike (given ignore_case step others)
+alike-given ignore_case step others front other text = some_given ignore_case step others front text ∙ sym (some_given ignore_case step others other text)
 
 -- what is given where nothing is taken yet
-abbrev pub wholly : Step → List Step → Continuation
-wholly (Literal c) others = after_text (c ∷ []) (given (Literal c) others)
-wholly (Segment end) others = shortest end (given (Segment end) others)
-wholly Anything others = longest (run_end Anything) (given Anything others)
-wholly (Maybe group) others = λ front text. walk (Maybe group ∷ others) text
-wholly (Longest run) others = longest_run run.may_be_empty run.end (given (Longest run) others)
-wholly (Copies copies) others = repeated copies.may_be_missing (after_text (stretch_text copies.text others)) (given (Copies copies) others)
-wholly (Segments segments) others =
-    segmented (stretch_text segments.separator others) (single_run segments.is_greedy segments.end) (given (Segments segments) others)
+abbrev pub wholly : (ignore_case : Bool) → Step → List Step → Continuation
+wholly ignore_case (Literal c) others = after_text ignore_case (c ∷ []) (given ignore_case (Literal c) others)
+wholly ignore_case (Segment end) others = shortest ignore_case end (given ignore_case (Segment end) others)
+wholly ignore_case Anything others = longest ignore_case (run_end Anything) (given ignore_case Anything others)
+wholly ignore_case (Maybe group) others = λ front text. walk ignore_case (Maybe group ∷ others) text
+wholly ignore_case (Longest run) others = longest_run ignore_case run.may_be_empty run.end (given ignore_case (Longest run) others)
+wholly ignore_case (Copies copies) others = repeated copies.may_be_missing (after_text ignore_case (stretch_text copies.text others)) (given ignore_case (Copies copies) others)
+wholly ignore_case (Segments segments) others =
+    segmented ignore_case (stretch_text segments.separator others) (single_run ignore_case segments.is_greedy segments.end) (given ignore_case (Segments segments) others)
 
-pub alike-wholly : (step : Step) (others : List Step) → Alike (wholly step others)
-alike-wholly (Literal c) others = alike-after (c ∷ []) (given (Literal c) others) (alike-given (Literal c) others)
-alike-wholly (Segment end) others = alike-shortest end (given (Segment end) others) (alike-given (Segment end) others)
-alike-wholly Anything others = alike-longest (run_end Anything) (given Anything others) (alike-given Anything others)
-alike-wholly (Maybe group) others = λ front other text. refl
-alike-wholly (Longest run) others = alike-run run.may_be_empty run.end (given (Longest run) others) (alike-given (Longest run) others)
-alike-wholly (Copies copies) others =
-    alike-repeated copies.may_be_missing (after_text (stretch_text copies.text others)) (alike-after (stretch_text copies.text others))
-    (given (Copies copies) others) (alike-given (Copies copies) others)
-alike-wholly (Segments segments) others =
-    alike-segmented (stretch_text segments.separator others) segments.is_greedy segments.end (given (Segments segments) others) (alike-given (Segments segments) others)
+pub alike-wholly : (ignore_case : Bool) (step : Step) (others : List Step) → Alike (wholly ignore_case step others)
+alike-wholly ignore_case (Literal c) others = alike-after ignore_case (c ∷ []) (given ignore_case (Literal c) others) (alike-given ignore_case (Literal c) others)
+alike-wholly ignore_case (Segment end) others = alike-shortest ignore_case end (given ignore_case (Segment end) others) (alike-given ignore_case (Segment end) others)
+alike-wholly ignore_case Anything others = alike-longest ignore_case (run_end Anything) (given ignore_case Anything others) (alike-given ignore_case Anything others)
+alike-wholly ignore_case (Maybe group) others = λ front other text. refl
+alike-wholly ignore_case (Longest run) others = alike-run ignore_case run.may_be_empty run.end (given ignore_case (Longest run) others) (alike-given ignore_case (Longest run) others)
+alike-wholly ignore_case (Copies copies) others =
+    alike-repeated copies.may_be_missing (after_text ignore_case (stretch_text copies.text others)) (alike-after ignore_case (stretch_text copies.text others))
+    (given ignore_case (Copies copies) others) (alike-given ignore_case (Copies copies) others)
+alike-wholly ignore_case (Segments segments) others =
+    alike-segmented ignore_case (stretch_text segments.separator others) segments.is_greedy segments.end (given ignore_case (Segments segments) others) (alike-given ignore_case (Segments segments) others)
 
-copies_wholly : (may_be_missing : Bool) (c : ℕ) (characters : List ℕ) (n : ℕ) (others : List Step) (text : List ℕ)
-    → repeated may_be_missing (after_text (c ∷ characters)) (λ front rest. walk_after n others rest) [] text
-    ≡ repeated may_be_missing (after_text (c ∷ characters)) (λ front rest. walk (drop n others) rest) [] text
-copies_wholly true c characters n others text =
-    (keeps-any (after_text (c ∷ characters)) (advances-after c characters)).same _ _ [] text (λ before rest le. walk_after-drop n others rest)
-copies_wholly false c characters n others text =
-    (keeps-some (after_text (c ∷ characters)) (advances-after c characters)).same _ _ [] text (λ before rest le. walk_after-drop n others rest)
+copies_wholly : (ignore_case : Bool) (may_be_missing : Bool) (c : ℕ) (characters : List ℕ) (n : ℕ) (others : List Step) (text : List ℕ)
+    → repeated may_be_missing (after_text ignore_case (c ∷ characters)) (λ front rest. walk_after ignore_case n others rest) [] text
+    ≡ repeated may_be_missing (after_text ignore_case (c ∷ characters)) (λ front rest. walk ignore_case (drop n others) rest) [] text
+copies_wholly ignore_case true c characters n others text =
+    (keeps-any (after_text ignore_case (c ∷ characters)) (advances-after ignore_case c characters)).same _ _ [] text (λ before rest le. walk_after-drop ignore_case n others rest)
+copies_wholly ignore_case false c characters n others text =
+    (keeps-some (after_text ignore_case (c ∷ characters)) (advances-after ignore_case c characters)).same _ _ [] text (λ before rest le. walk_after-drop ignore_case n others rest)
 
 -- it is what the steps capture
-pub walk_wholly : (step : Step) (others : List Step) (text : List ℕ) → walk (step ∷ others) text ≡ wholly step others [] text
-walk_wholly (Literal c) others [] = refl
-walk_wholly (Literal c) others (d ∷ text) = refl
-walk_wholly (Segment end) others text = refl
-walk_wholly Anything others text = refl
-walk_wholly (Maybe group) others text = refl
-walk_wholly (Longest run) others text = refl
-walk_wholly (Copies copies) others text = copies_wholly copies.may_be_missing copies.text.first _ copies.text.others others text
-walk_wholly (Segments segments) others text = ends.segments_step segments others _ _ text refl refl
+pub walk_wholly : (ignore_case : Bool) (step : Step) (others : List Step) (text : List ℕ) → walk ignore_case (step ∷ others) text ≡ wholly ignore_case step others [] text
+walk_wholly ignore_case (Literal c) others [] = refl
+walk_wholly ignore_case (Literal c) others (d ∷ text) = refl
+walk_wholly ignore_case (Segment end) others text = refl
+walk_wholly ignore_case Anything others text = refl
+walk_wholly ignore_case (Maybe group) others text = refl
+walk_wholly ignore_case (Longest run) others text = refl
+walk_wholly ignore_case (Copies copies) others text = copies_wholly ignore_case copies.may_be_missing copies.text.first _ copies.text.others others text
+walk_wholly ignore_case (Segments segments) others text = ends.segments_step ignore_case segments others _ _ text refl refl
 
-pub some_wholly : (step : Step) (others : List Step) (front text : List ℕ) → is_some (wholly step others front text) ≡ is_some (walk (step ∷ others) text)
-some_wholly step others front text = alike-wholly step others front [] text ∙ ap is_some (sym (walk_wholly step others text))
+pub some_wholly : (ignore_case : Bool) (step : Step) (others : List Step) (front text : List ℕ) → is_some (wholly ignore_case step others front text) ≡ is_some (walk ignore_case (step ∷ others) text)
+some_wholly ignore_case step others front text = alike-wholly ignore_case step others front [] text ∙ ap is_some (sym (walk_wholly ignore_case step others text))
 
 -- ---- by what is known after the text of the step, here, and where a run goes on
 
@@ -150,124 +151,124 @@ abbrev pub own_text : Step → (literal : List ℕ) → Option (List ℕ)
 own_text step literal = option_map (λ (own : Stretch). own.first ∷ literal) (stretch_of step)
 
 -- what is given where the text was taken just before
-abbrev pub begins : Step → List Step → Continuation
-begins (Literal c) others = given (Literal c) others
-begins (Copies copies) others = any_rounds (after_text (stretch_text copies.text others)) (given (Copies copies) others)
-begins (Segments segments) others = wholly (Segments segments) others
-begins step others = λ front text. None
+abbrev pub begins : (ignore_case : Bool) → Step → List Step → Continuation
+begins ignore_case (Literal c) others = given ignore_case (Literal c) others
+begins ignore_case (Copies copies) others = any_rounds (after_text ignore_case (stretch_text copies.text others)) (given ignore_case (Copies copies) others)
+begins ignore_case (Segments segments) others = wholly ignore_case (Segments segments) others
+begins ignore_case step others = λ front text. None
 
 -- what is given where a run has begun
-abbrev pub goes : Step → List Step → Continuation
-goes (Segment end) others = λ front text. option_or (given (Segment end) others front text) (shortest end (given (Segment end) others) front text)
-goes Anything others = wholly Anything others
-goes (Longest run) others = longest run.end (given (Longest run) others)
-goes (Segments segments) others =
-    ends.either segments.separator.first (literals (take segments.separator.others others)) segments.is_greedy segments.end (given (Segments segments) others)
-goes step others = λ front text. None
+abbrev pub goes : (ignore_case : Bool) → Step → List Step → Continuation
+goes ignore_case (Segment end) others = λ front text. option_or (given ignore_case (Segment end) others front text) (shortest ignore_case end (given ignore_case (Segment end) others) front text)
+goes ignore_case Anything others = wholly ignore_case Anything others
+goes ignore_case (Longest run) others = longest ignore_case run.end (given ignore_case (Longest run) others)
+goes ignore_case (Segments segments) others =
+    ends.either ignore_case segments.separator.first (literals (take segments.separator.others others)) segments.is_greedy segments.end (given ignore_case (Segments segments) others)
+goes ignore_case step others = λ front text. None
 
 -- what is given after a text that stands here, if there is one
-abbrev pub after_own : Option (List ℕ) → Continuation → Continuation
-after_own None gives front text = None
-after_own (Some characters) gives front text = after_text characters gives front text
+abbrev pub after_own : (ignore_case : Bool) → Option (List ℕ) → Continuation → Continuation
+after_own ignore_case None gives front text = None
+after_own ignore_case (Some characters) gives front text = after_text ignore_case characters gives front text
 
 -- what is given where a run goes on with the first character
-abbrev pub onward : (end : ℕ) → Continuation → Continuation
-onward end gives front [] = None
-onward end gives front (d ∷ text) = cond (d == end) None (gives (front ++ d ∷ []) text)
+abbrev pub onward : (ignore_case : Bool) (end : ℕ) → Continuation → Continuation
+onward ignore_case end gives front [] = None
+onward ignore_case end gives front (d ∷ text) = cond (is_same_character ignore_case d end) None (gives (front ++ d ∷ []) text)
 
-abbrev pub next_of : Step → List Step → Continuation
-next_of step others = after_own (own_text step (literals (take (own_count (stretch_of step)) others))) (begins step others)
+abbrev pub next_of : (ignore_case : Bool) → Step → List Step → Continuation
+next_of ignore_case step others = after_own ignore_case (own_text step (literals (take (own_count (stretch_of step)) others))) (begins ignore_case step others)
 
-abbrev pub onward_of : Step → List Step → Continuation
-onward_of step others = onward (run_end step) (goes step others)
+abbrev pub onward_of : (ignore_case : Bool) → Step → List Step → Continuation
+onward_of ignore_case step others = onward ignore_case (run_end step) (goes ignore_case step others)
 
-longest_parts : (end : ℕ) (gives : Continuation) (front text : List ℕ) → longest end gives front text ≡ option_or (onward end (longest end gives) front text) (gives front text)
-longest_parts end gives front [] = refl
-longest_parts end gives front (d ∷ text) = by (d == end)
+longest_parts : (ignore_case : Bool) (end : ℕ) (gives : Continuation) (front text : List ℕ) → longest ignore_case end gives front text ≡ option_or (onward ignore_case end (longest ignore_case end gives) front text) (gives front text)
+longest_parts ignore_case end gives front [] = refl
+longest_parts ignore_case end gives front (d ∷ text) = by (is_same_character ignore_case d end)
   where
-    by : (b : Bool) → cond b (gives front (d ∷ text)) (option_or (longest end gives (front ++ d ∷ []) text) (gives front (d ∷ text)))
-        ≡ option_or (cond b None (longest end gives (front ++ d ∷ []) text)) (gives front (d ∷ text))
+    by : (b : Bool) → cond b (gives front (d ∷ text)) (option_or (longest ignore_case end gives (front ++ d ∷ []) text) (gives front (d ∷ text)))
+        ≡ option_or (cond b None (longest ignore_case end gives (front ++ d ∷ []) text)) (gives front (d ∷ text))
     by true = refl
     by false = refl
 
-longest_some_parts : (end : ℕ) (gives : Continuation) (front text : List ℕ) → longest_some end gives front text ≡ onward end (longest end gives) front text
-longest_some_parts end gives front [] = refl
-longest_some_parts end gives front (d ∷ text) = refl
+longest_some_parts : (ignore_case : Bool) (end : ℕ) (gives : Continuation) (front text : List ℕ) → longest_some ignore_case end gives front text ≡ onward ignore_case end (longest ignore_case end gives) front text
+longest_some_parts ignore_case end gives front [] = refl
+longest_some_parts ignore_case end gives front (d ∷ text) = refl
 
-shortest_parts : (end : ℕ) (gives : Continuation) (front text : List ℕ)
-    → shortest end gives front text ≡ onward end (λ front text. option_or (gives front text) (shortest end gives front text)) front text
-shortest_parts end gives front [] = refl
-shortest_parts end gives front (d ∷ text) = refl
+shortest_parts : (ignore_case : Bool) (end : ℕ) (gives : Continuation) (front text : List ℕ)
+    → shortest ignore_case end gives front text ≡ onward ignore_case end (λ front text. option_or (gives front text) (shortest ignore_case end gives front text)) front text
+shortest_parts ignore_case end gives front [] = refl
+shortest_parts ignore_case end gives front (d ∷ text) = refl
 
-run_parts : (may_be_empty : Bool) (end : ℕ) (gives : Continuation) (front text : List ℕ)
-    → longest_run may_be_empty end gives front text
-    ≡ cond may_be_empty (option_or (onward end (longest end gives) front text) (gives front text)) (onward end (longest end gives) front text)
-run_parts true end gives front text = longest_parts end gives front text
-run_parts false end gives front text = longest_some_parts end gives front text
+run_parts : (ignore_case : Bool) (may_be_empty : Bool) (end : ℕ) (gives : Continuation) (front text : List ℕ)
+    → longest_run ignore_case may_be_empty end gives front text
+    ≡ cond may_be_empty (option_or (onward ignore_case end (longest ignore_case end gives) front text) (gives front text)) (onward ignore_case end (longest ignore_case end gives) front text)
+run_parts ignore_case true end gives front text = longest_parts ignore_case end gives front text
+run_parts ignore_case false end gives front text = longest_some_parts ignore_case end gives front text
 
-copies_parts : (may_be_missing : Bool) (c : ℕ) (characters : List ℕ) (gives : Continuation) (front text : List ℕ)
-    → repeated may_be_missing (after_text (c ∷ characters)) gives front text
-    ≡ cond may_be_missing (option_or (after_text (c ∷ characters) (any_rounds (after_text (c ∷ characters)) gives) front text) (gives front text))
-    (after_text (c ∷ characters) (any_rounds (after_text (c ∷ characters)) gives) front text)
-copies_parts true c characters gives front text = any-unrolled (after_text (c ∷ characters)) (advances-after c characters) gives front text
-copies_parts false c characters gives front text = refl
+copies_parts : (ignore_case : Bool) (may_be_missing : Bool) (c : ℕ) (characters : List ℕ) (gives : Continuation) (front text : List ℕ)
+    → repeated may_be_missing (after_text ignore_case (c ∷ characters)) gives front text
+    ≡ cond may_be_missing (option_or (after_text ignore_case (c ∷ characters) (any_rounds (after_text ignore_case (c ∷ characters)) gives) front text) (gives front text))
+    (after_text ignore_case (c ∷ characters) (any_rounds (after_text ignore_case (c ∷ characters)) gives) front text)
+copies_parts ignore_case true c characters gives front text = any-unrolled (after_text ignore_case (c ∷ characters)) (advances-after ignore_case c characters) gives front text
+copies_parts ignore_case false c characters gives front text = refl
 
-module _ (c : ℕ) (literal : List ℕ) (is_greedy : Bool) (end : ℕ) (gives : Continuation) where
-  onward_segments : (front text : List ℕ) → ends.onward c literal is_greedy end gives front text ≡ onward end (ends.either c literal is_greedy end gives) front text
+module _ (ignore_case : Bool) (c : ℕ) (literal : List ℕ) (is_greedy : Bool) (end : ℕ) (gives : Continuation) where
+  onward_segments : (front text : List ℕ) → ends.onward ignore_case c literal is_greedy end gives front text ≡ onward ignore_case end (ends.either ignore_case c literal is_greedy end gives) front text
   onward_segments front [] = refl
   onward_segments front (d ∷ text) = refl
 
-  segments_begin : (front text : List ℕ) → segmented (c ∷ literal) (single_run is_greedy end) gives front text
+  segments_begin : (front text : List ℕ) → segmented ignore_case (c ∷ literal) (single_run ignore_case is_greedy end) gives front text
       ≡ cond is_greedy
-      (option_or (onward end (ends.either c literal is_greedy end gives) front text)
-      (option_or (after_text (c ∷ literal) (segmented (c ∷ literal) (single_run is_greedy end) gives) front text) (gives front text)))
-      (onward end (ends.either c literal is_greedy end gives) front text)
+      (option_or (onward ignore_case end (ends.either ignore_case c literal is_greedy end gives) front text)
+      (option_or (after_text ignore_case (c ∷ literal) (segmented ignore_case (c ∷ literal) (single_run ignore_case is_greedy end) gives) front text) (gives front text)))
+      (onward ignore_case end (ends.either ignore_case c literal is_greedy end gives) front text)
   segments_begin front text =
-      ends.begins_parts c literal is_greedy end gives front text
-      ∙ ap₂ (λ o s. cond is_greedy (option_or o s) o) (onward_segments front text) (ends.stops_unrolled c literal is_greedy end gives front text)
+      ends.begins_parts ignore_case c literal is_greedy end gives front text
+      ∙ ap₂ (λ o s. cond is_greedy (option_or o s) o) (onward_segments front text) (ends.stops_unrolled ignore_case c literal is_greedy end gives front text)
 
-  segments_go : (front text : List ℕ) → ends.either c literal is_greedy end gives front text
+  segments_go : (front text : List ℕ) → ends.either ignore_case c literal is_greedy end gives front text
       ≡ cond is_greedy
-      (option_or (onward end (ends.either c literal is_greedy end gives) front text)
-      (option_or (after_text (c ∷ literal) (segmented (c ∷ literal) (single_run is_greedy end) gives) front text) (gives front text)))
-      (option_or (option_or (after_text (c ∷ literal) (segmented (c ∷ literal) (single_run is_greedy end) gives) front text) (gives front text))
-      (onward end (ends.either c literal is_greedy end gives) front text))
+      (option_or (onward ignore_case end (ends.either ignore_case c literal is_greedy end gives) front text)
+      (option_or (after_text ignore_case (c ∷ literal) (segmented ignore_case (c ∷ literal) (single_run ignore_case is_greedy end) gives) front text) (gives front text)))
+      (option_or (option_or (after_text ignore_case (c ∷ literal) (segmented ignore_case (c ∷ literal) (single_run ignore_case is_greedy end) gives) front text) (gives front text))
+      (onward ignore_case end (ends.either ignore_case c literal is_greedy end gives) front text))
   segments_go front text =
-      ends.either_parts c literal is_greedy end gives front text
-      ∙ ap₂ (λ o s. cond is_greedy (option_or o s) (option_or s o)) (onward_segments front text) (ends.stops_unrolled c literal is_greedy end gives front text)
+      ends.either_parts ignore_case c literal is_greedy end gives front text
+      ∙ ap₂ (λ o s. cond is_greedy (option_or o s) (option_or s o)) (onward_segments front text) (ends.stops_unrolled ignore_case c literal is_greedy end gives front text)
 
-pub begins_is : (step : Step) (others : List Step) (front text : List ℕ)
-    → begins step others front text ≡ begun_of step (next_of step others front text) (given step others front text) (onward_of step others front text)
-begins_is (Literal c) others front text = refl
-begins_is (Segment end) others front text = refl
-begins_is Anything others front text = refl
-begins_is (Maybe group) others front text = refl
-begins_is (Longest run) others front text = refl
-begins_is (Copies copies) others front text = copies_parts true copies.text.first _ (given (Copies copies) others) front text
-begins_is (Segments segments) others front text =
-    segments_begin segments.separator.first _ segments.is_greedy segments.end (given (Segments segments) others) front text
+pub begins_is : (ignore_case : Bool) (step : Step) (others : List Step) (front text : List ℕ)
+    → begins ignore_case step others front text ≡ begun_of step (next_of ignore_case step others front text) (given ignore_case step others front text) (onward_of ignore_case step others front text)
+begins_is ignore_case (Literal c) others front text = refl
+begins_is ignore_case (Segment end) others front text = refl
+begins_is ignore_case Anything others front text = refl
+begins_is ignore_case (Maybe group) others front text = refl
+begins_is ignore_case (Longest run) others front text = refl
+begins_is ignore_case (Copies copies) others front text = copies_parts ignore_case true copies.text.first _ (given ignore_case (Copies copies) others) front text
+begins_is ignore_case (Segments segments) others front text =
+    segments_begin ignore_case segments.separator.first _ segments.is_greedy segments.end (given ignore_case (Segments segments) others) front text
 
-pub goes_is : (step : Step) (others : List Step) (front text : List ℕ)
-    → goes step others front text ≡ later_of step (next_of step others front text) (given step others front text) (onward_of step others front text)
-goes_is (Literal c) others front text = refl
-goes_is (Segment end) others front text = ap (option_or (given (Segment end) others front text)) (shortest_parts end (given (Segment end) others) front text)
-goes_is Anything others front text = longest_parts (run_end Anything) (given Anything others) front text
-goes_is (Maybe group) others front text = refl
-goes_is (Longest run) others front text = longest_parts run.end (given (Longest run) others) front text
-goes_is (Copies copies) others front text = refl
-goes_is (Segments segments) others front text =
-    segments_go segments.separator.first _ segments.is_greedy segments.end (given (Segments segments) others) front text
+pub goes_is : (ignore_case : Bool) (step : Step) (others : List Step) (front text : List ℕ)
+    → goes ignore_case step others front text ≡ later_of step (next_of ignore_case step others front text) (given ignore_case step others front text) (onward_of ignore_case step others front text)
+goes_is ignore_case (Literal c) others front text = refl
+goes_is ignore_case (Segment end) others front text = ap (option_or (given ignore_case (Segment end) others front text)) (shortest_parts ignore_case end (given ignore_case (Segment end) others) front text)
+goes_is ignore_case Anything others front text = longest_parts ignore_case (run_end Anything) (given ignore_case Anything others) front text
+goes_is ignore_case (Maybe group) others front text = refl
+goes_is ignore_case (Longest run) others front text = longest_parts ignore_case run.end (given ignore_case (Longest run) others) front text
+goes_is ignore_case (Copies copies) others front text = refl
+goes_is ignore_case (Segments segments) others front text =
+    segments_go ignore_case segments.separator.first _ segments.is_greedy segments.end (given ignore_case (Segments segments) others) front text
 
-pub wholly_is : (step : Step) (others : List Step) → IsSingle step → (front text : List ℕ)
-    → wholly step others front text ≡ whole_of step (next_of step others front text) (given step others front text) (onward_of step others front text)
-wholly_is (Literal c) others single front text = refl
-wholly_is (Segment end) others single front text = shortest_parts end (given (Segment end) others) front text
-wholly_is Anything others single front text = longest_parts (run_end Anything) (given Anything others) front text
-wholly_is (Maybe group) others single front text = absurd single
-wholly_is (Longest run) others single front text = run_parts run.may_be_empty run.end (given (Longest run) others) front text
-wholly_is (Copies copies) others single front text = copies_parts copies.may_be_missing copies.text.first _ (given (Copies copies) others) front text
-wholly_is (Segments segments) others single front text =
-    segments_begin segments.separator.first _ segments.is_greedy segments.end (given (Segments segments) others) front text
+pub wholly_is : (ignore_case : Bool) (step : Step) (others : List Step) → IsSingle step → (front text : List ℕ)
+    → wholly ignore_case step others front text ≡ whole_of step (next_of ignore_case step others front text) (given ignore_case step others front text) (onward_of ignore_case step others front text)
+wholly_is ignore_case (Literal c) others single front text = refl
+wholly_is ignore_case (Segment end) others single front text = shortest_parts ignore_case end (given ignore_case (Segment end) others) front text
+wholly_is ignore_case Anything others single front text = longest_parts ignore_case (run_end Anything) (given ignore_case Anything others) front text
+wholly_is ignore_case (Maybe group) others single front text = absurd single
+wholly_is ignore_case (Longest run) others single front text = run_parts ignore_case run.may_be_empty run.end (given ignore_case (Longest run) others) front text
+wholly_is ignore_case (Copies copies) others single front text = copies_parts ignore_case copies.may_be_missing copies.text.first _ (given ignore_case (Copies copies) others) front text
+wholly_is ignore_case (Segments segments) others single front text =
+    segments_begin ignore_case segments.separator.first _ segments.is_greedy segments.end (given ignore_case (Segments segments) others) front text
 
 -- ---- where the front ends
 

@@ -5,6 +5,7 @@ use Rattle.regex_hir.proofs.OptionLemmas.{option_or-None}
 use Rattle.urlpattern_meaning.specs.PartMeaning.{Captures}
 use Rattle.urlpattern_meaning.specs.Ways.{Way, Choice, idle, joined_way, continued, one_that, is_shorter, more_rounds, looped}
 use Rattle.urlpattern_engine.specs.Walk.{shortest, longest, Continuation}
+use Rattle.urlpattern_meaning.specs.Matching.{is_same_character}
 
 abbrev pub Next : Type 0
 Next = List ℕ → Option Captures
@@ -94,9 +95,9 @@ bare h front rest = h front [] rest
 abbrev with_first : ℕ → Given → Given
 with_first c h taken captures rest = h (c ∷ taken) captures rest
 
-module _ (end : ℕ) where
+module _ (ignore_case : Bool) (end : ℕ) where
   abbrev pub one : Choice
-  one = one_that (λ c. not (c == end))
+  one = one_that (λ c. not (is_same_character ignore_case c end))
 
   idle-given : (h : Given) (text : List ℕ) → tried (given h) (idle 0 text ∷ []) ≡ h [] [] text
   idle-given h text = option_or-None _
@@ -106,28 +107,28 @@ module _ (end : ℕ) where
       → tried (given h) (continued next (record { taken = c ∷ []; captures = []; rest = text } ∷ [])) ≡ tried (given (with_first c h)) (next text)
   one_round h c text next = tried-continued (given h) next (record { taken = c ∷ []; captures = []; rest = text } ∷ []) ∙ option_or-None (tried (given (with_first c h)) (next text))
 
-  shortest-first : (c : ℕ) (h : Given) (front text : List ℕ) → shortest end (bare (with_first c h)) front text ≡ shortest end (bare h) (c ∷ front) text
+  shortest-first : (c : ℕ) (h : Given) (front text : List ℕ) → shortest ignore_case end (bare (with_first c h)) front text ≡ shortest ignore_case end (bare h) (c ∷ front) text
   shortest-first c h front [] = refl
-  shortest-first c h front (d ∷ text) = ap (λ o. cond (d == end) None (option_or (h (c ∷ (front ++ d ∷ [])) [] text) o)) (shortest-first c h (front ++ d ∷ []) text)
+  shortest-first c h front (d ∷ text) = ap (λ o. cond (is_same_character ignore_case d end) None (option_or (h (c ∷ (front ++ d ∷ [])) [] text) o)) (shortest-first c h (front ++ d ∷ []) text)
 
-  longest-first : (c : ℕ) (h : Given) (front text : List ℕ) → longest end (bare (with_first c h)) front text ≡ longest end (bare h) (c ∷ front) text
+  longest-first : (c : ℕ) (h : Given) (front text : List ℕ) → longest ignore_case end (bare (with_first c h)) front text ≡ longest ignore_case end (bare h) (c ∷ front) text
   longest-first c h front [] = refl
   longest-first c h front (d ∷ text) =
-      ap (λ o. cond (d == end) (h (c ∷ front) [] (d ∷ text)) (option_or o (h (c ∷ front) [] (d ∷ text)))) (longest-first c h (front ++ d ∷ []) text)
+      ap (λ o. cond (is_same_character ignore_case d end) (h (c ∷ front) [] (d ∷ text)) (option_or o (h (c ∷ front) [] (d ∷ text)))) (longest-first c h (front ++ d ∷ []) text)
 
   lazy_rounds : (n : ℕ) (h : Given) (text : List ℕ) → length text ≤ n
-      → tried (given h) (more_rounds false one n text) ≡ option_or (h [] [] text) (shortest end (bare h) [] text)
+      → tried (given h) (more_rounds false one n text) ≡ option_or (h [] [] text) (shortest ignore_case end (bare h) [] text)
   lazy_rounds zero h [] le = refl
   lazy_rounds zero h (c ∷ text) le = absurd (omega arith)
   lazy_rounds (suc n) h [] le = refl
-  lazy_rounds (suc n) h (c ∷ text) le = by (c == end) (lazy_rounds n (with_first c h) text (omega arith))
+  lazy_rounds (suc n) h (c ∷ text) le = by (is_same_character ignore_case c end) (lazy_rounds n (with_first c h) text (omega arith))
     where
       next : Choice
       next rest = cond (is_shorter rest (c ∷ text)) (more_rounds false one n rest) []
 
-      by : (b : Bool) → tried (given (with_first c h)) (more_rounds false one n text) ≡ option_or (h (c ∷ []) [] text) (shortest end (bare (with_first c h)) [] text)
+      by : (b : Bool) → tried (given (with_first c h)) (more_rounds false one n text) ≡ option_or (h (c ∷ []) [] text) (shortest ignore_case end (bare (with_first c h)) [] text)
           → option_or (h [] [] (c ∷ text)) (tried (given h) (continued next (cond (not b) (record { taken = c ∷ []; captures = []; rest = text } ∷ []) [])))
-          ≡ option_or (h [] [] (c ∷ text)) (cond b None (option_or (h (c ∷ []) [] text) (shortest end (bare h) (c ∷ []) text)))
+          ≡ option_or (h [] [] (c ∷ text)) (cond b None (option_or (h (c ∷ []) [] text) (shortest ignore_case end (bare h) (c ∷ []) text)))
       by true later = refl
       by false later =
           let shorter : is_shorter text (c ∷ text) ≡ true = lt-ltb _ _ (omega arith) in
@@ -138,15 +139,15 @@ module _ (end : ℕ) where
           ∙ ap (option_or (h (c ∷ []) [] text)) (shortest-first c h [] text))
 
   -- a lazy loop
-  pub lazy_loop : (h : Given) (text : List ℕ) → tried (given h) (looped false one text) ≡ shortest end (bare h) [] text
+  pub lazy_loop : (h : Given) (text : List ℕ) → tried (given h) (looped false one text) ≡ shortest ignore_case end (bare h) [] text
   lazy_loop h [] = refl
-  lazy_loop h (c ∷ text) = by (c == end)
+  lazy_loop h (c ∷ text) = by (is_same_character ignore_case c end)
     where
       next : Choice
       next rest = cond (is_shorter rest (c ∷ text)) (more_rounds false one (length rest) rest) (idle 0 rest ∷ [])
 
       by : (b : Bool) → tried (given h) (continued next (cond (not b) (record { taken = c ∷ []; captures = []; rest = text } ∷ []) []))
-          ≡ cond b None (option_or (h (c ∷ []) [] text) (shortest end (bare h) (c ∷ []) text))
+          ≡ cond b None (option_or (h (c ∷ []) [] text) (shortest ignore_case end (bare h) (c ∷ []) text))
       by true = refl
       by false =
           let shorter : is_shorter text (c ∷ text) ≡ true = lt-ltb _ _ (omega arith) in
@@ -155,18 +156,18 @@ module _ (end : ℕ) where
           ∙ lazy_rounds (length text) (with_first c h) text (omega arith)
           ∙ ap (option_or (h (c ∷ []) [] text)) (shortest-first c h [] text)
 
-  greedy_rounds : (n : ℕ) (h : Given) (text : List ℕ) → length text ≤ n → tried (given h) (more_rounds true one n text) ≡ longest end (bare h) [] text
+  greedy_rounds : (n : ℕ) (h : Given) (text : List ℕ) → length text ≤ n → tried (given h) (more_rounds true one n text) ≡ longest ignore_case end (bare h) [] text
   greedy_rounds zero h [] le = idle-given h []
   greedy_rounds zero h (c ∷ text) le = absurd (omega arith)
   greedy_rounds (suc n) h [] le = idle-given h []
-  greedy_rounds (suc n) h (c ∷ text) le = by (c == end) (greedy_rounds n (with_first c h) text (omega arith))
+  greedy_rounds (suc n) h (c ∷ text) le = by (is_same_character ignore_case c end) (greedy_rounds n (with_first c h) text (omega arith))
     where
       next : Choice
       next rest = cond (is_shorter rest (c ∷ text)) (more_rounds true one n rest) []
 
-      by : (b : Bool) → tried (given (with_first c h)) (more_rounds true one n text) ≡ longest end (bare (with_first c h)) [] text
+      by : (b : Bool) → tried (given (with_first c h)) (more_rounds true one n text) ≡ longest ignore_case end (bare (with_first c h)) [] text
           → tried (given h) (continued next (cond (not b) (record { taken = c ∷ []; captures = []; rest = text } ∷ []) []) ++ idle 0 (c ∷ text) ∷ [])
-          ≡ cond b (h [] [] (c ∷ text)) (option_or (longest end (bare h) (c ∷ []) text) (h [] [] (c ∷ text)))
+          ≡ cond b (h [] [] (c ∷ text)) (option_or (longest ignore_case end (bare h) (c ∷ []) text) (h [] [] (c ∷ text)))
       by true later = idle-given h (c ∷ text)
       by false later =
           let shorter : is_shorter text (c ∷ text) ≡ true = lt-ltb _ _ (omega arith) in
@@ -179,16 +180,16 @@ module _ (end : ℕ) where
           (idle-given h (c ∷ text))
 
   -- a greedy loop that may be missing
-  pub greedy_loop : (h : Given) (text : List ℕ) → tried (given h) (looped true one text ++ idle 0 text ∷ []) ≡ longest end (bare h) [] text
+  pub greedy_loop : (h : Given) (text : List ℕ) → tried (given h) (looped true one text ++ idle 0 text ∷ []) ≡ longest ignore_case end (bare h) [] text
   greedy_loop h [] = idle-given h []
   greedy_loop h (c ∷ text) =
-      tried-append (given h) (looped true one (c ∷ text)) (idle 0 (c ∷ text) ∷ []) ∙ ap (option_or (tried (given h) (looped true one (c ∷ text)))) (idle-given h (c ∷ text)) ∙ by (c == end)
+      tried-append (given h) (looped true one (c ∷ text)) (idle 0 (c ∷ text) ∷ []) ∙ ap (option_or (tried (given h) (looped true one (c ∷ text)))) (idle-given h (c ∷ text)) ∙ by (is_same_character ignore_case c end)
     where
       next : Choice
       next rest = cond (is_shorter rest (c ∷ text)) (more_rounds true one (length rest) rest) (idle 0 rest ∷ [])
 
       by : (b : Bool) → option_or (tried (given h) (continued next (cond (not b) (record { taken = c ∷ []; captures = []; rest = text } ∷ []) []))) (h [] [] (c ∷ text))
-          ≡ cond b (h [] [] (c ∷ text)) (option_or (longest end (bare h) (c ∷ []) text) (h [] [] (c ∷ text)))
+          ≡ cond b (h [] [] (c ∷ text)) (option_or (longest ignore_case end (bare h) (c ∷ []) text) (h [] [] (c ∷ text)))
       by true = refl
       by false =
           let shorter : is_shorter text (c ∷ text) ≡ true = lt-ltb _ _ (omega arith) in

@@ -1,5 +1,5 @@
 -- Two trees that the grammar reads in the same text answer the same.
-use Rattle.std.proofs.Common.{◌≡◌, ℕ, ◌+◌, ◌-◌, ◌*◌, List, map, length, Option, Some, None, IsSomeAnd, is_some, option_map, true, true≢false, refl, sym, ap, ◌∙◌}
+use Rattle.std.proofs.Common.{◌≡◌, ℕ, ◌+◌, ◌-◌, ◌*◌, List, map, length, Option, Some, None, IsSomeAnd, is_some, option_map, true, Bool, false, true≢false, refl, sym, ap, ◌∙◌}
 use Rattle.std.specs.List.{range_with_len}
 use Rattle.std.specs.Prelude.{IsTrue, encode_utf8_all}
 use Rattle.std.specs.Str.{all_scalars, chars}
@@ -8,7 +8,8 @@ use Rattle.regex_hir.specs.Meaning.{meaning}
 use Rattle.regex_hir.specs.declared.hir.Hir.{Hir}
 use Rattle.regex_syntax.specs.Captures.{SameCaptures}
 use Rattle.regex_syntax.specs.Grammar.{Names, read}
-use Rattle.regex_syntax.specs.Verdict.{default_config, Reads}
+use Rattle.regex_syntax.specs.Verdict.{Reads}
+use Rattle.regex_syntax.specs.declared.Config.{Config}
 use Rattle.regex_syntax.proofs.CapturesLemmas.{alike_sym, ◌also◌}
 use Rattle.regex.specs.Strings.{regex_names, regex_source}
 use Rattle.regex.specs.Writes.{both, group_of}
@@ -16,6 +17,7 @@ use Rattle.regex.specs.declared.string.regex.Regex.{Regex}
 use Rattle.regex.proofs.ForCallers.{found_alike, is_match_alike}
 use Rattle.urlpattern_core.specs.Regexes.{IsRegexOf, group_texts, regex_answer, text_between}
 use Rattle.urlpattern_core.proofs.Bytes.{bytes_below}
+use Rattle.urlpattern_engine.specs.Automatons.{IsRegexReadAs, config_for}
 use Rattle.urlpattern_meaning.specs.PartMeaning.{Captures}
 
 both_hold : {A B : Type 0} (o : Option A) (P Q : A → Type 0) → ((x : A) → P x → Q x → B) → IsSomeAnd o P → IsSomeAnd o Q → B
@@ -29,14 +31,14 @@ tree_answer hir names text =
     option_map (λ found. group_texts bytes (length names - 1) (group_of found)) (find_str (meaning hir) bytes 0)
 
 -- the grammar reads the tree and the names in the text
-abbrev pub IsReadIn : (regexp : List ℕ) → Hir → Names → Type 0
-IsReadIn regexp hir names = (source : List ℕ) × (chars source ≡ regexp) × Reads default_config source hir names
+abbrev pub IsReadIn : (config : Config) → (regexp : List ℕ) → Hir → Names → Type 0
+IsReadIn config regexp hir names = (source : List ℕ) × (chars source ≡ regexp) × Reads config source hir names
 
-module _ (regexp : List ℕ) (hir other : Hir) (names others : Names) (made : IsReadIn regexp hir names) (again : IsReadIn regexp other others) where
+module _ (config : Config) (regexp : List ℕ) (hir other : Hir) (names others : Names) (made : IsReadIn config regexp hir names) (again : IsReadIn config regexp other others) where
   alike : SameCaptures (meaning hir) (meaning other) × (names ≡ others)
   unfolding Reads
   alike =
-      both_hold (read default_config regexp) _ _ (λ x h q. (h.1 also (alike_sym q.1), h.2 ∙ sym q.2))
+      both_hold (read config regexp) _ _ (λ x h q. (h.1 also (alike_sym q.1), h.2 ∙ sym q.2))
       (rw (made.1) at made.2) (rw (again.1) at again.2)
 
   module _ (text : List ℕ) (fine : IsTrue (all_scalars text)) where
@@ -67,16 +69,23 @@ module _ (regexp : List ℕ) (hir other : Hir) (names others : Names) (made : Is
 
 -- ---- values of the crate `regex`
 
-pub regex_is_read : (regexp : List ℕ) (regex : Regex) → IsRegexOf regexp regex → IsReadIn regexp regex.pattern.program.hir (regex_names regex)
-regex_is_read regexp regex made = (regex_source regex, made.of_text, rw (made.by_default) at made.is_read)
+pub regex_is_read : (ignore_case : Bool) (regexp : List ℕ) (regex : Regex) → IsRegexReadAs ignore_case regexp regex → IsReadIn (config_for ignore_case) regexp regex.pattern.program.hir (regex_names regex)
+regex_is_read ignore_case regexp regex made = (regex_source regex, made.of_text, rw (made.by_case) at made.is_read)
+
+-- a value that was read by default
+pub read_by_default : (regexp : List ℕ) (regex : Regex) → IsRegexOf regexp regex → IsRegexReadAs false regexp regex
+read_by_default regexp regex made = record { of_text = made.of_text; by_case = made.by_default; is_read = made.is_read }
+
+pub default_read : (regexp : List ℕ) (regex : Regex) → IsRegexReadAs false regexp regex → IsRegexOf regexp regex
+default_read regexp regex made = record { of_text = made.of_text; by_default = made.by_case; is_read = made.is_read }
 
 pub regex_answer_is : (regex : Regex) (text : List ℕ) → regex_answer regex text ≡ tree_answer regex.pattern.program.hir (regex_names regex) text
 unfolding regex_answer
 regex_answer_is regex text = refl
 
-pub regexes_same : (regexp : List ℕ) (regex other : Regex) → IsRegexOf regexp regex → IsRegexOf regexp other → (text : List ℕ) → IsTrue (all_scalars text)
+pub regexes_same : (ignore_case : Bool) (regexp : List ℕ) (regex other : Regex) → IsRegexReadAs ignore_case regexp regex → IsRegexReadAs ignore_case regexp other → (text : List ℕ) → IsTrue (all_scalars text)
     → regex_answer regex text ≡ regex_answer other text
-regexes_same regexp regex other made again text fine =
+regexes_same ignore_case regexp regex other made again text fine =
     regex_answer_is regex text
-    ∙ readings_same regexp _ _ _ _ (regex_is_read regexp regex made) (regex_is_read regexp other again) text fine
+    ∙ readings_same (config_for ignore_case) regexp _ _ _ _ (regex_is_read ignore_case regexp regex made) (regex_is_read ignore_case regexp other again) text fine
     ∙ sym (regex_answer_is other text)

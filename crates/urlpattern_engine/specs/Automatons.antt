@@ -1,8 +1,10 @@
 -- What an automaton is made of, and what it answers.
-use Rattle.std.specs.Prelude.{◌≡◌, ℕ, ◌-◌, ◌*◌, ◌/◌, ◌&&◌, ◌==◌, true, List, map, length, Option, Some, None, nat_le, if◌then◌else◌, option_and_then, option_map, encode_utf8_all, slice_index}
+use Rattle.std.specs.Prelude.{◌≡◌, ℕ, ◌-◌, ◌*◌, ◌/◌, ◌&&◌, ◌==◌, Bool, true, List, map, length, Option, Some, None, nat_le, if◌then◌else◌, option_and_then, option_map, encode_utf8_all, slice_index}
 use Rattle.std.specs.List.{range_with_len}
 use Rattle.regex.specs.Search.{is_cut_at}
+use Rattle.regex.specs.Strings.{IsReadFromSource, regex_config}
 use Rattle.regex.specs.Writes.{both, group_of}
+use Rattle.regex.specs.declared.string.regex.Regex.{Regex}
 use Rattle.regex_compile.specs.Implements.{Implements}
 use Rattle.regex_extract.specs.Bounds.{IsAnchored}
 use Rattle.regex_hir.specs.Find.{Match}
@@ -10,10 +12,11 @@ use Rattle.regex_hir.specs.Meaning.{meaning}
 use Rattle.regex_hir.specs.declared.hir.Hir.{Hir}
 use Rattle.regex_nfa.specs.declared.nfa.Nfa.{Nfa}
 use Rattle.regex_syntax.specs.Grammar.{Names}
-use Rattle.regex_syntax.specs.Verdict.{Reads, default_config}
+use Rattle.regex_syntax.specs.Verdict.{Reads, default_config, default_flags}
+use Rattle.regex_syntax.specs.declared.Config.{Config}
 use Rattle.regex_syntax.specs.WellFormed.{IsWellFormed}
 use Rattle.regex_vm.specs.Found.{first_match}
-use Rattle.urlpattern_core.specs.Regexes.{text_between}
+use Rattle.urlpattern_core.specs.Regexes.{regex_text, text_between}
 use Rattle.urlpattern_meaning.specs.PartMeaning.{Captures}
 
 -- the characters from one byte place to another, if these are in order and between characters
@@ -35,11 +38,21 @@ automaton_answer nfa text =
     let bytes = encode_utf8_all text in
     option_map (match_captures bytes (nfa.slot_count / 2 - 1)) (match_at_start nfa bytes)
 
+-- how the grammar reads an expression: by its default options, but that case may be ignored
+abbrev pub config_for : (ignore_case : Bool) → Config
+config_for ignore_case = record default_config { flags = record default_flags { case_insensitive = ignore_case } }
+
+-- it was built from the text, as `regex` reads that with its default options, but that case may be ignored
+pub record IsRegexReadAs (ignore_case : Bool) (regexp : List ℕ) (regex : Regex) : Type 0 where
+  pub of_text : regex_text regex ≡ regexp
+  pub by_case : regex_config regex ≡ config_for ignore_case
+  pub is_read : IsReadFromSource regex
+
 -- The automaton was made of the text: it gives the matches of the tree that the grammar reads there, which begin at the start.
-pub record IsNfaOf (source : List ℕ) (nfa : Nfa) : Type 0 where
+pub record IsNfaOf (ignore_case : Bool) (source : List ℕ) (nfa : Nfa) : Type 0 where
   pub tree : Hir
   pub names : Names
-  pub is_read : Reads default_config source tree names
+  pub is_read : Reads (config_for ignore_case) source tree names
   pub is_formed : IsWellFormed true tree
   pub is_anchored : IsAnchored true (meaning tree)
   pub implements : Implements nfa (meaning tree)

@@ -1,8 +1,9 @@
 -- What a value of the engine is made of, and what it answers.
-use Rattle.std.specs.Prelude.{◌≡◌, ℕ, List, Option, string_bytes}
+use Rattle.std.specs.Prelude.{◌≡◌, ℕ, Bool, List, Option, string_bytes}
 use Rattle.urlpattern_core.specs.declared.regexp.RegExp.{Ghosts as Engine}
-use Rattle.urlpattern_core.specs.Regexes.{IsRegexOf, regex_answer, regex_text}
-use Rattle.urlpattern_engine.specs.Automatons.{IsNfaOf, automaton_answer}
+use Rattle.urlpattern_core.specs.Components.{ignores_case}
+use Rattle.urlpattern_core.specs.Regexes.{regex_answer, regex_text}
+use Rattle.urlpattern_engine.specs.Automatons.{IsNfaOf, IsRegexReadAs, automaton_answer}
 use Rattle.urlpattern_engine.specs.declared.pattern_regexp.Expression.{Expression}
 use Rattle.urlpattern_engine.specs.declared.pattern_regexp.Expression.TheVariants.{Own, Compiled, Other}
 use Rattle.urlpattern_engine.specs.declared.pattern_regexp.PatternRegexp.{PatternRegexp}
@@ -19,33 +20,35 @@ expression_text (Compiled automaton) = text_of automaton.value.text
 expression_text (Other regex) = regex_text regex.value
 
 -- what it answers
-abbrev pub expression_answer : Expression → List ℕ → Option Captures
-expression_answer (Own own) text = walk own.steps.items text
-expression_answer (Compiled automaton) text = automaton_answer automaton.value.nfa text
-expression_answer (Other regex) text = regex_answer regex.value text
+abbrev pub expression_answer : (ignore_case : Bool) → Expression → List ℕ → Option Captures
+expression_answer ignore_case (Own own) text = walk ignore_case own.steps.items text
+expression_answer ignore_case (Compiled automaton) text = automaton_answer automaton.value.nfa text
+expression_answer ignore_case (Other regex) text = regex_answer regex.value text
 
--- it was made of the text: of steps that answer the first way, of an automaton, or by `regex`
-abbrev pub IsExpressionOf : (regexp : List ℕ) → Expression → Type 0
-IsExpressionOf regexp (Own own) = (text_of own.text ≡ regexp) × AreStepsOf regexp own.steps.items
-IsExpressionOf regexp (Compiled automaton) =
-    (text_of automaton.value.text ≡ regexp) × IsNfaOf (string_bytes automaton.value.text) automaton.value.nfa
-IsExpressionOf regexp (Other regex) = IsRegexOf regexp regex.value
+-- it was made of the text: of steps that answer the first way, or, if the text is not that of parts without a custom one, of an
+-- automaton or by `regex`
+abbrev pub IsExpressionOf : (ignore_case : Bool) → (regexp : List ℕ) → Expression → Type 0
+IsExpressionOf ignore_case regexp (Own own) = (text_of own.text ≡ regexp) × AreStepsOf regexp own.steps.items
+IsExpressionOf ignore_case regexp (Compiled automaton) =
+    (text_of automaton.value.text ≡ regexp) × IsNfaOf ignore_case (string_bytes automaton.value.text) automaton.value.nfa × ¬ IsGenerated regexp
+IsExpressionOf ignore_case regexp (Other regex) = IsRegexReadAs ignore_case regexp regex.value × ¬ IsGenerated regexp
 
 abbrev pub pattern_regexp_text : PatternRegexp → List ℕ
 pattern_regexp_text value = expression_text value.expression
 
 unfoldable pub pattern_answer : PatternRegexp → List ℕ → Option Captures
-pattern_answer value text = expression_answer value.expression text
+pattern_answer value text = expression_answer value.ignore_case value.expression text
 
--- it was made of the text
-pub record IsPatternRegexpOf (regexp : List ℕ) (value : PatternRegexp) : Type 0 where
-  pub of_text : IsExpressionOf regexp value.expression
+-- it was made of the text and flags
+pub record IsPatternRegexpOf (regexp flags : List ℕ) (value : PatternRegexp) : Type 0 where
+  pub by_flags : value.ignore_case ≡ ignores_case flags
+  pub of_text : IsExpressionOf value.ignore_case regexp value.expression
 
--- What the engine means: it takes no notice of flags, and refuses no generated text.
+-- What the engine means: it ignores case where the flags have an `i`, and refuses no generated text.
 abbrev pub pattern_engine : Engine PatternRegexp
 pattern_engine = record {
   syntax_of = Rust;
-  IsMade = λ value regexp flags. IsPatternRegexpOf regexp value;
+  IsMade = λ value regexp flags. IsPatternRegexpOf regexp flags value;
   MayRefuse = λ regexp flags force_eval. ¬ IsGenerated regexp;
   answer = pattern_answer;
   text_made_of = pattern_regexp_text;

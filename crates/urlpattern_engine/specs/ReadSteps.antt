@@ -14,7 +14,7 @@ use Rattle.urlpattern_engine.specs.declared.step.Step.TheVariants.{Literal, Segm
 use Rattle.urlpattern_engine.specs.Walk.{capture_count, walk}
 use Rattle.urlpattern_meaning.specs.Dialect.{AllowsGroups, AnyBut, AreItems, Atom, Captured, Character, Dot, Grouped, IsAtom, IsCharacter, IsClassCharacter, IsTreeOf, Item, Items, LazyOneOrMore, Nothing, OneOrMore, Quantifier, ZeroOrMore, atom_text, character_of, character_text, group_count, items_text, quantifier_text}
 use Rattle.urlpattern_meaning.specs.Dialect as dialect
-use Rattle.urlpattern_meaning.specs.Ways.{first_way}
+use Rattle.urlpattern_meaning.specs.Ways.{first_way_by}
 use Rattle.urlpattern_syntax.specs.declared.parser.PartType.TheVariants.{Regexp}
 use Rattle.urlpattern_syntax.specs.Options.{OptionsView}
 use Rattle.urlpattern_syntax.specs.Parts.{PartView}
@@ -218,11 +218,11 @@ AddsSegments end is_greedy old new text rest = (own : List Step) × EndsSegments
 
 -- ---- expressions
 
--- The text is an expression of the dialect, and what these steps capture of any text is its first way.
+-- The text is an expression of the dialect, and what these steps capture of any text is its first way, whether case counts or not.
 pub record AreStepsOf (regexp : List ℕ) (steps : List Step) : Type 0 where
   pub tree : Items
   pub is_tree : IsTreeOf regexp tree
-  pub answers : (text : List ℕ) → walk steps text ≡ first_way tree text
+  pub answers : (ignore_case : Bool) (text : List ℕ) → walk ignore_case steps text ≡ first_way_by ignore_case tree text
 
 -- the regular expression of parts, none of them custom, under some options
 abbrev pub IsGenerated : List ℕ → Type 0

@@ -7,7 +7,7 @@ use Rattle.urlpattern_engine.specs.declared.step.Step.{Step}
 use Rattle.urlpattern_engine.specs.declared.step.Step.TheVariants.{Literal, Segment, Anything, Maybe, Longest, Copies, Segments}
 use Rattle.urlpattern_engine.specs.declared.step.Stretch.{Stretch}
 use Rattle.urlpattern_engine.specs.Failed.{EndsWith}
-use Rattle.urlpattern_engine.specs.Walk.{Continuation, captured_front, walk}
+use Rattle.urlpattern_engine.specs.Walk.{BeginsAs, Continuation, captured_front, walk}
 use Rattle.urlpattern_syntax.specs.Text.{line_feed}
 
 -- ---- steps
@@ -42,8 +42,8 @@ is_capture (Maybe group) = false
 is_capture step = true
 
 -- what is given by a front that a step takes and the rest
-abbrev pub given : Step → List Step → Continuation
-given step others = if is_capture step then captured_front (walk (following step others)) else (λ front rest. walk (following step others) rest)
+abbrev pub given : (ignore_case : Bool) → Step → List Step → Continuation
+given ignore_case step others = if is_capture step then captured_front (walk ignore_case (following step others)) else (λ front rest. walk ignore_case (following step others) rest)
 
 -- a step that is no choice between two lists of steps
 abbrev pub IsSingle : Step → Type 0
@@ -77,11 +77,11 @@ whole_of (Segments segments) next here onward = if segments.is_greedy then optio
 whole_of (Maybe group) next here onward = None
 
 -- what a list that has an entry for each shorter end of a text has for what follows some characters
-abbrev pub IsEntryAfter : (entries : List (Option ℕ)) → Option (List ℕ) → (text : List ℕ) → (entry : Option ℕ) → Type 0
-IsEntryAfter entries None text entry = entry ≡ None
-IsEntryAfter entries (Some characters) text entry =
-    ((rest : List ℕ) → text ≡ characters ++ rest → entry ≡ get_or entries (length rest) None)
-    × (((rest : List ℕ) → ¬ (text ≡ characters ++ rest)) → entry ≡ None)
+abbrev pub IsEntryAfter : (ignore_case : Bool) (entries : List (Option ℕ)) → Option (List ℕ) → (text : List ℕ) → (entry : Option ℕ) → Type 0
+IsEntryAfter ignore_case entries None text entry = entry ≡ None
+IsEntryAfter ignore_case entries (Some characters) text entry =
+    ((rest : List ℕ) → BeginsAs ignore_case characters text rest → entry ≡ get_or entries (length rest) None)
+    × (((rest : List ℕ) → ¬ BeginsAs ignore_case characters text rest) → entry ≡ None)
 
 -- ---- rows
 
@@ -90,15 +90,15 @@ abbrev pub has : List Bool → ℕ → Bool
 has row n = get_or row n false
 
 -- for each end of the text, by how many characters it has, whether the steps take it
-pub record IsRow (text : List ℕ) (steps : List Step) (row : List Bool) : Type 0 where
+pub record IsRow (ignore_case : Bool) (text : List ℕ) (steps : List Step) (row : List Bool) : Type 0 where
   pub long : length text < length row
-  pub bits : (end : List ℕ) → EndsWith text end → has row (length end) ≡ is_some (walk steps end)
+  pub bits : (end : List ℕ) → EndsWith text end → has row (length end) ≡ is_some (walk ignore_case steps end)
 
 -- the row for so many steps
 abbrev pub row_at : List (Vec Bool Global) → ℕ → List Bool
 row_at rows n = get_or (map (λ (row : Vec Bool Global). row.items) rows) n []
 
 -- a row for each end of the steps, by how many there are
-pub record AreRows (text : List ℕ) (steps : List Step) (rows : List (Vec Bool Global)) : Type 0 where
+pub record AreRows (ignore_case : Bool) (text : List ℕ) (steps : List Step) (rows : List (Vec Bool Global)) : Type 0 where
   pub count : length rows ≡ suc (length steps)
-  pub each : (end : List Step) → EndsWith steps end → IsRow text end (row_at rows (length end))
+  pub each : (end : List Step) → EndsWith steps end → IsRow ignore_case text end (row_at rows (length end))

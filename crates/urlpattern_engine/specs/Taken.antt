@@ -10,6 +10,7 @@ use Rattle.urlpattern_engine.specs.declared.step.Step.{Step}
 use Rattle.urlpattern_engine.specs.declared.walk.Attempt.{Attempt}
 use Rattle.urlpattern_engine.specs.Walk.{Continuation, captured_front, literal_text, segmented, single_run, walk}
 use Rattle.urlpattern_syntax.specs.Text.{option_text}
+use Rattle.urlpattern_meaning.specs.Matching.{is_same_character}
 
 -- Where a text is cut, by the bytes before it, so that its parts give what is found. None: nothing is found.
 abbrev pub IsCutFor : Continuation → (text : List ℕ) → Option ℕ → (found : Option Captures) → Type 0
@@ -18,10 +19,10 @@ IsCutFor gives text (Some n) found =
     (front rest : List ℕ) × IsUtf8 front × IsUtf8 rest × (text ≡ front ++ rest) × (length front ≡ n) × (found ≡ gives (chars front) (chars rest)) × ¬ (found ≡ None)
 
 -- where segments end that are the first that the other steps lead on from; the text between two is that of the literal steps
-abbrev pub IsEndOfSegments : Segments → (literal others : List Step) → (text : List ℕ) → (end : Option ℕ) → Type 0
-IsEndOfSegments segments literal others text end =
-    IsCutFor (captured_front (walk others)) text end
-    (segmented (literal_text segments.separator.first literal) (single_run segments.is_greedy segments.end) (captured_front (walk others)) [] (chars text))
+abbrev pub IsEndOfSegments : (ignore_case : Bool) → Segments → (literal others : List Step) → (text : List ℕ) → (end : Option ℕ) → Type 0
+IsEndOfSegments ignore_case segments literal others text end =
+    IsCutFor (captured_front (walk ignore_case others)) text end
+    (segmented ignore_case (literal_text segments.separator.first literal) (single_run ignore_case segments.is_greedy segments.end) (captured_front (walk ignore_case others)) [] (chars text))
 
 -- the front is the text without its last n characters
 abbrev pub IsWithoutLast : (n : ℕ) → (text front : List ℕ) → Type 0
@@ -34,9 +35,9 @@ IsEndHere None here found None = found ≡ None
 IsEndHere None here found (Some n) = (n ≡ here) × ¬ (found ≡ None)
 
 -- where a run that goes on with the first character ends; there it does not go on with this character
-abbrev pub going_on : (end : ℕ) → (later : Option ℕ) → (text : List ℕ) → Option ℕ
-going_on end later [] = None
-going_on end later (c ∷ text) = if c == end then None else later
+abbrev pub going_on : (ignore_case : Bool) (end : ℕ) → (later : Option ℕ) → (text : List ℕ) → Option ℕ
+going_on ignore_case end later [] = None
+going_on ignore_case end later (c ∷ text) = if is_same_character ignore_case c end then None else later
 
 -- captures as they are kept
 abbrev pub Kept : Type 0
@@ -80,6 +81,6 @@ pub record FollowsOn (old new : Attempt) (is_taken : Bool) (found : Option Captu
   pub whole : new.failed ≡ old.failed
 
 -- the steps that are left capture of the rest what the steps do of the text, with what was captured before each
-abbrev pub LeavesWalk : (old new : KeptVec) → (steps : List Step) → (text : List ℕ) → (left : List Step) → (rest : List ℕ) → Type 0
-LeavesWalk old new steps text left rest =
-    with_captures old.items (walk steps (chars text)) ≡ with_captures new.items (walk left (chars rest))
+abbrev pub LeavesWalk : (ignore_case : Bool) (old new : KeptVec) → (steps : List Step) → (text : List ℕ) → (left : List Step) → (rest : List ℕ) → Type 0
+LeavesWalk ignore_case old new steps text left rest =
+    with_captures old.items (walk ignore_case steps (chars text)) ≡ with_captures new.items (walk ignore_case left (chars rest))

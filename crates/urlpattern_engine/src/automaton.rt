@@ -5,10 +5,10 @@ ghost use Rattle.std.specs.Str.{chars};
 ghost use Rattle.regex.specs.Writes.{both};
 ghost use Rattle.regex_vm.specs.Found.{group_cells};
 ghost use Rattle.urlpattern_core.specs.CaptureTexts.{captures_view};
-ghost use Rattle.urlpattern_engine.specs.Automatons.{IsNfaOf, automaton_answer, cell_texts, match_at_start, place_of, text_cut};
+ghost use Rattle.urlpattern_engine.specs.Automatons.{IsNfaOf, IsRegexReadAs, config_for, automaton_answer, cell_texts, match_at_start, place_of, text_cut};
 ghost use Rattle.urlpattern_syntax.specs.Text.{option_text};
 
-use regex::Regex;
+use regex::{Regex, RegexBuilder};
 use regex_compile::compile;
 use regex_extract::is_anchored_start;
 use regex_nfa::Nfa;
@@ -30,18 +30,25 @@ const LONG: usize = 1 << 10;
 pub(crate) struct Automaton {
     pub(crate) text: String,
     pub(crate) nfa: Nfa,
-    ghost is_made: { ∥ IsNfaOf (string_bytes text) nfa ∥₁ },
+    /// Whether the case of letters is ignored.
+    ignore_case: bool,
+    ghost is_made: { ∥ IsNfaOf ignore_case (string_bytes text) nfa ∥₁ },
 }
 
 impl Automaton {
     /// The automaton of an expression. `None`: it may match elsewhere than at the start of a text.
     ///
     /// The error says whether `regex` refuses the expression or memory ran out.
-    pub(crate) fn new(alloc: Global, regexp: &str) -> Result<Option<Automaton>, RegExpError>
+    pub(crate) fn new(
+        alloc: Global,
+        regexp: &str,
+        ignore_case: bool,
+    ) -> Result<Option<Automaton>, RegExpError>
         ensures text { IfOk result (λ made. IfSome made (λ automaton. string_bytes automaton.text ≡ regexp.now)) }
-        ensures made { IfOk result (λ made. IfSome made (λ automaton. IsNfaOf regexp.now automaton.nfa)) }
+        ensures made { IfOk result (λ made. IfSome made (λ automaton. IsNfaOf ignore_case regexp.now automaton.nfa)) }
     {
-        let Parsed { hir, names } = match regex_syntax::parse(alloc, regexp, &Config::default()) {
+        let config = config_for(ignore_case);
+        let Parsed { hir, names } = match regex_syntax::parse(alloc, regexp, &config) {
             Ok(parsed) => parsed,
             Err(error) => {
                 return Err(match error.kind {
@@ -62,7 +69,11 @@ impl Automaton {
             Err(_) => return Err(RegExpError::Pattern),
         };
         let text = String::from_str(alloc, regexp)?;
-        Ok(Some(Automaton { text, nfa }))
+        Ok(Some(Automaton {
+            text,
+            nfa,
+            ignore_case,
+        }))
     }
 
     /// What the groups capture of a text that the expression matches. `None`: it does not match it.
@@ -98,8 +109,7 @@ impl Automaton {
     ) -> Result<Option<Vec<Option<&'t str>>>, OutOfMemory>
         ensures { IfOk result (λ found. captures_view found ≡ automaton_answer self.now.nfa (chars text.now)) }
     {
-        let made: Result<Regex, RegExpError> = RegExp::parse(alloc, &self.text, "", true);
-        match made {
+        match regex_of(alloc, &self.text, self.ignore_case) {
             Ok(regex) => RegExp::matches(&regex, alloc, text),
             Err(_) => Err(OutOfMemory),
         }
@@ -123,6 +133,29 @@ impl Automaton {
                 Ok(search.find(&self.nfa, bytes, 0, 0, end, cells).is_some())
             }
         }
+    }
+}
+
+/// How `regex_syntax` is to read an expression: by its default options, but that case may be ignored.
+fn config_for(ignore_case: bool) -> Config
+    ensures { result ≡ config_for ignore_case }
+{
+    let mut config = Config::default();
+    config.flags.case_insensitive = ignore_case;
+    config
+}
+
+/// What `regex` makes of an expression, by its default options, but that case may be ignored.
+///
+/// The error says whether `regex` refuses the expression or memory ran out.
+pub(crate) fn regex_of(alloc: Global, regexp: &str, ignore_case: bool) -> Result<Regex, RegExpError>
+    ensures { IfOk result (IsRegexReadAs ignore_case (chars regexp.now)) }
+{
+    let builder = RegexBuilder::new(regexp).case_insensitive(ignore_case);
+    match builder.build(alloc) {
+        Ok(regex) => Ok(regex),
+        Err(regex::Error::OutOfMemory) => Err(RegExpError::OutOfMemory),
+        Err(_) => Err(RegExpError::Pattern),
     }
 }
 

@@ -1,6 +1,6 @@
 //! Matches a text by steps and a table of the ends of the text that they take.
 
-ghost use Rattle.std.specs.Prelude.{◌≡◌, ◌∷◌, ◌++◌, [], List, length, None, Some, IfNone, IfOk, IfSome, OnOk, if◌then◌else◌};
+ghost use Rattle.std.specs.Prelude.{◌≡◌, ◌∷◌, ◌++◌, [], Bool, List, length, None, Some, IfNone, IfOk, IfSome, OnOk, if◌then◌else◌};
 ghost use Rattle.std.specs.Str.{chars};
 ghost use Rattle.urlpattern_core.specs.CaptureTexts.{captures_view};
 ghost use Rattle.urlpattern_engine.specs.Failed.{EndsWith};
@@ -25,11 +25,12 @@ use urlpattern_core::error::OutOfMemory;
 pub(crate) fn walk_by_table<'t>(
     alloc: Global,
     steps: &[Step],
+    ignore_case: bool,
     text: &'t str,
 ) -> Result<Option<Vec<Option<&'t str>>>, OutOfMemory>
-    ensures { IfOk result (λ found. captures_view found ≡ walk steps.now (chars text.now)) }
+    ensures { IfOk result (λ found. captures_view found ≡ walk ignore_case steps.now (chars text.now)) }
 {
-    let rows = rows_of(alloc, steps, text)?;
+    let rows = rows_of(alloc, steps, ignore_case, text)?;
     let mut captures = Vec::new(alloc);
     let mut left = steps;
     let mut rest = text;
@@ -45,7 +46,15 @@ pub(crate) fn walk_by_table<'t>(
             | Step::Copies(_)
             | Step::Segments(_) => {
                 let row = row_for(&rows, following(*step, others));
-                let Some(remaining) = take_front(alloc, &mut captures, *step, others, row, rest)?
+                let Some(remaining) = take_front(
+                    alloc,
+                    &mut captures,
+                    *step,
+                    others,
+                    ignore_case,
+                    row,
+                    rest,
+                )?
                 else {
                     return Ok(None);
                 };
@@ -72,8 +81,8 @@ fn choose_group<'s>(
     others: &'s [Step],
     text: &str,
 ) -> Result<&'s [Step], OutOfMemory>
-    requires { IsRow (chars text.now) others.now (row_at rows.now (length others.now)) }
-    ensures chosen { IfOk result (λ left. LeavesWalk captures.old captures.new (Step.Maybe group ∷ others.now) text.now left.now text.now) }
+    ensures chosen { IfOk result (λ left. (ignore_case : Bool) → IsRow ignore_case (chars text.now) others.now (row_at rows.now (length others.now))
+        → LeavesWalk ignore_case captures.old captures.new (Step.Maybe group ∷ others.now) text.now left.now text.now) }
     ensures end { IfOk result (λ left. EndsWith others.now left.now) }
 {
     if is_taken(rows, others, text) {
@@ -94,16 +103,17 @@ fn take_front<'t>(
     captures: &mut Vec<Option<&'t str>>,
     step: Step,
     others: &[Step],
+    ignore_case: bool,
     row: &[bool],
     text: &'t str,
 ) -> Result<Option<&'t str>, OutOfMemory>
     requires single { IsSingle step }
-    requires row { IsRow (chars text.now) (following step others.now) row.now }
-    ensures taken { IfOk result (λ left. IfSome left (λ rest. LeavesWalk captures.old captures.new (step ∷ others.now) text.now (following step others.now) rest.now)) }
-    ensures none { IfOk result (λ left. IfNone left (walk (step ∷ others.now) (chars text.now) ≡ None)) }
+    requires row { IsRow ignore_case (chars text.now) (following step others.now) row.now }
+    ensures taken { IfOk result (λ left. IfSome left (λ rest. LeavesWalk ignore_case captures.old captures.new (step ∷ others.now) text.now (following step others.now) rest.now)) }
+    ensures none { IfOk result (λ left. IfNone left (walk ignore_case (step ∷ others.now) (chars text.now) ≡ None)) }
     ensures end { IfOk result (λ left. IfSome left (λ rest. EndsWith (chars text.now) (chars rest.now))) }
 {
-    let Some(count) = front_of(alloc, step, others, row, text)?.end else {
+    let Some(count) = front_of(alloc, step, others, ignore_case, row, text)?.end else {
         return Ok(None);
     };
     let (front, rest) = split_at_seam(text, count);

@@ -1,6 +1,6 @@
 //! States of a match from which no way leads on.
 
-ghost use Rattle.std.specs.Prelude.{◌≡◌, ◌⊎◌, ℕ, false, None, IfOk, IfSome, IsTrue};
+ghost use Rattle.std.specs.Prelude.{◌≡◌, ◌⊎◌, ℕ, Bool, false, None, IfOk, IfSome, IsTrue};
 ghost use Rattle.std.specs.Str.{chars};
 ghost use Rattle.urlpattern_engine.specs.Failed.{HasBit, IsStateOf, bit_of};
 ghost use Rattle.urlpattern_engine.specs.Walk.{walk};
@@ -14,6 +14,7 @@ use std::marker::Model;
 /// Its value is the match: which states it remembers has no part in what is answered, only in how fast.
 #[derive(Drop)]
 pub(crate) struct Failed<'s, 't> {
+    ignore_case: bool,
     steps: &'s [Step],
     text: &'t str,
     /// One bit for each state, or none.
@@ -26,9 +27,9 @@ impl<'s, 't> Model for Failed<'s, 't> {
 
     ghost Value = { Whole };
 
-    ghost view = { λ failed. record { steps = failed.steps.now; text = chars failed.text.now } };
+    ghost view = { λ failed. record { ignore_case = failed.ignore_case; steps = failed.steps.now; text = chars failed.text.now } };
 
-    ghost invariant = { λ failed. AreDead (record { steps = failed.steps.now; text = chars failed.text.now }) failed.bits.items };
+    ghost invariant = { λ failed. AreDead (record { ignore_case = failed.ignore_case; steps = failed.steps.now; text = chars failed.text.now }) failed.bits.items };
 }
 
 impl<'s, 't> Failed<'s, 't> {
@@ -36,13 +37,15 @@ impl<'s, 't> Failed<'s, 't> {
     pub(crate) fn new(
         alloc: Global,
         steps: &'s [Step],
+        ignore_case: bool,
         text: &'t str,
         has_room: bool,
     ) -> Result<Self, AllocError>
-        ensures { IfOk result (λ failed. failed ≡ record { steps = steps.now; text = chars text.now }) }
+        ensures { IfOk result (λ failed. failed ≡ record { ignore_case = ignore_case; steps = steps.now; text = chars text.now }) }
     {
         let count = if has_room { words(steps, text) } else { 0 };
         Ok(Failed {
+            ignore_case,
             steps,
             text,
             bits: vec![in alloc; 0u64; count]?,
@@ -56,8 +59,7 @@ impl<'s, 't> Failed<'s, 't> {
 
     /// Whether the state is remembered.
     pub(crate) fn contains(&self, steps: &[Step], text: &str) -> bool
-        requires { IsStateOf self.now steps.now (chars text.now) }
-        ensures { IsTrue result → walk steps.now (chars text.now) ≡ None }
+        ensures { (ignore_case : Bool) → IsStateOf ignore_case self.now steps.now (chars text.now) → IsTrue result → walk ignore_case steps.now (chars text.now) ≡ None }
     {
         if !self.has_room() {
             return false;
@@ -70,8 +72,7 @@ impl<'s, 't> Failed<'s, 't> {
 
     /// Remembers the state, if there is room.
     pub(crate) fn insert(&mut self, steps: &[Step], text: &str)
-        requires state { IsStateOf self.old steps.now (chars text.now) }
-        requires dead { walk steps.now (chars text.now) ≡ None }
+        requires { (ignore_case : Bool) × IsStateOf ignore_case self.old steps.now (chars text.now) × (walk ignore_case steps.now (chars text.now) ≡ None) }
         ensures { self.new ≡ self.old }
     {
         if !self.has_room() {

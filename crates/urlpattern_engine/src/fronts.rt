@@ -31,13 +31,14 @@ pub(crate) fn front_of(
     alloc: Global,
     step: Step,
     others: &[Step],
+    ignore_case: bool,
     row_after: &[bool],
     text: &str,
 ) -> Result<Front, OutOfMemory>
     requires single { IsSingle step }
-    requires after { IsRow (chars text.now) (following step others.now) row_after.now }
-    ensures row { IfOk result (λ front. IsRow (chars text.now) (step ∷ others.now) front.row.items) }
-    ensures end { IfOk result (λ front. IsCutFor (given step others.now) text.now front.end (walk (step ∷ others.now) (chars text.now))) }
+    requires after { IsRow ignore_case (chars text.now) (following step others.now) row_after.now }
+    ensures row { IfOk result (λ front. IsRow ignore_case (chars text.now) (step ∷ others.now) front.row.items) }
+    ensures end { IfOk result (λ front. IsCutFor (given ignore_case step others.now) text.now front.end (walk ignore_case (step ∷ others.now) (chars text.now))) }
 {
     let stretch = stretch_of(step);
     let literal = own_steps(step, others);
@@ -47,9 +48,9 @@ pub(crate) fn front_of(
     let mut front = text;
     loop {
         let rest = after_front(text, front);
-        let next = entry_after(&begun, stretch, literal, rest);
+        let next = entry_after(&begun, stretch, literal, ignore_case, rest);
         let here = end_here(row_after, row.len(), front.len());
-        let onward = goes_on(rest, end_of(step), later);
+        let onward = goes_on(rest, end_of(step), ignore_case, later);
         let ends = ends_of(step, next, here, onward);
         row.push(ends.whole.is_some())?;
         let Some(shorter) = without_last(front) else {
@@ -131,13 +132,14 @@ fn entry_after(
     entries: &[Option<usize>],
     stretch: Option<Stretch>,
     literal: &[Step],
+    ignore_case: bool,
     text: &str,
 ) -> Option<usize>
     requires { length entries.now ≡ length (chars text.now) }
-    ensures { IsEntryAfter entries.now (option_map (λ own. own.first ∷ literals literal.now) stretch) (chars text.now) result }
+    ensures { IsEntryAfter ignore_case entries.now (option_map (λ own. own.first ∷ literals literal.now) stretch) (chars text.now) result }
 {
     match stretch {
-        Some(own) => begun_after(entries, own.first, literal, text),
+        Some(own) => begun_after(entries, own.first, literal, ignore_case, text),
         None => None,
     }
 }

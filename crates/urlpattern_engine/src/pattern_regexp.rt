@@ -1,12 +1,15 @@
 //! The engine.
 
-ghost use Rattle.std.specs.Prelude.{◌≡◌, IfOk};
+ghost use Rattle.std.specs.Prelude.{◌≡◌, Err, IfOk};
 ghost use Rattle.std.specs.Str.{chars};
 ghost use Rattle.urlpattern_core.specs.CaptureTexts.{captures_view};
-ghost use Rattle.urlpattern_engine.specs.PatternRegexps.{pattern_engine};
+ghost use Rattle.urlpattern_core.specs.Components.{ignores_case};
+ghost use Rattle.urlpattern_syntax.specs.declared.error.RegExpError.TheVariants.{Pattern};
+ghost use Rattle.urlpattern_engine.specs.PatternRegexps.{IsExpressionOf, pattern_engine};
+ghost use Rattle.urlpattern_engine.specs.ReadSteps.{IsGenerated};
 ghost use Rattle.urlpattern_engine.specs.Walk.{walk};
 
-use crate::automaton::Automaton;
+use crate::automaton::{Automaton, regex_of};
 use crate::by_table::walk_by_table;
 use crate::choices::{Strategy, strategy_of};
 use crate::reading::read_steps;
@@ -25,6 +28,8 @@ use urlpattern_core::regexp::RegExp;
 #[derive(Drop)]
 pub struct PatternRegexp {
     expression: Expression,
+    /// Whether the case of letters is ignored.
+    ignore_case: bool,
 }
 
 /// An expression, by who matches it.
@@ -43,7 +48,11 @@ struct Steps {
     strategy: Strategy,
 }
 
-/// It takes no notice of flags, and reads each text at once. It refuses none that is generated of parts, none of them custom.
+/// It ignores case where the flags have an `i`, takes no notice of others, and reads each text at once. It refuses none that is
+/// generated of parts, none of them custom.
+///
+/// Where case is ignored, its own steps compare ASCII letters by their lower case, and any other character as it is. What the
+/// crate `regex` matches ignores case as that does, by Unicode.
 impl RegExp for PatternRegexp {
     ghost syntax_of = { pattern_engine.syntax_of };
 
@@ -63,23 +72,14 @@ impl RegExp for PatternRegexp {
         alloc: Global,
         pattern: &str,
         flags: &str,
-        force_eval: bool,
+        _force_eval: bool,
     ) -> Result<PatternRegexp, RegExpError> {
-        let expression = match read_steps(alloc, pattern)? {
-            Some(steps) => Expression::Own(Steps {
-                text: String::from_str(alloc, pattern)?,
-                strategy: strategy_of(&steps),
-                steps,
-            }),
-            None => match Automaton::new(alloc, pattern)? {
-                Some(automaton) => Expression::Compiled(boxed(alloc, automaton)?),
-                None => {
-                    let regex = <Regex as RegExp>::parse(alloc, pattern, flags, force_eval)?;
-                    Expression::Other(boxed(alloc, regex)?)
-                }
-            },
-        };
-        Ok(PatternRegexp { expression })
+        let ignore_case = ignores_case(flags);
+        let expression = expression_of(alloc, pattern, ignore_case)?;
+        Ok(PatternRegexp {
+            expression,
+            ignore_case,
+        })
     }
 
     fn matches<'a>(
@@ -88,7 +88,13 @@ impl RegExp for PatternRegexp {
         text: &'a str,
     ) -> Result<Option<Vec<Option<&'a str>>>, OutOfMemory> {
         match &self.expression {
-            Expression::Own(own) => match_steps(alloc, &own.steps, own.strategy, text),
+            Expression::Own(own) => match_steps(
+                alloc,
+                &own.steps,
+                self.ignore_case,
+                own.strategy,
+                text,
+            ),
             Expression::Compiled(automaton) => automaton.matches(alloc, text),
             Expression::Other(regex) => RegExp::matches(&**regex, alloc, text),
         }
@@ -103,20 +109,51 @@ impl RegExp for PatternRegexp {
     }
 }
 
+/// Whether the flags have an `i`.
+fn ignores_case(flags: &str) -> bool
+    ensures { result ≡ ignores_case (chars flags.now) }
+{
+    flags.contains('i')
+}
+
+/// The expression of a text, by who matches it.
+///
+/// The error says whether `regex` refuses the text or memory ran out.
+fn expression_of(alloc: Global, pattern: &str, ignore_case: bool) -> Result<Expression, RegExpError>
+    ensures made { IfOk result (IsExpressionOf ignore_case (chars pattern.now)) }
+    ensures refused { result ≡ Err Pattern → ¬ IsGenerated (chars pattern.now) }
+{
+    if let Some(steps) = read_steps(alloc, pattern)? {
+        return Ok(Expression::Own(Steps {
+            text: String::from_str(alloc, pattern)?,
+            strategy: strategy_of(&steps),
+            steps,
+        }));
+    }
+    match Automaton::new(alloc, pattern, ignore_case)? {
+        Some(automaton) => Ok(Expression::Compiled(boxed(alloc, automaton)?)),
+        None => {
+            let regex = regex_of(alloc, pattern, ignore_case)?;
+            Ok(Expression::Other(boxed(alloc, regex)?))
+        }
+    }
+}
+
 /// What the steps capture of a text that they take whole. `None`: they do not take it whole.
 ///
 /// The error is that memory ran out.
 fn match_steps<'t>(
     alloc: Global,
     steps: &[Step],
+    ignore_case: bool,
     strategy: Strategy,
     text: &'t str,
 ) -> Result<Option<Vec<Option<&'t str>>>, OutOfMemory>
-    ensures { IfOk result (λ found. captures_view found ≡ walk steps.now (chars text.now)) }
+    ensures { IfOk result (λ found. captures_view found ≡ walk ignore_case steps.now (chars text.now)) }
 {
     match strategy {
-        Strategy::ByChoices(remembered) => walk(alloc, steps, remembered, text),
-        Strategy::ByTable => walk_by_table(alloc, steps, text),
+        Strategy::ByChoices(remembered) => walk(alloc, steps, ignore_case, remembered, text),
+        Strategy::ByTable => walk_by_table(alloc, steps, ignore_case, text),
     }
 }
 

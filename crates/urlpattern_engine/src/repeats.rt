@@ -1,13 +1,13 @@
 //! Texts that are repeated, by the steps that they are made up of.
 
-ghost use Rattle.std.specs.Prelude.{◌≡◌, ◌≢◌, ◌++◌, ℕ, suc, ◌<◌, List, length, None, IfNone, IfSome, drop, get_or, take, if◌then◌else◌};
+ghost use Rattle.std.specs.Prelude.{◌≡◌, ◌++◌, ℕ, suc, ◌<◌, List, length, None, IfNone, IfSome, drop, get_or, take, if◌then◌else◌};
 ghost use Rattle.std.specs.Option.{option_or};
 ghost use Rattle.std.specs.Str.{chars};
-ghost use Rattle.urlpattern_engine.specs.Walk.{copies_of, literal_text, literals};
+ghost use Rattle.urlpattern_engine.specs.Walk.{AreCopiesOf, BeginsAs, joined, literal_text, literals};
 ghost use Rattle.urlpattern_engine.specs.Taken.{going_on, IsWithoutLast};
 
 use crate::step::Step;
-use crate::texts::{after, split_first, without_last};
+use crate::texts::{after_same, is_same, split_first, without_last};
 
 /// The steps after the first so many, if there are more.
 pub(crate) fn pass(steps: &[Step], count: usize) -> &[Step]
@@ -23,17 +23,22 @@ pub(crate) fn first_steps(steps: &[Step], count: usize) -> &[Step]
     steps.get(..count).unwrap_or(steps)
 }
 
-/// What follows a text in another that begins with it: the first character and those of the literal steps.
-pub(crate) fn after_literals<'t>(text: &'t str, first: char, literal: &[Step]) -> Option<&'t str>
-    ensures cut { IfSome result (λ rest. chars text.now ≡ literal_text first literal.now ++ chars rest.now) }
-    ensures other { IfNone result ((rest : List ℕ) → chars text.now ≢ literal_text first literal.now ++ rest) }
+/// What follows a text, as it is compared, in another that begins with it: the first character and those of the literal steps.
+pub(crate) fn after_literals<'t>(
+    text: &'t str,
+    first: char,
+    literal: &[Step],
+    ignore_case: bool,
+) -> Option<&'t str>
+    ensures cut { IfSome result (λ rest. BeginsAs ignore_case (literal_text first literal.now) (chars text.now) (chars rest.now)) }
+    ensures other { IfNone result ((rest : List ℕ) → ¬ BeginsAs ignore_case (literal_text first literal.now) (chars text.now) rest) }
     ensures len { IfSome result (λ rest. length rest.now < length text.now) }
 {
-    let mut rest = after(text, first)?;
+    let mut rest = after_same(text, first, ignore_case)?;
     let mut left = literal;
     while let Some((step, others)) = left.split_first() {
         if let Step::Literal(c) = step {
-            let Some(remaining) = after(rest, *c) else {
+            let Some(remaining) = after_same(rest, *c, ignore_case) else {
                 return None;
             };
             rest = remaining;
@@ -43,13 +48,19 @@ pub(crate) fn after_literals<'t>(text: &'t str, first: char, literal: &[Step]) -
     Some(rest)
 }
 
-/// What follows all copies of a text at the front of another: of the first character and those of the literal steps.
-pub(crate) fn skip_copies<'t>(text: &'t str, first: char, literal: &[Step]) -> &'t str
-    ensures front { (n : ℕ) × (chars text.now ≡ copies_of n (literal_text first literal.now) ++ chars result.now) }
-    ensures all { (rest : List ℕ) → chars result.now ≢ literal_text first literal.now ++ rest }
+/// What follows all copies of a text, as it is compared, at the front of another: of the first character and those of the literal
+/// steps.
+pub(crate) fn skip_copies<'t>(
+    text: &'t str,
+    first: char,
+    literal: &[Step],
+    ignore_case: bool,
+) -> &'t str
+    ensures front { (copies : List (List ℕ)) × (chars text.now ≡ joined copies ++ chars result.now) × AreCopiesOf ignore_case (literal_text first literal.now) copies }
+    ensures all { (rest : List ℕ) → ¬ BeginsAs ignore_case (literal_text first literal.now) (chars result.now) rest }
 {
     let mut rest = text;
-    while let Some(remaining) = after_literals(rest, first, literal) {
+    while let Some(remaining) = after_literals(rest, first, literal, ignore_case) {
         rest = remaining;
     }
     rest
@@ -92,19 +103,20 @@ fn literal_count(literal: &[Step]) -> usize
     count
 }
 
-/// What the table has for the text that follows the first character and those of the literal steps. The table has an entry for each
+/// What the table has for the text that follows the first character and those of the literal steps, as they are compared. The table has an entry for each
 /// end of the text that has fewer characters, from the shortest on.
 pub(crate) fn begun_after(
     table: &[Option<usize>],
     first: char,
     literal: &[Step],
+    ignore_case: bool,
     text: &str,
 ) -> Option<usize>
-    ensures there { (rest : List ℕ) → chars text.now ≡ literal_text first literal.now ++ rest → length table.now ≡ length (chars text.now)
+    ensures there { (rest : List ℕ) → BeginsAs ignore_case (literal_text first literal.now) (chars text.now) rest → length table.now ≡ length (chars text.now)
         → result ≡ get_or table.now (length rest) None }
-    ensures other { ((rest : List ℕ) → chars text.now ≢ literal_text first literal.now ++ rest) → result ≡ None }
+    ensures other { ((rest : List ℕ) → ¬ BeginsAs ignore_case (literal_text first literal.now) (chars text.now) rest) → result ≡ None }
 {
-    after_literals(text, first, literal)?;
+    after_literals(text, first, literal, ignore_case)?;
     let index = table
         .len()
         .checked_sub(literal_count(literal))?
@@ -116,11 +128,16 @@ pub(crate) fn begun_after(
 }
 
 /// Where a run ends that goes on with the first character of a text, by where it ends later. `None`: it does not go on.
-pub(crate) fn goes_on(text: &str, end: char, later: Option<usize>) -> Option<usize>
-    ensures { result ≡ going_on end later (chars text.now) }
+pub(crate) fn goes_on(
+    text: &str,
+    end: char,
+    ignore_case: bool,
+    later: Option<usize>,
+) -> Option<usize>
+    ensures { result ≡ going_on ignore_case end later (chars text.now) }
 {
     match split_first(text) {
-        Some((c, _)) if c != end => later,
+        Some((c, _)) if !is_same(c, end, ignore_case) => later,
         _ => None,
     }
 }

@@ -1,6 +1,6 @@
 //! Which ends of a text the ends of the steps take: a row for each end of the steps.
 
-ghost use Rattle.std.specs.Prelude.{◌≡◌, ◌∷◌, ◌||◌, ℕ, ◌<◌, [], List, length, is_some, IfOk};
+ghost use Rattle.std.specs.Prelude.{◌≡◌, ◌∷◌, ◌||◌, ℕ, ◌<◌, [], Bool, List, length, is_some, IfOk};
 ghost use Rattle.std.specs.Str.{chars};
 ghost use Rattle.urlpattern_engine.specs.Walk.{walk};
 ghost use Rattle.urlpattern_engine.specs.Table.{has, row_at, AreRows, IsRow};
@@ -18,16 +18,17 @@ use urlpattern_core::error::OutOfMemory;
 pub(crate) fn rows_of(
     alloc: Global,
     steps: &[Step],
+    ignore_case: bool,
     text: &str,
 ) -> Result<Vec<Vec<bool>>, OutOfMemory>
-    ensures { IfOk result (λ rows. AreRows (chars text.now) steps.now rows.items) }
+    ensures { IfOk result (λ rows. AreRows ignore_case (chars text.now) steps.now rows.items) }
 {
     let mut rows = Vec::with_capacity(alloc, steps.len())?;
     rows.push(row_of_none(alloc, text)?)?;
     let mut before = steps;
     while let Some((step, fewer)) = before.split_last() {
         let others = pass(steps, before.len());
-        let row = row_of(alloc, *step, others, &rows, text)?;
+        let row = row_of(alloc, *step, others, ignore_case, &rows, text)?;
         rows.push(row)?;
         before = fewer;
     }
@@ -38,7 +39,7 @@ pub(crate) fn rows_of(
 ///
 /// The error is that memory ran out.
 fn row_of_none(alloc: Global, text: &str) -> Result<Vec<bool>, OutOfMemory>
-    ensures { IfOk result (λ row. IsRow (chars text.now) [] row.items) }
+    ensures { IfOk result (λ row. (ignore_case : Bool) → IsRow ignore_case (chars text.now) [] row.items) }
 {
     let mut row = Vec::with_capacity(alloc, text.len())?;
     row.push(true)?;
@@ -55,18 +56,19 @@ fn row_of(
     alloc: Global,
     step: Step,
     others: &[Step],
+    ignore_case: bool,
     rows: &[Vec<bool>],
     text: &str,
 ) -> Result<Vec<bool>, OutOfMemory>
-    requires { AreRows (chars text.now) others.now rows.now }
-    ensures { IfOk result (λ row. IsRow (chars text.now) (step ∷ others.now) row.items) }
+    requires { AreRows ignore_case (chars text.now) others.now rows.now }
+    ensures { IfOk result (λ row. IsRow ignore_case (chars text.now) (step ∷ others.now) row.items) }
 {
     if let Step::Maybe(group) = step {
         let missing = pass(others, group.steps);
         return either(alloc, row_for(rows, others), row_for(rows, missing));
     }
     let after = row_for(rows, following(step, others));
-    Ok(front_of(alloc, step, others, after, text)?.row)
+    Ok(front_of(alloc, step, others, ignore_case, after, text)?.row)
 }
 
 /// Which ends are in one of two rows.
@@ -102,8 +104,8 @@ pub(crate) fn row_for<'r>(rows: &'r [Vec<bool>], steps: &[Step]) -> &'r [bool]
 
 /// Whether the steps take an end of a text whole, of which the row for them is given.
 pub(crate) fn is_taken(rows: &[Vec<bool>], steps: &[Step], text: &str) -> bool
-    requires { IsRow (chars text.now) steps.now (row_at rows.now (length steps.now)) }
-    ensures { result ≡ is_some (walk steps.now (chars text.now)) }
+    ensures { (ignore_case : Bool) → IsRow ignore_case (chars text.now) steps.now (row_at rows.now (length steps.now))
+        → result ≡ is_some (walk ignore_case steps.now (chars text.now)) }
 {
     has(row_for(rows, steps), character_count(text))
 }

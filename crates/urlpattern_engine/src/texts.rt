@@ -3,7 +3,8 @@
 ghost use Rattle.std.specs.Prelude.{◌≡◌, ◌≢◌, ◌∷◌, ◌++◌, [], ℕ, ◌<◌, List, length, IfNone, IfSome};
 ghost use Rattle.std.specs.Char.{IsScalar, encode_utf8};
 ghost use Rattle.std.specs.Str.{chars, IsUtf8};
-ghost use Rattle.urlpattern_engine.specs.Walk.{from_first, up_to_first};
+ghost use Rattle.urlpattern_engine.specs.Walk.{BeginsAs, from_first, up_to_first};
+ghost use Rattle.urlpattern_meaning.specs.Matching.{is_same_character};
 
 use urlpattern_syntax::tokenizer::before;
 pub(crate) use urlpattern_syntax::tokenizer::split_first;
@@ -16,6 +17,27 @@ pub(crate) fn after(text: &str, c: char) -> Option<&str>
 {
     let (first, rest) = split_first(text)?;
     if first == c { Some(rest) } else { None }
+}
+
+/// Whether two characters are the same; where case is ignored, but for the case of ASCII letters.
+pub(crate) fn is_same(c: char, other: char, ignore_case: bool) -> bool
+    ensures { result ≡ is_same_character ignore_case c other }
+{
+    c == other || (ignore_case && c.eq_ignore_ascii_case(&other))
+}
+
+/// What follows this character, as it is compared, in a text that begins with it.
+pub(crate) fn after_same(text: &str, c: char, ignore_case: bool) -> Option<&str>
+    ensures cut { IfSome result (λ rest. BeginsAs ignore_case (c ∷ []) (chars text.now) (chars rest.now)) }
+    ensures other { IfNone result ((rest : List ℕ) → ¬ BeginsAs ignore_case (c ∷ []) (chars text.now) rest) }
+    ensures len { IfSome result (λ rest. length rest.now < length text.now) }
+{
+    let (first, rest) = split_first(text)?;
+    if is_same(first, c, ignore_case) {
+        Some(rest)
+    } else {
+        None
+    }
 }
 
 /// What follows a front of a text.
@@ -48,22 +70,22 @@ pub(crate) fn without_last(text: &str) -> Option<&str>
     Some(characters.as_str())
 }
 
-/// A text up to the first such character, and from there on.
-pub(crate) fn split_at_first(text: &str, c: char) -> (&str, &str)
-    ensures front { chars result.0.now ≡ up_to_first c (chars text.now) }
-    ensures rest { chars result.1.now ≡ from_first c (chars text.now) }
+/// A text up to the first such character, as it is compared, and from there on.
+pub(crate) fn split_at_first(text: &str, c: char, ignore_case: bool) -> (&str, &str)
+    ensures front { chars result.0.now ≡ up_to_first ignore_case c (chars text.now) }
+    ensures rest { chars result.1.now ≡ from_first ignore_case c (chars text.now) }
 {
-    let rest = skip_to_first(text, c);
+    let rest = skip_to_first(text, c, ignore_case);
     (before(text, rest), rest)
 }
 
 /// A text from the first such character on.
-fn skip_to_first(text: &str, c: char) -> &str
-    ensures { chars result.now ≡ from_first c (chars text.now) }
+fn skip_to_first(text: &str, c: char, ignore_case: bool) -> &str
+    ensures { chars result.now ≡ from_first ignore_case c (chars text.now) }
 {
     let mut rest = text;
     while let Some((first, remaining)) = split_first(rest) {
-        if first == c {
+        if is_same(first, c, ignore_case) {
             break;
         }
         rest = remaining;

@@ -4,7 +4,7 @@ use Rattle.std.proofs.lemmas.List.Elements.{All-cons, All-nil}
 use Rattle.std.specs.Prelude.{All, codes}
 use Rattle.urlpattern_meaning.specs.FirstAnswers.{IsFirstOf}
 use Rattle.urlpattern_meaning.specs.PartMeaning.{Captures}
-use Rattle.urlpattern_meaning.specs.Ways.{first_way}
+use Rattle.urlpattern_meaning.specs.Ways.{first_way, first_way_by}
 use Rattle.urlpattern_syntax.specs.declared.parser.PartModifier.TheVariants as modifiers
 use Rattle.urlpattern_syntax.specs.declared.parser.PartType.TheVariants.{FullWildcard, SegmentWildcard}
 use Rattle.urlpattern_syntax.specs.Options.{OptionsView, default_options, pathname_options}
@@ -21,7 +21,7 @@ abbrev pub name : List ℕ → PartView
 name text = group SegmentWildcard [] text [] modifiers.None
 
 pub two_names : IsFirstOf default_options (name (codes "a") ∷ name (codes "b") ∷ []) (codes "abc") (Some (Some (codes "a") ∷ Some (codes "bc") ∷ []))
-unfolding first_way
+unfolding first_way_by
 two_names =
     let parts : List PartView = name (codes "a") ∷ name (codes "b") ∷ [] in
     record {
@@ -44,7 +44,7 @@ abbrev pub optional_wildcard : PartView
 optional_wildcard = group FullWildcard [] (codes "0") [] modifiers.Optional
 
 pub wildcard_on_nothing : IsFirstOf default_options (optional_wildcard ∷ []) [] (Some (Some [] ∷ []))
-unfolding first_way
+unfolding first_way_by
 wildcard_on_nothing = first_of_one default_options optional_wildcard [] (Some (Some [] ∷ [])) (λ e. cc e) refl
 
 -- the pattern `/:a?` of a path on the empty text takes no part, as the slash before the name is missing
@@ -52,7 +52,7 @@ abbrev pub optional_segment : PartView
 optional_segment = group SegmentWildcard (codes "/") (codes "a") [] modifiers.Optional
 
 pub segment_on_nothing : IsFirstOf pathname_options (optional_segment ∷ []) [] (Some (None ∷ []))
-unfolding first_way
+unfolding first_way_by
 segment_on_nothing = first_of_one pathname_options optional_segment [] (Some (None ∷ [])) (λ e. cc e) refl
 
 -- the pattern `:x*` on `ab`: two copies are one capture
@@ -60,5 +60,5 @@ abbrev pub repeated_name : PartView
 repeated_name = group SegmentWildcard [] (codes "x") [] modifiers.ZeroOrMore
 
 pub copies_on_text : IsFirstOf default_options (repeated_name ∷ []) (codes "ab") (Some (Some (codes "ab") ∷ []))
-unfolding first_way
+unfolding first_way_by
 copies_on_text = first_of_one default_options repeated_name (codes "ab") (Some (Some (codes "ab") ∷ [])) (λ e. cc e) refl

@@ -4,7 +4,7 @@ use Rattle.std.proofs.lemmas.Bool.{cond-false}
 use Rattle.std.specs.Prelude.{IsTrue, option_to_list}
 use Rattle.urlpattern_meaning.specs.Dialect.{Items, Nothing, AreItems, Means}
 use Rattle.urlpattern_meaning.specs.Matching.{ArePeeled, IsRemoved, end_text}
-use Rattle.urlpattern_meaning.specs.Ways.{Way, joined_way, continued, ways, first_way}
+use Rattle.urlpattern_meaning.specs.Ways.{Way, joined_way, continued, ways, first_way, first_way_by}
 use Rattle.urlpattern_syntax.specs.declared.parser.PartModifier.{PartModifier}
 use Rattle.urlpattern_syntax.specs.declared.parser.PartModifier.TheVariants as modifiers
 use Rattle.urlpattern_syntax.specs.declared.parser.PartType.{PartType}
@@ -86,7 +86,7 @@ module _ (marks s : List ℕ) (are : AreItems (put marks s Nothing)) where
           ∙ ap (option_map (λ (w : Way). w.captures)) (cond-false (length (c ∷ rest) == 0) (Some other) (find takes_all others) (ne_eqb (length (c ∷ rest)) 0 (λ none. omega (arith, none)))))
 
   pub last_first : (tree : Items) → AreItems tree → (inner : List ℕ) → first_way (both_items tree (put marks s Nothing)) (inner ++ s) ≡ first_way tree inner
-  unfolding first_way
+  unfolding first_way_by
   last_first tree h inner =
       ap first_of (both_ways tree (put marks s Nothing) (inner ++ s))
       ∙ first_cut (ways tree (inner ++ s)) (ways tree inner) (items-cut s tree h inner)

@@ -6,7 +6,7 @@ use Rattle.std.proofs.lemmas.List.{nil_from_length}
 use Rattle.std.proofs.lemmas.Option.{none-some, same_Some}
 use Rattle.urlpattern_meaning.specs.Dialect.{Follows, Items, IsTreeOf, group_count, AreItems, Means}
 use Rattle.urlpattern_meaning.specs.PartMeaning.{Captures}
-use Rattle.urlpattern_meaning.specs.Ways.{Way, ways, first_way}
+use Rattle.urlpattern_meaning.specs.Ways.{Way, ways, first_way, first_way_by}
 use Rattle.urlpattern_meaning.proofs.DialectUnique.{only_tree}
 use Rattle.urlpattern_meaning.proofs.WayLists.{Every, Has, contains-has, every-has, has-contains}
 use Rattle.urlpattern_meaning.proofs.WaysSound.{IsSound, ways-sound, means-count}
@@ -29,7 +29,7 @@ found text Is (way ∷ all) captures every e = by (takes_all way) refl e (found 
     by false t f later = later f
 
 pub first_way_means : (tree : Items) → AreItems tree → (text : List ℕ) (captures : Captures) → first_way tree text ≡ Some captures → Means tree text captures
-unfolding first_way
+unfolding first_way_by
 first_way_means tree h text captures e = found text (Means tree) (ways tree text) captures (ways-sound tree h text) e
 
 not_found : (all : List Way) (taken : List ℕ) (captures : Captures) → Has (way_of taken captures []) all
@@ -43,7 +43,7 @@ not_found (way ∷ all) taken captures (inr h) e = by (takes_all way) e (not_fou
     by false f later = later f
 
 pub no_way_means_none : (tree : Items) → AreItems tree → (text : List ℕ) → first_way tree text ≡ None → (captures : Captures) → ¬ Means tree text captures
-unfolding first_way
+unfolding first_way_by
 no_way_means_none tree h text e captures m =
     not_found (ways tree text) text captures (subst (λ t. Has (way_of text captures []) (ways tree t)) (append-nil text) (ways-complete tree h text captures [] m)) e
 

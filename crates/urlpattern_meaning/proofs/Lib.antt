@@ -62,6 +62,7 @@ pub mod WayExamples
 pub mod WaysJoined
 pub mod WaysCut
 pub mod FirstPeeled
+pub mod FoldedTrees
 pub mod Middles
 pub mod FirstAnswers
 pub mod FirstAnswerExamples

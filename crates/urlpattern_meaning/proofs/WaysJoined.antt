@@ -3,7 +3,7 @@ use Rattle.std.proofs.Common.{◌≡◌, ℕ, List, [], ◌∷◌, ◌++◌, map
 use Rattle.std.proofs.lemmas.Bool.{cond-true}
 use Rattle.urlpattern_meaning.specs.Dialect.{Items, Nothing, Item, Literal, Once, character_of, atom_group_count}
 use Rattle.urlpattern_meaning.specs.PartMeaning.{Captures}
-use Rattle.urlpattern_meaning.specs.Ways.{Way, Choice, idle, joined_way, continued, quantified_ways, ways, atom_ways, first_way}
+use Rattle.urlpattern_meaning.specs.Ways.{Way, Choice, idle, joined_way, continued, quantified_ways, ways, atom_ways, first_way, first_way_by}
 use Rattle.urlpattern_meaning.proofs.PartTrees.{character, put}
 use Rattle.urlpattern_meaning.proofs.TreeMeaning.{character_same}
 use Rattle.urlpattern_meaning.proofs.WaysComplete.{way_of}
@@ -119,5 +119,5 @@ put_ways marks (c ∷ front) items text =
     ∙ put_ways marks front items text
 
 pub put_first : (marks front : List ℕ) (items : Items) (text : List ℕ) → first_way (put marks front items) (front ++ text) ≡ first_way items text
-unfolding first_way
+unfolding first_way_by
 put_first marks front items text = first_seen (ways (put marks front items) (front ++ text)) (ways items text) (put_ways marks front items text)

@@ -1,5 +1,5 @@
 -- Which matcher is made of a list of parts, what a matcher answers to a text, and when that is what the parts mean.
-use Rattle.std.specs.Prelude.{◌≡◌, ◌≢◌, ◌⊎◌, ℕ, Bool, true, false, List, [], ◌∷◌, ◌++◌, map, Option, Some, None, Result, Ok, Err, IsTrue, if◌then◌else◌, option_to_list}
+use Rattle.std.specs.Prelude.{◌≡◌, ◌≢◌, ◌⊎◌, ◌==◌, ℕ, Bool, true, false, List, [], ◌∷◌, ◌++◌, map, Option, Some, None, Result, Ok, Err, IsTrue, if◌then◌else◌, option_map, option_to_list}
 use Rattle.std.specs.{Char.to_ascii_lowercase, Str.all_scalars}
 use Rattle.urlpattern_meaning.specs.Dialect.{Follows}
 use Rattle.urlpattern_syntax.specs.{Errors.ErrorView, Options.OptionsView, Parts.PartView}
@@ -99,6 +99,14 @@ folded ignore_case text = if ignore_case then map to_ascii_lowercase text else t
 
 abbrev pub folded_character : (ignore_case : Bool) → ℕ → ℕ
 folded_character ignore_case c = if ignore_case then to_ascii_lowercase c else c
+
+-- captures as they are compared where case is ignored
+abbrev pub folded_captures : Captures → Captures
+folded_captures captures = map (λ capture. option_map (folded true) capture) captures
+
+-- the two characters are the same; where case is ignored, but for the case of ASCII letters
+abbrev pub is_same_character : (ignore_case : Bool) → (c other : ℕ) → Bool
+is_same_character ignore_case c other = folded_character ignore_case c == folded_character ignore_case other
 
 -- the two texts are the same; where case is ignored, but for the case of ASCII letters
 abbrev pub IsSame : (ignore_case : Bool) → (text other : List ℕ) → Type 0

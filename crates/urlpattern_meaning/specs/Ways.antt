@@ -1,8 +1,8 @@
 -- In which ways a tree of the dialect can take the front of a text, in the order in which an engine that tries choices one
 -- by one comes to them; and what the first of these captures that takes the whole text.
-use Rattle.std.specs.Prelude.{ℕ, zero, suc, Bool, true, false, not, ◌==◌, nat_lt, length, List, [], ◌∷◌, ◌++◌, map, flat_map, find, replicate, Option, Some, None, option_map, if◌then◌else◌}
-use Rattle.urlpattern_meaning.specs.Dialect.{Quantifier, Once, Optional, ZeroOrMore, OneOrMore, LazyOneOrMore, Items, Nothing, Item, Atom, Literal, Dot, AnyBut, Captured, Grouped, character_of, atom_group_count}
-use Rattle.urlpattern_meaning.specs.PartMeaning.{Captures}
+use Rattle.std.specs.Prelude.{◌≡◌, ℕ, zero, suc, Bool, true, false, not, ◌==◌, nat_lt, length, List, [], ◌∷◌, ◌++◌, map, flat_map, find, replicate, Option, Some, None, option_map, if◌then◌else◌}
+use Rattle.urlpattern_meaning.specs.Dialect.{Quantifier, Once, Optional, ZeroOrMore, OneOrMore, LazyOneOrMore, Items, Nothing, Item, Atom, Literal, Dot, AnyBut, Captured, Grouped, Character, Plain, Escaped, character_of, atom_group_count}
+use Rattle.urlpattern_meaning.specs.{Matching.folded, Matching.folded_captures, Matching.folded_character, Matching.is_same_character, PartMeaning.Captures}
 use Rattle.urlpattern_syntax.specs.Text.{line_feed}
 
 -- A front of a text, the captures in it, and the text after it.
@@ -72,17 +72,53 @@ abbrev pub capturing : Way → Way
 capturing way = record way { captures = Some way.taken ∷ way.captures }
 
 abbrev mutual
-  pub ways : Items → Choice
-  ways Nothing text = idle 0 text ∷ []
-  ways (Item atom quantifier items) text = continued (ways items) (quantified_ways quantifier (atom_group_count atom) (atom_ways atom) text)
+  -- where case is ignored, an ASCII letter is compared as its lower case
+  pub ways_by : (ignore_case : Bool) → Items → Choice
+  ways_by ignore_case Nothing text = idle 0 text ∷ []
+  ways_by ignore_case (Item atom quantifier items) text =
+      continued (ways_by ignore_case items) (quantified_ways quantifier (atom_group_count atom) (atom_ways_by ignore_case atom) text)
 
-  pub atom_ways : Atom → Choice
-  atom_ways (Literal character) text = one_that (λ c. c == character_of character) text
-  atom_ways Dot text = one_that (λ c. not (c == line_feed)) text
-  atom_ways (AnyBut character) text = one_that (λ c. not (c == character_of character)) text
-  atom_ways (Captured items) text = map capturing (ways items text)
-  atom_ways (Grouped items) text = ways items text
+  pub atom_ways_by : (ignore_case : Bool) → Atom → Choice
+  atom_ways_by ignore_case (Literal character) text = one_that (λ c. is_same_character ignore_case c (character_of character)) text
+  atom_ways_by ignore_case Dot text = one_that (λ c. not (is_same_character ignore_case c line_feed)) text
+  atom_ways_by ignore_case (AnyBut character) text = one_that (λ c. not (is_same_character ignore_case c (character_of character))) text
+  atom_ways_by ignore_case (Captured items) text = map capturing (ways_by ignore_case items text)
+  atom_ways_by ignore_case (Grouped items) text = ways_by ignore_case items text
+
+-- the same where case counts
+abbrev pub ways : Items → Choice
+ways items = ways_by false items
+
+abbrev pub atom_ways : Atom → Choice
+atom_ways atom = atom_ways_by false atom
 
 -- the captures of the first way that takes the whole text; None where no way does
-unfoldable pub first_way : Items → List ℕ → Option Captures
-first_way tree text = option_map (λ way. way.captures) (find (λ way. length way.rest == 0) (ways tree text))
+unfoldable pub first_way_by : (ignore_case : Bool) → Items → List ℕ → Option Captures
+first_way_by ignore_case tree text = option_map (λ way. way.captures) (find (λ way. length way.rest == 0) (ways_by ignore_case tree text))
+
+abbrev pub first_way : Items → List ℕ → Option Captures
+first_way tree text = first_way_by false tree text
+
+-- ---- where case is ignored
+
+abbrev pub folded_written : Character → Character
+folded_written (Plain c) = Plain (folded_character true c)
+folded_written (Escaped c) = Escaped (folded_character true c)
+
+abbrev mutual
+  -- the tree with its characters folded
+  pub folded_items : Items → Items
+  folded_items Nothing = Nothing
+  folded_items (Item atom quantifier items) = Item (folded_atom atom) quantifier (folded_items items)
+
+  pub folded_atom : Atom → Atom
+  folded_atom (Literal character) = Literal (folded_written character)
+  folded_atom Dot = Dot
+  folded_atom (AnyBut character) = AnyBut (folded_written character)
+  folded_atom (Captured items) = Captured (folded_items items)
+  folded_atom (Grouped items) = Grouped (folded_items items)
+
+-- A tree takes a text, case being ignored, exactly where the folded tree takes the folded text; and what the first way captures
+-- there, folded, is what that of the folded tree captures.
+abbrev pub FirstWaysFold : Type 0
+FirstWaysFold = (tree : Items) (text : List ℕ) → option_map folded_captures (first_way_by true tree text) ≡ first_way (folded_items tree) (folded true text)

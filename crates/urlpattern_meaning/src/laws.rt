@@ -4,7 +4,7 @@
 
 ghost use Rattle.std.specs.Prelude.{◌≡◌, ◌≢◌, ℕ, List, [], ◌++◌, All, AllPairs, None, Some, length};
 ghost use Rattle.std.specs.Char.{is_ascii_digit};
-ghost use Rattle.urlpattern_meaning.specs.{FirstAnswers.AnswersByFirstWay, Matching.AnswersByMeaning, Ways.first_way};
+ghost use Rattle.urlpattern_meaning.specs.{FirstAnswers.AnswersByFirstWay, Matching.AnswersByMeaning, Ways.FirstWaysFold, Ways.first_way};
 ghost use Rattle.urlpattern_meaning.specs.Dialect.{Follows, HasMeaningOf, IsTreeOf, Items, Means, group_count};
 ghost use Rattle.urlpattern_meaning.specs.Laws.{Answered, AtMostOne, CountFrom, HasLenientTokens, HasTokensOrFault, IsSpelledAt, Lays, listed, numbers_among};
 ghost use Rattle.urlpattern_meaning.specs.LawsOfMeaning.{AnswersWhereEnginesAgree, CapturesHaveNames, CopiesAreOneCapture, FirstWayIsMeant, FirstWayIsOne, FollowingIsAgreeing, NoCopiesAreOneCapture, OfEachMatcher, OfEachTree, PlainEndsAreRemoved, TreesMeanTheParts, WaysAreMeanings, WildcardsCaptureNothingElse};
@@ -124,6 +124,13 @@ pub fn first_ways_are_meant()
     ensures none { OfEachTree (λ tree text captures. first_way tree text ≡ None → ¬ Means tree text captures) }
     ensures count { OfEachTree (λ tree text captures. first_way tree text ≡ Some captures → length captures ≡ group_count tree) }
     ensures follows { (regexp : List ℕ) (tree : Items) → IsTreeOf regexp tree → Follows regexp (first_way tree) }
+{}
+
+/// Where case is ignored, the first way of a tree in a text is that of the folded tree in the folded text, but that its captures are
+/// of the text itself: there is one exactly where the other is, and folded their captures are the same. To fold is to replace each
+/// ASCII letter by its lower case.
+pub fn first_ways_fold()
+    ensures { FirstWaysFold }
 {}
 
 /// The regular expression of parts has one tree, and it means what the parts mean: each text, with the same captures.

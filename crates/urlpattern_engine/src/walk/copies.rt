@@ -15,18 +15,24 @@ use urlpattern_syntax::tokenizer::before;
 impl<'t> Attempt<'_, 't> {
     /// Whether the steps that follow take what follows copies of a text, the most first. Where they do, what they capture is added.
     #[cycle(following)]
-    pub(super) fn follow_copies(&mut self, copies: Copies, steps: &[Step], text: &'t str) -> Taken
-        requires { IsStateOf self.old.failed steps.now (chars text.now) }
-        ensures { IfOk result (λ taken. FollowsSteps self.old self.new taken (walk (Step.Copies copies ∷ steps.now) (chars text.now))) }
+    pub(super) fn follow_copies(
+        &mut self,
+        ignore_case: bool,
+        copies: Copies,
+        steps: &[Step],
+        text: &'t str,
+    ) -> Taken
+        requires { IsStateOf ignore_case self.old.failed steps.now (chars text.now) }
+        ensures { IfOk result (λ taken. FollowsSteps self.old self.new taken (walk ignore_case (Step.Copies copies ∷ steps.now) (chars text.now))) }
     {
         let first = copies.text.first;
         let literal = first_steps(steps, copies.text.others);
         let others = pass(steps, copies.text.others);
         if copies.may_be_missing {
-            return self.follow_any_copies(first, literal, others, text);
+            return self.follow_any_copies(ignore_case, first, literal, others, text);
         }
-        match after_literals(text, first, literal) {
-            Some(rest) => self.follow_any_copies(first, literal, others, rest),
+        match after_literals(text, first, literal, ignore_case) {
+            Some(rest) => self.follow_any_copies(ignore_case, first, literal, others, rest),
             None => Ok(false),
         }
     }
@@ -36,18 +42,19 @@ impl<'t> Attempt<'_, 't> {
     #[cycle(following)]
     fn follow_any_copies(
         &mut self,
+        ignore_case: bool,
         first: char,
         literal: &[Step],
         others: &[Step],
         text: &'t str,
     ) -> Taken
-        requires { IsStateOf self.old.failed others.now (chars text.now) }
-        ensures { IfOk result (λ taken. FollowsSteps self.old self.new taken (walk_copies first literal.now others.now (chars text.now))) }
+        requires { IsStateOf ignore_case self.old.failed others.now (chars text.now) }
+        ensures { IfOk result (λ taken. FollowsSteps self.old self.new taken (walk_copies ignore_case first literal.now others.now (chars text.now))) }
     {
-        let rest = skip_copies(text, first, literal);
+        let rest = skip_copies(text, first, literal, ignore_case);
         let mut front = before(text, rest);
         loop {
-            if self.follow(others, after_front(text, front))? {
+            if self.follow(ignore_case, others, after_front(text, front))? {
                 return Ok(true);
             }
             let Some(shorter) = without_copy(front, literal) else {

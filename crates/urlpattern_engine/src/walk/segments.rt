@@ -19,19 +19,20 @@ impl<'t> Attempt<'_, 't> {
     #[cycle(following)]
     pub(super) fn follow_segments(
         &mut self,
+        ignore_case: bool,
         segments: Segments,
         steps: &[Step],
         text: &'t str,
     ) -> Taken
-        requires { IsStateOf self.old.failed steps.now (chars text.now) }
-        ensures { IfOk result (λ taken. FollowsSteps self.old self.new taken (walk (Step.Segments segments ∷ steps.now) (chars text.now))) }
+        requires { IsStateOf ignore_case self.old.failed steps.now (chars text.now) }
+        ensures { IfOk result (λ taken. FollowsSteps self.old self.new taken (walk ignore_case (Step.Segments segments ∷ steps.now) (chars text.now))) }
     {
         let literal = first_steps(steps, segments.separator.others);
         let others = pass(steps, segments.separator.others);
-        match self.end_of_segments(segments, literal, others, text)? {
+        match self.end_of_segments(ignore_case, segments, literal, others, text)? {
             Some(count) => {
                 let (front, rest) = split_at_seam(text, count);
-                self.follow_captured(front, others, rest)
+                self.follow_captured(ignore_case, front, others, rest)
             }
             None => Ok(false),
         }
@@ -44,13 +45,14 @@ impl<'t> Attempt<'_, 't> {
     #[cycle(following)]
     fn end_of_segments(
         &mut self,
+        ignore_case: bool,
         segments: Segments,
         literal: &[Step],
         others: &[Step],
         text: &'t str,
     ) -> Result<Option<usize>, OutOfMemory>
-        requires { IsStateOf self.old.failed others.now (chars text.now) }
-        ensures cut { IfOk result (λ end. IsEndOfSegments segments literal.now others.now text.now end) }
+        requires { IsStateOf ignore_case self.old.failed others.now (chars text.now) }
+        ensures cut { IfOk result (λ end. IsEndOfSegments ignore_case segments literal.now others.now text.now end) }
         ensures same { OnOk result (Untouched self.old self.new) }
     {
         let alloc = *self.captures.allocator();
@@ -59,9 +61,9 @@ impl<'t> Attempt<'_, 't> {
         let mut front = text;
         loop {
             let rest = after_front(text, front);
-            let next = begun_after(&begun, segments.separator.first, literal, rest);
-            let stopping = self.end_here(others, next, front.len(), rest)?;
-            let onward = goes_on(rest, segments.end, later);
+            let next = begun_after(&begun, segments.separator.first, literal, ignore_case, rest);
+            let stopping = self.end_here(ignore_case, others, next, front.len(), rest)?;
+            let onward = goes_on(rest, segments.end, ignore_case, later);
             let (beginning, either) = ends(segments.is_greedy, onward, stopping);
             let Some(shorter) = without_last(front) else {
                 return Ok(beginning);
@@ -78,13 +80,14 @@ impl<'t> Attempt<'_, 't> {
     #[cycle(following)]
     fn end_here(
         &mut self,
+        ignore_case: bool,
         steps: &[Step],
         next: Option<usize>,
         here: usize,
         rest: &'t str,
     ) -> Result<Option<usize>, OutOfMemory>
-        requires { IsStateOf self.old.failed steps.now (chars rest.now) }
-        ensures end { IfOk result (λ end. IsEndHere next here (walk steps.now (chars rest.now)) end) }
+        requires { IsStateOf ignore_case self.old.failed steps.now (chars rest.now) }
+        ensures end { IfOk result (λ end. IsEndHere next here (walk ignore_case steps.now (chars rest.now)) end) }
         ensures same { OnOk result (Untouched self.old self.new) }
     {
         if next.is_some() {
@@ -92,7 +95,7 @@ impl<'t> Attempt<'_, 't> {
         }
         let alloc = *self.captures.allocator();
         let captures = mem::replace(&mut self.captures, Vec::new(alloc));
-        let is_taken = self.follow(steps, rest)?;
+        let is_taken = self.follow(ignore_case, steps, rest)?;
         self.captures = captures;
         if is_taken { Ok(Some(here)) } else { Ok(None) }
     }

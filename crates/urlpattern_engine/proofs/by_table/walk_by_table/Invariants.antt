@@ -12,7 +12,7 @@ invariant-loop-step l = record {
   is_text : shadow (Utf8 l.rest);
   of_steps : EndsWith l.steps l.left;
   of_text : EndsWith (chars l.text) (chars l.rest);
-  so_far : walk l.steps (chars l.text) ≡ with_captures l.captures.items (walk l.left (chars l.rest));
+  so_far : walk l.ignore_case l.steps (chars l.text) ≡ with_captures l.captures.items (walk l.ignore_case l.left (chars l.rest));
 }
 
 abbrev pub decreases-loop-step : goal.decreases-loop-step

@@ -16,9 +16,9 @@ loop-row-init c =
     let text = c.args.text.now in
     record {
       is_text = search rules;
-      so_far = subst (λ b. IsCut text text (λ rest. IsSoFar step others text (chars text) rest b c.in_ok-row.row.items None)) (sym c.in_ok-begun.ensures.items)
-          (subst (λ r. IsCut text text (λ rest. IsSoFar step others text (chars text) rest [] r None)) (sym c.in_ok-row.ensures.items)
-          (cut_end text (λ rest. IsSoFar step others text (chars text) rest [] [] None) (so_far_none step others text (chars text))));
+      so_far = subst (λ b. IsCut text text (λ rest. IsSoFar c.args.ignore_case step others text (chars text) rest b c.in_ok-row.row.items None)) (sym c.in_ok-begun.ensures.items)
+          (subst (λ r. IsCut text text (λ rest. IsSoFar c.args.ignore_case step others text (chars text) rest [] r None)) (sym c.in_ok-row.ensures.items)
+          (cut_end text (λ rest. IsSoFar c.args.ignore_case step others text (chars text) rest [] [] None) (so_far_none c.args.ignore_case step others text (chars text))));
     }
 
 pub entry_after-next-requires : goal.entry_after-next-requires
@@ -32,15 +32,15 @@ entry_after-next-requires c =
 -- what is known so far and of this end, after a front and before the rest
 abbrev IsKnown : (c : After-ends_of-ends) → (front rest : List ℕ) → Type 0
 IsKnown c front rest =
-    IsSoFar c.args.step c.args.others.now c.args.text.now front rest c.deref.result.now c.loop-row.row.items c.loop-row.later
-    × IsPlaced c.args.step c.args.others.now c.args.text.now front rest c.ends_of-ends.result.begun c.ends_of-ends.result.later c.ends_of-ends.result.whole
+    IsSoFar c.args.ignore_case c.args.step c.args.others.now c.args.text.now front rest c.deref.result.now c.loop-row.row.items c.loop-row.later
+    × IsPlaced c.args.ignore_case c.args.step c.args.others.now c.args.text.now front rest c.ends_of-ends.result.begun c.ends_of-ends.result.later c.ends_of-ends.result.whole
 
 known : (c : After-ends_of-ends) → IsKnown c (chars c.loop-row.front.now) (chars c.after_front-rest.result.now)
 known c =
     let so_far = c.loop-row.invariant.so_far in
     let utf8 : IsUtf8 c.loop-row.front.now = search rules in
     let len : c.len.result ≡ length c.loop-row.row.items = search rules in
-    placed_now c.args.step c.args.others.now c.args.text.now c.loop-row.front.now c.after_front-rest.result.now so_far.0 c.deref.result.now c.loop-row.begun.items c.loop-row.row.items c.args.row_after.now
+    placed_now c.args.ignore_case c.args.step c.args.others.now c.args.text.now c.loop-row.front.now c.after_front-rest.result.now so_far.0 c.deref.result.now c.loop-row.begun.items c.loop-row.row.items c.args.row_after.now
     c.own_steps-literal.result.now c.stretch_of-stretch.result
     c.len.result c.end_of.result c.loop-row.later c.entry_after-next.result c.end_here-here.result c.goes_on-onward.result c.ends_of-ends.result.begun c.ends_of-ends.result.later c.ends_of-ends.result.whole
     c.requires.single utf8 so_far.1 c.after_front-rest.ensures so_far.2 so_far.3 c.deref.ensures.value c.requires.after c.stretch_of-stretch.ensures c.own_steps-literal.ensures c.entry_after-next.ensures
@@ -53,14 +53,14 @@ pub returns-in_default-clause-row : goal.returns-in_default-clause-row
 returns-in_default-clause-row c =
     let at = known_whole ((goal.at.returns-in_default-clause-row c).After-ends_of-ends) c.in_default.ensures.empty in
     let pushed : c.push.new.self.items ≡ c.loop-row.row.items ++ is_some c.ends_of-ends.result.whole ∷ [] = c.in_ok-push.ensures.items ∙ ap (λ b. c.loop-row.row.items ++ b ∷ []) c.is_some.ensures in
-    subst (IsRow (chars c.args.text.now) (c.args.step ∷ c.args.others.now)) (sym pushed)
-    (row_whole c.args.step c.args.others.now c.args.text.now (chars c.args.text.now) c.deref.result.now c.loop-row.row.items c.loop-row.later c.ends_of-ends.result.begun c.ends_of-ends.result.later
+    subst (IsRow c.args.ignore_case (chars c.args.text.now) (c.args.step ∷ c.args.others.now)) (sym pushed)
+    (row_whole c.args.ignore_case c.args.step c.args.others.now c.args.text.now (chars c.args.text.now) c.deref.result.now c.loop-row.row.items c.loop-row.later c.ends_of-ends.result.begun c.ends_of-ends.result.later
     c.ends_of-ends.result.whole at.0 at.1)
 
 pub returns-in_default-clause-end : goal.returns-in_default-clause-end
 returns-in_default-clause-end c =
     let at = known_whole ((goal.at.returns-in_default-clause-end c).After-ends_of-ends) c.in_default.ensures.empty in
-    end_whole c.args.step c.args.others.now c.args.text.now (chars c.args.text.now) c.ends_of-ends.result.begun c.ends_of-ends.result.later c.ends_of-ends.result.whole at.1
+    end_whole c.args.ignore_case c.args.step c.args.others.now c.args.text.now (chars c.args.text.now) c.ends_of-ends.result.begun c.ends_of-ends.result.later c.ends_of-ends.result.whole at.1
 
 pub loop-row-preserved : goal.loop-row-preserved
 loop-row-preserved c =
@@ -78,11 +78,11 @@ loop-row-preserved c =
     let further : IsUtf8 rest = search rules in
     record {
       is_text = search rules;
-      so_far = subst (λ b. IsCut text shorter (λ r. IsSoFar step others text (chars shorter) r b c.push.new.self.items ends.later))
+      so_far = subst (λ b. IsCut text shorter (λ r. IsSoFar c.args.ignore_case step others text (chars shorter) r b c.push.new.self.items ends.later))
           (sym (c.in_ok-push-2.ensures.items ∙ ap (λ t. t ++ ends.begun ∷ []) (sym c.deref.ensures.value)))
-          (subst (λ w. IsCut text shorter (λ r. IsSoFar step others text (chars shorter) r (c.deref.result.now ++ ends.begun ∷ []) w ends.later)) (sym pushed)
-          (cut_sooner text front shorter rest last.0 (λ r. IsSoFar step others text (chars shorter) r (c.deref.result.now ++ ends.begun ∷ []) (c.loop-row.row.items ++ is_some ends.whole ∷ []) ends.later)
+          (subst (λ w. IsCut text shorter (λ r. IsSoFar c.args.ignore_case step others text (chars shorter) r (c.deref.result.now ++ ends.begun ∷ []) w ends.later)) (sym pushed)
+          (cut_sooner text front shorter rest last.0 (λ r. IsSoFar c.args.ignore_case step others text (chars shorter) r (c.deref.result.now ++ ends.begun ∷ []) (c.loop-row.row.items ++ is_some ends.whole ∷ []) ends.later)
           last.1 further c.after_front-rest.ensures last.2
-          (so_far_next step others text front shorter rest last.0 c.deref.result.now c.loop-row.row.items c.loop-row.later ends.begun ends.later ends.whole
+          (so_far_next c.args.ignore_case step others text front shorter rest last.0 c.deref.result.now c.loop-row.row.items c.loop-row.later ends.begun ends.later ends.whole
           utf8 further last.1 (IsUtf8-encode last.0 last.1) last.2 at.0 at.1)));
     }

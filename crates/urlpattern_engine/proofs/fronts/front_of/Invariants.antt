@@ -9,7 +9,7 @@ use Rattle.urlpattern_engine.proofs.fronts.front_of.Given as goal
 abbrev pub invariant-loop-row : goal.invariant-loop-row
 invariant-loop-row l = record {
   is_text : shadow (Utf8 l.front);
-  so_far : IsCut l.text l.front (λ rest. IsSoFar l.step l.others l.text (chars l.front) rest l.begun.items l.row.items l.later);
+  so_far : IsCut l.text l.front (λ rest. IsSoFar l.ignore_case l.step l.others l.text (chars l.front) rest l.begun.items l.row.items l.later);
 }
 
 abbrev pub decreases-loop-row : goal.decreases-loop-row

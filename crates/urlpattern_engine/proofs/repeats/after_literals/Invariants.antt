@@ -1,15 +1,15 @@
-use Rattle.std.proofs.Common.{◌≡◌, ◌<◌, ℕ, List, ◌∷◌, ◌++◌, length}
+use Rattle.std.proofs.Common.{◌<◌, ℕ, List, ◌∷◌, length}
 use denote.Text.{Utf8}
 use denote.Shadow.{shadow}
 use Rattle.std.specs.Str.{chars}
-use Rattle.urlpattern_engine.specs.Walk.{literals}
+use Rattle.urlpattern_engine.specs.Walk.{BeginsAs, literals}
 use Rattle.urlpattern_engine.proofs.repeats.after_literals.Given as goal
 
 abbrev pub invariant-loop-step : goal.invariant-loop-step
 invariant-loop-step l = record {
   is_text : shadow (Utf8 l.rest);
-  there : (end : List ℕ) → chars l.rest ≡ literals l.left ++ end → chars l.text ≡ l.fn.first ∷ (literals l.literal ++ end);
-  back : (end : List ℕ) → chars l.text ≡ l.fn.first ∷ (literals l.literal ++ end) → chars l.rest ≡ literals l.left ++ end;
+  there : (end : List ℕ) → BeginsAs l.ignore_case (literals l.left) (chars l.rest) end → BeginsAs l.ignore_case (l.fn.first ∷ literals l.literal) (chars l.text) end;
+  back : (end : List ℕ) → BeginsAs l.ignore_case (l.fn.first ∷ literals l.literal) (chars l.text) end → BeginsAs l.ignore_case (literals l.left) (chars l.rest) end;
   shorter : length l.rest < length l.text;
 }
 

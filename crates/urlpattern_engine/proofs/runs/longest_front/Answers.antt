@@ -1,4 +1,4 @@
-use Rattle.std.proofs.Common.{◌≡◌, ◌∷◌, ◌++◌, [], refl, sym, ap, ◌∙◌, append_assoc, rules, ne_eqb}
+use Rattle.std.proofs.Common.{◌≡◌, ◌∷◌, ◌++◌, [], refl, sym, ap, ◌∙◌, append_assoc, rules}
 use Rattle.std.proofs.lemmas.List.{append_cancel_right}
 use Rattle.std.specs.Str.{chars, IsUtf8}
 use Rattle.urlpattern_engine.specs.Walk.{up_to_first}
@@ -12,7 +12,7 @@ pub next_of_run-requires : goal.next_of_run-requires
 next_of_run-requires c =
     let steps = c.args.steps.now in
     let so_far = c.loop-remaining.invariant.so_far in
-    place_within c.args.failed.now c.args.failed.now steps steps (chars c.args.text.now) (chars c.loop-remaining.rest.now) refl c.requires (ends_same steps) (so_far.0, so_far.1)
+    place_within c.args.ignore_case c.args.failed.now c.args.failed.now steps steps (chars c.args.text.now) (chars c.loop-remaining.rest.now) refl c.requires (ends_same steps) (so_far.0, so_far.1)
 
 pub loop-remaining-preserved : goal.loop-remaining-preserved
 loop-remaining-preserved c =
@@ -23,7 +23,7 @@ loop-remaining-preserved c =
       so_far = (
         so_far.0 ++ d ∷ [],
         so_far.1 ∙ ap (λ r. so_far.0 ++ r) c.in-Some.ensures.cut ∙ sym (append_assoc so_far.0 (d ∷ []) (chars c.in-Some.remaining.now)),
-        lacks_more line_feed so_far.0 d so_far.2 (ne_eqb d line_feed c.in-Some.ensures.other),
+        lacks_more c.args.ignore_case line_feed so_far.0 d so_far.2 c.in-Some.ensures.other,
       );
     }
 
@@ -40,6 +40,6 @@ returns c =
       rest,
       further,
       bytes_join text front rest whole utf8 further c.before-2.ensures,
-      ap (up_to_first line_feed) same ∙ so_far.2 ∙ sym same,
+      ap (up_to_first c.args.ignore_case line_feed) same ∙ so_far.2 ∙ sym same,
       c.in_default.ensures.none,
     )

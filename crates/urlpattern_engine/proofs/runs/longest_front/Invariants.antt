@@ -9,7 +9,7 @@ use Rattle.urlpattern_engine.proofs.runs.longest_front.Given as goal
 abbrev pub invariant-loop-remaining : goal.invariant-loop-remaining
 invariant-loop-remaining l = record {
   is_text : shadow (Utf8 l.rest);
-  so_far : (front : List ℕ) × (chars l.text ≡ front ++ chars l.rest) × (up_to_first line_feed front ≡ front);
+  so_far : (front : List ℕ) × (chars l.text ≡ front ++ chars l.rest) × (up_to_first l.ignore_case line_feed front ≡ front);
 }
 
 abbrev pub decreases-loop-remaining : goal.decreases-loop-remaining

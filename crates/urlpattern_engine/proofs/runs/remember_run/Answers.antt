@@ -13,12 +13,12 @@ loop-remaining-preserved c =
     let remaining = chars c.in-Some.remaining.now in
     let d = c.in-Some.field-0-0 in
     let others = c.requires.first.0 in
-    let dead : walk (Segment c.args.end ∷ others) (d ∷ remaining) ≡ None =
-    ap (walk (Segment c.args.end ∷ others)) (sym c.in-Some.ensures.cut) ∙ ap (λ s. walk s rest) (sym c.requires.first.1) ∙ c.loop-remaining.invariant.dead in
+    let dead : walk c.args.ignore_case (Segment c.args.end ∷ others) (d ∷ remaining) ≡ None =
+    ap (walk c.args.ignore_case (Segment c.args.end ∷ others)) (sym c.in-Some.ensures.cut) ∙ ap (λ s. walk c.args.ignore_case s rest) (sym c.requires.first.1) ∙ c.loop-remaining.invariant.dead in
     record {
       is_text = search rules;
-      place = place_within c.loop-remaining.failed c.insert.new.self steps steps rest remaining c.insert.ensures c.loop-remaining.invariant.place (ends_same steps)
+      place = place_within c.args.ignore_case c.loop-remaining.failed c.insert.new.self steps steps rest remaining c.insert.ensures c.loop-remaining.invariant.place (ends_same steps)
           (d ∷ [], c.in-Some.ensures.cut);
-      dead = ap (λ s. walk s remaining) c.requires.first.1 ∙ shortest_later c.args.end (walk others) d remaining (ne_eqb d c.args.end c.in-Some.ensures.other) dead;
+      dead = ap (λ s. walk c.args.ignore_case s remaining) c.requires.first.1 ∙ shortest_later c.args.ignore_case c.args.end (walk c.args.ignore_case others) d remaining c.in-Some.ensures.other dead;
       whole = c.insert.ensures ∙ c.loop-remaining.invariant.whole;
     }

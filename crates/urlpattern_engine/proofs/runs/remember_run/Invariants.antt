@@ -9,8 +9,8 @@ use Rattle.urlpattern_engine.proofs.runs.remember_run.Given as goal
 abbrev pub invariant-loop-remaining : goal.invariant-loop-remaining
 invariant-loop-remaining l = record {
   is_text : shadow (Utf8 l.rest);
-  place : IsStateOf l.failed l.steps (chars l.rest);
-  dead : walk l.steps (chars l.rest) ≡ None;
+  place : IsStateOf l.ignore_case l.failed l.steps (chars l.rest);
+  dead : walk l.ignore_case l.steps (chars l.rest) ≡ None;
   whole : l.failed ≡ l.fn.failed;
 }
 

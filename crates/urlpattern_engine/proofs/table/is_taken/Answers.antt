@@ -4,6 +4,6 @@ use Rattle.urlpattern_engine.proofs.FailedLemmas.{ends_same}
 use Rattle.urlpattern_engine.proofs.table.is_taken.Goals as goal
 
 pub returns : goal.returns
-returns c =
+returns c = λ ignore_case row.
     let text = chars c.args.text.now in
-    c.has.ensures ∙ ap₂ (λ r n. get_or r n false) c.row_for.ensures c.character_count.ensures ∙ c.requires.bits text (ends_same text)
+    c.has.ensures ∙ ap₂ (λ r n. get_or r n false) c.row_for.ensures c.character_count.ensures ∙ row.bits text (ends_same text)

@@ -6,9 +6,9 @@ use Rattle.urlpattern_engine.proofs.TableLemmas.{row_none}
 use Rattle.urlpattern_engine.proofs.table.row_of_none.Goals as goal
 
 pub returns : goal.returns
-returns c =
+returns c = λ ignore_case.
     let text = c.args.text.now in
     let few : length (chars text) ≤ length text = omega (arith, length-le-encodes (chars text), ap length (encodes-chars text c.utf8.text)) in
     let n = c.loop.counter in
     let done : length text ≤ n = omega (arith, c.loop-test.false) in
-    subst (λ r. IsRow (chars text) [] r) (sym c.loop.invariant) (row_none (chars text) n (omega (arith, few, done)))
+    subst (λ r. IsRow ignore_case (chars text) [] r) (sym c.loop.invariant) (row_none ignore_case (chars text) n (omega (arith, few, done)))

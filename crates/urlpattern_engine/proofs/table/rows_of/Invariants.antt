@@ -5,7 +5,7 @@ use Rattle.urlpattern_engine.specs.Table.{AreRows}
 use Rattle.urlpattern_engine.proofs.table.rows_of.Given as goal
 
 abbrev pub invariant-loop-step : goal.invariant-loop-step
-invariant-loop-step l = (others : List Step) × (l.steps ≡ l.before ++ others) × AreRows (chars l.text) others l.rows.items
+invariant-loop-step l = (others : List Step) × (l.steps ≡ l.before ++ others) × AreRows l.ignore_case (chars l.text) others l.rows.items
 
 abbrev pub decreases-loop-step : goal.decreases-loop-step
 decreases-loop-step l = length l.before

@@ -8,7 +8,7 @@ use Rattle.urlpattern_engine.proofs.texts.skip_to_first.Given as goal
 abbrev pub invariant-loop-first : goal.invariant-loop-first
 invariant-loop-first l = record {
   is_text : shadow (Utf8 l.rest);
-  same : from_first l.c (chars l.text) ≡ from_first l.c (chars l.rest);
+  same : from_first l.ignore_case l.c (chars l.text) ≡ from_first l.ignore_case l.c (chars l.rest);
 }
 
 abbrev pub decreases-loop-first : goal.decreases-loop-first

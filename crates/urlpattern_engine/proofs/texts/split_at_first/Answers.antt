@@ -8,10 +8,10 @@ use Rattle.urlpattern_engine.proofs.texts.split_at_first.Goals as goal
 pub before-requires : goal.before-requires
 before-requires c =
     let text = chars c.args.text.now in
-    (up_to_first c.args.c text, sym (both_ends c.args.c text) ∙ ap (λ t. up_to_first c.args.c text ++ t) (sym c.skip_to_first-rest.ensures))
+    (up_to_first c.args.ignore_case c.args.c text, sym (both_ends c.args.ignore_case c.args.c text) ∙ ap (λ t. up_to_first c.args.ignore_case c.args.c text ++ t) (sym c.skip_to_first-rest.ensures))
 
 pub returns-clause-front : goal.returns-clause-front
 returns-clause-front c =
     let text = chars c.args.text.now in
-    append_cancel_right (chars c.before-2.result.now) (up_to_first c.args.c text) (from_first c.args.c text)
-    (ap (λ t. chars c.before-2.result.now ++ t) (sym c.skip_to_first-rest.ensures) ∙ sym c.before-2.ensures ∙ sym (both_ends c.args.c text))
+    append_cancel_right (chars c.before-2.result.now) (up_to_first c.args.ignore_case c.args.c text) (from_first c.args.ignore_case c.args.c text)
+    (ap (λ t. chars c.before-2.result.now ++ t) (sym c.skip_to_first-rest.ensures) ∙ sym c.before-2.ensures ∙ sym (both_ends c.args.ignore_case c.args.c text))

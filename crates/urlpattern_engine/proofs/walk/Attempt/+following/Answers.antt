@@ -1,7 +1,7 @@
 mod CopyAnswers
 mod RunAnswers
 mod SegmentAnswers
-use Rattle.std.proofs.Common.{◌≡◌, ℕ, ◌∷◌, ◌++◌, [], None, length, drop, refl, sym, ap, ◌∙◌, subst, arith, rules}
+use Rattle.std.proofs.Common.{◌≡◌, ℕ, ◌∷◌, ◌++◌, [], None, false, length, drop, refl, sym, ap, ◌∙◌, subst, arith, rules}
 use Rattle.std.proofs.lemmas.List.{length-drop, nil_from_length}
 use Rattle.std.specs.Str.{chars, IsUtf8}
 use Rattle.urlpattern_syntax.proofs.TextLemmas.{chars-empty, chars-some}
@@ -10,9 +10,10 @@ use Rattle.urlpattern_engine.specs.declared.step.Step.{Step}
 use Rattle.urlpattern_engine.specs.declared.step.Step.TheVariants.{Literal, Segment, Anything, Maybe}
 use Rattle.urlpattern_engine.specs.Failed.{EndsWith}
 use Rattle.urlpattern_engine.specs.Walk.{Continuation, captured_front, literals, up_to_first, walk, StopAt}
-use Rattle.urlpattern_engine.proofs.AttemptLemmas.{leaves_captured, leaves_end, leaves_missed, leaves_passed, maybe_left}
+use Rattle.urlpattern_engine.proofs.AttemptLemmas.{call_follows_on, follows_missed, follows_on, leaves_captured, leaves_end, leaves_missed, leaves_passed, maybe_left, untouched-same}
 use Rattle.urlpattern_engine.proofs.FirstLemmas.{passed_shorter, places}
-use Rattle.urlpattern_engine.proofs.FollowLemmas.{plus, literal_passed, end_taken}
+use Rattle.urlpattern_engine.proofs.FollowLemmas.{plus, literal_other, literal_passed, end_taken}
+use Rattle.urlpattern_engine.proofs.SameLemmas.{begins_one}
 use Rattle.urlpattern_engine.proofs.RunLemmas.{both_ends, longest_ends, shortest_ends, shortest_none}
 use Rattle.urlpattern_engine.proofs.StepLemmas.{stop-gives}
 use Rattle.urlpattern_engine.proofs.walk.Attempt.+following.Answers.RunAnswers as runs
@@ -25,7 +26,8 @@ use Rattle.urlpattern_engine.proofs.walk.Attempt.+following.Goals as goal
 pub follow_first-follow-requires : goal.follow_first-follow-requires
 follow_first-follow-requires n c =
     let first : EndsWith c.args.steps.now c.args.others.now = (c.args.step.now ∷ [], c.requires.1.1.1) in
-    let behind : EndsWith (chars c.args.text.now) (chars c.in-Some.rest.now) = (c.in-Literal.c ∷ [], c.in-Some.ensures.cut) in
+    let cut = c.in-Some.ensures.cut in
+    let behind : EndsWith (chars c.args.text.now) (chars c.in-Some.rest.now) = (cut.0, cut.1) in
     search (rules, places, first, behind)
 
 pub follow_first-follow_maybe-requires : goal.follow_first-follow_maybe-requires
@@ -40,6 +42,27 @@ follow_first-follow_copies-requires n c = search (rules, places)
 pub follow_first-follow_segments-requires : goal.follow_first-follow_segments-requires
 follow_first-follow_segments-requires n c = search (rules, places)
 
+pub follow_first-returns-in-Some : goal.follow_first-returns-in-Some
+follow_first-returns-in-Some n c =
+    let others = c.args.others.now in
+    let text = chars c.args.text.now in
+    let rest = chars c.in-Some.rest.now in
+    let d = c.in-Literal.c in
+    let one = begins_one c.args.ignore_case d text rest c.in-Some.ensures.cut in
+    let first : c.args.steps.now ≡ Literal d ∷ others = c.requires.1.1.1 ∙ ap (λ (s : Step). s ∷ others) c.in-Literal.is in
+    call_follows_on c.args.self.now c.follow.new.self (walk c.args.ignore_case c.args.steps.now text) (walk c.args.ignore_case others rest) c.follow.result
+    (ap (λ s. walk c.args.ignore_case s text) first ∙ literal_passed c.args.ignore_case d one.0 others text rest one.1 one.2) c.follow.ensures
+
+pub follow_first-returns-in-None : goal.follow_first-returns-in-None
+follow_first-returns-in-None n c =
+    let others = c.args.others.now in
+    let text = chars c.args.text.now in
+    let d = c.in-Literal.c in
+    let first : c.args.steps.now ≡ Literal d ∷ others = c.requires.1.1.1 ∙ ap (λ (s : Step). s ∷ others) c.in-Literal.is in
+    follows_on c.args.self.now c.args.self.now false _
+    (follows_missed c.args.self.now c.args.self.now _ (untouched-same c.args.self.now)
+    (ap (λ s. walk c.args.ignore_case s text) first ∙ literal_other c.args.ignore_case d others text c.in-None.ensures.other))
+
 -- ---- a group that may be missing
 
 pub follow_maybe-follow_on-requires : goal.follow_maybe-follow_on-requires
@@ -50,7 +73,7 @@ follow_maybe-follow_on-requires n c = (
 
 pub follow_maybe-returns : goal.follow_maybe-returns
 follow_maybe-returns n c =
-    maybe_left c.args.self.now c.follow.new.self _ c.follow_on.new.self c.args.group c.args.others.now c.pass.result.now (chars c.args.text.now) _ c.follow_on.result
+    maybe_left c.args.ignore_case c.args.self.now c.follow.new.self _ c.follow_on.new.self c.args.group c.args.others.now c.pass.result.now (chars c.args.text.now) _ c.follow_on.result
     c.if-branch.false c.in_ok-follow.ensures c.in_ok-add_missing.ensures refl c.pass.ensures c.follow_on.ensures
 
 -- ---- the steps one after the other
@@ -58,16 +81,26 @@ follow_maybe-returns n c =
 pub follow_on-loop-step-preserved-in-Literal-1 : goal.follow_on-loop-step-preserved-in-Literal-1
 follow_on-loop-step-preserved-in-Literal-1 n c =
     let rest = chars c.loop-step.rest.now in
-    let remaining = chars c.in-Some-after.remaining.now in
+    let remaining = chars c.in-Some-after_same.remaining.now in
     let others = c.in-Some.others.now in
     let d = c.in-Literal.c in
+    let one = begins_one c.args.ignore_case d rest remaining c.in-Some-after_same.ensures.cut in
     let left : c.loop-step.left.now ≡ Literal d ∷ others = c.in-Some.ensures.cases.0 ∙ ap (λ (s : Step). s ∷ others) c.in-Literal.is in
     record {
       is_text = search rules;
       shorter = omega (arith, c.in-Some.ensures.cases.1, c.loop-step.invariant.shorter);
-      leaves = leaves_passed _ _ _ _ _ _ c.loop-step.invariant.leaves c.loop-step.self (Literal d) others (d ∷ []) remaining left c.in-Some-after.ensures.cut
-          (ap (plus c.loop-step.self.captures.items) (literal_passed d others rest remaining c.in-Some-after.ensures.cut)) ([], search rules) refl;
+      leaves = leaves_passed c.args.ignore_case _ _ _ _ _ _ c.loop-step.invariant.leaves c.loop-step.self (Literal d) others (one.0 ∷ []) remaining left one.1
+          (ap (plus c.loop-step.self.captures.items) (literal_passed c.args.ignore_case d one.0 others rest remaining one.1 one.2)) ([], search rules) refl;
     }
+
+pub follow_on-returns-in_default-after_same : goal.follow_on-returns-in_default-after_same
+follow_on-returns-in_default-after_same n c =
+    let rest = chars c.loop-step.rest.now in
+    let others = c.in-Some.others.now in
+    let d = c.in-Literal.c in
+    let left : c.loop-step.left.now ≡ Literal d ∷ others = c.in-Some.ensures.cases.0 ∙ ap (λ (s : Step). s ∷ others) c.in-Literal.is in
+    leaves_missed c.args.ignore_case _ _ _ _ _ _ c.loop-step.invariant.leaves
+    (ap (λ l. walk c.args.ignore_case l rest) left ∙ literal_other c.args.ignore_case d others rest c.in_default-after_same.ensures.other)
 
 pub follow_on-returns-then-is_empty : goal.follow_on-returns-then-is_empty
 follow_on-returns-then-is_empty n c =
@@ -77,8 +110,8 @@ follow_on-returns-then-is_empty n c =
     let left : c.loop-step.left.now ≡ Segment end ∷ others = c.in-Some.ensures.cases.0 ∙ ap (λ (s : Step). s ∷ others) c.in-Segment.is in
     let stops : StopAt end others = c.has_one_end.ensures c.if-has_one_end.true in
     let empty : length c.split_at_first.result.0.now ≡ 0 = search rules in
-    let front : up_to_first end rest ≡ [] = sym c.split_at_first.ensures.front ∙ chars-empty c.split_at_first.result.0.now empty in
-    leaves_missed _ _ _ _ _ _ c.loop-step.invariant.leaves (ap (λ l. walk l rest) left ∙ shortest_none end (captured_front (walk others)) (stop-gives end others stops) rest front)
+    let front : up_to_first c.args.ignore_case end rest ≡ [] = sym c.split_at_first.ensures.front ∙ chars-empty c.split_at_first.result.0.now empty in
+    leaves_missed c.args.ignore_case _ _ _ _ _ _ c.loop-step.invariant.leaves (ap (λ l. walk c.args.ignore_case l rest) left ∙ shortest_none c.args.ignore_case end (captured_front (walk c.args.ignore_case others)) (stop-gives c.args.ignore_case end others stops) rest front)
 
 pub follow_on-loop-step-preserved-then-has_one_end : goal.follow_on-loop-step-preserved-then-has_one_end
 follow_on-loop-step-preserved-then-has_one_end n c =
@@ -91,13 +124,13 @@ follow_on-loop-step-preserved-then-has_one_end n c =
     let run = c.split_at_first.result.0 in
     let some : ¬ (length run.now ≡ 0) = search rules in
     let utf8 : IsUtf8 run.now = search rules in
-    let front : ¬ (up_to_first end rest ≡ []) = λ e. chars-some run.now utf8 some (c.split_at_first.ensures.front ∙ e) in
+    let front : ¬ (up_to_first c.args.ignore_case end rest ≡ []) = λ e. chars-some run.now utf8 some (c.split_at_first.ensures.front ∙ e) in
     record {
       is_text = search rules;
       shorter = omega (arith, c.in-Some.ensures.cases.1, c.loop-step.invariant.shorter);
-      leaves = leaves_captured _ _ _ _ _ _ c.loop-step.invariant.leaves _ (Segment end) others run remaining left
-          (rw (c.split_at_first.ensures.front, c.split_at_first.ensures.rest) (sym (both_ends end rest)))
-          (rw (c.split_at_first.ensures.front, c.split_at_first.ensures.rest) (shortest_ends end (captured_front (walk others)) (stop-gives end others stops) rest front))
+      leaves = leaves_captured c.args.ignore_case _ _ _ _ _ _ c.loop-step.invariant.leaves _ (Segment end) others run remaining left
+          (rw (c.split_at_first.ensures.front, c.split_at_first.ensures.rest) (sym (both_ends c.args.ignore_case end rest)))
+          (rw (c.split_at_first.ensures.front, c.split_at_first.ensures.rest) (shortest_ends c.args.ignore_case end (captured_front (walk c.args.ignore_case others)) (stop-gives c.args.ignore_case end others stops) rest front))
           c.in_ok-push-in-Segment.ensures.items refl;
     }
 
@@ -112,9 +145,9 @@ follow_on-loop-step-preserved n c =
     record {
       is_text = search rules;
       shorter = omega (arith, c.in-Some.ensures.cases.1, c.loop-step.invariant.shorter);
-      leaves = leaves_captured _ _ _ _ _ _ c.loop-step.invariant.leaves _ Anything others run remaining left
-          (rw (c.split_at_first-in-Anything.ensures.front, c.split_at_first-in-Anything.ensures.rest) (sym (both_ends line_feed rest)))
-          (rw (c.split_at_first-in-Anything.ensures.front, c.split_at_first-in-Anything.ensures.rest) (longest_ends line_feed (captured_front (walk others)) (stop-gives line_feed others stops) rest))
+      leaves = leaves_captured c.args.ignore_case _ _ _ _ _ _ c.loop-step.invariant.leaves _ Anything others run remaining left
+          (rw (c.split_at_first-in-Anything.ensures.front, c.split_at_first-in-Anything.ensures.rest) (sym (both_ends c.args.ignore_case line_feed rest)))
+          (rw (c.split_at_first-in-Anything.ensures.front, c.split_at_first-in-Anything.ensures.rest) (longest_ends c.args.ignore_case line_feed (captured_front (walk c.args.ignore_case others)) (stop-gives c.args.ignore_case line_feed others stops) rest))
           c.in_ok-push-in-Anything.ensures.items refl;
     }
 
@@ -122,7 +155,7 @@ pub follow_on-returns : goal.follow_on-returns
 follow_on-returns n c =
     let rest = c.loop-step.rest.now in
     let utf8 : IsUtf8 rest = search rules in
-    leaves_end _ _ _ _ _ _ c.loop-step.invariant.leaves c.is_empty-2.result (nil_from_length c.loop-step.left.now (search rules)) (λ e. chars-empty rest (search rules)) (λ e. chars-some rest utf8 (search rules))
+    leaves_end c.args.ignore_case _ _ _ _ _ _ c.loop-step.invariant.leaves c.is_empty-2.result (nil_from_length c.loop-step.left.now (search rules)) (λ e. chars-empty rest (search rules)) (λ e. chars-some rest utf8 (search rules))
 
 -- ---- runs
 
@@ -135,11 +168,8 @@ follow_longest-follow_captured-requires = runs.follow_longest-follow_captured-re
 pub follow_longest-returns-then-branch : goal.follow_longest-returns-then-branch
 follow_longest-returns-then-branch = runs.follow_longest-returns-then-branch
 
-pub follow_longest-insert-requires-clause-state : goal.follow_longest-insert-requires-clause-state
-follow_longest-insert-requires-clause-state = runs.follow_longest-insert-requires-clause-state
-
-pub follow_longest-insert-requires-clause-dead : goal.follow_longest-insert-requires-clause-dead
-follow_longest-insert-requires-clause-dead = runs.follow_longest-insert-requires-clause-dead
+pub follow_longest-insert-requires : goal.follow_longest-insert-requires
+follow_longest-insert-requires = runs.follow_longest-insert-requires
 
 pub follow_longest-returns-in_default : goal.follow_longest-returns-in_default
 follow_longest-returns-in_default = runs.follow_longest-returns-in_default

@@ -4,10 +4,10 @@ use denote.Shadow.{shadow}
 use Rattle.std.specs.Str.{chars}
 use Rattle.urlpattern_syntax.specs.Text.{line_feed}
 use Rattle.urlpattern_engine.specs.declared.step.Step.TheVariants.{Longest}
-use Rattle.urlpattern_engine.specs.Walk.{captured_front, copies_of, literal_text, literals, longest, shortest, up_to_first, walk, walk_copies}
+use Rattle.urlpattern_engine.specs.Walk.{AreCopiesOf, captured_front, joined, literal_text, literals, longest, shortest, up_to_first, walk, walk_copies}
 use Rattle.urlpattern_engine.specs.Taken.{Untouched}
 use Rattle.urlpattern_engine.proofs.AttemptLemmas.{Leaves, Tries}
-use Rattle.urlpattern_engine.proofs.CopyLemmas.{fewer}
+use Rattle.urlpattern_engine.proofs.CopyLemmas.{led}
 use Rattle.urlpattern_engine.proofs.EndLemmas.{IsTable}
 use Rattle.urlpattern_engine.proofs.FallingLemmas.{falling}
 use Rattle.urlpattern_engine.proofs.LongestLemmas.{at_least}
@@ -60,7 +60,7 @@ abbrev pub invariant-follow_on-loop-step : goal.invariant-follow_on-loop-step
 invariant-follow_on-loop-step l = record {
   is_text : shadow (Utf8 l.rest);
   shorter : length l.left ≤ length l.fn.steps;
-  leaves : Leaves l.fn.self l.self l.fn.steps l.left (chars l.fn.text) (chars l.rest);
+  leaves : Leaves l.ignore_case l.fn.self l.self l.fn.steps l.left (chars l.fn.text) (chars l.rest);
 }
 
 abbrev pub decreases-follow_on-loop-step : goal.decreases-follow_on-loop-step
@@ -70,7 +70,7 @@ abbrev pub invariant-follow_shortest-loop-remaining : goal.invariant-follow_shor
 invariant-follow_shortest-loop-remaining l = record {
   is_text : shadow (Utf8 l.rest);
   so_far : (front : List ℕ) × (chars l.text ≡ front ++ chars l.rest)
-      × (walk l.steps (chars l.text) ≡ shortest l.end (captured_front (walk l.others)) front (chars l.rest));
+      × (walk l.ignore_case l.steps (chars l.text) ≡ shortest l.ignore_case l.end (captured_front (walk l.ignore_case l.others)) front (chars l.rest));
   before : Untouched l.fn.self l.self;
 }
 
@@ -80,8 +80,8 @@ decreases-follow_shortest-loop-remaining l = length l.rest
 abbrev pub invariant-follow_longest-loop-self : goal.invariant-follow_longest-loop-self
 invariant-follow_longest-loop-self l =
     Tries l.fn.self l.self l.text l.front
-    (λ rest. (up_to_first line_feed (chars l.front) ≡ chars l.front)
-    × (longest line_feed (captured_front (walk l.others)) (chars l.front) rest ≡ captured_front (walk l.others) (chars l.front) rest))
+    (λ rest. (up_to_first l.ignore_case line_feed (chars l.front) ≡ chars l.front)
+    × (longest l.ignore_case line_feed (captured_front (walk l.ignore_case l.others)) (chars l.front) rest ≡ captured_front (walk l.ignore_case l.others) (chars l.front) rest))
 
 abbrev pub decreases-follow_longest-loop-self : goal.decreases-follow_longest-loop-self
 decreases-follow_longest-loop-self l = length l.front
@@ -89,7 +89,7 @@ decreases-follow_longest-loop-self l = length l.front
 abbrev pub invariant-follow_longest_run-loop-shorter : goal.invariant-follow_longest_run-loop-shorter
 invariant-follow_longest_run-loop-shorter l =
     Tries l.fn.self l.self l.text l.front
-    (λ rest. walk (Longest l.run ∷ l.steps) (chars l.text) ≡ falling (at_least l.run.may_be_empty (captured_front (walk l.steps))) [] (chars l.front) rest)
+    (λ rest. walk l.ignore_case (Longest l.run ∷ l.steps) (chars l.text) ≡ falling (at_least l.run.may_be_empty (captured_front (walk l.ignore_case l.steps))) [] (chars l.front) rest)
 
 abbrev pub decreases-follow_longest_run-loop-shorter : goal.decreases-follow_longest_run-loop-shorter
 decreases-follow_longest_run-loop-shorter l = length l.front
@@ -97,8 +97,8 @@ decreases-follow_longest_run-loop-shorter l = length l.front
 abbrev pub invariant-follow_any_copies-loop-shorter : goal.invariant-follow_any_copies-loop-shorter
 invariant-follow_any_copies-loop-shorter l =
     Tries l.fn.self l.self l.text l.front
-    (λ rest. (n : ℕ) × (chars l.front ≡ copies_of n (literal_text l.fn.first l.literal))
-    × (walk_copies l.fn.first l.literal l.others (chars l.text) ≡ fewer (literal_text l.fn.first l.literal) (walk l.others) n rest))
+    (λ rest. (copies : List (List ℕ)) × (chars l.front ≡ joined copies) × AreCopiesOf l.ignore_case (literal_text l.fn.first l.literal) copies
+    × (walk_copies l.ignore_case l.fn.first l.literal l.others (chars l.text) ≡ led (walk l.ignore_case l.others) copies rest (walk l.ignore_case l.others rest)))
 
 abbrev pub decreases-follow_any_copies-loop-shorter : goal.decreases-follow_any_copies-loop-shorter
 decreases-follow_any_copies-loop-shorter l = length l.front
@@ -106,7 +106,7 @@ decreases-follow_any_copies-loop-shorter l = length l.front
 abbrev pub invariant-end_of_segments-loop-begun : goal.invariant-end_of_segments-loop-begun
 invariant-end_of_segments-loop-begun l =
     Tries l.fn.self l.self l.text l.front
-    (λ rest. IsTable l.segments.separator.first (literals l.literal) l.segments.is_greedy l.segments.end (captured_front (walk l.others)) l.text (chars l.front) rest l.begun.items l.later)
+    (λ rest. IsTable l.ignore_case l.segments.separator.first (literals l.literal) l.segments.is_greedy l.segments.end (captured_front (walk l.ignore_case l.others)) l.text (chars l.front) rest l.begun.items l.later)
 
 abbrev pub decreases-end_of_segments-loop-begun : goal.decreases-end_of_segments-loop-begun
 decreases-end_of_segments-loop-begun l = length l.front
