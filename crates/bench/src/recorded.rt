@@ -134,7 +134,19 @@ pub enum Answer<'a> {
 impl<'a> Answer<'a> {
     /// The answer of a case.
     pub fn of(case: &'a Value) -> Result<Answer<'a>, Fault> {
-        let answer = field(case, "out")?;
+        Answer::read(field(case, "out")?)
+    }
+
+    /// The answer over `PatternRegexp`. It is recorded where it is another.
+    pub fn over_pattern_regexp(case: &'a Value) -> Result<Answer<'a>, Fault> {
+        match case.get("out_pattern") {
+            Some(answer) => Answer::read(answer),
+            None => Answer::of(case),
+        }
+    }
+
+    /// The answer that an object holds.
+    fn read(answer: &'a Value) -> Result<Answer<'a>, Fault> {
         if let Some(error) = optional_text(answer, "err") {
             return Ok(Answer::Err(error));
         }

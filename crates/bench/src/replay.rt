@@ -50,6 +50,7 @@ fn outcome_of(alloc: Global, recorded: &Value) -> Result<Outcome, Fault> {
         alloc,
         question,
         answer,
+        over_pattern_regexp: Answer::over_pattern_regexp(recorded)?,
     };
     let is_same = is_same(operation, &case)?;
     Ok(Outcome {
@@ -65,6 +66,7 @@ pub struct Case<'a> {
     alloc: Global,
     question: &'a Value,
     answer: Answer<'a>,
+    over_pattern_regexp: Answer<'a>,
 }
 
 impl Case<'_> {
@@ -114,7 +116,7 @@ fn is_same(operation: Operation, case: &Case<'_>) -> Result<bool, Fault> {
     }
     match (operation, optional_text(case.question, "engine")) {
         (_, Some("ecma")) => is_same_over::<EcmaRegexp>(operation, case),
-        (_, Some("pattern")) => is_same_over::<PatternRegexp>(operation, case),
+        (_, Some("pattern")) => is_same_over_pattern_regexp(operation, case),
         (Operation::Matches, None) => Ok(
             is_same_over_rust(operation, case)? && is_same_over::<EcmaRegexp>(operation, case)?,
         ),
@@ -125,7 +127,18 @@ fn is_same(operation: Operation, case: &Case<'_>) -> Result<bool, Fault> {
 
 /// Whether it does over both engines of the syntax of Rust.
 fn is_same_over_rust(operation: Operation, case: &Case<'_>) -> Result<bool, Fault> {
-    Ok(is_same_over::<Regex>(operation, case)? && is_same_over::<PatternRegexp>(operation, case)?)
+    Ok(is_same_over::<Regex>(operation, case)? && is_same_over_pattern_regexp(operation, case)?)
+}
+
+/// Whether it does over `PatternRegexp`, which may have an answer of its own.
+fn is_same_over_pattern_regexp(operation: Operation, case: &Case<'_>) -> Result<bool, Fault> {
+    let own = Case {
+        alloc: case.alloc,
+        question: case.question,
+        answer: case.over_pattern_regexp,
+        over_pattern_regexp: case.over_pattern_regexp,
+    };
+    is_same_over::<PatternRegexp>(operation, &own)
 }
 
 /// Whether it does over this engine.

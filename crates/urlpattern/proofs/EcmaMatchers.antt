@@ -19,6 +19,6 @@ kept_first : (regexp : List ℕ) (kept : Option Regex) → IfSome kept (IsRegexO
 kept_first regexp None read some tree text is scalars = absurd (no some)
 kept_first regexp (Some regex) read some tree text is scalars = regex_answers_first regexp tree regex text is read scalars
 
-pub kept_by_ecma_first : EachAnswersFirst ecma_engine (TookText KeepsRegex)
+pub kept_by_ecma_first : EachAnswersFirst ecma_engine (λ options flags. TookText KeepsRegex)
 kept_by_ecma_first = made_first ecma_engine _ KeepsRegex (λ options flags parts matcher kept. kept.took)
-    (λ regexp flags ecma made some tree text is scalars. kept_first regexp ecma.2 made.has_read some tree text is scalars)
+    (λ options regexp flags ecma inner case taken made some tree text is scalars. kept_first regexp ecma.2 made.has_read some tree text is scalars)

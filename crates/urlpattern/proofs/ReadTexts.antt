@@ -10,6 +10,7 @@ use Rattle.url.specs.Parser.{Parsed}
 use Rattle.urlpattern_pattern.proofs.MeaningLemmas.{none_custom}
 use Rattle.urlpattern_pattern.specs.Compiled.{IsComponentCompiled, Manner, canonical_encoding}
 use Rattle.urlpattern_pattern.specs.Meaning.{ReadsAs}
+use Rattle.urlpattern_core.proofs.FirstMatchers.{flags_agree}
 use Rattle.urlpattern_core.specs.Components.{ComponentView, engine_flags, has_regexp}
 use Rattle.urlpattern_engine.proofs.EngineLaws.{taken_first}
 use Rattle.urlpattern_engine.specs.PatternRegexps.{pattern_answer, pattern_engine}
@@ -182,7 +183,7 @@ of_parts manner expected compiled is kept generated read =
             is_made = made.has_matcher;
             generated = subst (λ (of : List PartView). AreGenerated of) same (none_custom expected generated);
             case_kept = kept;
-            took = tt;
+            took = flags_agree manner.options;
           }) text result line.no_line_feed line.characters answers).1;
       names = made.has_names ∙ ap (λ (of : List PartView). group_names of) (sym same);
     }

@@ -33,7 +33,7 @@ module _ (manner : Manner) (compiled : ComponentView Regex) (is_compiled : IsCom
     (text : List ℕ) (premises : RegexPremises manner compiled text) where
   -- the matcher is one that `regex` took
   taken : (parts : List PartView) → IsComponentOf regex_engine manner.options parts compiled →
-      IsTakenBy regex_engine (TookText (λ regex. ⊤)) manner.options (engine_flags manner.options) parts compiled.matcher
+      IsTakenBy regex_engine (λ options flags. TookText (λ regex. ⊤)) manner.options (engine_flags manner.options) parts compiled.matcher
   taken parts is_component = record {
     is_made = is_component.has_matcher;
     generated = none_custom parts (sym is_component.regexp_flag ∙ premises.generated);

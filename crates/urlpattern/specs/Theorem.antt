@@ -1,7 +1,7 @@
 -- The sentences of the main theorem, some of which are those of laws. Where one speaks of an encoding, it is any list of texts
 -- with their answers.
 use Rattle.std.specs.Prelude.{⊤, ℕ, false, List, Option}
-use Rattle.urlpattern_core.specs.{Components.IsEngineOf, Regexes.regex_engine, FirstWays.EachAnswersFirst}
+use Rattle.urlpattern_core.specs.{Components.FlagsAgree, Components.IsEngineOf, Regexes.regex_engine, FirstWays.EachAnswersFirst}
 use Rattle.urlpattern_core.specs.declared.regexp.RegExp.{Ghosts as Engine}
 use Rattle.urlpattern_engine.specs.PatternRegexps.{pattern_engine}
 use Rattle.urlpattern_meaning.specs.{Dialect.IsOnlyTreeOf, Dialect.Items, FirstAnswers.AnswersByFirstWay, FirstAnswers.TookText}
@@ -37,11 +37,11 @@ MatchersAnswerTheFirstWay {E} engine =
 
 -- One that `regex::Regex` made does so by itself, if `regex` took the text where it was needed, and this is what the parts mean.
 abbrev pub DefaultEngineAnswersTheFirstWay : Type 0
-DefaultEngineAnswersTheFirstWay = EachAnswersFirst regex_engine (TookText (λ regex. ⊤))
+DefaultEngineAnswersTheFirstWay = EachAnswersFirst regex_engine (λ options flags. TookText (λ regex. ⊤))
 
 -- One that `PatternRegexp` made does so too, without any premise on that.
 abbrev pub PatternEngineAnswersTheFirstWay : Type 0
-PatternEngineAnswersTheFirstWay = EachAnswersFirst pattern_engine (λ inner. ⊤)
+PatternEngineAnswersTheFirstWay = EachAnswersFirst pattern_engine (λ options flags inner. FlagsAgree options flags)
 
 -- The printed pattern of parts that were read reads as these parts, joined.
 abbrev pub PrintedReadsBack : Type 0

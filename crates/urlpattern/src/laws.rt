@@ -6,7 +6,7 @@ ghost use Rattle.std.specs.Prelude.{⊤, ℕ, List, Option};
 ghost use Rattle.urlpattern_pattern.specs.ByText.{MakesFirstWays};
 ghost use Rattle.urlpattern.specs.EcmaRegexps.{KeepsRegex, ecma_engine};
 ghost use Rattle.urlpattern.specs.PatternLaws.{AnswersMeanTheParts, FirstResultsAreOne, MatchesAreOne, RegexMeetsPremises, RegexResultsAreFirst, TestsAgree, TestsAreOne};
-ghost use Rattle.urlpattern_pattern.specs.Folded.{FoldedWaysAreAnswered};
+ghost use Rattle.urlpattern_pattern.specs.Folded.{FoldedFirstsAreAnswered, FoldedWaysAreAnswered};
 ghost use Rattle.urlpattern_pattern.specs.Outcomes.{DecidesGenerated, FirstWaysDecide, InitRefusalsAreOne, InitsHaveOutcomes, InitsHaveValues, PatternsExcludeRefusals};
 ghost use Rattle.urlpattern_pattern.specs.ByTextLaws.{CompiledHaveMeaning, FindingsAreByText, FindingsAreOne, InputFindingsAreByText, PatternsAnswerAlike, PatternsAnswerByText, ReadingsAsAreOne, TakenPatternsAnswerByText};
 ghost use Rattle.urlpattern_core.specs.FirstWays.{EachAnswersFirst};
@@ -18,15 +18,15 @@ ghost use Rattle.urlpattern_meaning.specs.PartMeaning.{Captures};
 pub use urlpattern_compiled::laws::reading_undoes_writing;
 pub use urlpattern_core::laws::{
     captures_are_as_many_as_names, copies_are_one_capture, dialect_trees_are_one,
-    every_text_has_an_outcome, every_text_has_tokens, first_ways_are_meant, joining_keeps_meaning,
-    joining_keeps_printed_text, joining_keeps_regexp, matchers_answer_the_first_way,
-    matchers_answer_what_parts_mean, matchers_by_regex_answer_the_first_way, names_are_new,
-    parts_and_regexp_mean_the_same, parts_that_were_read_print_and_read_back, pieces_are_one,
-    plain_ends_are_removed, printed_patterns_fail_by_the_encoding_alone,
-    printed_patterns_read_back, printed_patterns_read_back_by_callbacks,
-    read_parts_are_pattern_parts, readings_are_one, readings_by_callbacks_are_one,
-    regex_answers_the_first_way, regex_refuses_no_generated_syntax, tokens_are_one,
-    tokens_lose_nothing,
+    every_text_has_an_outcome, every_text_has_tokens, first_ways_are_meant, first_ways_fold,
+    joining_keeps_meaning, joining_keeps_printed_text, joining_keeps_regexp,
+    matchers_answer_the_first_way, matchers_answer_what_parts_mean,
+    matchers_by_regex_answer_the_first_way, names_are_new, parts_and_regexp_mean_the_same,
+    parts_that_were_read_print_and_read_back, pieces_are_one, plain_ends_are_removed,
+    printed_patterns_fail_by_the_encoding_alone, printed_patterns_read_back,
+    printed_patterns_read_back_by_callbacks, read_parts_are_pattern_parts, readings_are_one,
+    readings_by_callbacks_are_one, regex_answers_the_first_way, regex_refuses_no_generated_syntax,
+    tokens_are_one, tokens_lose_nothing,
 };
 use urlpattern_core::regexp::RegExp;
 pub use urlpattern_engine::laws::{
@@ -66,7 +66,7 @@ pub fn groups_by_regex_are_of_the_first_way()
 /// A matcher that `EcmaRegexp` made answers the first way of the tree of the parts, which is a meaning of them, or `None` where
 /// they have none, if a value of `regex` is kept where an engine is needed.
 pub fn matchers_by_ecma_regexp_answer_the_first_way()
-    ensures { EachAnswersFirst ecma_engine (TookText KeepsRegex) }
+    ensures { EachAnswersFirst ecma_engine (λ options flags. TookText KeepsRegex) }
 {}
 
 /// A pattern that was compiled answers by its texts: each component whose pattern text has no custom regular expression, where
@@ -121,7 +121,14 @@ pub fn inits_have_one_outcome<R: RegExp>()
 /// itself, which is cut into a stretch for each part.
 ///
 /// Where an engine stands between prefix and suffix, these two are compared folded, and what is between them is left to the
-/// engine; `PatternRegexp` and `regex::Regex` compare it as it is.
+/// engine: `PatternRegexp` compares it folded too, and `regex::Regex` as it is.
 pub fn folded_ways_are_answered<R: RegExp>()
     ensures { FoldedWaysAreAnswered R.RegExp }
+{}
+
+/// A component over `PatternRegexp` whose case is ignored, and of which no part is custom, answers by its pattern text, whichever shape
+/// it has: to each text of characters without line feed it answers captures exactly where the folded parts take the folded text,
+/// and folded they are those of the first way in which they do.
+pub fn first_ways_are_answered_where_case_is_ignored()
+    ensures { FoldedFirstsAreAnswered pattern_engine }
 {}

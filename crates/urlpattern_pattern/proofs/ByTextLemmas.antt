@@ -9,7 +9,8 @@ use Rattle.std.specs.Str.{all_scalars}
 use Rattle.std.specs.Prelude.{◌&&◌, ⊤, Option, Some, None, Result, Ok, Err, IsTrue, codes, slice_index_or}
 use Rattle.urlpattern_canonical.specs.Canonical.{special_schemes}
 use Rattle.urlpattern_core.specs.Components.{ComponentView, IsComponentOf, IsEngineOf, engine_flags, has_regexp, is_custom}
-use Rattle.urlpattern_core.specs.FirstWays.{AnswersFirstWays, EachAnswersFirst, IsTakenBy}
+use Rattle.urlpattern_core.specs.FirstWays.{AnswersFirstWays, EachAnswersFirst, IsTakenBy, Taking}
+use Rattle.urlpattern_core.proofs.FirstMatchers.{flags_agree}
 use Rattle.urlpattern_core.specs.Generated.{AreGenerated}
 use Rattle.urlpattern_core.specs.declared.regexp.RegExp.{Ghosts as Engine}
 use Rattle.urlpattern_init.specs.SpecialProtocol.{AcceptsSpecialScheme}
@@ -178,8 +179,8 @@ module _ {E : Type 0} (engine : Engine E) (init : UrlPatternInit) (asked : UrlPa
       (is, first_agrees manner.options parts text result generated is)))
 
   -- where the engine took the texts
-  pub pattern_by_took : (Took : InnerView E → Type 0) → EachAnswersFirst engine Took →
-      ((component : ComponentName) → (pattern component).has_regexp_group ≡ false → Took (pattern component).matcher.inner) → AnswersByItsText engine.answer init asked pattern
+  pub pattern_by_took : (Took : Taking E) → EachAnswersFirst engine Took →
+      ((component : ComponentName) → (pattern component).has_regexp_group ≡ false → Took (manner_here component).options (engine_flags (manner_here component).options) (pattern component).matcher.inner) → AnswersByItsText engine.answer init asked pattern
   pattern_by_took Took firsts took = pattern_by (λ component has.
       let manner = manner_here component in
       component_by engine manner (pattern component) (compiled.are_compiled component) has
@@ -266,11 +267,11 @@ module _ {E F : Type 0} (answer : E → List ℕ → Option Captures) (other : F
 pub init_by_text : {E : Type 0} (engine : Engine E) (init : UrlPatternInit) (asked : UrlPatternOptions) (pattern : PatternView E) → IsPatternOfInit engine init asked pattern → MakesFirstWays engine →
     AnswersByItsText engine.answer init asked pattern
 init_by_text engine init asked pattern (values, are_values, compiled) firsts =
-    pattern_by_took engine init asked values pattern are_values compiled (λ inner. ⊤) firsts (λ component none. tt)
+    pattern_by_took engine init asked values pattern are_values compiled _ firsts (λ component none. flags_agree _)
 
-pub taken_by_text : {E : Type 0} (engine : Engine E) (Took : InnerView E → Type 0) → EachAnswersFirst engine Took → TakenPatternsAnswerByText engine Took
+pub taken_by_text : {E : Type 0} (engine : Engine E) (Took : InnerView E → Type 0) → EachAnswersFirst engine (λ options flags. Took) → TakenPatternsAnswerByText engine Took
 taken_by_text engine Took firsts = λ init asked pattern (values, are_values, compiled) took.
-    pattern_by_took engine init asked values pattern are_values compiled Took firsts took
+    pattern_by_took engine init asked values pattern are_values compiled (λ options flags. Took) firsts took
 
 pub if_pattern-weaker : {E Fault : Type 0} (result : Result (UrlPattern E) Fault) (P Q : PatternView E → Type 0) → ((pattern : PatternView E) → P pattern → Q pattern) → IfPattern result P → IfPattern result Q
 if_pattern-weaker (Ok pattern) P Q weaker is = weaker (pattern_view pattern) is

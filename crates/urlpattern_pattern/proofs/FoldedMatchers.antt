@@ -1,17 +1,18 @@
--- Where case is ignored, a matcher that needs no engine answers as the folded one does to the folded text.
+-- Where case is ignored, a matcher answers as the folded one does to the folded text.
 use Rattle.std.proofs.Common.{◌≡◌, ℕ, ◌+◌, ◌≤◌, ◌⊎◌, Bool, true, false, List, [], ◌∷◌, ◌++◌, length, take, drop, ap, inl, inr, refl, subst, sym, ◌∙◌, append_assoc, arith}
 use Rattle.std.proofs.lemmas.Bool.{and_from, and_parts, cases_lt}
 use Rattle.std.proofs.lemmas.Bool.Decides.{nat_tests}
 use Rattle.std.proofs.lemmas.List.{drop-map, drop_at, map-append, take-map, take_at}
 use Rattle.std.proofs.lemmas.Str.Ascii.{lowercase_is}
 use Rattle.std.specs.Char.{to_ascii_lowercase}
-use Rattle.std.specs.Prelude.{◌==◌, not, Option, Some, None, Result, IsTrue, option_map, option_to_list}
+use Rattle.std.specs.Prelude.{◌==◌, not, Option, Some, None, Result, Ok, Err, IsTrue, option_map, option_to_list}
 use Rattle.std.specs.Str.{all_scalars}
-use Rattle.urlpattern_meaning.specs.FirstAnswers.{AnswersFirstInMiddle}
-use Rattle.urlpattern_meaning.specs.Matching.{Accepts, Answers, ArePeeled, BeginsPlain, EndsPlain, InnerView, IsMadeBetween, IsMadeOf, IsMadeOfOne, IsRemoved, IsSame, Literal, MatcherView, Matches, MayBeEmpty, PassesFilter, RegExp, SingleCapture, end_text, folded, folded_character, single_capture_matcher}
+use Rattle.urlpattern_meaning.specs.Matching.{Accepts, Answers, ArePeeled, BeginsPlain, EndsPlain, InnerView, IsMadeBetween, IsMadeByEngine, IsMadeOf, IsMadeOfOne, IsRemoved, IsSame, Literal, MatcherView, Matches, MayBeEmpty, PassesFilter, RegExp, SingleCapture, end_text, folded, folded_captures, folded_character, single_capture_matcher}
 use Rattle.urlpattern_meaning.specs.PartMeaning.{Captures}
+use Rattle.urlpattern_meaning.specs.Ways.{first_way_by}
+use Rattle.urlpattern_meaning.proofs.PartTrees.{tree_of}
 use Rattle.urlpattern_pattern.proofs.MatchersDecide.{cut_in_three}
-use Rattle.urlpattern_pattern.specs.Folded.{HoldsNoEngine, folded_captures, folded_options, folded_part, folded_parts}
+use Rattle.urlpattern_pattern.specs.Folded.{HoldsNoEngine, folded_options, folded_part, folded_parts}
 use Rattle.urlpattern_syntax.specs.declared.parser.PartModifier.{PartModifier}
 use Rattle.urlpattern_syntax.specs.declared.parser.PartModifier.TheVariants as modifiers
 use Rattle.urlpattern_syntax.specs.declared.parser.PartType.{PartType}
@@ -113,6 +114,10 @@ folded_matcher matcher = record {
   ignore_case = false;
 }
 
+-- whatever a matcher asks
+abbrev pub AnyEngine : {E : Type 0} → List ℕ → Result E ErrorView → Type 0
+AnyEngine regexp engine = Unit {0}
+
 module _ {E : Type 0} (IsEngine : List ℕ → Result E ErrorView → Type 0) (options : OptionsView) where
   pub no_engine : (matcher other : MatcherView E) (engine : Result E ErrorView) → HoldsNoEngine matcher.inner → matcher ≡ other → other.inner ≡ RegExp engine → ⊥
   no_engine matcher other engine none same is = subst (λ (inner : InnerView E). HoldsNoEngine inner) (ap (λ (m : MatcherView E). m.inner) same ∙ is) none
@@ -127,34 +132,40 @@ module _ {E : Type 0} (IsEngine : List ℕ → Result E ErrorView → Type 0) (o
       ∙ ap (λ (end : List ℕ). record { prefix = folded true prefix ++ folded true part.prefix; suffix = end; inner = SingleCapture (option_map (folded_character true) filter) allow_empty; ignore_case = false })
       (map-append to_ascii_lowercase part.suffix suffix)
 
-  one_folded : (kind : PartType) (modifier : PartModifier) (prefix : List ℕ) (part : PartView) (suffix : List ℕ) (matcher : MatcherView E) → HoldsNoEngine matcher.inner →
-      IsMadeOfOne IsEngine kind modifier options prefix part suffix matcher →
-      IsMadeOfOne IsEngine kind modifier (folded_options options) (folded true prefix) (folded_part part) (folded true suffix) (folded_matcher matcher)
-  one_folded FullWildcard modifiers.None prefix part suffix matcher none made = ap folded_matcher made ∙ capture_folded prefix part suffix None true
-  one_folded SegmentWildcard modifiers.None prefix part suffix matcher none made = ap folded_matcher made ∙ capture_folded prefix part suffix options.delimiter false
-  one_folded kind modifier prefix part suffix matcher none (engine, is, made) = absurd (no_engine matcher _ engine none made refl)
-
-  between_folded : (prefix : List ℕ) (middle : List PartView) (suffix : List ℕ) (matcher : MatcherView E) → HoldsNoEngine matcher.inner →
-      IsMadeBetween IsEngine options prefix middle suffix matcher →
-      IsMadeBetween IsEngine (folded_options options) (folded true prefix) (folded_parts middle) (folded true suffix) (folded_matcher matcher)
+  -- a matcher that asks an engine, folded, asks it too
+  engine_folded : (prefix : List ℕ) (middle : List PartView) (suffix : List ℕ) (matcher : MatcherView E) → IsMadeByEngine IsEngine options prefix middle suffix matcher →
+      IsMadeByEngine AnyEngine (folded_options options) (folded true prefix) (folded_parts middle) (folded true suffix) (folded_matcher matcher)
   unfolding folded_inner
-  between_folded prefix [] suffix matcher none made =
+  engine_folded prefix middle suffix matcher (engine, is, made) = (engine, tt, ap folded_matcher made)
+
+  one_folded : (kind : PartType) (modifier : PartModifier) (prefix : List ℕ) (part : PartView) (suffix : List ℕ) (matcher : MatcherView E) →
+      IsMadeOfOne IsEngine kind modifier options prefix part suffix matcher →
+      IsMadeOfOne AnyEngine kind modifier (folded_options options) (folded true prefix) (folded_part part) (folded true suffix) (folded_matcher matcher)
+  one_folded FullWildcard modifiers.None prefix part suffix matcher made = ap folded_matcher made ∙ capture_folded prefix part suffix None true
+  one_folded SegmentWildcard modifiers.None prefix part suffix matcher made = ap folded_matcher made ∙ capture_folded prefix part suffix options.delimiter false
+  one_folded kind modifier prefix part suffix matcher made = engine_folded prefix (part ∷ []) suffix matcher made
+
+  between_folded : (prefix : List ℕ) (middle : List PartView) (suffix : List ℕ) (matcher : MatcherView E) →
+      IsMadeBetween IsEngine options prefix middle suffix matcher →
+      IsMadeBetween AnyEngine (folded_options options) (folded true prefix) (folded_parts middle) (folded true suffix) (folded_matcher matcher)
+  unfolding folded_inner
+  between_folded prefix [] suffix matcher made =
       ap folded_matcher made
       ∙ ap (λ (literal : List ℕ). record { prefix = []; suffix = []; inner = Literal literal; ignore_case = false }) (map-append to_ascii_lowercase prefix suffix)
-  between_folded prefix (part ∷ []) suffix matcher none made = one_folded part.kind part.modifier prefix part suffix matcher none made
-  between_folded prefix (part ∷ next ∷ parts) suffix matcher none (engine, is, made) = absurd (no_engine matcher _ engine none made refl)
+  between_folded prefix (part ∷ []) suffix matcher made = one_folded part.kind part.modifier prefix part suffix matcher made
+  between_folded prefix (part ∷ next ∷ parts) suffix matcher made = engine_folded prefix (part ∷ next ∷ parts) suffix matcher made
 
-  pub made_folded : (parts : List PartView) (matcher : MatcherView E) → HoldsNoEngine matcher.inner → IsMadeOf IsEngine options parts matcher →
-      IsMadeOf IsEngine (folded_options options) (folded_parts parts) (folded_matcher matcher)
-  made_folded parts matcher none made = record {
+  pub made_folded : (parts : List PartView) (matcher : MatcherView E) → IsMadeOf IsEngine options parts matcher →
+      IsMadeOf AnyEngine (folded_options options) (folded_parts parts) (folded_matcher matcher)
+  made_folded parts matcher made = record {
     front = option_map folded_part made.front;
     middle = folded_parts made.middle;
     back = option_map folded_part made.back;
     are_peeled = peeled_folded parts made.front made.middle made.back made.are_peeled;
     is_made =
-        subst (λ (begin : List ℕ). IsMadeBetween IsEngine (folded_options options) begin (folded_parts made.middle) (end_text (option_map folded_part made.back)) (folded_matcher matcher)) (end_folded made.front)
-        (subst (λ (end : List ℕ). IsMadeBetween IsEngine (folded_options options) (folded true (end_text made.front)) (folded_parts made.middle) end (folded_matcher matcher)) (end_folded made.back)
-        (between_folded (end_text made.front) made.middle (end_text made.back) matcher none made.is_made));
+        subst (λ (begin : List ℕ). IsMadeBetween AnyEngine (folded_options options) begin (folded_parts made.middle) (end_text (option_map folded_part made.back)) (folded_matcher matcher)) (end_folded made.front)
+        (subst (λ (end : List ℕ). IsMadeBetween AnyEngine (folded_options options) (folded true (end_text made.front)) (folded_parts made.middle) end (folded_matcher matcher)) (end_folded made.back)
+        (between_folded (end_text made.front) made.middle (end_text made.back) matcher made.is_made));
   }
 
   -- a matcher ignores case where its options do
@@ -209,41 +220,56 @@ cut_unfolded text front middle back cut =
       sym (drop-map to_ascii_lowercase m rest) ∙ ap (λ (t : List ℕ). drop m t) is_rest ∙ drop_at middle back m refl,
     )
 
-module _ {E : Type 0} (answer : E → List ℕ → Option Captures) where
-  accepted_folded : (inner : InnerView E) (middle : List ℕ) (captures : Captures) → HoldsNoEngine inner → Accepts answer true inner middle captures →
-      Accepts answer false (folded_inner inner) (lower middle) (folded_captures captures)
-  unfolding folded_inner
-  accepted_folded (Literal literal) middle captures none (same, nothing) = (same, ap folded_captures nothing)
-  accepted_folded (SingleCapture filter allow_empty) middle captures none (filled, passes, is) =
-      (filled_folded allow_empty middle filled, passes_folded filter middle passes, ap folded_captures is)
-  accepted_folded (RegExp engine) middle captures none accepts = absurd none
+-- what an engine's value answers is the first way of these parts where case is ignored
+abbrev pub AnswersFolding : OptionsView → List PartView → (answer : List ℕ → Option Captures) → Type 0
+AnswersFolding options parts answer = (text : List ℕ) → answer text ≡ first_way_by true (tree_of options parts) text
 
-  accepted_unfolded : (inner : InnerView E) (middle : List ℕ) (captures : Captures) → HoldsNoEngine inner → Accepts answer false (folded_inner inner) (lower middle) captures →
+some_folded : (o : Option Captures) (captures : Captures) → option_map folded_captures o ≡ Some captures → (own : Captures) × (o ≡ Some own)
+some_folded None captures e = cc
+some_folded (Some own) captures e = (own, refl)
+
+-- what an engine answers to a text, folded, the other answers to the folded text
+abbrev pub FoldsAnswer : {E : Type 0} → (answer other : E → List ℕ → Option Captures) → InnerView E → Type 0
+FoldsAnswer answer other (RegExp (Ok engine)) = (text : List ℕ) → option_map folded_captures (answer engine text) ≡ other engine (lower text)
+FoldsAnswer answer other inner = Unit {0}
+
+module _ {E : Type 0} (answer other : E → List ℕ → Option Captures) where
+  accepted_folded : (inner : InnerView E) (middle : List ℕ) (captures : Captures) → FoldsAnswer answer other inner → Accepts answer true inner middle captures →
+      Accepts other false (folded_inner inner) (lower middle) (folded_captures captures)
+  unfolding folded_inner
+  accepted_folded (Literal literal) middle captures folds (same, nothing) = (same, ap folded_captures nothing)
+  accepted_folded (SingleCapture filter allow_empty) middle captures folds (filled, passes, is) =
+      (filled_folded allow_empty middle filled, passes_folded filter middle passes, ap folded_captures is)
+  accepted_folded (RegExp (Ok engine)) middle captures folds accepts = sym (folds middle) ∙ ap (option_map folded_captures) accepts
+  accepted_folded (RegExp (Err error)) middle captures folds accepts = absurd accepts
+
+  accepted_unfolded : (inner : InnerView E) (middle : List ℕ) (captures : Captures) → FoldsAnswer answer other inner → Accepts other false (folded_inner inner) (lower middle) captures →
       (own : Captures) × Accepts answer true inner middle own
   unfolding folded_inner
-  accepted_unfolded (Literal literal) middle captures none (same, nothing) = ([], (same, refl))
-  accepted_unfolded (SingleCapture filter allow_empty) middle captures none (filled, passes, is) =
+  accepted_unfolded (Literal literal) middle captures folds (same, nothing) = ([], (same, refl))
+  accepted_unfolded (SingleCapture filter allow_empty) middle captures folds (filled, passes, is) =
       (Some middle ∷ [], (filled_unfolded allow_empty middle filled, passes_unfolded filter middle passes, refl))
-  accepted_unfolded (RegExp engine) middle captures none accepts = absurd none
+  accepted_unfolded (RegExp (Ok engine)) middle captures folds accepts = some_folded (answer engine middle) captures (folds middle ∙ accepts)
+  accepted_unfolded (RegExp (Err error)) middle captures folds accepts = absurd accepts
 
   -- ---- answers
 
-  module _ (matcher : MatcherView E) (ignored : matcher.ignore_case ≡ true) (none : HoldsNoEngine matcher.inner) (text : List ℕ) where
-    matched_folded : (captures : Captures) → Matches answer matcher text captures → Matches answer (folded_matcher matcher) (lower text) (folded_captures captures)
+  module _ (matcher : MatcherView E) (ignored : matcher.ignore_case ≡ true) (folds : FoldsAnswer answer other matcher.inner) (text : List ℕ) where
+    matched_folded : (captures : Captures) → Matches answer matcher text captures → Matches other (folded_matcher matcher) (lower text) (folded_captures captures)
     matched_folded captures (middle, (front, back, cut, begins, ends), accepts) =
         let folded_cut : lower text ≡ lower front ++ lower middle ++ lower back =
         ap lower cut ∙ map-append to_ascii_lowercase (front ++ middle) back ∙ ap (λ (t : List ℕ). t ++ lower back) (map-append to_ascii_lowercase front middle) in (
           lower middle,
           (lower front, lower back, folded_cut, subst (λ (b : Bool). IsSame b front matcher.prefix) ignored begins, subst (λ (b : Bool). IsSame b back matcher.suffix) ignored ends),
-          accepted_folded matcher.inner middle captures none (subst (λ (b : Bool). Accepts answer b matcher.inner middle captures) ignored accepts),
+          accepted_folded matcher.inner middle captures folds (subst (λ (b : Bool). Accepts answer b matcher.inner middle captures) ignored accepts),
         )
 
-    matched_unfolded : (captures : Captures) → Matches answer (folded_matcher matcher) (lower text) captures → (own : Captures) × Matches answer matcher text own
+    matched_unfolded : (captures : Captures) → Matches other (folded_matcher matcher) (lower text) captures → (own : Captures) × Matches answer matcher text own
     matched_unfolded captures (middle, (front, back, cut, begins, ends), accepts) =
         let (begin, between, end, is_cut, is_front, is_middle, is_back) = cut_unfolded text front middle back cut in
         let (own, takes) =
-        accepted_unfolded matcher.inner between captures none
-        (subst (λ (t : List ℕ). Accepts answer false (folded_inner matcher.inner) t captures) (sym is_middle) accepts) in (
+        accepted_unfolded matcher.inner between captures folds
+        (subst (λ (t : List ℕ). Accepts other false (folded_inner matcher.inner) t captures) (sym is_middle) accepts) in (
           own,
           (
             between,
@@ -258,12 +284,6 @@ module _ {E : Type 0} (answer : E → List ℕ → Option Captures) where
           ),
         )
 
-    pub answers_folded : (result : Option Captures) → Answers answer matcher text result → Answers answer (folded_matcher matcher) (lower text) (option_map folded_captures result)
+    pub answers_folded : (result : Option Captures) → Answers answer matcher text result → Answers other (folded_matcher matcher) (lower text) (option_map folded_captures result)
     answers_folded (Some captures) matches = matched_folded captures matches
     answers_folded None never = λ captures matches. let (own, is) = matched_unfolded captures matches in never own is
-
-  pub asks_none : (options : OptionsView) (parts : List PartView) (inner : InnerView E) → HoldsNoEngine inner → AnswersFirstInMiddle answer options parts (folded_inner inner)
-  unfolding folded_inner
-  asks_none options parts (Literal literal) none = tt
-  asks_none options parts (SingleCapture filter allow_empty) none = tt
-  asks_none options parts (RegExp engine) none = absurd none

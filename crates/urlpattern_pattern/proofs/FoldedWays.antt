@@ -1,20 +1,31 @@
--- A component that ignores case, and needs no engine, answers the folded way.
-use Rattle.std.proofs.Common.{◌≡◌, ◌≢◌, ℕ, ◌+◌, Bool, true, false, List, [], ◌∷◌, ◌++◌, length, take, drop, ap, refl, subst, sym, ◌∙◌, append_assoc, arith}
+-- A component that ignores case answers the folded way.
+use Rattle.std.proofs.Common.{◌≡◌, ◌≢◌, ℕ, ◌+◌, Bool, true, false, List, [], ◌∷◌, ◌++◌, length, take, drop, ap, inl, inr, refl, subst, sym, ◌∙◌, append_assoc, arith, cond}
 use Rattle.std.proofs.lemmas.List.{append-nil, length-append, length-drop, length-take-le, take-append-drop, take_at}
 use Rattle.std.proofs.lemmas.List.Elements.{All-cons, All-map, All-nil}
-use Rattle.std.specs.Prelude.{◌-◌, All, IfSome, Option, Some, None, Result, IsTrue, option_map, option_to_list}
+use Rattle.std.specs.Prelude.{⊤, ◌-◌, All, codes, IfSome, Option, Some, None, Result, Ok, Err, IsTrue, option_map, option_to_list}
 use Rattle.std.specs.Str.{all_scalars}
-use Rattle.urlpattern_core.specs.Components.{IsEngineOf, engine_flags}
+use Rattle.urlpattern_core.specs.Components.{IsEngineOf, engine_flags, ignores_case}
+use Rattle.urlpattern_core.specs.FirstWays.{MatchersTakeGenerated, ValuesAnswerByFlags}
 use Rattle.urlpattern_core.specs.declared.regexp.RegExp.{Ghosts as Engine}
-use Rattle.urlpattern_meaning.proofs.FirstAnswers.{first_agrees, matcher_first}
+use Rattle.urlpattern_meaning.proofs.DialectUnique.{trees_are_one}
+use Rattle.urlpattern_meaning.proofs.FirstAnswers.{first_agrees, matcher_first, of_made}
+use Rattle.urlpattern_meaning.proofs.FoldedTrees.{first_way_folded}
+use Rattle.urlpattern_meaning.proofs.MatcherMeaning.{ends_of}
+use Rattle.urlpattern_meaning.proofs.OneMeaning.{is_tree_of}
+use Rattle.urlpattern_meaning.proofs.Peeling.{middle_one}
+use Rattle.urlpattern_meaning.proofs.PartTrees.{tree_of}
+use Rattle.urlpattern_syntax.specs.RegexpText.{regexp_text}
 use Rattle.urlpattern_meaning.proofs.MeaningExamples.{part_alone}
 use Rattle.urlpattern_meaning.proofs.MeaningLaws.{peeled_means, plain_means}
 use Rattle.urlpattern_meaning.proofs.Middles.{rest_one, same-length}
-use Rattle.urlpattern_meaning.specs.FirstAnswers.{IsFirstOf}
-use Rattle.urlpattern_meaning.specs.Matching.{Agrees, Answers, BeginsPlain, EndsPlain, IsMadeBetween, IsMadeOf, IsMadeOfOne, IsRemoved, MatcherView, Matches, end_text, folded, single_capture_matcher}
+use Rattle.urlpattern_meaning.specs.Dialect.{Items}
+use Rattle.urlpattern_meaning.specs.FirstAnswers.{AnswersFirstInMiddle, IsFirstOf}
+use Rattle.urlpattern_meaning.specs.Ways.{first_way, first_way_by}
+use Rattle.urlpattern_meaning.specs.Matching.{Accepts, Agrees, Answers, BeginsPlain, EndsPlain, IsMadeBetween, IsMadeOf, InnerView, IsMadeOfOne, IsOfMiddle, IsRemoved, IsSame, Literal, MatcherView, Matches, RegExp, SingleCapture, end_text, folded, folded_captures, single_capture_matcher}
 use Rattle.urlpattern_meaning.specs.PartMeaning.{AreGenerated, Captures, PartsMean}
-use Rattle.urlpattern_pattern.proofs.FoldedMatchers.{answers_folded, asks_none, between_ignores, cut_unfolded, end_folded, folded_matcher, lower, lower_lacks, lower_scalars, made_folded, no_engine, peeled_folded}
-use Rattle.urlpattern_pattern.specs.Folded.{FoldedMean, FoldedWaysAreAnswered, HoldsNoEngine, IsFoldedFirst, IsFoldedStretch, IsWithinStretch, folded_captures, folded_options, folded_part, folded_parts}
+use Rattle.urlpattern_pattern.proofs.FoldedMatchers.{AnswersFolding, AnyEngine, FoldsAnswer, answers_folded, between_ignores, cut_unfolded, end_folded, folded_inner, folded_matcher, lower, lower_lacks, lower_scalars, made_folded, no_engine, peeled_folded}
+use Rattle.urlpattern_pattern.proofs.FoldedTrees.{tree_folds}
+use Rattle.urlpattern_pattern.specs.Folded.{AreInPlace, FoldedFirstsAreAnswered, FoldedMean, FoldedWaysAreAnswered, HoldsNoEngine, IsFoldedFirst, IsFoldedStretch, IsWithinStretch, folded_options, folded_part, folded_parts}
 use Rattle.urlpattern_syntax.specs.declared.parser.PartModifier.{PartModifier}
 use Rattle.urlpattern_syntax.specs.declared.parser.PartModifier.TheVariants as modifiers
 use Rattle.urlpattern_syntax.specs.declared.parser.PartType.{PartType}
@@ -90,6 +101,9 @@ module _ (options : OptionsView) where
       ∙ take_at (before ++ middle ++ after) behind (length (before ++ middle ++ after)) refl in
       (before, after, is, drop_head, take_tail)
 
+pub generated_folded : (parts : List PartView) → AreGenerated parts → AreGenerated (folded_parts parts)
+generated_folded parts generated = All-map (λ (part : PartView). part.kind ≢ Regexp) folded_part parts generated
+
 module _ {E : Type 0} (answer : E → List ℕ → Option Captures) (IsEngine : List ℕ → Result E ErrorView → Type 0) (options : OptionsView) where
   capture_pieces : (front : List ℕ) (part : PartView) (back : List ℕ) (filter : Option ℕ) (allow_empty : Bool) (text begin stretch end : List ℕ) (captures : Captures) →
       Matches answer (single_capture_matcher options front part back filter allow_empty) text captures → text ≡ begin ++ stretch ++ end → length begin ≡ length front → length end ≡ length back →
@@ -146,22 +160,99 @@ module _ {E : Type 0} (answer : E → List ℕ → Option Captures) (IsEngine : 
       (subst (λ (t : List ℕ). FoldedMean options parts t (captures ++ [])) (sym is_cut)
       (subst (λ (ps : List PartView). FoldedMean options ps (begin ++ stretch ++ end) (captures ++ [])) (sym made.are_peeled.cut) whole))
 
-  matcher_folded : (parts : List PartView) (matcher : MatcherView E) (text : List ℕ) (result : Option Captures) → IsMadeOf IsEngine options parts matcher → AreGenerated parts → options.ignore_case ≡ true →
-      HoldsNoEngine matcher.inner → IsTrue (lacks line_feed text) → IsTrue (all_scalars text) → Answers answer matcher text result → IsFoldedFirst options parts text result
-  matcher_folded parts matcher text result made generated ignored none no_feed scalars answers =
-      record { is_first = first; are_pieces = pieces result answers (first_agrees (folded_options options) (folded_parts parts) (lower text) (option_map folded_captures result) also_generated first) }
+  -- what a matcher answers, folded, is the first way of the folded parts, if the values that it asks answer first ways
+  pub matcher_folded_first : (parts : List PartView) (matcher : MatcherView E) (text : List ℕ) (result : Option Captures) → IsMadeOf IsEngine options parts matcher → AreGenerated parts → options.ignore_case ≡ true →
+      IsOfMiddle (λ engine middle. AreGenerated middle × AnswersFolding options middle (answer engine)) parts matcher.inner → IsTrue (lacks line_feed text) → IsTrue (all_scalars text) →
+      Answers answer matcher text result → IsFirstOf (folded_options options) (folded_parts parts) (lower text) (option_map folded_captures result)
+  unfolding folded_inner
+  matcher_folded_first parts matcher text result made generated ignored firsts no_feed scalars answers = by matcher.inner refl firsts
     where
       ignores : matcher.ignore_case ≡ true
       ignores = between_ignores IsEngine options (end_text made.front) made.middle (end_text made.back) matcher made.is_made ∙ ignored
 
-      also_generated : AreGenerated (folded_parts parts)
-      also_generated = All-map (λ (part : PartView). part.kind ≢ Regexp) folded_part parts generated
+      -- by what is asked instead of the engine's values
+      asking : (other : E → List ℕ → Option Captures) → FoldsAnswer answer other matcher.inner → AnswersFirstInMiddle other (folded_options options) (folded_parts parts) (folded_inner matcher.inner) →
+          IsFirstOf (folded_options options) (folded_parts parts) (lower text) (option_map folded_captures result)
+      asking other folds asks =
+          matcher_first other AnyEngine (folded_options options) (folded_parts parts) (folded_matcher matcher) (lower text) (option_map folded_captures result)
+          (made_folded IsEngine options parts matcher made) (generated_folded parts generated) refl (lower_lacks text no_feed) (lower_scalars text scalars)
+          asks (answers_folded answer other matcher ignores folds text result answers)
 
+      nothing : E → List ℕ → Option Captures
+      nothing engine text = None
+
+      by : (inner : InnerView E) → matcher.inner ≡ inner → IsOfMiddle (λ engine middle. AreGenerated middle × AnswersFolding options middle (answer engine)) parts inner →
+          IsFirstOf (folded_options options) (folded_parts parts) (lower text) (option_map folded_captures result)
+      by (Literal literal) is firsts =
+          asking nothing (subst (λ (i : InnerView E). FoldsAnswer answer nothing i) (sym is) tt)
+          (subst (λ (i : InnerView E). AnswersFirstInMiddle nothing (folded_options options) (folded_parts parts) (folded_inner i)) (sym is) tt)
+      by (SingleCapture filter allow_empty) is firsts =
+          asking nothing (subst (λ (i : InnerView E). FoldsAnswer answer nothing i) (sym is) tt)
+          (subst (λ (i : InnerView E). AnswersFirstInMiddle nothing (folded_options options) (folded_parts parts) (folded_inner i)) (sym is) tt)
+      by (RegExp (Err error)) is firsts = absurd firsts
+      by (RegExp (Ok engine)) is (front, middle, back, peeled, (plain, folding)) =
+          let also = generated_folded middle plain in
+          let tree = tree_of (folded_options options) (folded_parts middle) in
+          let regexp = regexp_text (folded_options options) (folded_parts middle) in
+          let first : E → List ℕ → Option Captures = λ value t. first_way tree t in
+          asking first
+          (subst (λ (i : InnerView E). FoldsAnswer answer first i) (sym is) (λ t. ap (option_map folded_captures) (folding t) ∙ first_way_folded (tree_of options middle) tree (tree_folds options middle) t))
+          (subst (λ (i : InnerView E). AnswersFirstInMiddle first (folded_options options) (folded_parts parts) (folded_inner i)) (sym is) (
+            option_map folded_part front,
+            folded_parts middle,
+            option_map folded_part back,
+            peeled_folded parts front middle back peeled,
+            λ other t is_tree fine. ap (λ (x : Items). first_way x t) (trees_are_one regexp tree other (is_tree_of (folded_options options) (folded_parts middle) also) is_tree),
+          ))
+
+  -- what is captured is in place
+  in_place : (parts : List PartView) (matcher : MatcherView E) (text : List ℕ) → IsMadeOf IsEngine options parts matcher → options.ignore_case ≡ true →
+      IsOfMiddle (λ engine middle. AreGenerated middle × AnswersFolding options middle (answer engine)) parts matcher.inner → (result : Option Captures) → Answers answer matcher text result →
+      Agrees (folded_options options) (folded_parts parts) (lower text) (option_map folded_captures result) → IfSome result (AreInPlace options parts text)
+  in_place parts matcher text made ignored firsts None never agrees = tt
+  in_place parts matcher text made ignored firsts (Some captures) matches means = by matcher.inner refl firsts
+    where
+      without : (inner : InnerView E) → matcher.inner ≡ inner → HoldsNoEngine inner → AreInPlace options parts text captures
+      without inner is none = inl (matched_means parts matcher text captures (subst (λ (i : InnerView E). HoldsNoEngine i) (sym is) none) made matches means)
+
+      by : (inner : InnerView E) → matcher.inner ≡ inner → IsOfMiddle (λ engine middle. AreGenerated middle × AnswersFolding options middle (answer engine)) parts inner → AreInPlace options parts text captures
+      by (Literal literal) is firsts = without (Literal literal) is tt
+      by (SingleCapture filter allow_empty) is firsts = without (SingleCapture filter allow_empty) is tt
+      by (RegExp (Err error)) is firsts = absurd firsts
+      by (RegExp (Ok engine)) is (front, middle, back, peeled, (plain, folding)) =
+          let (inner, (head, tail, cut, begins, ends), accepts) = matches in
+          let has = ends_of IsEngine options (end_text made.front) made.middle (end_text made.back) matcher (Ok engine) made.is_made is in
+          let ignores : matcher.ignore_case ≡ true = has.2 ∙ ignored in
+          let same : middle ≡ made.middle = middle_one parts front made.front middle made.middle back made.back peeled made.are_peeled in
+          let found : answer engine inner ≡ Some captures = subst (λ (i : InnerView E). Accepts answer matcher.ignore_case i inner captures) is accepts in
+          inr (record {
+            front = made.front;
+            middle = made.middle;
+            back = made.back;
+            are_peeled = made.are_peeled;
+            head = head;
+            inner = inner;
+            tail = tail;
+            cut = cut;
+            begins = subst (λ (t : List ℕ). IsSame true head t) has.0 (subst (λ (b : Bool). IsSame b head matcher.prefix) ignores begins);
+            ends = subst (λ (t : List ℕ). IsSame true tail t) has.1 (subst (λ (b : Bool). IsSame b tail matcher.suffix) ignores ends);
+            tree = tree_of options made.middle;
+            is_tree = is_tree_of options made.middle (subst (λ (ps : List PartView). AreGenerated ps) same plain);
+            is_first = ap (λ (ps : List PartView). first_way_by true (tree_of options ps) inner) (sym same) ∙ sym (folding inner) ∙ found;
+          })
+
+  no_value : (inner : InnerView E) (parts : List PartView) (Is : E → List PartView → Type 0) → HoldsNoEngine inner → IsOfMiddle Is parts inner
+  no_value (Literal literal) parts Is none = tt
+  no_value (SingleCapture filter allow_empty) parts Is none = tt
+  no_value (RegExp engine) parts Is none = absurd none
+
+  matcher_folded : (parts : List PartView) (matcher : MatcherView E) (text : List ℕ) (result : Option Captures) → IsMadeOf IsEngine options parts matcher → AreGenerated parts → options.ignore_case ≡ true →
+      HoldsNoEngine matcher.inner → IsTrue (lacks line_feed text) → IsTrue (all_scalars text) → Answers answer matcher text result → IsFoldedFirst options parts text result
+  matcher_folded parts matcher text result made generated ignored none no_feed scalars answers =
+      record { is_first = first; are_pieces = pieces result answers (first_agrees (folded_options options) (folded_parts parts) (lower text) (option_map folded_captures result) (generated_folded parts generated) first) }
+    where
       first : IsFirstOf (folded_options options) (folded_parts parts) (lower text) (option_map folded_captures result)
-      first =
-          matcher_first answer IsEngine (folded_options options) (folded_parts parts) (folded_matcher matcher) (lower text) (option_map folded_captures result)
-          (made_folded IsEngine options parts matcher none made) also_generated refl (lower_lacks text no_feed) (lower_scalars text scalars)
-          (asks_none answer (folded_options options) (folded_parts parts) matcher.inner none) (answers_folded answer matcher ignores none text result answers)
+      first = matcher_folded_first parts matcher text result made generated ignored (no_value matcher.inner parts _ none) no_feed scalars answers
 
       pieces : (found : Option Captures) → Answers answer matcher text found → Agrees (folded_options options) (folded_parts parts) (lower text) (option_map folded_captures found) →
           IfSome found (FoldedMean options parts text)
@@ -179,4 +270,30 @@ folded_answered engine manner compiled text result is_compiled ignores line answ
       is_first =
           matcher_folded engine.answer (IsEngineOf engine false (engine_flags manner.options)) manner.options parts compiled.matcher text result is_component.has_matcher
           (ignores.generated parts reads) ignores.case_ignored ignores.no_engine line.no_line_feed line.characters answers;
+    }
+
+-- a component that ignores case answers, folded, the first way of its folded parts, if the engine's values answer by their flags
+pub folded_first_answered : {E : Type 0} (engine : Engine E) → ValuesAnswerByFlags engine → MatchersTakeGenerated engine → FoldedFirstsAreAnswered engine
+folded_first_answered {E} engine by_flags takes manner compiled text result is_compiled ignored generated line answers =
+    let (parts, reads, is_component) = is_compiled.0 in
+    let options = manner.options in
+    let flags = engine_flags options in
+    let IsEngine : List ℕ → Result E ErrorView → Type 0 = IsEngineOf engine false flags in
+    let plain = generated parts reads in
+    let by_case : ignores_case flags ≡ true = ap (λ (b : Bool). ignores_case (cond b (codes "ui") (codes "u"))) ignored in
+    let made = is_component.has_matcher in
+    let folding =
+    of_made IsEngine options (λ value middle. AreGenerated middle × AnswersFolding options middle (engine.answer value)) (λ value. ⊤) parts compiled.matcher made plain
+    (takes options flags parts compiled.matcher made plain)
+    (λ value middle inside is took. (
+      inside,
+      λ t. by_flags options flags middle (tree_of options middle) value inside (is_tree_of options middle inside) is t ∙ ap (λ (b : Bool). first_way_by b (tree_of options middle) t) by_case,
+    )) in
+    let first = matcher_folded_first engine.answer IsEngine options parts compiled.matcher text result made plain ignored folding line.no_line_feed line.characters answers in
+    record {
+      parts = parts;
+      reads = reads;
+      is_first = first;
+      are_in_place = in_place engine.answer IsEngine options parts compiled.matcher text made ignored folding result answers
+          (first_agrees (folded_options options) (folded_parts parts) (lower text) (option_map folded_captures result) (generated_folded parts plain) first);
     }

@@ -11,5 +11,6 @@ pub mod MatchersDecide
 pub mod ByTextLemmas
 pub mod OutcomesOne
 pub mod OutcomesExist
+pub mod FoldedTrees
 pub mod FoldedMatchers
 pub mod FoldedWays

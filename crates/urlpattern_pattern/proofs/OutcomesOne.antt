@@ -6,6 +6,7 @@ use Rattle.std.specs.declared.alloc.Global.{Global}
 use Rattle.url.specs.Parser.{Parsed}
 use Rattle.url.specs.declared.error.ParseError.{ParseError}
 use Rattle.urlpattern_canonical.specs.Canonical.{IsAnswer, Reports}
+use Rattle.urlpattern_core.proofs.FirstMatchers.{flags_agree}
 use Rattle.urlpattern_core.specs.Components.{ComponentView, IsWholeEngineOf, engine_flags, has_regexp}
 use Rattle.urlpattern_core.specs.declared.regexp.RegExp.{Ghosts as Engine}
 use Rattle.urlpattern_init.specs.SpecialProtocol.{AcceptsSpecialScheme}
@@ -196,7 +197,7 @@ answers_by engine manner compiled firsts has is_compiled =
       is_made = is_component.has_matcher;
       generated = generated;
       case_kept = has.case_kept;
-      took = tt;
+      took = flags_agree manner.options;
     }))
 
 accepts_by_text : {E : Type 0} (engine : Engine E) (manner : Manner) → MakesFirstWays engine → HasMeaning manner → AcceptsAlike engine manner

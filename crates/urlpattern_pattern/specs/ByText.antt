@@ -1,7 +1,7 @@
 -- What patterns answer, in the words of their pattern texts: the first way of the parts that these read as.
-use Rattle.std.specs.Prelude.{◌≡◌, ◌↔◌, ◌⊎◌, ⊤, ℕ, Any, Bool, false, List, [], Option, None, Some, Ok, IsTrue, codes, unwrap_or}
+use Rattle.std.specs.Prelude.{◌≡◌, ◌↔◌, ◌⊎◌, ℕ, Any, Bool, false, List, [], Option, None, Some, Ok, IsTrue, codes, unwrap_or}
 use Rattle.urlpattern_canonical.specs.Canonical.{special_schemes}
-use Rattle.urlpattern_core.specs.{Components.ComponentView, FirstWays.AnswersFirstWays, FirstWays.EachAnswersFirst, Generated.AreGenerated}
+use Rattle.urlpattern_core.specs.{Components.ComponentView, Components.FlagsAgree, FirstWays.AnswersFirstWays, FirstWays.EachAnswersFirst, Generated.AreGenerated}
 use Rattle.urlpattern_core.specs.declared.regexp.RegExp.{Ghosts as Engine}
 use Rattle.urlpattern_init.specs.UrlTexts.{IsLine}
 use Rattle.urlpattern_init.specs.declared.init.{UrlPatternInit.UrlPatternInit, UrlPatternMatchInput.UrlPatternMatchInput}
@@ -87,9 +87,9 @@ EnginesAnswerFirst answer manner pattern =
     (component : ComponentName) (parts : List PartView) → HasMeaning (manner component) → ReadsAs (manner component) parts →
     AnswersFirstInMiddle answer (manner component).options parts (pattern component).matcher.inner
 
--- each matcher that the engine made answers first ways, without a premise on the engine
+-- each matcher that the engine made with the flags of its options answers first ways, without a premise on the engine
 abbrev pub MakesFirstWays : {E : Type 0} → Engine E → Type 0
-MakesFirstWays engine = EachAnswersFirst engine (λ inner. ⊤)
+MakesFirstWays engine = EachAnswersFirst engine (λ options flags inner. FlagsAgree options flags)
 
 -- ---- what `exec_once` answers
 

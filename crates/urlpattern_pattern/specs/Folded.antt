@@ -1,11 +1,11 @@
 -- What a component answers where case is ignored: the texts are folded to be compared, and the captures are of the text itself.
-use Rattle.std.specs.Prelude.{◌≡◌, All, ℕ, true, false, List, [], ◌∷◌, ◌++◌, length, map, Option, Some, None, IfSome, option_map}
+use Rattle.std.specs.Prelude.{◌≡◌, ◌⊎◌, All, ℕ, true, false, List, [], ◌∷◌, ◌++◌, length, map, Option, Some, None, IfSome, option_map}
 use Rattle.urlpattern_core.specs.Components.{ComponentView}
 use Rattle.urlpattern_core.specs.declared.regexp.RegExp.{Ghosts as Engine}
 use Rattle.urlpattern_init.specs.UrlTexts.{IsLine}
-use Rattle.urlpattern_meaning.specs.{FirstAnswers.IsFirstOf, PartMeaning.Captures, PartMeaning.PartMeans}
-use Rattle.urlpattern_meaning.specs.Matching.{Answers, InnerView, Literal, RegExp, SingleCapture, folded, folded_character}
-use Rattle.urlpattern_syntax.specs.{Options.OptionsView, Parts.PartView}
+use Rattle.urlpattern_meaning.specs.{Dialect.IsTreeOf, Dialect.Items, FirstAnswers.IsFirstOf, PartMeaning.Captures, PartMeaning.PartMeans, Ways.first_way_by}
+use Rattle.urlpattern_meaning.specs.Matching.{Answers, ArePeeled, InnerView, IsSame, Literal, RegExp, SingleCapture, end_text, folded, folded_captures, folded_character}
+use Rattle.urlpattern_syntax.specs.{Options.OptionsView, Parts.PartView, RegexpText.regexp_text}
 use Rattle.urlpattern_pattern.specs.{ByText.ReadsNoCustom, Compiled.IsComponentCompiled, Compiled.Manner, Meaning.ReadsAs}
 
 -- ---- what is compared
@@ -22,9 +22,6 @@ abbrev pub folded_options : OptionsView → OptionsView
 folded_options options = record options { delimiter = option_map (folded_character true) options.delimiter; ignore_case = false }
 
 -- ---- what is captured
-
-abbrev pub folded_captures : Captures → Captures
-folded_captures captures = map (λ capture. option_map (folded true) capture) captures
 
 -- a capture is a piece of the part's stretch: before it stand as many characters as the prefix has, and after it as many as
 -- the suffix has
@@ -77,3 +74,38 @@ abbrev pub FoldedWaysAreAnswered : {E : Type 0} → Engine E → Type 0
 FoldedWaysAreAnswered {E} engine = (manner : Manner) (compiled : ComponentView E) (text : List ℕ) (result : Option Captures) →
     IsComponentCompiled engine manner compiled → IgnoresCase manner compiled → IsLine text →
     Answers engine.answer compiled.matcher text result → IsFoldedWay manner text result
+
+-- The captures are those of the first way, case being ignored, in which the parts between the plain fixed texts at their ends take
+-- what stands between these texts.
+pub record IsFirstBetween (options : OptionsView) (parts : List PartView) (text : List ℕ) (captures : Captures) : Type 0 where
+  pub front : Option PartView
+  pub middle : List PartView
+  pub back : Option PartView
+  pub are_peeled : ArePeeled parts front middle back
+  pub head : List ℕ
+  pub inner : List ℕ
+  pub tail : List ℕ
+  pub cut : text ≡ head ++ inner ++ tail
+  pub begins : IsSame true head (end_text front)
+  pub ends : IsSame true tail (end_text back)
+  pub tree : Items
+  pub is_tree : IsTreeOf (regexp_text options middle) tree
+  pub is_first : first_way_by true tree inner ≡ Some captures
+
+-- the captures are where the first way has them
+abbrev pub AreInPlace : OptionsView → List PartView → (text : List ℕ) → Captures → Type 0
+AreInPlace options parts text captures = FoldedMean options parts text captures ⊎ IsFirstBetween options parts text captures
+
+-- Of the parts as which the pattern text reads: folded, the captures are those of the first way in which the folded parts take the
+-- folded text, or None where they take it in no way. As they are, they are in place.
+pub record IsFoldedAnswer (manner : Manner) (text : List ℕ) (captures : Option Captures) : Type 0 where
+  pub parts : List PartView
+  pub reads : ReadsAs manner parts
+  pub is_first : IsFirstOf (folded_options manner.options) (folded_parts parts) (folded true text) (option_map folded_captures captures)
+  pub are_in_place : IfSome captures (AreInPlace manner.options parts text)
+
+-- Whichever shape it has, a component that ignores case, and of which no part is custom, answers so to each line.
+abbrev pub FoldedFirstsAreAnswered : {E : Type 0} → Engine E → Type 0
+FoldedFirstsAreAnswered {E} engine = (manner : Manner) (compiled : ComponentView E) (text : List ℕ) (result : Option Captures) →
+    IsComponentCompiled engine manner compiled → manner.options.ignore_case ≡ true → ReadsNoCustom manner → IsLine text →
+    Answers engine.answer compiled.matcher text result → IsFoldedAnswer manner text result
