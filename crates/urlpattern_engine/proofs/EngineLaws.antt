@@ -8,7 +8,7 @@ use Rattle.urlpattern_core.specs.Regexes.{IsRegexOf, regex_answer}
 use Rattle.urlpattern_core.specs.FirstWays.{AllAnswerAlike, ComponentsTakeGenerated, EachAnswersFirst, MatchersTakeGenerated, ValuesAnswerFirst}
 use Rattle.urlpattern_core.specs.Generated.{AreGenerated}
 use Rattle.urlpattern_core.proofs.FirstMatchers.{first_alike, made_first}
-use Rattle.urlpattern_core.proofs.RegexWays.{regex_answers_first}
+use Rattle.urlpattern_core.proofs.RegexWays.{read_answers_first, regex_answers_first}
 use Rattle.urlpattern_meaning.specs.Dialect.{IsTreeOf, Items}
 use Rattle.urlpattern_meaning.specs.FirstAnswers.{AnswersFirst}
 use Rattle.urlpattern_meaning.specs.Ways.{first_way}
@@ -20,12 +20,13 @@ use Rattle.urlpattern_syntax.specs.Options.{OptionsView}
 use Rattle.urlpattern_syntax.specs.Parts.{PartView}
 use Rattle.urlpattern_syntax.specs.RegexpText.{regexp_text}
 use Rattle.urlpattern_engine.specs.declared.pattern_regexp.Expression.{Expression}
-use Rattle.urlpattern_engine.specs.declared.pattern_regexp.Expression.TheVariants.{Own, Compiled, Other}
+use Rattle.urlpattern_engine.specs.declared.pattern_regexp.Expression.TheVariants.{Own, Compiled, Kept, Other}
 use Rattle.urlpattern_engine.specs.declared.pattern_regexp.PatternRegexp.{PatternRegexp}
+use Rattle.urlpattern_engine.specs.Automatons.{names_of}
 use Rattle.urlpattern_engine.specs.PatternRegexps.{IsExpressionOf, IsPatternRegexpOf, expression_answer, pattern_answer, pattern_engine}
 use Rattle.urlpattern_meaning.proofs.FirstAnswers.{took_all}
 use Rattle.urlpattern_engine.proofs.AutomatonLemmas.{automaton_first, automaton_same}
-use Rattle.urlpattern_engine.proofs.TwoReadings.{regexes_same}
+use Rattle.urlpattern_engine.proofs.TwoReadings.{regexes_same, tree_same}
 
 expression_first : (regexp : List ℕ) (tree : Items) (expression : Expression) (text : List ℕ) → IsTreeOf regexp tree → IsExpressionOf regexp expression → IsTrue (all_scalars text)
     → expression_answer expression text ≡ first_way tree text
@@ -33,6 +34,9 @@ expression_first regexp tree (Own own) text is made fine =
     made.1.answers text ∙ ap (λ t. first_way t text) (trees_are_one regexp made.1.tree tree made.1.is_tree is)
 expression_first regexp tree (Compiled automaton) text is made fine =
     automaton_first regexp (string_bytes automaton.value.text) automaton.value.nfa (IsUtf8-string_bytes automaton.value.text) made.0 made.1 text fine tree is
+expression_first regexp tree (Kept kept) text is made fine =
+    let source = string_bytes kept.value.text in
+    read_answers_first regexp tree source kept.value.hir (names_of kept.value.names.items) text is (IsUtf8-string_bytes kept.value.text) made.0 made.1.is_read fine
 expression_first regexp tree (Other regex) text is made fine = regex_answers_first regexp tree regex.value text is made fine
 
 pub pattern_regexp_first : (regexp : List ℕ) (tree : Items) (value : PatternRegexp) (text : List ℕ) → IsTreeOf regexp tree → IsPatternRegexpOf regexp value → IsTrue (all_scalars text)
@@ -53,6 +57,8 @@ expression_same regexp (Own own) regex text made also fine =
     made.1.answers text ∙ sym (regex_answers_first regexp made.1.tree regex text made.1.is_tree also fine)
 expression_same regexp (Compiled automaton) regex text made also fine =
     automaton_same regexp (string_bytes automaton.value.text) automaton.value.nfa (IsUtf8-string_bytes automaton.value.text) made.0 made.1 text fine regex also
+expression_same regexp (Kept kept) regex text made also fine =
+    tree_same regexp (string_bytes kept.value.text) kept.value.hir (names_of kept.value.names.items) made.0 made.1.is_read regex also text fine
 expression_same regexp (Other other) regex text made also fine = regexes_same regexp other.value regex made also text fine
 
 pub pattern_regexp_same : (regexp : List ℕ) (value : PatternRegexp) (regex : Regex) (text : List ℕ) → IsPatternRegexpOf regexp value → IsRegexOf regexp regex → IsTrue (all_scalars text)

@@ -3,12 +3,14 @@
 ghost use Rattle.std.specs.Prelude.{◌≡◌, IfOk};
 ghost use Rattle.std.specs.Str.{chars};
 ghost use Rattle.urlpattern_core.specs.CaptureTexts.{captures_view};
-ghost use Rattle.urlpattern_engine.specs.PatternRegexps.{pattern_engine};
+ghost use Rattle.urlpattern_engine.specs.PatternRegexps.{IsExpressionOf, pattern_engine};
+ghost use Rattle.urlpattern_engine.specs.ReadSteps.{AreStepsOf};
 ghost use Rattle.urlpattern_engine.specs.Walk.{walk};
 
 use crate::automaton::Automaton;
 use crate::by_table::walk_by_table;
 use crate::choices::{Strategy, strategy_of};
+use crate::kept::Kept;
 use crate::reading::read_steps;
 use crate::step::Step;
 use crate::walk::walk;
@@ -32,6 +34,7 @@ pub struct PatternRegexp {
 enum Expression {
     Own(Steps),
     Compiled(Box<Automaton>),
+    Kept(Box<Kept>),
     Other(Box<Regex>),
 }
 
@@ -66,20 +69,26 @@ impl RegExp for PatternRegexp {
         force_eval: bool,
     ) -> Result<PatternRegexp, RegExpError> {
         let expression = match read_steps(alloc, pattern)? {
-            Some(steps) => Expression::Own(Steps {
-                text: String::from_str(alloc, pattern)?,
-                strategy: strategy_of(&steps),
-                steps,
-            }),
-            None => match Automaton::new(alloc, pattern)? {
-                Some(automaton) => Expression::Compiled(boxed(alloc, automaton)?),
-                None => {
-                    let regex = <Regex as RegExp>::parse(alloc, pattern, flags, force_eval)?;
-                    Expression::Other(boxed(alloc, regex)?)
-                }
-            },
+            Some(steps) => own(alloc, pattern, steps)?,
+            None => compiled(alloc, pattern, flags, force_eval)?,
         };
         Ok(PatternRegexp { expression })
+    }
+
+    fn parse_to_keep(
+        alloc: Global,
+        pattern: &str,
+        flags: &str,
+        force_eval: bool,
+    ) -> Result<PatternRegexp, RegExpError> {
+        let kept = match read_steps(alloc, pattern)? {
+            Some(steps) => own(alloc, pattern, steps)?,
+            None => match Kept::new(alloc, pattern)? {
+                Some(kept) => Expression::Kept(boxed(alloc, kept)?),
+                None => compiled(alloc, pattern, flags, force_eval)?,
+            },
+        };
+        Ok(PatternRegexp { expression: kept })
     }
 
     fn matches<'a>(
@@ -90,6 +99,7 @@ impl RegExp for PatternRegexp {
         match &self.expression {
             Expression::Own(own) => match_steps(alloc, &own.steps, own.strategy, text),
             Expression::Compiled(automaton) => automaton.matches(alloc, text),
+            Expression::Kept(kept) => kept.matches(alloc, text),
             Expression::Other(regex) => RegExp::matches(&**regex, alloc, text),
         }
     }
@@ -98,7 +108,41 @@ impl RegExp for PatternRegexp {
         match &self.expression {
             Expression::Own(own) => own.text.as_str(),
             Expression::Compiled(automaton) => automaton.text.as_str(),
+            Expression::Kept(kept) => kept.text.as_str(),
             Expression::Other(regex) => RegExp::pattern_string(&**regex),
+        }
+    }
+}
+
+/// An expression that is matched by its steps.
+///
+/// The error is that memory ran out.
+fn own(alloc: Global, pattern: &str, steps: Vec<Step>) -> Result<Expression, AllocError>
+    ensures { IfOk result (λ made. AreStepsOf (chars pattern.now) steps.items → IsExpressionOf (chars pattern.now) made) }
+{
+    Ok(Expression::Own(Steps {
+        text: String::from_str(alloc, pattern)?,
+        strategy: strategy_of(&steps),
+        steps,
+    }))
+}
+
+/// An expression that is matched by an automaton, or by a `regex::Regex` if it may match elsewhere than at the start of a text.
+///
+/// The error says whether `regex` rejects it or memory ran out.
+fn compiled(
+    alloc: Global,
+    pattern: &str,
+    flags: &str,
+    force_eval: bool,
+) -> Result<Expression, RegExpError>
+    ensures { IfOk result (λ made. IsExpressionOf (chars pattern.now) made) }
+{
+    match Automaton::new(alloc, pattern)? {
+        Some(automaton) => Ok(Expression::Compiled(boxed(alloc, automaton)?)),
+        None => {
+            let regex = <Regex as RegExp>::parse(alloc, pattern, flags, force_eval)?;
+            Ok(Expression::Other(boxed(alloc, regex)?))
         }
     }
 }
