@@ -1,6 +1,5 @@
 -- What the copies of a group capture, by their texts.
-use Rattle.std.proofs.Common.{◌≡◌, ◌↔◌, ℕ, zero, suc, List, [], ◌∷◌, ◌++◌, append_assoc, ap, refl, sym, subst, ◌∙◌}
-use Rattle.std.proofs.lemmas.List.{append-nil}
+use Rattle.std.proofs.Common.{◌≡◌, ℕ, zero, suc, List, ◌++◌, append_assoc, ap, refl, sym, ◌∙◌}
 use Rattle.urlpattern_links.specs.Links.{AreTextsWith}
 use Rattle.urlpattern_meaning.proofs.Copies.{IsCore, core_one, one_core}
 

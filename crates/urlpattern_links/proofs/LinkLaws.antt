@@ -1,8 +1,8 @@
 -- The laws of the text of parts with given captures.
-use Rattle.std.proofs.Common.{◌≡◌, ◌⊎◌, ℕ, zero, suc, ◌≤◌, List, [], ◌∷◌, ◌++◌, ap, arith, inl, inr, refl, sym, subst, ◌∙◌, Bool, true, false, Option, Some, None}
+use Rattle.std.proofs.Common.{◌≡◌, ◌⊎◌, ℕ, List, [], ◌∷◌, ◌++◌, ap, arith, inl, inr, refl, sym, subst, ◌∙◌, Option, Some, None}
 use Rattle.std.proofs.lemmas.List.{append-nil}
 use Rattle.std.proofs.lemmas.List.Elements.{All-head, All-tail}
-use Rattle.std.specs.Prelude.{All, ◌&&◌}
+use Rattle.std.specs.Prelude.{◌&&◌}
 use Rattle.urlpattern_links.proofs.CopyTexts.{core_texts, texts_core}
 use Rattle.urlpattern_links.specs.LawsOfLinks.{HavePlainTexts}
 use Rattle.urlpattern_links.specs.Links.{IsOfCopies, IsOfNoCopies, MayCaptureAll, fewest_copies, text_of_group, text_of_parts}

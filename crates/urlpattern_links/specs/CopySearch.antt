@@ -1,5 +1,5 @@
 -- What the search for the copies in a capture has to find.
-use Rattle.std.specs.Prelude.{◌≡◌, ◌↔◌, ◌≤◌, ◌<◌, ℕ, Bool, List, ◌∷◌, ◌++◌, length, IsTrue}
+use Rattle.std.specs.Prelude.{◌≡◌, ◌<◌, ℕ, Bool, List, ◌∷◌, ◌++◌, length, IsTrue}
 use Rattle.std.specs.Str.{chars}
 use Rattle.urlpattern_links.specs.Links.{AreTextsWith}
 use Rattle.urlpattern_links.specs.declared.pieces.CopyTexts.{CopyTexts}

@@ -1,4 +1,4 @@
-use Rattle.std.proofs.Common.{ap, sym, ◌∙◌, ◌++◌}
+use Rattle.std.proofs.Common.{ap, ◌∙◌, ◌++◌}
 use Rattle.std.specs.Str.{chars}
 use Rattle.urlpattern_links.proofs.GroupLemmas.{copies_tested}
 use Rattle.urlpattern_links.proofs.pieces.CopyTexts.are_copies.Goals as goal
