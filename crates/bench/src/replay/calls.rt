@@ -143,7 +143,7 @@ pub fn matched<R: RegExp>(
 /// An owned copy of a match that borrows. The error is that memory ran out.
 fn copied(
     alloc: Global,
-    found: Result<Option<UrlPatternCaptures<'_>>, Error>,
+    found: Result<Option<UrlPatternCaptures<'_, '_>>, Error>,
 ) -> Result<Option<UrlPatternResult>, Error> {
     let copy = match &found {
         Ok(Some(found)) => match found.to_result(alloc) {

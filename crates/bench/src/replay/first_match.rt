@@ -137,7 +137,7 @@ fn found_by<R: RegExp>(
 /// An owned copy of a first match that borrows. The error is that memory ran out.
 fn copied(
     alloc: Global,
-    found: Result<Option<(usize, UrlPatternCaptures<'_>)>, Error>,
+    found: Result<Option<(usize, UrlPatternCaptures<'_, '_>)>, Error>,
 ) -> Result<First, Error> {
     let copy = match &found {
         Ok(Some((index, found))) => match found.to_result(alloc) {

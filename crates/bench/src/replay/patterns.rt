@@ -147,7 +147,7 @@ pub fn is_same_error(alloc: Global, error: &Error, recorded: &Value) -> Result<b
 /// Whether the results of all components are the recorded ones.
 pub fn are_same_components(found: &UrlPatternResult, recorded: &Value) -> bool {
     ComponentName::all().iter().all(|&name| is_same_component(
-        found.get(name),
+        found.component(name),
         recorded,
         name.as_str(),
     ))
