@@ -98,16 +98,6 @@ pub const OPERATIONS: &[(&str, Operation)] = &[
 ];
 
 impl Operation {
-    /// The operation of a name.
-    pub fn named(name: &str) -> Result<Operation, Fault> {
-        for (other, operation) in OPERATIONS {
-            if *other == name {
-                return Ok(*operation);
-            }
-        }
-        Err(Fault::NoCase)
-    }
-
     /// Whether an engine answers. The question may name it.
     pub fn asks_engine(self) -> bool {
         matches!(
@@ -151,6 +141,14 @@ impl<'a> Answer<'a> {
             return Ok(Answer::Err(error));
         }
         Ok(Answer::Ok(field(answer, "ok")?))
+    }
+}
+
+/// The value of a name in a table.
+pub fn named<T: Copy>(table: &[(&str, T)], name: &str) -> Result<T, Fault> {
+    match table.iter().find(|(other, _)| *other == name) {
+        Some((_, value)) => Ok(*value),
+        None => Err(Fault::NoCase),
     }
 }
 

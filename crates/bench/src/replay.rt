@@ -14,7 +14,9 @@ mod tokens;
 mod trees;
 mod values;
 
-use crate::recorded::{Answer, Fault, Operation, field, is_set, list, optional_text, text};
+use crate::recorded::{
+    Answer, Fault, OPERATIONS, Operation, field, is_set, list, named, optional_text, text,
+};
 use regex::Regex;
 use serde_json::Value;
 use std::alloc::{AllocError, Global};
@@ -45,7 +47,7 @@ pub fn replay(alloc: Global, line: &str) -> Result<Outcome, Fault> {
 fn outcome_of(alloc: Global, recorded: &Value) -> Result<Outcome, Fault> {
     let question = field(recorded, "in")?;
     let answer = Answer::of(recorded)?;
-    let operation = Operation::named(text(question, "op")?)?;
+    let operation = named(OPERATIONS, text(question, "op")?)?;
     let case = Case {
         alloc,
         question,

@@ -7,9 +7,9 @@ use Rattle.urlpattern.specs.Errors.{ErrorView, error_view}
 use Rattle.urlpattern.specs.Errors.{ErrorView as views}
 use Rattle.urlpattern.specs.Reading.{answer_view}
 use Rattle.urlpattern.specs.Text.{text_of}
-use Rattle.urlpattern_syntax.specs.declared.error.Error.{Error}
-use Rattle.urlpattern_syntax.specs.declared.error.Error.TheVariants as errors
-use Rattle.urlpattern_syntax.specs.declared.error.ParserError.TheVariants as parser_errors
+use Rattle.urlpattern.specs.Error.{Error}
+use Rattle.urlpattern.specs.Error.TheVariants as errors
+use Rattle.urlpattern.specs.ParserError.TheVariants as parser_errors
 
 -- what the callback returns for the text of these bytes
 abbrev pub IsCopyOrMemory : (bytes : List ℕ) → Result (String Global) Error → Type 0

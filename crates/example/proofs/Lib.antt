@@ -1,2 +1,3 @@
+mod Captured
 mod Copies
 mod UserUrls

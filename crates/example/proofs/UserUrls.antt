@@ -15,23 +15,22 @@ use Rattle.url.specs.declared.host.Host.TheVariants.{Domain}
 use Rattle.url.specs.declared.scheme.SchemeType.TheVariants.{SpecialNotFile}
 use Rattle.url.specs.declared.slicing.Position.TheVariants.{AfterPort, BeforePort}
 use Rattle.urlpattern.proofs.ReadTexts.{IsTextAndSegment, anything_means, literal_means, text_and_segment_mean}
-use Rattle.urlpattern.proofs.UsersExample.{users_of_parts, users_options, users_parts}
+use Rattle.urlpattern.proofs.UsersExample.{chars-path, chars-scheme, host_by_text, no_port, users_of_parts, users_options, users_parts}
 use Rattle.urlpattern.specs.Match.{HasNoMatch, IsMatch, ResultView, group_of}
 use Rattle.urlpattern.specs.MatchInput.{input_texts}
 use Rattle.urlpattern.specs.Patterns.{PatternView}
-use Rattle.urlpattern_engine.specs.PatternRegexps.{pattern_answer}
-use Rattle.urlpattern_engine.specs.declared.pattern_regexp.PatternRegexp.{PatternRegexp}
-use Rattle.urlpattern_init.proofs.UrlTexts.{chars-path, chars-scheme, host_by_text, no_port}
-use Rattle.urlpattern_init.specs.Inheritance.{texts_of_url}
-use Rattle.urlpattern_init.specs.UrlTexts.{EachIsLine}
-use Rattle.urlpattern_init.specs.declared.init.UrlPatternMatchInput.TheVariants as inputs
-use Rattle.urlpattern_meaning.specs.Matching.{Agrees, Answers}
-use Rattle.urlpattern_meaning.specs.PartMeaning.{Captures, PartsMean}
-use Rattle.urlpattern_syntax.specs.Eight.{Texts, at}
-use Rattle.urlpattern_syntax.specs.Options.{default_options, hostname_options, pathname_options}
-use Rattle.urlpattern_syntax.specs.declared.eight.ComponentName.{ComponentName}
-use Rattle.urlpattern_syntax.specs.declared.error.Error.{Error}
-use Rattle.urlpattern_syntax.specs.declared.eight.ComponentName.TheVariants.{Protocol, Username, Password, Hostname, Port, Pathname, Search, Hash}
+use Rattle.urlpattern.specs.PatternRegexps.{pattern_answer}
+use Rattle.urlpattern.specs.PatternRegexp.{PatternRegexp}
+use Rattle.urlpattern.specs.Inheritance.{texts_of_url}
+use Rattle.urlpattern.specs.UrlTexts.{EachIsLine}
+use Rattle.urlpattern.specs.UrlPatternMatchInput.TheVariants as inputs
+use Rattle.urlpattern.specs.Matching.{Agrees, Answers}
+use Rattle.urlpattern.specs.PartMeaning.{Captures, PartsMean}
+use Rattle.urlpattern.specs.Eight.{Texts, at}
+use Rattle.urlpattern.specs.Options.{default_options, hostname_options, pathname_options}
+use Rattle.urlpattern.specs.ComponentName.{ComponentName}
+use Rattle.urlpattern.specs.Error.{Error}
+use Rattle.urlpattern.specs.ComponentName.TheVariants.{Protocol, Username, Password, Hostname, Port, Pathname, Search, Hash}
 
 -- ---- texts and parts
 

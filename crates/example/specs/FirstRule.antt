@@ -3,7 +3,7 @@ use Rattle.std.specs.Prelude.{◌≡◌, ℕ, List, Option, None, Some, slice_ge
 use Rattle.urlpattern.specs.FirstMatch.{FirstView, IsFirstMatch}
 use Rattle.urlpattern.specs.Patterns.{PatternView}
 use Rattle.urlpattern.specs.PartMeaning.{Captures}
-use Rattle.urlpattern_init.specs.declared.init.UrlPatternMatchInput.{UrlPatternMatchInput}
+use Rattle.urlpattern.specs.UrlPatternMatchInput.{UrlPatternMatchInput}
 
 -- the rule beside the first pattern of the list that matches the input, or none where no pattern does
 abbrev pub IsOfFirst : {E A : Type 0} → (answer : E → List ℕ → Option Captures) → List (PatternView E) → (rules : List A) → UrlPatternMatchInput → Option A → Type 0

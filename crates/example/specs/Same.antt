@@ -6,8 +6,8 @@ use Rattle.urlpattern.specs.Options.{options_view}
 use Rattle.urlpattern.specs.PartMeaning.{MeanTheSame}
 use Rattle.urlpattern.specs.Parts.{parts_view}
 use Rattle.urlpattern.specs.Printing.{joined}
-use Rattle.urlpattern_syntax.specs.declared.parser.Options.{Options}
-use Rattle.urlpattern_syntax.specs.declared.parser.Part.{Part}
+use Rattle.urlpattern.specs.ParserOptions.{Options}
+use Rattle.urlpattern.specs.Part.{Part}
 
 -- they are the parts, neighbouring plain fixed texts joined
 abbrev pub AreJoined : List Part → (again : Vec Part Global) → Type 0

@@ -6,10 +6,10 @@ use Rattle.url.specs.Parts.{Parts}
 use Rattle.url.specs.declared.host.Host.TheVariants.{Domain}
 use Rattle.urlpattern.specs.FromString.{IsPatternOfText}
 use Rattle.urlpattern.specs.Patterns.{PatternView}
-use Rattle.urlpattern_engine.specs.PatternRegexps.{pattern_engine}
-use Rattle.urlpattern_engine.specs.declared.pattern_regexp.PatternRegexp.{PatternRegexp}
-use Rattle.urlpattern_syntax.specs.declared.parser.RegexSyntax.TheVariants.{Rust}
-use Rattle.urlpattern_syntax.specs.Text.{lacks}
+use Rattle.urlpattern.specs.PatternRegexps.{pattern_engine}
+use Rattle.urlpattern.specs.PatternRegexp.{PatternRegexp}
+use Rattle.urlpattern.specs.RegexSyntax.TheVariants.{Rust}
+use Rattle.urlpattern.specs.Text.{lacks}
 
 -- The URL is that of the user with this id: `https`, the host `example.com` without a port, and the path `/users/` with the
 -- id, which is not empty and has no slash.

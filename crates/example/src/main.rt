@@ -1,10 +1,12 @@
-//! Small programs that use the library, each with a contract in the library's words: a router, a permission check, rules for a
-//! cache, and a pattern that is printed and read again. A fifth promises in the words of URLs alone which user a URL names.
+//! Small programs that use the library, each with a contract in the library's words: a router, the same of a path alone, a
+//! permission check, rules for a cache, and a pattern that is printed and read again. A sixth promises in the words of URLs alone
+//! which user a URL names.
 #![tactic(auto)]
 
 ghost use Rattle.std.specs.Prelude.{◌≡◌, ◌+◌, length, OnOk};
 
 mod cache;
+mod path;
 mod permission;
 mod printed;
 mod router;
@@ -17,7 +19,7 @@ use url::Url;
 use urlpattern::component::generate_pattern_string;
 use urlpattern::parser::{Options, parse_pattern_string};
 use urlpattern::regexp::PatternRegexp;
-use urlpattern::{Error, UrlPattern, UrlPatternList, UrlPatternOptions};
+use urlpattern::{Error, UrlPattern, UrlPatternInit, UrlPatternList, UrlPatternOptions};
 use users::Users;
 
 // docs: pattern
@@ -33,21 +35,40 @@ fn pattern(alloc: Global, text: &str) -> Result<Pattern, Error> {
 /// The user that a URL names, in words.
 fn user_line(alloc: Global, url: &Url) -> Result<String, Error> {
     let users = Users::new(alloc)?;
-    let line = match users.id(alloc, url) {
-        Ok(Some(id)) => named(alloc, id),
-        Ok(None) => text(alloc, "no user"),
-        Err(error) => Err(error),
-    };
+    let id = users.id(alloc, url);
+    // The id is a slice of the URL, which is still there.
     drop(users);
-    line
+    match id? {
+        Some(id) => Ok(format!(in alloc; "user {id}")?),
+        None => text(alloc, "no user"),
+    }
+}
+
+/// The user that a path names, in words.
+fn path_line(alloc: Global, path: &str) -> Result<String, Error> {
+    let mut init = UrlPatternInit::default();
+    init.pathname = Some(String::from_str(alloc, "/users/:id")?);
+    let users = Pattern::parse(alloc, init, UrlPatternOptions::default())?;
+    let id = path::user(alloc, &users, path);
+    drop(users);
+    match id? {
+        Some(id) => Ok(format!(in alloc; "{path}: user {id}")?),
+        None => Ok(format!(in alloc; "{path}: no user")?),
+    }
 }
 
 /// Whether a URL is public, in words.
 fn permission_line(alloc: Global, url: &Url) -> Result<String, Error> {
     let public = pattern(alloc, "https://example.com/:page(about|help)")?;
-    let permitted = permission::is_permitted(alloc, &public, url);
+    let refusal = permission::refusal(alloc, &public, url);
     drop(public);
-    text(alloc, if permitted? { "public" } else { "not public" })
+    match refusal? {
+        None => text(alloc, "public"),
+        Some(component) => {
+            let component = component.as_str();
+            Ok(format!(in alloc; "not public by its {component}")?)
+        }
+    }
 }
 
 /// For how long a URL is kept, in words.
@@ -75,12 +96,7 @@ fn printed_line(alloc: Global) -> Result<String, Error> {
     generate_pattern_string(alloc, &again, &options)
 }
 
-/// A user in words.
-fn named(alloc: Global, id: &str) -> Result<String, Error> {
-    Ok(format!(in alloc; "user {id}")?)
-}
-
-/// A text of one's own.
+/// A copy of words.
 fn text(alloc: Global, words: &str) -> Result<String, Error> {
     Ok(String::from_str(alloc, words)?)
 }
@@ -120,5 +136,6 @@ fn main(rt: HostRuntime) -> io::Result<()> {
     for url in ["https://example.com/users/123", "https://example.com/about"] {
         write_line(&mut out, lines(rt.alloc(), url))?;
     }
+    write_line(&mut out, path_line(rt.alloc(), "/users/123"))?;
     write_line(&mut out, printed_line(rt.alloc()))
 }

@@ -1,31 +1,35 @@
-//! A permission check: which URLs may be seen.
+//! A permission check: which URLs may be seen, and what is wrong with the others.
 
 // docs: permission
-ghost use Rattle.std.specs.Prelude.{IfOk, IsTrue};
+ghost use Rattle.std.specs.Prelude.{IfNone, IfOk, IfSome};
 ghost use Rattle.urlpattern.specs.Errors.{OnlyOutOfMemory};
+ghost use Rattle.urlpattern.specs.Inheritance.{texts_of_url};
 ghost use Rattle.urlpattern.specs.Match.{HasMatch};
+ghost use Rattle.urlpattern.specs.Mismatch.{IsMismatch};
 ghost use Rattle.urlpattern.specs.Patterns.{pattern_view};
 
 use std::alloc::Global;
 use url::Url;
 use urlpattern::laws::tests_agree_with_matches;
 use urlpattern::regexp::RegExp;
-use urlpattern::{Error, UrlPattern, UrlPatternMatchInput};
+use urlpattern::{ComponentName, Error, UrlPattern, UrlPatternMatchInput};
 
-/// Whether a URL may be seen: true only of URLs that the pattern matches, and of each that it matches.
+/// Why a URL may not be seen: the first of its components that the pattern does not match. `None`: it may be seen, as the pattern
+/// matches it.
 ///
 /// The error is that memory ran out, which says nothing about the URL. It is not to be taken for a permission.
-pub fn is_permitted<R: RegExp>(
+pub fn refusal<R: RegExp>(
     alloc: Global,
     permitted: &UrlPattern<R>,
     url: &Url,
-) -> Result<bool, Error>
-    ensures only { IfOk result (λ answer. IsTrue answer → HasMatch R.answer (pattern_view permitted.now) (UrlPatternMatchInput.Url url.now)) }
-    ensures each { IfOk result (λ answer. HasMatch R.answer (pattern_view permitted.now) (UrlPatternMatchInput.Url url.now) → IsTrue answer) }
+) -> Result<Option<ComponentName>, Error>
+    ensures permitted { IfOk result (λ refused. IfNone refused (HasMatch R.answer (pattern_view permitted.now) (UrlPatternMatchInput.Url url.now))) }
+    ensures refused { IfOk result (λ refused. IfSome refused (λ _. ¬ HasMatch R.answer (pattern_view permitted.now) (UrlPatternMatchInput.Url url.now))) }
+    ensures first { IfOk result (λ refused. IfSome refused (IsMismatch R.answer (pattern_view permitted.now) (texts_of_url url.now))) }
     ensures memory { OnlyOutOfMemory result }
 {
-    // A law of the library, which costs nothing to call: a test is not false where there is a match.
+    // A law of the library, which costs nothing to call: a pattern that matches a URL has no component that does not.
     tests_agree_with_matches::<R>();
-    permitted.test_url(alloc, url)
+    permitted.mismatch(alloc, url)
 }
 // docs: end

@@ -21,11 +21,11 @@ const ID: &str = "id";
 /// does not match the URL, or the group takes no part in the match.
 ///
 /// The error is that memory ran out.
-pub fn user<'a, R: RegExp>(
+pub fn user<'u, R: RegExp>(
     alloc: Global,
-    users: &'a UrlPattern<R>,
-    url: &'a Url,
-) -> Result<Option<&'a str>, Error>
+    users: &UrlPattern<R>,
+    url: &'u Url,
+) -> Result<Option<&'u str>, Error>
     ensures some { IfOk result (λ found. IfSome found (λ id. NamesUser R.answer (pattern_view users.now) url.now (Some (chars id.now)))) }
     ensures none { IfOk result (λ found. IfNone found (NamesNone R.answer (pattern_view users.now) url.now)) }
     ensures memory { OnlyOutOfMemory result }
@@ -34,6 +34,6 @@ pub fn user<'a, R: RegExp>(
     let Some(found) = users.captures(alloc, url)? else {
         return Ok(None);
     };
-    Ok(found.get(ComponentName::Pathname, ID).flatten())
+    Ok(found.get(ComponentName::Pathname, ID))
     // docs: end
 }

@@ -9,9 +9,9 @@ use crate::router;
 use std::alloc::Global;
 use std::marker::Model;
 use url::Url;
+use urlpattern::laws::texts_are_lines;
 use urlpattern::regexp::PatternRegexp;
 use urlpattern::{Error, UrlPattern, UrlPatternOptions};
-use urlpattern_init::laws::texts_are_lines;
 
 // docs: users
 /// The users under `https://example.com/users/`, with the pattern of their URLs, which is compiled once.
@@ -49,7 +49,7 @@ impl Users {
     /// user name, password, query and fragment may be any, as the pattern says nothing of them.
     ///
     /// The error is that memory ran out.
-    pub fn id<'a>(&'a self, alloc: Global, url: &'a Url) -> Result<Option<&'a str>, Error>
+    pub fn id<'u>(&self, alloc: Global, url: &'u Url) -> Result<Option<&'u str>, Error>
         ensures some { IfOk result (λ found. IfSome found (λ id. IsUser url.now (chars id.now))) }
         ensures none { IfOk result (λ found. IfNone found (IsNoUser url.now)) }
         ensures memory { OnlyOutOfMemory result }

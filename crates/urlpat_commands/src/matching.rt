@@ -112,7 +112,7 @@ pub fn url_of(alloc: Global, base: Option<&str>, input: &str) -> Result<Option<U
 pub fn push_match(
     alloc: Global,
     text: &mut String,
-    found: &UrlPatternCaptures<'_>,
+    found: &UrlPatternCaptures<'_, '_>,
 ) -> Result<(), AllocError>
     ensures { OnOk result (GetsLines (AreLines (all_named_results (pattern_captures_view found.now))) text.old text.new) }
 {
@@ -126,7 +126,7 @@ pub fn push_match(
 fn push_groups(
     alloc: Global,
     text: &mut String,
-    found: &UrlPatternCaptures<'_>,
+    found: &UrlPatternCaptures<'_, '_>,
     name: ComponentName,
 ) -> Result<(), AllocError>
     ensures { OnOk result (GetsLines (AreGroupLines (name_text name) (pattern_captures_view found.now name)) text.old text.new) }
@@ -139,11 +139,11 @@ fn push_groups(
 }
 
 /// The names of the groups of a component, each once, in the order of their bytes.
-fn sorted_names<'c>(
+fn sorted_names<'p>(
     alloc: Global,
-    found: &'c UrlPatternCaptures<'_>,
+    found: &UrlPatternCaptures<'p, '_>,
     name: ComponentName,
-) -> Result<Vec<&'c String>, AllocError>
+) -> Result<Vec<&'p String>, AllocError>
     ensures { IfOk result (λ names. AreNames (pattern_captures_view found.now name) (map (λ name. text_of name.now) names.items)) }
 {
     let mut names = names_of(alloc, found, name)?;
@@ -153,11 +153,11 @@ fn sorted_names<'c>(
 }
 
 /// The names of the groups of a component, in the order of the pattern.
-fn names_of<'c>(
+fn names_of<'p>(
     alloc: Global,
-    found: &'c UrlPatternCaptures<'_>,
+    found: &UrlPatternCaptures<'p, '_>,
     name: ComponentName,
-) -> Result<Vec<&'c String>, AllocError>
+) -> Result<Vec<&'p String>, AllocError>
     ensures { IfOk result (λ names. map (λ name. text_of name.now) names.items ≡ keys_of (groups_view found.now name)) }
 {
     let mut names = Vec::new(alloc);
@@ -168,16 +168,16 @@ fn names_of<'c>(
 }
 
 /// What a group captured. `None`: it took no part.
-fn capture_of<'a>(
-    found: &UrlPatternCaptures<'a>,
+fn capture_of<'u>(
+    found: &UrlPatternCaptures<'_, 'u>,
     name: ComponentName,
     group: &str,
-) -> Option<&'a str>
+) -> Option<&'u str>
     ensures { option_copied result ≡ group_bytes ((pattern_captures_view found.now name).group (chars group.now)) }
 {
     match found.get(name, group) {
-        Some(Some(capture)) => Some(capture),
-        _ => None,
+        Some(capture) => Some(capture),
+        None => None,
     }
 }
 

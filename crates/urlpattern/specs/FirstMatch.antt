@@ -2,9 +2,9 @@
 use Rattle.std.specs.Prelude.{◌≡◌, ◌⊎◌, ℕ, List, map, take, All, Option, Some, None, option_map, slice_get}
 use Rattle.urlpattern_init.specs.declared.init.UrlPatternMatchInput.{UrlPatternMatchInput}
 use Rattle.urlpattern_syntax.specs.declared.eight.ComponentName.{ComponentName}
-use Rattle.urlpattern_pattern.specs.declared.pattern.{UrlPattern.UrlPattern, captures.UrlPatternCaptures.UrlPatternCaptures}
+use Rattle.urlpattern_pattern.specs.declared.pattern.{UrlPattern.UrlPattern, captures.UrlPatternCaptures.UrlPatternCaptures, result.UrlPatternResult.UrlPatternResult}
 use Rattle.urlpattern_pattern.specs.{BorrowedMatches.pattern_captures_view, Patterns.PatternView, Patterns.pattern_view}
-use Rattle.urlpattern_pattern.specs.Match.{AreMatched, AsksAnEngine, HasMatch, HasNoMatch, IsMatch, IsMatchOf, IsRefused, ResultView, result_view, UrlPatternResult}
+use Rattle.urlpattern_pattern.specs.Match.{AreMatched, AsksAnEngine, HasMatch, HasNoMatch, IsMatch, IsMatchOf, IsRefused, ResultView, result_view}
 use Rattle.urlpattern_meaning.specs.PartMeaning.{Captures}
 use Rattle.urlpattern_syntax.specs.Eight.{Texts}
 

@@ -37,6 +37,7 @@ pub use Rattle.urlpattern_pattern.specs.FromString
 pub use Rattle.urlpattern_pattern.specs.Match
 pub use Rattle.urlpattern_pattern.specs.MatchInput
 pub use Rattle.urlpattern_pattern.specs.Meaning
+pub use Rattle.urlpattern_pattern.specs.Mismatch
 pub use Rattle.urlpattern_pattern.specs.Patterns
 pub use Rattle.urlpattern_syntax.specs.Eight
 pub use Rattle.urlpattern_syntax.specs.ErrorText
@@ -50,9 +51,20 @@ pub use Rattle.urlpattern_syntax.specs.Refusals
 pub use Rattle.urlpattern_syntax.specs.RegexpText
 pub use Rattle.urlpattern_syntax.specs.Text
 pub use Rattle.urlpattern_syntax.specs.Tokens
+pub use Rattle.urlpattern_engine.specs.PatternRegexps
+pub use Rattle.urlpattern_engine.specs.declared.pattern_regexp.PatternRegexp
+pub use Rattle.urlpattern_init.specs.declared.init.UrlPatternInit
+pub use Rattle.urlpattern_init.specs.declared.init.UrlPatternMatchInput
+pub use Rattle.urlpattern_inputs.specs.declared.options.UrlPatternOptions
 pub use Rattle.urlpattern_pattern.specs.declared.pattern.UrlPattern
 pub use Rattle.urlpattern_pattern.specs.declared.pattern.captures.UrlPatternCaptures
 pub use Rattle.urlpattern_pattern.specs.declared.pattern.result.UrlPatternComponentResult
+pub use Rattle.urlpattern_pattern.specs.declared.pattern.result.UrlPatternResult
+pub use Rattle.urlpattern_syntax.specs.declared.eight.ComponentName
+pub use Rattle.urlpattern_syntax.specs.declared.error.Error
+pub use Rattle.urlpattern_syntax.specs.declared.error.ParserError
+pub use Rattle.urlpattern_syntax.specs.declared.parser.Options as ParserOptions
+pub use Rattle.urlpattern_syntax.specs.declared.parser.Part
 pub use Rattle.urlpattern_syntax.specs.declared.parser.RegexSyntax
 pub mod EcmaRegexps
 pub mod FirstMatch

@@ -19,5 +19,6 @@ pub use urlpattern_init::{UrlPatternInit, UrlPatternMatchInput};
 pub use urlpattern_inputs::UrlPatternOptions;
 pub use urlpattern_pattern::{
     UrlPattern, UrlPatternCaptures, UrlPatternComponentResult, UrlPatternGroups, UrlPatternResult,
+    pathname_texts, url_texts,
 };
 pub use urlpattern_syntax::eight::{ComponentName, Eight};

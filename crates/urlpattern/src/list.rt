@@ -144,11 +144,11 @@ impl<R: RegExp> UrlPatternList<R> {
     /// The answer is that of `UrlPattern::captures` on one pattern after the other until one matches.
     ///
     /// The error is that memory ran out. Only an engine allocates.
-    pub fn first_captures<'a>(
-        &'a self,
+    pub fn first_captures<'p, 'u>(
+        &'p self,
         alloc: Global,
-        url: &'a Url,
-    ) -> Result<Option<(usize, UrlPatternCaptures<'a>)>, Error>
+        url: &'u Url,
+    ) -> Result<Option<(usize, UrlPatternCaptures<'p, 'u>)>, Error>
         ensures first { IfOk result (λ found. IsFirstMatch R.answer (patterns_view self.now) (inputs.Url url.now) (first_captures_view found)) }
         ensures memory { OnlyOutOfMemory result }
         ensures asked { IfErr result (λ _. AsksBeforeMatch R.answer (patterns_view self.now) (texts_of_url url.now)) }
@@ -160,11 +160,11 @@ impl<R: RegExp> UrlPatternList<R> {
     /// the input. `None`: no pattern matches it.
     ///
     /// The error is that memory ran out. Only an engine allocates.
-    pub fn first_captures_of_input<'a>(
-        &'a self,
+    pub fn first_captures_of_input<'p, 'u>(
+        &'p self,
         alloc: Global,
-        input: &'a MatchInput,
-    ) -> Result<Option<(usize, UrlPatternCaptures<'a>)>, Error>
+        input: &'u MatchInput,
+    ) -> Result<Option<(usize, UrlPatternCaptures<'p, 'u>)>, Error>
         ensures first { IfOk result (λ found. IsFirstMatchOf R.answer (patterns_view self.now) (texts_view input.now) (first_captures_view found)) }
         ensures memory { OnlyOutOfMemory result }
         ensures asked { IfErr result (λ _. AsksBeforeMatch R.answer (patterns_view self.now) (texts_view input.now)) }
@@ -193,11 +193,11 @@ impl<R: RegExp> UrlPatternList<R> {
     /// The first match of eight texts. `None`: no pattern matches them.
     ///
     /// Only an engine allocates.
-    fn first<'a>(
-        &'a self,
+    fn first<'p, 'u>(
+        &'p self,
         alloc: Global,
-        texts: Eight<&'a str>,
-    ) -> Result<Option<(usize, UrlPatternCaptures<'a>)>, OutOfMemory>
+        texts: Eight<&'u str>,
+    ) -> Result<Option<(usize, UrlPatternCaptures<'p, 'u>)>, OutOfMemory>
         ensures first { IfOk result (λ found.
             IsFirstMatchOf R.answer (patterns_view self.now) (borrowed_texts texts.entry) (first_captures_view found)) }
         ensures asked { IfErr result (λ _. AsksBeforeMatch R.answer (patterns_view self.now) (borrowed_texts texts.entry)) }

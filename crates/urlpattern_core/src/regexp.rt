@@ -48,6 +48,19 @@ pub trait RegExp: Sized + Drop {
         ensures made { IfOk result (λ engine. IsMade engine (chars pattern.now) (chars flags.now)) }
         ensures refused { result ≡ Err Pattern → MayRefuse (chars pattern.now) (chars flags.now) force_eval };
 
+    /// The same for a value that is kept, and that hardly ever matches a text: an engine may put off work until then.
+    fn parse_to_keep(
+        alloc: Global,
+        pattern: &str,
+        flags: &str,
+        force_eval: bool,
+    ) -> Result<Self, RegExpError>
+        ensures made { IfOk result (λ engine. IsMade engine (chars pattern.now) (chars flags.now)) }
+        ensures refused { result ≡ Err Pattern → MayRefuse (chars pattern.now) (chars flags.now) force_eval }
+    {
+        Self::parse(alloc, pattern, flags, force_eval)
+    }
+
     /// What the groups capture of a text, in their order and without the whole match: a slice of the text, or `None` for a
     /// group that took no part. `None` as a whole: the text does not match.
     ///

@@ -4,11 +4,12 @@ use Rattle.std.proofs.lemmas.Str.{IsUtf8-string_bytes}
 use Rattle.std.specs.Prelude.{⊤, IsOk, IsTrue, Ok, Err, Result, string_bytes}
 use Rattle.std.specs.Str.{all_scalars}
 use Rattle.regex.specs.declared.string.regex.Regex.{Regex}
+use Rattle.regex_syntax.specs.Verdict.{Reads}
 use Rattle.urlpattern_core.specs.Regexes.{IsRegexOf, regex_answer, regex_engine}
 use Rattle.urlpattern_core.specs.FirstWays.{AllAnswerAlike, ComponentsTakeGenerated, EachAnswersFirst, KeepsCase, MatchersTakeGenerated, ValuesAnswerAlike, ValuesAnswerByFlags, ValuesAnswerFirst}
 use Rattle.urlpattern_core.specs.Generated.{AreGenerated}
 use Rattle.urlpattern_core.proofs.FirstMatchers.{first_alike, made_first}
-use Rattle.urlpattern_core.proofs.RegexWays.{regex_answers_first}
+use Rattle.urlpattern_core.proofs.RegexWays.{read_answers_first, regex_answers_first}
 use Rattle.urlpattern_meaning.specs.Dialect.{IsTreeOf, Items}
 use Rattle.urlpattern_meaning.specs.FirstAnswers.{AnswersFirst}
 use Rattle.urlpattern_meaning.specs.Ways.{first_way, first_way_by}
@@ -20,16 +21,16 @@ use Rattle.urlpattern_syntax.specs.Options.{OptionsView}
 use Rattle.urlpattern_syntax.specs.Parts.{PartView}
 use Rattle.urlpattern_syntax.specs.RegexpText.{regexp_text}
 use Rattle.urlpattern_engine.specs.declared.pattern_regexp.Expression.{Expression}
-use Rattle.urlpattern_engine.specs.declared.pattern_regexp.Expression.TheVariants.{Own, Compiled, Other}
+use Rattle.urlpattern_engine.specs.declared.pattern_regexp.Expression.TheVariants.{Own, Compiled, Kept, Other}
 use Rattle.urlpattern_engine.specs.declared.pattern_regexp.PatternRegexp.{PatternRegexp}
 use Rattle.urlpattern_engine.specs.PatternRegexps.{IsExpressionOf, IsPatternRegexpOf, expression_answer, pattern_answer, pattern_engine}
 use Rattle.urlpattern_engine.specs.declared.step.Step.{Step}
-use Rattle.urlpattern_engine.specs.Automatons.{IsRegexReadAs}
+use Rattle.urlpattern_engine.specs.Automatons.{IsRegexReadAs, config_for, names_of}
 use Rattle.urlpattern_engine.specs.ReadSteps.{AreStepsOf, IsGenerated}
 use Rattle.urlpattern_engine.specs.Walk.{walk}
 use Rattle.urlpattern_meaning.proofs.FirstAnswers.{took_all}
 use Rattle.urlpattern_engine.proofs.AutomatonLemmas.{automaton_first, automaton_same}
-use Rattle.urlpattern_engine.proofs.TwoReadings.{default_read, read_by_default, regexes_same}
+use Rattle.urlpattern_engine.proofs.TwoReadings.{default_read, read_by_default, regexes_same, tree_same}
 
 -- the steps of an expression answer the first way of its tree, whether case counts or not
 steps_first : (ignore_case : Bool) (regexp : List ℕ) (tree : Items) (steps : List Step) (text : List ℕ) → IsTreeOf regexp tree → AreStepsOf regexp steps → walk ignore_case steps text ≡ first_way_by ignore_case tree text
@@ -45,6 +46,9 @@ expression_first ignore_case regexp tree (Own own) text kept is made fine =
     steps_first ignore_case regexp tree own.steps.items text is made.1 ∙ ap (λ b. first_way_by b tree text) kept
 expression_first ignore_case regexp tree (Compiled automaton) text kept is made fine =
     automaton_first ignore_case regexp (string_bytes automaton.value.text) automaton.value.nfa (IsUtf8-string_bytes automaton.value.text) made.0 made.1 text fine kept tree is
+expression_first ignore_case regexp tree (Kept value) text kept is made fine =
+    read_answers_first regexp tree (string_bytes value.value.text) value.value.hir (names_of value.value.names.items) text is (IsUtf8-string_bytes value.value.text) made.0
+    (subst (λ (b : Bool). Reads (config_for b) (string_bytes value.value.text) value.value.hir (names_of value.value.names.items)) kept made.1.is_read) fine
 expression_first ignore_case regexp tree (Other regex) text kept is made fine = regex_answers_first regexp tree regex.value text is (by_default ignore_case regexp regex.value kept made.0) fine
 
 pub pattern_regexp_first : (regexp flags : List ℕ) (tree : Items) (value : PatternRegexp) (text : List ℕ) → ignores_case flags ≡ false → IsTreeOf regexp tree → IsPatternRegexpOf regexp flags value → IsTrue (all_scalars text)
@@ -64,6 +68,7 @@ expression_generated : (ignore_case : Bool) (regexp : List ℕ) (tree : Items) (
     → expression_answer ignore_case expression text ≡ first_way_by ignore_case tree text
 expression_generated ignore_case regexp tree (Own own) text generated is made = steps_first ignore_case regexp tree own.steps.items text is made.1
 expression_generated ignore_case regexp tree (Compiled automaton) text generated is made = absurd (made.2 generated)
+expression_generated ignore_case regexp tree (Kept value) text generated is made = absurd (made.2 generated)
 expression_generated ignore_case regexp tree (Other regex) text generated is made = absurd (made.1 generated)
 
 pub values_by_flags : ValuesAnswerByFlags pattern_engine
@@ -79,6 +84,9 @@ expression_same ignore_case regexp (Own own) regex text kept made also fine =
 expression_same ignore_case regexp (Compiled automaton) regex text kept made also fine =
     automaton_same ignore_case regexp (string_bytes automaton.value.text) automaton.value.nfa (IsUtf8-string_bytes automaton.value.text) made.0 made.1 text fine regex
     (subst (λ (b : Bool). IsRegexReadAs b regexp regex) (sym kept) (read_by_default regexp regex also))
+expression_same ignore_case regexp (Kept value) regex text kept made also fine =
+    tree_same ignore_case regexp (string_bytes value.value.text) value.value.hir (names_of value.value.names.items) made.0 made.1.is_read regex
+    (subst (λ (b : Bool). IsRegexReadAs b regexp regex) (sym kept) (read_by_default regexp regex also)) text fine
 expression_same ignore_case regexp (Other other) regex text kept made also fine =
     regexes_same ignore_case regexp other.value regex made.0 (subst (λ (b : Bool). IsRegexReadAs b regexp regex) (sym kept) (read_by_default regexp regex also)) text fine
 

@@ -17,18 +17,12 @@ use Rattle.regex.specs.declared.string.regex.Regex.{Regex}
 use Rattle.regex.proofs.ForCallers.{found_alike, is_match_alike}
 use Rattle.urlpattern_core.specs.Regexes.{IsRegexOf, group_texts, regex_answer, text_between}
 use Rattle.urlpattern_core.proofs.Bytes.{bytes_below}
-use Rattle.urlpattern_engine.specs.Automatons.{IsRegexReadAs, config_for}
+use Rattle.urlpattern_engine.specs.Automatons.{IsRegexReadAs, config_for, tree_answer}
 use Rattle.urlpattern_meaning.specs.PartMeaning.{Captures}
 
 both_hold : {A B : Type 0} (o : Option A) (P Q : A → Type 0) → ((x : A) → P x → Q x → B) → IsSomeAnd o P → IsSomeAnd o Q → B
 both_hold None P Q f p q = absurd p
 both_hold (Some x) P Q f p q = f x p q
-
--- what the groups of the first match of a tree with these names of groups span
-abbrev pub tree_answer : Hir → Names → List ℕ → Option Captures
-tree_answer hir names text =
-    let bytes = encode_utf8_all text in
-    option_map (λ found. group_texts bytes (length names - 1) (group_of found)) (find_str (meaning hir) bytes 0)
 
 -- the grammar reads the tree and the names in the text
 abbrev pub IsReadIn : (config : Config) → (regexp : List ℕ) → Hir → Names → Type 0
@@ -89,3 +83,9 @@ regexes_same ignore_case regexp regex other made again text fine =
     regex_answer_is regex text
     ∙ readings_same (config_for ignore_case) regexp _ _ _ _ (regex_is_read ignore_case regexp regex made) (regex_is_read ignore_case regexp other again) text fine
     ∙ sym (regex_answer_is other text)
+
+pub tree_same : (ignore_case : Bool) (regexp source : List ℕ) (hir : Hir) (names : Names) → chars source ≡ regexp → Reads (config_for ignore_case) source hir names
+    → (regex : Regex) → IsRegexReadAs ignore_case regexp regex → (text : List ℕ) → IsTrue (all_scalars text) → tree_answer hir names text ≡ regex_answer regex text
+tree_same ignore_case regexp source hir names of_text is_read regex made text fine =
+    readings_same (config_for ignore_case) regexp hir _ names _ (source, of_text, is_read) (regex_is_read ignore_case regexp regex made) text fine
+    ∙ sym (regex_answer_is regex text)

@@ -1,5 +1,6 @@
 -- What an automaton is made of, and what it answers.
-use Rattle.std.specs.Prelude.{◌≡◌, ℕ, ◌-◌, ◌*◌, ◌/◌, ◌&&◌, ◌==◌, Bool, true, List, map, length, Option, Some, None, nat_le, if◌then◌else◌, option_and_then, option_map, encode_utf8_all, slice_index}
+use Rattle.std.specs.Prelude.{◌≡◌, ℕ, ◌-◌, ◌*◌, ◌/◌, ◌&&◌, ◌==◌, Bool, true, List, map, length, Option, Some, None, nat_le, if◌then◌else◌, option_and_then, option_map, encode_utf8_all, slice_index, String, string_bytes}
+use Rattle.std.specs.declared.alloc.Global.{Global}
 use Rattle.std.specs.List.{range_with_len}
 use Rattle.regex.specs.Search.{is_cut_at}
 use Rattle.regex.specs.Strings.{IsReadFromSource, regex_config}
@@ -7,7 +8,7 @@ use Rattle.regex.specs.Writes.{both, group_of}
 use Rattle.regex.specs.declared.string.regex.Regex.{Regex}
 use Rattle.regex_compile.specs.Implements.{Implements}
 use Rattle.regex_extract.specs.Bounds.{IsAnchored}
-use Rattle.regex_hir.specs.Find.{Match}
+use Rattle.regex_hir.specs.Find.{Match, find_str}
 use Rattle.regex_hir.specs.Meaning.{meaning}
 use Rattle.regex_hir.specs.declared.hir.Hir.{Hir}
 use Rattle.regex_nfa.specs.declared.nfa.Nfa.{Nfa}
@@ -16,7 +17,7 @@ use Rattle.regex_syntax.specs.Verdict.{Reads, default_config, default_flags}
 use Rattle.regex_syntax.specs.declared.Config.{Config}
 use Rattle.regex_syntax.specs.WellFormed.{IsWellFormed}
 use Rattle.regex_vm.specs.Found.{first_match}
-use Rattle.urlpattern_core.specs.Regexes.{regex_text, text_between}
+use Rattle.urlpattern_core.specs.Regexes.{group_texts, regex_text, text_between}
 use Rattle.urlpattern_meaning.specs.PartMeaning.{Captures}
 
 -- the characters from one byte place to another, if these are in order and between characters
@@ -48,13 +49,27 @@ pub record IsRegexReadAs (ignore_case : Bool) (regexp : List ℕ) (regex : Regex
   pub by_case : regex_config regex ≡ config_for ignore_case
   pub is_read : IsReadFromSource regex
 
+-- the names of groups, as UTF-8
+abbrev pub names_of : List (Option (String Global)) → Names
+names_of names = map (option_map string_bytes) names
+
+-- The grammar reads this tree and these names in the text, and its matches begin at the start.
+pub record IsReadAtStart (ignore_case : Bool) (source : List ℕ) (tree : Hir) (names : Names) : Type 0 where
+  pub is_read : Reads (config_for ignore_case) source tree names
+  pub is_formed : IsWellFormed true tree
+  pub is_anchored : IsAnchored true (meaning tree)
+
+-- what the groups of the first match of a tree with these names of groups span
+abbrev pub tree_answer : Hir → Names → List ℕ → Option Captures
+tree_answer hir names text =
+    let bytes = encode_utf8_all text in
+    option_map (λ found. group_texts bytes (length names - 1) (group_of found)) (find_str (meaning hir) bytes 0)
+
 -- The automaton was made of the text: it gives the matches of the tree that the grammar reads there, which begin at the start.
 pub record IsNfaOf (ignore_case : Bool) (source : List ℕ) (nfa : Nfa) : Type 0 where
   pub tree : Hir
   pub names : Names
-  pub is_read : Reads (config_for ignore_case) source tree names
-  pub is_formed : IsWellFormed true tree
-  pub is_anchored : IsAnchored true (meaning tree)
+  pub of_tree : IsReadAtStart ignore_case source tree names
   pub implements : Implements nfa (meaning tree)
   pub slots : nfa.slot_count ≡ 2 * length names
 

@@ -3,9 +3,9 @@ use Rattle.std.specs.Prelude.{◌≡◌, ℕ, Bool, List, Option, string_bytes}
 use Rattle.urlpattern_core.specs.declared.regexp.RegExp.{Ghosts as Engine}
 use Rattle.urlpattern_core.specs.Components.{ignores_case}
 use Rattle.urlpattern_core.specs.Regexes.{regex_answer, regex_text}
-use Rattle.urlpattern_engine.specs.Automatons.{IsNfaOf, IsRegexReadAs, automaton_answer}
+use Rattle.urlpattern_engine.specs.Automatons.{IsNfaOf, IsReadAtStart, IsRegexReadAs, automaton_answer, names_of, tree_answer}
 use Rattle.urlpattern_engine.specs.declared.pattern_regexp.Expression.{Expression}
-use Rattle.urlpattern_engine.specs.declared.pattern_regexp.Expression.TheVariants.{Own, Compiled, Other}
+use Rattle.urlpattern_engine.specs.declared.pattern_regexp.Expression.TheVariants.{Own, Compiled, Kept, Other}
 use Rattle.urlpattern_engine.specs.declared.pattern_regexp.PatternRegexp.{PatternRegexp}
 use Rattle.urlpattern_engine.specs.ReadSteps.{AreStepsOf, IsGenerated}
 use Rattle.urlpattern_engine.specs.Walk.{walk}
@@ -17,20 +17,24 @@ use Rattle.urlpattern_syntax.specs.Text.{text_of}
 abbrev pub expression_text : Expression → List ℕ
 expression_text (Own own) = text_of own.text
 expression_text (Compiled automaton) = text_of automaton.value.text
+expression_text (Kept kept) = text_of kept.value.text
 expression_text (Other regex) = regex_text regex.value
 
 -- what it answers
 abbrev pub expression_answer : (ignore_case : Bool) → Expression → List ℕ → Option Captures
 expression_answer ignore_case (Own own) text = walk ignore_case own.steps.items text
 expression_answer ignore_case (Compiled automaton) text = automaton_answer automaton.value.nfa text
+expression_answer ignore_case (Kept kept) text = tree_answer kept.value.hir (names_of kept.value.names.items) text
 expression_answer ignore_case (Other regex) text = regex_answer regex.value text
 
 -- it was made of the text: of steps that answer the first way, or, if the text is not that of parts without a custom one, of an
--- automaton or by `regex`
+-- automaton, of a tree, or by `regex`
 abbrev pub IsExpressionOf : (ignore_case : Bool) → (regexp : List ℕ) → Expression → Type 0
 IsExpressionOf ignore_case regexp (Own own) = (text_of own.text ≡ regexp) × AreStepsOf regexp own.steps.items
 IsExpressionOf ignore_case regexp (Compiled automaton) =
     (text_of automaton.value.text ≡ regexp) × IsNfaOf ignore_case (string_bytes automaton.value.text) automaton.value.nfa × ¬ IsGenerated regexp
+IsExpressionOf ignore_case regexp (Kept kept) =
+    (text_of kept.value.text ≡ regexp) × IsReadAtStart ignore_case (string_bytes kept.value.text) kept.value.hir (names_of kept.value.names.items) × ¬ IsGenerated regexp
 IsExpressionOf ignore_case regexp (Other regex) = IsRegexReadAs ignore_case regexp regex.value × ¬ IsGenerated regexp
 
 abbrev pub pattern_regexp_text : PatternRegexp → List ℕ

@@ -1,8 +1,10 @@
 //! Matches a text by an automaton.
 
-ghost use Rattle.std.specs.Prelude.{◌≡◌, ◌-◌, ◌/◌, ◌≤◌, is_some, length, map, option_and_then, string_bytes, IfOk, IfSome, OnOk};
+ghost use Rattle.std.specs.Prelude.{◌≡◌, ◌-◌, ◌*◌, ◌/◌, ◌≤◌, is_some, length, map, option_and_then, string_bytes, IfOk, IfSome, OnOk};
 ghost use Rattle.std.specs.Str.{chars};
 ghost use Rattle.regex.specs.Writes.{both};
+ghost use Rattle.regex_compile.specs.Implements.{Implements};
+ghost use Rattle.regex_hir.specs.Meaning.{meaning};
 ghost use Rattle.regex_vm.specs.Found.{group_cells};
 ghost use Rattle.urlpattern_core.specs.CaptureTexts.{captures_view};
 ghost use Rattle.urlpattern_engine.specs.Automatons.{IsNfaOf, IsRegexReadAs, config_for, automaton_answer, cell_texts, match_at_start, place_of, text_cut};
@@ -11,6 +13,7 @@ ghost use Rattle.urlpattern_syntax.specs.Text.{option_text};
 use regex::{Regex, RegexBuilder};
 use regex_compile::compile;
 use regex_extract::is_anchored_start;
+use regex_hir::Hir;
 use regex_nfa::Nfa;
 use regex_syntax::{Config, ErrorKind, Parsed};
 use regex_vm::{Backtracker, Declined, PikeVm};
@@ -19,7 +22,7 @@ use urlpattern_core::error::{OutOfMemory, RegExpError};
 use urlpattern_core::regexp::RegExp;
 
 /// The most bytes that the tables of an automaton may take, which is also the limit of `regex::Regex::new`.
-const SIZE_LIMIT: usize = 10 << 20;
+pub(crate) const SIZE_LIMIT: usize = 10 << 20;
 
 /// From how many bytes on a text is matched by a `regex::Regex` that is made for it. The making then takes less time than a search
 /// state by state.
@@ -31,7 +34,7 @@ pub(crate) struct Automaton {
     pub(crate) text: String,
     pub(crate) nfa: Nfa,
     /// Whether the case of letters is ignored.
-    ignore_case: bool,
+    pub(crate) ignore_case: bool,
     ghost is_made: { ∥ IsNfaOf ignore_case (string_bytes text) nfa ∥₁ },
 }
 
@@ -60,14 +63,7 @@ impl Automaton {
         if !is_anchored_start(&hir) {
             return Ok(None);
         }
-        let Ok(groups) = u32::try_from(names.len()) else {
-            return Err(RegExpError::Pattern);
-        };
-        let nfa = match compile(alloc, &hir, groups, SIZE_LIMIT) {
-            Ok(nfa) => nfa,
-            Err(regex_compile::Error::OutOfMemory) => return Err(RegExpError::OutOfMemory),
-            Err(_) => return Err(RegExpError::Pattern),
-        };
+        let nfa = nfa_of(alloc, &hir, names.len())?;
         let text = String::from_str(alloc, regexp)?;
         Ok(Some(Automaton {
             text,
@@ -137,7 +133,7 @@ impl Automaton {
 }
 
 /// How `regex_syntax` is to read an expression: by its default options, but that case may be ignored.
-fn config_for(ignore_case: bool) -> Config
+pub(crate) fn config_for(ignore_case: bool) -> Config
     ensures { result ≡ config_for ignore_case }
 {
     let mut config = Config::default();
@@ -155,6 +151,23 @@ pub(crate) fn regex_of(alloc: Global, regexp: &str, ignore_case: bool) -> Result
     match builder.build(alloc) {
         Ok(regex) => Ok(regex),
         Err(regex::Error::OutOfMemory) => Err(RegExpError::OutOfMemory),
+        Err(_) => Err(RegExpError::Pattern),
+    }
+}
+
+/// The automaton of a tree with so many groups, the whole match among them.
+///
+/// The error says whether it would be too large or memory ran out.
+pub(crate) fn nfa_of(alloc: Global, hir: &Hir, groups: usize) -> Result<Nfa, RegExpError>
+    ensures implements { IfOk result (λ nfa. Implements nfa (meaning hir.now)) }
+    ensures slots { IfOk result (λ nfa. nfa.slot_count ≡ 2 * groups) }
+{
+    let Ok(groups) = u32::try_from(groups) else {
+        return Err(RegExpError::Pattern);
+    };
+    match compile(alloc, hir, groups, SIZE_LIMIT) {
+        Ok(nfa) => Ok(nfa),
+        Err(regex_compile::Error::OutOfMemory) => Err(RegExpError::OutOfMemory),
         Err(_) => Err(RegExpError::Pattern),
     }
 }

@@ -8,8 +8,10 @@
 mod automaton;
 mod by_table;
 mod choices;
+mod cost;
 mod failed;
 mod fronts;
+mod kept;
 pub mod laws;
 mod pattern_regexp;
 mod reading;

@@ -1,17 +1,18 @@
 //! The engine.
 
-ghost use Rattle.std.specs.Prelude.{◌≡◌, Err, IfOk};
+ghost use Rattle.std.specs.Prelude.{◌≡◌, IfOk};
 ghost use Rattle.std.specs.Str.{chars};
 ghost use Rattle.urlpattern_core.specs.CaptureTexts.{captures_view};
 ghost use Rattle.urlpattern_core.specs.Components.{ignores_case};
-ghost use Rattle.urlpattern_syntax.specs.declared.error.RegExpError.TheVariants.{Pattern};
 ghost use Rattle.urlpattern_engine.specs.PatternRegexps.{IsExpressionOf, pattern_engine};
 ghost use Rattle.urlpattern_engine.specs.ReadSteps.{IsGenerated};
 ghost use Rattle.urlpattern_engine.specs.Walk.{walk};
+ghost use Rattle.urlpattern_syntax.specs.Text.{text_of};
 
 use crate::automaton::{Automaton, regex_of};
 use crate::by_table::walk_by_table;
 use crate::choices::{Strategy, strategy_of};
+use crate::kept::Kept;
 use crate::reading::read_steps;
 use crate::step::Step;
 use crate::walk::walk;
@@ -37,6 +38,7 @@ pub struct PatternRegexp {
 enum Expression {
     Own(Steps),
     Compiled(Box<Automaton>),
+    Kept(Box<Kept>),
     Other(Box<Regex>),
 }
 
@@ -75,9 +77,32 @@ impl RegExp for PatternRegexp {
         _force_eval: bool,
     ) -> Result<PatternRegexp, RegExpError> {
         let ignore_case = ignores_case(flags);
-        let expression = expression_of(alloc, pattern, ignore_case)?;
+        let expression = match read_steps(alloc, pattern)? {
+            Some(steps) => Expression::Own(own(alloc, pattern, steps)?),
+            None => compiled(alloc, pattern, ignore_case)?,
+        };
         Ok(PatternRegexp {
             expression,
+            ignore_case,
+        })
+    }
+
+    fn parse_to_keep(
+        alloc: Global,
+        pattern: &str,
+        flags: &str,
+        _force_eval: bool,
+    ) -> Result<PatternRegexp, RegExpError> {
+        let ignore_case = ignores_case(flags);
+        let kept = match read_steps(alloc, pattern)? {
+            Some(steps) => Expression::Own(own(alloc, pattern, steps)?),
+            None => match Kept::new(alloc, pattern, ignore_case)? {
+                Some(kept) => Expression::Kept(boxed(alloc, kept)?),
+                None => compiled(alloc, pattern, ignore_case)?,
+            },
+        };
+        Ok(PatternRegexp {
+            expression: kept,
             ignore_case,
         })
     }
@@ -96,6 +121,7 @@ impl RegExp for PatternRegexp {
                 text,
             ),
             Expression::Compiled(automaton) => automaton.matches(alloc, text),
+            Expression::Kept(kept) => kept.matches(alloc, text),
             Expression::Other(regex) => RegExp::matches(&**regex, alloc, text),
         }
     }
@@ -104,6 +130,7 @@ impl RegExp for PatternRegexp {
         match &self.expression {
             Expression::Own(own) => own.text.as_str(),
             Expression::Compiled(automaton) => automaton.text.as_str(),
+            Expression::Kept(kept) => kept.text.as_str(),
             Expression::Other(regex) => RegExp::pattern_string(&**regex),
         }
     }
@@ -116,20 +143,26 @@ fn ignores_case(flags: &str) -> bool
     flags.contains('i')
 }
 
-/// The expression of a text, by who matches it.
+/// An expression that is matched by its steps.
 ///
-/// The error says whether `regex` refuses the text or memory ran out.
-fn expression_of(alloc: Global, pattern: &str, ignore_case: bool) -> Result<Expression, RegExpError>
-    ensures made { IfOk result (IsExpressionOf ignore_case (chars pattern.now)) }
-    ensures refused { result ≡ Err Pattern → ¬ IsGenerated (chars pattern.now) }
+/// The error is that memory ran out.
+fn own(alloc: Global, pattern: &str, steps: Vec<Step>) -> Result<Steps, AllocError>
+    ensures text { IfOk result (λ own. text_of own.text ≡ chars pattern.now) }
+    ensures steps { IfOk result (λ own. own.steps ≡ steps) }
 {
-    if let Some(steps) = read_steps(alloc, pattern)? {
-        return Ok(Expression::Own(Steps {
-            text: String::from_str(alloc, pattern)?,
-            strategy: strategy_of(&steps),
-            steps,
-        }));
-    }
+    Ok(Steps {
+        text: String::from_str(alloc, pattern)?,
+        strategy: strategy_of(&steps),
+        steps,
+    })
+}
+
+/// An expression that is matched by an automaton, or by a `regex::Regex` if it may match elsewhere than at the start of a text.
+///
+/// The error says whether `regex` rejects it or memory ran out.
+fn compiled(alloc: Global, pattern: &str, ignore_case: bool) -> Result<Expression, RegExpError>
+    ensures { IfOk result (λ made. ¬ IsGenerated (chars pattern.now) → IsExpressionOf ignore_case (chars pattern.now) made) }
+{
     match Automaton::new(alloc, pattern, ignore_case)? {
         Some(automaton) => Ok(Expression::Compiled(boxed(alloc, automaton)?)),
         None => {

@@ -2,14 +2,14 @@
 //!
 //! <https://urlpattern.spec.whatwg.org/#constructor-string-parsing>
 
-ghost use Rattle.std.specs.Prelude.{◌≡◌, IfErr, IfOk, ◌*◌, ◌≤◌, length};
+ghost use Rattle.std.specs.Prelude.{◌≡◌, IfErr, IfOk, IfSome, ◌*◌, ◌≤◌, length};
 ghost use Rattle.std.specs.Str.{chars};
 ghost use Rattle.urlpattern_init.specs.ConstructorString.{AreFewTurns, HasProtocolOrBase, RefusesString, SplitsInto};
 ghost use Rattle.urlpattern_init.specs.Inheritance.{values_view};
 ghost use Rattle.urlpattern_init.specs.SpecialProtocol.{IsSpecialTo, RefusesProtocol};
 ghost use Rattle.urlpattern_init.specs.Split.{HasProtocol, IsSplit};
 ghost use Rattle.urlpattern_init.specs.Splitting.{IsSource, split_values, text_of_source, tokens_of};
-ghost use Rattle.urlpattern_syntax.specs.Errors.{MemoryOr};
+ghost use Rattle.urlpattern_syntax.specs.Errors.{MemoryOr, OnlyOutOfMemory};
 
 mod components;
 mod sections;
@@ -71,6 +71,31 @@ impl UrlPatternInit {
         }
         let init = split.to_init(alloc, base_url)?;
         Ok((init, split.turns))
+    }
+}
+
+/// The pattern of the protocol in a constructor string, if it has one.
+///
+/// The error is that memory ran out.
+pub fn protocol_of(alloc: Global, pattern: &str) -> Result<Option<&str>, Error>
+    ensures protocol { IfOk result (λ found. IfSome found (λ protocol. HasProtocol (chars pattern.now) (λ text. text ≡ chars protocol.now))) }
+    ensures memory { OnlyOutOfMemory result }
+{
+    let tokens = tokenize(alloc, pattern, TokenizePolicy::Lenient)?;
+    let source = Source {
+        input: pattern,
+        tokens: &tokens,
+    };
+    let start = Position {
+        index: 0,
+        depth: 0,
+        turns: 0,
+    };
+    let end = source.end_of(Section::Protocol, start);
+    if source.is_sign(end.index, b':') {
+        Ok(Some(source.text_between(0, end.index)))
+    } else {
+        Ok(None)
     }
 }
 

@@ -3,9 +3,9 @@
 //! <https://urlpattern.spec.whatwg.org/#process-a-urlpatterninit>
 mod processing;
 
-ghost use Rattle.std.specs.Prelude.{◌≡◌, option_map};
+ghost use Rattle.std.specs.Prelude.{◌≡◌};
 ghost use Rattle.urlpattern_init.specs.Inheritance.{values_of, values_view};
-ghost use Rattle.urlpattern_syntax.specs.{Eight.at, Text.text_of};
+ghost use Rattle.urlpattern_syntax.specs.{Eight.at, Text.option_text};
 
 pub use processing::{process, process_values, url_text};
 use url::Url;
@@ -39,10 +39,10 @@ pub struct UrlPatternInit {
 
 impl UrlPatternInit {
     /// The text of a component, if it is given.
-    pub fn get(&self, name: ComponentName) -> &Option<String>
-        ensures { option_map text_of result.now ≡ at (values_view self.now) name }
+    pub fn get(&self, name: ComponentName) -> Option<&str>
+        ensures { option_text result ≡ at (values_view self.now) name }
     {
-        field_of!(self, name)
+        field_of!(self, name).as_deref()
     }
 
     /// The init of these texts, with this base URL.

@@ -1,6 +1,6 @@
 //! The patterns of a URL's components as a caller gives them.
 
-ghost use Rattle.std.specs.Prelude.{◌≡◌, IfOk, option_map, string_bytes};
+ghost use Rattle.std.specs.Prelude.{◌≡◌, IfOk, option_copied, option_map, string_bytes};
 ghost use Rattle.serde_json.specs.Data.{object};
 ghost use Rattle.serde_json.specs.View.{members_view, view};
 ghost use Rattle.urlpattern_inputs.specs.InputJson.{init_read, init_tree};
@@ -68,7 +68,7 @@ impl UrlPatternInit {
         for name in ComponentName::all() {
             put_optional(&mut members, alloc, name.as_str(), self.get(*name))?;
         }
-        put_optional(&mut members, alloc, "baseURL", &self.base_url)?;
+        put_optional(&mut members, alloc, "baseURL", self.base_url.as_deref())?;
         Ok(members)
     }
 
@@ -111,9 +111,9 @@ impl UrlPatternInit {
     }
 
     /// The text of a component, if it is given.
-    pub fn get(&self, name: ComponentName) -> &Option<String>
-        ensures { result.now ≡ at (plain_init_texts self.now) name }
+    pub fn get(&self, name: ComponentName) -> Option<&str>
+        ensures { option_copied result ≡ option_map string_bytes (at (plain_init_texts self.now) name) }
     {
-        field_of!(self, name)
+        field_of!(self, name).as_deref()
     }
 }

@@ -1,6 +1,6 @@
 //! The steps of writing plain values as JSON, by which the types of this crate and those of compiled patterns are written.
 
-ghost use Rattle.std.specs.Prelude.{OnOk, Some, option_map, string_bytes};
+ghost use Rattle.std.specs.Prelude.{OnOk, Some, option_copied, option_map};
 ghost use Rattle.serde_json.specs.Data.{string};
 ghost use Rattle.urlpattern_inputs.specs.Trees.{Gain};
 
@@ -24,9 +24,9 @@ pub fn put_optional(
     members: &mut Map<String, Value>,
     alloc: Global,
     name: &str,
-    text: &Option<String>,
+    text: Option<&str>,
 ) -> Result<(), AllocError>
-    ensures { OnOk result (Gain members.old.entries members.new.entries name.now (option_map string (option_map string_bytes text.now))) }
+    ensures { OnOk result (Gain members.old.entries members.new.entries name.now (option_map string (option_copied text.entry))) }
 {
     match text {
         Some(text) => put_text(members, alloc, name, text),

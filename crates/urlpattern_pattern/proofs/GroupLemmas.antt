@@ -6,8 +6,8 @@ use Rattle.std.proofs.lemmas.Str.{encodes-chars, IsUtf8-string_bytes}
 use Rattle.std.specs.Cmp.Lexicographic.{bytes_decides}
 use Rattle.std.specs.HashMap.{HashMap, Updates, get_by_text}
 use Rattle.std.specs.Map.{lookup, IsKeyTest, AreApart, KeepsOthers}
-use Rattle.std.specs.Option.{option_or}
-use Rattle.std.specs.Prelude.{◌⊎◌, Option, Some, None, String, option_copied, option_map, string_bytes, unwrap_or, encode_utf8_all}
+use Rattle.std.specs.Option.{option_flatten, option_or}
+use Rattle.std.specs.Prelude.{◌⊎◌, Option, Some, None, String, option_copied, option_map, string_bytes, encode_utf8_all}
 use Rattle.std.specs.Str.{chars, IsUtf8}
 use Rattle.std.specs.String.{string_eq}
 use Rattle.std.specs.declared.alloc.Global.{Global}
@@ -162,7 +162,7 @@ group_in-text groups name u =
 
 -- a capture that is lent, by its characters
 captured-text : (found : Option (Option (String Global))) (capture : Option (Bor (List ℕ))) → option_copied capture ≡ captured_bytes found →
-    option_text capture ≡ unwrap_or (option_map (option_map text_of) found) None
+    option_text capture ≡ option_flatten (option_map (option_map text_of) found)
 captured-text None None e = refl
 captured-text None (Some text) e = absurd cc
 captured-text (Some None) None e = refl
@@ -173,6 +173,11 @@ captured-text (Some (Some string)) (Some text) e =
     ap (λ bytes. Some (chars bytes)) same
 
 pub group-captured : {S : Type 0} (groups : HashMap (String Global) (Option (String Global)) S) (name : List ℕ) (capture : Option (Bor (List ℕ))) → IsUtf8 name →
-    option_copied capture ≡ captured_bytes (get_by_text groups name) → option_text capture ≡ unwrap_or (group_in groups (chars name)) None
+    option_copied capture ≡ captured_bytes (get_by_text groups name) → option_text capture ≡ option_flatten (group_in groups (chars name))
 group-captured groups name capture u e =
-    captured-text (get_by_text groups name) capture e ∙ ap (λ found. unwrap_or found None) (sym (group_in-text groups name u))
+    captured-text (get_by_text groups name) capture e ∙ ap option_flatten (sym (group_in-text groups name u))
+
+-- a capture that is lent, without the two ways in which there is none
+pub flattened-text : (found : Option (Option (Bor (List ℕ)))) → option_text (option_flatten found) ≡ option_flatten (option_map option_text found)
+flattened-text None = refl
+flattened-text (Some capture) = refl

@@ -4,6 +4,7 @@ pub mod GroupLemmas
 pub mod NameOrder
 pub mod CompiledLemmas
 pub mod MatchSteps
+pub mod MismatchLemmas
 pub mod MatchLaws
 pub mod MatchExamples
 pub mod MeaningLemmas

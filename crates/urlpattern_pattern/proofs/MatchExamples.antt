@@ -1,15 +1,19 @@
 -- Worked examples of groups and matches.
-use Rattle.std.proofs.Common.{◌≡◌, ℕ, false, true, List, [], ◌∷◌, refl, sym, inl, inr}
+use Rattle.std.proofs.Common.{◌≡◌, ℕ, false, true, List, [], ◌∷◌, ap, refl, sym, inl, inr}
 use Rattle.std.proofs.lemmas.List.{append-nil}
-use Rattle.std.specs.Prelude.{codes, Option, Some, None, Ok, Err}
+use Rattle.std.proofs.lemmas.List.Elements.{All-from_recursion}
+use Rattle.std.specs.Option.{option_flatten}
+use Rattle.std.specs.Prelude.{codes, is_some, option_map, Option, Some, None, Ok, Err}
 use Rattle.url.specs.Parts.{Parts}
-use Rattle.urlpattern_syntax.specs.declared.eight.ComponentName.TheVariants.{Pathname}
+use Rattle.urlpattern_syntax.specs.declared.eight.ComponentName.{ComponentName}
+use Rattle.urlpattern_syntax.specs.declared.eight.ComponentName.TheVariants.{Protocol, Username, Password, Hostname, Port, Pathname, Search, Hash}
 use Rattle.urlpattern_init.specs.declared.init.UrlPatternMatchInput.TheVariants.{Url}
 use Rattle.urlpattern_init.specs.Inheritance.{texts_of_url}
 use Rattle.urlpattern_pattern.specs.Match.{AsksAnEngine, HasMatch, HasNoMatch, IsMatchOf, group_of}
+use Rattle.urlpattern_pattern.specs.Mismatch.{FindsMismatch}
 use Rattle.urlpattern_pattern.specs.Patterns.{PatternView}
 use Rattle.urlpattern_core.specs.Components.{ComponentView}
-use Rattle.urlpattern_meaning.specs.Matching.{AsksEngine, InnerView, Literal, RegExp, SingleCapture}
+use Rattle.urlpattern_meaning.specs.Matching.{AsksEngine, InnerView, IsMatched, Literal, RegExp, SingleCapture}
 use Rattle.urlpattern_meaning.specs.PartMeaning.{Captures}
 use Rattle.urlpattern_meaning.proofs.MatchingLaws.{middle_kept}
 use Rattle.urlpattern_syntax.specs.Errors.{ErrorView as views}
@@ -45,6 +49,13 @@ group-without_part = refl
 
 name-not_there : group_of (codes "x" ∷ []) (one ∷ []) (codes "z") ≡ None
 name-not_there = refl
+
+-- what a group captured, and whether it took part, determine what there is at its name
+captured_and_part-determine : (group other : Option (Option (List ℕ))) → option_flatten group ≡ option_flatten other → option_map is_some group ≡ option_map is_some other → group ≡ other
+captured_and_part-determine None None flat part = refl
+captured_and_part-determine None (Some other) flat part = absurd cc
+captured_and_part-determine (Some group) None flat part = absurd cc
+captured_and_part-determine (Some group) (Some other) flat part = ap Some flat
 
 -- ---- matches
 
@@ -96,6 +107,24 @@ wildcards_but_path-url url other =
             let e = (middle_kept (wildcards_but_path Pathname).matcher (at (texts_of_url url) Pathname) middle refl).0 cut in
             other (rw empty at (rw append-nil at e)),
       ),
+    )
+
+-- where each component matches there is no mismatch
+wildcards-mismatch : (texts : Texts) → FindsMismatch no_engine wildcards texts None
+wildcards-mismatch texts =
+    let match = wildcards-texts texts in λ component. (match.captures component, match.are_answers component)
+
+-- of a path that has to be empty it is the path, as those before it match
+wildcards_but_path-mismatch : (texts : Texts) → ¬ (at texts Pathname ≡ []) → FindsMismatch no_engine wildcards_but_path texts (Some Pathname)
+wildcards_but_path-mismatch texts other =
+    let matches = wildcards-mismatch texts in
+    let before : List ComponentName = Protocol ∷ Username ∷ Password ∷ Hostname ∷ Port ∷ [] in
+    let all = All-from_recursion (λ (name : ComponentName). IsMatched no_engine (wildcards_but_path name).matcher (at texts name)) before
+    (matches Protocol, (matches Username, (matches Password, (matches Hostname, (matches Port, tt))))) in (
+      (before, Search ∷ Hash ∷ [], refl, all),
+      λ captures (middle, cut, (empty, none)).
+          let e = (middle_kept (wildcards_but_path Pathname).matcher (at texts Pathname) middle refl).0 cut in
+          other (rw empty at (rw append-nil at e)),
     )
 
 -- ---- when memory is allocated

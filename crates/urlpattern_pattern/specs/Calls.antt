@@ -6,7 +6,8 @@ use Rattle.urlpattern_syntax.specs.declared.eight.{ComponentName.ComponentName, 
 use Rattle.urlpattern_pattern.specs.declared.pattern.{captures.GroupCaptures.GroupCaptures, captures.Missed.Missed}
 use Rattle.urlpattern_pattern.specs.declared.pattern.captures.GroupCaptures.TheVariants as captured
 use Rattle.urlpattern_pattern.specs.declared.pattern.captures.Missed.TheVariants as missed
-use Rattle.urlpattern_pattern.specs.Match.{IsResultOf, ResultView, UrlPatternResult, group_in, group_of, result_view}
+use Rattle.urlpattern_pattern.specs.Match.{IsResultOf, ResultView, group_in, group_of, result_view}
+use Rattle.urlpattern_pattern.specs.declared.pattern.result.UrlPatternResult.{UrlPatternResult}
 use Rattle.urlpattern_core.specs.Looks.{look_answer, IsAsking}
 use Rattle.urlpattern_core.specs.declared.matcher.look.Look.{Look}
 use Rattle.urlpattern_meaning.specs.{Matching.Answers, Matching.AsksEngine, PartMeaning.Captures}

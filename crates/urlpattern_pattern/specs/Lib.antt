@@ -9,5 +9,6 @@ pub mod FromString
 pub mod Match
 pub mod MatchInput
 pub mod Meaning
+pub mod Mismatch
 pub mod Outcomes
 pub mod Patterns

@@ -1,6 +1,7 @@
 -- What it means that a pattern matches an input, and the groups of a match, after the URLPattern Standard, section
 -- "Matching", at "match".
-use Rattle.std.specs.Prelude.{◌≡◌, ◌≤◌, ◌⊎◌, ℕ, Bool, List, MatchBool, MatchOption, reverse, zip, bytes_eq, Option, Some, None, option_map, Ok, String}
+use Rattle.std.specs.Prelude.{◌≡◌, ◌≤◌, ◌⊎◌, ℕ, Bool, List, MatchBool, MatchOption, reverse, zip, bytes_eq, Option, Some, None, is_some, option_map, Ok, String}
+use Rattle.std.specs.Option.{option_flatten}
 use Rattle.std.specs.{HashMap.HashMap, HashMap.get_by, Map.lookup}
 use Rattle.std.specs.declared.alloc.Global.{Global}
 use Rattle.urlpattern_syntax.specs.declared.eight.{ComponentName.ComponentName, Eight.Eight}
@@ -8,6 +9,7 @@ use Rattle.urlpattern_init.specs.Inheritance.{texts_of_url}
 use Rattle.urlpattern_init.specs.declared.init.UrlPatternMatchInput.{UrlPatternMatchInput}
 use Rattle.urlpattern_init.specs.declared.init.UrlPatternMatchInput.TheVariants.{Init, Url as UrlInput}
 use Rattle.urlpattern_pattern.specs.declared.pattern.result.UrlPatternComponentResult.{UrlPatternComponentResult}
+use Rattle.urlpattern_pattern.specs.declared.pattern.result.UrlPatternResult.{UrlPatternResult}
 use Rattle.urlpattern_pattern.specs.MatchInput.{IsNoInput, input_bytes, input_texts}
 use Rattle.urlpattern_pattern.specs.Patterns.{PatternView}
 use Rattle.urlpattern_canonical.specs.Canonical.{long_text}
@@ -36,13 +38,21 @@ pub record ResultView : Type 0 where
 abbrev pub component_result_view : UrlPatternComponentResult → ResultView
 component_result_view result = record { input = text_of result.input; group = group_in result.groups }
 
--- a result for each component
-abbrev pub UrlPatternResult : Type 0
-UrlPatternResult = Eight UrlPatternComponentResult
+-- the result of each component
+abbrev pub results_of : UrlPatternResult → Eight UrlPatternComponentResult
+results_of result = record { protocol = result.protocol; username = result.username; password = result.password; hostname = result.hostname; port = result.port; pathname = result.pathname; search = result.search; hash = result.hash }
 
 -- the results, each as it is seen
 abbrev pub result_view : UrlPatternResult → ComponentName → ResultView
-result_view result name = component_result_view (at result name)
+result_view result name = component_result_view (at (results_of result) name)
+
+-- what the group of a name captured: None where there is no such group, or it took no part
+abbrev pub captured_text : ResultView → (name : List ℕ) → Option (List ℕ)
+captured_text result name = option_flatten (result.group name)
+
+-- whether the group of a name took part in the match: None where there is no such group
+abbrev pub took_part : ResultView → (name : List ℕ) → Option Bool
+took_part result name = option_map is_some (result.group name)
 
 -- The result of a component with groups of these names, which capture this of the text.
 pub record IsResultOf (names : List (List ℕ)) (captures : Captures) (text : List ℕ) (result : ResultView) : Type 0 where

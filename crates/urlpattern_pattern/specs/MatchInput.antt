@@ -1,5 +1,5 @@
 -- The texts of a match input, after the URLPattern Standard, section "Matching", at "perform a match".
-use Rattle.std.specs.Prelude.{ℕ, Ok}
+use Rattle.std.specs.Prelude.{ℕ, List, [], Ok}
 use Rattle.url.specs.Parser.{Parsed, and_then}
 use Rattle.urlpattern_init.specs.declared.init.UrlPatternMatchInput.{UrlPatternMatchInput}
 use Rattle.urlpattern_init.specs.declared.init.UrlPatternMatchInput.TheVariants.{Init, Url as UrlInput}
@@ -14,6 +14,10 @@ use Rattle.urlpattern_syntax.specs.Eight.{Texts, at, each}
 -- the texts that an input has
 abbrev pub texts_view : MatchInput → Texts
 texts_view input = each (λ name. text_of (at (matched_texts input) name))
+
+-- the eight texts of a path alone: the others are empty
+abbrev pub pathname_alone : (pathname : List ℕ) → Texts
+pathname_alone pathname = record (each (λ name. [])) { pathname = pathname }
 
 -- the eight texts of a match input: those of the URL, or those that the init results in
 abbrev pub input_texts : UrlPatternMatchInput → Parsed Texts

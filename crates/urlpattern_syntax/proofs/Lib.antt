@@ -15,6 +15,7 @@ pub mod ReaderLemmas
 pub mod BracedLemmas
 pub mod CharacterLemmas
 pub mod TextReadingLemmas
+pub mod StopLemmas
 pub mod NameCharacters
 pub mod NameSets
 pub mod GivenNameLemmas

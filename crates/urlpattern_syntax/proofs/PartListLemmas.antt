@@ -202,11 +202,11 @@ text_no_placeholder Regexp h = absurd (both_ways false refl h)
 text_no_placeholder Name h = absurd (both_ways false refl h)
 text_no_placeholder Asterisk h = absurd (both_ways false refl h)
 
-no_placeholder : (tokens : List TokenView) → BeginsWithKind is_text tokens → ¬ BeginsWithKind is_placeholder tokens
+pub no_placeholder : (tokens : List TokenView) → BeginsWithKind is_text tokens → ¬ BeginsWithKind is_placeholder tokens
 no_placeholder [] h g = g
 no_placeholder (token ∷ tokens) h g = both_ways (is_placeholder token.kind) (text_no_placeholder token.kind h) g
 
-row_goes_on : (row behind : List TokenView) → IsTrue (list_all (λ (token : TokenView). is_text token.kind) row) → BeginsWithKind is_text behind → BeginsWithKind is_text (row ++ behind)
+pub row_goes_on : (row behind : List TokenView) → IsTrue (list_all (λ (token : TokenView). is_text token.kind) row) → BeginsWithKind is_text behind → BeginsWithKind is_text (row ++ behind)
 row_goes_on [] behind h g = g
 row_goes_on (token ∷ row) behind h g = (and_parts _ _ h).0
 

@@ -12,6 +12,7 @@ pub mod Pieces
 pub mod Reading
 pub mod Refusals
 pub mod RegexpText
+pub mod Stops
 pub mod Text
 pub mod Tokens
 pub mod Writing

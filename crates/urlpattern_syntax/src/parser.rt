@@ -14,6 +14,7 @@ mod given_names;
 mod option_sets;
 mod part_list;
 mod pieces;
+mod stop;
 
 use crate::error::{Error, ParserError};
 use crate::escape::SegmentWildcard;
@@ -24,6 +25,7 @@ use pieces::{Matched, Next, Reader};
 use serde::{Deserialize, Serialize};
 use std::alloc::{AllocError, Global};
 use std::fmt;
+pub use stop::Stop;
 
 /// The regular expression of a full wildcard.
 ///

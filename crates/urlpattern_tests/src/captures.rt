@@ -8,11 +8,17 @@ use url::Url;
 use urlpattern::{ComponentName, Error, UrlPattern, UrlPatternCaptures};
 
 /// Compares the path that a match borrows, and its groups.
-fn expect_borrowed(rt: &impl Abort, found: &UrlPatternCaptures<'_>) {
+fn expect_borrowed(rt: &impl Abort, found: &UrlPatternCaptures<'_, '_>) {
     assert_eq!(rt; found.input(ComponentName::Pathname), "/a/b");
-    for (name, capture) in [("x", Some(Some("b"))), ("y", Some(None)), ("z", None)] {
+    let groups = [
+        ("x", Some("b"), Some(true)),
+        ("y", None, Some(false)),
+        ("z", None, None),
+    ];
+    for (name, capture, took_part) in groups {
         let group = found.get(ComponentName::Pathname, name);
         assert_eq!(rt; group, capture, "of {name:?}");
+        assert_eq!(rt; found.took_part(ComponentName::Pathname, name), took_part);
     }
 }
 

@@ -4,7 +4,7 @@ use crate::given::{Fields, pattern_of, url_input};
 use std::alloc::Global;
 use std::process::Abort;
 use std::test::Fail;
-use urlpattern::{Error, UrlPattern, UrlPatternComponentResult, UrlPatternResult};
+use urlpattern::{ComponentName, Error, UrlPattern, UrlPatternComponentResult, UrlPatternResult};
 
 /// The match of a URL by a pattern with these texts.
 fn found_by(alloc: Global, fields: Fields<'_>, url: &str) -> Result<UrlPatternResult, Fail> {
@@ -44,6 +44,8 @@ fn names_are_sorted(rt: HostRuntime) -> Result<(), Fail> {
     )?;
     let groups = [("a", Some("2")), ("b", Some("1")), ("c", None)];
     let outcome = expect_named(&rt, alloc, &found.pathname, &groups);
+    assert_eq!(rt; found.get(ComponentName::Pathname, "a"), Some("2"));
+    assert_eq!(rt; found.get(ComponentName::Search, "a"), None);
     drop(found);
     outcome?;
     Ok(())
@@ -51,7 +53,7 @@ fn names_are_sorted(rt: HostRuntime) -> Result<(), Fail> {
 
 /// Compares a result with its copy.
 fn expect_copied(rt: &impl Abort, found: &UrlPatternResult) -> Result<(), Error> {
-    let copy = found.clone()?;
+    let copy = UrlPatternResult::from_eight(found.clone()?.into_eight());
     assert!(rt; copy == *found);
     drop(copy);
     Ok(())

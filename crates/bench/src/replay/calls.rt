@@ -1,11 +1,13 @@
 //! Matches an input by the call that a question names.
 
 use super::{Case, given};
-use crate::recorded::{Fault, optional_text};
+use crate::recorded::{Fault, named, optional_text};
 use serde_json::Value;
 use std::alloc::Global;
+use url::Url;
 use urlpattern::quirks::{
-    StringOrInit, parse_match_input, process_construct_pattern_input, process_match_input,
+    MatchInput, StringOrInit, parse_match_input, process_construct_pattern_input,
+    process_match_input,
 };
 use urlpattern::regexp::RegExp;
 use urlpattern::{
@@ -32,92 +34,116 @@ pub enum Call {
     TestUrl,
 }
 
-impl Call {
-    /// The call that a question names, or `exec`.
-    pub fn of(question: &Value) -> Result<Call, Fault> {
-        Ok(match optional_text(question, "by") {
-            Some("exec") | None => Call::Exec,
-            Some("exec_url") => Call::ExecUrl,
-            Some("captures") => Call::Captures,
-            Some("captures_of_input") => Call::CapturesOfInput,
-            Some("exec_once") => Call::Once,
-            Some("test") => Call::Test,
-            Some("test_url") => Call::TestUrl,
-            Some(_) => return Err(Fault::NoCase),
-        })
-    }
+/// The calls by name.
+const CALLS: &[(&str, Call)] = &[
+    ("exec", Call::Exec),
+    ("exec_url", Call::ExecUrl),
+    ("captures", Call::Captures),
+    ("captures_of_input", Call::CapturesOfInput),
+    ("exec_once", Call::Once),
+    ("test", Call::Test),
+    ("test_url", Call::TestUrl),
+];
+
+/// The call that a question names, or `exec`.
+pub fn call_of(question: &Value) -> Result<Call, Fault> {
+    named(CALLS, optional_text(question, "by").unwrap_or("exec"))
 }
 
-/// The match of an input that a question gives. `None`: there is none.
-pub fn matched<R: RegExp>(
+/// What a call finds for an input that a question gives, or what stands for nothing where the input is none.
+pub fn found_for<T: Drop, F: Fn(UrlPatternMatchInput) -> Result<T, Error>>(
     alloc: Global,
-    pattern: &UrlPattern<R>,
-    call: Call,
     input: &Value,
-) -> Result<Result<Option<UrlPatternResult>, Error>, Fault> {
-    let (given, base) = given_with_base(alloc, input)?;
-    Ok(match process_match_input(alloc, given, base) {
+    nothing: T,
+    found: F,
+) -> Result<Result<T, Error>, Fault>
+    requires { F.IsAlwaysCallable found }
+{
+    let given = match given_with_base(alloc, input) {
+        Ok((given, base)) => process_match_input(alloc, given, base),
+        Err(fault) => {
+            drop(nothing);
+            return Err(fault);
+        }
+    };
+    Ok(match given {
         Ok(Some((input, kept))) => {
             drop(kept);
-            found_by(alloc, pattern, call, input)
+            drop(nothing);
+            found(input)
         }
-        Ok(None) => Ok(None),
-        Err(error) => Err(error),
+        Ok(None) => Ok(nothing),
+        Err(error) => {
+            drop(nothing);
+            Err(error)
+        }
     })
 }
 
-/// The match of an input by a call.
-fn found_by<R: RegExp>(
+/// What a call finds of an input that is a URL, and what stands for nothing for an init.
+pub fn found_of_url<T: Drop, F: Fn(&Url) -> Result<T, Error>>(
+    input: UrlPatternMatchInput,
+    nothing: T,
+    found: F,
+) -> Result<T, Error>
+    requires { F.IsAlwaysCallable found }
+{
+    let answer = match &input {
+        UrlPatternMatchInput::Url(url) => {
+            drop(nothing);
+            found(url)
+        }
+        UrlPatternMatchInput::Init(_) => Ok(nothing),
+    };
+    drop(input);
+    answer
+}
+
+/// What a call finds of the texts of an input. `None`: the input has none.
+pub fn found_of_texts<T: Drop, F: Fn(&MatchInput) -> Result<Option<T>, Error>>(
+    alloc: Global,
+    input: UrlPatternMatchInput,
+    found: F,
+) -> Result<Option<T>, Error>
+    requires { F.IsAlwaysCallable found }
+{
+    let texts = parse_match_input(alloc, input);
+    let answer = match &texts {
+        Ok(Some(texts)) => found(texts),
+        Ok(None) => Ok(None),
+        Err(_) => Err(Error::OutOfMemory),
+    };
+    drop(texts);
+    answer
+}
+
+/// The match of an input by a call. `None`: there is none.
+pub fn matched<R: RegExp>(
     alloc: Global,
     pattern: &UrlPattern<R>,
     call: Call,
     input: UrlPatternMatchInput,
 ) -> Result<Option<UrlPatternResult>, Error> {
     match call {
-        Call::ExecUrl | Call::Captures => found_in_url(alloc, pattern, call, input),
-        Call::CapturesOfInput => found_in_texts(alloc, pattern, input),
+        Call::ExecUrl => found_of_url(input, None, |url| pattern.exec_url(alloc, url)),
+        Call::Captures => found_of_url(
+            input,
+            None,
+            |url| copied(alloc, pattern.captures(alloc, url)),
+        ),
+        Call::CapturesOfInput => found_of_texts(
+            alloc,
+            input,
+            |texts| copied(alloc, pattern.captures_of_input(alloc, texts)),
+        ),
         _ => pattern.exec(alloc, input),
     }
-}
-
-/// The match of a URL by a call that borrows it.
-fn found_in_url<R: RegExp>(
-    alloc: Global,
-    pattern: &UrlPattern<R>,
-    call: Call,
-    input: UrlPatternMatchInput,
-) -> Result<Option<UrlPatternResult>, Error> {
-    let found = match &input {
-        UrlPatternMatchInput::Url(url) => match call {
-            Call::ExecUrl => pattern.exec_url(alloc, url),
-            _ => copied(alloc, pattern.captures(alloc, url)),
-        },
-        UrlPatternMatchInput::Init(_) => Ok(None),
-    };
-    drop(input);
-    found
-}
-
-/// The match of the texts of an input.
-fn found_in_texts<R: RegExp>(
-    alloc: Global,
-    pattern: &UrlPattern<R>,
-    input: UrlPatternMatchInput,
-) -> Result<Option<UrlPatternResult>, Error> {
-    let texts = parse_match_input(alloc, input);
-    let found = match &texts {
-        Ok(Some(texts)) => copied(alloc, pattern.captures_of_input(alloc, texts)),
-        Ok(None) => Ok(None),
-        Err(_) => Err(Error::OutOfMemory),
-    };
-    drop(texts);
-    found
 }
 
 /// An owned copy of a match that borrows. The error is that memory ran out.
 fn copied(
     alloc: Global,
-    found: Result<Option<UrlPatternCaptures<'_>>, Error>,
+    found: Result<Option<UrlPatternCaptures<'_, '_>>, Error>,
 ) -> Result<Option<UrlPatternResult>, Error> {
     let copy = match &found {
         Ok(Some(found)) => match found.to_result(alloc) {
@@ -131,40 +157,15 @@ fn copied(
     copy
 }
 
-/// Whether a pattern matches an input that a question gives, by a call that says no more.
+/// Whether a pattern matches an input, by a call that says no more.
 pub fn is_matched<R: RegExp>(
-    alloc: Global,
-    pattern: &UrlPattern<R>,
-    call: Call,
-    input: &Value,
-) -> Result<Result<bool, Error>, Fault> {
-    let (given, base) = given_with_base(alloc, input)?;
-    Ok(match process_match_input(alloc, given, base) {
-        Ok(Some((input, kept))) => {
-            drop(kept);
-            is_found_by(alloc, pattern, call, input)
-        }
-        Ok(None) => Ok(false),
-        Err(error) => Err(error),
-    })
-}
-
-/// Whether a pattern matches an input, by a call.
-fn is_found_by<R: RegExp>(
     alloc: Global,
     pattern: &UrlPattern<R>,
     call: Call,
     input: UrlPatternMatchInput,
 ) -> Result<bool, Error> {
     match call {
-        Call::TestUrl => {
-            let is_found = match &input {
-                UrlPatternMatchInput::Url(url) => pattern.test_url(alloc, url),
-                UrlPatternMatchInput::Init(_) => Ok(false),
-            };
-            drop(input);
-            is_found
-        }
+        Call::TestUrl => found_of_url(input, false, |url| pattern.test_url(alloc, url)),
         _ => pattern.test(alloc, input),
     }
 }

@@ -2,7 +2,7 @@
 
 use super::matchers::is_matcher;
 use super::{Case, succeeded};
-use crate::recorded::{Fault, has_text, has_texts, list, optional_text, options_of, text};
+use crate::recorded::{Fault, has_text, has_texts, list, named, optional_text, options_of, text};
 use serde_json::Value;
 use std::alloc::Global;
 use url::ParseError;
@@ -30,19 +30,16 @@ pub enum Callback {
     EmptyLineFeed,
 }
 
-impl Callback {
-    /// The callback that a question names.
-    fn of(question: &Value) -> Result<Callback, Fault> {
-        Ok(match optional_text(question, "callback") {
-            Some("keep") | None => Callback::Keep,
-            Some("empty") => Callback::Empty,
-            Some("double") => Callback::Double,
-            Some("refuse") => Callback::Refuse,
-            Some("empty_line_feed") => Callback::EmptyLineFeed,
-            Some(_) => return Err(Fault::NoCase),
-        })
-    }
+/// The callbacks by name.
+const CALLBACKS: &[(&str, Callback)] = &[
+    ("keep", Callback::Keep),
+    ("empty", Callback::Empty),
+    ("double", Callback::Double),
+    ("refuse", Callback::Refuse),
+    ("empty_line_feed", Callback::EmptyLineFeed),
+];
 
+impl Callback {
     /// What becomes of a text.
     fn encode(self, alloc: Global, text: &str) -> Result<String, Error> {
         match self {
@@ -58,7 +55,8 @@ impl Callback {
 
 /// Whether the parts of a pattern, and what is made of them, are the recorded ones.
 pub fn is_same(case: &Case<'_>) -> Result<bool, Fault> {
-    let callback = Callback::of(case.question)?;
+    let callback = optional_text(case.question, "callback").unwrap_or("keep");
+    let callback = named(CALLBACKS, callback)?;
     let pattern = text(case.question, "pattern")?;
     let options = options_of(case.alloc, case.question)?;
     let found = parts_of(case.alloc, pattern, &options, callback);

@@ -45,7 +45,7 @@ pub fn is_same_init(case: &Case<'_>) -> Result<bool, Fault> {
 
 /// Whether the components of an init are the recorded ones, null or missing where there is none.
 fn are_texts(init: &UrlPatternInit, recorded: &Value) -> bool {
-    ComponentName::all().iter().all(|&name| init.get(name).as_deref()
+    ComponentName::all().iter().all(|&name| init.get(name)
         == optional_text(recorded, name.as_str()))
 }
 

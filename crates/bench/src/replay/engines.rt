@@ -7,15 +7,17 @@ use std::alloc::Global;
 use urlpattern::error::{OutOfMemory, RegExpError};
 use urlpattern::regexp::RegExp;
 
-/// Whether the answers of this engine are the recorded ones.
+/// Whether the answers of this engine are the recorded ones, also of a value that is made to be kept.
 pub fn is_same<R: RegExp>(case: &Case<'_>) -> Result<bool, Fault> {
     let pattern = text(case.question, "pattern")?;
-    let found = R::parse(
-        case.alloc,
-        pattern,
-        "u",
-        is_set(case.question, "force_eval"),
-    );
+    let force_eval = is_set(case.question, "force_eval");
+    let asked = R::parse(case.alloc, pattern, "u", force_eval);
+    let kept = R::parse_to_keep(case.alloc, pattern, "u", force_eval);
+    Ok(is_same_value(case, asked)? && is_same_value(case, kept)?)
+}
+
+/// Whether what an engine made of the text is recorded.
+fn is_same_value<R: RegExp>(case: &Case<'_>, found: Result<R, RegExpError>) -> Result<bool, Fault> {
     let is_same = match (&found, case.answer) {
         (Err(RegExpError::OutOfMemory), _) => Err(Fault::OutOfMemory),
         (Ok(engine), Answer::Ok(recorded)) => is_engine(case, engine, recorded),

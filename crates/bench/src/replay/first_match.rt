@@ -1,11 +1,11 @@
 //! Builds the lists of patterns that were built when a case was recorded, and asks for the first match of the same inputs.
 
+use super::Case;
+use super::calls::{found_for, found_of_texts, found_of_url};
 use super::patterns::{are_same_components, built, is_same_error};
-use super::{Case, given};
-use crate::recorded::{Fault, list, optional_text};
+use crate::recorded::{Fault, list, named, optional_text};
 use serde_json::Value;
 use std::alloc::Global;
-use urlpattern::quirks::{parse_match_input, process_match_input};
 use urlpattern::regexp::RegExp;
 use urlpattern::{
     Error, UrlPattern, UrlPatternCaptures, UrlPatternList, UrlPatternMatchInput, UrlPatternResult,
@@ -25,17 +25,12 @@ enum Call {
     FirstCapturesOfInput,
 }
 
-impl Call {
-    /// The call that a question names, or `first_match`.
-    fn of(question: &Value) -> Result<Call, Fault> {
-        Ok(match optional_text(question, "by") {
-            Some("first_match") | None => Call::FirstMatch,
-            Some("first_captures") => Call::FirstCaptures,
-            Some("first_captures_of_input") => Call::FirstCapturesOfInput,
-            Some(_) => return Err(Fault::NoCase),
-        })
-    }
-}
+/// The calls by name.
+const CALLS: &[(&str, Call)] = &[
+    ("first_match", Call::FirstMatch),
+    ("first_captures", Call::FirstCaptures),
+    ("first_captures_of_input", Call::FirstCapturesOfInput),
+];
 
 /// Whether the first matches of the inputs in a list over this engine are what was recorded.
 pub fn is_same<R: RegExp>(case: &Case<'_>) -> Result<bool, Fault> {
@@ -66,7 +61,7 @@ fn add_patterns<R: RegExp>(
     fields: &[Value],
 ) -> Result<Result<(), Error>, Fault> {
     for fields in fields {
-        match pattern_of(alloc, fields)? {
+        match built(alloc, fields)? {
             Ok(pattern) => {
                 if patterns.push(pattern).is_err() {
                     return Err(Fault::OutOfMemory);
@@ -78,23 +73,16 @@ fn add_patterns<R: RegExp>(
     Ok(Ok(()))
 }
 
-/// The pattern of what a question gives.
-fn pattern_of<R: RegExp>(
-    alloc: Global,
-    fields: &Value,
-) -> Result<Result<UrlPattern<R>, Error>, Fault> {
-    let options = given::options(alloc, fields)?;
-    let input = given::input(alloc, fields)?;
-    Ok(built(alloc, input, optional_text(fields, "base"), options))
-}
-
 /// Whether what comes of each input of a question is the recorded result, by the call that the question names.
 fn has_same_results<R: RegExp>(
     case: &Case<'_>,
     patterns: &UrlPatternList<R>,
     recorded: &Value,
 ) -> Result<bool, Fault> {
-    let call = Call::of(case.question)?;
+    let call = named(
+        CALLS,
+        optional_text(case.question, "by").unwrap_or("first_match"),
+    )?;
     case.are_results(recorded, |input, expected| {
         let found = first_match(case.alloc, patterns, call, input)?;
         let is_same = is_same_result(case.alloc, &found, expected);
@@ -110,23 +98,18 @@ fn first_match<R: RegExp>(
     call: Call,
     input: &Value,
 ) -> Result<Result<First, Error>, Fault> {
-    let base = optional_text(input, "base");
-    let given = given::input(alloc, input)?;
-    Ok(match process_match_input(alloc, given, base) {
-        Ok(Some((input, inputs))) => {
-            drop(inputs);
-            found_by(alloc, patterns, call, input)
-        }
-        Ok(None) => Ok(None),
-        // Where answers were recorded, each pattern asked about the input anew, and an empty list did not.
-        Err(error) => {
-            if patterns.is_empty() && !matches!(error, Error::OutOfMemory) {
-                drop(error);
-                return Ok(Ok(None));
-            }
-            Err(error)
-        }
-    })
+    let found = found_for(
+        alloc,
+        input,
+        None,
+        |input| found_by(alloc, patterns, call, input),
+    )?;
+    // Where answers were recorded, each pattern looked at the input anew, and an empty list did not.
+    if patterns.is_empty() && !matches!(found, Err(Error::OutOfMemory)) {
+        drop(found);
+        return Ok(Ok(None));
+    }
+    Ok(found)
 }
 
 /// The first match of an input by a call.
@@ -138,45 +121,23 @@ fn found_by<R: RegExp>(
 ) -> Result<First, Error> {
     match call {
         Call::FirstMatch => patterns.first_match(alloc, input),
-        Call::FirstCaptures => found_in_url(alloc, patterns, input),
-        Call::FirstCapturesOfInput => found_in_texts(alloc, patterns, input),
+        Call::FirstCaptures => found_of_url(
+            input,
+            None,
+            |url| copied(alloc, patterns.first_captures(alloc, url)),
+        ),
+        Call::FirstCapturesOfInput => found_of_texts(
+            alloc,
+            input,
+            |texts| copied(alloc, patterns.first_captures_of_input(alloc, texts)),
+        ),
     }
-}
-
-/// The first match of a URL. There is none of an init.
-fn found_in_url<R: RegExp>(
-    alloc: Global,
-    patterns: &UrlPatternList<R>,
-    input: UrlPatternMatchInput,
-) -> Result<First, Error> {
-    let found = match &input {
-        UrlPatternMatchInput::Url(url) => copied(alloc, patterns.first_captures(alloc, url)),
-        UrlPatternMatchInput::Init(_) => Ok(None),
-    };
-    drop(input);
-    found
-}
-
-/// The first match of the texts of an input.
-fn found_in_texts<R: RegExp>(
-    alloc: Global,
-    patterns: &UrlPatternList<R>,
-    input: UrlPatternMatchInput,
-) -> Result<First, Error> {
-    let texts = parse_match_input(alloc, input);
-    let found = match &texts {
-        Ok(Some(texts)) => copied(alloc, patterns.first_captures_of_input(alloc, texts)),
-        Ok(None) => Ok(None),
-        Err(_) => Err(Error::OutOfMemory),
-    };
-    drop(texts);
-    found
 }
 
 /// An owned copy of a first match that borrows. The error is that memory ran out.
 fn copied(
     alloc: Global,
-    found: Result<Option<(usize, UrlPatternCaptures<'_>)>, Error>,
+    found: Result<Option<(usize, UrlPatternCaptures<'_, '_>)>, Error>,
 ) -> Result<First, Error> {
     let copy = match &found {
         Ok(Some((index, found))) => match found.to_result(alloc) {

@@ -5,10 +5,10 @@ use super::{Case, given, prints};
 use crate::recorded::{Fault, has_text, is_set, optional_text, text};
 use serde_json::Value;
 use std::alloc::Global;
-use urlpattern::quirks::{StringOrInit, parse_pattern_as_lib, process_construct_pattern_input};
+use urlpattern::quirks::{parse_pattern_as_lib, process_construct_pattern_input};
 use urlpattern::regexp::RegExp;
 use urlpattern::{
-    ComponentName, Error, UrlPattern, UrlPatternComponentResult, UrlPatternOptions,
+    ComponentName, Error, UrlPattern, UrlPatternComponentResult, UrlPatternInit, UrlPatternOptions,
     UrlPatternResult,
 };
 
@@ -23,42 +23,45 @@ pub fn is_same<R: RegExp>(case: &Case<'_>) -> Result<bool, Fault> {
 /// The pattern of a question, by the call that it names.
 fn built_through<R: RegExp>(case: &Case<'_>) -> Result<Result<UrlPattern<R>, Error>, Fault> {
     let (alloc, question) = (case.alloc, case.question);
-    let options = given::options(alloc, question)?;
-    let base = optional_text(question, "base");
     match optional_text(question, "through") {
         Some("from_constructor_string") => {
+            let options = given::options(alloc, question)?;
+            let base = optional_text(question, "base");
             let pattern = text(question, "string")?;
             Ok(UrlPattern::from_constructor_string(alloc, pattern, base, options))
         }
-        Some("parse_pattern_as_lib") => {
-            let input = given::input(alloc, question)?;
-            Ok(built_as_lib(alloc, input, base, options))
-        }
+        Some("parse_pattern_as_lib") => Ok(match init_of(alloc, question)? {
+            Ok((init, options)) => parse_pattern_as_lib(alloc, init, options),
+            Err(error) => Err(error),
+        }),
         Some(_) => Err(Fault::NoCase),
-        None => Ok(built(alloc, given::input(alloc, question)?, base, options)),
+        None => built(alloc, question),
     }
-}
-
-/// The pattern of what is given, by the call of `quirks`.
-fn built_as_lib<R: RegExp>(
-    alloc: Global,
-    input: StringOrInit<'_>,
-    base: Option<&str>,
-    options: UrlPatternOptions,
-) -> Result<UrlPattern<R>, Error> {
-    let init = process_construct_pattern_input(alloc, input, base)?;
-    parse_pattern_as_lib(alloc, init, options)
 }
 
 /// The pattern of what is given.
 pub fn built<R: RegExp>(
     alloc: Global,
-    input: StringOrInit<'_>,
-    base: Option<&str>,
-    options: UrlPatternOptions,
-) -> Result<UrlPattern<R>, Error> {
-    let init = process_construct_pattern_input(alloc, input, base)?;
-    UrlPattern::<R>::parse(alloc, init, options)
+    fields: &Value,
+) -> Result<Result<UrlPattern<R>, Error>, Fault> {
+    Ok(match init_of(alloc, fields)? {
+        Ok((init, options)) => UrlPattern::parse(alloc, init, options),
+        Err(error) => Err(error),
+    })
+}
+
+/// The init of what is given with its base, and the options.
+fn init_of(
+    alloc: Global,
+    fields: &Value,
+) -> Result<Result<(UrlPatternInit, UrlPatternOptions), Error>, Fault> {
+    let options = given::options(alloc, fields)?;
+    let input = given::input(alloc, fields)?;
+    let init = process_construct_pattern_input(alloc, input, optional_text(fields, "base"));
+    Ok(match init {
+        Ok(init) => Ok((init, options)),
+        Err(error) => Err(error),
+    })
 }
 
 /// Whether the texts of a pattern are the recorded ones.
@@ -84,19 +87,21 @@ fn has_same_results<R: RegExp>(
     if case.question.get("inputs").is_none() {
         return Ok(true);
     }
-    let call = Call::of(case.question)?;
+    let (alloc, call) = (case.alloc, calls::call_of(case.question)?);
     case.are_results(recorded, |input, expected| match call {
         Call::Once => {
             let found = calls::matched_once::<R>(case, input)?;
-            is_same_result(case.alloc, found, expected)
+            is_same_result(alloc, found, expected)
         }
         Call::Test | Call::TestUrl => {
-            let found = calls::is_matched(case.alloc, pattern, call, input)?;
-            is_same_test(case.alloc, found, expected)
+            let is_matched = |input| calls::is_matched(alloc, pattern, call, input);
+            let found = calls::found_for(alloc, input, false, is_matched)?;
+            is_same_test(alloc, found, expected)
         }
         _ => {
-            let found = calls::matched(case.alloc, pattern, call, input)?;
-            is_same_result(case.alloc, found, expected)
+            let matched = |input| calls::matched(alloc, pattern, call, input);
+            let found = calls::found_for(alloc, input, None, matched)?;
+            is_same_result(alloc, found, expected)
         }
     })
 }
@@ -142,7 +147,7 @@ pub fn is_same_error(alloc: Global, error: &Error, recorded: &Value) -> Result<b
 /// Whether the results of all components are the recorded ones.
 pub fn are_same_components(found: &UrlPatternResult, recorded: &Value) -> bool {
     ComponentName::all().iter().all(|&name| is_same_component(
-        found.get(name),
+        found.component(name),
         recorded,
         name.as_str(),
     ))

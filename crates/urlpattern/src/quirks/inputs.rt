@@ -133,22 +133,12 @@ fn copied_init(
 {
     let text = |name: ComponentName| -> Result<Option<String>, AllocError>
         ensures { IsCopyOfText (at (plain_values init.entry.now) name) result }
-    { copied(alloc, init.get(name)) };
+    { owned(alloc, init.get(name)) };
     let texts = Eight::try_from_fn(text)?;
     Ok(init::UrlPatternInit::from_eight(texts, base_url))
 }
 
 /// A copy of a text, if there is one.
-fn copied(alloc: Global, text: &Option<String>) -> Result<Option<String>, AllocError>
-    ensures { IsCopyOfText (option_map text_of text.now) result }
-{
-    match text {
-        Some(text) => Ok(Some(String::from_str(alloc, text)?)),
-        None => Ok(None),
-    }
-}
-
-/// A text of one's own, if there is one.
 fn owned(alloc: Global, text: Option<&str>) -> Result<Option<String>, AllocError>
     ensures { IsCopyOfText (option_text text.entry) result }
 {

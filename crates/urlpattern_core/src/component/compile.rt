@@ -2,15 +2,15 @@
 
 ghost use Rattle.std.specs.Prelude.{◌≡◌, IfErr, IfOk};
 ghost use Rattle.std.specs.Str.{chars};
-ghost use Rattle.urlpattern_core.specs.Components.{AnswersByItsParts, FailsToRead, IsCompiledFrom, IsComponentOf, IsWholeEngineOf, component_view, engine_flags, has_regexp, pattern_text};
+ghost use Rattle.urlpattern_core.specs.Components.{AnswersByItsParts, FailsToRead, IsCompiledFrom, IsComponentOf, IsEngineOf, IsWholeEngineOf, component_view, engine_flags, has_regexp, pattern_text};
 ghost use Rattle.urlpattern_core.specs.Matchers.{engine_view};
 ghost use Rattle.urlpattern_syntax.specs.{Errors.OnlyOutOfMemory, Options.options_view, Parts.parts_view, Reading.encoding_by};
 
-use super::matchers::{ask_engine, generate_matcher_knowing};
+use super::matchers::generate_matcher_knowing;
 use super::printed::generate_pattern_string;
 use super::regexp_text::generate_regular_expression;
 use super::{Component, generate_name_list};
-use crate::error::Error;
+use crate::error::{Error, RegExpError};
 use crate::parser::{Options, Part, PartType, RegexSyntax, parse_pattern_string};
 use crate::regexp::RegExp;
 use std::alloc::{AllocError, Global};
@@ -91,9 +91,25 @@ fn engine_of<R: RegExp>(
 ) -> Result<Result<R, Error>, AllocError>
     ensures { IfOk result (λ engine. IsWholeEngineOf R.RegExp has_regexp_group (chars flags.now) (chars regexp.now) (engine_view engine)) }
 {
-    let engine: Result<R, Error> = ask_engine(alloc, regexp, flags, false)?;
+    let engine: Result<R, Error> = kept_engine(alloc, regexp, flags, false)?;
     if has_regexp_group && engine.is_ok() && R::syntax() == RegexSyntax::EcmaScript {
-        return ask_engine(alloc, regexp, flags, true);
+        return kept_engine(alloc, regexp, flags, true);
     }
     Ok(engine)
+}
+
+/// The value that an engine makes of a text to keep it, or the error that it refuses the text.
+fn kept_engine<R: RegExp>(
+    alloc: Global,
+    regexp: &str,
+    flags: &str,
+    force_eval: bool,
+) -> Result<Result<R, Error>, AllocError>
+    ensures { IfOk result (λ engine. IsEngineOf R.RegExp force_eval (chars flags.now) (chars regexp.now) (engine_view engine)) }
+{
+    match R::parse_to_keep(alloc, regexp, flags, force_eval) {
+        Ok(engine) => Ok(Ok(engine)),
+        Err(RegExpError::Pattern) => Ok(Err(Error::RegExp(()))),
+        Err(RegExpError::OutOfMemory) => Err(AllocError),
+    }
 }

@@ -190,7 +190,7 @@ fn engine_matcher<R: RegExp>(
 }
 
 /// The value that an engine makes of a text, or the error that it refuses the text.
-pub(crate) fn ask_engine<R: RegExp>(
+fn ask_engine<R: RegExp>(
     alloc: Global,
     regexp: &str,
     flags: &str,

@@ -7,7 +7,7 @@ ghost use Rattle.urlpattern_syntax.specs.declared.eight.ComponentName.{Component
 ghost use Rattle.urlpattern_pattern.specs.declared.pattern.captures.Missed.TheVariants as all_missed;
 ghost use Rattle.urlpattern_pattern.specs.BorrowedMatches.{pattern_captures_view, groups_view};
 ghost use Rattle.urlpattern_pattern.specs.Calls.{IsCapturedOf, captures_of, texts_of, HasNoGroups, IsWithoutGroups};
-ghost use Rattle.urlpattern_pattern.specs.Match.{component_result_view, group_of, result_view, IsSameResult};
+ghost use Rattle.urlpattern_pattern.specs.Match.{captured_text, component_result_view, group_of, result_view, took_part, IsSameResult};
 ghost use Rattle.urlpattern_syntax.specs.Text.{option_text};
 ghost use Rattle.urlpattern_syntax.specs.Errors.{OnlyOutOfMemory};
 ghost use Rattle.urlpattern_syntax.specs.Eight.{at};
@@ -22,22 +22,25 @@ use urlpattern_core::matcher::Look;
 use urlpattern_core::regexp::RegExp;
 use urlpattern_syntax::eight::{ComponentName, Eight};
 
-/// The groups of a component in their order: each name, with what the group captures. `None`: the group took no part.
-pub type UrlPatternGroups<'c, 'a> = Zip<slice::Iter<'c, String>, slice::Iter<'c, Option<&'a str>>>;
+/// The groups of a component in their order: each name, with what the group captured. `None`: the group took no part.
+pub type UrlPatternGroups<'c, 'p, 'u> = Zip<
+    slice::Iter<'p, String>,
+    slice::Iter<'c, Option<&'u str>>,
+>;
 
-/// A match whose texts, names and captures are borrowed from the pattern and from what it matches.
+/// A match whose names are borrowed from the pattern, and whose texts and captures from what it matches.
 ///
-/// `UrlPattern::captures` answers it.
-pub struct UrlPatternCaptures<'a> {
+/// `UrlPattern::captures` returns it.
+pub struct UrlPatternCaptures<'p, 'u> {
     /// The names of the groups.
-    pub(super) names: Eight<&'a Vec<String>>,
+    pub(super) names: Eight<&'p Vec<String>>,
     /// The texts that are matched.
-    pub(super) texts: Eight<&'a str>,
+    pub(super) texts: Eight<&'u str>,
     /// What the groups capture of each text.
-    pub(super) captures: Eight<GroupCaptures<'a>>,
+    pub(super) captures: Eight<GroupCaptures<'u>>,
 }
 
-impl Drop for UrlPatternCaptures<'_> {
+impl Drop for UrlPatternCaptures<'_, '_> {
     /// Drops the lists of captures. Where a match goes out of scope, the prover handles one call in place of eight lists.
     fn drop(self) {
         let Self {
@@ -48,37 +51,51 @@ impl Drop for UrlPatternCaptures<'_> {
     }
 }
 
-impl<'a> UrlPatternCaptures<'a> {
+impl<'p, 'u> UrlPatternCaptures<'p, 'u> {
     /// The text of a component, which was matched.
-    pub fn input(&self, name: ComponentName) -> &'a str
-        ensures { chars result.now ≡ (pattern_captures_view self.now name).input }
+    pub fn input(&self, component: ComponentName) -> &'u str
+        ensures { chars result.now ≡ (pattern_captures_view self.now component).input }
     {
-        self.texts.get(name)
+        self.texts.get(component)
     }
 
-    /// What a group of a component captures. `None`: there is no group of this name. `Some(None)`: the group took no part. Of
-    /// equal names the last counts.
-    pub fn get(&self, name: ComponentName, group: &str) -> Option<Option<&'a str>>
-        ensures { option_map option_text result ≡ (pattern_captures_view self.now name).group (chars group.now) }
+    /// What the group of a name captured, a slice of the component's text. `None`: there is no such group, or it took no part.
+    /// Of equal names the last counts.
+    pub fn get(&self, component: ComponentName, name: &str) -> Option<&'u str>
+        ensures { option_text result ≡ captured_text (pattern_captures_view self.now component) (chars name.now) }
+    {
+        self.group(component, name).flatten()
+    }
+
+    /// Whether the group of a name took part in the match. `None`: there is no such group. Of equal names the last counts.
+    pub fn took_part(&self, component: ComponentName, name: &str) -> Option<bool>
+        ensures { result ≡ took_part (pattern_captures_view self.now component) (chars name.now) }
+    {
+        self.group(component, name).map(|capture| capture.is_some())
+    }
+
+    /// What the group of a name captured, if it took part. `None`: there is no such group.
+    fn group(&self, component: ComponentName, name: &str) -> Option<Option<&'u str>>
+        ensures { option_map option_text result ≡ (pattern_captures_view self.now component).group (chars name.now) }
     {
         group_named(
-            self.names.get(name),
-            self.captures.get(name).as_slice(),
-            group,
+            self.names.get(component),
+            self.captures.get(component).as_slice(),
+            name,
         )
     }
 
     /// The groups of a component, in their order.
-    pub fn groups(&self, name: ComponentName) -> UrlPatternGroups<'_, 'a>
-        ensures { zip (texts_of (iter_rest (zip_first result))) (map option_text (iter_rest (zip_second result))) ≡ groups_view self.now name }
+    pub fn groups(&self, component: ComponentName) -> UrlPatternGroups<'_, 'p, 'u>
+        ensures { zip (texts_of (iter_rest (zip_first result))) (map option_text (iter_rest (zip_second result))) ≡ groups_view self.now component }
     {
         self.names
-            .get(name)
+            .get(component)
             .iter()
-            .zip(self.captures.get(name).as_slice())
+            .zip(self.captures.get(component).as_slice())
     }
 
-    /// The match with copies of its texts, names and captures, as `UrlPattern::exec` answers it.
+    /// The match with copies of its texts, names and captures, as `UrlPattern::exec` returns it.
     ///
     /// The error is that memory ran out.
     #[inline(always)]
@@ -126,11 +143,11 @@ impl<'a> UrlPatternCaptures<'a> {
 }
 
 /// What the group of this name captures, where names and captures are in the same order. Of equal names the last counts.
-fn group_named<'a>(
+fn group_named<'u>(
     names: &[String],
-    captures: &[Option<&'a str>],
+    captures: &[Option<&'u str>],
     group: &str,
-) -> Option<Option<&'a str>>
+) -> Option<Option<&'u str>>
     ensures { option_map option_text result ≡ group_of (texts_of names.now) (map option_text captures.now) (chars group.now) }
 {
     let mut found = None;
@@ -161,19 +178,19 @@ impl From<OutOfMemory> for Missed {
 
 /// What the groups of a component capture of its text.
 #[derive(Drop)]
-pub(crate) enum GroupCaptures<'a> {
+pub(crate) enum GroupCaptures<'u> {
     /// There are no groups.
     Nothing,
     /// There is one group.
-    One(Option<&'a str>),
-    /// An engine answered this.
-    Groups(Vec<Option<&'a str>>),
+    One(Option<&'u str>),
+    /// An engine returned this.
+    Groups(Vec<Option<&'u str>>),
 }
 
-impl<'a> GroupCaptures<'a> {
+impl<'u> GroupCaptures<'u> {
     /// What a look at a text results in, once an engine is asked that has to be.
     #[inline(always)]
-    pub(super) fn of_look<R: RegExp>(alloc: Global, look: Look<'_, 'a, R>) -> Result<Self, Missed>
+    pub(super) fn of_look<R: RegExp>(alloc: Global, look: Look<'_, 'u, R>) -> Result<Self, Missed>
         ensures { IsCapturedOf R.answer look.entry result }
     {
         match look {
@@ -187,7 +204,7 @@ impl<'a> GroupCaptures<'a> {
     }
 
     /// The captures in their order.
-    fn as_slice(&self) -> &[Option<&'a str>]
+    fn as_slice(&self) -> &[Option<&'u str>]
         ensures { map option_text result.now ≡ captures_of self.now }
     {
         match self {

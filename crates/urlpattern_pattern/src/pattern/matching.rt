@@ -45,7 +45,7 @@ impl<R: RegExp> UrlPattern<R> {
         match input {
             UrlPatternMatchInput::Url(url) => self.test_url(alloc, &url),
             input => match parse_match_input(alloc, input)? {
-                Some(texts) => Ok(self.is_matched(alloc, input_texts(&texts))?),
+                Some(texts) => Ok(self.is_matched(alloc, &input_texts(&texts))?),
                 None => Ok(false),
             },
         }
@@ -75,7 +75,7 @@ impl<R: RegExp> UrlPattern<R> {
         }
     }
 
-    /// Whether the pattern matches a URL, as `test` answers it.
+    /// Whether the pattern matches a URL, as `test` returns it.
     ///
     /// The error is that memory ran out. Only an engine allocates.
     pub fn test_url(&self, alloc: Global, url: &Url) -> Result<bool, Error>
@@ -83,10 +83,10 @@ impl<R: RegExp> UrlPattern<R> {
         ensures memory { OnlyOutOfMemory result }
         ensures asked { IfErr result (λ _. AsksAnEngine R.answer (pattern_view self.now) (texts_of_url url.now)) }
     {
-        Ok(self.is_matched(alloc, url_texts(url))?)
+        Ok(self.is_matched(alloc, &url_texts(url))?)
     }
 
-    /// What the groups capture of a URL, as `exec` answers it. `None`: the pattern does not match the URL.
+    /// What the groups capture of a URL, as `exec` returns it. `None`: the pattern does not match the URL.
     ///
     /// The error is that memory ran out. An engine allocates, and the copy of a match.
     pub fn exec_url(&self, alloc: Global, url: &Url) -> Result<Option<UrlPatternResult>, Error>
@@ -102,11 +102,11 @@ impl<R: RegExp> UrlPattern<R> {
     /// The error is that memory ran out. Only an engine allocates.
     ///
     /// <https://urlpattern.spec.whatwg.org/#url-pattern-match>
-    pub fn captures<'a>(
-        &'a self,
+    pub fn captures<'p, 'u>(
+        &'p self,
         alloc: Global,
-        url: &'a Url,
-    ) -> Result<Option<UrlPatternCaptures<'a>>, Error>
+        url: &'u Url,
+    ) -> Result<Option<UrlPatternCaptures<'p, 'u>>, Error>
         ensures matched { IfOk result (FindsInInput pattern_captures_view R.answer (pattern_view self.now) (inputs.Url url.now)) }
         ensures groups { IfMatch result (λ found. AreGroupsInOrder R.answer (pattern_view self.now) (texts_of_url url.now) (groups_view found)) }
         ensures memory { OnlyOutOfMemory result }
@@ -121,17 +121,46 @@ impl<R: RegExp> UrlPattern<R> {
     /// Of an init, or of what a browser gives, `parse_match_input` makes such an input.
     ///
     /// The error is that memory ran out. Only an engine allocates.
-    pub fn captures_of_input<'a>(
-        &'a self,
+    pub fn captures_of_input<'p, 'u>(
+        &'p self,
         alloc: Global,
-        input: &'a MatchInput,
-    ) -> Result<Option<UrlPatternCaptures<'a>>, Error>
+        input: &'u MatchInput,
+    ) -> Result<Option<UrlPatternCaptures<'p, 'u>>, Error>
         ensures matched { IfOk result (FindsInTexts pattern_captures_view R.answer (pattern_view self.now) (texts_view input.now)) }
         ensures groups { IfMatch result (λ found. AreGroupsInOrder R.answer (pattern_view self.now) (texts_view input.now) (groups_view found)) }
         ensures memory { OnlyOutOfMemory result }
         ensures asked { IfErr result (λ _. AsksAnEngine R.answer (pattern_view self.now) (texts_view input.now)) }
     {
         Ok(captures_of_texts(alloc, self, &input_texts(input))?)
+    }
+
+    /// Whether the pattern matches eight texts, as they are. `url_texts` borrows those of a URL, and `pathname_texts` those of a
+    /// path alone.
+    ///
+    /// The error is that memory ran out. Only an engine allocates.
+    pub fn test_texts(&self, alloc: Global, texts: &Eight<&str>) -> Result<bool, Error>
+        ensures matched { IfOk result (TestsTexts R.answer (pattern_view self.now) (borrowed_texts texts.now)) }
+        ensures memory { OnlyOutOfMemory result }
+        ensures asked { IfErr result (λ _. AsksAnEngine R.answer (pattern_view self.now) (borrowed_texts texts.now)) }
+    {
+        Ok(self.is_matched(alloc, texts)?)
+    }
+
+    /// The match of eight texts, as they are, borrowed from the pattern and from what has the texts. `None`: the pattern does not
+    /// match them. `url_texts` borrows those of a URL, and `pathname_texts` those of a path alone.
+    ///
+    /// The error is that memory ran out. Only an engine allocates.
+    pub fn captures_of_texts<'p, 'u>(
+        &'p self,
+        alloc: Global,
+        texts: &Eight<&'u str>,
+    ) -> Result<Option<UrlPatternCaptures<'p, 'u>>, Error>
+        ensures matched { IfOk result (FindsInTexts pattern_captures_view R.answer (pattern_view self.now) (borrowed_texts texts.now)) }
+        ensures groups { IfMatch result (λ found. AreGroupsInOrder R.answer (pattern_view self.now) (borrowed_texts texts.now) (groups_view found)) }
+        ensures memory { OnlyOutOfMemory result }
+        ensures asked { IfErr result (λ _. AsksAnEngine R.answer (pattern_view self.now) (borrowed_texts texts.now)) }
+    {
+        Ok(captures_of_texts(alloc, self, texts)?)
     }
 
     /// The match of these texts, copied. `None`: one of them is not matched.
@@ -154,19 +183,19 @@ impl<R: RegExp> UrlPattern<R> {
     }
 
     /// Whether these texts are matched.
-    fn is_matched(&self, alloc: Global, texts: Eight<&str>) -> Result<bool, OutOfMemory>
-        ensures matched { IfOk result (TestsTexts R.answer (pattern_view self.now) (borrowed_texts texts.entry)) }
-        ensures asked { IfErr result (λ _. AsksAnEngine R.answer (pattern_view self.now) (borrowed_texts texts.entry)) }
+    fn is_matched(&self, alloc: Global, texts: &Eight<&str>) -> Result<bool, OutOfMemory>
+        ensures matched { IfOk result (TestsTexts R.answer (pattern_view self.now) (borrowed_texts texts.now)) }
+        ensures asked { IfErr result (λ _. AsksAnEngine R.answer (pattern_view self.now) (borrowed_texts texts.now)) }
     {
-        Ok(self.captured(alloc, &texts)?.is_some())
+        Ok(self.captured(alloc, texts)?.is_some())
     }
 
     /// The match of texts of which the groups capture this.
-    fn with_captures<'a>(
-        &'a self,
-        texts: &Eight<&'a str>,
-        captures: Eight<GroupCaptures<'a>>,
-    ) -> UrlPatternCaptures<'a>
+    fn with_captures<'p, 'u>(
+        &'p self,
+        texts: &Eight<&'u str>,
+        captures: Eight<GroupCaptures<'u>>,
+    ) -> UrlPatternCaptures<'p, 'u>
         ensures matched { HasCaptures (pattern_view self.now) (borrowed_texts texts.now) captures.entry (pattern_captures_view result) }
         ensures groups { (name : Name) → groups_view result name ≡ zip (pattern_view self.now name).group_name_list (all_captures captures.entry name) }
     {
@@ -182,7 +211,7 @@ impl<R: RegExp> UrlPattern<R> {
 
     /// What the components see in their texts, before an engine is asked. `None`: one of them does not match.
     #[inline(always)]
-    fn look<'a>(&'a self, texts: &Eight<&'a str>) -> Option<Eight<Look<'a, 'a, R>>>
+    fn look<'p, 'u>(&'p self, texts: &Eight<&'u str>) -> Option<Eight<Look<'p, 'u, R>>>
         ensures some { IfSome result (AreLooks R.answer (pattern_view self.now) (borrowed_texts texts.now)) }
         ensures none { IfNone result (IsRefused R.answer (pattern_view self.now) (borrowed_texts texts.now)) }
         ensures asked { IfSome result (AskWithCause (pattern_view self.now) (borrowed_texts texts.now)) }
@@ -203,11 +232,11 @@ impl<R: RegExp> UrlPattern<R> {
     /// What the groups capture of these texts. `None`: one of the texts is not matched.
     ///
     /// Only an engine allocates.
-    fn captured<'a>(
-        &'a self,
+    fn captured<'u>(
+        &self,
         alloc: Global,
-        texts: &Eight<&'a str>,
-    ) -> Result<Option<Eight<GroupCaptures<'a>>>, OutOfMemory>
+        texts: &Eight<&'u str>,
+    ) -> Result<Option<Eight<GroupCaptures<'u>>>, OutOfMemory>
         ensures refused { IfOk result (λ found. IfNone found (IsRefused R.answer (pattern_view self.now) (borrowed_texts texts.now))) }
         ensures answers { IfOk result (λ found. IfSome found (λ captures.
             AreAnswers R.answer (pattern_view self.now) (borrowed_texts texts.now) (all_captures captures))) }
@@ -223,11 +252,11 @@ impl<R: RegExp> UrlPattern<R> {
 /// The match of eight texts, borrowed from the pattern and from what has the texts. `None`: one of them is not matched.
 ///
 /// Only an engine allocates.
-pub fn captures_of_texts<'a, R: RegExp>(
+pub fn captures_of_texts<'p, 'u, R: RegExp>(
     alloc: Global,
-    pattern: &'a UrlPattern<R>,
-    texts: &Eight<&'a str>,
-) -> Result<Option<UrlPatternCaptures<'a>>, OutOfMemory>
+    pattern: &'p UrlPattern<R>,
+    texts: &Eight<&'u str>,
+) -> Result<Option<UrlPatternCaptures<'p, 'u>>, OutOfMemory>
     ensures matched { IfOk result (FindsInTexts pattern_captures_view R.answer (pattern_view pattern.now) (borrowed_texts texts.now)) }
     ensures groups { IfMatch result (λ found. AreGroupsInOrder R.answer (pattern_view pattern.now) (borrowed_texts texts.now) (groups_view found)) }
     ensures asked { IfErr result (λ _. AsksAnEngine R.answer (pattern_view pattern.now) (borrowed_texts texts.now)) }
@@ -239,10 +268,10 @@ pub fn captures_of_texts<'a, R: RegExp>(
 }
 
 /// What eight looks capture. `None`: an engine that is asked does not match.
-fn captures_of_looks<'a, R: RegExp>(
+fn captures_of_looks<'u, R: RegExp>(
     alloc: Global,
-    looks: Eight<Look<'a, 'a, R>>,
-) -> Result<Option<Eight<GroupCaptures<'a>>>, OutOfMemory>
+    looks: Eight<Look<'_, 'u, R>>,
+) -> Result<Option<Eight<GroupCaptures<'u>>>, OutOfMemory>
     ensures some { IfOk result (λ found. IfSome found (AreCaptured R.answer looks.entry)) }
     ensures none { IfOk result (λ found. IfNone found ((name : Name) × (look_answer R.answer (Some (at looks.entry name)) ≡ None))) }
     ensures asked { IfErr result (λ _. (name : Name) × IsAsking (at looks.entry name)) }

@@ -146,7 +146,7 @@ fn is_ipv6_pattern(pattern: &str) -> bool
 fn pattern_of(values: &UrlPatternInit, component: ComponentName) -> Option<&str>
     ensures { pattern_text result ≡ pattern_of (values_view values.now) component }
 {
-    values.get(component).as_deref()
+    values.get(component)
 }
 
 /// The component of a pattern text. A regular expression that the engine refuses is an error.

@@ -2,10 +2,11 @@
 ghost use Rattle.std.specs.Cmp.Lexicographic.{slice_cmp};
 ghost use Rattle.std.specs.HashMap.{IsUnique, get_by_text, keys};
 ghost use Rattle.std.specs.Ordering.{nat_cmp};
-ghost use Rattle.std.specs.Prelude.{◌≡◌, None, map, option_copied, string_bytes, string_eq, unwrap_or, IfOk, IsPermutation, IsSorted};
+ghost use Rattle.std.specs.Prelude.{◌≡◌, map, option_copied, string_bytes, string_eq, IfOk, IsPermutation, IsSorted};
 ghost use Rattle.std.specs.Str.{chars};
 ghost use Rattle.urlpattern_pattern.specs.Calls.{captured_bytes, lent_bytes, texts_of, AreGroups, HasNoGroups, IsWithoutGroups};
-ghost use Rattle.urlpattern_pattern.specs.Match.{component_result_view};
+ghost use Rattle.urlpattern_pattern.specs.Match.{captured_text, component_result_view, result_view, results_of};
+ghost use Rattle.urlpattern_syntax.specs.Eight.{at};
 ghost use Rattle.urlpattern_syntax.specs.Text.{text_of, option_text};
 
 use super::groups::{Groups, add_groups};
@@ -13,11 +14,30 @@ use std::alloc::{AllocError, Global};
 use std::collections::HashMap;
 use urlpattern_core::error::OutOfMemory;
 use urlpattern_syntax::eight::{ComponentName, Eight};
+use urlpattern_syntax::{field_of, with_fields};
 
 /// The result of a match, for each component.
 ///
 /// <https://urlpattern.spec.whatwg.org/#dictdef-urlpatternresult>
-pub type UrlPatternResult = Eight<UrlPatternComponentResult>;
+#[derive(Debug, Clone, PartialEq, Eq, Drop)]
+pub struct UrlPatternResult {
+    /// The result of the scheme.
+    pub protocol: UrlPatternComponentResult,
+    /// The result of the user name.
+    pub username: UrlPatternComponentResult,
+    /// The result of the password.
+    pub password: UrlPatternComponentResult,
+    /// The result of the host.
+    pub hostname: UrlPatternComponentResult,
+    /// The result of the port.
+    pub port: UrlPatternComponentResult,
+    /// The result of the path.
+    pub pathname: UrlPatternComponentResult,
+    /// The result of the query.
+    pub search: UrlPatternComponentResult,
+    /// The result of the fragment.
+    pub hash: UrlPatternComponentResult,
+}
 
 /// The result of a match for one component.
 ///
@@ -34,16 +54,52 @@ pub struct UrlPatternComponentResult {
 pub(crate) fn empty_result(alloc: Global) -> UrlPatternResult
     ensures { IsWithoutGroups result }
 {
-    let empty = |_name: ComponentName| -> UrlPatternComponentResult
-        ensures { HasNoGroups result.groups }
-    { UrlPatternComponentResult::empty(alloc) };
-    Eight::from_fn(empty)
+    UrlPatternResult {
+        protocol: UrlPatternComponentResult::empty(alloc),
+        username: UrlPatternComponentResult::empty(alloc),
+        password: UrlPatternComponentResult::empty(alloc),
+        hostname: UrlPatternComponentResult::empty(alloc),
+        port: UrlPatternComponentResult::empty(alloc),
+        pathname: UrlPatternComponentResult::empty(alloc),
+        search: UrlPatternComponentResult::empty(alloc),
+        hash: UrlPatternComponentResult::empty(alloc),
+    }
+}
+
+impl UrlPatternResult {
+    /// The result of these components.
+    pub fn from_eight(components: Eight<UrlPatternComponentResult>) -> Self
+        ensures { results_of result ≡ components }
+    {
+        with_fields!(Self, components)
+    }
+
+    /// The results of the components.
+    pub fn into_eight(self) -> Eight<UrlPatternComponentResult>
+        ensures { result ≡ results_of self }
+    {
+        with_fields!(Eight, self)
+    }
+
+    /// The result of a component.
+    pub fn component(&self, component: ComponentName) -> &UrlPatternComponentResult
+        ensures { result.now ≡ at (results_of self.now) component }
+    {
+        field_of!(self, component)
+    }
+
+    /// What the group of a name captured. `None`: there is no such group, or it took no part.
+    pub fn get(&self, component: ComponentName, name: &str) -> Option<&str>
+        ensures { option_text result ≡ captured_text (result_view self.now component) (chars name.now) }
+    {
+        self.component(component).get(name)
+    }
 }
 
 impl UrlPatternComponentResult {
     /// What the group of a name captured. `None`: there is no such group, or it took no part.
     pub fn get(&self, name: &str) -> Option<&str>
-        ensures { option_text result ≡ unwrap_or ((component_result_view self.now).group (chars name.now)) None }
+        ensures { option_text result ≡ captured_text (component_result_view self.now) (chars name.now) }
     {
         capture_of(&self.groups, name)
     }

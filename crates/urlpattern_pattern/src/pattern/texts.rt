@@ -3,7 +3,7 @@ ghost use Rattle.std.specs.Prelude.{◌≡◌, IfOk};
 ghost use Rattle.std.specs.Str.{chars};
 ghost use Rattle.urlpattern_init.specs.Inheritance as inherited;
 ghost use Rattle.urlpattern_init.specs.Inheritance.{texts_of_url};
-ghost use Rattle.urlpattern_pattern.specs.MatchInput.{texts_view};
+ghost use Rattle.urlpattern_pattern.specs.MatchInput.{pathname_alone, texts_view};
 ghost use Rattle.urlpattern_pattern.specs.Calls.{borrowed_texts, IsTextCopied};
 ghost use Rattle.urlpattern_syntax.specs.Eight.{at};
 
@@ -13,7 +13,7 @@ use urlpattern_init::url_text;
 use urlpattern_inputs::MatchInput;
 use urlpattern_syntax::eight::{ComponentName, Eight};
 
-/// The texts of a URL.
+/// The eight texts of a URL, borrowed: what it has for each component, without the marks between them.
 pub fn url_texts(url: &Url) -> Eight<&str>
     ensures { borrowed_texts result ≡ texts_of_url url.now }
 {
@@ -21,6 +21,22 @@ pub fn url_texts(url: &Url) -> Eight<&str>
         ensures { chars result.now ≡ inherited.url_text name url.entry.now }
     { url_text(url, name) };
     Eight::from_fn(text)
+}
+
+/// The eight texts of a path alone: the others are empty. The path is not made canonical.
+pub fn pathname_texts(pathname: &str) -> Eight<&str>
+    ensures { borrowed_texts result ≡ pathname_alone (chars pathname.now) }
+{
+    Eight {
+        protocol: "",
+        username: "",
+        password: "",
+        hostname: "",
+        port: "",
+        pathname,
+        search: "",
+        hash: "",
+    }
 }
 
 /// The texts of an input that has its own.

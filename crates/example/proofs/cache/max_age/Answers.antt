@@ -8,8 +8,8 @@ use Rattle.urlpattern.specs.BorrowedMatches.{pattern_captures_view}
 use Rattle.urlpattern.specs.FirstMatch.{FirstView, IsFirstMatch, patterns_view}
 use Rattle.urlpattern.specs.PartMeaning.{Captures}
 use Rattle.urlpattern.specs.Patterns.{PatternView, pattern_view}
-use Rattle.urlpattern_init.specs.declared.init.UrlPatternMatchInput.{UrlPatternMatchInput}
-use Rattle.urlpattern_init.specs.declared.init.UrlPatternMatchInput.TheVariants as inputs
+use Rattle.urlpattern.specs.UrlPatternMatchInput.{UrlPatternMatchInput}
+use Rattle.urlpattern.specs.UrlPatternMatchInput.TheVariants as inputs
 use Rattle.example.proofs.cache.max_age.Goals as goal
 
 -- what stands at the index of the first match is the rule

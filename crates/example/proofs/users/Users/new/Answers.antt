@@ -4,8 +4,8 @@ use Rattle.example.proofs.users.Users.new.Goals as goal
 use Rattle.urlpattern.proofs.UsersExample.{default_asked}
 use Rattle.urlpattern.specs.FromString.{IsPatternOfText}
 use Rattle.urlpattern.specs.Patterns.{pattern_view}
-use Rattle.urlpattern_engine.specs.PatternRegexps.{pattern_engine}
-use Rattle.urlpattern_inputs.specs.declared.options.UrlPatternOptions.{UrlPatternOptions}
+use Rattle.urlpattern.specs.PatternRegexps.{pattern_engine}
+use Rattle.urlpattern.specs.UrlPatternOptions.{UrlPatternOptions}
 
 pub invariant_of-result : goal.invariant_of-result
 invariant_of-result c =

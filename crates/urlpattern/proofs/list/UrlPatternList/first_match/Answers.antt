@@ -3,7 +3,8 @@ use Rattle.std.specs.Prelude.{◌≡◌, IfErr, Ok}
 use Rattle.urlpattern.proofs.ListLemmas.{first-of_texts}
 use Rattle.urlpattern_pattern.specs.Calls.{borrowed_texts}
 use Rattle.urlpattern.specs.FirstMatch.{CopiesFirstMatch, patterns_view}
-use Rattle.urlpattern_pattern.specs.Match.{result_view, UrlPatternResult}
+use Rattle.urlpattern_pattern.specs.Match.{result_view}
+use Rattle.urlpattern_pattern.specs.declared.pattern.result.UrlPatternResult.{UrlPatternResult}
 use Rattle.urlpattern_pattern.specs.MatchInput.{input_texts}
 use Rattle.urlpattern_syntax.specs.Eight.{Texts}
 use Rattle.urlpattern.proofs.list.UrlPatternList.first_match.Goals as goal

@@ -3,7 +3,7 @@ use Rattle.std.specs.Prelude.{IfOk}
 use Rattle.std.specs.Str.{chars}
 use Rattle.urlpattern_core.specs.CaptureTexts.{captures_view}
 use Rattle.urlpattern_core.specs.Regexes.{regex_answer}
-use Rattle.urlpattern_engine.specs.Automatons.{automaton_answer}
+use Rattle.urlpattern_engine.specs.Automatons.{automaton_answer, names_of, tree_answer}
 use Rattle.urlpattern_engine.specs.PatternRegexps.{expression_answer, pattern_answer}
 use Rattle.urlpattern_engine.specs.Walk.{walk}
 use Rattle.urlpattern_engine.proofs.pattern_regexp.PatternRegexpRegExp.matches.Goals as goal
@@ -21,6 +21,13 @@ returns-in-Compiled c =
     let text = chars c.args.text.now in
     subst (λ e. IfOk c.matches.result (λ found. captures_view found ≡ expression_answer c.args.self.now.ignore_case e text)) (sym c.in-Compiled.is)
     (subst (λ a. IfOk c.matches.result (λ found. captures_view found ≡ automaton_answer a.nfa text)) c.deref-in-Compiled.ensures c.matches.ensures)
+
+pub returns-in-Kept : goal.returns-in-Kept
+unfolding pattern_answer
+returns-in-Kept c =
+    let text = chars c.args.text.now in
+    subst (λ e. IfOk c.matches-in-Kept.result (λ found. captures_view found ≡ expression_answer c.args.self.now.ignore_case e text)) (sym c.in-Kept.is)
+    (subst (λ k. IfOk c.matches-in-Kept.result (λ found. captures_view found ≡ tree_answer k.hir (names_of k.names.items) text)) c.deref-in-Kept.ensures c.matches-in-Kept.ensures)
 
 pub returns-in-Other : goal.returns-in-Other
 unfolding pattern_answer

@@ -3,7 +3,8 @@ use Rattle.std.specs.Prelude.{IfErr, Ok}
 use Rattle.urlpattern_init.specs.declared.init.UrlPatternMatchInput.TheVariants.{Url}
 use Rattle.urlpattern_pattern.proofs.MatchSteps.{found-of_texts}
 use Rattle.urlpattern_pattern.specs.Calls.{borrowed_texts}
-use Rattle.urlpattern_pattern.specs.Match.{CopiesMatch, result_view, UrlPatternResult}
+use Rattle.urlpattern_pattern.specs.Match.{CopiesMatch, result_view}
+use Rattle.urlpattern_pattern.specs.declared.pattern.result.UrlPatternResult.{UrlPatternResult}
 use Rattle.urlpattern_pattern.specs.Patterns.{pattern_view}
 use Rattle.urlpattern_syntax.specs.Eight.{Texts}
 use Rattle.urlpattern_pattern.proofs.pattern.UrlPattern.exec_url.Goals as goal

@@ -8,6 +8,6 @@ pub returns-clause-matched : goal.returns-clause-matched
 returns-clause-matched g c =
     let answer = g.R.RegExp.answer in
     let pattern = pattern_view c.args.self.now in
-    let texts = borrowed_texts c.args.texts in
+    let texts = borrowed_texts c.args.texts.now in
     reports-some (λ captures. AreAnswers answer pattern texts (all_captures captures)) (AreMatched answer pattern texts) (IsRefused answer pattern texts) _ _
     c.is_some.ensures (λ captures answers name. (all_captures captures name, answers name)) c.in_ok-captured.ensures.answers c.in_ok-captured.ensures.refused

@@ -1,0 +1,35 @@
+//! A server that has a path and no URL.
+
+ghost use Rattle.example.specs.NamedUsers.{NamesNoneByPath, NamesUserByPath};
+ghost use Rattle.std.specs.Prelude.{IfNone, IfOk, IfSome, Some};
+ghost use Rattle.std.specs.Str.{chars};
+ghost use Rattle.urlpattern.specs.Errors.{OnlyOutOfMemory};
+ghost use Rattle.urlpattern.specs.Patterns.{pattern_view};
+
+use std::alloc::Global;
+use urlpattern::regexp::RegExp;
+use urlpattern::{ComponentName, Error, UrlPattern, pathname_texts};
+
+/// The name of the group that has the user.
+const ID: &str = "id";
+
+/// The user that a path names, borrowed from the path: what the group `id` captures. `None`: the pattern of users does not match
+/// the path, whose other components are empty, or the group takes no part in the match.
+///
+/// The error is that memory ran out.
+pub fn user<'u, R: RegExp>(
+    alloc: Global,
+    users: &UrlPattern<R>,
+    path: &'u str,
+) -> Result<Option<&'u str>, Error>
+    ensures some { IfOk result (λ found. IfSome found (λ id. NamesUserByPath R.answer (pattern_view users.now) (chars path.now) (Some (chars id.now)))) }
+    ensures none { IfOk result (λ found. IfNone found (NamesNoneByPath R.answer (pattern_view users.now) (chars path.now))) }
+    ensures memory { OnlyOutOfMemory result }
+{
+    // docs: path
+    let Some(found) = users.captures_of_texts(alloc, &pathname_texts(path))? else {
+        return Ok(None);
+    };
+    Ok(found.get(ComponentName::Pathname, ID))
+    // docs: end
+}

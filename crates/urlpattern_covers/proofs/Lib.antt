@@ -1,0 +1,3 @@
+pub mod StateSets
+pub mod CharacterClasses
+pub mod PairLemmas

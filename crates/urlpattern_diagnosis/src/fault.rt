@@ -1,0 +1,151 @@
+//! Where the pattern text of a component is at fault.
+ghost use Rattle.std.specs.Prelude.{◌≡◌, ℕ, IfOk, IfSome, None, filter, map};
+ghost use Rattle.std.specs.Str.{chars};
+ghost use Rattle.urlpattern_diagnosis.specs.Faults.{IsFaultIn, IsFaultOf, IsParserFault, IsSecondFault, IsSpanOfToken, IsStopFault, IsWholeFault, gives_name, marks_len};
+ghost use Rattle.urlpattern_diagnosis.specs.Spans.{IsSpanIn};
+ghost use Rattle.urlpattern_syntax.specs.Tokens.{AreTokens, token_view};
+
+use crate::span::Span;
+use std::alloc::Global;
+use urlpattern_syntax::error::{Error, OutOfMemory, ParserError};
+use urlpattern_syntax::parser::Stop;
+use urlpattern_syntax::tokenizer::{Token, TokenType, TokenizePolicy, tokenize};
+
+/// Where a text is at fault.
+#[derive(Debug, Clone, Copy, PartialEq, Eq)]
+pub struct Fault {
+    /// The part at fault.
+    pub span: Span,
+    /// The part before it that it is at odds with: the first of two equal names, or the brace of a group that lacks its end.
+    pub earlier: Option<Span>,
+}
+
+impl Fault {
+    /// A whole text.
+    pub fn whole(text: &str) -> Self
+        ensures whole { IsWholeFault text.now result }
+        ensures within { IsFaultIn text.now result }
+    {
+        Fault {
+            span: Span::whole(text),
+            earlier: None,
+        }
+    }
+}
+
+/// Where the pattern text of a component is at fault, by the error with which it is refused under this prefix code point.
+///
+/// The error is that memory ran out.
+pub fn fault_of(
+    alloc: Global,
+    text: &str,
+    prefix_code_point: &str,
+    error: &Error,
+) -> Result<Fault, OutOfMemory>
+    ensures fault { IfOk result (IsFaultOf text.now (chars prefix_code_point.now) error.now) }
+    ensures within { IfOk result (IsFaultIn text.now) }
+{
+    let stop = match Stop::of(alloc, text, prefix_code_point) {
+        Ok(stop) => stop,
+        Err(Error::Tokenizer(_, place)) => {
+            return Ok(Fault {
+                span: Span::at(text, place, 1),
+                earlier: None,
+            });
+        }
+        Err(_) => return Err(OutOfMemory),
+    };
+    match error {
+        Error::Parser(error) => parser_fault(alloc, text, &stop, error),
+        _ => Ok(Fault::whole(text)),
+    }
+}
+
+/// The fault of a text whose tokens are no pattern, where this is the stop of its pieces.
+fn parser_fault(
+    alloc: Global,
+    text: &str,
+    stop: &Stop<'_>,
+    error: &ParserError,
+) -> Result<Fault, OutOfMemory>
+    ensures fault { IfOk result (IsParserFault text.now stop.now error.now) }
+    ensures within { IfOk result (IsFaultIn text.now) }
+{
+    match error {
+        ParserError::ExpectedToken(_, _, _) => Ok(stop_fault(text, stop)),
+        ParserError::DuplicateName(name) => {
+            let Ok(tokens) = tokenize(alloc, text, TokenizePolicy::Strict) else {
+                return Err(OutOfMemory);
+            };
+            Ok(second_fault(text, &tokens, name))
+        }
+    }
+}
+
+/// The token at which the pieces end, and the brace of a group that lacks its end.
+fn stop_fault(text: &str, stop: &Stop<'_>) -> Fault
+    ensures fault { IsStopFault text.now stop.now result }
+    ensures within { IsFaultIn text.now result }
+{
+    let span = span_of(text, stop.found);
+    if stop.first.index == stop.found.index {
+        return Fault {
+            span,
+            earlier: None,
+        };
+    }
+    Fault {
+        span,
+        earlier: Some(span_of(text, stop.first)),
+    }
+}
+
+/// The second of the tokens that give a name, and the first.
+fn second_fault(text: &str, tokens: &[Token<'_>], name: &str) -> Fault
+    ensures fault { IsSecondFault text.now (filter (gives_name name.now) tokens.now) result }
+    ensures within { IsFaultIn text.now result }
+{
+    let mut first = None;
+    for token in tokens {
+        if gives_name(token, name) {
+            let span = span_of(text, *token);
+            match first {
+                Some(earlier) => {
+                    return Fault {
+                        span,
+                        earlier: Some(earlier),
+                    };
+                }
+                None => first = Some(span),
+            }
+        }
+    }
+    Fault::whole(text)
+}
+
+/// Whether a token gives this name.
+fn gives_name(token: &Token<'_>, name: &str) -> bool
+    ensures { result ≡ gives_name name.now token.now }
+{
+    matches!(token.kind, TokenType::Name) && token.value == name
+}
+
+/// The span of a token's spelling.
+fn span_of(text: &str, token: Token<'_>) -> Span
+    ensures span { IsSpanOfToken text.now token.entry result }
+    ensures within { IsSpanIn text.now result }
+{
+    let len = token.value.len() + marks_len(token.kind);
+    Span::at(text, token.index, len)
+}
+
+/// How many bytes of a token's spelling are none of its value.
+fn marks_len(kind: TokenType) -> usize
+    ensures { result ≡ marks_len kind }
+{
+    match kind {
+        TokenType::Name | TokenType::EscapedChar => 1,
+        TokenType::Regexp => 2,
+        _ => 0,
+    }
+}

@@ -1,0 +1,52 @@
+//! Why a pattern does not match: the first component that does not match its text.
+ghost use Rattle.std.specs.Prelude.{IfErr, IfOk};
+ghost use Rattle.urlpattern_init.specs.Inheritance.{texts_of_url};
+ghost use Rattle.urlpattern_pattern.specs.Calls.{borrowed_texts};
+ghost use Rattle.urlpattern_pattern.specs.Mismatch.{AsksInTurn, FindsMismatch};
+ghost use Rattle.urlpattern_pattern.specs.Patterns.{pattern_view};
+ghost use Rattle.urlpattern_syntax.specs.Errors.{OnlyOutOfMemory};
+
+use super::UrlPattern;
+use super::texts::url_texts;
+use std::alloc::Global;
+use url::Url;
+use urlpattern_core::Error;
+use urlpattern_core::regexp::RegExp;
+use urlpattern_syntax::eight::{ComponentName, Eight};
+
+impl<R: RegExp> UrlPattern<R> {
+    /// The first component that does not match its text of a URL, in the order protocol, user name, password, hostname, port,
+    /// pathname, search, hash. `None`: the pattern matches the URL.
+    ///
+    /// The error is that memory ran out. Only an engine allocates, and none is asked after the component that is returned.
+    ///
+    /// <https://urlpattern.spec.whatwg.org/#url-pattern-match>
+    pub fn mismatch(&self, alloc: Global, url: &Url) -> Result<Option<ComponentName>, Error>
+        ensures first { IfOk result (FindsMismatch R.answer (pattern_view self.now) (texts_of_url url.now)) }
+        ensures memory { OnlyOutOfMemory result }
+        ensures asked { IfErr result (λ _. AsksInTurn R.answer (pattern_view self.now) (texts_of_url url.now)) }
+    {
+        self.mismatch_of_texts(alloc, &url_texts(url))
+    }
+
+    /// The first component that does not match its text of these eight, in the order of `mismatch`. `None`: the pattern matches
+    /// them.
+    ///
+    /// The error is that memory ran out. Only an engine allocates, and none is asked after the component that is returned.
+    pub fn mismatch_of_texts(
+        &self,
+        alloc: Global,
+        texts: &Eight<&str>,
+    ) -> Result<Option<ComponentName>, Error>
+        ensures first { IfOk result (FindsMismatch R.answer (pattern_view self.now) (borrowed_texts texts.now)) }
+        ensures memory { OnlyOutOfMemory result }
+        ensures asked { IfErr result (λ _. AsksInTurn R.answer (pattern_view self.now) (borrowed_texts texts.now)) }
+    {
+        for &name in ComponentName::all() {
+            if !self.get(name).matcher.accepts(alloc, texts.get(name))? {
+                return Ok(Some(name));
+            }
+        }
+        Ok(None)
+    }
+}

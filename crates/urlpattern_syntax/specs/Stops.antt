@@ -1,0 +1,23 @@
+-- Where the pieces of a text end, after the URLPattern Standard, section "Parsing pattern strings".
+use Rattle.std.specs.Prelude.{◌≡◌, ℕ, List, ◌∷◌, ◌++◌}
+use Rattle.urlpattern_syntax.specs.Pieces.{ArePieces, Ending, IsEnding, LacksClose, Piece, Stops}
+use Rattle.urlpattern_syntax.specs.Tokens.{AreTokens, TokenView}
+
+-- the token before which pieces end
+abbrev pub found_in : Ending → TokenView
+found_in (Stops found) = found
+found_in (LacksClose found) = found
+
+-- The pieces of the text end before `found`. The first token that none of them takes is `first`: the same one, or the
+-- brace of the group that lacks its end.
+pub record IsStopOf (text point : List ℕ) (first found : TokenView) : Type 0 where
+  pub tokens : List TokenView
+  pub front : List TokenView
+  pub more : List TokenView
+  pub pieces : List Piece
+  pub ending : Ending
+  pub are_tokens : AreTokens text tokens
+  pub cut : tokens ≡ front ++ first ∷ more
+  pub are_pieces : ArePieces point tokens pieces ending
+  pub is_ending : IsEnding (first ∷ more) ending
+  pub is_found : found ≡ found_in ending
