@@ -1,6 +1,7 @@
 pub mod Addresses
 pub mod FixedLemmas
 pub mod ListLemmas
+pub mod PatternMapLemmas
 pub mod InputLemmas
 pub mod EcmaMatchers
 pub mod RegexGroups

@@ -71,5 +71,6 @@ pub mod FirstMatch
 pub mod Inputs
 pub mod PatternLaws
 pub mod PatternKeys
+pub mod PatternMaps
 pub mod Quirks
 pub mod Theorem

@@ -8,11 +8,13 @@
 
 pub mod laws;
 mod list;
+mod map;
 pub mod quirks;
 pub mod regexp;
 pub mod theorem;
 
 pub use list::UrlPatternList;
+pub use map::{UrlPatternMap, UrlPatternMapIter};
 pub use urlpattern_canonical::canonicalize_and_process;
 pub use urlpattern_core::{Error, RegexSyntax, component, error, matcher, parser, tokenizer};
 pub use urlpattern_init::{UrlPatternInit, UrlPatternMatchInput};

@@ -65,6 +65,19 @@ impl<R: RegExp> UrlPatternList<R> {
         }
     }
 
+    /// An empty list with room for so many patterns.
+    ///
+    /// The error is that memory ran out.
+    pub fn with_capacity(alloc: Global, capacity: usize) -> Result<Self, Error>
+        ensures empty { IfOk result (λ list. list ≡ []) }
+        ensures memory { OnlyOutOfMemory result }
+    {
+        Ok(Self {
+            patterns: Vec::with_capacity(alloc, capacity)?,
+            index: Index::new(alloc),
+        })
+    }
+
     /// Appends a pattern.
     ///
     /// Where memory runs out, the error is the pattern again, and the list is as it was.
@@ -82,6 +95,20 @@ impl<R: RegExp> UrlPatternList<R> {
         match self.patterns.push(pattern) {
             Ok(()) => Ok(()),
             Err(_) => unreachable!(),
+        }
+    }
+
+    /// Appends a pattern.
+    ///
+    /// The error is that memory ran out. The pattern is then dropped, and the list is as it was.
+    pub fn try_push(&mut self, pattern: UrlPattern<R>) -> Result<(), Error>
+        ensures appended { OnOk result (self.new ≡ self.old ++ pattern ∷ []) }
+        ensures unchanged { OnErr result (self.new ≡ self.old) }
+        ensures memory { OnlyOutOfMemory result }
+    {
+        match self.push(pattern) {
+            Ok(()) => Ok(()),
+            Err(_) => Err(Error::OutOfMemory),
         }
     }
 
@@ -216,5 +243,17 @@ impl<R: RegExp> UrlPatternList<R> {
             from = index + 1;
         }
         Ok(None)
+    }
+}
+
+impl<'a, R: RegExp> IntoIterator for &'a UrlPatternList<R> {
+    type Item = &'a UrlPattern<R>;
+
+    type IntoIter = slice::Iter<'a, UrlPattern<R>>;
+
+    ghost into_iter_gives = { λ list patterns. (iter_rest patterns ≡ list.now) × IterYieldsInOrder (UrlPattern R) };
+
+    fn into_iter(self) -> slice::Iter<'a, UrlPattern<R>> {
+        self.iter()
     }
 }

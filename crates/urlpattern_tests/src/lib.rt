@@ -11,6 +11,8 @@ mod hand_built;
 #[cfg(test)]
 mod lists;
 #[cfg(test)]
+mod maps;
+#[cfg(test)]
 mod mismatch;
 #[cfg(test)]
 mod parts;

@@ -1,0 +1,40 @@
+-- Lemmas on keys beside values, as patterns are in a map.
+use Rattle.std.proofs.Common.{◌≡◌, ◌<◌, ◌∙◌, ℕ, zero, suc, List, [], ◌∷◌, ◌++◌, length, arith, refl, ap, map, sym}
+use Rattle.std.specs.Prelude.{OnErr, Option, None, Some, Result, Ok, Err, option_map, slice_get, zip}
+
+module _ {K T : Type 0} where
+  pub length-pairs : (keys : List K) (values : List T) → length values ≡ length keys → length (zip keys values) ≡ length keys
+  length-pairs [] values same = refl
+  length-pairs (key ∷ keys) [] same = absurd (omega arith)
+  length-pairs (key ∷ keys) (value ∷ values) same = ap suc (length-pairs keys values (omega arith))
+
+  -- the pair at an index
+  pub pair_at : (keys : List K) (values : List T) (index : ℕ) (key : K) (value : T) → slice_get keys index ≡ Some key → slice_get values index ≡ Some value
+      → slice_get (zip keys values) index ≡ Some (key, value)
+  pair_at [] values index key value is_key is_value = absurd cc
+  pair_at (first ∷ keys) [] index key value is_key is_value = absurd cc
+  pair_at (first ∷ keys) (other ∷ values) zero key value is_key is_value =
+      ap (option_map (λ k. (k, other))) is_key ∙ ap (option_map (λ v. (key, v))) is_value
+  pair_at (first ∷ keys) (other ∷ values) (suc index) key value is_key is_value = pair_at keys values index key value is_key is_value
+
+  pub no_pair_at : (keys : List K) (values : List T) (index : ℕ) → slice_get keys index ≡ None → slice_get (zip keys values) index ≡ None
+  no_pair_at [] values index none = refl
+  no_pair_at (first ∷ keys) [] index none = refl
+  no_pair_at (first ∷ keys) (other ∷ values) zero none = absurd cc
+  no_pair_at (first ∷ keys) (other ∷ values) (suc index) none = no_pair_at keys values index none
+
+  -- one pair more
+  pub pairs-append : (keys : List K) (values : List T) (key : K) (value : T) → length values ≡ length keys
+      → zip (keys ++ key ∷ []) (values ++ value ∷ []) ≡ zip keys values ++ (key, value) ∷ []
+  pairs-append [] [] key value same = refl
+  pairs-append [] (other ∷ values) key value same = absurd (omega arith)
+  pairs-append (first ∷ keys) [] key value same = absurd (omega arith)
+  pairs-append (first ∷ keys) (other ∷ values) key value same = ap (λ pairs. (first, other) ∷ pairs) (pairs-append keys values key value (omega arith))
+
+pub length-mapped : {A B : Type 0} (f : A → B) (xs : List A) → length (map f xs) ≡ length xs
+length-mapped f [] = refl
+length-mapped f (x ∷ xs) = ap suc (length-mapped f xs)
+
+pub on_err : {A B : Type 0} (P : Type 0) (result : Result A B) → P → OnErr result P
+on_err P (Ok value) p = tt
+on_err P (Err error) p = p
