@@ -21,4 +21,4 @@ abbrev pub ValuesAnswerAsRead : {E : Type 0} → Engine E → (AreSuch : (flags 
 ValuesAnswerAsRead {E} engine AreSuch =
     (regexp flags : List ℕ) (value : E) → AreSuch flags → engine.IsMade value regexp flags
     → IfSome (read default_config regexp) (λ (pattern, names).
-        (text : List ℕ) → IsTrue (all_scalars text) → engine.answer value text ≡ re_answer pattern.value (length names) text)
+    (text : List ℕ) → IsTrue (all_scalars text) → engine.answer value text ≡ re_answer pattern.value (length names) text)
