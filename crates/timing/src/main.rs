@@ -1,4 +1,4 @@
-//! Times the library's calls (`time FILE ..`), draws times that standard input gives (`chart`), and asks questions that are made
+//! Times the library's calls (`time FILE ..`) and lookups among routes (`routes FILE`), draws times that standard input gives (`chart`), and asks questions that are made
 //! by a seed, on which calls have to agree (`questions SEED COUNT`).
 #![tactic(auto)]
 
@@ -12,6 +12,9 @@ use std::{env, io};
 
 /// The word that asks for times.
 const TIME: &str = "time";
+
+/// The word that asks for times of lookups among routes.
+const ROUTES: &str = "routes";
 
 /// The word that asks for a picture of times.
 const CHART: &str = "chart";
@@ -45,6 +48,10 @@ fn run(rt: &HostRuntime) -> io::Result<bool> {
     match words.as_slice() {
         [command, paths @ ..] if command.as_str() == TIME => {
             timing::run(rt, paths, &mut rt.stdout())?;
+            Ok(true)
+        }
+        [command, path] if command.as_str() == ROUTES => {
+            timing::run_routes(rt, path, &mut rt.stdout())?;
             Ok(true)
         }
         [command] if command.as_str() == CHART => {

@@ -3,5 +3,6 @@ pub mod Failed
 pub mod Taken
 pub mod Table
 pub mod ReadSteps
+pub mod OutlineSteps
 pub mod Automatons
 pub mod PatternRegexps
