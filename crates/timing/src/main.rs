@@ -1,5 +1,5 @@
 //! Times the library's calls (`time FILE ..`) and lookups among routes (`routes FILE`), draws times that standard input gives (`chart`), and asks questions that are made
-//! by a seed, on which calls have to agree (`questions SEED COUNT`).
+//! by a seed, on which calls have to agree (`questions SEED COUNT`, and `lists SEED COUNT` for those on lists).
 #![tactic(auto)]
 
 mod calls;
@@ -21,6 +21,9 @@ const CHART: &str = "chart";
 
 /// The word that asks for questions.
 const QUESTIONS: &str = "questions";
+
+/// The word that asks for questions on lists alone.
+const LISTS: &str = "lists";
 
 /// The status of a run in which nothing differs.
 const SAME: u8 = 0;
@@ -61,6 +64,10 @@ fn run(rt: &HostRuntime) -> io::Result<bool> {
         [command, seed, count] if command.as_str() == QUESTIONS => {
             let (seed, count) = (number(seed)?, number(count)?);
             questions::run(rt.alloc(), seed, count, &mut rt.stdout())
+        }
+        [command, seed, count] if command.as_str() == LISTS => {
+            let (seed, count) = (number(seed)?, number(count)?);
+            questions::run_lists(rt.alloc(), seed, count, &mut rt.stdout())
         }
         _ => Err(io::Error::from(io::ErrorKind::InvalidInput)),
     }
