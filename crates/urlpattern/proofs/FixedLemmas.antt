@@ -6,10 +6,10 @@ use Rattle.std.proofs.lemmas.List.Edits.{length-remove}
 use Rattle.std.proofs.lemmas.Option.{same_Some, slice_get-get_or, slice_get_within}
 use Rattle.std.proofs.lemmas.Slice.Eq.{bytes_eq-Decides}
 use Rattle.std.specs.List.{remove}
-use Rattle.std.specs.Prelude.{All, Option, None, Some, bytes_eq, slice_get}
+use Rattle.std.specs.Prelude.{All, Err, IfOk, Ok, Option, None, Result, Some, bytes_eq, slice_get}
 use Rattle.urlpattern_core.specs.declared.outline.OutlineItem.{OutlineItem}
 use Rattle.urlpattern_core.specs.declared.outline.OutlineItem.TheVariants.{Character}
-use Rattle.urlpattern_core.specs.Outlines.{HasOutline}
+use Rattle.urlpattern_core.specs.Outlines.{HasOutline, IsTextFor}
 use Rattle.urlpattern_index.specs.FixedTexts.{FixedTexts, HasTexts, IsText}
 use Rattle.urlpattern_index.specs.Keys.{Hashes, form_key, hashes_of}
 use Rattle.urlpattern_index.specs.Listed.{Appends, Finds, Listing}
@@ -177,13 +177,11 @@ characters-outline [] = refl
 characters-outline (c ∷ text) = (c ∷ [], text, refl, refl, characters-outline text)
 
 -- one more character that is read
-pub characters-more : (items old : List OutlineItem) (text : List ℕ) (index c : ℕ) → (index < length text) × (c ≡ get_or text index c) → items ≡ old ++ characters (take index text)
-    → items ++ Character c ∷ [] ≡ old ++ characters (take (index + 1) text)
-characters-more items old text index c is_next are =
-    ap (λ i. i ++ Character c ∷ []) are ∙ append_assoc old (characters (take index text)) (Character c ∷ [])
-    ∙ ap (λ more. old ++ more) (sym (
-      ap characters (take_more text index c is_next.0 ∙ ap (λ x. take index text ++ x ∷ []) (sym is_next.1))
-      ∙ map-append (λ c. Character c) (take index text) (c ∷ [])))
+pub characters-more : (items : List OutlineItem) (text : List ℕ) (index c : ℕ) → (index < length text) × (c ≡ get_or text index c) → items ≡ characters (take index text)
+    → items ++ Character c ∷ [] ≡ characters (take (index + 1) text)
+characters-more items text index c is_next are =
+    ap (λ i. i ++ Character c ∷ []) are
+    ∙ sym (ap characters (take_more text index c is_next.0 ∙ ap (λ x. take index text ++ x ∷ []) (sym is_next.1)) ∙ map-append (λ c. Character c) (take index text) (c ∷ []))
 
 -- the outlines of two texts are one of both together
 outline-append : (xs ys : List OutlineItem) (text other : List ℕ) → HasOutline xs text → HasOutline ys other → HasOutline (xs ++ ys) (text ++ other)
@@ -203,3 +201,18 @@ matched-outline answer matcher inner kept is_inner text (captures, middle, (fron
     let between : HasOutline inner middle = is_inner middle captures (subst (λ ignore_case. Accepts answer ignore_case matcher.inner middle captures) kept accepts) in
     subst (HasOutline ((characters matcher.prefix ++ inner) ++ characters matcher.suffix)) (sym cut)
     (outline-append (characters matcher.prefix ++ inner) (characters matcher.suffix) (front ++ middle) back (outline-append (characters matcher.prefix) inner front middle begins between) ends)
+
+-- the outline of a text that is the same as a literal
+pub literal-outline : (literal text : List ℕ) (items : List OutlineItem) → items ≡ characters literal → text ≡ literal → HasOutline items text
+literal-outline literal text items are same = subst (λ i. HasOutline i text) (sym are) (subst (HasOutline (characters literal)) (sym same) (characters-outline literal))
+
+-- the outline of one run
+pub item-outline : (item : OutlineItem) (text : List ℕ) (items : List OutlineItem) → items ≡ item ∷ [] → IsTextFor item text → HasOutline items text
+item-outline item text items are is = subst (λ i. HasOutline i text) (sym are) (text, [], sym (append-nil text), is, refl)
+
+-- ---- results
+
+-- what is true of a result is true in a weaker form
+pub ok-weaker : {X F : Type 0} (P Q : X → Type 0) → (result : Result X F) → IfOk result P → ((x : X) → P x → Q x) → IfOk result Q
+ok-weaker P Q (Ok x) is to = to x is
+ok-weaker P Q (Err error) is to = tt

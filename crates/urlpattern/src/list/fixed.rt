@@ -1,9 +1,9 @@
 //! What is fixed of the texts that a pattern matches.
-ghost use Rattle.std.specs.Prelude.{◌≡◌, ◌++◌, ℕ, false, List, IfOk, OnOk};
+ghost use Rattle.std.specs.Prelude.{◌≡◌, ◌++◌, ◌∷◌, [], ℕ, false, List, IfOk};
 ghost use Rattle.std.specs.Str.{chars};
 ghost use Rattle.urlpattern_core.specs.Matchers.{inner_view, matcher_view};
 ghost use Rattle.urlpattern_core.specs.Outlines.{HasOutline};
-ghost use Rattle.urlpattern_meaning.specs.Matching.{Accepts, IsMatched};
+ghost use Rattle.urlpattern_meaning.specs.Matching.{Accepts, IsMatched, PassesFilter};
 ghost use Rattle.urlpattern_meaning.specs.PartMeaning.{Captures};
 ghost use Rattle.urlpattern.specs.PatternKeys.{IsFixedText, characters};
 ghost use Rattle.urlpattern_syntax.specs.Text.{option_text};
@@ -43,14 +43,27 @@ pub(super) fn outline_of<R: RegExp>(
     ensures { IfOk result (λ outline. (text : List ℕ) → IsMatched R.answer (matcher_view matcher.now) text → HasOutline outline.items text) }
 {
     if matcher.ignore_case {
-        return Ok(vec![in alloc; OutlineItem::Anything]?);
+        return any_outline(alloc);
     }
-    let mut outline = Vec::new(alloc);
-    add_characters(&mut outline, &matcher.prefix)?;
-    let mut inner = inner_outline(alloc, &matcher.inner)?;
-    outline.append(&mut inner)?;
-    add_characters(&mut outline, &matcher.suffix)?;
-    Ok(outline)
+    let prefix = characters_of(alloc, &matcher.prefix)?;
+    let inner = inner_outline(alloc, &matcher.inner)?;
+    let suffix = characters_of(alloc, &matcher.suffix)?;
+    joined(prefix, inner, suffix)
+}
+
+/// Three outlines, one after the other.
+///
+/// The error is that memory ran out.
+fn joined(
+    mut prefix: Vec<OutlineItem>,
+    mut inner: Vec<OutlineItem>,
+    mut suffix: Vec<OutlineItem>,
+) -> Result<Vec<OutlineItem>, OutOfMemory>
+    ensures { IfOk result (λ outline. outline.items ≡ (prefix.items ++ inner.items) ++ suffix.items) }
+{
+    prefix.append(&mut inner)?;
+    prefix.append(&mut suffix)?;
+    Ok(prefix)
 }
 
 /// An outline of each text that is matched between prefix and suffix, where case is kept.
@@ -63,28 +76,54 @@ fn inner_outline<R: RegExp>(
     ensures { IfOk result (λ outline. (text : List ℕ) (captures : Captures) → Accepts R.answer false (inner_view inner.now) text captures → HasOutline outline.items text) }
 {
     match inner {
-        InnerMatcher::Literal { literal } => {
-            let mut outline = Vec::new(alloc);
-            add_characters(&mut outline, literal)?;
-            Ok(outline)
-        }
-        InnerMatcher::SingleCapture {
-            filter: Some(c),
-            allow_empty: _,
-        } => Ok(vec![in alloc; OutlineItem::Run(*c)]?),
-        InnerMatcher::RegExp { regexp: Ok(engine) } => engine.outline(alloc),
-        _ => Ok(vec![in alloc; OutlineItem::Anything]?),
+        InnerMatcher::Literal { literal } => characters_of(alloc, literal),
+        InnerMatcher::SingleCapture { filter, .. } => capture_outline(alloc, *filter),
+        InnerMatcher::RegExp { regexp } => match regexp {
+            Ok(engine) => engine.outline(alloc),
+            Err(_) => any_outline(alloc),
+        },
     }
 }
 
-/// Appends the characters of a text.
+/// An outline of each text that a filter passes.
 ///
 /// The error is that memory ran out.
-fn add_characters(outline: &mut Vec<OutlineItem>, text: &str) -> Result<(), OutOfMemory>
-    ensures { OnOk result (outline.new.items ≡ outline.old.items ++ characters (chars text.now)) }
+fn capture_outline(alloc: Global, filter: Option<char>) -> Result<Vec<OutlineItem>, OutOfMemory>
+    ensures { IfOk result (λ outline. (text : List ℕ) → PassesFilter false filter text → HasOutline outline.items text) }
 {
+    match filter {
+        Some(c) => item_outline(alloc, OutlineItem::Run(c)),
+        None => any_outline(alloc),
+    }
+}
+
+/// An outline of one item.
+///
+/// The error is that memory ran out.
+fn item_outline(alloc: Global, item: OutlineItem) -> Result<Vec<OutlineItem>, OutOfMemory>
+    ensures { IfOk result (λ outline. outline.items ≡ item ∷ []) }
+{
+    Ok(vec![in alloc; item]?)
+}
+
+/// The outline of any text.
+///
+/// The error is that memory ran out.
+fn any_outline(alloc: Global) -> Result<Vec<OutlineItem>, OutOfMemory>
+    ensures { IfOk result (λ outline. (text : List ℕ) → HasOutline outline.items text) }
+{
+    item_outline(alloc, OutlineItem::Anything)
+}
+
+/// The characters of a text.
+///
+/// The error is that memory ran out.
+fn characters_of(alloc: Global, text: &str) -> Result<Vec<OutlineItem>, OutOfMemory>
+    ensures { IfOk result (λ outline. outline.items ≡ characters (chars text.now)) }
+{
+    let mut outline = Vec::with_capacity(alloc, text.len())?;
     for c in text.chars() {
         outline.push(OutlineItem::Character(c))?;
     }
-    Ok(())
+    Ok(outline)
 }
