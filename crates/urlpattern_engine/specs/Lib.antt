@@ -4,5 +4,6 @@ pub mod Taken
 pub mod Table
 pub mod ReadSteps
 pub mod Readings
+pub mod OutlineSteps
 pub mod Automatons
 pub mod PatternRegexps
