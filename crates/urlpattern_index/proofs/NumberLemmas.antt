@@ -15,7 +15,7 @@ use Rattle.std.specs.Map.{lookup}
 use Rattle.std.specs.Slice.{IsItemAt}
 use Rattle.urlpattern_index.specs.FixedTexts.{AddressTexts, FixedTexts, HasTexts}
 use Rattle.urlpattern_index.specs.Keys.{Fits, FormView, Hashes, form_key, hashes_of}
-use Rattle.urlpattern_index.specs.Listed.{Appends, FindsBy, Listing, lowered, without, IsFirstFrom, IsLeast, lesser, numbers_of}
+use Rattle.urlpattern_index.specs.Listed.{GetsPattern, FindsBy, Listing, lowered, without, IsFirstFrom, IsLeast, lesser, numbers_of}
 
 -- ---- lists that do not fall
 
@@ -223,7 +223,7 @@ has-form forms form false has = Contains-push forms form
 
 module _ (form : FormView) (key : ℕ) (more : List FormView) (fixed : FixedTexts) (placed : (address : AddressTexts) → HasTexts fixed address → Fits form (hashes_of address) × (key ≡ form_key form (hashes_of address))) where
   appends-plain : (keys : List ℕ) (forms : List FormView) → Contains (forms ++ more) form
-      → Appends (record { keys = keys; forms = forms }) (record { keys = keys ++ key ∷ []; forms = forms ++ more }) fixed
+      → GetsPattern (record { keys = keys; forms = forms }) (record { keys = keys ++ key ∷ []; forms = forms ++ more }) fixed
   appends-plain keys forms has = record {
     one_more = length_push keys key;
     others = λ hashes number (other, is_form, fits, is). (other, Contains-append_left forms more other is_form, fits, slice_get-more keys (key ∷ []) number (form_key other hashes) is);
@@ -232,9 +232,9 @@ module _ (form : FormView) (key : ℕ) (more : List FormView) (fixed : FixedText
 
   pub appends : (old : Listing) (keys : List ℕ) (forms : List FormView) → ◌≡◌ {A = Listing} (record { keys = keys; forms = forms }) old → Contains (forms ++ more) form
       → (new_keys : List ℕ) (new_forms : List FormView) → new_keys ≡ keys ++ key ∷ [] → new_forms ≡ forms ++ more
-      → Appends old (record { keys = new_keys; forms = new_forms }) fixed
+      → GetsPattern old (record { keys = new_keys; forms = new_forms }) fixed
   appends old keys forms view has new_keys new_forms are_keys are_forms =
-      subst (λ (old : Listing). Appends old (record { keys = new_keys; forms = new_forms }) fixed) view (rw (are_keys, are_forms) (appends-plain keys forms has))
+      subst (λ (old : Listing). GetsPattern old (record { keys = new_keys; forms = new_forms }) fixed) view (rw (are_keys, are_forms) (appends-plain keys forms has))
 
 -- ---- a pattern less
 

@@ -62,7 +62,7 @@ abbrev pub Finds : Listing → Hashes → (number : ℕ) → Type 0
 Finds listing hashes number = FindsBy listing.forms listing.keys hashes number
 
 -- A pattern has the next number. It is found by each address that has its fixed texts, and the others as before.
-pub record Appends (old new : Listing) (fixed : FixedTexts) : Type 0 where
+pub record GetsPattern (old new : Listing) (fixed : FixedTexts) : Type 0 where
   pub one_more : length new.keys ≡ length old.keys + 1
   pub others : (hashes : Hashes) (number : ℕ) → Finds old hashes number → Finds new hashes number
   pub found : (address : AddressTexts) → HasTexts fixed address → Finds new (hashes_of address) (length old.keys)

@@ -4,7 +4,7 @@ ghost use Rattle.std.specs.List.{remove};
 ghost use Rattle.std.specs.Prelude.{◌≡◌, ◌≤◌, ◌<◌, ◌++◌, ◌∷◌, [], if◌then◌else◌, Some, length, slice_get, vec_capacity, vec_len, IsTrue, Contains, OnErr, OnOk};
 ghost use Rattle.urlpattern_index.specs.FixedTexts.{fixed_texts};
 ghost use Rattle.urlpattern_index.specs.Keys.{form_key, form_view, hashes_view, Fits};
-ghost use Rattle.urlpattern_index.specs.Listed.{Appends, Finds, IsFirstFrom, IsLeast, lesser, lowered, without};
+ghost use Rattle.urlpattern_index.specs.Listed.{Finds, GetsPattern, IsFirstFrom, IsLeast, lesser, lowered, without};
 ghost use Rattle.urlpattern_index.specs.Segments.{IsPlaceFor};
 
 use crate::address::AddressHashes;
@@ -56,7 +56,7 @@ impl Index {
     ///
     /// The error is that memory ran out. The index is then as it was.
     pub fn push(&mut self, fixed: Fixed<'_>) -> Result<(), AllocError>
-        ensures appended { OnOk result (Appends self.old self.new (fixed_texts fixed.entry)) }
+        ensures appended { OnOk result (GetsPattern self.old self.new (fixed_texts fixed.entry)) }
         ensures unchanged { OnErr result (self.new ≡ self.old) }
     {
         let Place { form, key } = self.place_for(fixed);
