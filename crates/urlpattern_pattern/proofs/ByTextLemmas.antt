@@ -267,7 +267,7 @@ module _ {E F : Type 0} (answer : E → List ℕ → Option Captures) (other : F
 pub init_by_text : {E : Type 0} (engine : Engine E) (init : UrlPatternInit) (asked : UrlPatternOptions) (pattern : PatternView E) → IsPatternOfInit engine init asked pattern → MakesFirstWays engine →
     AnswersByItsText engine.answer init asked pattern
 init_by_text engine init asked pattern (values, are_values, compiled) firsts =
-    pattern_by_took engine init asked values pattern are_values compiled _ firsts (λ component none. flags_agree _)
+    pattern_by_took engine init asked values pattern are_values compiled _ firsts (λ component none. flags_agree (manner_of asked values compiled.hierarchical component).options)
 
 pub taken_by_text : {E : Type 0} (engine : Engine E) (Took : InnerView E → Type 0) → EachAnswersFirst engine (λ options flags. Took) → TakenPatternsAnswerByText engine Took
 taken_by_text engine Took firsts = λ init asked pattern (values, are_values, compiled) took.

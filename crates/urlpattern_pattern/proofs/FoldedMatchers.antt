@@ -101,7 +101,7 @@ peeled_folded parts front middle back peeled = record {
 
 -- ---- the folded matcher
 
-pub folded_inner : {E : Type 0} → InnerView E → InnerView E
+unfoldable pub folded_inner : {E : Type 0} → InnerView E → InnerView E
 folded_inner (Literal literal) = Literal (folded true literal)
 folded_inner (SingleCapture filter allow_empty) = SingleCapture (option_map (folded_character true) filter) allow_empty
 folded_inner (RegExp engine) = RegExp engine
