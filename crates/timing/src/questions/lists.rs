@@ -192,7 +192,7 @@ fn is_match_at<E: RegExp>(
 /// Whether a copy of what is borrowed is the first match.
 fn is_borrowed(
     alloc: Global,
-    answer: Result<Option<(usize, UrlPatternCaptures<'_>)>, Error>,
+    answer: Result<Option<(usize, UrlPatternCaptures<'_, '_>)>, Error>,
     found: &First,
 ) -> Result<bool, Error> {
     let is_same = match (&answer, found) {
