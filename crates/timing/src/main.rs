@@ -1,5 +1,5 @@
-//! Times the library's calls (`time FILE ..`), draws times that standard input gives (`chart`), and asks questions that are made
-//! by a seed, on which calls have to agree (`questions SEED COUNT`).
+//! Times the library's calls (`time FILE ..`) and lookups among routes (`routes FILE`), draws times that standard input gives (`chart`), and asks questions that are made
+//! by a seed, on which calls have to agree (`questions SEED COUNT`, and `lists SEED COUNT` for those on lists).
 #![tactic(auto)]
 
 mod calls;
@@ -13,11 +13,17 @@ use std::{env, io};
 /// The word that asks for times.
 const TIME: &str = "time";
 
+/// The word that asks for times of lookups among routes.
+const ROUTES: &str = "routes";
+
 /// The word that asks for a picture of times.
 const CHART: &str = "chart";
 
 /// The word that asks for questions.
 const QUESTIONS: &str = "questions";
+
+/// The word that asks for questions on lists alone.
+const LISTS: &str = "lists";
 
 /// The status of a run in which nothing differs.
 const SAME: u8 = 0;
@@ -47,6 +53,10 @@ fn run(rt: &HostRuntime) -> io::Result<bool> {
             timing::run(rt, paths, &mut rt.stdout())?;
             Ok(true)
         }
+        [command, path] if command.as_str() == ROUTES => {
+            timing::run_routes(rt, path, &mut rt.stdout())?;
+            Ok(true)
+        }
         [command] if command.as_str() == CHART => {
             chart::run(rt, &mut rt.stdout())?;
             Ok(true)
@@ -54,6 +64,10 @@ fn run(rt: &HostRuntime) -> io::Result<bool> {
         [command, seed, count] if command.as_str() == QUESTIONS => {
             let (seed, count) = (number(seed)?, number(count)?);
             questions::run(rt.alloc(), seed, count, &mut rt.stdout())
+        }
+        [command, seed, count] if command.as_str() == LISTS => {
+            let (seed, count) = (number(seed)?, number(count)?);
+            questions::run_lists(rt.alloc(), seed, count, &mut rt.stdout())
         }
         _ => Err(io::Error::from(io::ErrorKind::InvalidInput)),
     }

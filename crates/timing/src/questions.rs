@@ -184,6 +184,23 @@ impl Tallies {
     }
 }
 
+/// Asks so many questions on lists, of the seed and the numbers after it, and prints those to which calls do not agree, and the
+/// counts. Says whether all agree.
+pub fn run_lists<O: Write>(alloc: Global, seed: u64, count: u64, out: &mut O) -> io::Result<bool> {
+    let mut tally = Tally::default();
+    for index in 0..count {
+        let number = seed.wrapping_add(index);
+        let mut maker = Maker::new(alloc, number);
+        let outcome = lists::ask(&mut maker).unwrap_or(Outcome::Differs);
+        tally.count(outcome);
+        if matches!(outcome, Outcome::Differs) {
+            writeln!(out, "question {number} differs:{}", maker.made())?;
+        }
+    }
+    tally.print(out, "lists")?;
+    Ok(tally.differing == 0)
+}
+
 /// Asks so many questions, of the seed and the numbers after it, and prints those to which calls do not agree, and the counts.
 /// Says whether all agree.
 pub fn run<O: Write>(alloc: Global, seed: u64, count: u64, out: &mut O) -> io::Result<bool> {

@@ -4,6 +4,7 @@
 mod hostile;
 mod lists;
 mod rounds;
+mod routes;
 
 use crate::calls::{is_set, optional_text};
 use regex::Regex;
@@ -241,6 +242,16 @@ pub fn run<R: Files + AllocGlobal + Clock, O: Write>(
     }
     lists::run(rt, out)?;
     hostile::run(rt, out)
+}
+
+/// Prints what the table of a file's routes takes, and tables that are made.
+pub fn run_routes<R: Files + AllocGlobal + Clock, O: Write>(
+    rt: &R,
+    path: &str,
+    out: &mut O,
+) -> io::Result<()> {
+    let text = fs::read_to_string(rt, path)?;
+    routes::run(rt, &text, out)
 }
 
 /// Prints what the pair of a line takes.

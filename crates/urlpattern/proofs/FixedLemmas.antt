@@ -1,22 +1,25 @@
 -- Lemmas on the patterns that a list does not ask.
-use Rattle.std.proofs.Common.{◌≡◌, ℕ, zero, suc, ◌<◌, ◌≤◌, ◌⊎◌, Bool, true, false, List, [], ◌∷◌, ◌++◌, ap, arith, drop, get_or, inl, inr, length, refl, subst, sym, take, ◌∙◌}
+use Rattle.std.proofs.Common.{◌≡◌, ℕ, zero, suc, ◌+◌, ◌<◌, ◌≤◌, ◌⊎◌, Bool, true, false, List, [], ◌∷◌, ◌++◌, ap, append_assoc, arith, get_or, inl, inr, length, refl, subst, sym, take, ◌∙◌}
 use Rattle.std.proofs.lemmas.Bool.{cases_lt}
-use Rattle.std.proofs.lemmas.List.{append-nil, append_assoc, get_or-take, take-append-drop, take_at}
-use Rattle.std.proofs.lemmas.Option.{same_Some, slice_get-get_or}
+use Rattle.std.proofs.lemmas.List.{append-nil, get_or-take, length_push, map-append, take_more}
+use Rattle.std.proofs.lemmas.List.Edits.{length-remove}
+use Rattle.std.proofs.lemmas.Option.{same_Some, slice_get-get_or, slice_get_within}
 use Rattle.std.proofs.lemmas.Slice.Eq.{bytes_eq-Decides}
-use Rattle.std.specs.List.{AllZip}
-use Rattle.std.specs.Prelude.{All, Option, None, Some, bytes_eq, slice_get}
-use Rattle.urlpattern_index.specs.Keys.{key_of}
-use Rattle.urlpattern_index.specs.Listed.{IsAmong}
-use Rattle.urlpattern_index.specs.FixedTexts.{BeginsWith, FixedPath, FixedTexts, HasTexts, Is, IsPath, IsText}
+use Rattle.std.specs.List.{remove}
+use Rattle.std.specs.Prelude.{All, Err, IfOk, Ok, Option, None, Result, Some, bytes_eq, slice_get}
+use Rattle.urlpattern_core.specs.declared.outline.OutlineItem.{OutlineItem}
+use Rattle.urlpattern_core.specs.declared.outline.OutlineItem.TheVariants.{Character}
+use Rattle.urlpattern_core.specs.Outlines.{HasOutline, IsTextFor}
+use Rattle.urlpattern_index.specs.FixedTexts.{FixedTexts, HasTexts, IsText}
+use Rattle.urlpattern_index.specs.Keys.{Hashes, form_key, hashes_of}
+use Rattle.urlpattern_index.specs.Listed.{Appends, Finds, Listing}
 use Rattle.urlpattern_syntax.specs.declared.eight.ComponentName.TheVariants.{Hostname, Pathname, Protocol}
-use Rattle.urlpattern_meaning.specs.Matching.{Answers, InnerView, Literal, MatcherView, folded}
+use Rattle.urlpattern_meaning.specs.Matching.{Accepts, Answers, InnerView, IsMatched, Literal, MatcherView, folded}
 use Rattle.urlpattern_meaning.specs.PartMeaning.{Captures}
 use Rattle.urlpattern_pattern.specs.Match.{IsRefused}
 use Rattle.urlpattern_pattern.specs.Patterns.{PatternView, pattern_view}
 use Rattle.urlpattern_pattern.specs.declared.pattern.UrlPattern.{UrlPattern}
-use Rattle.urlpattern.proofs.Addresses.{address_of}
-use Rattle.urlpattern.specs.PatternKeys.{AreFixed, AreKeys, IsFixedPath, IsFixedText, IsKeyOf, text_matcher}
+use Rattle.urlpattern.specs.PatternKeys.{AreFixed, AreIndexed, IsFixedText, address_of, characters, text_matcher}
 use Rattle.urlpattern_syntax.specs.Eight.{Texts}
 
 -- ---- texts
@@ -40,65 +43,82 @@ module _ {E : Type 0} (answer : E → List ℕ → Option Captures) where
       let whole : given ≡ text = cut ∙ ap (λ f. (f ++ middle) ++ back) front_nil ∙ ap (λ b. middle ++ b) back_nil ∙ append-nil middle ∙ middle_is in
       other whole)
 
-  -- a text does not begin with the prefix
-  front-refused : (matcher : MatcherView E) (front given : List ℕ) → matcher.ignore_case ≡ false → front ≡ matcher.prefix
-      → ¬ (take (length front) given ≡ front) → Answers answer matcher given None
-  front-refused matcher front given kept is other = λ captures (middle, (begin, back, cut, same_front, same_back), accepts).
-      let P : Bool → Type 0 = λ ignore_case. folded ignore_case begin ≡ folded ignore_case matcher.prefix in
-      let same : begin ≡ matcher.prefix = subst P kept same_front in
-      let begin_is : begin ≡ front = same ∙ sym is in
-      let given_is : given ≡ front ++ (middle ++ back) = cut ∙ append_assoc begin middle back ∙ ap (λ f. f ++ (middle ++ back)) begin_is in
-      other (ap (take (length front)) given_is ∙ take_at front (middle ++ back) (length front) refl)
-
   text-cases : (matcher : MatcherView E) (fixed : Option (List ℕ)) (given : List ℕ) → IsFixedText matcher fixed → IsText fixed given ⊎ Answers answer matcher given None
   text-cases matcher None given is = inl tt
   text-cases matcher (Some text) given is =
       elim (same_or_not given text) [ inl same ↦ inl same | inr other ↦ inr (other-refused matcher text given is other) ]
 
-  path-cases : (matcher : MatcherView E) (fixed : FixedPath) (given : List ℕ) → IsFixedPath matcher fixed → IsPath fixed given ⊎ Answers answer matcher given None
-  path-cases matcher (Is text) given is =
-      elim (same_or_not given text) [ inl same ↦ inl same | inr other ↦ inr (other-refused matcher text given is other) ]
-  path-cases matcher (BeginsWith front) given (inr empty) = inl (given, ap (λ f. f ++ given) (sym empty))
-  path-cases matcher (BeginsWith front) given (inl (kept, is)) =
-      elim (same_or_not (take (length front) given) front) [
-        | inl same ↦ inl (drop (length front) given, sym (take-append-drop (length front) given) ∙ ap (λ f. f ++ drop (length front) given) same)
-        | inr other ↦ inr (front-refused matcher front given kept is other)
-      ]
-
-  -- what is fixed is there, or the pattern does not match
-  pub fixed-cases : (pattern : PatternView E) (fixed : FixedTexts) (texts : Texts) → AreFixed pattern fixed → HasTexts fixed (address_of texts) ⊎ IsRefused answer pattern texts
-  fixed-cases pattern fixed texts are =
+  -- the pattern does not match where what is fixed is not there
+  fixed-refused : (pattern : PatternView E) (fixed : FixedTexts) (texts : Texts) → AreFixed answer pattern fixed → ¬ HasTexts fixed (address_of texts) → IsRefused answer pattern texts
+  fixed-refused pattern fixed texts are other =
       elim (text-cases (pattern Protocol).matcher fixed.protocol texts.protocol are.protocol) [
-        | inr refused ↦ inr (Protocol, refused)
+        | inr refused ↦ (Protocol, refused)
         | inl protocol ↦ elim (text-cases (pattern Hostname).matcher fixed.hostname texts.hostname are.hostname) [
-          | inr refused ↦ inr (Hostname, refused)
-          | inl hostname ↦ elim (path-cases (pattern Pathname).matcher fixed.pathname texts.pathname are.pathname) [
-            | inr refused ↦ inr (Pathname, refused)
-            | inl pathname ↦ inl record { protocol = protocol; hostname = hostname; pathname = pathname }
-          ]
+          | inr refused ↦ (Hostname, refused)
+          | inl hostname ↦ (Pathname, λ captures matched.
+              other record { protocol = protocol; hostname = hostname; pathname = are.pathname texts.pathname (captures, matched) })
         ]
       ]
 
--- ---- two lists
+-- ---- elements at an index
 
-module _ {A B : Type 0} (R : A → B → Type 0) where
-  pub AllZip-append : (xs : List A) (ys : List B) (x : A) (y : B) → AllZip R xs ys → R x y → AllZip R (xs ++ x ∷ []) (ys ++ y ∷ [])
-  AllZip-append [] [] x y all is = (is, tt)
-  AllZip-append [] (b ∷ ys) x y all is = absurd all
-  AllZip-append (a ∷ xs) [] x y all is = absurd all
-  AllZip-append (a ∷ xs) (b ∷ ys) x y all is = (all.0, AllZip-append xs ys x y all.1 is)
+got_more : {X : Type 0} (xs : List X) (x y : X) (n : ℕ) → slice_get (xs ++ x ∷ []) n ≡ Some y → (slice_get xs n ≡ Some y) ⊎ ((n ≡ length xs) × (x ≡ y))
+got_more [] x y zero is = inr (refl, same_Some x y is)
+got_more [] x y (suc n) is = absurd (cc)
+got_more (z ∷ xs) x y zero is = inl is
+got_more (z ∷ xs) x y (suc n) is = elim (got_more xs x y n is) [ inl earlier ↦ inl earlier | inr last ↦ inr (let e : n ≡ length xs = last.0 in omega arith, last.1) ]
 
-  pub AllZip-other : (xs : List A) (ys : List B) (n : ℕ) (x : A) → AllZip R xs ys → slice_get xs n ≡ Some x → (y : B) × (slice_get ys n ≡ Some y) × R x y
-  AllZip-other [] ys n x all is = absurd (cc)
-  AllZip-other (a ∷ xs) [] n x all is = absurd all
-  AllZip-other (a ∷ xs) (b ∷ ys) zero x all is = (b, refl, subst (λ v. R v b) (same_Some a x is) all.0)
-  AllZip-other (a ∷ xs) (b ∷ ys) (suc n) x all is = AllZip-other xs ys n x all.1 is
+got_below : {X : Type 0} (xs : List X) (i n : ℕ) → n < i → slice_get (remove xs i) n ≡ slice_get xs n
+got_below xs zero n lt = absurd (omega arith)
+got_below [] (suc i) n lt = refl
+got_below (x ∷ xs) (suc i) zero lt = refl
+got_below (x ∷ xs) (suc i) (suc n) lt = got_below xs i n (omega arith)
 
-  pub AllZip-within : (xs : List A) (ys : List B) (n : ℕ) (y : B) → AllZip R xs ys → slice_get ys n ≡ Some y → n < length xs
-  AllZip-within xs [] n y all is = absurd (cc)
-  AllZip-within [] (b ∷ ys) n y all is = absurd all
-  AllZip-within (a ∷ xs) (b ∷ ys) zero y all is = omega arith
-  AllZip-within (a ∷ xs) (b ∷ ys) (suc n) y all is = let h : n < length xs = AllZip-within xs ys n y all.1 is in omega arith
+got_above : {X : Type 0} (xs : List X) (i n : ℕ) → i ≤ n → i < length xs → slice_get (remove xs i) n ≡ slice_get xs (suc n)
+got_above [] i n le lt = absurd (omega arith)
+got_above (x ∷ xs) zero n le lt = refl
+got_above (x ∷ xs) (suc i) zero le lt = absurd (omega arith)
+got_above (x ∷ xs) (suc i) (suc n) le lt = got_above xs i n (omega arith) (omega arith)
+
+-- an index that is out of range removes nothing
+pub remove-past : {X : Type 0} (xs : List X) (i : ℕ) → length xs ≤ i → remove xs i ≡ xs
+remove-past [] zero le = refl
+remove-past [] (suc i) le = refl
+remove-past (x ∷ xs) zero le = absurd (omega arith)
+remove-past (x ∷ xs) (suc i) le = ap (λ ys. x ∷ ys) (remove-past xs i (omega arith))
+
+-- ---- patterns that are indexed
+
+module _ {E : Type 0} (answer : E → List ℕ → Option Captures) (patterns : List (UrlPattern E)) (index : Listing) (are : AreIndexed answer patterns index) where
+  -- one more pattern
+  pub indexed-push : (pattern : UrlPattern E) (new : Listing) (fixed : FixedTexts) → Appends index new fixed → AreFixed answer (pattern_view pattern) fixed
+      → AreIndexed answer (patterns ++ pattern ∷ []) new
+  indexed-push pattern new fixed appends is_fixed = record {
+    as_many = appends.one_more ∙ ap (λ n. n + 1) are.as_many ∙ sym (length_push patterns pattern);
+    refuses = λ number other is texts missed. elim (got_more patterns pattern other number is) [
+      | inl earlier ↦ are.refuses number other earlier texts (λ finds. missed (appends.others (hashes_of (address_of texts)) number finds))
+      | inr last ↦ subst (λ (p : UrlPattern E). IsRefused answer (pattern_view p) texts) last.1 (fixed-refused answer (pattern_view pattern) fixed texts is_fixed
+        (λ has. missed (subst (λ n. Finds new (hashes_of (address_of texts)) n) (are.as_many ∙ sym last.0) (appends.found (address_of texts) has))))
+    ];
+  }
+
+  -- a pattern less
+  pub indexed-remove : (i : ℕ) → i < length patterns → AreIndexed answer (remove patterns i) (record { keys = remove index.keys i; forms = index.forms })
+  indexed-remove i within =
+      let within_keys : i < length index.keys = omega (arith, are.as_many) in
+      record {
+        as_many = (let a = length-remove index.keys i within_keys in let b = length-remove patterns i within in omega (arith, are.as_many));
+        refuses = λ number pattern is texts missed. elim (cases_lt number i) [
+          | inl below ↦ are.refuses number pattern (sym (got_below patterns i number below) ∙ is) texts
+            (λ (form, has, fits, key). missed (form, has, fits, got_below index.keys i number below ∙ key))
+          | inr above ↦ are.refuses (suc number) pattern (sym (got_above patterns i number above within) ∙ is) texts
+            (λ (form, has, fits, key). missed (form, has, fits, got_above index.keys i number above within_keys ∙ key))
+        ];
+      }
+
+  -- what is found is the index of a pattern
+  pub found_within : (hashes : Hashes) (number : ℕ) → Finds index hashes number → number < length patterns
+  found_within hashes number (form, has, fits, key) = let within = slice_get_within index.keys number (form_key form hashes) key in omega (arith, are.as_many)
 
 -- ---- elements that are passed over
 
@@ -131,31 +151,13 @@ All-passed P xs from n before passed = λ k d within.
       | inr le ↦ passed k (get_or xs k d) le inside.0 (slice_get-get_or xs k d inside.1)
     ])
 
--- ---- patterns that are not asked
-
-module _ {E : Type 0} (answer : E → List ℕ → Option Captures) (texts : Texts) (patterns : List (UrlPattern E)) (keys : List ℕ) (lists : List (List ℕ)) (are : AreKeys patterns keys)
-    (found : (number : ℕ) (fixed : FixedTexts) → slice_get keys number ≡ Some (key_of fixed) → HasTexts fixed (address_of texts) → IsAmong lists number) where
-  -- a pattern that is not among the candidates does not match
-  not_asked : (k : ℕ) (pattern : UrlPattern E) → slice_get patterns k ≡ Some pattern → ¬ IsAmong lists k → IsRefused answer (pattern_view pattern) texts
-  not_asked k pattern is other =
-      let h = AllZip-other IsKeyOf patterns keys k pattern are is in
-      let fixed = h.2.0 in
-      elim (fixed-cases answer (pattern_view pattern) fixed texts h.2.1) [
-        | inl has ↦ absurd (other (found k fixed (h.1 ∙ ap (λ key. Some key) h.2.2) has))
-        | inr refused ↦ refused
-      ]
-
-  -- those between two candidates do not
-  pub passed_over : (from n : ℕ) → All (λ pattern. IsRefused answer (pattern_view pattern) texts) (take from patterns)
-      → ((number : ℕ) → from ≤ number → number < n → ¬ IsAmong lists number) → All (λ pattern. IsRefused answer (pattern_view pattern) texts) (take n patterns)
-  passed_over from n before others =
-      All-passed (λ pattern. IsRefused answer (pattern_view pattern) texts) patterns from n before
-      (λ k pattern le lt is. not_asked k pattern is (others k le lt))
-
--- a candidate is the index of a pattern
-pub candidate_within : {E : Type 0} (patterns : List (UrlPattern E)) (keys : List ℕ) (P : ℕ → Type 0) (index : ℕ) → AreKeys patterns keys
-    → (key : ℕ) × (slice_get keys index ≡ Some key) × P key → index < length patterns
-candidate_within patterns keys P index are (key, is, more) = AllZip-within IsKeyOf patterns keys index key are is
+-- patterns between two that are found do not match
+pub passed_over : {E : Type 0} (answer : E → List ℕ → Option Captures) (texts : Texts) (patterns : List (UrlPattern E)) (index : Listing) → AreIndexed answer patterns index
+    → (from n : ℕ) → All (λ pattern. IsRefused answer (pattern_view pattern) texts) (take from patterns)
+    → ((number : ℕ) → from ≤ number → number < n → ¬ Finds index (hashes_of (address_of texts)) number) → All (λ pattern. IsRefused answer (pattern_view pattern) texts) (take n patterns)
+passed_over answer texts patterns index are from n before others =
+    All-passed (λ pattern. IsRefused answer (pattern_view pattern) texts) patterns from n before
+    (λ k pattern le lt is. are.refuses k pattern is texts (others k le lt))
 
 -- ---- what is fixed of a matcher
 
@@ -166,3 +168,51 @@ nil_from_length (x ∷ xs) is = absurd (omega arith)
 pub matcher_of_text : {E : Type 0} (prefix suffix : List ℕ) (inner : InnerView E) (ignore_case : Bool) (text : List ℕ) → prefix ≡ [] → suffix ≡ [] → inner ≡ Literal text → ignore_case ≡ false
     → ◌≡◌ {A = MatcherView E} record { prefix = prefix; suffix = suffix; inner = inner; ignore_case = ignore_case } (text_matcher text)
 matcher_of_text prefix suffix inner ignore_case text no_prefix no_suffix is_text kept = cc
+
+-- ---- outlines
+
+-- each text has the outline of its characters
+characters-outline : (text : List ℕ) → HasOutline (characters text) text
+characters-outline [] = refl
+characters-outline (c ∷ text) = (c ∷ [], text, refl, refl, characters-outline text)
+
+-- one more character that is read
+pub characters-more : (items : List OutlineItem) (text : List ℕ) (index c : ℕ) → (index < length text) × (c ≡ get_or text index c) → items ≡ characters (take index text)
+    → items ++ Character c ∷ [] ≡ characters (take (index + 1) text)
+characters-more items text index c is_next are =
+    ap (λ i. i ++ Character c ∷ []) are
+    ∙ sym (ap characters (take_more text index c is_next.0 ∙ ap (λ x. take index text ++ x ∷ []) (sym is_next.1)) ∙ map-append (λ c. Character c) (take index text) (c ∷ []))
+
+-- the outlines of two texts are one of both together
+outline-append : (xs ys : List OutlineItem) (text other : List ℕ) → HasOutline xs text → HasOutline ys other → HasOutline (xs ++ ys) (text ++ other)
+outline-append [] ys text other is more = subst (λ t. HasOutline ys (t ++ other)) (sym is) more
+outline-append (x ∷ xs) ys text other (front, rest, cut, is_front, has) more =
+    (front, rest ++ other, ap (λ t. t ++ other) cut ∙ append_assoc front rest other, is_front, outline-append xs ys rest other has more)
+
+-- the outline of prefix, inner text and suffix
+pub matched-outline : {E : Type 0} (answer : E → List ℕ → Option Captures) (matcher : MatcherView E) (inner : List OutlineItem) → matcher.ignore_case ≡ false
+    → ((text : List ℕ) (captures : Captures) → Accepts answer false matcher.inner text captures → HasOutline inner text)
+    → (text : List ℕ) → IsMatched answer matcher text → HasOutline ((characters matcher.prefix ++ inner) ++ characters matcher.suffix) text
+matched-outline answer matcher inner kept is_inner text (captures, middle, (front, back, cut, same_front, same_back), accepts) =
+    let same : (one other : List ℕ) → folded matcher.ignore_case one ≡ folded matcher.ignore_case other → one ≡ other =
+    λ one other is. subst (λ ignore_case. folded ignore_case one ≡ folded ignore_case other) kept is in
+    let begins : HasOutline (characters matcher.prefix) front = subst (HasOutline (characters matcher.prefix)) (sym (same front matcher.prefix same_front)) (characters-outline matcher.prefix) in
+    let ends : HasOutline (characters matcher.suffix) back = subst (HasOutline (characters matcher.suffix)) (sym (same back matcher.suffix same_back)) (characters-outline matcher.suffix) in
+    let between : HasOutline inner middle = is_inner middle captures (subst (λ ignore_case. Accepts answer ignore_case matcher.inner middle captures) kept accepts) in
+    subst (HasOutline ((characters matcher.prefix ++ inner) ++ characters matcher.suffix)) (sym cut)
+    (outline-append (characters matcher.prefix ++ inner) (characters matcher.suffix) (front ++ middle) back (outline-append (characters matcher.prefix) inner front middle begins between) ends)
+
+-- the outline of a text that is the same as a literal
+pub literal-outline : (literal text : List ℕ) (items : List OutlineItem) → items ≡ characters literal → text ≡ literal → HasOutline items text
+literal-outline literal text items are same = subst (λ i. HasOutline i text) (sym are) (subst (HasOutline (characters literal)) (sym same) (characters-outline literal))
+
+-- the outline of one run
+pub item-outline : (item : OutlineItem) (text : List ℕ) (items : List OutlineItem) → items ≡ item ∷ [] → IsTextFor item text → HasOutline items text
+item-outline item text items are is = subst (λ i. HasOutline i text) (sym are) (text, [], sym (append-nil text), is, refl)
+
+-- ---- results
+
+-- what is true of a result is true in a weaker form
+pub ok-weaker : {X F : Type 0} (P Q : X → Type 0) → (result : Result X F) → IfOk result P → ((x : X) → P x → Q x) → IfOk result Q
+ok-weaker P Q (Ok x) is to = to x is
+ok-weaker P Q (Err error) is to = tt

@@ -1,4 +1,3 @@
-pub mod Addresses
 pub mod FixedLemmas
 pub mod ListLemmas
 pub mod PatternMapLemmas

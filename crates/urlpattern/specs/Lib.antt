@@ -42,6 +42,7 @@ pub use Rattle.urlpattern_pattern.specs.Patterns
 pub use Rattle.urlpattern_syntax.specs.Eight
 pub use Rattle.urlpattern_syntax.specs.ErrorText
 pub use Rattle.urlpattern_syntax.specs.Errors
+pub use Rattle.urlpattern_syntax.specs.NamedValues
 pub use Rattle.urlpattern_syntax.specs.Options
 pub use Rattle.urlpattern_syntax.specs.Parsing
 pub use Rattle.urlpattern_syntax.specs.Parts

@@ -1,12 +1,22 @@
 -- What is fixed of the texts that a pattern matches, by which a list finds it.
-use Rattle.std.specs.Prelude.{◌≡◌, ◌⊎◌, ℕ, false, List, [], Option, None, Some}
-use Rattle.std.specs.List.{AllZip}
-use Rattle.urlpattern_index.specs.Keys.{key_of}
-use Rattle.urlpattern_index.specs.FixedTexts.{BeginsWith, FixedPath, FixedTexts, Is}
+use Rattle.std.specs.Prelude.{◌≡◌, ℕ, false, List, [], length, map, slice_get, Option, None, Some}
+use Rattle.urlpattern_core.specs.declared.outline.OutlineItem.{OutlineItem}
+use Rattle.urlpattern_core.specs.declared.outline.OutlineItem.TheVariants.{Character}
+use Rattle.urlpattern_core.specs.Outlines.{HasOutline}
+use Rattle.urlpattern_index.specs.FixedTexts.{AddressTexts, FixedTexts}
+use Rattle.urlpattern_index.specs.Keys.{hashes_of}
+use Rattle.urlpattern_index.specs.Listed.{Finds, Listing}
 use Rattle.urlpattern_syntax.specs.declared.eight.ComponentName.TheVariants.{Hostname, Pathname, Protocol}
-use Rattle.urlpattern_meaning.specs.Matching.{Literal, MatcherView}
+use Rattle.urlpattern_syntax.specs.Eight.{Texts}
+use Rattle.urlpattern_meaning.specs.Matching.{IsMatched, Literal, MatcherView}
+use Rattle.urlpattern_meaning.specs.PartMeaning.{Captures}
+use Rattle.urlpattern_pattern.specs.Match.{IsRefused}
 use Rattle.urlpattern_pattern.specs.Patterns.{PatternView, pattern_view}
 use Rattle.urlpattern_pattern.specs.declared.pattern.UrlPattern.{UrlPattern}
+
+-- the outline of one text
+abbrev pub characters : List ℕ → List OutlineItem
+characters text = map (λ c. Character c) text
 
 -- the matcher of one text, whose case is kept
 abbrev pub text_matcher : {E : Type 0} → List ℕ → MatcherView E
@@ -17,21 +27,18 @@ abbrev pub IsFixedText : {E : Type 0} → MatcherView E → Option (List ℕ) �
 IsFixedText matcher (Some text) = matcher ≡ text_matcher text
 IsFixedText matcher None = Unit {0}
 
--- the matcher matches this text alone, or texts that begin with one
-abbrev pub IsFixedPath : {E : Type 0} → MatcherView E → FixedPath → Type 0
-IsFixedPath matcher (Is text) = matcher ≡ text_matcher text
-IsFixedPath matcher (BeginsWith front) = ((matcher.ignore_case ≡ false) × (front ≡ matcher.prefix)) ⊎ (front ≡ [])
-
 -- These texts are fixed of those that the pattern matches.
-pub record AreFixed {E : Type 0} (pattern : PatternView E) (fixed : FixedTexts) : Type 0 where
+pub record AreFixed {E : Type 0} (answer : E → List ℕ → Option Captures) (pattern : PatternView E) (fixed : FixedTexts) : Type 0 where
   pub protocol : IsFixedText (pattern Protocol).matcher fixed.protocol
   pub hostname : IsFixedText (pattern Hostname).matcher fixed.hostname
-  pub pathname : IsFixedPath (pattern Pathname).matcher fixed.pathname
+  pub pathname : (text : List ℕ) → IsMatched answer (pattern Pathname).matcher text → HasOutline fixed.pathname text
 
--- the key is that of texts that are fixed of those that the pattern matches
-abbrev pub IsKeyOf : {E : Type 0} → UrlPattern E → ℕ → Type 0
-IsKeyOf pattern key = (fixed : FixedTexts) × AreFixed (pattern_view pattern) fixed × (key ≡ key_of fixed)
+-- the texts by which patterns are looked up
+abbrev pub address_of : Texts → AddressTexts
+address_of texts = record { protocol = texts.protocol; hostname = texts.hostname; pathname = texts.pathname }
 
--- a key for each pattern
-abbrev pub AreKeys : {E : Type 0} → List (UrlPattern E) → List ℕ → Type 0
-AreKeys patterns keys = AllZip IsKeyOf patterns keys
+-- The index has as many numbers as there are patterns. A pattern whose number texts do not find does not match them.
+pub record AreIndexed {E : Type 0} (answer : E → List ℕ → Option Captures) (patterns : List (UrlPattern E)) (index : Listing) : Type 0 where
+  pub as_many : length index.keys ≡ length patterns
+  pub refuses : (number : ℕ) (pattern : UrlPattern E) → slice_get patterns number ≡ Some pattern →
+      (texts : Texts) → ¬ Finds index (hashes_of (address_of texts)) number → IsRefused answer (pattern_view pattern) texts

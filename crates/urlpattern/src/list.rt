@@ -1,9 +1,10 @@
 //! Lists of patterns, which answer the first one that matches an input.
 //!
-//! The texts of the input are made once. An index knows the patterns that can match them, by the literal protocol and hostname
-//! and by the text that the pathname begins with. Those look at them, in the order of the list, and nothing is made of those
-//! that do not match.
+//! The texts of the input are made once. An index finds the patterns that can match them, by the literal protocol and hostname
+//! and by the segments of the pathname. Those look at them, in the order of the list, and nothing is made of those that do not
+//! match.
 ghost use Rattle.std.specs.Iterator.Adapters.{IterYieldsInOrder};
+ghost use Rattle.std.specs.List.{remove};
 ghost use Rattle.std.specs.Prelude.{◌≡◌, ◌==◌, ◌++◌, [], ◌∷◌, length, option_copied, slice_get, IfErr, IfOk, OnErr, OnOk};
 ghost use Rattle.std.specs.Slice.Iter.{iter_rest};
 ghost use Rattle.urlpattern_init.specs.Inheritance.{texts_of_url};
@@ -17,7 +18,7 @@ ghost use Rattle.urlpattern_syntax.specs.Errors.{OnlyOutOfMemory};
 
 mod fixed;
 
-use fixed::fixed_of;
+use fixed::{fixed_text, outline_of};
 use std::alloc::Global;
 use std::marker::Model;
 use std::slice;
@@ -25,7 +26,7 @@ use url::Url;
 use urlpattern_core::Error;
 use urlpattern_core::error::OutOfMemory;
 use urlpattern_core::regexp::RegExp;
-use urlpattern_index::{Address, Index};
+use urlpattern_index::{Address, Fixed, Index};
 use urlpattern_init::UrlPatternMatchInput;
 use urlpattern_inputs::MatchInput;
 use urlpattern_pattern::{
@@ -44,14 +45,14 @@ pub struct UrlPatternList<R: RegExp = regex::Regex> {
 
 impl<R: RegExp> Model for UrlPatternList<R> {
     ghost use Rattle.std.specs.Prelude.{List};
-    ghost use Rattle.urlpattern.specs.PatternKeys.{AreKeys};
+    ghost use Rattle.urlpattern.specs.PatternKeys.{AreIndexed};
     ghost use Rattle.urlpattern_pattern.specs.declared.pattern.UrlPattern.{UrlPattern};
 
     ghost Value = { List (UrlPattern R) };
 
     ghost view = { λ list. list.patterns.items };
 
-    ghost invariant = { λ list. AreKeys list.patterns.items list.index };
+    ghost invariant = { λ list. AreIndexed R.answer list.patterns.items list.index };
 }
 
 impl<R: RegExp> UrlPatternList<R> {
@@ -89,7 +90,15 @@ impl<R: RegExp> UrlPatternList<R> {
         let Ok(()) = self.patterns.reserve(1) else {
             return Err(pattern);
         };
-        let Ok(()) = self.index.push(fixed_of(&pattern)) else {
+        let alloc = *self.patterns.allocator();
+        let Ok(outline) = outline_of(alloc, &pattern.pathname.matcher) else {
+            return Err(pattern);
+        };
+        let Ok(()) = self.index.push(Fixed {
+            protocol: fixed_text(&pattern.protocol.matcher),
+            hostname: fixed_text(&pattern.hostname.matcher),
+            pathname: &outline,
+        }) else {
             return Err(pattern);
         };
         match self.patterns.push(pattern) {
@@ -110,6 +119,21 @@ impl<R: RegExp> UrlPatternList<R> {
             Ok(()) => Ok(()),
             Err(_) => Err(Error::OutOfMemory),
         }
+    }
+
+    /// Removes the pattern at an index, and returns it. Each later pattern moves down by one. `None`: there is none at the index,
+    /// and the list is as it was.
+    ///
+    /// It does not allocate, and takes time in proportion to the length of the list.
+    pub fn remove(&mut self, index: usize) -> Option<UrlPattern<R>>
+        ensures removed { result ≡ slice_get self.old index }
+        ensures others { self.new ≡ remove self.old index }
+    {
+        if index >= self.patterns.len() {
+            return None;
+        }
+        self.index.remove(index);
+        Some(self.patterns.remove(index))
     }
 
     /// How many patterns there are.
@@ -229,13 +253,14 @@ impl<R: RegExp> UrlPatternList<R> {
             IsFirstMatchOf R.answer (patterns_view self.now) (borrowed_texts texts.entry) (first_captures_view found)) }
         ensures asked { IfErr result (λ _. AsksBeforeMatch R.answer (patterns_view self.now) (borrowed_texts texts.entry)) }
     {
-        let candidates = self.index.candidates(Address {
+        let hashes = Address {
             protocol: texts.protocol,
             hostname: texts.hostname,
             pathname: texts.pathname,
-        });
+        }
+        .hashes();
         let mut from = 0;
-        while let Some(index) = candidates.least_from(from) {
+        while let Some(index) = self.index.first_from(&hashes, from) {
             let pattern = &self.patterns[index];
             if let Some(captures) = captures_of_texts(alloc, pattern, &texts)? {
                 return Ok(Some((index, captures)));

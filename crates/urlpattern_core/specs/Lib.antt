@@ -7,4 +7,5 @@ pub mod Looks
 pub mod Matchers
 pub mod Neighbours
 pub mod NormalForms
+pub mod Outlines
 pub mod PartTexts

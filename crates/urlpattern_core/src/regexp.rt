@@ -2,14 +2,16 @@
 
 mod rust;
 
-ghost use Rattle.std.specs.Prelude.{◌≡◌, Bool, ℕ, List, Option, Err, IfOk};
+ghost use Rattle.std.specs.Prelude.{◌≡◌, ◌≢◌, Bool, ℕ, List, Option, Err, IfOk, None};
 ghost use Rattle.std.specs.Str.{chars};
 ghost use Rattle.urlpattern_core.specs.CaptureTexts.{captures_view};
+ghost use Rattle.urlpattern_core.specs.Outlines.{HasOutline};
 ghost use Rattle.urlpattern_meaning.specs.PartMeaning.{Captures};
 ghost use Rattle.urlpattern_syntax.specs.declared.error.RegExpError.TheVariants.{Pattern};
 ghost use Rattle.urlpattern_syntax.specs.declared.parser.RegexSyntax.{RegexSyntax};
 
 use crate::error::{OutOfMemory, RegExpError};
+use crate::outline::OutlineItem;
 use crate::parser::RegexSyntax;
 use regex::Regex;
 use std::alloc::Global;
@@ -75,6 +77,16 @@ pub trait RegExp: Sized + Drop {
     /// The text that the value was made of.
     fn pattern_string(&self) -> &str
         ensures { chars result.now ≡ text_made_of self.now };
+
+    /// What is known of each text that is matched: an outline that it has. An engine that knows nothing keeps this body, by
+    /// which it is any text.
+    ///
+    /// The error is that memory ran out.
+    fn outline(&self, alloc: Global) -> Result<Vec<OutlineItem>, OutOfMemory>
+        ensures { IfOk result (λ outline. (text : List ℕ) → answer self.now text ≢ None → HasOutline outline.items text) }
+    {
+        Ok(vec![in alloc; OutlineItem::Anything]?)
+    }
 }
 
 /// The engine of the crate `regex`. It takes no notice of flags, and reads each text at once.

@@ -9,7 +9,7 @@ use Rattle.urlpattern_meaning.specs.PartMeaning.{Captures}
 use Rattle.urlpattern_engine.specs.declared.step.Copies.{Copies as Copied}
 use Rattle.urlpattern_engine.specs.declared.step.Step.{Step}
 use Rattle.urlpattern_engine.specs.declared.step.Step.TheVariants.{Literal, Segment, Anything, Maybe, Longest, Copies, Segments}
-use Rattle.urlpattern_engine.specs.Walk.{AreCopiesOf, BeginsAs, Continuation, after_text, any_rounds, joined, literal_text, literals, repeated, rounds, some_rounds, walk, walk_after, walk_copies}
+use Rattle.urlpattern_engine.specs.Walk.{AreCopiesOf, BeginsAs, Continuation, after_text, any_rounds, in_turn, literal_text, literals, repeated, rounds, some_rounds, walk, walk_after, walk_copies}
 use Rattle.urlpattern_engine.proofs.Rounds.{advances-after, any-unrolled, keeps-any, keeps-some}
 use Rattle.urlpattern_engine.proofs.StepLemmas.{walk_after-drop}
 use Rattle.urlpattern_engine.proofs.Tried.{Next}
@@ -102,13 +102,13 @@ module _ (ignore_case : Bool) (c : ℕ) (literal : List ℕ) (next : Next) where
       (after-found ignore_case copy (last ++ rest) rest (any_rounds (after_text ignore_case copy) going_on) [] (last, refl, same)
       ∙ rounds-fronts ignore_case copy next (length rest) last [] rest)
 
-  all_led : (copies : List (List ℕ)) (rest : List ℕ) → AreCopiesOf ignore_case copy copies → after_all [] (joined copies ++ rest) ≡ led next copies rest (after_all [] rest)
+  all_led : (copies : List (List ℕ)) (rest : List ℕ) → AreCopiesOf ignore_case copy copies → after_all [] (in_turn copies ++ rest) ≡ led next copies rest (after_all [] rest)
   all_led [] rest are = refl
   all_led (last ∷ copies) rest (same, are) =
-      ap (after_all []) (append_assoc (joined copies) last rest) ∙ all_led copies (last ++ rest) are ∙ ap (led next copies (last ++ rest)) (one_more last rest same)
+      ap (after_all []) (append_assoc (in_turn copies) last rest) ∙ all_led copies (last ++ rest) are ∙ ap (led next copies (last ++ rest)) (one_more last rest same)
 
   pub copies_led : (copies : List (List ℕ)) (rest : List ℕ) → AreCopiesOf ignore_case copy copies → ((end : List ℕ) → ¬ BeginsAs ignore_case copy rest end)
-      → any_rounds (after_text ignore_case copy) going_on [] (joined copies ++ rest) ≡ led next copies rest (next rest)
+      → any_rounds (after_text ignore_case copy) going_on [] (in_turn copies ++ rest) ≡ led next copies rest (next rest)
   copies_led copies rest are other =
       all_led copies rest are
       ∙ ap (led next copies rest)
@@ -123,15 +123,15 @@ module _ (ignore_case : Bool) (c : ℕ) (literal : List ℕ) (next : Next) where
       (fronts, append_cancel_left front end end' (e ∙ ap (λ f. f ++ end') (sym fronts)))
 
   -- the last copy goes to the rest
-  pub copy_shrinks : (copies : List (List ℕ)) (front shorter end rest : List ℕ) → IsUtf8 shorter → IsUtf8 end → front ≡ shorter ++ end → chars front ≡ joined copies → AreCopiesOf ignore_case copy copies
+  pub copy_shrinks : (copies : List (List ℕ)) (front shorter end rest : List ℕ) → IsUtf8 shorter → IsUtf8 end → front ≡ shorter ++ end → chars front ≡ in_turn copies → AreCopiesOf ignore_case copy copies
       → length (chars end) ≡ length copy → next (chars rest) ≡ None
-      → (fewer : List (List ℕ)) × (chars shorter ≡ joined fewer) × AreCopiesOf ignore_case copy fewer
+      → (fewer : List (List ℕ)) × (chars shorter ≡ in_turn fewer) × AreCopiesOf ignore_case copy fewer
       × (led next copies (chars rest) (next (chars rest)) ≡ led next fewer (chars (end ++ rest)) (next (chars (end ++ rest))))
   copy_shrinks [] front shorter end rest u v e f are same none =
       let nothing = ap length (sym (ap chars e ∙ chars-append shorter end u) ∙ f) in
       absurd (omega (arith, nothing, length-append (chars shorter) (chars end), same))
   copy_shrinks (last ∷ copies) front shorter end rest u v e f (is, are) same none =
-      let both = same_ends (chars shorter) (chars end) (joined copies) last (sym (ap chars e ∙ chars-append shorter end u) ∙ f) (same ∙ sym (same-length ignore_case last copy is)) in
+      let both = same_ends (chars shorter) (chars end) (in_turn copies) last (sym (ap chars e ∙ chars-append shorter end u) ∙ f) (same ∙ sym (same-length ignore_case last copy is)) in
       let longer : last ++ chars rest ≡ chars (end ++ rest) = ap (λ t. t ++ chars rest) (sym both.1) ∙ sym (chars-append end rest v) in (
         copies,
         both.0,
@@ -140,11 +140,11 @@ module _ (ignore_case : Bool) (c : ℕ) (literal : List ℕ) (next : Next) where
       )
 
   -- where the front is too short for a copy, none is left
-  pub no_copy_left : (copies : List (List ℕ)) (front rest : List ℕ) (found : Option Captures) → front ≡ joined copies → AreCopiesOf ignore_case copy copies → length front < length copy
+  pub no_copy_left : (copies : List (List ℕ)) (front rest : List ℕ) (found : Option Captures) → front ≡ in_turn copies → AreCopiesOf ignore_case copy copies → length front < length copy
       → led next copies rest found ≡ found
   no_copy_left [] front rest found e are lt = refl
   no_copy_left (last ∷ copies) front rest found e (is, are) lt =
-      absurd (omega (arith, ap length e, length-append (joined copies) last, same-length ignore_case last copy is, lt))
+      absurd (omega (arith, ap length e, length-append (in_turn copies) last, same-length ignore_case last copy is, lt))
 
   -- one copy is taken at least
   pub copies_after : (text rest : List ℕ) → BeginsAs ignore_case copy text rest

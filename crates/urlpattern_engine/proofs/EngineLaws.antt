@@ -1,10 +1,14 @@
 -- A value of the engine answers the first way, and what `regex::Regex` answers.
-use Rattle.std.proofs.Common.{◌≡◌, ℕ, Bool, false, true, List, refl, sym, ap, ◌∙◌, subst, inl, inr}
+use Rattle.std.proofs.Common.{◌≡◌, ℕ, Bool, false, true, List, Option, Some, None, length, refl, sym, ap, ◌∙◌, subst, inl, inr}
 use Rattle.std.proofs.lemmas.Str.{IsUtf8-string_bytes}
-use Rattle.std.specs.Prelude.{⊤, IsOk, IsTrue, Ok, Err, Result, string_bytes}
+use Rattle.std.specs.Prelude.{⊤, IfSome, IsOk, IsTrue, Ok, Err, Result, string_bytes}
 use Rattle.std.specs.Str.{all_scalars}
 use Rattle.regex.specs.declared.string.regex.Regex.{Regex}
-use Rattle.regex_syntax.specs.Verdict.{Reads}
+use Rattle.regex_hir.specs.Re.{Re}
+use Rattle.regex_hir.specs.declared.hir.Hir.{Hir}
+use Rattle.regex_syntax.specs.Brackets.{Nested}
+use Rattle.regex_syntax.specs.Grammar.{Names, read}
+use Rattle.regex_syntax.specs.Verdict.{Reads, default_config}
 use Rattle.urlpattern_core.specs.Regexes.{IsRegexOf, regex_answer, regex_engine}
 use Rattle.urlpattern_core.specs.FirstWays.{AllAnswerAlike, ComponentsTakeGenerated, EachAnswersFirst, KeepsCase, MatchersTakeGenerated, ValuesAnswerAlike, ValuesAnswerByFlags, ValuesAnswerFirst}
 use Rattle.urlpattern_core.specs.Generated.{AreGenerated}
@@ -27,10 +31,11 @@ use Rattle.urlpattern_engine.specs.PatternRegexps.{IsExpressionOf, IsPatternRege
 use Rattle.urlpattern_engine.specs.declared.step.Step.{Step}
 use Rattle.urlpattern_engine.specs.Automatons.{IsRegexReadAs, config_for, names_of}
 use Rattle.urlpattern_engine.specs.ReadSteps.{AreStepsOf, IsGenerated}
+use Rattle.urlpattern_engine.specs.Readings.{ValuesAnswerAsRead, re_answer}
 use Rattle.urlpattern_engine.specs.Walk.{walk}
 use Rattle.urlpattern_meaning.proofs.FirstAnswers.{took_all}
-use Rattle.urlpattern_engine.proofs.AutomatonLemmas.{automaton_first, automaton_same}
-use Rattle.urlpattern_engine.proofs.TwoReadings.{default_read, read_by_default, regexes_same, tree_same}
+use Rattle.urlpattern_engine.proofs.AutomatonLemmas.{answers_as_tree, automaton_first, automaton_same}
+use Rattle.urlpattern_engine.proofs.TwoReadings.{default_read, first_is_read, read_by_default, regex_read, regexes_same, tree_is_read, tree_same}
 
 -- the steps of an expression answer the first way of its tree, whether case counts or not
 steps_first : (ignore_case : Bool) (regexp : List ℕ) (tree : Items) (steps : List Step) (text : List ℕ) → IsTreeOf regexp tree → AreStepsOf regexp steps → walk ignore_case steps text ≡ first_way_by ignore_case tree text
@@ -93,6 +98,40 @@ expression_same ignore_case regexp (Other other) regex text kept made also fine 
 pub pattern_regexp_same : ValuesAnswerAlike pattern_engine regex_engine KeepsCase
 unfolding pattern_answer
 pattern_regexp_same regexp flags value regex text keeps made also fine = expression_same value.ignore_case regexp value.expression regex text (made.by_flags ∙ keeps) made.of_text also fine
+
+-- ---- what the grammar reads
+
+read_default : (ignore_case : Bool) (source : List ℕ) (hir : Hir) (names : Names) → ignore_case ≡ false → Reads (config_for ignore_case) source hir names → Reads default_config source hir names
+read_default ignore_case source hir names kept is_read = subst (λ (b : Bool). Reads (config_for b) source hir names) kept is_read
+
+expression_read : (ignore_case : Bool) (regexp : List ℕ) (expression : Expression) → ignore_case ≡ false → IsExpressionOf ignore_case regexp expression
+    → (found : Nested Re × Names) → read default_config regexp ≡ Some found
+    → (text : List ℕ) → IsTrue (all_scalars text) → expression_answer ignore_case expression text ≡ re_answer found.0.value (length found.1) text
+expression_read ignore_case regexp (Own own) kept made found e text fine =
+    ap (λ b. walk b own.steps.items text) kept ∙ made.1.answers false text
+    ∙ first_is_read regexp (string_bytes own.text) made.1.tree made.1.is_tree (IsUtf8-string_bytes own.text) made.0 found e text fine
+expression_read ignore_case regexp (Compiled automaton) kept made found e text fine =
+    let source = string_bytes automaton.value.text in
+    answers_as_tree ignore_case regexp source automaton.value.nfa (IsUtf8-string_bytes automaton.value.text) made.0 made.1 text fine
+    ∙ tree_is_read regexp made.1.tree made.1.names (source, made.0, read_default ignore_case source made.1.tree made.1.names kept made.1.of_tree.is_read) found e text fine
+expression_read ignore_case regexp (Kept value) kept made found e text fine =
+    let source = string_bytes value.value.text in
+    let names = names_of value.value.names.items in
+    tree_is_read regexp value.value.hir names (source, made.0, read_default ignore_case source value.value.hir names kept made.1.is_read) found e text fine
+expression_read ignore_case regexp (Other regex) kept made found e text fine =
+    regex_read regexp regex.value (by_default ignore_case regexp regex.value kept made.0) found e text fine
+
+if_some : {X : Type 0} (o : Option X) (P : X → Type 0) → ((x : X) → o ≡ Some x → P x) → IfSome o P
+if_some None P f = tt
+if_some (Some x) P f = f x refl
+
+pub pattern_values_read : ValuesAnswerAsRead pattern_engine KeepsCase
+unfolding pattern_answer
+pattern_values_read regexp flags value keeps made =
+    if_some (read default_config regexp) _ (λ found e text fine. expression_read value.ignore_case regexp value.expression (made.by_flags ∙ keeps) made.of_text found e text fine)
+
+pub regex_values_read : ValuesAnswerAsRead regex_engine (λ flags. ⊤)
+regex_values_read regexp flags regex any made = if_some (read default_config regexp) _ (λ found e text fine. regex_read regexp regex made found e text fine)
 
 -- ---- matchers
 

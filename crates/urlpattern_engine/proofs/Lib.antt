@@ -28,4 +28,5 @@ pub mod TwoReadings
 pub mod TextParts
 pub mod AutomatonLemmas
 pub mod EngineLaws
+pub mod Outlines
 pub mod StepExamples

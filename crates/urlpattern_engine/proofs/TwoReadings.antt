@@ -1,23 +1,35 @@
--- Two trees that the grammar reads in the same text answer the same.
-use Rattle.std.proofs.Common.{◌≡◌, ℕ, ◌+◌, ◌-◌, ◌*◌, List, map, length, Option, Some, None, IsSomeAnd, is_some, option_map, true, Bool, false, true≢false, refl, sym, ap, ◌∙◌}
+-- Two trees that the grammar reads in the same text answer the same, and what the grammar reads.
+use Rattle.std.proofs.Common.{◌≡◌, ℕ, ◌+◌, ◌-◌, ◌*◌, List, map, length, Option, Some, None, IsSomeAnd, is_some, option_map, true, Bool, false, true≢false, refl, sym, ap, subst, suc, arith, codes, ◌∙◌, ◌++◌}
 use Rattle.std.specs.List.{range_with_len}
 use Rattle.std.specs.Prelude.{IsTrue, encode_utf8_all}
-use Rattle.std.specs.Str.{all_scalars, chars}
+use Rattle.std.specs.Str.{IsUtf8, all_scalars, chars}
+use Rattle.std.proofs.lemmas.List.{length-replicate}
+use Rattle.std.proofs.lemmas.Option.{same_Some}
+use Rattle.std.proofs.lemmas.Str.{scalars-chars}
+use lib.Utf8.{scalars}
 use Rattle.regex_hir.specs.Find.{Match, find_str, slot_of}
 use Rattle.regex_hir.specs.Meaning.{meaning}
+use Rattle.regex_hir.specs.Re.{Re}
 use Rattle.regex_hir.specs.declared.hir.Hir.{Hir}
+use Rattle.regex_syntax.specs.Brackets.{Nested}
 use Rattle.regex_syntax.specs.Captures.{SameCaptures}
 use Rattle.regex_syntax.specs.Grammar.{Names, read}
-use Rattle.regex_syntax.specs.Verdict.{Reads}
+use Rattle.regex_syntax.specs.Verdict.{default_config, Reads}
 use Rattle.regex_syntax.specs.declared.Config.{Config}
-use Rattle.regex_syntax.proofs.CapturesLemmas.{alike_sym, ◌also◌}
+use Rattle.regex_syntax.proofs.CapturesLemmas.{alike_of_same, alike_sym, ◌also◌}
 use Rattle.regex.specs.Strings.{regex_names, regex_source}
 use Rattle.regex.specs.Writes.{both, group_of}
 use Rattle.regex.specs.declared.string.regex.Regex.{Regex}
 use Rattle.regex.proofs.ForCallers.{found_alike, is_match_alike}
 use Rattle.urlpattern_core.specs.Regexes.{IsRegexOf, group_texts, regex_answer, text_between}
 use Rattle.urlpattern_core.proofs.Bytes.{bytes_below}
+use Rattle.urlpattern_core.proofs.GroupsRefused.{tree_reads}
+use Rattle.urlpattern_core.proofs.TreeSearch.{found_is_first}
+use Rattle.urlpattern_core.proofs.TreesRead.{re_of, scalars_parts}
+use Rattle.urlpattern_meaning.specs.Dialect.{IsTreeOf, Items, group_count, items_text}
+use Rattle.urlpattern_meaning.specs.Ways.{first_way}
 use Rattle.urlpattern_engine.specs.Automatons.{IsRegexReadAs, config_for, tree_answer}
+use Rattle.urlpattern_engine.specs.Readings.{re_answer}
 use Rattle.urlpattern_meaning.specs.PartMeaning.{Captures}
 
 both_hold : {A B : Type 0} (o : Option A) (P Q : A → Type 0) → ((x : A) → P x → Q x → B) → IsSomeAnd o P → IsSomeAnd o Q → B
@@ -28,38 +40,73 @@ both_hold (Some x) P Q f p q = f x p q
 abbrev pub IsReadIn : (config : Config) → (regexp : List ℕ) → Hir → Names → Type 0
 IsReadIn config regexp hir names = (source : List ℕ) × (chars source ≡ regexp) × Reads config source hir names
 
+-- ---- patterns that match alike
+
+module _ (a b : Re) (alike : SameCaptures a b) (text : List ℕ) (fine : IsTrue (all_scalars text)) where
+  abbrev bytes : List ℕ
+  bytes = encode_utf8_all text
+
+  abbrev texts_of : ℕ → Match → Captures
+  texts_of count found = group_texts bytes count (group_of found)
+
+  same_texts : (count : ℕ) (m n : Match) → slot_of n ≡ slot_of m → texts_of count m ≡ texts_of count n
+  same_texts count m n e =
+      ap (λ (slots : ℕ → Option ℕ). map (λ k. option_map (text_between bytes) (both (slots (2 * k)) (slots (2 * k + 1)))) (range_with_len 1 count)) (sym e)
+
+  carried : (count : ℕ) (o p : Option Match) → is_some o ≡ is_some p → ((m : Match) → o ≡ Some m → (n : Match) × (p ≡ Some n) × (slot_of n ≡ slot_of m))
+      → option_map (texts_of count) o ≡ option_map (texts_of count) p
+  carried count None None e f = refl
+  carried count None (Some n) e f = absurd (true≢false (sym e))
+  carried count (Some m) p e f =
+      let found = f m refl in
+      ap Some (same_texts count m found.0 found.2) ∙ ap (option_map (texts_of count)) (sym found.1)
+
+  pub answers_alike : (groups : ℕ) → re_answer a groups text ≡ re_answer b groups text
+  answers_alike groups =
+      let below = bytes_below text fine in
+      carried (groups - 1) (find_str a bytes 0) (find_str b bytes 0) (is_match_alike alike bytes below true 0) (found_alike alike bytes below true 0)
+
+-- ---- two trees that are read in one text
+
 module _ (config : Config) (regexp : List ℕ) (hir other : Hir) (names others : Names) (made : IsReadIn config regexp hir names) (again : IsReadIn config regexp other others) where
-  alike : SameCaptures (meaning hir) (meaning other) × (names ≡ others)
+  both_alike : SameCaptures (meaning hir) (meaning other) × (names ≡ others)
   unfolding Reads
-  alike =
+  both_alike =
       both_hold (read config regexp) _ _ (λ x h q. (h.1 also (alike_sym q.1), h.2 ∙ sym q.2))
       (rw (made.1) at made.2) (rw (again.1) at again.2)
 
-  module _ (text : List ℕ) (fine : IsTrue (all_scalars text)) where
-    abbrev bytes : List ℕ
-    bytes = encode_utf8_all text
+  pub readings_same : (text : List ℕ) → IsTrue (all_scalars text) → tree_answer hir names text ≡ tree_answer other others text
+  readings_same text fine =
+      ap (λ (all : Names). re_answer (meaning hir) (length all) text) both_alike.1
+      ∙ answers_alike (meaning hir) (meaning other) both_alike.0 text fine (length others)
 
-    abbrev texts_of : ℕ → Match → Captures
-    texts_of count found = group_texts bytes count (group_of found)
+of_value : {X : Type 0} (o : Option X) (P : X → Type 0) → IsSomeAnd o P → (x : X) → o ≡ Some x → P x
+of_value None P p x e = absurd p
+of_value (Some y) P p x e = subst P (same_Some y x e) p
 
-    same_texts : (count : ℕ) (m n : Match) → slot_of n ≡ slot_of m → texts_of count m ≡ texts_of count n
-    same_texts count m n e =
-        ap (λ (slots : ℕ → Option ℕ). map (λ k. option_map (text_between bytes) (both (slots (2 * k)) (slots (2 * k + 1)))) (range_with_len 1 count)) (sym e)
+-- such a tree answers what the grammar reads
+pub tree_is_read : (regexp : List ℕ) (hir : Hir) (names : Names) → IsReadIn default_config regexp hir names → (found : Nested Re × Names) → read default_config regexp ≡ Some found
+    → (text : List ℕ) → IsTrue (all_scalars text) → tree_answer hir names text ≡ re_answer found.0.value (length found.1) text
+unfolding Reads
+tree_is_read regexp hir names made found e text fine =
+    let known = of_value (read default_config (chars made.0)) _ made.2 found (ap (read default_config) made.1 ∙ e) in
+    ap (λ (all : Names). re_answer (meaning hir) (length all) text) known.2
+    ∙ answers_alike (meaning hir) found.0.value known.1 text fine (length found.1)
 
-    carried : (count : ℕ) (o p : Option Match) → is_some o ≡ is_some p → ((m : Match) → o ≡ Some m → (n : Match) × (p ≡ Some n) × (slot_of n ≡ slot_of m))
-        → option_map (texts_of count) o ≡ option_map (texts_of count) p
-    carried count None None e f = refl
-    carried count None (Some n) e f = absurd (true≢false (sym e))
-    carried count (Some m) p e f =
-        let found = f m refl in
-        ap Some (same_texts count m found.0 found.2) ∙ ap (option_map (texts_of count)) (sym found.1)
-
-    pub readings_same : tree_answer hir names text ≡ tree_answer other others text
-    readings_same =
-        let below = bytes_below text fine in
-        ap (λ (all : Names). option_map (texts_of (length all - 1)) (find_str (meaning hir) bytes 0)) alike.1
-        ∙ carried (length others - 1) (find_str (meaning hir) bytes 0) (find_str (meaning other) bytes 0)
-        (is_match_alike alike.0 bytes below true 0) (found_alike alike.0 bytes below true 0)
+-- and so does the first way of a tree of the dialect
+pub first_is_read : (regexp source : List ℕ) (tree : Items) → IsTreeOf regexp tree → IsUtf8 source → chars source ≡ regexp → (found : Nested Re × Names) → read default_config regexp ≡ Some found
+    → (text : List ℕ) → IsTrue (all_scalars text) → first_way tree text ≡ re_answer found.0.value (length found.1) text
+first_is_read regexp source tree is utf8 of_text found e text fine =
+    let all : scalars (codes "^" ++ items_text tree ++ codes "$") ≡ true = ap scalars (sym (of_text ∙ is.0)) ∙ scalars-chars source utf8 in
+    let good : scalars (items_text tree) ≡ true = (scalars_parts (items_text tree) (codes "$") all).0 in
+    let same = tree_reads tree is.1 good found (ap (read default_config) (sym is.0) ∙ e) in
+    let none : Option (List ℕ) = None in
+    let count : length found.1 - 1 ≡ group_count tree =
+    omega (arith, ap (λ (f : Nested Re × Names). length f.1) same.0, length-replicate (suc (group_count tree)) none) in
+    sym
+    (answers_alike found.0.value (re_of tree) (alike_of_same same.1.matches) text fine (length found.1)
+    ∙ ap (λ n. option_map (λ m. group_texts (encode_utf8_all text) n (group_of m)) (find_str (re_of tree) (encode_utf8_all text) 0)) count
+    ∙ found_is_first tree is.1 text fine)
 
 -- ---- values of the crate `regex`
 
@@ -89,3 +136,9 @@ pub tree_same : (ignore_case : Bool) (regexp source : List ℕ) (hir : Hir) (nam
 tree_same ignore_case regexp source hir names of_text is_read regex made text fine =
     readings_same (config_for ignore_case) regexp hir _ names _ (source, of_text, is_read) (regex_is_read ignore_case regexp regex made) text fine
     ∙ sym (regex_answer_is regex text)
+
+-- a value answers what the grammar reads in its text
+pub regex_read : (regexp : List ℕ) (regex : Regex) → IsRegexOf regexp regex → (found : Nested Re × Names) → read default_config regexp ≡ Some found
+    → (text : List ℕ) → IsTrue (all_scalars text) → regex_answer regex text ≡ re_answer found.0.value (length found.1) text
+regex_read regexp regex made found e text fine =
+    regex_answer_is regex text ∙ tree_is_read regexp _ _ (regex_is_read false regexp regex (read_by_default regexp regex made)) found e text fine

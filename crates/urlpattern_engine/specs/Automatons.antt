@@ -8,7 +8,7 @@ use Rattle.regex.specs.Writes.{both, group_of}
 use Rattle.regex.specs.declared.string.regex.Regex.{Regex}
 use Rattle.regex_compile.specs.Implements.{Implements}
 use Rattle.regex_extract.specs.Bounds.{IsAnchored}
-use Rattle.regex_hir.specs.Find.{Match, find_str}
+use Rattle.regex_hir.specs.Find.{Match}
 use Rattle.regex_hir.specs.Meaning.{meaning}
 use Rattle.regex_hir.specs.declared.hir.Hir.{Hir}
 use Rattle.regex_nfa.specs.declared.nfa.Nfa.{Nfa}
@@ -17,7 +17,8 @@ use Rattle.regex_syntax.specs.Verdict.{Reads, default_config, default_flags}
 use Rattle.regex_syntax.specs.declared.Config.{Config}
 use Rattle.regex_syntax.specs.WellFormed.{IsWellFormed}
 use Rattle.regex_vm.specs.Found.{first_match}
-use Rattle.urlpattern_core.specs.Regexes.{group_texts, regex_text, text_between}
+use Rattle.urlpattern_core.specs.Regexes.{regex_text, text_between}
+use Rattle.urlpattern_engine.specs.Readings.{re_answer}
 use Rattle.urlpattern_meaning.specs.PartMeaning.{Captures}
 
 -- the characters from one byte place to another, if these are in order and between characters
@@ -61,9 +62,7 @@ pub record IsReadAtStart (ignore_case : Bool) (source : List ℕ) (tree : Hir) (
 
 -- what the groups of the first match of a tree with these names of groups span
 abbrev pub tree_answer : Hir → Names → List ℕ → Option Captures
-tree_answer hir names text =
-    let bytes = encode_utf8_all text in
-    option_map (λ found. group_texts bytes (length names - 1) (group_of found)) (find_str (meaning hir) bytes 0)
+tree_answer hir names text = re_answer (meaning hir) (length names) text
 
 -- The automaton was made of the text: it gives the matches of the tree that the grammar reads there, which begin at the start.
 pub record IsNfaOf (ignore_case : Bool) (source : List ℕ) (nfa : Nfa) : Type 0 where

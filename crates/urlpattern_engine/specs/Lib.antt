@@ -3,5 +3,7 @@ pub mod Failed
 pub mod Taken
 pub mod Table
 pub mod ReadSteps
+pub mod Readings
+pub mod OutlineSteps
 pub mod Automatons
 pub mod PatternRegexps

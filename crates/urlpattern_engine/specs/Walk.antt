@@ -97,9 +97,9 @@ abbrev pub literal_text : (first : ℕ) → (literal : List Step) → List ℕ
 literal_text first literal = first ∷ literals literal
 
 -- texts one after the other, of which the last is the first of the list
-abbrev pub joined : List (List ℕ) → List ℕ
-joined [] = []
-joined (last ∷ texts) = joined texts ++ last
+abbrev pub in_turn : List (List ℕ) → List ℕ
+in_turn [] = []
+in_turn (last ∷ texts) = in_turn texts ++ last
 
 -- each of them is a copy of the text, as they are compared
 abbrev pub AreCopiesOf : (ignore_case : Bool) → (copy : List ℕ) → List (List ℕ) → Type 0

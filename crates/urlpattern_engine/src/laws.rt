@@ -2,10 +2,12 @@
 //!
 //! Each function here does nothing; what it promises is a theorem.
 
+ghost use Rattle.std.specs.Prelude.{⊤};
 ghost use Rattle.urlpattern_core.specs.Components.{FlagsAgree};
 ghost use Rattle.urlpattern_core.specs.Regexes.{regex_engine};
 ghost use Rattle.urlpattern_core.specs.FirstWays.{AllAnswerAlike, ComponentsTakeGenerated, EachAnswersFirst, KeepsCase, MatchersTakeGenerated, ValuesAnswerAlike, ValuesAnswerByFlags, ValuesAnswerFirst, ValuesFollowParts, ValuesFollowTexts};
 ghost use Rattle.urlpattern_engine.specs.PatternRegexps.{pattern_engine};
+ghost use Rattle.urlpattern_engine.specs.Readings.{ValuesAnswerAsRead};
 ghost use Rattle.urlpattern_syntax.specs.declared.parser.RegexSyntax.{RegexSyntax};
 
 /// A value of the engine that was made without the flag `i` answers the first way of the tree of the text it was made of, to each
@@ -23,6 +25,13 @@ pub fn pattern_regexps_answer_the_first_way()
 /// characters, whatever the text they were made of.
 pub fn pattern_regexps_answer_as_regex_does()
     ensures { ValuesAnswerAlike pattern_engine regex_engine KeepsCase }
+{}
+
+/// A value of the engine that was made without the flag `i` answers the first match of what the grammar of `regex` reads in the text
+/// that it was made of, with the texts of its groups, whether the text is custom or not. So does a `regex::Regex`.
+pub fn pattern_regexps_answer_what_the_grammar_reads()
+    ensures own { ValuesAnswerAsRead pattern_engine KeepsCase }
+    ensures regex { ValuesAnswerAsRead regex_engine (λ flags. ⊤) }
 {}
 
 /// The engine takes each text that is generated of parts, none of them custom: a matcher of such parts has a value where it needs

@@ -13,6 +13,7 @@ mod failed;
 mod fronts;
 mod kept;
 pub mod laws;
+mod outline;
 mod pattern_regexp;
 mod reading;
 mod repeats;

@@ -13,6 +13,7 @@ use crate::automaton::{Automaton, regex_of};
 use crate::by_table::walk_by_table;
 use crate::choices::{Strategy, strategy_of};
 use crate::kept::Kept;
+use crate::outline::{outline_of, outline_of_any};
 use crate::reading::read_steps;
 use crate::step::Step;
 use crate::walk::walk;
@@ -20,6 +21,7 @@ use regex::Regex;
 use std::alloc::{AllocError, Global};
 use urlpattern_core::RegexSyntax;
 use urlpattern_core::error::{OutOfMemory, RegExpError};
+use urlpattern_core::outline::OutlineItem;
 use urlpattern_core::regexp::RegExp;
 
 /// An engine that answers what `regex::Regex` answers.
@@ -132,6 +134,16 @@ impl RegExp for PatternRegexp {
             Expression::Compiled(automaton) => automaton.text.as_str(),
             Expression::Kept(kept) => kept.text.as_str(),
             Expression::Other(regex) => RegExp::pattern_string(&**regex),
+        }
+    }
+
+    fn outline(&self, alloc: Global) -> Result<Vec<OutlineItem>, OutOfMemory> {
+        if self.ignore_case {
+            return Ok(outline_of_any(alloc)?);
+        }
+        match &self.expression {
+            Expression::Own(own) => Ok(outline_of(alloc, &own.steps)?),
+            _ => Ok(outline_of_any(alloc)?),
         }
     }
 }

@@ -3,7 +3,7 @@
 ghost use Rattle.std.specs.Prelude.{◌≡◌, ◌++◌, ℕ, suc, ◌<◌, List, length, None, IfNone, IfSome, drop, get_or, take, if◌then◌else◌};
 ghost use Rattle.std.specs.Option.{option_or};
 ghost use Rattle.std.specs.Str.{chars};
-ghost use Rattle.urlpattern_engine.specs.Walk.{AreCopiesOf, BeginsAs, joined, literal_text, literals};
+ghost use Rattle.urlpattern_engine.specs.Walk.{AreCopiesOf, BeginsAs, in_turn, literal_text, literals};
 ghost use Rattle.urlpattern_engine.specs.Taken.{going_on, IsWithoutLast};
 
 use crate::step::Step;
@@ -56,7 +56,7 @@ pub(crate) fn skip_copies<'t>(
     literal: &[Step],
     ignore_case: bool,
 ) -> &'t str
-    ensures front { (copies : List (List ℕ)) × (chars text.now ≡ joined copies ++ chars result.now) × AreCopiesOf ignore_case (literal_text first literal.now) copies }
+    ensures front { (copies : List (List ℕ)) × (chars text.now ≡ in_turn copies ++ chars result.now) × AreCopiesOf ignore_case (literal_text first literal.now) copies }
     ensures all { (rest : List ℕ) → ¬ BeginsAs ignore_case (literal_text first literal.now) (chars result.now) rest }
 {
     let mut rest = text;

@@ -1,2 +1,2 @@
-pub mod KeyLemmas
 pub mod NumberLemmas
+pub mod SegmentLemmas

@@ -1,19 +1,21 @@
 -- Lemmas on the numbers that an index lists.
-use Rattle.std.proofs.Common.{◌≡◌, ℕ, zero, suc, ◌+◌, ◌<◌, ◌≤◌, List, [], ◌∷◌, ◌++◌, length, get_or, refl, sym, ap, subst, ◌∙◌, cond, inl, inr, arith, Bool, eqb, true, false, add-zero, zero-add, ◌⊎◌}
+use Rattle.std.proofs.Common.{◌≡◌, ℕ, zero, suc, ◌+◌, ◌<◌, ◌≤◌, List, [], ◌∷◌, ◌++◌, length, get_or, refl, sym, ap, subst, ◌∙◌, cond, inl, inr, arith, ◌-◌, Bool, eqb, ltb, not, true, false, add-zero, zero-add, ◌⊎◌}
 use Rattle.std.proofs.Math.Nat.{min-eq_left, min-eq_right, min-le_left, min-le_right}
 use Rattle.std.proofs.lemmas.Bool.{cases_lt}
 use Rattle.std.proofs.lemmas.Bool.Decides.{nat_tests}
-use Rattle.std.proofs.lemmas.List.{get_or_default}
-use Rattle.std.proofs.lemmas.List.Elements.{All-head, All-nil, All-push, All-tail, Contains-append_left, Contains-push, Contains-push_cases}
+use Rattle.std.proofs.lemmas.List.{get_or_default, length_push}
+use Rattle.std.proofs.lemmas.List.Elements.{Contains-append_left, Contains-push, Contains-push_cases}
 use Rattle.std.proofs.lemmas.Option.{slice_get-get_or, slice_get_cases, slice_get_past, same_Some}
 use Rattle.std.specs.List.Sorted.{IsNonDecreasingBy}
 use Rattle.std.specs.Borrow.{Bor}
-use Rattle.std.specs.Prelude.{All, Contains, Option, Some, None, map, option_copied, slice_get}
+use Rattle.std.specs.Prelude.{Contains, IsTrue, Option, Some, None, Vec, option_copied, option_map, slice_get, unwrap_or}
+use Rattle.std.specs.List.{remove}
+use Rattle.std.specs.Map.Calls.{RetainsPairs}
+use Rattle.std.specs.Map.{lookup}
 use Rattle.std.specs.Slice.{IsItemAt}
-use Rattle.urlpattern_index.proofs.KeyLemmas.{key-is_among}
-use Rattle.urlpattern_index.specs.Keys.{address_keys, key_of}
 use Rattle.urlpattern_index.specs.FixedTexts.{AddressTexts, FixedTexts, HasTexts}
-use Rattle.urlpattern_index.specs.Listed.{IsAmong, IsFirstFrom, IsLeastFrom, lesser, numbers_of}
+use Rattle.urlpattern_index.specs.Keys.{Fits, FormView, Hashes, form_key, hashes_of}
+use Rattle.urlpattern_index.specs.Listed.{GetsPattern, FindsBy, Listing, lowered, without, IsFirstFrom, IsLeast, lesser, numbers_of}
 
 -- ---- lists that do not fall
 
@@ -54,64 +56,6 @@ is_first_from from i xs sorted below above =
           let from_m : from ≤ m = h.0 in
           omega arith)
     ]
-
--- ---- the least of some lists
-
--- what is among lists and one more
-among-left : (lists : List (List ℕ)) (list : List ℕ) (number : ℕ) → IsAmong lists number → IsAmong (lists ++ list ∷ []) number
-among-left [] list number (k, lt, is) = absurd (omega arith)
-among-left (first ∷ lists) list number (zero, lt, is) = (0, omega arith, is)
-among-left (first ∷ lists) list number (suc k, lt, is) =
-    let h = among-left lists list number (k, (let l : suc k < suc (length lists) = lt in omega arith), is) in
-    (suc h.0, (let l : h.0 < length (lists ++ list ∷ []) = h.1 in omega arith), h.2)
-
-among-last : (lists : List (List ℕ)) (list : List ℕ) (number : ℕ) → Contains list number → IsAmong (lists ++ list ∷ []) number
-among-last [] list number has = (0, omega arith, has)
-among-last (first ∷ lists) list number has =
-    let h = among-last lists list number has in
-    (suc h.0, (let l : h.0 < length (lists ++ list ∷ []) = h.1 in omega arith), h.2)
-
-among-cases : (lists : List (List ℕ)) (list : List ℕ) (number : ℕ) → IsAmong (lists ++ list ∷ []) number → IsAmong lists number ⊎ Contains list number
-among-cases [] list number (zero, lt, is) = inr is
-among-cases [] list number (suc k, lt, is) = absurd (omega arith)
-among-cases (first ∷ lists) list number (zero, lt, is) = inl (0, omega arith, is)
-among-cases (first ∷ lists) list number (suc k, lt, is) =
-    elim (among-cases lists list number (k, (let l : suc k < suc (length (lists ++ list ∷ [])) = lt in omega arith), is)) [
-      | inl h ↦ inl (suc h.0, (let l : h.0 < length lists = h.1 in omega arith), h.2)
-      | inr h ↦ inr h
-    ]
-
-module _ (from : ℕ) (lists : List (List ℕ)) (list : List ℕ) where
-  at_left : (number : ℕ) → (from ≤ number) × IsAmong lists number → (from ≤ number) × IsAmong (lists ++ list ∷ []) number
-  at_left number h = (h.0, among-left lists list number h.1)
-
-  at_last : (number : ℕ) → (from ≤ number) × Contains list number → (from ≤ number) × IsAmong (lists ++ list ∷ []) number
-  at_last number h = (h.0, among-last lists list number h.1)
-
-  -- one more list
-  pub least-push : (a b : Option ℕ) → IsLeastFrom from lists a → IsFirstFrom from list b → IsLeastFrom from (lists ++ list ∷ []) (lesser a b)
-  least-push None None none-left none-last = λ number h. elim (among-cases lists list number h.1) [ inl l ↦ none-left number (h.0, l) | inr r ↦ none-last number (h.0, r) ]
-  least-push None (Some b) none-left least = (
-    at_last b least.0,
-    λ number h. elim (among-cases lists list number h.1) [ inl l ↦ absurd (none-left number (h.0, l)) | inr r ↦ least.1 number (h.0, r) ],
-  )
-  least-push (Some a) None least none-last = (
-    at_left a least.0,
-    λ number h. elim (among-cases lists list number h.1) [ inl l ↦ least.1 number (h.0, l) | inr r ↦ absurd (none-last number (h.0, r)) ],
-  )
-  least-push (Some a) (Some b) left last = (
-    elim (cases_lt a b) [
-      | inl lt ↦ (let P : ℕ → Type 0 = λ n. (from ≤ n) × IsAmong (lists ++ list ∷ []) n in
-          let le : a ≤ b = omega arith in
-          subst P (sym (min-eq_left le)) (at_left a left.0))
-      | inr le ↦ (let P : ℕ → Type 0 = λ n. (from ≤ n) × IsAmong (lists ++ list ∷ []) n in
-          subst P (sym (min-eq_right le)) (at_last b last.0))
-    ],
-    λ number h. elim (among-cases lists list number h.1) [
-      | inl l ↦ (let le : a ≤ number = left.1 number (h.0, l) in omega (arith, min-le_left a b))
-      | inr r ↦ (let le : b ≤ number = last.1 number (h.0, r) in omega (arith, min-le_right a b))
-    ],
-  )
 
 -- ---- numbers by key
 
@@ -187,79 +131,164 @@ module _ (key : ℕ) where
       λ h. let r = numbers-listed (first + 1) keys number h in (suc r.0, (let e : number ≡ (first + 1) + r.0 = r.1 in omega arith), r.2) in
       listed_cons first rest number x keys later (eqb key x) refl
 
--- ---- the lists of some keys
-
--- the numbers of the patterns with one of these keys, and no others, in lists that do not fall
-pub record AreCandidates (places keys : List ℕ) (lists : List (List ℕ)) : Type 0 where
-  pub sorted : All (λ list. IsNonDecreasingBy (λ y. y) list) lists
-  pub found : (key number : ℕ) → Contains keys key → Contains (numbers_of key 0 places) number → IsAmong lists number
-  pub listed : (number : ℕ) → IsAmong lists number → (key : ℕ) × Contains keys key × Contains (numbers_of key 0 places) number
-
-module _ (places : List ℕ) where
-  pub candidates-nil : AreCandidates places [] []
-  candidates-nil = record {
-    sorted = All-nil (λ list. IsNonDecreasingBy (λ y. y) list);
-    found = λ key number has in_list. absurd (let lt : has.0 < 0 = has.1 in omega arith);
-    listed = λ number among. absurd (let lt : among.0 < 0 = among.1 in omega arith);
-  }
-
-  module _ (keys : List ℕ) (lists : List (List ℕ)) (key : ℕ) (are : AreCandidates places keys lists) where
-    -- a key that has no numbers
-    pub candidates-pass : numbers_of key 0 places ≡ [] → AreCandidates places (keys ++ key ∷ []) lists
-    candidates-pass none = record {
-      sorted = are.sorted;
-      found = λ k number has in_list. elim (Contains-push_cases keys key k has) [
-        | inl h ↦ are.found k number h in_list
-        | inr same ↦ absurd (
-            let h : Contains (numbers_of key 0 places) number = subst (λ x. Contains (numbers_of x 0 places) number) (sym same) in_list in
-            let e : Contains [] number = subst (λ list. Contains list number) none h in
-            let lt : e.0 < 0 = e.1 in
-            omega arith)
-      ];
-      listed = λ number among. let h = are.listed number among in (h.0, Contains-append_left keys (key ∷ []) h.0 h.1, h.2);
-    }
-
-    -- a key with its numbers
-    pub candidates-push : AreCandidates places (keys ++ key ∷ []) (lists ++ numbers_of key 0 places ∷ [])
-    candidates-push =
-        let numbers = numbers_of key 0 places in
-        record {
-          sorted = All-push (λ list. IsNonDecreasingBy (λ y. y) list) lists numbers are.sorted (numbers-nondecreasing key 0 places);
-          found = λ k number has in_list. elim (Contains-push_cases keys key k has) [
-            | inl h ↦ among-left lists numbers number (are.found k number h in_list)
-            | inr same ↦ among-last lists numbers number (subst (λ x. Contains (numbers_of x 0 places) number) (sym same) in_list)
-          ];
-          listed = λ number among. elim (among-cases lists numbers number among) [
-            | inl h ↦ (let l = are.listed number h in (l.0, Contains-append_left keys (key ∷ []) l.0 l.1, l.2))
-            | inr h ↦ (key, Contains-push keys key, h)
-          ];
-        }
-
--- ---- lists that are lent
-
--- what is true of each list that is lent is true of one
-pub All-of_map : (P : List ℕ → Type 0) (items : List (Bor (List ℕ))) (i : ℕ) (d : Bor (List ℕ)) → i < length items → All P (map (λ list. list.now) items) → P (get_or items i d).now
-All-of_map P [] i d lt all = absurd (omega arith)
-All-of_map P (x ∷ items) zero d lt all = All-head P x.now (map (λ list. list.now) items) all
-All-of_map P (x ∷ items) (suc i) d lt all = All-of_map P items i d (omega arith) (All-tail P x.now (map (λ list. list.now) items) all)
+-- ---- a number that is lent
 
 -- the number that is lent from an index of a list
 pub copied_at : (xs : List ℕ) (i : ℕ) (r : Option (Bor ℕ)) → IsItemAt xs i r → option_copied r ≡ slice_get xs i
 copied_at xs i None h = sym (slice_get_past xs i h.3)
 copied_at xs i (Some x) h = sym (slice_get-get_or xs i x.now h.3.0 ∙ ap (λ y. Some y) (sym h.1))
 
--- ---- what an index answers
+-- more forms find the same
+pub finds-more : (forms more : List FormView) (keys : List ℕ) (hashes : Hashes) (number : ℕ) → FindsBy forms keys hashes number → FindsBy (forms ++ more) keys hashes number
+finds-more forms more keys hashes number (form, has, fits, is) = (form, Contains-append_left forms more form has, fits, is)
 
-module _ (places : List ℕ) (address : AddressTexts) (lists : List (List ℕ)) (are : AreCandidates places (address_keys address) lists) where
-  pub candidates-found : (number : ℕ) (fixed : FixedTexts) → slice_get places number ≡ Some (key_of fixed) → HasTexts fixed address → IsAmong lists number
-  candidates-found number fixed is has =
-      let listed : Contains (numbers_of (key_of fixed) 0 places) number =
-      subst (λ n. Contains (numbers_of (key_of fixed) 0 places) n) (zero-add number) (numbers-found (key_of fixed) 0 places number is) in
-      are.found (key_of fixed) number (key-is_among fixed address has) listed
+-- ---- least numbers
 
-  pub candidates-listed : (number : ℕ) → IsAmong lists number → (key : ℕ) × (slice_get places number ≡ Some key) × Contains (address_keys address) key
-  candidates-listed number among =
-      let h = are.listed number among in
-      let n = numbers-listed h.0 0 places number h.2 in
-      let same : n.0 ≡ number = omega (arith, n.1) in
-      (h.0, subst (λ i. slice_get places i ≡ Some h.0) same n.2, h.1)
+-- of what is the same
+least-same : (P Q : ℕ → Type 0) → ((n : ℕ) → P n → Q n) → ((n : ℕ) → Q n → P n) → (least : Option ℕ) → IsLeast P least → IsLeast Q least
+least-same P Q to back (Some least) is = (to least is.0, λ n h. is.1 n (back n h))
+least-same P Q to back None is = λ n h. is n (back n h)
+
+-- of either of two
+pub least-either : (P Q R : ℕ → Type 0) → ((n : ℕ) → P n → R n) → ((n : ℕ) → Q n → R n) → ((n : ℕ) → R n → P n ⊎ Q n) → (a b : Option ℕ) → IsLeast P a → IsLeast Q b → IsLeast R (lesser a b)
+least-either P Q R left right cases None None none-left none-right = λ n h. elim (cases n h) [ inl l ↦ none-left n l | inr r ↦ none-right n r ]
+least-either P Q R left right cases None (Some b) none-left is = (right b is.0, λ n h. elim (cases n h) [ inl l ↦ absurd (none-left n l) | inr r ↦ is.1 n r ])
+least-either P Q R left right cases (Some a) None is none-right = (left a is.0, λ n h. elim (cases n h) [ inl l ↦ is.1 n l | inr r ↦ absurd (none-right n r) ])
+least-either P Q R left right cases (Some a) (Some b) is-left is-right = (
+  elim (cases_lt a b) [
+    | inl lt ↦ (let le : a ≤ b = omega arith in subst R (sym (min-eq_left le)) (left a is-left.0))
+    | inr le ↦ subst R (sym (min-eq_right le)) (right b is-right.0)
+  ],
+  λ n h. elim (cases n h) [
+    | inl l ↦ (let le : a ≤ n = is-left.1 n l in omega (arith, min-le_left a b))
+    | inr r ↦ (let le : b ≤ n = is-right.1 n r in omega (arith, min-le_right a b))
+  ],
+)
+
+module _ (form : FormView) (hashes : Hashes) (fits : Fits form hashes) (from key : ℕ) (is_key : key ≡ form_key form hashes) (keys listed_keys : List ℕ) (same_keys : keys ≡ listed_keys) where
+  abbrev IsFound : ℕ → Type 0
+  IsFound number = (from ≤ number) × Fits form hashes × (slice_get listed_keys number ≡ Some (form_key form hashes))
+
+  found-listed : (number : ℕ) → slice_get keys number ≡ Some key → slice_get listed_keys number ≡ Some (form_key form hashes)
+  found-listed number is = subst (λ k. slice_get k number ≡ Some (form_key form hashes)) same_keys (is ∙ ap (λ k. Some k) is_key)
+
+  listed-found : (number : ℕ) → slice_get listed_keys number ≡ Some (form_key form hashes) → slice_get keys number ≡ Some key
+  listed-found number is = subst (λ k. slice_get k number ≡ Some key) (sym same_keys) (is ∙ ap (λ k. Some k) (sym is_key))
+
+  -- of the numbers that are listed at the key
+  pub least_by : (list : List ℕ) (least : Option ℕ) → list ≡ numbers_of key 0 keys → IsFirstFrom from list least → IsLeast IsFound least
+  least_by list least is first =
+      least-same (λ number. (from ≤ number) × Contains (numbers_of key 0 keys) number) IsFound
+      (λ n h. (h.0, fits, (
+          let r = numbers-listed key 0 keys n h.1 in
+          let same : r.0 ≡ n = omega (arith, r.1) in
+          found-listed n (subst (λ i. slice_get keys i ≡ Some key) same r.2))))
+      (λ n h. (h.0, subst (λ i. Contains (numbers_of key 0 keys) i) (zero-add n) (numbers-found key 0 keys n (listed-found n h.2))))
+      least (subst (λ l. IsFirstFrom from l least) is first)
+
+  -- where none is listed
+  pub none_by : numbers_of key 0 keys ≡ [] → IsLeast IsFound None
+  none_by none = least_by [] None (sym none) (λ n h. (let lt : h.1.0 < 0 = h.1.1 in omega arith))
+
+-- of those that forms find, and one more form
+pub least_by_forms : (forms : List FormView) (form : FormView) (keys : List ℕ) (hashes : Hashes) (from : ℕ) (a b : Option ℕ)
+    → IsLeast (λ number. (from ≤ number) × FindsBy forms keys hashes number) a
+    → IsLeast (λ number. (from ≤ number) × Fits form hashes × (slice_get keys number ≡ Some (form_key form hashes))) b
+    → IsLeast (λ number. (from ≤ number) × FindsBy (forms ++ form ∷ []) keys hashes number) (lesser a b)
+least_by_forms forms form keys hashes from a b is-a is-b =
+    least-either (λ number. (from ≤ number) × FindsBy forms keys hashes number) (λ number. (from ≤ number) × Fits form hashes × (slice_get keys number ≡ Some (form_key form hashes)))
+    (λ number. (from ≤ number) × FindsBy (forms ++ form ∷ []) keys hashes number)
+    (λ n h. (h.0, finds-more forms (form ∷ []) keys hashes n h.1))
+    (λ n h. (h.0, (form, Contains-push forms form, h.1, h.2)))
+    (λ n h. elim (Contains-push_cases forms form h.1.0 h.1.1) [
+      | inl earlier ↦ inl (h.0, (h.1.0, earlier, h.1.2, h.1.3))
+      | inr same ↦ inr (h.0, subst (λ f. Fits f hashes) (sym same) h.1.2, h.1.3 ∙ ap (λ f. Some (form_key f hashes)) (sym same))
+    ])
+    a b is-a is-b
+
+-- ---- one more pattern
+
+slice_get-more : (keys more : List ℕ) (number key : ℕ) → slice_get keys number ≡ Some key → slice_get (keys ++ more) number ≡ Some key
+slice_get-more [] more number key is = absurd (cc)
+slice_get-more (k ∷ keys) more zero key is = is
+slice_get-more (k ∷ keys) more (suc number) key is = slice_get-more keys more number key is
+
+slice_get-last : (keys : List ℕ) (key : ℕ) → slice_get (keys ++ key ∷ []) (length keys) ≡ Some key
+slice_get-last [] key = refl
+slice_get-last (k ∷ keys) key = slice_get-last keys key
+
+pub has-form : (forms : List FormView) (form : FormView) (found : Bool) → (IsTrue found → Contains forms form) → Contains (forms ++ cond (not found) (form ∷ []) []) form
+has-form forms form true has = Contains-append_left forms [] form (has refl)
+has-form forms form false has = Contains-push forms form
+
+module _ (form : FormView) (key : ℕ) (more : List FormView) (fixed : FixedTexts) (placed : (address : AddressTexts) → HasTexts fixed address → Fits form (hashes_of address) × (key ≡ form_key form (hashes_of address))) where
+  appends-plain : (keys : List ℕ) (forms : List FormView) → Contains (forms ++ more) form
+      → GetsPattern (record { keys = keys; forms = forms }) (record { keys = keys ++ key ∷ []; forms = forms ++ more }) fixed
+  appends-plain keys forms has = record {
+    one_more = length_push keys key;
+    others = λ hashes number (other, is_form, fits, is). (other, Contains-append_left forms more other is_form, fits, slice_get-more keys (key ∷ []) number (form_key other hashes) is);
+    found = λ address texts. (let place = placed address texts in (form, has, place.0, slice_get-last keys key ∙ ap (λ k. Some k) place.1));
+  }
+
+  pub appends : (old : Listing) (keys : List ℕ) (forms : List FormView) → ◌≡◌ {A = Listing} (record { keys = keys; forms = forms }) old → Contains (forms ++ more) form
+      → (new_keys : List ℕ) (new_forms : List FormView) → new_keys ≡ keys ++ key ∷ [] → new_forms ≡ forms ++ more
+      → GetsPattern old (record { keys = new_keys; forms = new_forms }) fixed
+  appends old keys forms view has new_keys new_forms are_keys are_forms =
+      subst (λ (old : Listing). GetsPattern old (record { keys = new_keys; forms = new_forms }) fixed) view (rw (are_keys, are_forms) (appends-plain keys forms has))
+
+-- ---- a pattern less
+
+module _ (number x : ℕ) (list : List ℕ) where
+  without-above : number < x → without number (x ∷ list) ≡ (x - 1) ∷ without number list
+  without-above above =
+      let other : eqb x number ≡ false = grind (arith, nat_tests) in
+      let less : ltb number x ≡ true = grind (arith, nat_tests) in
+      rw other (rw less refl)
+
+  without-below : x < number → without number (x ∷ list) ≡ x ∷ without number list
+  without-below below =
+      let other : eqb x number ≡ false = grind (arith, nat_tests) in
+      let less : ltb number x ≡ false = grind (arith, nat_tests) in
+      rw other (rw less refl)
+
+  without-same : x ≡ number → without number (x ∷ list) ≡ without number list
+  without-same same = let is : eqb x number ≡ true = grind (arith, nat_tests) in rw is refl
+
+module _ (key : ℕ) where
+  numbers-lowered : (number first : ℕ) (keys : List ℕ) → number ≤ first → without number (numbers_of key (first + 1) keys) ≡ numbers_of key first keys
+  numbers-lowered number first [] le = refl
+  numbers-lowered number first (x ∷ keys) le =
+      let rest = numbers_of key ((first + 1) + 1) keys in
+      let step : without number rest ≡ numbers_of key (first + 1) keys = numbers-lowered number (first + 1) keys (omega arith) in
+      let head : without number ((first + 1) ∷ rest) ≡ first ∷ numbers_of key (first + 1) keys =
+      without-above number (first + 1) rest (omega arith) ∙ ap (λ n. n ∷ without number rest) (let less : (first + 1) - 1 ≡ first = omega arith in less) ∙ ap (λ l. first ∷ l) step in
+      elim (eqb key x) as (λ b. without number (cond b ((first + 1) ∷ rest) rest) ≡ cond b (first ∷ numbers_of key (first + 1) keys) (numbers_of key (first + 1) keys)) [ true ↦ head | false ↦ step ]
+
+  pub numbers-remove : (first : ℕ) (keys : List ℕ) (k : ℕ) → k < length keys → numbers_of key first (remove keys k) ≡ without (first + k) (numbers_of key first keys)
+  numbers-remove first [] k lt = absurd (omega arith)
+  numbers-remove first (x ∷ keys) zero lt =
+      let rest = numbers_of key (first + 1) keys in
+      let step : without (first + 0) rest ≡ numbers_of key first keys = numbers-lowered (first + 0) first keys (omega arith) in
+      sym (elim (eqb key x) as (λ b. without (first + 0) (cond b (first ∷ rest) rest) ≡ numbers_of key first keys) [ true ↦ without-same (first + 0) first rest (omega arith) ∙ step | false ↦ step ])
+  numbers-remove first (x ∷ keys) (suc k) lt =
+      let rest = numbers_of key (first + 1) keys in
+      let fewer = numbers_of key (first + 1) (remove keys k) in
+      let same : (first + 1) + k ≡ first + suc k = omega arith in
+      let step : fewer ≡ without (first + suc k) rest = numbers-remove (first + 1) keys k (omega arith) ∙ ap (λ n. without n rest) same in
+      let head : first ∷ fewer ≡ without (first + suc k) (first ∷ rest) = ap (λ l. first ∷ l) step ∙ sym (without-below (first + suc k) first rest (omega arith)) in
+      elim (eqb key x) as (λ b. cond b (first ∷ fewer) fewer ≡ without (first + suc k) (cond b (first ∷ rest) rest)) [ true ↦ head | false ↦ step ]
+
+-- what a map has at a key where each of its lists lost a number
+module _ {F A : Type 0} (T : F → ℕ → Vec ℕ A → Bool → Vec ℕ A → F → Type 0) (number : ℕ) (f : F)
+    (says : (k : ℕ) (v : Vec ℕ A) (b : Bool) (w : Vec ℕ A) (f' : F) → T f k v b w f' → (b ≡ true) × (w.items ≡ without number v.items) × (f' ≡ f)) (test : ℕ → Bool) where
+  abbrev listed_at : List (ℕ × Vec ℕ A) → List ℕ
+  listed_at es = unwrap_or (option_map (λ listed. listed.items) (lookup test es)) []
+
+  pub retained-listed : (es kept : List (ℕ × Vec ℕ A)) → RetainsPairs T f es kept → listed_at kept ≡ without number (listed_at es)
+  retained-listed [] kept h = ap listed_at h
+  retained-listed (e ∷ es) kept h =
+      let s = says e.0 e.1 h.0 h.1 h.2 h.4 in
+      let rest = retained-listed es h.3 (subst (λ g. RetainsPairs T g es h.3) s.2 h.5) in
+      let is : kept ≡ (e.0, h.1) ∷ h.3 = h.6 ∙ ap (λ b. cond b ((e.0, h.1) ∷ h.3) h.3) s.0 in
+      ap listed_at is ∙ elim (test e.0) as (λ b. unwrap_or (option_map (λ listed. listed.items) (cond b (Some h.1) (lookup test h.3))) []
+      ≡ without number (unwrap_or (option_map (λ listed. listed.items) (cond b (Some e.1) (lookup test es))) [])) [ true ↦ s.1 | false ↦ rest ]

@@ -1,16 +1,14 @@
--- What is fixed of the inputs that a pattern matches.
-use Rattle.std.specs.Prelude.{◌≡◌, ℕ, List, ◌++◌, Option, None, Some}
+-- What is fixed of the inputs that a pattern matches, and the texts of an input.
+use Rattle.std.specs.Prelude.{◌≡◌, ℕ, List, Option, None, Some, chars, option_map}
+use Rattle.urlpattern_core.specs.declared.outline.OutlineItem.{OutlineItem}
+use Rattle.urlpattern_core.specs.Outlines.{HasOutline}
+use Rattle.urlpattern_index.specs.declared.fixed.{Address.Address, Fixed.Fixed}
 
--- The fixed text of a pathname: it begins with the text, or is the text.
-pub data FixedPath : Type 0 where
-  BeginsWith : List ℕ → FixedPath
-  Is : List ℕ → FixedPath
-
--- A protocol and a hostname, where they are fixed, and the fixed text of the pathname.
+-- A protocol and a hostname, where they are fixed, and an outline of the pathname.
 pub record FixedTexts : Type 0 where
   pub protocol : Option (List ℕ)
   pub hostname : Option (List ℕ)
-  pub pathname : FixedPath
+  pub pathname : List OutlineItem
 
 -- The texts of an input by which patterns are looked up.
 pub record AddressTexts : Type 0 where
@@ -22,12 +20,23 @@ abbrev pub IsText : Option (List ℕ) → List ℕ → Type 0
 IsText (Some text) given = given ≡ text
 IsText None given = Unit {0}
 
-abbrev pub IsPath : FixedPath → List ℕ → Type 0
-IsPath (BeginsWith front) path = (rest : List ℕ) × (path ≡ front ++ rest)
-IsPath (Is text) path = path ≡ text
-
--- the address has the fixed texts
+-- The address has the fixed texts.
 pub record HasTexts (fixed : FixedTexts) (address : AddressTexts) : Type 0 where
   pub protocol : IsText fixed.protocol address.protocol
   pub hostname : IsText fixed.hostname address.hostname
-  pub pathname : IsPath fixed.pathname address.pathname
+  pub pathname : HasOutline fixed.pathname address.pathname
+
+-- what contracts see of fixed texts and of addresses
+abbrev pub fixed_texts : Fixed → FixedTexts
+fixed_texts fixed = record {
+  protocol = option_map (λ text. chars text.now) fixed.protocol;
+  hostname = option_map (λ text. chars text.now) fixed.hostname;
+  pathname = fixed.pathname.now;
+}
+
+abbrev pub address_texts : Address → AddressTexts
+address_texts address = record {
+  protocol = chars address.protocol.now;
+  hostname = chars address.hostname.now;
+  pathname = chars address.pathname.now;
+}

@@ -1,6 +1,8 @@
--- The keys under which an index lists patterns, and those of an input.
-use Rattle.std.specs.Prelude.{ℕ, zero, suc, ◌+◌, ◌-◌, ◌*◌, ◌%◌, ◌^◌, ◌==◌, if◌then◌else◌, List, [], ◌∷◌, ◌++◌, fold, map, length, slice_get, unwrap_or, Option, None, Some}
-use Rattle.urlpattern_index.specs.FixedTexts.{AddressTexts, FixedPath, FixedTexts, BeginsWith, Is}
+-- The hashes of an address, and the keys that are made of them.
+use Rattle.std.specs.Prelude.{◌≡◌, ◌<◌, ℕ, ◌+◌, ◌*◌, ◌%◌, ◌^◌, ◌==◌, if◌then◌else◌, Bool, true, false, List, [], ◌∷◌, fold, length, take, Option, None, Some}
+use Rattle.urlpattern_index.specs.FixedTexts.{AddressTexts}
+use Rattle.urlpattern_index.specs.declared.address.AddressHashes.{AddressHashes}
+use Rattle.urlpattern_index.specs.declared.form.Form.{Form}
 
 -- ---- hashes
 
@@ -11,50 +13,61 @@ mixed hash value = ((hash * 1099511628211) % 2 ^ 64 + value) % 2 ^ 64
 abbrev pub text_hash : List ℕ → ℕ
 text_hash text = fold mixed 0 text
 
--- the hashes of a text up to and with each of its first slashes, where what comes before it has a hash
-abbrev pub slash_hashes : (slashes hash : ℕ) → List ℕ → List ℕ
-slash_hashes slashes hash [] = []
-slash_hashes zero hash (c ∷ text) = []
-slash_hashes (suc slashes) hash (c ∷ text) =
-    if c == 47 then mixed hash c ∷ slash_hashes slashes (mixed hash c) text else slash_hashes (suc slashes) (mixed hash c) text
-
--- the hashes of the fronts of a path: the empty one, and the path up to and with each of its first six slashes
-abbrev pub front_hashes : List ℕ → List ℕ
-front_hashes path = 0 ∷ slash_hashes 6 0 path
-
--- ---- keys
-
-abbrev pub key : (protocol hostname path : ℕ) → ℕ
-key protocol hostname path = mixed (mixed protocol hostname) path
-
--- that of a whole path
-abbrev pub whole_key : List ℕ → ℕ
-whole_key path = mixed (text_hash path) 0
-
--- that of the longest front of a text
-abbrev pub front_key : List ℕ → ℕ
-front_key text = unwrap_or (slice_get (front_hashes text) (length (front_hashes text) - 1)) 0
-
-abbrev pub path_key : FixedPath → ℕ
-path_key (BeginsWith front) = front_key front
-path_key (Is text) = whole_key text
-
+-- that of a text, and 0 where there is none
 abbrev pub option_hash : Option (List ℕ) → ℕ
 option_hash (Some text) = text_hash text
 option_hash None = 0
 
--- the key of a pattern: of what is fixed of the inputs that it matches
-abbrev pub key_of : FixedTexts → ℕ
-key_of fixed = key (option_hash fixed.protocol) (option_hash fixed.hostname) (path_key fixed.pathname)
+-- the hashes of the segments of a path, which slashes separate; what precedes the path in its first segment has this hash
+abbrev pub segment_hashes : (hash : ℕ) → List ℕ → List ℕ
+segment_hashes hash [] = hash ∷ []
+segment_hashes hash (c ∷ path) = if c == 47 then hash ∷ segment_hashes 0 path else segment_hashes (mixed hash c) path
 
--- the keys of a path: of its fronts, and of the whole
-abbrev pub path_keys : List ℕ → List ℕ
-path_keys path = front_hashes path ++ whole_key path ∷ []
+-- Hashes of protocol and hostname, and of the first segments of the path.
+pub record Hashes : Type 0 where
+  pub protocol : ℕ
+  pub hostname : ℕ
+  pub segments : List ℕ
 
--- the keys of an address: of its path, with protocol and hostname, with one of them, and with neither
-abbrev pub address_keys : AddressTexts → List ℕ
-address_keys address =
-    let protocol = text_hash address.protocol in
-    let hostname = text_hash address.hostname in
-    let paths = path_keys address.pathname in
-    map (key protocol hostname) paths ++ map (key protocol 0) paths ++ map (key 0 hostname) paths ++ map (key 0 0) paths
+abbrev pub hashes_of : AddressTexts → Hashes
+hashes_of address = record {
+  protocol = text_hash address.protocol;
+  hostname = text_hash address.hostname;
+  segments = take 13 (segment_hashes 0 address.pathname);
+}
+
+abbrev pub hashes_view : AddressHashes → Hashes
+hashes_view hashes = record { protocol = hashes.protocol; hostname = hashes.hostname; segments = hashes.segments.items }
+
+-- ---- keys
+
+-- Which texts a key is made of: protocol, hostname, and each of the first segments of the path (true: its text, false: it can be any);
+-- and whether the path has no more segments, or has some.
+pub record FormView : Type 0 where
+  pub has_protocol : Bool
+  pub has_hostname : Bool
+  pub segments : List Bool
+  pub is_whole : Bool
+
+abbrev pub form_view : Form → FormView
+form_view form = record { has_protocol = form.has_protocol; has_hostname = form.has_hostname; segments = form.segments.items; is_whole = form.is_whole }
+
+-- so many segments of a path are as many as those of a form, or more where the path has others
+abbrev pub AreEnough : (is_whole : Bool) → (segments count : ℕ) → Type 0
+AreEnough true segments count = count ≡ segments
+AreEnough false segments count = segments < count
+
+abbrev pub Fits : FormView → Hashes → Type 0
+Fits form hashes = AreEnough form.is_whole (length form.segments) (length hashes.segments)
+
+-- a hash after those of the segments whose text counts, and a 1 for each other
+abbrev pub mixed_segments : (hash : ℕ) → List Bool → (hashes : List ℕ) → ℕ
+mixed_segments hash [] hashes = hash
+mixed_segments hash (has_text ∷ segments) [] = hash
+mixed_segments hash (has_text ∷ segments) (own ∷ hashes) = mixed_segments (mixed hash (if has_text then own else 1)) segments hashes
+
+-- the key of an address, by a form
+abbrev pub form_key : FormView → Hashes → ℕ
+form_key form hashes =
+    let hosts = mixed (if form.has_protocol then hashes.protocol else 0) (if form.has_hostname then hashes.hostname else 0) in
+    mixed (mixed_segments hosts form.segments hashes.segments) (if form.is_whole then 1 else 0)

@@ -1,4 +1,4 @@
+pub mod FixedTexts
 pub mod Keys
 pub mod Listed
-pub mod FixedTexts
-pub mod Views
+pub mod Segments

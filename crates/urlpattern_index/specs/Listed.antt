@@ -1,8 +1,13 @@
--- What an index lists, and what it answers.
-use Rattle.std.specs.Prelude.{◌≡◌, ℕ, ◌+◌, ◌<◌, ◌≤◌, ◌==◌, if◌then◌else◌, List, [], ◌∷◌, Contains, min, length, nat_eq, option_map, slice_get, slice_index_or, unwrap_or, Option, None, Some, Vec}
+-- What an index lists, and what it finds.
+use Rattle.std.specs.Prelude.{◌≡◌, ℕ, ◌+◌, ◌-◌, ◌≤◌, ◌==◌, if◌then◌else◌, List, [], ◌∷◌, Contains, filter, length, map, min, nat_eq, nat_lt, not, option_map, slice_get, unwrap_or, Option, None, Some, Vec}
 use Rattle.std.specs.HashMap.{HashMap, get}
-use Rattle.urlpattern_index.specs.Keys.{address_keys, key_of}
 use Rattle.urlpattern_index.specs.FixedTexts.{AddressTexts, FixedTexts, HasTexts}
+use Rattle.urlpattern_index.specs.Keys.{Fits, FormView, Hashes, form_key, hashes_of}
+
+-- The keys of the patterns, by number, and the forms by which they are made.
+pub record Listing : Type 0 where
+  pub keys : List ℕ
+  pub forms : List FormView
 
 -- ---- numbers by key
 
@@ -19,11 +24,17 @@ numbers_at numbers key = unwrap_or (option_map (λ listed. listed.items) (get na
 abbrev pub AreListed : {A S : Type 0} → (keys : List ℕ) → HashMap ℕ (Vec ℕ A) S → Type 0
 AreListed keys numbers = (key : ℕ) → numbers_at numbers key ≡ numbers_of key 0 keys
 
--- ---- numbers in order
+-- ---- a number less
 
--- the number stands in one of the lists
-abbrev pub IsAmong : (lists : List (List ℕ)) → (number : ℕ) → Type 0
-IsAmong lists number = (k : ℕ) × (k < length lists) × Contains (slice_index_or lists k []) number
+-- a number above another becomes less by one
+abbrev pub lowered : (number other : ℕ) → ℕ
+lowered number other = if nat_lt number other then other - 1 else other
+
+-- the others, where those above it become less by one
+abbrev pub without : (number : ℕ) → List ℕ → List ℕ
+without number list = map (lowered number) (filter (λ other. not (other == number)) list)
+
+-- ---- least numbers
 
 -- the least number of which this is true, if there is one
 abbrev pub IsLeast : (ℕ → Type 0) → Option ℕ → Type 0
@@ -34,24 +45,24 @@ IsLeast P None = (number : ℕ) → ¬ P number
 abbrev pub IsFirstFrom : (from : ℕ) → List ℕ → Option ℕ → Type 0
 IsFirstFrom from list = IsLeast (λ number. (from ≤ number) × Contains list number)
 
--- the same of some lists
-abbrev pub IsLeastFrom : (from : ℕ) → List (List ℕ) → Option ℕ → Type 0
-IsLeastFrom from lists = IsLeast (λ number. (from ≤ number) × IsAmong lists number)
-
 -- the lesser of two numbers that may be there
 abbrev pub lesser : Option ℕ → Option ℕ → Option ℕ
 lesser (Some a) (Some b) = Some (min a b)
 lesser (Some a) None = Some a
 lesser None b = b
 
--- ---- what an address finds
+-- ---- what is found
 
--- the numbers are those of each place whose fixed texts the address has, where the places have these keys
-abbrev pub FindsEachPlace : (keys : List ℕ) → AddressTexts → (lists : List (List ℕ)) → Type 0
-FindsEachPlace keys address lists = (number : ℕ) (fixed : FixedTexts) →
-    slice_get keys number ≡ Some (key_of fixed) → HasTexts fixed address → IsAmong lists number
+-- the pattern of this number is found by one of the forms: the address has its key
+abbrev pub FindsBy : (forms : List FormView) → (keys : List ℕ) → Hashes → (number : ℕ) → Type 0
+FindsBy forms keys hashes number =
+    (form : FormView) × Contains forms form × Fits form hashes × (slice_get keys number ≡ Some (form_key form hashes))
 
--- and of no places but those with a key of the address
-abbrev pub FindsOnlyKeys : (keys : List ℕ) → AddressTexts → (lists : List (List ℕ)) → Type 0
-FindsOnlyKeys keys address lists = (number : ℕ) → IsAmong lists number →
-    (key : ℕ) × (slice_get keys number ≡ Some key) × Contains (address_keys address) key
+abbrev pub Finds : Listing → Hashes → (number : ℕ) → Type 0
+Finds listing hashes number = FindsBy listing.forms listing.keys hashes number
+
+-- A pattern has the next number. It is found by each address that has its fixed texts, and the others as before.
+pub record GetsPattern (old new : Listing) (fixed : FixedTexts) : Type 0 where
+  pub one_more : length new.keys ≡ length old.keys + 1
+  pub others : (hashes : Hashes) (number : ℕ) → Finds old hashes number → Finds new hashes number
+  pub found : (address : AddressTexts) → HasTexts fixed address → Finds new (hashes_of address) (length old.keys)

@@ -1,15 +1,21 @@
-//! The keys of patterns, by number, and the numbers of the patterns that may match an address.
-ghost use Rattle.std.specs.Prelude.{◌≡◌, ◌++◌, ◌∷◌, [], OnErr, OnOk};
-ghost use Rattle.urlpattern_index.specs.Keys.{key_of};
-ghost use Rattle.urlpattern_index.specs.Listed.{FindsEachPlace, FindsOnlyKeys};
-ghost use Rattle.urlpattern_index.specs.Views.{address_texts, fixed_texts};
+//! The keys of patterns, by number, and the patterns that an address finds.
+ghost use Rattle.std.specs.List.Sorted.{IsNonDecreasing};
+ghost use Rattle.std.specs.List.{remove};
+ghost use Rattle.std.specs.Prelude.{◌≡◌, ◌≤◌, ◌<◌, ◌++◌, ◌∷◌, [], if◌then◌else◌, Some, length, slice_get, vec_capacity, vec_len, IsTrue, Contains, OnErr, OnOk};
+ghost use Rattle.urlpattern_index.specs.FixedTexts.{fixed_texts};
+ghost use Rattle.urlpattern_index.specs.Keys.{form_key, form_view, hashes_view, Fits};
+ghost use Rattle.urlpattern_index.specs.Listed.{Finds, GetsPattern, IsFirstFrom, IsLeast, lesser, lowered, without};
+ghost use Rattle.urlpattern_index.specs.Segments.{IsPlaceFor};
 
-use crate::candidates::Candidates;
-use crate::fixed::{Address, Fixed};
-use arrayvec::ArrayVec;
+use crate::address::AddressHashes;
+use crate::fixed::Fixed;
+use crate::form::{Form, Place};
 use std::alloc::{AllocError, Global};
 use std::collections::HashMap;
 use std::marker::Model;
+
+/// How many forms of keys an index has at most, beside the form of what nothing is known of.
+const FORMS: usize = 64;
 
 /// The keys of patterns. Each pattern has a number, from 0 on.
 #[derive(Debug, Drop)]
@@ -18,15 +24,18 @@ pub struct Index {
     keys: Vec<u64>,
     /// The numbers of the patterns with a key, in ascending order.
     numbers: HashMap<u64, Vec<usize>>,
+    /// The forms of the keys.
+    forms: Vec<Form>,
 }
 
 impl Model for Index {
-    ghost use Rattle.std.specs.Prelude.{ℕ, List};
-    ghost use Rattle.urlpattern_index.specs.Listed.{AreListed};
+    ghost use Rattle.std.specs.Prelude.{map};
+    ghost use Rattle.urlpattern_index.specs.Keys.{form_view};
+    ghost use Rattle.urlpattern_index.specs.Listed.{AreListed, Listing};
 
-    ghost Value = { List ℕ };
+    ghost Value = { Listing };
 
-    ghost view = { λ index. index.keys.items };
+    ghost view = { λ index. record { keys = index.keys.items; forms = map (λ form. form_view form) index.forms.items } };
 
     ghost invariant = { λ index. AreListed index.keys.items index.numbers };
 }
@@ -34,11 +43,12 @@ impl Model for Index {
 impl Index {
     /// An index of no patterns. It does not allocate.
     pub fn new(alloc: Global) -> Self
-        ensures { result ≡ [] }
+        ensures { result ≡ record { keys = []; forms = [] } }
     {
         Self {
             keys: Vec::new(alloc),
             numbers: HashMap::new(alloc),
+            forms: Vec::new(alloc),
         }
     }
 
@@ -46,31 +56,129 @@ impl Index {
     ///
     /// The error is that memory ran out. The index is then as it was.
     pub fn push(&mut self, fixed: Fixed<'_>) -> Result<(), AllocError>
-        ensures appended { OnOk result (self.new ≡ self.old ++ key_of (fixed_texts fixed.entry) ∷ []) }
+        ensures appended { OnOk result (GetsPattern self.old self.new (fixed_texts fixed.entry)) }
         ensures unchanged { OnErr result (self.new ≡ self.old) }
     {
-        let key = fixed.key();
+        let Place { form, key } = self.place_for(fixed);
+        let is_new = !self.has_form(&form);
         let number = self.keys.len();
         self.keys.reserve(1)?;
+        self.forms.reserve(1)?;
         self.numbers.entry(key)?.or_default().push(number)?;
+        add_form(&mut self.forms, form, is_new);
         match self.keys.push(key) {
             Ok(()) => Ok(()),
             Err(_) => unreachable!(),
         }
     }
 
-    /// The numbers of the patterns whose fixed texts an address has. Some others may be among them. It does not allocate.
-    pub fn candidates(&self, address: Address<'_>) -> Candidates<'_>
-        ensures found { FindsEachPlace self.now (address_texts address.entry) result }
-        ensures listed { FindsOnlyKeys self.now (address_texts address.entry) result }
+    /// Removes a pattern. The number of each later one becomes less by one. It does not allocate.
+    pub fn remove(&mut self, number: usize)
+        requires { number < length self.old.keys }
+        ensures { self.new ≡ record self.old { keys = remove self.old.keys number } }
     {
-        let mut lists = ArrayVec::new();
-        for key in address.keys().as_slice() {
-            let Some(numbers) = self.numbers.get(key) else {
-                continue;
-            };
-            lists.push(numbers.as_slice());
+        self.numbers.retain(|_, listed| {
+            take_out(listed, number);
+            true
+        });
+        self.keys.remove(number);
+    }
+
+    /// The least number, not below another, of a pattern whose fixed texts an address has. Some other patterns may be found.
+    ///
+    /// It does not allocate.
+    pub fn first_from(&self, hashes: &AddressHashes, from: usize) -> Option<usize>
+        ensures { IsLeast (λ number. (from ≤ number) × Finds self.now (hashes_view hashes.now) number) result }
+    {
+        let mut least = None;
+        for form in &self.forms {
+            least = lesser(least, self.first_by(form, hashes, from));
         }
-        Candidates::new(lists)
+        least
+    }
+
+    /// The same of the patterns that are listed by a form.
+    fn first_by(&self, form: &Form, hashes: &AddressHashes, from: usize) -> Option<usize>
+        ensures { IsLeast (λ number. (from ≤ number) × Fits (form_view form.now) (hashes_view hashes.now)
+            × (slice_get self.now.keys number ≡ Some (form_key (form_view form.now) (hashes_view hashes.now)))) result }
+    {
+        let key = form.key(hashes)?;
+        let numbers = self.numbers.get(&key)?;
+        first_from(numbers, from)
+    }
+
+    /// Where a pattern is listed. Where there are too many forms, it is by the one of what nothing is known of.
+    fn place_for(&self, fixed: Fixed<'_>) -> Place
+        ensures { IsPlaceFor (fixed_texts fixed.entry) result }
+    {
+        let place = Place::of(fixed);
+        if self.forms.len() < FORMS || self.has_form(&place.form) {
+            place
+        } else {
+            Place::of_any()
+        }
+    }
+
+    /// Whether keys have the form.
+    fn has_form(&self, form: &Form) -> bool
+        ensures { IsTrue result → Contains self.now.forms (form_view form.now) }
+    {
+        for other in &self.forms {
+            if other.is_same(form) {
+                return true;
+            }
+        }
+        false
+    }
+}
+
+/// Appends a form if it is new. There is room for it.
+fn add_form(forms: &mut Vec<Form>, form: Form, is_new: bool)
+    requires { vec_len forms.old < vec_capacity forms.old }
+    ensures { forms.new.items ≡ forms.old.items ++ (if is_new then form ∷ [] else []) }
+{
+    if !is_new {
+        return;
+    }
+    match forms.push(form) {
+        Ok(()) => {}
+        Err(_) => unreachable!(),
+    }
+}
+
+/// Removes a number from a list. Each above it becomes less by one.
+fn take_out(list: &mut Vec<usize>, number: usize)
+    ensures { list.new.items ≡ without number list.old.items }
+{
+    list.retain(|other| *other != number);
+    for index in 0..list.len() {
+        list[index] = lowered(number, list[index]);
+    }
+}
+
+/// The other number, less by one if it is above the number.
+fn lowered(number: usize, other: usize) -> usize
+    ensures { result ≡ lowered number other }
+{
+    if number < other { other - 1 } else { other }
+}
+
+/// The first number of an ascending list that is not below another.
+fn first_from(list: &[usize], from: usize) -> Option<usize>
+    requires { IsNonDecreasing list.now }
+    ensures { IsFirstFrom from list.now result }
+{
+    let first = list.partition_point(|number| *number < from);
+    list.get(first).copied()
+}
+
+/// The lesser of two numbers that may be there.
+fn lesser(a: Option<usize>, b: Option<usize>) -> Option<usize>
+    ensures { result ≡ lesser a b }
+{
+    match (a, b) {
+        (Some(a), Some(b)) => Some(a.min(b)),
+        (Some(a), None) => Some(a),
+        (None, b) => b,
     }
 }

@@ -1,14 +1,17 @@
-//! An index of patterns by the texts that are fixed of what they match: protocol, hostname, and the front of the pathname.
+//! An index of patterns by what is known of the inputs that they match: protocol, hostname, and the segments of the pathname.
 //!
-//! Each pattern has a number and texts that are [`Fixed`]. [`Index::candidates`] answers the numbers of the patterns that can match an input.
-//! It compares hashes, so others may be among them, and none is left out.
+//! Each pattern has a number, and is listed under a key: a hash of the protocol and the hostname, where they are fixed, and of the
+//! first segments of the pathname, of which each has a fixed text or can be any. The patterns of an input are looked up by a key for
+//! each [`Form`](form::Form) of keys in the index. Hashes are compared, so others may be found, and none is left out.
 #![tactic(auto)]
 
-mod candidates;
+mod address;
 mod fixed;
+mod form;
+mod hashes;
 mod index;
-mod keys;
+mod reading;
 
-pub use candidates::Candidates;
-pub use fixed::{Address, Fixed, Path};
+pub use address::AddressHashes;
+pub use fixed::{Address, Fixed};
 pub use index::Index;

@@ -1,5 +1,5 @@
 -- Facts about the eight components and their values.
-use Rattle.std.proofs.Common.{◌≡◌, List, [], ◌∷◌, ◌++◌, refl, subst, sym}
+use Rattle.std.proofs.Common.{◌≡◌, List, [], ◌∷◌, ◌++◌, lit<, refl, subst, sym}
 use Rattle.std.proofs.lemmas.List.Elements.{All-cons, All-nil}
 use Rattle.std.specs.List.{AllByRecursion}
 use Rattle.std.specs.Prelude.{All, Result, Ok, Err, IfErr, IfOk}
@@ -32,6 +32,12 @@ pub by_name : (P : ComponentName → Type 0) → P Protocol → P Username → P
     → (name : ComponentName) → P name
 by_name P a b c d e f g h Protocol = a
 by_name P a b c d e f g h name = assumption
+
+-- what holds of each in turn holds of all
+pub of_each : (P : ComponentName → Type 0) → All P components → (name : ComponentName) → P name
+of_each P all =
+    by_name P (all 0 Protocol (lit< tt)) (all 1 Protocol (lit< tt)) (all 2 Protocol (lit< tt)) (all 3 Protocol (lit< tt)) (all 4 Protocol (lit< tt))
+    (all 5 Protocol (lit< tt)) (all 6 Protocol (lit< tt)) (all 7 Protocol (lit< tt))
 
 pub at-each : {A : Type 0} (value : ComponentName → A) (name : ComponentName) → at (each value) name ≡ value name
 at-each value = by_name (λ name. at (each value) name ≡ value name) refl refl refl refl refl refl refl refl

@@ -1,5 +1,5 @@
 -- The eight components of a URL, and a value for each of them.
-use Rattle.std.specs.Prelude.{◌≡◌, All, ℕ, List, [], ◌∷◌, ◌++◌, codes, Option, Result, Ok, Err}
+use Rattle.std.specs.Prelude.{◌≡◌, ◌≢◌, All, ℕ, List, [], ◌∷◌, ◌++◌, codes, map, MatchOption, Option, Result, Ok, Err}
 pub use Rattle.urlpattern_syntax.specs.declared.eight.{ComponentName.ComponentName, Eight.Eight}
 use Rattle.urlpattern_syntax.specs.declared.eight.ComponentName.TheVariants.{Protocol, Username, Password, Hostname, Port, Pathname, Search, Hash}
 
@@ -18,6 +18,10 @@ name_text Pathname = codes "pathname"
 name_text Search = codes "search"
 name_text Hash = codes "hash"
 
+-- the component that this text names, or none where no component has this name
+abbrev pub NamesComponent : (text : List ℕ) → Option ComponentName → Type 0
+NamesComponent text found = MatchOption found ((component : ComponentName) → text ≢ name_text component) (λ component. text ≡ name_text component)
+
 -- the value of one component
 abbrev pub at : {A : Type 0} → Eight A → ComponentName → A
 at values Protocol = values.protocol
@@ -28,6 +32,10 @@ at values Port = values.port
 at values Pathname = values.pathname
 at values Search = values.search
 at values Hash = values.hash
+
+-- the values of these components, each beside its name
+abbrev pub named_values : {A : Type 0} → Eight A → List ComponentName → List (ComponentName × A)
+named_values values names = map (λ name. (name, at values name)) names
 
 -- a value for each component
 abbrev pub each : {A : Type 0} → (ComponentName → A) → Eight A

@@ -1,6 +1,12 @@
 //! The components of a URL, and a value for each of the eight.
-ghost use Rattle.std.specs.Prelude.{◌≡◌, Ok, IfErr, IfOk};
-ghost use Rattle.urlpattern_syntax.specs.Eight.{IsFirstError, at, components, name_text};
+ghost use Rattle.std.specs.Prelude.{◌≡◌, Ok, Some, IfErr, IfOk};
+ghost use Rattle.urlpattern_syntax.specs.Eight.{IsFirstError, NamesComponent, at, components, name_text, named_values};
+ghost use Rattle.urlpattern_syntax.specs.NamedValues.{values_left};
+
+mod named;
+
+pub use named::NamedValues;
+use std::fmt;
 
 /// A reference to the field of a struct that is called as a component: `field_of!(values, name)`.
 #[macro_export]
@@ -38,8 +44,8 @@ macro_rules! with_fields {
     };
 }
 
-/// A component of a URL, by the name that it has in the standard.
-#[derive(Debug, Clone, Copy, PartialEq, Eq)]
+/// A component of a URL, by the name that it has in the standard. Components are ordered as the standard lists them.
+#[derive(Debug, Clone, Copy, PartialEq, Eq, PartialOrd, Ord, Hash)]
 pub enum ComponentName {
     /// The scheme, without its colon.
     Protocol,
@@ -59,21 +65,24 @@ pub enum ComponentName {
     Hash,
 }
 
+/// The components in the order of the standard.
+static ALL: [ComponentName; 8] = [
+    ComponentName::Protocol,
+    ComponentName::Username,
+    ComponentName::Password,
+    ComponentName::Hostname,
+    ComponentName::Port,
+    ComponentName::Pathname,
+    ComponentName::Search,
+    ComponentName::Hash,
+];
+
 impl ComponentName {
     /// The components in the order of the standard.
     pub fn all() -> &'static [Self]
         ensures { result.now ≡ components }
     {
-        &[
-            Self::Protocol,
-            Self::Username,
-            Self::Password,
-            Self::Hostname,
-            Self::Port,
-            Self::Pathname,
-            Self::Search,
-            Self::Hash,
-        ]
+        &ALL
     }
 
     /// The name in lower case, which is that of the component's member in JSON.
@@ -90,6 +99,27 @@ impl ComponentName {
             Self::Search => "search",
             Self::Hash => "hash",
         }
+    }
+
+    /// The component of a name, as `as_str` returns it. `None`: no component has this name.
+    pub fn from_name(name: &str) -> Option<Self>
+        ensures { NamesComponent name.now result }
+    {
+        for &component in Self::all() {
+            if component.as_str() == name {
+                return Some(component);
+            }
+        }
+        None
+    }
+}
+
+/// Prints the name in lower case.
+impl fmt::Display for ComponentName {
+    ghost output = { λ component. Some (name_text component) };
+
+    fn fmt<W: fmt::Write>(&self, f: &mut fmt::Formatter<W>) -> fmt::Result {
+        f.write_str(self.as_str())
     }
 }
 
@@ -120,6 +150,13 @@ impl<T> Eight<T> {
         ensures { result.now ≡ at self.now name }
     {
         field_of!(self, name)
+    }
+
+    /// The values in the order of the standard, each beside the name of its component.
+    pub fn iter(&self) -> NamedValues<'_, T>
+        ensures { values_left result ≡ named_values self.now components }
+    {
+        NamedValues::new(self)
     }
 }
 

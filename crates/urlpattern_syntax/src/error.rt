@@ -13,7 +13,7 @@ use std::alloc::{AllocError, AllocFailed};
 use std::{error, fmt};
 
 /// Why a pattern could not be built or matched.
-#[derive(Debug, Drop)]
+#[derive(Debug, PartialEq, Eq, Drop)]
 pub enum Error {
     /// A relative input was given with no base URL.
     BaseUrlRequired,
@@ -95,7 +95,7 @@ impl From<url::ParseError> for Error {
 }
 
 /// Why a pattern text has no token at a place.
-#[derive(Debug, Drop)]
+#[derive(Debug, PartialEq, Eq, Drop)]
 pub enum TokenizerError {
     /// A backslash stands at the end of the text.
     IncompleteEscapeCode,
@@ -159,7 +159,7 @@ impl RegexFault {
 }
 
 /// Why the tokens of a pattern text are no pattern.
-#[derive(Debug, Drop)]
+#[derive(Debug, PartialEq, Eq, Drop)]
 pub enum ParserError {
     /// The kind of token that had to stand at a place, then the kind and the value of the token that stands there.
     ExpectedToken(TokenType, TokenType, String),
@@ -192,7 +192,7 @@ impl fmt::Display for ParserError {
 impl error::Error for ParserError {}
 
 /// The allocator had no memory.
-#[derive(Debug, Drop)]
+#[derive(Debug, PartialEq, Eq, Drop)]
 pub struct OutOfMemory;
 
 /// Prints the text of [`Error::OutOfMemory`].
@@ -219,7 +219,7 @@ impl<T: Drop> From<AllocFailed<T>> for OutOfMemory {
 }
 
 /// Why an engine gives no regular expression.
-#[derive(Debug, Drop)]
+#[derive(Debug, PartialEq, Eq, Drop)]
 pub enum RegExpError {
     /// The engine refused the text.
     Pattern,

@@ -15,6 +15,8 @@ mod maps;
 #[cfg(test)]
 mod mismatch;
 #[cfg(test)]
+mod names;
+#[cfg(test)]
 mod parts;
 #[cfg(test)]
 mod plain;

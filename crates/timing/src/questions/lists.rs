@@ -9,6 +9,7 @@ use std::alloc::Global;
 use std::borrow::CowStr;
 use url::Url;
 use urlpattern::quirks::{StringOrInit, parse_match_input};
+use urlpattern::regexp::{PatternRegexp, RegExp};
 use urlpattern::{
     Error, UrlPatternCaptures, UrlPatternList, UrlPatternMatchInput, UrlPatternOptions,
     UrlPatternResult,
@@ -18,18 +19,22 @@ use urlpattern::{
 type First = Option<(usize, UrlPatternResult)>;
 
 /// How the patterns of a list begin.
-const FRONTS: [&str; 6] = [
+const FRONTS: [&str; 10] = [
     "https://example.com/a",
     "https://example.com/a/b",
     "https://example.com/:x",
     "https://example.com/users",
+    "https://example.com/a/:w/:x",
+    "https://example.com/a/:w/b/:x",
+    "https://example.com/:w/:x/c",
     "https://*.example.com/a",
+    "https://*.example.com/:w/:x",
     "http{s}?://example.com/a",
 ];
 
-/// What the paths of its patterns are made of after that.
-const ENDS: [&str; 10] = [
-    "/a", "/b", "/:y", "/c", "/*", "/1", "/2", "/:z?", "/(1|2)", "-b",
+/// What the paths of its patterns are made of after that. A name that stands in a path twice is refused.
+const ENDS: [&str; 14] = [
+    "/a", "/b", "/:y", "/c", "/*", "/1", "/2", "/:z?", "/(1|2)", "-b", "/:u-:v", "/b/:t", "{/c}?", "/",
 ];
 
 /// How the URLs begin that it is asked about.
@@ -40,7 +45,7 @@ const HOSTS: [&str; 3] = [
 ];
 
 /// What their paths are made of.
-const STEPS: [&str; 9] = ["/a", "/b", "/c", "/1", "/2", "/users", "-b", "/a/b", "/x"];
+const STEPS: [&str; 10] = ["/a", "/b", "/c", "/1", "/2", "/users", "-b", "/a/b", "/x", "/"];
 
 /// How many patterns most lists have at most.
 const FEW: usize = 8;
@@ -51,28 +56,46 @@ const MANY: usize = 200;
 /// How many URLs a list is asked about.
 const URLS: usize = 20;
 
-/// Asks a list for the first match of URLs.
+/// Asks a list for the first match of URLs, over one of two engines.
 pub fn ask(maker: &mut Maker) -> Result<Outcome, Error> {
+    if maker.is_one_in(2) {
+        ask_over::<Regex>(maker)
+    } else {
+        ask_over::<PatternRegexp>(maker)
+    }
+}
+
+/// Asks a list for the first match of URLs, and again after some of its patterns were removed.
+fn ask_over<E: RegExp>(maker: &mut Maker) -> Result<Outcome, Error> {
     let most = if maker.is_one_in(8) { MANY } else { FEW };
     let size = maker.below(most + 1);
-    let mut list = UrlPatternList::new(maker.alloc);
+    let mut list = UrlPatternList::<E>::new(maker.alloc);
     let filled = fill(maker, &mut list, size);
     let outcome = match filled {
         Ok(()) => asked(maker, &list),
         Err(error) => Err(error),
     };
+    if !matches!(outcome, Ok(Outcome::Same)) {
+        drop(list);
+        return outcome;
+    }
+    for _ in 0..maker.below(size + 1) {
+        let index = maker.below(list.len() + 1);
+        drop(list.remove(index));
+    }
+    let outcome = asked(maker, &list);
     drop(list);
     outcome
 }
 
 /// Adds so many patterns to a list, but for those that are refused.
-fn fill(maker: &mut Maker, list: &mut UrlPatternList, size: usize) -> Result<(), Error> {
+fn fill<E: RegExp>(maker: &mut Maker, list: &mut UrlPatternList<E>, size: usize) -> Result<(), Error> {
     for _ in 0..size {
         let front = maker.one_of(&FRONTS, "");
         let end = maker.text(&ENDS, 4)?;
         let text = format!(in maker.alloc; "{front}{end}")?;
         let given = StringOrInit::String(CowStr::Owned(text));
-        match built::<Regex>(maker.alloc, given, None, UrlPatternOptions::default()) {
+        match built::<E>(maker.alloc, given, None, UrlPatternOptions::default()) {
             Ok(pattern) => {
                 if list.push(pattern).is_err() {
                     return Err(Error::OutOfMemory);
@@ -86,7 +109,7 @@ fn fill(maker: &mut Maker, list: &mut UrlPatternList, size: usize) -> Result<(),
 }
 
 /// What comes of a list's answers.
-fn asked(maker: &mut Maker, list: &UrlPatternList) -> Result<Outcome, Error> {
+fn asked<E: RegExp>(maker: &mut Maker, list: &UrlPatternList<E>) -> Result<Outcome, Error> {
     for _ in 0..URLS {
         let host = maker.one_of(&HOSTS, "");
         let path = maker.text(&STEPS, 5)?;
@@ -100,7 +123,7 @@ fn asked(maker: &mut Maker, list: &UrlPatternList) -> Result<Outcome, Error> {
 }
 
 /// The index of the first pattern that matches a URL, by a loop.
-fn first_index(alloc: Global, list: &UrlPatternList, url: &Url) -> Result<Option<usize>, Error> {
+fn first_index<E: RegExp>(alloc: Global, list: &UrlPatternList<E>, url: &Url) -> Result<Option<usize>, Error> {
     for (index, pattern) in list.iter().enumerate() {
         if pattern.test_url(alloc, url)? {
             return Ok(Some(index));
@@ -110,7 +133,7 @@ fn first_index(alloc: Global, list: &UrlPatternList, url: &Url) -> Result<Option
 }
 
 /// Whether all calls of a list answer a URL as a loop does.
-fn is_answered_alike(alloc: Global, list: &UrlPatternList, url: Url) -> Result<bool, Error> {
+fn is_answered_alike<E: RegExp>(alloc: Global, list: &UrlPatternList<E>, url: Url) -> Result<bool, Error> {
     let expected = first_index(alloc, list, &url)?;
     let found = list.first_match(alloc, UrlPatternMatchInput::Url(url.clone()?));
     let is_same = match &found {
@@ -122,9 +145,9 @@ fn is_answered_alike(alloc: Global, list: &UrlPatternList, url: Url) -> Result<b
 }
 
 /// Whether the first match of a URL is at this index, and the calls of a list that borrow answer it too.
-fn is_found_alike(
+fn is_found_alike<E: RegExp>(
     alloc: Global,
-    list: &UrlPatternList,
+    list: &UrlPatternList<E>,
     url: Url,
     expected: Option<usize>,
     found: &First,
@@ -146,9 +169,9 @@ fn is_found_alike(
 }
 
 /// Whether the pattern at an index has this match of a URL.
-fn is_match_at(
+fn is_match_at<E: RegExp>(
     alloc: Global,
-    list: &UrlPatternList,
+    list: &UrlPatternList<E>,
     index: usize,
     url: &Url,
     expected: &UrlPatternResult,
@@ -169,7 +192,7 @@ fn is_match_at(
 /// Whether a copy of what is borrowed is the first match.
 fn is_borrowed(
     alloc: Global,
-    answer: Result<Option<(usize, UrlPatternCaptures<'_>)>, Error>,
+    answer: Result<Option<(usize, UrlPatternCaptures<'_, '_>)>, Error>,
     found: &First,
 ) -> Result<bool, Error> {
     let is_same = match (&answer, found) {

@@ -134,7 +134,7 @@ fn is_url_found_alike<R: RegExp>(
 /// Whether copies of what is borrowed are this match.
 fn is_copied(
     alloc: Global,
-    captures: Result<Option<UrlPatternCaptures<'_>>, Error>,
+    captures: Result<Option<UrlPatternCaptures<'_, '_>>, Error>,
     found: &Found,
 ) -> Result<bool, Error> {
     let is_same = match &captures {

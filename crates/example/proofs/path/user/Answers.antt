@@ -1,4 +1,4 @@
-use Rattle.std.proofs.Common.{List, ℕ, sym, subst}
+use Rattle.std.proofs.Common.{List, ℕ, inl, sym, subst}
 use Rattle.std.specs.Prelude.{MatchOption, None, Option, Some}
 use Rattle.std.specs.Str.{chars}
 use Rattle.urlpattern.specs.BorrowedMatches.{pattern_captures_view}
@@ -26,3 +26,8 @@ returns-clause-none g c =
     let Is : Option (List ℕ) → Type 0 = NamesUserByPath answer pattern (chars c.args.path.now) in
     let is_match = subst (λ (texts : Texts). IsMatchOf answer pattern texts match) c.pathname_texts.ensures (rw c.in-Some.is at c.in_ok-found.ensures.matched) in
     none_captured c.get.result Is _ (match, is_match, sym c.get.ensures)
+
+pub returns-in_default-clause-none : goal.returns-in_default-clause-none
+returns-in_default-clause-none g c =
+    let refused = rw c.in_default.is at c.in_ok-found.ensures.matched in
+    inl (subst (λ (texts : Texts). IsRefused g.R.RegExp.answer (pattern_view c.args.users.now) texts) c.pathname_texts.ensures refused)

@@ -1,6 +1,6 @@
 use Rattle.std.proofs.Common.{◌∷◌, ◌++◌, [], refl, sym, ap, ◌∙◌, append_assoc, rules}
 use Rattle.std.specs.Str.{chars}
-use Rattle.urlpattern_engine.specs.Walk.{joined}
+use Rattle.urlpattern_engine.specs.Walk.{in_turn}
 use Rattle.urlpattern_engine.proofs.repeats.skip_copies.Goals as goal
 
 pub loop-remaining-preserved : goal.loop-remaining-preserved
@@ -11,7 +11,7 @@ loop-remaining-preserved c =
       is_text = search rules;
       front = (
         last.0 ∷ so_far.0,
-        so_far.1 ∙ ap (λ t. joined so_far.0 ++ t) last.1 ∙ sym (append_assoc (joined so_far.0) last.0 (chars c.in-Some.remaining.now)),
+        so_far.1 ∙ ap (λ t. in_turn so_far.0 ++ t) last.1 ∙ sym (append_assoc (in_turn so_far.0) last.0 (chars c.in-Some.remaining.now)),
         (last.2, so_far.2),
       );
     }

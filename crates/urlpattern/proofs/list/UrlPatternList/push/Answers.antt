@@ -1,12 +1,14 @@
-use Rattle.std.proofs.Common.{refl}
-use Rattle.urlpattern_index.specs.Keys.{key_of}
-use Rattle.urlpattern_index.specs.Views.{fixed_texts}
-use Rattle.urlpattern.proofs.FixedLemmas.{AllZip-append}
-use Rattle.urlpattern.specs.PatternKeys.{IsKeyOf}
+use Rattle.std.proofs.Common.{subst, sym}
+use Rattle.urlpattern.proofs.FixedLemmas.{indexed-push}
+use Rattle.urlpattern_core.specs.Outlines.{HasOutline}
 use Rattle.urlpattern.proofs.list.UrlPatternList.push.Goals as goal
 
 pub invariant_of-self-2 : goal.invariant_of-self-2
 invariant_of-self-2 g c =
-    let fixed = fixed_texts c.fixed_of.result in
-    rw (c.in-Ok-push-2.ensures.items, c.reserve.ensures.items, c.in-Ok-push.ensures.appended)
-    (AllZip-append IsKeyOf c.self.inside.patterns.items c.self.inside.index c.args.pattern (key_of fixed) c.self.invariant (fixed, c.fixed_of.ensures, refl))
+    rw (c.in-Ok-push-2.ensures.items, c.reserve.ensures.items)
+    (indexed-push g.R.RegExp.answer c.self.inside.patterns.items c.self.inside.index c.self.invariant c.args.pattern _ _ c.in-Ok-push.ensures.appended
+    record {
+      protocol = c.fixed_text.ensures;
+      hostname = c.fixed_text-2.ensures;
+      pathname = λ text matched. subst (λ items. HasOutline items text) (sym c.deref.ensures.value) (c.in-Ok-outline_of.ensures text matched);
+    })

@@ -4,7 +4,7 @@ use denote.Shadow.{shadow}
 use Rattle.std.specs.Str.{chars}
 use Rattle.urlpattern_syntax.specs.Text.{line_feed}
 use Rattle.urlpattern_engine.specs.declared.step.Step.TheVariants.{Longest}
-use Rattle.urlpattern_engine.specs.Walk.{AreCopiesOf, captured_front, joined, literal_text, literals, longest, shortest, up_to_first, walk, walk_copies}
+use Rattle.urlpattern_engine.specs.Walk.{AreCopiesOf, captured_front, in_turn, literal_text, literals, longest, shortest, up_to_first, walk, walk_copies}
 use Rattle.urlpattern_engine.specs.Taken.{Untouched}
 use Rattle.urlpattern_engine.proofs.AttemptLemmas.{Leaves, Tries}
 use Rattle.urlpattern_engine.proofs.CopyLemmas.{led}
@@ -97,7 +97,7 @@ decreases-follow_longest_run-loop-shorter l = length l.front
 abbrev pub invariant-follow_any_copies-loop-shorter : goal.invariant-follow_any_copies-loop-shorter
 invariant-follow_any_copies-loop-shorter l =
     Tries l.fn.self l.self l.text l.front
-    (λ rest. (copies : List (List ℕ)) × (chars l.front ≡ joined copies) × AreCopiesOf l.ignore_case (literal_text l.fn.first l.literal) copies
+    (λ rest. (copies : List (List ℕ)) × (chars l.front ≡ in_turn copies) × AreCopiesOf l.ignore_case (literal_text l.fn.first l.literal) copies
     × (walk_copies l.ignore_case l.fn.first l.literal l.others (chars l.text) ≡ led (walk l.ignore_case l.others) copies rest (walk l.ignore_case l.others rest)))
 
 abbrev pub decreases-follow_any_copies-loop-shorter : goal.decreases-follow_any_copies-loop-shorter

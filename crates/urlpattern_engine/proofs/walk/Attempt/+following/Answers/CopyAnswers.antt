@@ -4,7 +4,7 @@ use Rattle.std.proofs.lemmas.List.{append_cancel_left, append_cancel_right}
 use Rattle.std.proofs.lemmas.Str.{IsUtf8-append}
 use Rattle.std.specs.Str.{chars, IsUtf8}
 use Rattle.urlpattern_engine.specs.Failed.{EndsWith}
-use Rattle.urlpattern_engine.specs.Walk.{literal_text, walk_copies, after_text, any_rounds, joined, literals, walk}
+use Rattle.urlpattern_engine.specs.Walk.{literal_text, walk_copies, after_text, any_rounds, in_turn, literals, walk}
 use Rattle.urlpattern_engine.proofs.AttemptLemmas.{follows_later, follows_missed, follows_none, follows_taken, follows_untouched, untouched-same}
 use Rattle.urlpattern_engine.proofs.CopyLemmas.{copies_any, copies_led, copies_none, copies_some, copy_shrinks, led, led-found, no_copy_left}
 use Rattle.urlpattern_engine.proofs.FollowLemmas.{bytes_join}
@@ -60,7 +60,7 @@ follow_any_copies-loop-shorter-init n c =
         bytes_join text front rest whole utf8 further c.before-front.ensures,
         (
           copies.0,
-          append_cancel_right (chars front) (joined copies.0) (chars rest) (sym c.before-front.ensures ∙ copies.1),
+          append_cancel_right (chars front) (in_turn copies.0) (chars rest) (sym c.before-front.ensures ∙ copies.1),
           copies.2,
           ap (any_rounds (after_text c.args.ignore_case copy) (λ front rest. walk c.args.ignore_case c.args.others.now rest) []) copies.1
               ∙ copies_led c.args.ignore_case c.args.first (literals c.args.literal.now) (walk c.args.ignore_case c.args.others.now) copies.0 (chars rest) copies.2 c.skip_copies-rest.ensures.all,

@@ -1,0 +1,24 @@
+-- What an engine answers of what the grammar of the crate `regex` reads in the text that a value was made of.
+use Rattle.std.specs.Prelude.{◌≡◌, ℕ, ◌-◌, List, length, IsTrue, IfSome, Option, option_map, encode_utf8_all}
+use Rattle.std.specs.Str.{all_scalars}
+use Rattle.regex.specs.Writes.{group_of}
+use Rattle.regex_hir.specs.Find.{find_str}
+use Rattle.regex_hir.specs.Re.{Re}
+use Rattle.regex_syntax.specs.Grammar.{read}
+use Rattle.regex_syntax.specs.Verdict.{default_config}
+use Rattle.urlpattern_core.specs.Regexes.{group_texts}
+use Rattle.urlpattern_core.specs.declared.regexp.RegExp.{Ghosts as Engine}
+use Rattle.urlpattern_meaning.specs.PartMeaning.{Captures}
+
+-- what the groups of the first match of the pattern span, of so many with the match itself; None without a match
+abbrev pub re_answer : Re → (groups : ℕ) → (text : List ℕ) → Option Captures
+re_answer re groups text =
+    let bytes = encode_utf8_all text in
+    option_map (λ found. group_texts bytes (groups - 1) (group_of found)) (find_str re bytes 0)
+
+-- Each value of the engine that was made with such flags answers what the grammar reads in the text that it was made of, custom or not.
+abbrev pub ValuesAnswerAsRead : {E : Type 0} → Engine E → (AreSuch : (flags : List ℕ) → Type 0) → Type 0
+ValuesAnswerAsRead {E} engine AreSuch =
+    (regexp flags : List ℕ) (value : E) → AreSuch flags → engine.IsMade value regexp flags
+    → IfSome (read default_config regexp) (λ (pattern, names).
+    (text : List ℕ) → IsTrue (all_scalars text) → engine.answer value text ≡ re_answer pattern.value (length names) text)

@@ -1,0 +1,150 @@
+//! Forms of keys.
+ghost use Rattle.arrayvec.specs.ArrayVec.{array_vec_len};
+ghost use Rattle.std.specs.Prelude.{◌≡◌, ◌≤◌, ◌↔◌, IsTrue, IfNone, IfSome, chars, option_map, length, if◌then◌else◌};
+ghost use Rattle.urlpattern_index.specs.FixedTexts.{fixed_texts, FixedTexts};
+ghost use Rattle.urlpattern_index.specs.Keys.{AreEnough, Fits, form_key, form_view, hashes_view, option_hash};
+ghost use Rattle.urlpattern_index.specs.Segments.{IsPlaceFor};
+
+use crate::address::AddressHashes;
+use crate::fixed::Fixed;
+use crate::hashes::{mixed, text_hash};
+use crate::reading::read_segments;
+use arrayvec::ArrayVec;
+
+/// How many segments of a path have a part in a key at most.
+pub(crate) const DEPTH: usize = 12;
+
+/// What has the part of a segment that can be any.
+const ANY: u64 = 1;
+
+/// Which texts of an address have a part in a key.
+#[derive(Debug, Drop)]
+pub(crate) struct Form {
+    /// Whether the protocol has.
+    pub(crate) has_protocol: bool,
+    /// Whether the hostname has.
+    pub(crate) has_hostname: bool,
+    /// Whether each of the first segments of the path has. It can be any if not.
+    pub(crate) segments: ArrayVec<bool, DEPTH>,
+    /// Whether the path has no more segments. It has some if not.
+    pub(crate) is_whole: bool,
+}
+
+/// Where a pattern is listed: a form, and the key by it.
+#[derive(Drop)]
+pub(crate) struct Place {
+    pub(crate) form: Form,
+    pub(crate) key: u64,
+}
+
+impl Form {
+    /// The key of an address. `None`: its path has too few segments, or too many.
+    pub(crate) fn key(&self, hashes: &AddressHashes) -> Option<u64>
+        ensures some { IfSome result (λ key. Fits (form_view self.now) (hashes_view hashes.now) × (key ≡ form_key (form_view self.now) (hashes_view hashes.now))) }
+        ensures none { IfNone result (¬ Fits (form_view self.now) (hashes_view hashes.now)) }
+    {
+        if self.fits(hashes.segments.len()) {
+            Some(self.key_of(hashes))
+        } else {
+            None
+        }
+    }
+
+    /// Whether a path of so many segments has as many as the form.
+    fn fits(&self, count: usize) -> bool
+        ensures { IsTrue result ↔ AreEnough self.now.is_whole (array_vec_len self.now.segments) count }
+    {
+        if self.is_whole {
+            count == self.segments.len()
+        } else {
+            self.segments.len() < count
+        }
+    }
+
+    /// The key of hashes.
+    fn key_of(&self, hashes: &AddressHashes) -> u64
+        requires { length self.now.segments.items ≤ length hashes.now.segments.items }
+        ensures { result ≡ form_key (form_view self.now) (hashes_view hashes.now) }
+    {
+        let protocol = part(self.has_protocol, hashes.protocol, 0);
+        let hostname = part(self.has_hostname, hashes.hostname, 0);
+        let segments = self.segments.as_slice();
+        let own = hashes.segments.as_slice();
+        let mut key = mixed(protocol, hostname);
+        for index in 0..segments.len() {
+            key = mixed(key, part(segments[index], own[index], ANY));
+        }
+        mixed(key, u64::from(self.is_whole))
+    }
+
+    /// Whether it is the same form.
+    pub(crate) fn is_same(&self, other: &Form) -> bool
+        ensures { IsTrue result → form_view self.now ≡ form_view other.now }
+    {
+        if self.has_protocol != other.has_protocol {
+            return false;
+        }
+        if self.has_hostname != other.has_hostname {
+            return false;
+        }
+        if self.is_whole != other.is_whole {
+            return false;
+        }
+        self.segments.as_slice() == other.segments.as_slice()
+    }
+}
+
+impl Place {
+    /// The place of a pattern, by all that is fixed.
+    pub(crate) fn of(fixed: Fixed<'_>) -> Place
+        ensures { IsPlaceFor (fixed_texts fixed.entry) result }
+    {
+        let segments = read_segments(fixed.pathname);
+        let hashes = AddressHashes {
+            protocol: option_hash(fixed.protocol),
+            hostname: option_hash(fixed.hostname),
+            segments: segments.hashes,
+        };
+        let form = Form {
+            has_protocol: fixed.protocol.is_some(),
+            has_hostname: fixed.hostname.is_some(),
+            segments: segments.have_texts,
+            is_whole: segments.is_whole,
+        };
+        let key = form.key_of(&hashes);
+        Place { form, key }
+    }
+
+    /// The place of a pattern of which nothing is known.
+    pub(crate) fn of_any() -> Place
+        ensures { (fixed : FixedTexts) → IsPlaceFor fixed result }
+    {
+        let form = Form {
+            has_protocol: false,
+            has_hostname: false,
+            segments: ArrayVec::new(),
+            is_whole: false,
+        };
+        let hashes = AddressHashes {
+            protocol: 0,
+            hostname: 0,
+            segments: ArrayVec::new(),
+        };
+        let key = form.key_of(&hashes);
+        Place { form, key }
+    }
+}
+
+/// The hash of a text that has a part in a key, or else the other number.
+fn part(has_part: bool, hash: u64, other: u64) -> u64
+    ensures { result ≡ (if has_part then hash else other) }
+{
+    if has_part { hash } else { other }
+}
+
+/// The hash of a text, and 0 where there is none.
+fn option_hash(text: Option<&str>) -> u64
+    ensures { result ≡ option_hash (option_map (λ text. chars text.now) text.entry) }
+{
+    text.map_or(0, text_hash)
+}

@@ -1,0 +1,20 @@
+//! Hashes of texts.
+ghost use Rattle.std.specs.Prelude.{◌≡◌, chars};
+ghost use Rattle.urlpattern_index.specs.Keys.{mixed, text_hash};
+
+/// A number to multiply by, as FNV-1a has it.
+const MULTIPLIER: u64 = 0x100_0000_01b3;
+
+/// A hash after one more value.
+pub(crate) fn mixed(hash: u64, value: u64) -> u64
+    ensures { result ≡ mixed hash value }
+{
+    hash.wrapping_mul(MULTIPLIER).wrapping_add(value)
+}
+
+/// The hash of a text.
+pub(crate) fn text_hash(text: &str) -> u64
+    ensures { result ≡ text_hash (chars text.now) }
+{
+    text.chars().fold(0, |hash, c| mixed(hash, u64::from(c)))
+}
