@@ -101,7 +101,7 @@ peeled_folded parts front middle back peeled = record {
 
 -- ---- the folded matcher
 
-unfoldable pub folded_inner : {E : Type 0} → InnerView E → InnerView E
+abbrev pub folded_inner : {E : Type 0} → InnerView E → InnerView E
 folded_inner (Literal literal) = Literal (folded true literal)
 folded_inner (SingleCapture filter allow_empty) = SingleCapture (option_map (folded_character true) filter) allow_empty
 folded_inner (RegExp engine) = RegExp engine
@@ -125,7 +125,6 @@ module _ {E : Type 0} (IsEngine : List ℕ → Result E ErrorView → Type 0) (o
   capture_folded : (prefix : List ℕ) (part : PartView) (suffix : List ℕ) (filter : Option ℕ) (allow_empty : Bool) →
       folded_matcher (single_capture_matcher {E = E} options prefix part suffix filter allow_empty)
       ≡ single_capture_matcher {E = E} (folded_options options) (folded true prefix) (folded_part part) (folded true suffix) (option_map (folded_character true) filter) allow_empty
-  unfolding folded_inner
   capture_folded prefix part suffix filter allow_empty =
       ap (λ (begin : List ℕ). record { prefix = begin; suffix = folded true (part.suffix ++ suffix); inner = SingleCapture (option_map (folded_character true) filter) allow_empty; ignore_case = false })
       (map-append to_ascii_lowercase prefix part.prefix)
@@ -135,7 +134,6 @@ module _ {E : Type 0} (IsEngine : List ℕ → Result E ErrorView → Type 0) (o
   -- a matcher that asks an engine, folded, asks it too
   engine_folded : (prefix : List ℕ) (middle : List PartView) (suffix : List ℕ) (matcher : MatcherView E) → IsMadeByEngine IsEngine options prefix middle suffix matcher →
       IsMadeByEngine AnyEngine (folded_options options) (folded true prefix) (folded_parts middle) (folded true suffix) (folded_matcher matcher)
-  unfolding folded_inner
   engine_folded prefix middle suffix matcher (engine, is, made) = (engine, tt, ap folded_matcher made)
 
   one_folded : (kind : PartType) (modifier : PartModifier) (prefix : List ℕ) (part : PartView) (suffix : List ℕ) (matcher : MatcherView E) →
@@ -148,7 +146,6 @@ module _ {E : Type 0} (IsEngine : List ℕ → Result E ErrorView → Type 0) (o
   between_folded : (prefix : List ℕ) (middle : List PartView) (suffix : List ℕ) (matcher : MatcherView E) →
       IsMadeBetween IsEngine options prefix middle suffix matcher →
       IsMadeBetween AnyEngine (folded_options options) (folded true prefix) (folded_parts middle) (folded true suffix) (folded_matcher matcher)
-  unfolding folded_inner
   between_folded prefix [] suffix matcher made =
       ap folded_matcher made
       ∙ ap (λ (literal : List ℕ). record { prefix = []; suffix = []; inner = Literal literal; ignore_case = false }) (map-append to_ascii_lowercase prefix suffix)
@@ -236,7 +233,6 @@ FoldsAnswer answer other inner = Unit {0}
 module _ {E : Type 0} (answer other : E → List ℕ → Option Captures) where
   accepted_folded : (inner : InnerView E) (middle : List ℕ) (captures : Captures) → FoldsAnswer answer other inner → Accepts answer true inner middle captures →
       Accepts other false (folded_inner inner) (lower middle) (folded_captures captures)
-  unfolding folded_inner
   accepted_folded (Literal literal) middle captures folds (same, nothing) = (same, ap folded_captures nothing)
   accepted_folded (SingleCapture filter allow_empty) middle captures folds (filled, passes, is) =
       (filled_folded allow_empty middle filled, passes_folded filter middle passes, ap folded_captures is)
@@ -245,7 +241,6 @@ module _ {E : Type 0} (answer other : E → List ℕ → Option Captures) where
 
   accepted_unfolded : (inner : InnerView E) (middle : List ℕ) (captures : Captures) → FoldsAnswer answer other inner → Accepts other false (folded_inner inner) (lower middle) captures →
       (own : Captures) × Accepts answer true inner middle own
-  unfolding folded_inner
   accepted_unfolded (Literal literal) middle captures folds (same, nothing) = ([], (same, refl))
   accepted_unfolded (SingleCapture filter allow_empty) middle captures folds (filled, passes, is) =
       (Some middle ∷ [], (filled_unfolded allow_empty middle filled, passes_unfolded filter middle passes, refl))

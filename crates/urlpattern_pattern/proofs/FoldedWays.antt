@@ -164,7 +164,6 @@ module _ {E : Type 0} (answer : E → List ℕ → Option Captures) (IsEngine : 
   pub matcher_folded_first : (parts : List PartView) (matcher : MatcherView E) (text : List ℕ) (result : Option Captures) → IsMadeOf IsEngine options parts matcher → AreGenerated parts → options.ignore_case ≡ true →
       IsOfMiddle (λ engine middle. AreGenerated middle × AnswersFolding options middle (answer engine)) parts matcher.inner → IsTrue (lacks line_feed text) → IsTrue (all_scalars text) →
       Answers answer matcher text result → IsFirstOf (folded_options options) (folded_parts parts) (lower text) (option_map folded_captures result)
-  unfolding folded_inner
   matcher_folded_first parts matcher text result made generated ignored firsts no_feed scalars answers = by matcher.inner refl firsts
     where
       ignores : matcher.ignore_case ≡ true
