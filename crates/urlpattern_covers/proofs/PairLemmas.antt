@@ -5,7 +5,7 @@ use Rattle.std.proofs.lemmas.List.Elements.{All-contains, All-more, All-weaker, 
 use Rattle.std.specs.List.{All, Contains}
 use Rattle.std.specs.{Char.IsScalar, Str.all_scalars}
 use Rattle.std.specs.Prelude.{◌&&◌, IsTrue, not}
-use Rattle.urlpattern_covers.specs.Automata.{Accepts, IsWhether, IsWithin, Leads, LeadsFrom, passes}
+use Rattle.urlpattern_covers.specs.Automata.{AcceptsText, IsWhether, IsWithin, Leads, LeadsFrom, passes}
 use Rattle.urlpattern_covers.specs.Searching.{AreClasses, IsBy, IsExtended, IsFollowed, IsFollowedBy, IsReached, IsSameFor, IsSeen, IsStep, IsStepBy, IsGrownBy, LeadsIn, is_in, moved, starts_of}
 use Rattle.urlpattern_covers.specs.declared.automaton.Automaton.{Automaton}
 use Rattle.urlpattern_covers.specs.declared.automaton.Edge.{Edge}
@@ -27,10 +27,10 @@ step_reached one other pair next c edge within reached has from passed (state_is
     let moves = (λ (text : List ℕ). leads_moved edges flags c text (within_width other flags within reached.width)) in
     let longer : (text : List ℕ) → next.text.items ++ text ≡ pair.text.items ++ (c ∷ text) = λ text. ap (λ t. t ++ text) text_is ∙ append_assoc pair.text.items (c ∷ []) text in
     record {
-      state = λ text leads. subst (λ t. Accepts one t) (sym (longer text)) (reached.state (c ∷ text) (edge, has, from, passed, subst (λ s. Leads one.edges.items s text) state_is leads));
+      state = λ text leads. subst (λ t. AcceptsText one t) (sym (longer text)) (reached.state (c ∷ text) (edge, has, from, passed, subst (λ s. Leads one.edges.items s text) state_is leads));
       states = λ text. (
-        λ accepts. subst (λ f. LeadsIn edges f text) (sym states_are) ((moves text).1 ((reached.states (c ∷ text)).0 (subst (λ t. Accepts other t) (longer text) accepts))),
-        λ leads. subst (λ t. Accepts other t) (sym (longer text)) ((reached.states (c ∷ text)).1 ((moves text).0 (subst (λ f. LeadsIn edges f text) states_are leads))),
+        λ accepts. subst (λ f. LeadsIn edges f text) (sym states_are) ((moves text).1 ((reached.states (c ∷ text)).0 (subst (λ t. AcceptsText other t) (longer text) accepts))),
+        λ leads. subst (λ t. AcceptsText other t) (sym (longer text)) ((reached.states (c ∷ text)).1 ((moves text).0 (subst (λ f. LeadsIn edges f text) states_are leads))),
       );
       width = ap length states_are ∙ length_moved edges flags c ∙ reached.width;
     }
@@ -38,10 +38,10 @@ step_reached one other pair next c edge within reached has from passed (state_is
 -- before the first character
 pub start_reached : (one other : Automaton) (pair : Pair) → IsWithin other → Contains one.starts.items pair.state → pair.states.items ≡ starts_of other → pair.text.items ≡ [] → IsReached one other pair
 start_reached one other pair within has states_are text_is = record {
-  state = λ text leads. subst (λ t. Accepts one (t ++ text)) (sym text_is) (pair.state, has, leads);
+  state = λ text leads. subst (λ t. AcceptsText one (t ++ text)) (sym text_is) (pair.state, has, leads);
   states = λ text. (
-    λ accepts. subst (λ f. LeadsIn other.edges.items f text) (sym states_are) ((leads_starts other text within).0 (subst (λ t. Accepts other (t ++ text)) text_is accepts)),
-    λ leads. subst (λ t. Accepts other (t ++ text)) (sym text_is) ((leads_starts other text within).1 (subst (λ f. LeadsIn other.edges.items f text) states_are leads)),
+    λ accepts. subst (λ f. LeadsIn other.edges.items f text) (sym states_are) ((leads_starts other text within).0 (subst (λ t. AcceptsText other (t ++ text)) text_is accepts)),
+    λ leads. subst (λ t. AcceptsText other (t ++ text)) (sym text_is) ((leads_starts other text within).1 (subst (λ f. LeadsIn other.edges.items f text) states_are leads)),
   );
   width = ap length states_are ∙ length_starts other;
 }
@@ -49,17 +49,17 @@ start_reached one other pair within has states_are text_is = record {
 -- a copy of a pair
 pub copy_reached : (one other : Automaton) (pair copy : Pair) → IsReached one other pair → IsStep pair.state pair.states.items pair.text.items copy → IsReached one other copy
 copy_reached one other pair copy reached (state_is, states_are, text_is) = record {
-  state = λ text leads. subst (λ t. Accepts one (t ++ text)) (sym text_is) (reached.state text (subst (λ s. Leads one.edges.items s text) state_is leads));
+  state = λ text leads. subst (λ t. AcceptsText one (t ++ text)) (sym text_is) (reached.state text (subst (λ s. Leads one.edges.items s text) state_is leads));
   states = λ text. (
-    λ accepts. subst (λ f. LeadsIn other.edges.items f text) (sym states_are) ((reached.states text).0 (subst (λ t. Accepts other (t ++ text)) text_is accepts)),
-    λ leads. subst (λ t. Accepts other (t ++ text)) (sym text_is) ((reached.states text).1 (subst (λ f. LeadsIn other.edges.items f text) states_are leads)),
+    λ accepts. subst (λ f. LeadsIn other.edges.items f text) (sym states_are) ((reached.states text).0 (subst (λ t. AcceptsText other (t ++ text)) text_is accepts)),
+    λ leads. subst (λ t. AcceptsText other (t ++ text)) (sym text_is) ((reached.states text).1 (subst (λ f. LeadsIn other.edges.items f text) states_are leads)),
   );
   width = ap length states_are ∙ reached.width;
 }
 
 -- ---- what is found
 
-whether_by : (b : Bool) (P Q : Type 0) → P ↔ Q → IsWhether b P → IsWhether b Q
+pub whether_by : (b : Bool) (P Q : Type 0) → P ↔ Q → IsWhether b P → IsWhether b Q
 whether_by true P Q same h = same.0 h
 whether_by false P Q same h = λ q. h (same.1 q)
 
@@ -72,12 +72,12 @@ whether_empty edges flags false false e h = λ leads. let k : is_in flags 0 ≡ 
 
 -- the text of a pair whose state is the last
 pub found_text : (one other : Automaton) (pair : Pair) (b : Bool) → IsReached one other pair → pair.state ≡ 0 → is_in pair.states.items 0 ≡ b →
-    Accepts one pair.text.items × IsWhether b (Accepts other pair.text.items)
+    AcceptsText one pair.text.items × IsWhether b (AcceptsText other pair.text.items)
 found_text one other pair b reached last states_is =
     let nothing = append-nil pair.text.items in (
-      subst (λ t. Accepts one t) nothing (reached.state [] last),
-      subst (λ t. IsWhether b (Accepts other t)) nothing (
-          whether_by b (LeadsIn other.edges.items pair.states.items []) (Accepts other (pair.text.items ++ []))
+      subst (λ t. AcceptsText one t) nothing (reached.state [] last),
+      subst (λ t. IsWhether b (AcceptsText other t)) nothing (
+          whether_by b (LeadsIn other.edges.items pair.states.items []) (AcceptsText other (pair.text.items ++ []))
           (let same = reached.states [] in (same.1, same.0))
           (whether_empty other.edges.items pair.states.items b b states_is refl)
           ),
@@ -119,11 +119,11 @@ nothing_left one other classes is_accepted pairs within are reached done (c ∷ 
 pub nothing_found : (one other : Automaton) (classes : List ℕ) (is_accepted : Bool) (pairs : List Pair) → IsWithin other → AreClasses one.edges.items other.edges.items classes →
     All (IsReached one other) pairs → All (IsDone one other classes is_accepted pairs) pairs →
     ((state : ℕ) → Contains one.starts.items state → IsSeen pairs state (starts_of other)) →
-    (text : List ℕ) → IsTrue (all_scalars text) → Accepts one text → IsWhether (not is_accepted) (Accepts other text)
+    (text : List ℕ) → IsTrue (all_scalars text) → AcceptsText one text → IsWhether (not is_accepted) (AcceptsText other text)
 nothing_found one other classes is_accepted pairs within are reached done starts text fine (state, has, leads) =
     let (pair, seen, state_is, states_are) = starts state has in
     let same = leads_starts other text within in
-    whether_by (not is_accepted) (LeadsIn other.edges.items (starts_of other) text) (Accepts other text) (same.1, same.0)
+    whether_by (not is_accepted) (LeadsIn other.edges.items (starts_of other) text) (AcceptsText other text) (same.1, same.0)
     (subst (λ f. IsWhether (not is_accepted) (LeadsIn other.edges.items f text)) states_are
     (nothing_left one other classes is_accepted pairs within are reached done text fine pair seen (subst (λ s. Leads one.edges.items s text) (sym state_is) leads)))
 

@@ -1,7 +1,7 @@
 //! A search for a text that one automaton accepts, and another accepts or does not.
 
 ghost use Rattle.std.specs.Prelude.{◌≡◌, ℕ, All, Contains, IfOk, OnOk, IsTrue};
-ghost use Rattle.urlpattern_covers.specs.Automata.{IsFound, IsWithin};
+ghost use Rattle.urlpattern_covers.specs.Automata.{IsFoundBy, IsWithin};
 ghost use Rattle.urlpattern_covers.specs.Searching.{IsBy, IsExtended, IsFollowed, IsFollowedBy, IsGrownBy, IsReached, IsSeen, IsStep, IsStepBy, starts_of};
 
 use crate::automaton::{Automaton, Edge};
@@ -43,7 +43,7 @@ impl Automaton {
     ) -> Result<Found, AllocError>
         requires one { IsWithin self.now }
         requires two { IsWithin other.now }
-        ensures { IfOk result (IsFound self.now other.now is_accepted) }
+        ensures { IfOk result (IsFoundBy self.now other.now is_accepted) }
     {
         let classes = classes(alloc, &self.edges, &other.edges)?;
         let mut pairs = first_pairs(alloc, self, other)?;
