@@ -55,10 +55,10 @@ found_answer options parts other_options others is_meant one other (Text text) g
     let here = parts_accepted options parts one gen same text.items in
     let there = parts_accepted other_options others other other_gen other_same text.items in
     (here.0 is.0, whether_by is_meant (AcceptsText other text.items) (MeansText other_options others text.items) there is.1)
-found_answer options parts other_options others is_meant one other Nothing gen other_gen same other_same is = λ text fine meant.
+found_answer options parts other_options others is_meant one other Nothing gen other_gen same other_same is = λ text fine plain meant.
     let here = parts_accepted options parts one gen same text in
     let there = parts_accepted other_options others other other_gen other_same text in
-    whether_by (not is_meant) (AcceptsText other text) (MeansText other_options others text) there (is text fine (here.1 meant))
+    whether_by (not is_meant) (AcceptsText other text) (MeansText other_options others text) there (is text fine plain (here.1 meant))
 found_answer options parts other_options others is_meant one other TooMany gen other_gen same other_same is = tt
 
 -- ---- what was made

@@ -17,6 +17,7 @@ use Rattle.urlpattern_meaning.specs.PartMeaning.{AreGenerated}
 use Rattle.urlpattern_syntax.specs.{Options.OptionsView, Parts.PartView}
 use Rattle.urlpattern_syntax.specs.declared.parser.Part.{Part}
 use Rattle.urlpattern_syntax.specs.declared.parser.PartType.{PartType}
+use Rattle.urlpattern_syntax.specs.Text.{lacks, line_feed}
 
 -- why nothing is known
 abbrev pub IsReason : OptionsView → List PartView → OptionsView → List PartView → Reason → Type 0
@@ -24,17 +25,17 @@ IsReason options parts other_options others reasons.CustomExpression = ¬ (AreGe
 IsReason options parts other_options others reasons.IgnoredCase = (options.ignore_case ≡ true) ⊎ (other_options.ignore_case ≡ true)
 IsReason options parts other_options others reasons.TooMany = Unit {0}
 
--- Whether each text that the asked parts mean is meant by the parts. A text that is not is an example.
+-- Whether each text without line feed that the asked parts mean is meant by the parts. A text that is not is an example.
 abbrev pub IsCovering : OptionsView → List PartView → (asked_options : OptionsView) → (asked : List PartView) → Covering → Type 0
 IsCovering options parts asked_options asked coverings.Covered =
-    (text : List ℕ) → IsTrue (all_scalars text) → MeansText asked_options asked text → MeansText options parts text
+    (text : List ℕ) → IsTrue (all_scalars text) → IsTrue (lacks line_feed text) → MeansText asked_options asked text → MeansText options parts text
 IsCovering options parts asked_options asked (coverings.NotCovered text) = MeansText asked_options asked text.items × ¬ MeansText options parts text.items
 IsCovering options parts asked_options asked (coverings.Unknown reason) = IsReason asked_options asked options parts reason
 
--- whether both mean a text
+-- whether both mean a text without line feed
 abbrev pub IsOverlap : OptionsView → List PartView → OptionsView → List PartView → Overlap → Type 0
 IsOverlap options parts other_options others overlaps.Apart =
-    (text : List ℕ) → IsTrue (all_scalars text) → MeansText options parts text → ¬ MeansText other_options others text
+    (text : List ℕ) → IsTrue (all_scalars text) → IsTrue (lacks line_feed text) → MeansText options parts text → ¬ MeansText other_options others text
 IsOverlap options parts other_options others (overlaps.Common text) = MeansText options parts text.items × MeansText other_options others text.items
 IsOverlap options parts other_options others (overlaps.Unknown reason) = IsReason options parts other_options others reason
 
@@ -45,7 +46,7 @@ abbrev pub IsSought : OptionsView → List PartView → OptionsView → List Par
 IsSought options parts other_options others is_meant (answers.Text text) =
     MeansText options parts text.items × IsWhether is_meant (MeansText other_options others text.items)
 IsSought options parts other_options others is_meant answers.Nothing =
-    (text : List ℕ) → IsTrue (all_scalars text) → MeansText options parts text → IsWhether (not is_meant) (MeansText other_options others text)
+    (text : List ℕ) → IsTrue (all_scalars text) → IsTrue (lacks line_feed text) → MeansText options parts text → IsWhether (not is_meant) (MeansText other_options others text)
 IsSought options parts other_options others is_meant (answers.Unknown reason) = IsReason options parts other_options others reason
 
 -- the answer by what a search found

@@ -20,7 +20,8 @@ pub(crate) fn make(
     options: &Options,
     parts: &[Part],
 ) -> Result<Option<Automaton>, AllocError>
-    ensures { IfOk result (λ found. IfSome found (λ automaton. made_view automaton ≡ made (options_view options.now) (parts_view parts.now))) }
+    ensures { IfOk result (λ found. IfSome found
+        (λ automaton. made_view automaton ≡ made (options_view options.now) (parts_view parts.now))) }
 {
     let mut automaton = Automaton {
         edges: Vec::new(alloc),

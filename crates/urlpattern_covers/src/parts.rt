@@ -55,7 +55,7 @@ pub(crate) enum Answer {
     Unknown(Reason),
 }
 
-/// Returns whether each text that the asked parts mean is meant by the parts.
+/// Returns whether each text without line feed that the asked parts mean is meant by the parts.
 ///
 /// `NotCovered` has one of the shortest texts that are not.
 pub fn covers(
@@ -65,7 +65,8 @@ pub fn covers(
     asked_options: &Options,
     asked: &[Part],
 ) -> Result<Covering, AllocError>
-    ensures { IfOk result (IsCovering (options_view options.now) (parts_view parts.now) (options_view asked_options.now) (parts_view asked.now)) }
+    ensures { IfOk result
+        (IsCovering (options_view options.now) (parts_view parts.now) (options_view asked_options.now) (parts_view asked.now)) }
 {
     let answer = find_meant(alloc, asked_options, asked, options, parts, false)?;
     match answer {
@@ -75,7 +76,7 @@ pub fn covers(
     }
 }
 
-/// Returns whether both lists of parts mean a text.
+/// Returns whether both lists of parts mean a text without line feed.
 ///
 /// `Common` has one of the shortest such texts.
 pub fn overlaps(
@@ -85,7 +86,8 @@ pub fn overlaps(
     other_options: &Options,
     others: &[Part],
 ) -> Result<Overlap, AllocError>
-    ensures { IfOk result (IsOverlap (options_view options.now) (parts_view parts.now) (options_view other_options.now) (parts_view others.now)) }
+    ensures { IfOk result
+        (IsOverlap (options_view options.now) (parts_view parts.now) (options_view other_options.now) (parts_view others.now)) }
 {
     let answer = find_meant(alloc, options, parts, other_options, others, true)?;
     match answer {
@@ -104,7 +106,8 @@ fn find_meant(
     others: &[Part],
     is_meant: bool,
 ) -> Result<Answer, AllocError>
-    ensures { IfOk result (IsSought (options_view options.now) (parts_view parts.now) (options_view other_options.now) (parts_view others.now) is_meant) }
+    ensures { IfOk result
+        (IsSought (options_view options.now) (parts_view parts.now) (options_view other_options.now) (parts_view others.now) is_meant) }
 {
     if options.ignore_case {
         return Ok(Answer::Unknown(Reason::IgnoredCase));
