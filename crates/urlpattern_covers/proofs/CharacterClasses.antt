@@ -9,7 +9,7 @@ use Rattle.urlpattern_covers.specs.Searching.{AreClasses, IsSameFor, is_in, move
 use Rattle.urlpattern_covers.specs.declared.automaton.Edge.{Edge}
 use Rattle.urlpattern_covers.specs.declared.automaton.Test.{Test}
 use Rattle.urlpattern_covers.specs.declared.automaton.Test.TheVariants.{Only, AnyBut}
-use Rattle.urlpattern_syntax.specs.Text.{is_among}
+use Rattle.urlpattern_syntax.specs.Text.{is_among, line_feed}
 use Rattle.urlpattern_covers.proofs.StateSets.{contains_cons, contains_head, contains_tail}
 
 -- ---- characters that tests name
@@ -81,18 +81,19 @@ others_same classes edges c other h k named_in =
 itself : (edges : List Edge) (c : ℕ) → IsSameFor edges c c
 itself edges c = λ k d lt. refl
 
-classes_cases : (marks : List ℕ) (edges others : List Edge) (c : ℕ) → is_among marks c ≡ false → AreNamed marks edges → AreNamed marks others → (other : ℕ) (b : Bool) → is_among marks other ≡ b →
-    (same : ℕ) × Contains (marks ++ c ∷ []) same × IsSameFor edges other same × IsSameFor others other same
-classes_cases marks edges others c free left right other true e =
-    (other, Contains-append_left marks (c ∷ []) other (among_contains marks other e), itself edges other, itself others other)
-classes_cases marks edges others c free left right other false e = (c, Contains-push marks c, others_same marks edges other c e free left, others_same marks others other c e free right)
+classes_cases : (marks : List ℕ) (edges others : List Edge) (c : ℕ) → is_among marks c ≡ false → Contains marks line_feed → AreNamed marks edges → AreNamed marks others → (other : ℕ) (b : Bool) → is_among marks other ≡ b →
+    (same : ℕ) × Contains (marks ++ c ∷ []) same × IsSameFor edges other same × IsSameFor others other same × (other ≢ line_feed → same ≢ line_feed)
+classes_cases marks edges others c free feed left right other true e =
+    (other, Contains-append_left marks (c ∷ []) other (among_contains marks other e), itself edges other, itself others other, λ fine. fine)
+classes_cases marks edges others c free feed left right other false e =
+    (c, Contains-push marks c, others_same marks edges other c e free left, others_same marks others other c e free right, λ fine. unlike marks c line_feed free feed)
 
 -- the classes are the marks and another character, if there is one
-pub classes_with : (marks : List ℕ) (edges others : List Edge) (c : ℕ) → is_among marks c ≡ false → AreNamed marks edges → AreNamed marks others → AreClasses edges others (marks ++ c ∷ [])
-classes_with marks edges others c free left right other scalar = classes_cases marks edges others c free left right other (is_among marks other) refl
+pub classes_with : (marks : List ℕ) (edges others : List Edge) (c : ℕ) → is_among marks c ≡ false → Contains marks line_feed → AreNamed marks edges → AreNamed marks others → AreClasses edges others (marks ++ c ∷ [])
+classes_with marks edges others c free feed left right other scalar = classes_cases marks edges others c free feed left right other (is_among marks other) refl
 
 pub classes_all : (marks : List ℕ) (edges others : List Edge) → ((c : ℕ) → IsScalar c → is_among marks c ≡ true) → AreClasses edges others marks
-classes_all marks edges others all c scalar = (c, among_contains marks c (all c scalar), itself edges c, itself others c)
+classes_all marks edges others all c scalar = (c, among_contains marks c (all c scalar), itself edges c, itself others c, λ fine. fine)
 
 -- characters that are alike lead to the same states
 pub same_moves : (flags from : List Bool) (c other : ℕ) (edges : List Edge) → IsSameFor edges c other → with_moves flags from c edges ≡ with_moves flags from other edges

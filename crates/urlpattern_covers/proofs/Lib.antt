@@ -1,3 +1,10 @@
 pub mod StateSets
 pub mod CharacterClasses
 pub mod PairLemmas
+pub mod MadeStates
+pub mod CellTexts
+pub mod Blocks
+pub mod Copies
+pub mod PartTexts
+pub mod PartsRead
+pub mod AnswerLemmas

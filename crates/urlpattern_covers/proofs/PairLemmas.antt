@@ -1,15 +1,16 @@
 -- Pairs of a state and states, and what their texts lead to.
-use Rattle.std.proofs.Common.{◌≡◌, ◌≢◌, ℕ, zero, suc, ◌<◌, Bool, true, false, List, [], ◌∷◌, ◌++◌, length, refl, sym, subst, ap, ◌∙◌, ◌⊎◌, inl, inr, ◌↔◌, arith, ◌+◌, ◌≤◌, append_assoc, append-nil, take, get_or, take_all, length-append}
+use Rattle.std.proofs.Common.{◌≡◌, ◌≢◌, ℕ, zero, suc, ◌<◌, Bool, true, false, List, [], ◌∷◌, ◌++◌, length, refl, sym, subst, ap, ◌∙◌, ◌⊎◌, inl, inr, ◌↔◌, arith, ◌+◌, ◌≤◌, append_assoc, append-nil, eq-eqb, take, get_or, take_all, length-append}
 use Rattle.std.proofs.lemmas.List.{get_or_append_left, take-append-le, take_more}
 use Rattle.std.proofs.lemmas.List.Elements.{All-contains, All-more, All-weaker, Contains-append_left, Contains-get_or, Contains-push_cases}
 use Rattle.std.specs.List.{All, Contains}
 use Rattle.std.specs.{Char.IsScalar, Str.all_scalars}
-use Rattle.std.specs.Prelude.{◌&&◌, IsTrue, not}
-use Rattle.urlpattern_covers.specs.Automata.{Accepts, IsWhether, IsWithin, Leads, LeadsFrom, passes}
+use Rattle.std.specs.Prelude.{◌&&◌, ◌==◌, IsTrue, not}
+use Rattle.urlpattern_covers.specs.Automata.{AcceptsText, IsWhether, IsWithin, Leads, LeadsFrom, passes}
 use Rattle.urlpattern_covers.specs.Searching.{AreClasses, IsBy, IsExtended, IsFollowed, IsFollowedBy, IsReached, IsSameFor, IsSeen, IsStep, IsStepBy, IsGrownBy, LeadsIn, is_in, moved, starts_of}
 use Rattle.urlpattern_covers.specs.declared.automaton.Automaton.{Automaton}
 use Rattle.urlpattern_covers.specs.declared.automaton.Edge.{Edge}
 use Rattle.urlpattern_covers.specs.declared.search.Pair.{Pair}
+use Rattle.urlpattern_syntax.specs.Text.{lacks, line_feed}
 use Rattle.urlpattern_covers.proofs.CharacterClasses.{same_moved}
 use Rattle.urlpattern_covers.proofs.StateSets.{leads_moved, leads_starts, length_moved, length_starts}
 
@@ -27,10 +28,10 @@ step_reached one other pair next c edge within reached has from passed (state_is
     let moves = (λ (text : List ℕ). leads_moved edges flags c text (within_width other flags within reached.width)) in
     let longer : (text : List ℕ) → next.text.items ++ text ≡ pair.text.items ++ (c ∷ text) = λ text. ap (λ t. t ++ text) text_is ∙ append_assoc pair.text.items (c ∷ []) text in
     record {
-      state = λ text leads. subst (λ t. Accepts one t) (sym (longer text)) (reached.state (c ∷ text) (edge, has, from, passed, subst (λ s. Leads one.edges.items s text) state_is leads));
+      state = λ text leads. subst (λ t. AcceptsText one t) (sym (longer text)) (reached.state (c ∷ text) (edge, has, from, passed, subst (λ s. Leads one.edges.items s text) state_is leads));
       states = λ text. (
-        λ accepts. subst (λ f. LeadsIn edges f text) (sym states_are) ((moves text).1 ((reached.states (c ∷ text)).0 (subst (λ t. Accepts other t) (longer text) accepts))),
-        λ leads. subst (λ t. Accepts other t) (sym (longer text)) ((reached.states (c ∷ text)).1 ((moves text).0 (subst (λ f. LeadsIn edges f text) states_are leads))),
+        λ accepts. subst (λ f. LeadsIn edges f text) (sym states_are) ((moves text).1 ((reached.states (c ∷ text)).0 (subst (λ t. AcceptsText other t) (longer text) accepts))),
+        λ leads. subst (λ t. AcceptsText other t) (sym (longer text)) ((reached.states (c ∷ text)).1 ((moves text).0 (subst (λ f. LeadsIn edges f text) states_are leads))),
       );
       width = ap length states_are ∙ length_moved edges flags c ∙ reached.width;
     }
@@ -38,10 +39,10 @@ step_reached one other pair next c edge within reached has from passed (state_is
 -- before the first character
 pub start_reached : (one other : Automaton) (pair : Pair) → IsWithin other → Contains one.starts.items pair.state → pair.states.items ≡ starts_of other → pair.text.items ≡ [] → IsReached one other pair
 start_reached one other pair within has states_are text_is = record {
-  state = λ text leads. subst (λ t. Accepts one (t ++ text)) (sym text_is) (pair.state, has, leads);
+  state = λ text leads. subst (λ t. AcceptsText one (t ++ text)) (sym text_is) (pair.state, has, leads);
   states = λ text. (
-    λ accepts. subst (λ f. LeadsIn other.edges.items f text) (sym states_are) ((leads_starts other text within).0 (subst (λ t. Accepts other (t ++ text)) text_is accepts)),
-    λ leads. subst (λ t. Accepts other (t ++ text)) (sym text_is) ((leads_starts other text within).1 (subst (λ f. LeadsIn other.edges.items f text) states_are leads)),
+    λ accepts. subst (λ f. LeadsIn other.edges.items f text) (sym states_are) ((leads_starts other text within).0 (subst (λ t. AcceptsText other (t ++ text)) text_is accepts)),
+    λ leads. subst (λ t. AcceptsText other (t ++ text)) (sym text_is) ((leads_starts other text within).1 (subst (λ f. LeadsIn other.edges.items f text) states_are leads)),
   );
   width = ap length states_are ∙ length_starts other;
 }
@@ -49,17 +50,17 @@ start_reached one other pair within has states_are text_is = record {
 -- a copy of a pair
 pub copy_reached : (one other : Automaton) (pair copy : Pair) → IsReached one other pair → IsStep pair.state pair.states.items pair.text.items copy → IsReached one other copy
 copy_reached one other pair copy reached (state_is, states_are, text_is) = record {
-  state = λ text leads. subst (λ t. Accepts one (t ++ text)) (sym text_is) (reached.state text (subst (λ s. Leads one.edges.items s text) state_is leads));
+  state = λ text leads. subst (λ t. AcceptsText one (t ++ text)) (sym text_is) (reached.state text (subst (λ s. Leads one.edges.items s text) state_is leads));
   states = λ text. (
-    λ accepts. subst (λ f. LeadsIn other.edges.items f text) (sym states_are) ((reached.states text).0 (subst (λ t. Accepts other (t ++ text)) text_is accepts)),
-    λ leads. subst (λ t. Accepts other (t ++ text)) (sym text_is) ((reached.states text).1 (subst (λ f. LeadsIn other.edges.items f text) states_are leads)),
+    λ accepts. subst (λ f. LeadsIn other.edges.items f text) (sym states_are) ((reached.states text).0 (subst (λ t. AcceptsText other (t ++ text)) text_is accepts)),
+    λ leads. subst (λ t. AcceptsText other (t ++ text)) (sym text_is) ((reached.states text).1 (subst (λ f. LeadsIn other.edges.items f text) states_are leads)),
   );
   width = ap length states_are ∙ reached.width;
 }
 
 -- ---- what is found
 
-whether_by : (b : Bool) (P Q : Type 0) → P ↔ Q → IsWhether b P → IsWhether b Q
+pub whether_by : (b : Bool) (P Q : Type 0) → P ↔ Q → IsWhether b P → IsWhether b Q
 whether_by true P Q same h = same.0 h
 whether_by false P Q same h = λ q. h (same.1 q)
 
@@ -72,12 +73,12 @@ whether_empty edges flags false false e h = λ leads. let k : is_in flags 0 ≡ 
 
 -- the text of a pair whose state is the last
 pub found_text : (one other : Automaton) (pair : Pair) (b : Bool) → IsReached one other pair → pair.state ≡ 0 → is_in pair.states.items 0 ≡ b →
-    Accepts one pair.text.items × IsWhether b (Accepts other pair.text.items)
+    AcceptsText one pair.text.items × IsWhether b (AcceptsText other pair.text.items)
 found_text one other pair b reached last states_is =
     let nothing = append-nil pair.text.items in (
-      subst (λ t. Accepts one t) nothing (reached.state [] last),
-      subst (λ t. IsWhether b (Accepts other t)) nothing (
-          whether_by b (LeadsIn other.edges.items pair.states.items []) (Accepts other (pair.text.items ++ []))
+      subst (λ t. AcceptsText one t) nothing (reached.state [] last),
+      subst (λ t. IsWhether b (AcceptsText other t)) nothing (
+          whether_by b (LeadsIn other.edges.items pair.states.items []) (AcceptsText other (pair.text.items ++ []))
           (let same = reached.states [] in (same.1, same.0))
           (whether_empty other.edges.items pair.states.items b b states_is refl)
           ),
@@ -95,21 +96,23 @@ and_first false b h = absurd cc
 -- where each pair is done, no text is left out
 pub nothing_left : (one other : Automaton) (classes : List ℕ) (is_accepted : Bool) (pairs : List Pair) → IsWithin other → AreClasses one.edges.items other.edges.items classes →
     All (IsReached one other) pairs → All (IsDone one other classes is_accepted pairs) pairs →
-    (text : List ℕ) → IsTrue (all_scalars text) → (pair : Pair) → Contains pairs pair → Leads one.edges.items pair.state text →
+    (text : List ℕ) → IsTrue (all_scalars text) → IsTrue (lacks line_feed text) → (pair : Pair) → Contains pairs pair → Leads one.edges.items pair.state text →
     IsWhether (not is_accepted) (LeadsIn other.edges.items pair.states.items text)
-nothing_left one other classes is_accepted pairs within are reached done [] fine pair has leads =
+nothing_left one other classes is_accepted pairs within are reached done [] fine plain pair has leads =
     let it = All-contains (IsDone one other classes is_accepted pairs) pairs pair done has in
     whether_empty other.edges.items pair.states.items (not is_accepted) (is_in pair.states.items 0) refl (it.other_end leads)
-nothing_left one other classes is_accepted pairs within are reached done (c ∷ text) fine pair has (edge, there, from, passed, leads) =
+nothing_left one other classes is_accepted pairs within are reached done (c ∷ text) fine plain pair has (edge, there, from, passed, leads) =
     let it = All-contains (IsDone one other classes is_accepted pairs) pairs pair done has in
     let width = (All-contains (IsReached one other) pairs pair reached has).width in
     let two = and_first _ (all_scalars text) fine in
-    let (same, listed, alike, other_alike) = are c two.0 in
+    let no_feed = and_first (not (c == line_feed)) (lacks line_feed text) plain in
+    let other_feed : c ≢ line_feed = λ e. let h : (c == line_feed) ≡ true = eq-eqb c line_feed e in let k : not (c == line_feed) ≡ false = ap not h in absurd cc in
+    let (same, listed, alike, other_alike, feeds) = are c two.0 in
     let edges = other.edges.items in
     let flags = pair.states.items in
     let same_passed : IsTrue (passes edge.test same) = sym (All-contains (λ (it : Edge). passes it.test c ≡ passes it.test same) one.edges.items edge alike there) ∙ passed in
-    let (next, seen, state_is, states_are) = it.followed same listed edge there (from, same_passed) in
-    let rest = nothing_left one other classes is_accepted pairs within are reached done text two.1 next seen (subst (λ s. Leads one.edges.items s text) (sym state_is) leads) in
+    let (next, seen, state_is, states_are) = it.followed same listed (feeds other_feed) edge there (from, same_passed) in
+    let rest = nothing_left one other classes is_accepted pairs within are reached done text two.1 no_feed.1 next seen (subst (λ s. Leads one.edges.items s text) (sym state_is) leads) in
     let states_same : next.states.items ≡ moved edges flags c = states_are ∙ sym (same_moved edges flags c same other_alike) in
     whether_by (not is_accepted) (LeadsIn edges (moved edges flags c) text) (LeadsIn edges flags (c ∷ text))
     (leads_moved edges flags c text (within_width other flags within width))
@@ -119,13 +122,13 @@ nothing_left one other classes is_accepted pairs within are reached done (c ∷ 
 pub nothing_found : (one other : Automaton) (classes : List ℕ) (is_accepted : Bool) (pairs : List Pair) → IsWithin other → AreClasses one.edges.items other.edges.items classes →
     All (IsReached one other) pairs → All (IsDone one other classes is_accepted pairs) pairs →
     ((state : ℕ) → Contains one.starts.items state → IsSeen pairs state (starts_of other)) →
-    (text : List ℕ) → IsTrue (all_scalars text) → Accepts one text → IsWhether (not is_accepted) (Accepts other text)
-nothing_found one other classes is_accepted pairs within are reached done starts text fine (state, has, leads) =
+    (text : List ℕ) → IsTrue (all_scalars text) → IsTrue (lacks line_feed text) → AcceptsText one text → IsWhether (not is_accepted) (AcceptsText other text)
+nothing_found one other classes is_accepted pairs within are reached done starts text fine plain (state, has, leads) =
     let (pair, seen, state_is, states_are) = starts state has in
     let same = leads_starts other text within in
-    whether_by (not is_accepted) (LeadsIn other.edges.items (starts_of other) text) (Accepts other text) (same.1, same.0)
+    whether_by (not is_accepted) (LeadsIn other.edges.items (starts_of other) text) (AcceptsText other text) (same.1, same.0)
     (subst (λ f. IsWhether (not is_accepted) (LeadsIn other.edges.items f text)) states_are
-    (nothing_left one other classes is_accepted pairs within are reached done text fine pair seen (subst (λ s. Leads one.edges.items s text) (sym state_is) leads)))
+    (nothing_left one other classes is_accepted pairs within are reached done text fine plain pair seen (subst (λ s. Leads one.edges.items s text) (sym state_is) leads)))
 
 -- ---- loops
 
@@ -161,7 +164,7 @@ pub done_more : (one other : Automaton) (classes : List ℕ) (is_accepted : Bool
     IsDone one other classes is_accepted old pair → IsDone one other classes is_accepted new pair
 done_more one other classes is_accepted old new pair extended done = record {
   other_end = done.other_end;
-  followed = λ c has edge there by_edge. seen_more old new edge.to (moved other.edges.items pair.states.items c) extended (done.followed c has edge there by_edge);
+  followed = λ c has plain edge there by_edge. seen_more old new edge.to (moved other.edges.items pair.states.items c) extended (done.followed c has plain edge there by_edge);
 }
 
 -- one pair more is done
@@ -177,7 +180,7 @@ done_next one other classes is_accepted old new next pair copy (more, e) lt at (
     let here : get_or new next pair ≡ pair = ap (λ l. get_or l next pair) e ∙ get_or_append_left old more pair next lt ∙ sym at in
     let this : P pair = record {
       other_end = λ h. subst (λ f. is_in f 0 ≡ not is_accepted) states_are (last (state_is ∙ h));
-      followed = λ c has edge there by_edge. subst (λ f. IsSeen new edge.to (moved other.edges.items f c)) states_are
-          (followed c has edge there (by_edge.0 ∙ sym state_is, by_edge.1));
+      followed = λ c has plain edge there by_edge. subst (λ f. IsSeen new edge.to (moved other.edges.items f c)) states_are
+          (followed c has plain edge there (by_edge.0 ∙ sym state_is, by_edge.1));
     } in
     All-more P new next pair (omega arith) before (subst P (sym here) this)

@@ -4,7 +4,7 @@ use Rattle.std.proofs.lemmas.List.{length-replicate}
 use Rattle.std.proofs.lemmas.List.Elements.{All-head, All-tail}
 use Rattle.std.specs.List.{All, Contains}
 use Rattle.std.specs.Prelude.{◌&&◌, IsTrue, slice_set}
-use Rattle.urlpattern_covers.specs.Automata.{Accepts, IsWithin, Leads, passes}
+use Rattle.urlpattern_covers.specs.Automata.{AcceptsText, IsWithin, Leads, passes}
 use Rattle.urlpattern_covers.specs.Searching.{LeadsIn, is_in, moved, starts_of, with_moves, with_states}
 use Rattle.urlpattern_covers.specs.declared.automaton.Automaton.{Automaton}
 use Rattle.urlpattern_covers.specs.declared.automaton.Edge.{Edge}
@@ -81,7 +81,7 @@ length_states flags (state ∷ states) = length_states (slice_set flags state tr
 abbrev pub MovesTo : (from : List Bool) (c : ℕ) → Edge → ℕ → Type 0
 MovesTo from c edge q = IsTrue (is_in from edge.from) × IsTrue (passes edge.test c) × (edge.to ≡ q)
 
-both : (a b : Bool) → IsTrue (a && b) → IsTrue a × IsTrue b
+pub both : (a b : Bool) → IsTrue (a && b) → IsTrue a × IsTrue b
 both true b h = (refl, h)
 both false b h = absurd cc
 
@@ -164,7 +164,7 @@ pub length_moved : (edges : List Edge) (from : List Bool) (c : ℕ) → length (
 length_moved edges from c = length_moves (replicate (length from) false) from c edges ∙ length-replicate (length from) false
 
 -- the starts
-pub leads_starts : (automaton : Automaton) (text : List ℕ) → IsWithin automaton → Accepts automaton text ↔ LeadsIn automaton.edges.items (starts_of automaton) text
+pub leads_starts : (automaton : Automaton) (text : List ℕ) → IsWithin automaton → AcceptsText automaton text ↔ LeadsIn automaton.edges.items (starts_of automaton) text
 leads_starts automaton text within =
     let starts = automaton.starts.items in
     let n = automaton.states in (

@@ -7,6 +7,7 @@ use Rattle.urlpattern_covers.specs.declared.automaton.Test.{Test}
 use Rattle.urlpattern_covers.specs.declared.automaton.Test.TheVariants.{Only, AnyBut}
 use Rattle.urlpattern_covers.specs.declared.search.Found.{Found}
 use Rattle.urlpattern_covers.specs.declared.search.Found.TheVariants.{Text, Nothing, TooMany}
+use Rattle.urlpattern_syntax.specs.Text.{lacks, line_feed}
 
 -- whether the character passes the test
 abbrev pub passes : Test → ℕ → Bool
@@ -29,8 +30,8 @@ abbrev pub LeadsFrom : List Edge → (states : List ℕ) → (text : List ℕ) �
 LeadsFrom edges states text = (state : ℕ) × Contains states state × Leads edges state text
 
 -- the automaton accepts the text
-abbrev pub Accepts : Automaton → (text : List ℕ) → Type 0
-Accepts automaton text = LeadsFrom automaton.edges.items automaton.starts.items text
+abbrev pub AcceptsText : Automaton → (text : List ℕ) → Type 0
+AcceptsText automaton text = LeadsFrom automaton.edges.items automaton.starts.items text
 
 -- the states that the automaton names are below their number
 pub record IsWithin (automaton : Automaton) : Type 0 where
@@ -43,8 +44,8 @@ IsWhether true fact = fact
 IsWhether false fact = ¬ fact
 
 -- What a search finds. A text is accepted by the first automaton, and by the second as wanted. Where nothing is found, there
--- is no such text of characters.
-abbrev pub IsFound : (one other : Automaton) → (is_accepted : Bool) → Found → Type 0
-IsFound one other is_accepted (Text text) = Accepts one text.items × IsWhether is_accepted (Accepts other text.items)
-IsFound one other is_accepted Nothing = (text : List ℕ) → IsTrue (all_scalars text) → Accepts one text → IsWhether (not is_accepted) (Accepts other text)
-IsFound one other is_accepted TooMany = Unit {0}
+-- is no such text of characters without line feed.
+abbrev pub IsFoundBy : (one other : Automaton) → (is_accepted : Bool) → Found → Type 0
+IsFoundBy one other is_accepted (Text text) = AcceptsText one text.items × IsWhether is_accepted (AcceptsText other text.items)
+IsFoundBy one other is_accepted Nothing = (text : List ℕ) → IsTrue (all_scalars text) → IsTrue (lacks line_feed text) → AcceptsText one text → IsWhether (not is_accepted) (AcceptsText other text)
+IsFoundBy one other is_accepted TooMany = Unit {0}

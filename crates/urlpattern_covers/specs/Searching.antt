@@ -1,11 +1,11 @@
 -- The steps of a search over two automata.
-use Rattle.std.specs.Prelude.{◌≡◌, ℕ, ◌<◌, Bool, true, false, not, ◌&&◌, ◌↔◌, All, Contains, List, [], ◌∷◌, ◌++◌, ◌⊎◌, length, IsTrue, if◌then◌else◌, slice_set, replicate}
+use Rattle.std.specs.Prelude.{◌≡◌, ◌≢◌, ℕ, ◌<◌, Bool, true, false, not, ◌&&◌, ◌↔◌, All, Contains, List, [], ◌∷◌, ◌++◌, ◌⊎◌, length, IsTrue, if◌then◌else◌, slice_set, replicate}
 use Rattle.std.specs.{Char.IsScalar, List.slice_index_or}
 use Rattle.urlpattern_covers.specs.Automata.{Leads, LeadsFrom, named, passes}
 use Rattle.urlpattern_covers.specs.declared.automaton.Automaton.{Automaton}
 use Rattle.urlpattern_covers.specs.declared.automaton.Edge.{Edge}
 use Rattle.urlpattern_covers.specs.declared.search.Pair.{Pair}
-use Rattle.urlpattern_syntax.specs.Text.{is_among}
+use Rattle.urlpattern_syntax.specs.Text.{is_among, line_feed}
 
 -- ---- sets of states
 
@@ -43,10 +43,10 @@ with_named marks (edge ∷ edges) = with_named (if is_among marks (named edge.te
 abbrev pub IsSameFor : List Edge → (c other : ℕ) → Type 0
 IsSameFor edges c other = All (λ edge. passes edge.test c ≡ passes edge.test other) edges
 
--- each character is like one of these
+-- each character is like one of these, and no other is like a line feed
 abbrev pub AreClasses : (edges others : List Edge) → (classes : List ℕ) → Type 0
 AreClasses edges others classes = (c : ℕ) → IsScalar c →
-    (same : ℕ) × Contains classes same × IsSameFor edges c same × IsSameFor others c same
+    (same : ℕ) × Contains classes same × IsSameFor edges c same × IsSameFor others c same × (c ≢ line_feed → same ≢ line_feed)
 
 -- ---- pairs
 
@@ -72,7 +72,7 @@ IsFollowedBy one other c pairs pair = (edge : Edge) → Contains one.edges.items
 
 -- each pair to which one of these characters leads is seen
 abbrev pub IsFollowed : (one other : Automaton) → (classes : List ℕ) → (pairs : List Pair) → Pair → Type 0
-IsFollowed one other classes pairs pair = (c : ℕ) → Contains classes c → IsFollowedBy one other c pairs pair
+IsFollowed one other classes pairs pair = (c : ℕ) → Contains classes c → c ≢ line_feed → IsFollowedBy one other c pairs pair
 
 -- the states before the first character
 abbrev pub starts_of : Automaton → List Bool

@@ -1,14 +1,14 @@
 //! Characters of which one is like each character that an automaton can read.
 
-ghost use Rattle.std.specs.Prelude.{◌≡◌, ◌<◌, ◌≤◌, ℕ, false, true, IfOk, IfNone, IfSome, OnOk};
+ghost use Rattle.std.specs.Prelude.{◌≡◌, ◌<◌, ◌≤◌, ℕ, false, true, IfOk, IfNone, IfSome, OnOk, ◌∷◌, []};
 ghost use Rattle.std.specs.Char.{IsScalar};
 ghost use Rattle.urlpattern_covers.specs.Searching.{AreClasses, with_named};
-ghost use Rattle.urlpattern_syntax.specs.Text.{is_among};
+ghost use Rattle.urlpattern_syntax.specs.Text.{is_among, line_feed};
 
 use crate::automaton::Edge;
 use std::alloc::{AllocError, Global};
 
-/// One character for each class that the tests of the edges tell apart: those that they name, and one other.
+/// One character for each class that the tests of the edges tell apart: those that they name, a line feed, and one other.
 pub(crate) fn classes(
     alloc: Global,
     edges: &[Edge],
@@ -16,7 +16,7 @@ pub(crate) fn classes(
 ) -> Result<Vec<char>, AllocError>
     ensures { IfOk result (λ classes. AreClasses edges.now others.now classes.items) }
 {
-    let mut marks = Vec::new(alloc);
+    let mut marks = line_feed(alloc)?;
     add_named(&mut marks, edges)?;
     add_named(&mut marks, others)?;
     match other_than(&marks) {
@@ -26,6 +26,15 @@ pub(crate) fn classes(
         }
         None => Ok(marks),
     }
+}
+
+/// A line feed alone.
+fn line_feed(alloc: Global) -> Result<Vec<char>, AllocError>
+    ensures { IfOk result (λ marks. marks.items ≡ line_feed ∷ []) }
+{
+    let mut marks = Vec::new(alloc);
+    marks.push('\n')?;
+    Ok(marks)
 }
 
 /// Adds the characters that the tests name.

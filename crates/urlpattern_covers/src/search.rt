@@ -1,8 +1,9 @@
 //! A search for a text that one automaton accepts, and another accepts or does not.
 
-ghost use Rattle.std.specs.Prelude.{◌≡◌, ℕ, All, Contains, IfOk, OnOk, IsTrue};
-ghost use Rattle.urlpattern_covers.specs.Automata.{IsFound, IsWithin};
+ghost use Rattle.std.specs.Prelude.{◌≡◌, ◌≢◌, ℕ, All, Contains, IfOk, OnOk, IsTrue};
+ghost use Rattle.urlpattern_covers.specs.Automata.{IsFoundBy, IsWithin};
 ghost use Rattle.urlpattern_covers.specs.Searching.{IsBy, IsExtended, IsFollowed, IsFollowedBy, IsGrownBy, IsReached, IsSeen, IsStep, IsStepBy, starts_of};
+ghost use Rattle.urlpattern_syntax.specs.Text.{line_feed};
 
 use crate::automaton::{Automaton, Edge};
 use crate::classes::classes;
@@ -32,7 +33,7 @@ pub(crate) struct Pair {
 }
 
 impl Automaton {
-    /// Finds a text that this automaton accepts and the other accepts, or does not accept.
+    /// Finds a text without line feed that this automaton accepts and the other accepts, or does not accept.
     ///
     /// It is one of the shortest. The search is given up after [`MOST_PAIRS`] pairs of states.
     pub fn find(
@@ -43,7 +44,7 @@ impl Automaton {
     ) -> Result<Found, AllocError>
         requires one { IsWithin self.now }
         requires two { IsWithin other.now }
-        ensures { IfOk result (IsFound self.now other.now is_accepted) }
+        ensures { IfOk result (IsFoundBy self.now other.now is_accepted) }
     {
         let classes = classes(alloc, &self.edges, &other.edges)?;
         let mut pairs = first_pairs(alloc, self, other)?;
@@ -67,7 +68,8 @@ impl Automaton {
 fn first_pairs(alloc: Global, one: &Automaton, other: &Automaton) -> Result<Vec<Pair>, AllocError>
     requires { IsWithin other.now }
     ensures reached { IfOk result (λ pairs. All (IsReached one.now other.now) pairs.items) }
-    ensures starts { IfOk result (λ pairs. (state : ℕ) → Contains one.now.starts.items state → IsSeen pairs.items state (starts_of other.now)) }
+    ensures starts { IfOk result (λ pairs.
+        (state : ℕ) → Contains one.now.starts.items state → IsSeen pairs.items state (starts_of other.now)) }
 {
     let mut pairs = Vec::new(alloc);
     for state in &one.starts {
@@ -103,7 +105,7 @@ fn follow(
     Ok(())
 }
 
-/// Adds the pairs to which the character leads from a pair.
+/// Adds the pairs to which the character leads from a pair, unless it is a line feed.
 fn follow_by(
     alloc: Global,
     one: &Automaton,
@@ -117,8 +119,11 @@ fn follow_by(
     requires pairs { All (IsReached one.now other.now) pairs.old.items }
     ensures reached { OnOk result (All (IsReached one.now other.now) pairs.new.items) }
     ensures kept { OnOk result (IsExtended pairs.old.items pairs.new.items) }
-    ensures followed { OnOk result (IsFollowedBy one.now other.now c pairs.new.items pair.now) }
+    ensures followed { OnOk result (c ≢ line_feed → IsFollowedBy one.now other.now c pairs.new.items pair.now) }
 {
+    if c == '\n' {
+        return Ok(());
+    }
     let states = moved(alloc, &other.edges, &pair.states, c)?;
     for edge in &one.edges {
         follow_edge(alloc, *edge, pair, &states, c, pairs)?;

@@ -40,5 +40,8 @@ loop-edge-preserved c =
     }
 
 pub returns-clause-followed : goal.returns-clause-followed
-returns-clause-followed c = λ edge has. c.loop-edge.invariant.followed edge (contains_all c.args.one.now.edges.items c.loop-edge.edge-index edge
+returns-clause-followed c = λ plain edge has. c.loop-edge.invariant.followed edge (contains_all c.args.one.now.edges.items c.loop-edge.edge-index edge
     (subst (λ l. length l ≤ c.loop-edge.edge-index) c.deref-edge-items.ensures.value c.loop-edge-test.false) has)
+
+pub returns-then-c-eq10-clause-followed : goal.returns-then-c-eq10-clause-followed
+returns-then-c-eq10-clause-followed c = λ plain. absurd (plain c.if-c-eq10.true)

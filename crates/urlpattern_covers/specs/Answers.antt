@@ -1,0 +1,64 @@
+-- What is answered of the texts that two lists of parts mean.
+use Rattle.std.specs.Prelude.{◌≡◌, ℕ, Bool, true, false, not, ◌⊎◌, List, IsTrue}
+use Rattle.std.specs.Str.{all_scalars}
+use Rattle.urlpattern_covers.specs.Automata.{IsWhether}
+use Rattle.urlpattern_covers.specs.Meaning.{MeansText}
+use Rattle.urlpattern_covers.specs.declared.parts.Answer.{Answer}
+use Rattle.urlpattern_covers.specs.declared.parts.Answer.TheVariants as answers
+use Rattle.urlpattern_covers.specs.declared.parts.Covering.{Covering}
+use Rattle.urlpattern_covers.specs.declared.parts.Covering.TheVariants as coverings
+use Rattle.urlpattern_covers.specs.declared.parts.Overlap.{Overlap}
+use Rattle.urlpattern_covers.specs.declared.parts.Overlap.TheVariants as overlaps
+use Rattle.urlpattern_covers.specs.declared.parts.Reason.{Reason}
+use Rattle.urlpattern_covers.specs.declared.parts.Reason.TheVariants as reasons
+use Rattle.urlpattern_covers.specs.declared.search.Found.{Found}
+use Rattle.urlpattern_covers.specs.declared.search.Found.TheVariants as founds
+use Rattle.urlpattern_meaning.specs.PartMeaning.{AreGenerated}
+use Rattle.urlpattern_syntax.specs.{Options.OptionsView, Parts.PartView}
+use Rattle.urlpattern_syntax.specs.declared.parser.Part.{Part}
+use Rattle.urlpattern_syntax.specs.declared.parser.PartType.{PartType}
+use Rattle.urlpattern_syntax.specs.Text.{lacks, line_feed}
+
+-- why nothing is known
+abbrev pub IsReason : OptionsView → List PartView → OptionsView → List PartView → Reason → Type 0
+IsReason options parts other_options others reasons.CustomExpression = ¬ (AreGenerated parts × AreGenerated others)
+IsReason options parts other_options others reasons.IgnoredCase = (options.ignore_case ≡ true) ⊎ (other_options.ignore_case ≡ true)
+IsReason options parts other_options others reasons.TooMany = Unit {0}
+
+-- Whether each text without line feed that the asked parts mean is meant by the parts. A text that is not is an example.
+abbrev pub IsCovering : OptionsView → List PartView → (asked_options : OptionsView) → (asked : List PartView) → Covering → Type 0
+IsCovering options parts asked_options asked coverings.Covered =
+    (text : List ℕ) → IsTrue (all_scalars text) → IsTrue (lacks line_feed text) → MeansText asked_options asked text → MeansText options parts text
+IsCovering options parts asked_options asked (coverings.NotCovered text) = MeansText asked_options asked text.items × ¬ MeansText options parts text.items
+IsCovering options parts asked_options asked (coverings.Unknown reason) = IsReason asked_options asked options parts reason
+
+-- whether both mean a text without line feed
+abbrev pub IsOverlap : OptionsView → List PartView → OptionsView → List PartView → Overlap → Type 0
+IsOverlap options parts other_options others overlaps.Apart =
+    (text : List ℕ) → IsTrue (all_scalars text) → IsTrue (lacks line_feed text) → MeansText options parts text → ¬ MeansText other_options others text
+IsOverlap options parts other_options others (overlaps.Common text) = MeansText options parts text.items × MeansText other_options others text.items
+IsOverlap options parts other_options others (overlaps.Unknown reason) = IsReason options parts other_options others reason
+
+-- ---- steps
+
+-- a text that the parts mean, and the others as wanted
+abbrev pub IsSought : OptionsView → List PartView → OptionsView → List PartView → (is_meant : Bool) → Answer → Type 0
+IsSought options parts other_options others is_meant (answers.Text text) =
+    MeansText options parts text.items × IsWhether is_meant (MeansText other_options others text.items)
+IsSought options parts other_options others is_meant answers.Nothing =
+    (text : List ℕ) → IsTrue (all_scalars text) → IsTrue (lacks line_feed text) → MeansText options parts text → IsWhether (not is_meant) (MeansText other_options others text)
+IsSought options parts other_options others is_meant (answers.Unknown reason) = IsReason options parts other_options others reason
+
+-- the answer by what a search found
+abbrev pub answer_of : Found → Answer
+answer_of (founds.Text text) = answers.Text text
+answer_of founds.Nothing = answers.Nothing
+answer_of founds.TooMany = answers.Unknown reasons.TooMany
+
+-- a part of this kind is a custom regular expression
+abbrev pub is_custom_kind : PartType → Bool
+is_custom_kind PartType.Regexp = true
+is_custom_kind kind = false
+
+abbrev pub is_custom_part : Part → Bool
+is_custom_part part = is_custom_kind part.kind

@@ -1,0 +1,8 @@
+-- The texts that parts mean.
+use Rattle.std.specs.Prelude.{ℕ, List}
+use Rattle.urlpattern_meaning.specs.PartMeaning.{Captures, PartsMean}
+use Rattle.urlpattern_syntax.specs.{Options.OptionsView, Parts.PartView}
+
+-- the parts stand for the text, whatever they capture
+abbrev pub MeansText : OptionsView → List PartView → (text : List ℕ) → Type 0
+MeansText options parts text = (captures : Captures) × PartsMean options parts text captures
