@@ -39,6 +39,7 @@ pub use Rattle.urlpattern_pattern.specs.MatchInput
 pub use Rattle.urlpattern_pattern.specs.Meaning
 pub use Rattle.urlpattern_pattern.specs.Mismatch
 pub use Rattle.urlpattern_pattern.specs.Patterns
+pub use Rattle.urlpattern_pattern.specs.ResultJson
 pub use Rattle.urlpattern_syntax.specs.Eight
 pub use Rattle.urlpattern_syntax.specs.ErrorText
 pub use Rattle.urlpattern_syntax.specs.Errors

@@ -34,6 +34,7 @@ pub use urlpattern_engine::laws::{
     pattern_regexps_answer_the_first_way, pattern_regexps_take_each_generated_text,
 };
 pub use urlpattern_init::laws::{splits_are_one, texts_are_lines, texts_of_urls_are_lines};
+pub use urlpattern_pattern::laws::results_are_read_back;
 
 /// What a pattern answers to an input is what its pattern texts mean. In a match each component's pattern text means the
 /// component's text, and the groups are the names of its parts beside the captures of one such meaning. No match is answered

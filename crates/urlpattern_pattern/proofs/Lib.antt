@@ -15,3 +15,4 @@ pub mod OutcomesExist
 pub mod FoldedTrees
 pub mod FoldedMatchers
 pub mod FoldedWays
+pub mod ResultJsonLemmas

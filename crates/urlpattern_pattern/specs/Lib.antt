@@ -12,3 +12,4 @@ pub mod Meaning
 pub mod Mismatch
 pub mod Outcomes
 pub mod Patterns
+pub mod ResultJson

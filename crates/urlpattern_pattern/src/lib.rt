@@ -3,6 +3,7 @@
 //! `urlpattern` passes on the types, and `parse_match_input` in its module `quirks`. The other functions are for its own calls.
 #![tactic(auto)]
 
+pub mod laws;
 mod match_input;
 mod pattern;
 

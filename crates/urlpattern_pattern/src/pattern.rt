@@ -8,6 +8,7 @@ ghost use Rattle.urlpattern_syntax.specs.Eight.{at};
 mod captures;
 mod from_string;
 mod groups;
+mod json;
 mod matching;
 mod mismatch;
 mod once;

@@ -1,6 +1,7 @@
 //! Results that are owned: names in their order, copies and comparisons.
 
-use crate::given::{Fields, pattern_of, url_input};
+use crate::given::{Fields, pattern_of, url_input, url_of};
+use serde_json::Value;
 use std::alloc::Global;
 use std::process::Abort;
 use std::test::Fail;
@@ -92,4 +93,72 @@ fn a_copy_of_a_result_equals_it_and_no_other(rt: HostRuntime) -> Result<(), Fail
     let outcome = expect_unlike_others(&rt, alloc, &found);
     drop(found);
     outcome
+}
+
+/// The JSON of a component's result as a text.
+fn written(alloc: Global, found: &UrlPatternComponentResult) -> Result<String, Error> {
+    let tree = found.to_json_value(alloc)?;
+    let text = tree.to_string(alloc);
+    drop(tree);
+    Ok(text?)
+}
+
+/// Whether the JSON of a result is read as the result.
+fn is_read_back(alloc: Global, found: &UrlPatternResult) -> Result<bool, Error> {
+    let tree = found.to_json_value(alloc)?;
+    let again = UrlPatternResult::from_json_value(alloc, &tree);
+    drop(tree);
+    let again = again?;
+    let is_read_back = again.as_ref() == Some(found);
+    drop(again);
+    Ok(is_read_back)
+}
+
+/// Compares the JSON of a result with that of the match that it copies.
+fn expect_written(rt: &impl Abort, alloc: Global, found: &UrlPatternResult) -> Result<(), Fail> {
+    let text = written(alloc, &found.pathname)?;
+    assert_eq!(rt;
+        text.as_str(),
+        r#"{"groups":{"x":"1","y":null},"input":"/1"}"#
+    );
+    assert!(rt; is_read_back(alloc, found)?);
+    Ok(())
+}
+
+#[test]
+fn a_result_is_written_as_json_and_read_back(rt: HostRuntime) -> Result<(), Fail> {
+    let alloc = rt.alloc();
+    let fields = [("pathname", "/:x{/:y}?")];
+    let found = found_by(alloc, &fields, "https://example.com/1")?;
+    let outcome = expect_written(&rt, alloc, &found);
+    drop(found);
+    outcome
+}
+
+/// The JSON of the match of a URL that is borrowed.
+fn borrowed_tree(alloc: Global, fields: Fields<'_>, url: &str) -> Result<Option<Value>, Error> {
+    let url = url_of(alloc, url)?;
+    let pattern: UrlPattern = pattern_of(alloc, fields)?;
+    let found = pattern.captures(alloc, &url);
+    let tree = match &found {
+        Ok(Some(found)) => found.to_json_value(alloc).map(Some),
+        Ok(None) => Ok(None),
+        Err(_) => Err(Error::OutOfMemory),
+    };
+    drop(found);
+    drop(pattern);
+    drop(url);
+    tree
+}
+
+#[test]
+fn a_borrowed_match_has_the_json_of_its_result(rt: HostRuntime) -> Result<(), Fail> {
+    let alloc = rt.alloc();
+    let fields = [("pathname", "/:x{/:y}?")];
+    let found = found_by(alloc, &fields, "https://example.com/1")?;
+    let tree = found.to_json_value(alloc);
+    drop(found);
+    let borrowed = borrowed_tree(alloc, &fields, "https://example.com/1")?;
+    assert_eq!(rt; borrowed, Some(tree?));
+    Ok(())
 }

@@ -10,7 +10,9 @@ use urlpattern::quirks::{
     self, InnerMatcher, MatchInput, Matcher, StringOrInit, UrlPattern, UrlPatternComponent,
     process_construct_pattern_input,
 };
-use urlpattern::{Error, UrlPatternInit, UrlPatternOptions};
+use urlpattern::{
+    Error, UrlPatternComponentResult, UrlPatternInit, UrlPatternOptions, UrlPatternResult,
+};
 
 /// The error of a text that is no JSON.
 const NO_JSON: &str = "no JSON";
@@ -133,6 +135,30 @@ impl Write for UrlPattern {
     }
 }
 
+impl Read for UrlPatternComponentResult {
+    fn read(alloc: Global, tree: &Value) -> Result<Option<Self>, Error> {
+        UrlPatternComponentResult::from_json_value(alloc, tree)
+    }
+}
+
+impl Write for UrlPatternComponentResult {
+    fn write(&self, alloc: Global) -> Result<Value, Error> {
+        self.to_json_value(alloc)
+    }
+}
+
+impl Read for UrlPatternResult {
+    fn read(alloc: Global, tree: &Value) -> Result<Option<Self>, Error> {
+        UrlPatternResult::from_json_value(alloc, tree)
+    }
+}
+
+impl Write for UrlPatternResult {
+    fn write(&self, alloc: Global) -> Result<Value, Error> {
+        self.to_json_value(alloc)
+    }
+}
+
 /// Whether what a plain value writes that is read of JSON is the recorded tree: null where none is read. The JSON is a tree or a
 /// text.
 pub fn is_same(case: &Case<'_>) -> Result<bool, Fault> {
@@ -157,6 +183,8 @@ fn is_same_of(case: &Case<'_>, tree: &Value) -> Result<bool, Fault> {
         "InnerMatcher" => is_written::<InnerMatcher>(case, tree),
         "UrlPatternComponent" => is_written::<UrlPatternComponent>(case, tree),
         "UrlPattern" => is_written::<UrlPattern>(case, tree),
+        "UrlPatternComponentResult" => is_same_tree::<UrlPatternComponentResult>(case, tree),
+        "UrlPatternResult" => is_same_tree::<UrlPatternResult>(case, tree),
         _ => Err(Fault::NoCase),
     }
 }
