@@ -6,11 +6,13 @@ ghost use Rattle.urlpattern_syntax.specs.declared.eight.ComponentName.TheVariant
 ghost use Rattle.urlpattern_syntax.specs.Eight.{at};
 
 mod captures;
+mod diagnose;
 mod from_string;
 mod groups;
 mod matching;
 mod once;
 mod parse;
+mod refusal;
 mod result;
 mod texts;
 
