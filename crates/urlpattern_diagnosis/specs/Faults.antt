@@ -27,6 +27,10 @@ marks_len kind = 0
 abbrev pub IsSpanOfToken : (bytes : List ℕ) → Token → Span → Type 0
 IsSpanOfToken bytes token span = IsSpanAt bytes token.index (length token.value.now + marks_len token.kind) span
 
+-- the span of a custom expression, between its parentheses
+abbrev pub IsSpanOfBody : (bytes : List ℕ) → Token → Span → Type 0
+IsSpanOfBody bytes token span = IsSpanAt bytes (token.index + 1) (length token.value.now) span
+
 -- ---- faults
 
 -- both spans lie in the text

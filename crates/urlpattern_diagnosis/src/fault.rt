@@ -33,6 +33,18 @@ impl Fault {
     }
 }
 
+impl Fault {
+    /// One part of a text.
+    pub fn of_span(span: Span) -> Self
+        ensures { result ≡ record { span = span; earlier = None } }
+    {
+        Fault {
+            span,
+            earlier: None,
+        }
+    }
+}
+
 /// Where the pattern text of a component is at fault, by the error with which it is refused under this prefix code point.
 ///
 /// The error is that memory ran out.

@@ -3,6 +3,7 @@
 
 mod diagnosis;
 mod fault;
+mod parts;
 mod place;
 mod reason;
 mod span;
@@ -10,6 +11,7 @@ mod walk;
 
 pub use diagnosis::{Diagnosis, Subject};
 pub use fault::{Fault, fault_of};
+pub use parts::{refused_expression, refused_row};
 pub use place::Place;
 pub use reason::reason_of;
 pub use span::Span;

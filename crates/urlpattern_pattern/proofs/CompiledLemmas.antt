@@ -97,7 +97,7 @@ refused_later (Ok value) error Refuses Later same reported later = tt
 refused_later (Err passed) error Refuses Later same reported later =
     subst (MemoryOr Later) (sym same) (memory_or-map Refuses Later error later reported)
 
-first_refused : {E : Type 0} (engine : Engine E) (manner : Names → Manner)
+pub first_refused : {E : Type 0} (engine : Engine E) (manner : Names → Manner)
     (before after : List Names) (component : Names) (view : ErrorView)
     → AllByRecursion (λ earlier. (compiled : ComponentView E) × IsComponentCompiled engine (manner earlier) compiled) before
     → IsComponentRefused engine (manner component) view

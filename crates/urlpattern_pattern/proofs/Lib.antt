@@ -3,6 +3,7 @@ pub mod MatchInputLemmas
 pub mod GroupLemmas
 pub mod NameOrder
 pub mod CompiledLemmas
+pub mod DiagnosisLemmas
 pub mod MatchSteps
 pub mod MismatchLemmas
 pub mod MatchLaws

@@ -4,6 +4,7 @@ pub mod ByTextLaws
 pub mod Calls
 pub mod Compiled
 pub mod CompilerSteps
+pub mod Diagnoses
 pub mod Folded
 pub mod FromString
 pub mod Match

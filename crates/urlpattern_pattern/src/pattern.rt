@@ -6,6 +6,7 @@ ghost use Rattle.urlpattern_syntax.specs.declared.eight.ComponentName.TheVariant
 ghost use Rattle.urlpattern_syntax.specs.Eight.{at};
 
 mod captures;
+mod diagnose;
 mod from_string;
 mod groups;
 mod json;
@@ -13,6 +14,7 @@ mod matching;
 mod mismatch;
 mod once;
 mod parse;
+mod refusal;
 mod result;
 mod texts;
 

@@ -81,7 +81,7 @@ fn compile_values<R: RegExp>(
 /// The values of an init as a pattern, where a default port is emptied.
 ///
 /// The error is that memory ran out.
-fn pattern_values(alloc: Global, init: &UrlPatternInit) -> Result<UrlPatternInit, Error>
+pub(super) fn pattern_values(alloc: Global, init: &UrlPatternInit) -> Result<UrlPatternInit, Error>
     ensures ok { IfOk result (λ values. pattern_values init.now ≡ Ok (values_view values)) }
     ensures memory { OnlyOutOfMemory result }
 {
@@ -143,7 +143,7 @@ fn is_ipv6_pattern(pattern: &str) -> bool
 }
 
 /// The pattern text of a component, if it has one.
-fn pattern_of(values: &UrlPatternInit, component: ComponentName) -> Option<&str>
+pub(super) fn pattern_of(values: &UrlPatternInit, component: ComponentName) -> Option<&str>
     ensures { pattern_text result ≡ pattern_of (values_view values.now) component }
 {
     values.get(component)
@@ -173,18 +173,18 @@ fn compile_component<R: RegExp, F: Fn(&str) -> Result<String, Error> + Drop>(
 
 /// The values that are compiled to a pattern, under its options.
 #[derive(Drop)]
-struct Compiler<'a> {
-    alloc: Global,
-    canonicalizer: Canonicalizer,
-    values: &'a UrlPatternInit,
-    options: &'a UrlPatternOptions,
+pub(super) struct Compiler<'a> {
+    pub(super) alloc: Global,
+    pub(super) canonicalizer: Canonicalizer,
+    pub(super) values: &'a UrlPatternInit,
+    pub(super) options: &'a UrlPatternOptions,
 }
 
 impl Compiler<'_> {
     /// The pattern: the protocol is compiled first, since it decides whether the pathname is hierarchical.
     ///
     /// The error is that of the first component that is refused, or that memory ran out.
-    fn pattern<R: RegExp>(&self) -> Result<UrlPattern<R>, Error>
+    pub(super) fn pattern<R: RegExp>(&self) -> Result<UrlPattern<R>, Error>
         ensures compiled { IfPattern result (AreCompiled R.RegExp self.now.options.now (compiled_values self.now)) }
         ensures refused { IfErr result (MemoryOr (RefusesValues R.RegExp self.now.options.now (compiled_values self.now))) }
     {
@@ -221,7 +221,7 @@ impl Compiler<'_> {
     /// The component of the pattern.
     ///
     /// The error is that its text or its regular expression is refused, or that memory ran out.
-    fn component<R: RegExp>(
+    pub(super) fn component<R: RegExp>(
         &self,
         component: ComponentName,
         hierarchical: bool,
@@ -240,7 +240,11 @@ impl Compiler<'_> {
     /// The options that the pattern of the component is read under.
     ///
     /// The error is that memory ran out.
-    fn options_of(&self, component: ComponentName, hierarchical: bool) -> Result<Options, Error>
+    pub(super) fn options_of(
+        &self,
+        component: ComponentName,
+        hierarchical: bool,
+    ) -> Result<Options, Error>
         ensures ok { IfOk result (λ options. options_view options ≡ (manner_by self.now hierarchical component).options) }
         ensures memory { OnlyOutOfMemory result }
     {
@@ -263,7 +267,7 @@ impl Compiler<'_> {
     /// The canonical value of a fixed text in the pattern of the component.
     ///
     /// The error is the refusal of `url`, or that memory ran out.
-    fn canonical(
+    pub(super) fn canonical(
         &self,
         component: ComponentName,
         hierarchical: bool,
@@ -302,7 +306,10 @@ impl Compiler<'_> {
     /// Whether the pathname of the pattern is hierarchical, by what its protocol was compiled to.
     ///
     /// The error is that memory ran out.
-    fn is_hierarchical<R: RegExp>(&self, protocol: &component::Component<R>) -> Result<bool, Error>
+    pub(super) fn is_hierarchical<R: RegExp>(
+        &self,
+        protocol: &component::Component<R>,
+    ) -> Result<bool, Error>
         ensures path_kind { IfOk result (IsPathKind R.answer (compiled_values self.now) (component_view protocol.now).matcher) }
         ensures memory { OnlyOutOfMemory result }
     {
