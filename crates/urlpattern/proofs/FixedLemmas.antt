@@ -12,7 +12,7 @@ use Rattle.urlpattern_core.specs.declared.outline.OutlineItem.TheVariants.{Chara
 use Rattle.urlpattern_core.specs.Outlines.{HasOutline, IsTextFor}
 use Rattle.urlpattern_index.specs.FixedTexts.{FixedTexts, HasTexts, IsText}
 use Rattle.urlpattern_index.specs.Keys.{Hashes, form_key, hashes_of}
-use Rattle.urlpattern_index.specs.Listed.{Appends, Finds, Listing}
+use Rattle.urlpattern_index.specs.Listed.{Finds, GetsPattern, Listing}
 use Rattle.urlpattern_syntax.specs.declared.eight.ComponentName.TheVariants.{Hostname, Pathname, Protocol}
 use Rattle.urlpattern_meaning.specs.Matching.{Accepts, Answers, InnerView, IsMatched, Literal, MatcherView, folded}
 use Rattle.urlpattern_meaning.specs.PartMeaning.{Captures}
@@ -91,7 +91,7 @@ remove-past (x ∷ xs) (suc i) le = ap (λ ys. x ∷ ys) (remove-past xs i (omeg
 
 module _ {E : Type 0} (answer : E → List ℕ → Option Captures) (patterns : List (UrlPattern E)) (index : Listing) (are : AreIndexed answer patterns index) where
   -- one more pattern
-  pub indexed-push : (pattern : UrlPattern E) (new : Listing) (fixed : FixedTexts) → Appends index new fixed → AreFixed answer (pattern_view pattern) fixed
+  pub indexed-push : (pattern : UrlPattern E) (new : Listing) (fixed : FixedTexts) → GetsPattern index new fixed → AreFixed answer (pattern_view pattern) fixed
       → AreIndexed answer (patterns ++ pattern ∷ []) new
   indexed-push pattern new fixed appends is_fixed = record {
     as_many = appends.one_more ∙ ap (λ n. n + 1) are.as_many ∙ sym (length_push patterns pattern);
