@@ -4,6 +4,8 @@
 mod error;
 pub mod laws;
 mod pieces;
+#[cfg(test)]
+mod tests;
 mod text;
 
 pub use error::LinkError;
