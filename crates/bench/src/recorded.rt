@@ -70,6 +70,8 @@ pub enum Operation {
     QuirksPattern,
     /// The first match of inputs in a list of patterns.
     FirstMatch,
+    /// What is wrong with a pattern.
+    Diagnose,
     /// What a plain value writes as JSON that is read of JSON.
     Json,
     /// Which values of a type equal each other.
@@ -93,6 +95,7 @@ pub const OPERATIONS: &[(&str, Operation)] = &[
     ("pattern", Operation::Pattern),
     ("quirks_pattern", Operation::QuirksPattern),
     ("first_match", Operation::FirstMatch),
+    ("diagnose", Operation::Diagnose),
     ("json", Operation::Json),
     ("equal", Operation::Equal),
 ];
@@ -108,6 +111,7 @@ impl Operation {
                 | Operation::Pattern
                 | Operation::QuirksPattern
                 | Operation::FirstMatch
+                | Operation::Diagnose
         )
     }
 }

@@ -4,6 +4,7 @@ mod calls;
 mod compiled;
 mod components;
 mod constructors;
+mod diagnoses;
 mod engines;
 mod first_match;
 mod given;
@@ -161,6 +162,7 @@ fn is_same_over<R: RegExp>(operation: Operation, case: &Case<'_>) -> Result<bool
         Operation::Pattern => patterns::is_same::<R>(case),
         Operation::QuirksPattern => plain::is_same::<R>(case),
         Operation::FirstMatch => first_match::is_same::<R>(case),
+        Operation::Diagnose => diagnoses::is_same::<R>(case),
         Operation::Json => trees::is_same(case),
         Operation::Equal => trees::is_same_equality(case),
     }

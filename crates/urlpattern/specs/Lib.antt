@@ -6,6 +6,9 @@ pub use Rattle.urlpattern_core.specs.Generated
 pub use Rattle.urlpattern_core.specs.Matchers
 pub use Rattle.urlpattern_core.specs.NormalForms
 pub use Rattle.urlpattern_core.specs.Regexes
+pub use Rattle.urlpattern_diagnosis.specs.Faults
+pub use Rattle.urlpattern_diagnosis.specs.Places
+pub use Rattle.urlpattern_diagnosis.specs.Spans
 pub use Rattle.urlpattern_init.specs.ConstructorString
 pub use Rattle.urlpattern_init.specs.Inheritance
 pub use Rattle.urlpattern_init.specs.SpecialProtocol
@@ -33,6 +36,7 @@ pub use Rattle.urlpattern_pattern.specs.ByTextLaws
 pub use Rattle.urlpattern_pattern.specs.Calls
 pub use Rattle.urlpattern_pattern.specs.Compiled
 pub use Rattle.urlpattern_pattern.specs.CompilerSteps
+pub use Rattle.urlpattern_pattern.specs.Diagnoses
 pub use Rattle.urlpattern_pattern.specs.FromString
 pub use Rattle.urlpattern_pattern.specs.Match
 pub use Rattle.urlpattern_pattern.specs.MatchInput
@@ -51,6 +55,7 @@ pub use Rattle.urlpattern_syntax.specs.Pieces
 pub use Rattle.urlpattern_syntax.specs.Reading
 pub use Rattle.urlpattern_syntax.specs.Refusals
 pub use Rattle.urlpattern_syntax.specs.RegexpText
+pub use Rattle.urlpattern_syntax.specs.Stops
 pub use Rattle.urlpattern_syntax.specs.Text
 pub use Rattle.urlpattern_syntax.specs.Tokens
 pub use Rattle.urlpattern_engine.specs.PatternRegexps

@@ -17,6 +17,7 @@ pub use list::UrlPatternList;
 pub use map::{UrlPatternMap, UrlPatternMapIter};
 pub use urlpattern_canonical::canonicalize_and_process;
 pub use urlpattern_core::{Error, RegexSyntax, component, error, matcher, parser, tokenizer};
+pub use urlpattern_diagnosis::{Diagnosis, Fault, Span, Subject};
 pub use urlpattern_init::{UrlPatternInit, UrlPatternMatchInput};
 pub use urlpattern_inputs::UrlPatternOptions;
 pub use urlpattern_pattern::{

@@ -179,7 +179,7 @@ struct Given<'a> {
 impl<'a> Given<'a> {
     /// The value of a component, if it is given.
     fn value(&self, component: ComponentName) -> Option<&'a str> {
-        self.init.get(component).as_deref()
+        self.init.get(component)
     }
 
     /// Where the value of a component begins: a byte index.
