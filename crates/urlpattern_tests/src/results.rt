@@ -141,7 +141,10 @@ fn borrowed_tree(alloc: Global, fields: Fields<'_>, url: &str) -> Result<Option<
     let pattern: UrlPattern = pattern_of(alloc, fields)?;
     let found = pattern.captures(alloc, &url);
     let tree = match &found {
-        Ok(Some(found)) => found.to_json_value(alloc).map(Some),
+        Ok(Some(found)) => match found.to_json_value(alloc) {
+            Ok(tree) => Ok(Some(tree)),
+            Err(error) => Err(error),
+        },
         Ok(None) => Ok(None),
         Err(_) => Err(Error::OutOfMemory),
     };
@@ -158,7 +161,8 @@ fn a_borrowed_match_has_the_json_of_its_result(rt: HostRuntime) -> Result<(), Fa
     let found = found_by(alloc, &fields, "https://example.com/1")?;
     let tree = found.to_json_value(alloc);
     drop(found);
+    let expected = tree?;
     let borrowed = borrowed_tree(alloc, &fields, "https://example.com/1")?;
-    assert_eq!(rt; borrowed, Some(tree?));
+    assert!(rt; borrowed.as_ref() == Some(&expected));
     Ok(())
 }
