@@ -66,7 +66,7 @@ got_more : {X : Type 0} (xs : List X) (x y : X) (n : ℕ) → slice_get (xs ++ x
 got_more [] x y zero is = inr (refl, same_Some x y is)
 got_more [] x y (suc n) is = absurd (cc)
 got_more (z ∷ xs) x y zero is = inl is
-got_more (z ∷ xs) x y (suc n) is = elim (got_more xs x y n is) [ inl earlier ↦ inl earlier | inr last ↦ inr (let e : n ≡ length xs = last.0 in omega arith, last.1) ]
+got_more (z ∷ xs) x y (suc n) is = elim (got_more xs x y n is) [ inl earlier ↦ inl earlier | inr last ↦ inr ((let e : n ≡ length xs = last.0 in omega arith), last.1) ]
 
 got_below : {X : Type 0} (xs : List X) (i n : ℕ) → n < i → slice_get (remove xs i) n ≡ slice_get xs n
 got_below xs zero n lt = absurd (omega arith)
