@@ -68,7 +68,7 @@ fn expect_first(rt: &impl Abort, alloc: Global, map: &UrlPatternMap<u32>) -> Res
 
 #[test]
 fn a_map_holds_its_routes_and_finds_the_first(rt: HostRuntime) -> Result<(), Fail> {
-    let empty = UrlPatternMap::<u32>::new(rt.alloc());
+    let empty = <UrlPatternMap<u32>>::new(rt.alloc());
     assert!(rt; empty.is_empty());
     drop(empty);
     let map = routes(rt.alloc())?;
