@@ -14,7 +14,7 @@ use Rattle.urlpattern_diagnosis.specs.declared.diagnosis.Subject.TheVariants as 
 use Rattle.urlpattern_diagnosis.specs.declared.fault.Fault.{Fault}
 use Rattle.urlpattern_inputs.specs.declared.options.UrlPatternOptions.{UrlPatternOptions}
 use Rattle.urlpattern_pattern.specs.Compiled.{FirstRefused, IsComponentCompiled, IsComponentRefused, IsPathKind, IsPatternOfInit, Manner, RefusesValues, after_protocol, manner_of}
-use Rattle.urlpattern_pattern.specs.Diagnoses.{IsOf, IsPartOfRefused, IsRefusalOf, IsRefused, ShowsFault, ShowsInit, ShowsPattern, ShowsProtocol, ShowsRefusal, ShowsText, error_of}
+use Rattle.urlpattern_pattern.specs.Diagnoses.{IsOf, IsPartOfRefused, IsRefusalOf, RefusesComponent, ShowsFault, ShowsInit, ShowsPattern, ShowsProtocol, ShowsRefusal, ShowsText, error_of}
 use Rattle.urlpattern_pattern.specs.FromString.{IsInitOfText, IsPatternOfText}
 use Rattle.urlpattern_pattern.specs.Patterns.{PatternView}
 use Rattle.urlpattern_init.specs.declared.init.UrlPatternInit.{UrlPatternInit}
@@ -41,7 +41,7 @@ module _ {E : Type 0} (engine : Engine E) (asked : UrlPatternOptions) (values : 
   pub later_refused : (hierarchical : Bool) (protocol : ComponentView E) → IsComponentCompiled engine (manner_of asked values hierarchical Protocol) protocol →
       IsPathKind engine.answer values protocol.matcher hierarchical → (result : Result (Option Refusal) OutOfMemory) →
       IfOk result (λ found. IfSome found (λ refusal. FirstRefused engine (manner_of asked values hierarchical) after_protocol (error_of refusal))) →
-      IfOk result (λ found. IfSome found (IsRefused engine (manner_of asked values hierarchical) hierarchical)) →
+      IfOk result (λ found. IfSome found (RefusesComponent engine (manner_of asked values hierarchical) hierarchical)) →
       IfOk result (λ found. IfSome found (IsRefusalOf engine asked values))
   later_refused hierarchical protocol compiled kind (Err memory) first refused = tt
   later_refused hierarchical protocol compiled kind (Ok None) first refused = tt

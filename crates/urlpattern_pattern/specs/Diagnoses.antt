@@ -25,15 +25,15 @@ abbrev pub error_of : Refusal → ErrorView
 error_of refusal = error_view refusal.error
 
 -- its component is refused with its error, of those that are read in these manners
-abbrev pub IsRefused : {E : Type 0} → Engine E → (manner : ComponentName → Manner) → (hierarchical : Bool) → Refusal → Type 0
-IsRefused engine manner hierarchical refusal =
+abbrev pub RefusesComponent : {E : Type 0} → Engine E → (manner : ComponentName → Manner) → (hierarchical : Bool) → Refusal → Type 0
+RefusesComponent engine manner hierarchical refusal =
     (refusal.hierarchical ≡ hierarchical) × IsComponentRefused engine (manner refusal.component) (error_of refusal)
 
 -- the values are refused with its error, that of its component
 abbrev pub IsRefusalOf : {E : Type 0} → Engine E → UrlPatternOptions → Values → Refusal → Type 0
 IsRefusalOf engine asked values refusal =
     RefusesValues engine asked values (error_of refusal)
-    × IsRefused engine (manner_of asked values refusal.hierarchical) refusal.hierarchical refusal
+    × RefusesComponent engine (manner_of asked values refusal.hierarchical) refusal.hierarchical refusal
 
 -- ---- the diagnosis
 

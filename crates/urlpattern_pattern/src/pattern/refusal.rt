@@ -4,7 +4,7 @@ ghost use Rattle.std.specs.Prelude.{◌≡◌, ◌≢◌, false, IfNone, IfOk, I
 ghost use Rattle.urlpattern_core.specs.Components.{ComponentView, component_view};
 ghost use Rattle.urlpattern_pattern.specs.Compiled.{FirstRefused, IsComponentCompiled};
 ghost use Rattle.urlpattern_pattern.specs.CompilerSteps.{compiled_values, manner_by};
-ghost use Rattle.urlpattern_pattern.specs.Diagnoses.{IsRefusalOf, IsRefused, error_of};
+ghost use Rattle.urlpattern_pattern.specs.Diagnoses.{IsRefusalOf, RefusesComponent, error_of};
 ghost use Rattle.urlpattern_syntax.specs.declared.eight.ComponentName.TheVariants as names;
 ghost use Rattle.urlpattern_syntax.specs.Errors.{ErrorView as views, error_view};
 
@@ -82,7 +82,7 @@ impl Compiler<'_> {
         names: &[ComponentName],
     ) -> Result<Option<Refusal>, OutOfMemory>
         ensures first { IfOk result (λ found. IfSome found (λ refusal. FirstRefused R.RegExp (manner_by self.now hierarchical) names.now (error_of refusal))) }
-        ensures refused { IfOk result (λ found. IfSome found (IsRefused R.RegExp (manner_by self.now hierarchical) hierarchical)) }
+        ensures refused { IfOk result (λ found. IfSome found (RefusesComponent R.RegExp (manner_by self.now hierarchical) hierarchical)) }
     {
         for name in names {
             match self.refused::<R>(hierarchical, *name)? {
@@ -101,7 +101,7 @@ impl Compiler<'_> {
         hierarchical: bool,
         component: ComponentName,
     ) -> Result<Option<Refusal>, OutOfMemory>
-        ensures refused { IfOk result (λ found. IfSome found (IsRefused R.RegExp (manner_by self.now hierarchical) hierarchical)) }
+        ensures refused { IfOk result (λ found. IfSome found (RefusesComponent R.RegExp (manner_by self.now hierarchical) hierarchical)) }
         ensures name { IfOk result (λ found. IfSome found (λ refusal. refusal.component ≡ component)) }
         ensures compiled { IfOk result (λ found. IfNone found ((made : ComponentView R) × IsComponentCompiled R.RegExp (manner_by self.now hierarchical component) made)) }
     {
