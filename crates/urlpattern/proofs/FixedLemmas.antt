@@ -55,8 +55,11 @@ module _ {E : Type 0} (answer : E → List ℕ → Option Captures) where
         | inr refused ↦ (Protocol, refused)
         | inl protocol ↦ elim (text-cases (pattern Hostname).matcher fixed.hostname texts.hostname are.hostname) [
           | inr refused ↦ (Hostname, refused)
-          | inl hostname ↦ (Pathname, λ captures matched.
-              other record { protocol = protocol; hostname = hostname; pathname = are.pathname texts.pathname (captures, matched) })
+          | inl hostname ↦ (
+            Pathname,
+            λ captures matched.
+                other record { protocol = protocol; hostname = hostname; pathname = are.pathname texts.pathname (captures, matched) },
+          )
         ]
       ]
 
@@ -98,7 +101,7 @@ module _ {E : Type 0} (answer : E → List ℕ → Option Captures) (patterns : 
     refuses = λ number other is texts missed. elim (got_more patterns pattern other number is) [
       | inl earlier ↦ are.refuses number other earlier texts (λ finds. missed (appends.others (hashes_of (address_of texts)) number finds))
       | inr last ↦ subst (λ (p : UrlPattern E). IsRefused answer (pattern_view p) texts) last.1 (fixed-refused answer (pattern_view pattern) fixed texts is_fixed
-        (λ has. missed (subst (λ n. Finds new (hashes_of (address_of texts)) n) (are.as_many ∙ sym last.0) (appends.found (address_of texts) has))))
+          (λ has. missed (subst (λ n. Finds new (hashes_of (address_of texts)) n) (are.as_many ∙ sym last.0) (appends.found (address_of texts) has))))
     ];
   }
 
@@ -110,9 +113,9 @@ module _ {E : Type 0} (answer : E → List ℕ → Option Captures) (patterns : 
         as_many = (let a = length-remove index.keys i within_keys in let b = length-remove patterns i within in omega (arith, are.as_many));
         refuses = λ number pattern is texts missed. elim (cases_lt number i) [
           | inl below ↦ are.refuses number pattern (sym (got_below patterns i number below) ∙ is) texts
-            (λ (form, has, fits, key). missed (form, has, fits, got_below index.keys i number below ∙ key))
+              (λ (form, has, fits, key). missed (form, has, fits, got_below index.keys i number below ∙ key))
           | inr above ↦ are.refuses (suc number) pattern (sym (got_above patterns i number above within) ∙ is) texts
-            (λ (form, has, fits, key). missed (form, has, fits, got_above index.keys i number above within_keys ∙ key))
+              (λ (form, has, fits, key). missed (form, has, fits, got_above index.keys i number above within_keys ∙ key))
         ];
       }
 

@@ -98,7 +98,8 @@ impl<R: RegExp> UrlPatternList<R> {
             protocol: fixed_text(&pattern.protocol.matcher),
             hostname: fixed_text(&pattern.hostname.matcher),
             pathname: &outline,
-        }) else {
+        })
+        else {
             return Err(pattern);
         };
         match self.patterns.push(pattern) {

@@ -179,10 +179,14 @@ module _ (form : FormView) (hashes : Hashes) (fits : Fits form hashes) (from key
   pub least_by : (list : List ℕ) (least : Option ℕ) → list ≡ numbers_of key 0 keys → IsFirstFrom from list least → IsLeast IsFound least
   least_by list least is first =
       least-same (λ number. (from ≤ number) × Contains (numbers_of key 0 keys) number) IsFound
-      (λ n h. (h.0, fits, (
-          let r = numbers-listed key 0 keys n h.1 in
-          let same : r.0 ≡ n = omega (arith, r.1) in
-          found-listed n (subst (λ i. slice_get keys i ≡ Some key) same r.2))))
+      (λ n h. (
+        h.0,
+        fits,
+        (
+            let r = numbers-listed key 0 keys n h.1 in
+            let same : r.0 ≡ n = omega (arith, r.1) in
+            found-listed n (subst (λ i. slice_get keys i ≡ Some key) same r.2)),
+      ))
       (λ n h. (h.0, subst (λ i. Contains (numbers_of key 0 keys) i) (zero-add n) (numbers-found key 0 keys n (listed-found n h.2))))
       least (subst (λ l. IsFirstFrom from l least) is first)
 

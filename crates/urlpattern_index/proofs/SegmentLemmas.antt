@@ -94,8 +94,8 @@ pub keys_alike : (have_texts : List Bool) (hashes own : List ℕ) → length hav
     → mixed (mixed_segments (mixed p r) have_texts (take 13 own)) (cond is_whole 1 0) ≡ mixed (mixed_segments (mixed q s) have_texts hashes) (cond is_whole 1 0)
 keys_alike have_texts hashes own few alike p q r s same_p same_r is_whole =
     ap (λ h. mixed h (cond is_whole 1 0)) (
-      ap (λ h. mixed_segments h have_texts (take 13 own)) (ap (λ x. mixed x r) same_p ∙ ap (mixed q) same_r)
-      ∙ mixed_segments-take (mixed q s) have_texts own 13 (omega arith) ∙ alike (mixed q s))
+    ap (λ h. mixed_segments h have_texts (take 13 own)) (ap (λ x. mixed x r) same_p ∙ ap (mixed q) same_r)
+    ∙ mixed_segments-take (mixed q s) have_texts own 13 (omega arith) ∙ alike (mixed q s))
 
 -- ---- a hash after those of segments
 
