@@ -92,6 +92,11 @@ remove-past (x ∷ xs) (suc i) le = ap (λ ys. x ∷ ys) (remove-past xs i (omeg
 
 -- ---- patterns that are indexed
 
+-- no patterns
+pub indexed-none : {E : Type 0} (answer : E → List ℕ → Option Captures) (patterns : List (UrlPattern E)) (index : Listing) → patterns ≡ [] → ◌≡◌ {A = Listing} index (record { keys = []; forms = [] })
+    → AreIndexed answer patterns index
+indexed-none answer patterns index none empty = rw (none, empty) record { as_many = refl; refuses = λ number pattern is texts missed. absurd (cc) }
+
 module _ {E : Type 0} (answer : E → List ℕ → Option Captures) (patterns : List (UrlPattern E)) (index : Listing) (are : AreIndexed answer patterns index) where
   -- one more pattern
   pub indexed-push : (pattern : UrlPattern E) (new : Listing) (fixed : FixedTexts) → GetsPattern index new fixed → AreFixed answer (pattern_view pattern) fixed
@@ -196,7 +201,7 @@ outline-append (x ∷ xs) ys text other (front, rest, cut, is_front, has) more =
 pub matched-outline : {E : Type 0} (answer : E → List ℕ → Option Captures) (matcher : MatcherView E) (inner : List OutlineItem) → matcher.ignore_case ≡ false
     → ((text : List ℕ) (captures : Captures) → Accepts answer false matcher.inner text captures → HasOutline inner text)
     → (text : List ℕ) → IsMatched answer matcher text → HasOutline ((characters matcher.prefix ++ inner) ++ characters matcher.suffix) text
-matched-outline answer matcher inner kept is_inner text (captures, middle, (front, back, cut, same_front, same_back), accepts) =
+matched-outline answer matcher inner kept is_inner text (captures, (middle, (front, back, cut, same_front, same_back), accepts)) =
     let same : (one other : List ℕ) → folded matcher.ignore_case one ≡ folded matcher.ignore_case other → one ≡ other =
     λ one other is. subst (λ ignore_case. folded ignore_case one ≡ folded ignore_case other) kept is in
     let begins : HasOutline (characters matcher.prefix) front = subst (HasOutline (characters matcher.prefix)) (sym (same front matcher.prefix same_front)) (characters-outline matcher.prefix) in

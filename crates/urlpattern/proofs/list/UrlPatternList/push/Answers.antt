@@ -1,6 +1,7 @@
-use Rattle.std.proofs.Common.{subst, sym}
+use Rattle.std.proofs.Common.{◌∙◌, ◌++◌, ◌∷◌, [], List, ap, subst, sym}
 use Rattle.urlpattern.proofs.FixedLemmas.{indexed-push}
 use Rattle.urlpattern_core.specs.Outlines.{HasOutline}
+use Rattle.urlpattern_pattern.specs.declared.pattern.UrlPattern.{UrlPattern}
 use Rattle.urlpattern.proofs.list.UrlPatternList.push.Goals as goal
 
 pub invariant_of-self-2 : goal.invariant_of-self-2
@@ -12,3 +13,7 @@ invariant_of-self-2 g c =
       hostname = c.fixed_text-2.ensures;
       pathname = λ text matched. subst (λ items. HasOutline items text) (sym c.deref.ensures.value) (c.in-Ok-outline_of.ensures text matched);
     })
+
+pub returns-clause-appended : goal.returns-clause-appended
+returns-clause-appended g c =
+    c.in-Ok-push-2.ensures.items ∙ ap (λ (patterns : List (UrlPattern g.row.R.Denot)). patterns ++ c.args.pattern ∷ []) (c.reserve.ensures.items ∙ c.self.view_is)
