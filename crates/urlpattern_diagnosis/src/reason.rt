@@ -1,6 +1,6 @@
 //! Why a pattern is refused, in words for its author.
 
-use regex_syntax::Config;
+use regex_syntax::{Config, ErrorKind};
 use std::alloc::{AllocError, Global};
 use urlpattern_syntax::error::{Error, ParserError, RegexFault, TokenizerError};
 use urlpattern_syntax::tokenizer::TokenType;
@@ -114,9 +114,12 @@ fn expression_reason(alloc: Global, part: &str) -> Result<String, AllocError> {
             drop(parsed);
             format!(in alloc; "the engine refuses the expression `{part}`")
         }
-        Err(error) => {
-            let message = error.kind.message();
-            format!(in alloc; "the engine refuses the expression `{part}`: {message}")
-        }
+        Err(error) => match error.kind {
+            ErrorKind::OutOfMemory => Err(AllocError),
+            kind => {
+                let message = kind.message();
+                format!(in alloc; "the engine refuses the expression `{part}`: {message}")
+            }
+        },
     }
 }
