@@ -15,7 +15,7 @@ use Rattle.std.specs.Map.{lookup}
 use Rattle.std.specs.Slice.{IsItemAt}
 use Rattle.urlpattern_index.specs.FixedTexts.{AddressTexts, FixedTexts, HasTexts}
 use Rattle.urlpattern_index.specs.Keys.{Fits, FormView, Hashes, form_key, hashes_of}
-use Rattle.urlpattern_index.specs.Listed.{GetsPattern, FindsBy, Listing, lowered, without, IsFirstFrom, IsLeast, lesser, numbers_of}
+use Rattle.urlpattern_index.specs.Listed.{GetsPattern, FindsBy, Listing, without, IsFirstFrom, IsLeast, lesser, numbers_of}
 
 -- ---- lists that do not fall
 

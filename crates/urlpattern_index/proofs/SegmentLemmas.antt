@@ -1,16 +1,17 @@
 -- Lemmas on the hashes of segments.
-use Rattle.std.proofs.Common.{◌≡◌, ℕ, zero, suc, ◌+◌, ◌<◌, ◌≤◌, ◌≢◌, List, [], ◌∷◌, ◌++◌, length, get_or, drop, take, refl, sym, ap, subst, ◌∙◌, cond, arith, Bool, eqb, not, true, false}
+use Rattle.std.proofs.Common.{◌≡◌, ℕ, zero, suc, ◌+◌, ◌<◌, ◌≤◌, ◌≢◌, List, [], ◌∷◌, ◌++◌, length, get_or, drop, take, refl, sym, ap, subst, ◌∙◌, cond, arith, Bool, eqb, not, true, false, true≢false}
 use Rattle.std.proofs.Math.Bool.{beq}
 use Rattle.std.proofs.lemmas.Bool.Decides.{nat_tests}
-use Rattle.std.proofs.lemmas.List.{append-nil, append_assoc, at_drop_all, at_drop_more, length_push, length-take, length-append, take-append-le, take_all, take_at}
+use Rattle.std.proofs.lemmas.List.{append_assoc, at_drop_all, at_drop_more, length_push, length-take, length-append}
 use Rattle.std.specs.Borrow.{Bor}
 use Rattle.std.specs.Prelude.{Option, Some, None, chars, fold, is_some, option_map, unwrap_or, IsTrue}
 use Rattle.urlpattern_core.specs.declared.outline.OutlineItem.{OutlineItem}
-use Rattle.urlpattern_core.specs.declared.outline.OutlineItem.TheVariants.{Anything, Character, Run}
+use Rattle.urlpattern_core.specs.declared.outline.OutlineItem.TheVariants.{Character, Run}
 use Rattle.urlpattern_core.specs.Outlines.{HasOutline}
 use Rattle.urlpattern_index.specs.FixedTexts.{IsText}
 use Rattle.urlpattern_index.specs.Keys.{AreEnough, mixed, mixed_segments, option_hash, segment_hashes, text_hash}
-use Rattle.urlpattern_index.specs.Segments.{CountAlike}
+use Rattle.urlpattern_index.specs.Segments.{AddsSegment, AreSegmentsOf, CountAlike}
+use Rattle.urlpattern_index.specs.declared.reading.Segments.{Segments}
 use Rattle.urlpattern_syntax.specs.Text.{lacks}
 
 -- ---- hashes of segments
@@ -219,3 +220,38 @@ module _ (have_texts : List Bool) (hashes : List ℕ) (items : List OutlineItem)
 -- the item that is read next
 pub next_item : (outline : List OutlineItem) (index : ℕ) (item d : OutlineItem) → index < length outline → get_or outline index d ≡ item → drop index outline ≡ item ∷ drop (index + 1) outline
 next_item outline index item d within is = at_drop_more (λ items. items) outline index d within ∙ ap (λ x. x ∷ drop (index + 1) outline) is
+
+-- ---- segments that are read
+
+-- what was read of an outline, of each path that has it
+abbrev pub AreReadTo : (outline : List OutlineItem) → Segments → (current : Option ℕ) → (items : List OutlineItem) → Type 0
+AreReadTo outline segments current items = (path : List ℕ) → HasOutline outline path → IsReadTo segments.have_texts.items segments.hashes.items current items path
+
+-- the rest of the outline is left
+pub left_segments : (outline items : List OutlineItem) (segments : Segments) (current : Option ℕ)
+    → length segments.have_texts.items ≤ 12 → length segments.hashes.items ≡ length segments.have_texts.items → segments.is_whole ≡ false
+    → AreReadTo outline segments current items → AreSegmentsOf outline segments
+left_segments outline items segments current few as_many goes_on are_read = record {
+  few = few;
+  as_many = as_many;
+  enough = λ path has. subst (λ whole. AreEnough whole (length segments.have_texts.items) (length (segment_hashes 0 path))) (sym goes_on)
+      (enough_at_stop _ _ _ items path as_many _ (are_read path has));
+  alike = λ path has. alike_at_stop _ _ _ items path as_many _ (are_read path has);
+}
+
+-- the outline ends, and its last segment is added, or there is no room for it
+pub all_segments : (outline : List OutlineItem) (segments more : Segments) (current : Option ℕ) (added : Bool)
+    → length segments.have_texts.items ≤ 12 → length segments.hashes.items ≡ length segments.have_texts.items
+    → AreReadTo outline segments current [] → (IsTrue added → AddsSegment segments more current) → (¬ IsTrue added → more ≡ segments)
+    → AreSegmentsOf outline (record { have_texts = more.have_texts; hashes = more.hashes; is_whole = added })
+all_segments outline segments more current true few as_many are_read adds full =
+    let is = adds refl in
+    record {
+      few = is.few;
+      as_many = is.as_many;
+      enough = λ path has. rw is.texts (enough_at_end _ _ _ [] path as_many (are_read path has));
+      alike = λ path has. rw (is.texts, is.hashes) (alike_at_end _ _ _ [] path as_many (are_read path has));
+    }
+all_segments outline segments more current false few as_many are_read adds full =
+    subst (λ (s : Segments). AreSegmentsOf outline (record { have_texts = s.have_texts; hashes = s.hashes; is_whole = false })) (sym (full (λ is. true≢false (sym is))))
+    (left_segments outline [] (record { have_texts = segments.have_texts; hashes = segments.hashes; is_whole = false }) current few as_many refl are_read)

@@ -58,6 +58,10 @@ abbrev pub FindsBy : (forms : List FormView) → (keys : List ℕ) → Hashes �
 FindsBy forms keys hashes number =
     (form : FormView) × Contains forms form × Fits form hashes × (slice_get keys number ≡ Some (form_key form hashes))
 
+-- the pattern of this number, not below another, is found by the form
+abbrev pub FindsFrom : FormView → (keys : List ℕ) → Hashes → (from number : ℕ) → Type 0
+FindsFrom form keys hashes from number = (from ≤ number) × Fits form hashes × (slice_get keys number ≡ Some (form_key form hashes))
+
 abbrev pub Finds : Listing → Hashes → (number : ℕ) → Type 0
 Finds listing hashes number = FindsBy listing.forms listing.keys hashes number
 

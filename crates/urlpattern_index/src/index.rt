@@ -1,10 +1,10 @@
 //! The keys of patterns, by number, and the patterns that an address finds.
 ghost use Rattle.std.specs.List.Sorted.{IsNonDecreasing};
 ghost use Rattle.std.specs.List.{remove};
-ghost use Rattle.std.specs.Prelude.{◌≡◌, ◌≤◌, ◌<◌, ◌++◌, ◌∷◌, [], if◌then◌else◌, Some, length, slice_get, vec_capacity, vec_len, IsTrue, Contains, OnErr, OnOk};
+ghost use Rattle.std.specs.Prelude.{◌≡◌, ◌≤◌, ◌<◌, ◌++◌, ◌∷◌, [], if◌then◌else◌, Some, length, vec_capacity, vec_len, IsTrue, Contains, OnErr, OnOk};
 ghost use Rattle.urlpattern_index.specs.FixedTexts.{fixed_texts};
-ghost use Rattle.urlpattern_index.specs.Keys.{form_key, form_view, hashes_view, Fits};
-ghost use Rattle.urlpattern_index.specs.Listed.{Finds, GetsPattern, IsFirstFrom, IsLeast, lesser, lowered, without};
+ghost use Rattle.urlpattern_index.specs.Keys.{form_view, hashes_view};
+ghost use Rattle.urlpattern_index.specs.Listed.{Finds, FindsFrom, GetsPattern, IsFirstFrom, IsLeast, lesser, lowered, without};
 ghost use Rattle.urlpattern_index.specs.Segments.{IsPlaceFor};
 
 use crate::address::AddressHashes;
@@ -99,8 +99,7 @@ impl Index {
 
     /// The same of the patterns that are listed by a form.
     fn first_by(&self, form: &Form, hashes: &AddressHashes, from: usize) -> Option<usize>
-        ensures { IsLeast (λ number. (from ≤ number) × Fits (form_view form.now) (hashes_view hashes.now)
-            × (slice_get self.now.keys number ≡ Some (form_key (form_view form.now) (hashes_view hashes.now)))) result }
+        ensures { IsLeast (FindsFrom (form_view form.now) self.now.keys (hashes_view hashes.now) from) result }
     {
         let key = form.key(hashes)?;
         let numbers = self.numbers.get(&key)?;

@@ -1,7 +1,7 @@
 //! Reads an outline of a path as segments.
-ghost use Rattle.std.specs.Prelude.{◌≡◌, option_map};
+ghost use Rattle.std.specs.Prelude.{◌≡◌, ◌≤◌, [], false, length, option_map, IsTrue};
 ghost use Rattle.urlpattern_index.specs.Keys.{mixed};
-ghost use Rattle.urlpattern_index.specs.Segments.{AreSegmentsOf};
+ghost use Rattle.urlpattern_index.specs.Segments.{AddsSegment, AreSegmentsOf};
 
 use crate::address::SEGMENTS;
 use crate::form::DEPTH;
@@ -20,61 +20,58 @@ pub(crate) struct Segments {
     pub(crate) is_whole: bool,
 }
 
+impl Segments {
+    /// No segments yet, and maybe more to come.
+    fn new() -> Segments
+        ensures texts { result.have_texts.items ≡ [] }
+        ensures hashes { result.hashes.items ≡ [] }
+        ensures whole { result.is_whole ≡ false }
+    {
+        Segments {
+            have_texts: ArrayVec::new(),
+            hashes: ArrayVec::new(),
+            is_whole: false,
+        }
+    }
+
+    /// Adds a segment with this hash of its text, or, without one, a segment that can be any. Returns whether there was room.
+    fn push(&mut self, hash: Option<u64>) -> bool
+        requires few { length self.old.have_texts.items ≤ 12 }
+        requires as_many { length self.old.hashes.items ≡ length self.old.have_texts.items }
+        ensures added { IsTrue result → AddsSegment self.old self.new hash }
+        ensures full { ¬ IsTrue result → self.new ≡ self.old }
+    {
+        if self.have_texts.is_full() {
+            return false;
+        }
+        self.have_texts.push(hash.is_some());
+        self.hashes.push(hash.unwrap_or(0));
+        true
+    }
+}
+
 /// The first segments of an outline, up to one of which it is not known where it ends.
 pub(crate) fn read_segments(outline: &[OutlineItem]) -> Segments
     ensures { AreSegmentsOf outline.now result }
 {
-    let mut have_texts = ArrayVec::new();
-    let mut hashes = ArrayVec::new();
+    let mut segments = Segments::new();
     // The hash of the segment that is read. `None`: it can be any.
     let mut current = Some(0);
     for item in outline {
         match *item {
-            OutlineItem::Character(c) => {
-                if c != '/' {
-                    current = mixed_in(current, c);
-                    continue;
+            OutlineItem::Character('/') => {
+                if !segments.push(current) {
+                    return segments;
                 }
-                if have_texts.is_full() {
-                    return Segments {
-                        have_texts,
-                        hashes,
-                        is_whole: false,
-                    };
-                }
-                have_texts.push(current.is_some());
-                hashes.push(current.unwrap_or(0));
                 current = Some(0);
-                continue;
             }
-            OutlineItem::Run(c) => {
-                if c == '/' {
-                    current = None;
-                    continue;
-                }
-            }
-            OutlineItem::Anything => {}
+            OutlineItem::Character(c) => current = mixed_in(current, c),
+            OutlineItem::Run('/') => current = None,
+            OutlineItem::Run(_) | OutlineItem::Anything => return segments,
         }
-        return Segments {
-            have_texts,
-            hashes,
-            is_whole: false,
-        };
     }
-    if have_texts.is_full() {
-        return Segments {
-            have_texts,
-            hashes,
-            is_whole: false,
-        };
-    }
-    have_texts.push(current.is_some());
-    hashes.push(current.unwrap_or(0));
-    Segments {
-        have_texts,
-        hashes,
-        is_whole: true,
-    }
+    segments.is_whole = segments.push(current);
+    segments
 }
 
 /// The hash of a segment after one more character, if the segment has a fixed text.

@@ -1,15 +1,15 @@
 -- Patterns that were compiled answer by their pattern texts.
-use Rattle.std.proofs.Common.{◌≡◌, ◌≢◌, ℕ, ◌<◌, ◌↔◌, ◌⊎◌, Bool, true, false, List, ap, length, inl, inr, refl, subst, sym, ◌∙◌}
+use Rattle.std.proofs.Common.{◌≡◌, ◌≢◌, ℕ, ◌<◌, ◌↔◌, Bool, true, false, List, ap, length, inl, inr, refl, subst, sym, ◌∙◌}
 use Rattle.std.proofs.lemmas.List.Folds.{list_any_none}
 use Rattle.std.proofs.lemmas.Bool.{and_parts}
 use Rattle.std.proofs.lemmas.List.Sums.{AllPass-from_list_all}
 use Rattle.std.proofs.lemmas.Option.{same_Some}
 use Rattle.std.specs.List.{All, Any}
 use Rattle.std.specs.Str.{all_scalars}
-use Rattle.std.specs.Prelude.{◌&&◌, ⊤, Option, Some, None, Result, Ok, Err, IsTrue, codes, slice_index_or}
+use Rattle.std.specs.Prelude.{◌&&◌, Option, Some, None, Result, Ok, Err, IsTrue, slice_index_or}
 use Rattle.urlpattern_canonical.specs.Canonical.{special_schemes}
 use Rattle.urlpattern_core.specs.Components.{ComponentView, IsComponentOf, IsEngineOf, engine_flags, has_regexp, is_custom}
-use Rattle.urlpattern_core.specs.FirstWays.{AnswersFirstWays, EachAnswersFirst, IsTakenBy, Taking}
+use Rattle.urlpattern_core.specs.FirstWays.{AnswersFirstWays, EachAnswersFirst, Taking}
 use Rattle.urlpattern_core.proofs.FirstMatchers.{flags_agree}
 use Rattle.urlpattern_core.specs.Generated.{AreGenerated}
 use Rattle.urlpattern_core.specs.declared.regexp.RegExp.{Ghosts as Engine}

@@ -2,9 +2,9 @@
 use Rattle.std.proofs.Common.{◌≡◌, ℕ, ◌+◌, ◌-◌, ◌⊎◌, Bool, true, false, List, [], ◌∷◌, ◌++◌, length, take, drop, inl, inr, refl, sym, ap, subst, ◌∙◌, arith}
 use Rattle.std.proofs.lemmas.List.{append_assoc, drop_at, length-append, take-append-drop, take_at}
 use Rattle.std.proofs.lemmas.Slice.Eq.{bytes_eq-Decides}
-use Rattle.std.specs.Prelude.{◌≤◌, ◌<◌, Option, Some, None, Result, Ok, Err, IsTrue, bytes_eq}
+use Rattle.std.specs.Prelude.{Option, Some, None, Ok, Err, IsTrue, bytes_eq}
 use Rattle.urlpattern_meaning.proofs.Middles.{middle-one, same-length}
-use Rattle.urlpattern_meaning.specs.Matching.{Accepts, Answers, HasMiddle, InnerView, IsSame, Literal, MatcherView, Matches, MayBeEmpty, PassesFilter, RegExp, SingleCapture, folded, folded_character}
+use Rattle.urlpattern_meaning.specs.Matching.{Accepts, Answers, HasMiddle, InnerView, IsSame, Literal, MatcherView, MayBeEmpty, PassesFilter, RegExp, SingleCapture, folded, folded_character}
 use Rattle.urlpattern_meaning.specs.PartMeaning.{Captures}
 use Rattle.urlpattern_syntax.specs.Text.{lacks}
 

@@ -1,19 +1,17 @@
 -- What a match is in the words of pattern texts: the parts that they read as mean the texts of the input, and the groups
 -- are the names of these parts beside what they capture.
-use Rattle.std.specs.Prelude.{◌≡◌, ⊤, ℕ, false, List, Option, Some, None, MatchOption, Ok, IsTrue}
+use Rattle.std.specs.Prelude.{◌≡◌, ⊤, ℕ, false, List, Option, Some, None, MatchOption, IsTrue}
 use Rattle.std.specs.Str.{all_scalars}
-use Rattle.urlpattern_init.specs.declared.init.{UrlPatternInit.UrlPatternInit, UrlPatternMatchInput.UrlPatternMatchInput}
+use Rattle.urlpattern_init.specs.declared.init.{UrlPatternMatchInput.UrlPatternMatchInput}
 use Rattle.urlpattern_syntax.specs.declared.eight.ComponentName.{ComponentName}
-use Rattle.urlpattern_inputs.specs.declared.options.UrlPatternOptions.{UrlPatternOptions}
 use Rattle.regex.specs.declared.string.regex.Regex.{Regex}
 use Rattle.urlpattern_core.specs.Components.{ComponentView}
-use Rattle.urlpattern_core.specs.declared.regexp.RegExp.{Ghosts as Engine}
 use Rattle.urlpattern_meaning.specs.{FirstAnswers.TookText, Matching.FollowsMiddle, PartMeaning.Captures, PartMeaning.PartsMean}
-use Rattle.urlpattern_create.specs.Compiled.{AreCompiled, Manner, canonical_encoding, manner_of, pattern_values}
-use Rattle.urlpattern_pattern.specs.Match.{HasNoMatch, IsLongInput, IsMatch, IsResultOf, ResultView}
-use Rattle.urlpattern_pattern.specs.{MatchInput.input_texts, Patterns.PatternView}
+use Rattle.urlpattern_create.specs.Compiled.{Manner, canonical_encoding}
+use Rattle.urlpattern_pattern.specs.Match.{HasNoMatch, IsMatch, IsResultOf, ResultView}
+use Rattle.urlpattern_pattern.specs.{Patterns.PatternView}
 use Rattle.urlpattern_syntax.specs.{Parts.PartView, Reading.Reads, RegexpText.group_names, Text.lacks, Text.line_feed}
-use Rattle.urlpattern_syntax.specs.Eight.{Texts, Values, at}
+use Rattle.urlpattern_syntax.specs.Eight.{Texts, at}
 
 -- ---- what a pattern text means
 

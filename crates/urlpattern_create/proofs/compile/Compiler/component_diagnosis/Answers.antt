@@ -3,7 +3,6 @@ use Rattle.std.specs.Prelude.{IfSome}
 use Rattle.std.specs.Str.{chars}
 use Rattle.urlpattern_core.proofs.CompileLemmas.{text-or_asterisk}
 use Rattle.urlpattern_diagnosis.specs.Faults.{IsFaultOf}
-use Rattle.urlpattern_diagnosis.specs.declared.fault.Fault.{Fault}
 use Rattle.urlpattern_diagnosis.specs.declared.span.Span.{Span}
 use Rattle.urlpattern_create.specs.CompilerSteps.{manner_by}
 use Rattle.urlpattern_create.specs.Diagnoses.{IsPartOfRefused}

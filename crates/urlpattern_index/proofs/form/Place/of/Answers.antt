@@ -1,7 +1,6 @@
-use Rattle.std.proofs.Common.{◌≡◌, ◌≤◌, ◌<◌, ◌∙◌, ap, arith, cond, length, sym}
-use Rattle.std.specs.Prelude.{chars, is_some, option_map}
+use Rattle.std.proofs.Common.{◌<◌, ◌∙◌, arith, length, sym}
 use Rattle.urlpattern_index.proofs.SegmentLemmas.{enough-take, hosts_alike, keys_alike}
-use Rattle.urlpattern_index.specs.Keys.{option_hash, segment_hashes, text_hash}
+use Rattle.urlpattern_index.specs.Keys.{segment_hashes}
 use Rattle.urlpattern_index.proofs.form.Place.of.Goals as goal
 
 pub returns : goal.returns

@@ -1,6 +1,6 @@
-use Rattle.std.proofs.Common.{ap, arith, length, sym, ◌<◌, ◌∙◌, ◌≡◌, take}
+use Rattle.std.proofs.Common.{ap, arith, length, sym, ◌∙◌, take}
 use Rattle.std.proofs.lemmas.List.{length-take}
-use Rattle.urlpattern_index.proofs.SegmentLemmas.{enough-take, some_segment}
+use Rattle.urlpattern_index.proofs.SegmentLemmas.{some_segment}
 use Rattle.urlpattern_index.specs.Keys.{mixed, mixed_segments, segment_hashes}
 use Rattle.urlpattern_index.proofs.form.Place.of_any.Goals as goal
 

@@ -1,7 +1,7 @@
-use Rattle.std.proofs.Common.{◌≡◌, ◌∙◌, [], ap, subst, sym}
-use Rattle.std.specs.Prelude.{None, Option, Some, option_map, slice_get, unwrap_or}
+use Rattle.std.proofs.Common.{◌≡◌, ◌∙◌, [], ap, sym}
+use Rattle.std.specs.Prelude.{option_map, unwrap_or}
 use Rattle.urlpattern_index.proofs.NumberLemmas.{least_by, none_by, numbers-nondecreasing}
-use Rattle.urlpattern_index.specs.Keys.{Fits, form_view, hashes_view}
+use Rattle.urlpattern_index.specs.Keys.{form_view, hashes_view}
 use Rattle.urlpattern_index.specs.Listed.{Listing, numbers_of}
 use Rattle.urlpattern_index.proofs.index.Index.first_by.Goals as goal
 

@@ -1,6 +1,5 @@
-use Rattle.std.proofs.Common.{◌≡◌, ◌≤◌, ◌+◌, ◌∙◌, ◌++◌, ◌∷◌, [], List, get_or, ap, length, map, refl, subst, sym, take, take_all}
+use Rattle.std.proofs.Common.{◌≡◌, ◌≤◌, ◌+◌, ◌∙◌, ◌++◌, ◌∷◌, [], List, get_or, ap, map, subst, sym, take, take_all}
 use Rattle.std.proofs.lemmas.List.{map-append, take_more}
-use Rattle.std.specs.Prelude.{ℕ}
 use Rattle.urlpattern_index.proofs.NumberLemmas.{least_by_forms}
 use Rattle.urlpattern_index.specs.Keys.{FormView, form_view, hashes_view}
 use Rattle.urlpattern_index.specs.Listed.{FindsBy, IsLeast, Listing}
