@@ -21,6 +21,7 @@ mod texts;
 pub use captures::{UrlPatternCaptures, UrlPatternGroups};
 pub use from_string::{init_of_text, parse_base, parse_url};
 pub use matching::captures_of_texts;
+pub use parse::{Compiler, pattern_of, pattern_values};
 pub use result::{UrlPatternComponentResult, UrlPatternResult};
 pub(crate) use texts::copied;
 pub use texts::{input_texts, pathname_texts, url_texts};

@@ -81,7 +81,7 @@ fn compile_values<R: RegExp>(
 /// The values of an init as a pattern, where a default port is emptied.
 ///
 /// The error is that memory ran out.
-pub(super) fn pattern_values(alloc: Global, init: &UrlPatternInit) -> Result<UrlPatternInit, Error>
+pub fn pattern_values(alloc: Global, init: &UrlPatternInit) -> Result<UrlPatternInit, Error>
     ensures ok { IfOk result (λ values. pattern_values init.now ≡ Ok (values_view values)) }
     ensures memory { OnlyOutOfMemory result }
 {
@@ -143,7 +143,7 @@ fn is_ipv6_pattern(pattern: &str) -> bool
 }
 
 /// The pattern text of a component, if it has one.
-pub(super) fn pattern_of(values: &UrlPatternInit, component: ComponentName) -> Option<&str>
+pub fn pattern_of(values: &UrlPatternInit, component: ComponentName) -> Option<&str>
     ensures { pattern_text result ≡ pattern_of (values_view values.now) component }
 {
     values.get(component)
@@ -173,11 +173,15 @@ fn compile_component<R: RegExp, F: Fn(&str) -> Result<String, Error> + Drop>(
 
 /// The values that are compiled to a pattern, under its options.
 #[derive(Drop)]
-pub(super) struct Compiler<'a> {
-    pub(super) alloc: Global,
-    pub(super) canonicalizer: Canonicalizer,
-    pub(super) values: &'a UrlPatternInit,
-    pub(super) options: &'a UrlPatternOptions,
+pub struct Compiler<'a> {
+    /// The allocator.
+    pub alloc: Global,
+    /// What makes values canonical.
+    pub canonicalizer: Canonicalizer,
+    /// The values.
+    pub values: &'a UrlPatternInit,
+    /// The options.
+    pub options: &'a UrlPatternOptions,
 }
 
 impl Compiler<'_> {
@@ -240,11 +244,7 @@ impl Compiler<'_> {
     /// The options that the pattern of the component is read under.
     ///
     /// The error is that memory ran out.
-    pub(super) fn options_of(
-        &self,
-        component: ComponentName,
-        hierarchical: bool,
-    ) -> Result<Options, Error>
+    pub fn options_of(&self, component: ComponentName, hierarchical: bool) -> Result<Options, Error>
         ensures ok { IfOk result (λ options. options_view options ≡ (manner_by self.now hierarchical component).options) }
         ensures memory { OnlyOutOfMemory result }
     {
@@ -267,7 +267,7 @@ impl Compiler<'_> {
     /// The canonical value of a fixed text in the pattern of the component.
     ///
     /// The error is the refusal of `url`, or that memory ran out.
-    pub(super) fn canonical(
+    pub fn canonical(
         &self,
         component: ComponentName,
         hierarchical: bool,
@@ -306,7 +306,7 @@ impl Compiler<'_> {
     /// Whether the pathname of the pattern is hierarchical, by what its protocol was compiled to.
     ///
     /// The error is that memory ran out.
-    pub(super) fn is_hierarchical<R: RegExp>(
+    pub fn is_hierarchical<R: RegExp>(
         &self,
         protocol: &component::Component<R>,
     ) -> Result<bool, Error>
