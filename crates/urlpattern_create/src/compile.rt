@@ -74,7 +74,7 @@ fn compile_values<R: RegExp>(
 /// The values of an init as a pattern, where a default port is emptied.
 ///
 /// The error is that memory ran out.
-pub(crate) fn pattern_values(alloc: Global, init: &UrlPatternInit) -> Result<UrlPatternInit, Error>
+pub fn pattern_values(alloc: Global, init: &UrlPatternInit) -> Result<UrlPatternInit, Error>
     ensures ok { IfOk result (λ values. pattern_values init.now ≡ Ok (values_view values)) }
     ensures memory { OnlyOutOfMemory result }
 {
@@ -136,7 +136,7 @@ fn is_ipv6_pattern(pattern: &str) -> bool
 }
 
 /// The pattern text of a component, if it has one.
-pub(crate) fn pattern_of(values: &UrlPatternInit, component: ComponentName) -> Option<&str>
+pub fn pattern_of(values: &UrlPatternInit, component: ComponentName) -> Option<&str>
     ensures { pattern_text result ≡ pattern_of (values_view values.now) component }
 {
     values.get(component)
@@ -166,11 +166,15 @@ fn compile_component<R: RegExp, F: Fn(&str) -> Result<String, Error> + Drop>(
 
 /// The values that are compiled to a pattern, under its options.
 #[derive(Drop)]
-pub(crate) struct Compiler<'a> {
-    pub(crate) alloc: Global,
-    pub(crate) canonicalizer: Canonicalizer,
-    pub(crate) values: &'a UrlPatternInit,
-    pub(crate) options: &'a UrlPatternOptions,
+pub struct Compiler<'a> {
+    /// The allocator.
+    pub alloc: Global,
+    /// What makes values canonical.
+    pub canonicalizer: Canonicalizer,
+    /// The values.
+    pub values: &'a UrlPatternInit,
+    /// The options.
+    pub options: &'a UrlPatternOptions,
 }
 
 impl Compiler<'_> {
@@ -233,11 +237,7 @@ impl Compiler<'_> {
     /// The options that the pattern of the component is read under.
     ///
     /// The error is that memory ran out.
-    pub(crate) fn options_of(
-        &self,
-        component: ComponentName,
-        hierarchical: bool,
-    ) -> Result<Options, Error>
+    pub fn options_of(&self, component: ComponentName, hierarchical: bool) -> Result<Options, Error>
         ensures ok { IfOk result (λ options. options_view options ≡ (manner_by self.now hierarchical component).options) }
         ensures memory { OnlyOutOfMemory result }
     {
@@ -260,7 +260,7 @@ impl Compiler<'_> {
     /// The canonical value of a fixed text in the pattern of the component.
     ///
     /// The error is the refusal of `url`, or that memory ran out.
-    pub(crate) fn canonical(
+    pub fn canonical(
         &self,
         component: ComponentName,
         hierarchical: bool,
@@ -299,7 +299,10 @@ impl Compiler<'_> {
     /// Whether the pathname of the pattern is hierarchical, by what its protocol was compiled to.
     ///
     /// The error is that memory ran out.
-    pub(crate) fn is_hierarchical<R: RegExp>(&self, protocol: &Component<R>) -> Result<bool, Error>
+    pub fn is_hierarchical<R: RegExp>(
+        &self,
+        protocol: &Component<R>,
+    ) -> Result<bool, Error>
         ensures path_kind { IfOk result (IsPathKind R.answer (compiled_values self.now) (component_view protocol.now).matcher) }
         ensures memory { OnlyOutOfMemory result }
     {

@@ -1,0 +1,4 @@
+pub mod ComponentLemmas
+pub mod ListLemmas
+pub mod OrderLemmas
+pub mod PatternLemmas
