@@ -9,6 +9,7 @@ mod pattern;
 
 pub use match_input::parse_match_input;
 pub use pattern::{
-    UrlPattern, UrlPatternCaptures, UrlPatternComponentResult, UrlPatternGroups, UrlPatternResult,
-    captures_of_texts, init_of_text, input_texts, parse_base, parse_url, pathname_texts, url_texts,
+    UrlPattern, UrlPatternCaptures, UrlPatternCapturesIter, UrlPatternComponentResult,
+    UrlPatternGroups, UrlPatternResult, captures_of_texts, init_of_text, input_texts, parse_base,
+    parse_url, pathname_texts, url_texts,
 };

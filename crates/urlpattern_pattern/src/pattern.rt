@@ -18,7 +18,7 @@ mod refusal;
 mod result;
 mod texts;
 
-pub use captures::{UrlPatternCaptures, UrlPatternGroups};
+pub use captures::{UrlPatternCaptures, UrlPatternCapturesIter, UrlPatternGroups};
 pub use from_string::{init_of_text, parse_base, parse_url};
 pub use matching::captures_of_texts;
 pub use result::{UrlPatternComponentResult, UrlPatternResult};
