@@ -1,14 +1,12 @@
-use Rattle.std.proofs.Common.{length, take, ◌-◌, ◌≤◌}
-use Rattle.std.specs.Prelude.{All}
+use Rattle.std.proofs.Common.{length, ◌-◌, ◌≤◌}
 use Rattle.urlpattern_pattern.specs.Calls.{borrowed_texts}
-use Rattle.urlpattern_pattern.specs.Match.{IsRefused}
-use Rattle.urlpattern_pattern.specs.Patterns.{pattern_view}
-use Rattle.urlpattern.proofs.list.UrlPatternList.first.Given as goal
+use Rattle.urlpattern.proofs.NextLemmas.{ArePassed}
+use Rattle.urlpattern.proofs.list.UrlPatternList.first_from.Given as goal
 
 abbrev pub invariant-loop-index : goal.invariant-loop-index
 invariant-loop-index g l = record {
-  within : l.from ≤ length l.self-inside.patterns.items;
-  refused : All (λ pattern. IsRefused g.R.RegExp.answer (pattern_view pattern) (borrowed_texts l.texts)) (take l.from l.self-inside.patterns.items);
+  later : l.fn.from ≤ l.from;
+  refused : ArePassed g.R.RegExp.answer (borrowed_texts l.texts) l.self-inside.patterns.items l.fn.from l.from;
 }
 
 abbrev pub decreases-loop-index : goal.decreases-loop-index
