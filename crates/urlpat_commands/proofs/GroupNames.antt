@@ -1,16 +1,15 @@
 -- Lemmas on the names of a component's groups, each once and in order.
-use Rattle.std.proofs.Common.{Less, Ordering, ◌≡◌, ◌↔◌, ℕ, ◌<◌, ⊎_elim, Bool, true, List, [], ◌∷◌, ◌++◌, append-nil, append_assoc, ap, ap₂, arith, bytes_eq, inl, inr, length, map, refl, reverse, subst, suc, sym, zero, zip, ◌∙◌}
+use Rattle.std.proofs.Common.{Less, Ordering, ◌≡◌, ◌↔◌, ℕ, ◌<◌, Bool, List, [], ◌∷◌, ◌++◌, append-nil, append_assoc, ap, ap₂, arith, bytes_eq, map, refl, reverse, subst, suc, sym, zero, ◌∙◌}
 use Rattle.std.proofs.lemmas.List.{get_or-map, length-map}
-use Rattle.std.proofs.lemmas.List.Elements.{All-from_recursion, recursion_from_All}
 use Rattle.std.proofs.lemmas.List.Kept.{Any-dedup, Contains-from_dedup, IsStrictlySortedBy-dedup}
 use Rattle.std.proofs.lemmas.List.Sorted.{Contains-permutation, IsPermutation-map, IsPermutation-reverse, IsPermutation-sym}
 use Rattle.std.proofs.lemmas.Map.Views.{Contains-keys_from_lookup, IsSome-lookup_from_Contains}
 use Rattle.std.specs.Cmp.Lexicographic.{bytes_decides, nat_list_eq_equiv, on_texts, on_texts_equal, slice_cmp, texts_ties}
 use Rattle.std.specs.List.{AllByRecursion, Contains, dedup, flat_map}
 use Rattle.std.specs.List.Sorted.{IsPermutation, IsSorted, IsStrictlySortedBy}
-use Rattle.std.specs.Map.{keys_of, lookup}
+use Rattle.std.specs.Map.{keys_of}
 use Rattle.std.specs.Ordering.{nat_cmp, on}
-use Rattle.std.specs.Prelude.{◌⊎◌, IsSome, Option, String, encode_utf8_all, string_bytes}
+use Rattle.std.specs.Prelude.{IsSome, Option, String, encode_utf8_all, string_bytes}
 use Rattle.std.specs.Str.{chars}
 use Rattle.std.specs.declared.alloc.Global.{Global}
 use Rattle.urlpat_commands.proofs.AnswerLemmas.{bytes_of_text}
@@ -18,7 +17,7 @@ use Rattle.urlpat_commands.specs.Answers.{AreNames, group_bytes, line_of}
 use Rattle.urlpat_commands.specs.Report.{group_line}
 use Rattle.urlpattern.specs.BorrowedMatches.{pattern_captures_view, groups_view}
 use Rattle.urlpattern.specs.Match.{ResultView}
-use Rattle.urlpattern.specs.Text.{option_text, text_of}
+use Rattle.urlpattern.specs.Text.{text_of}
 use Rattle.urlpattern_syntax.specs.declared.eight.ComponentName.{ComponentName}
 use Rattle.urlpattern.specs.UrlPatternCaptures.{UrlPatternCaptures}
 

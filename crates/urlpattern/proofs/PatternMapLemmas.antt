@@ -1,5 +1,5 @@
 -- Lemmas on keys beside values, as patterns are in a map.
-use Rattle.std.proofs.Common.{◌≡◌, ◌<◌, ◌∙◌, ℕ, zero, suc, List, [], ◌∷◌, ◌++◌, length, arith, refl, ap, map, sym}
+use Rattle.std.proofs.Common.{◌≡◌, ◌∙◌, ℕ, zero, suc, List, [], ◌∷◌, ◌++◌, length, arith, refl, ap, map, sym}
 use Rattle.std.specs.List.{remove}
 use Rattle.std.specs.Prelude.{OnErr, Option, None, Some, Result, Ok, Err, option_map, slice_get, zip}
 
