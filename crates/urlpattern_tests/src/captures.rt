@@ -73,7 +73,10 @@ fn expect_match(
 fn a_match_is_borrowed(rt: HostRuntime) -> Result<(), Fail> {
     let alloc = rt.alloc();
     let url = url_of(alloc, "https://example.com/a/b")?;
-    let pattern = pattern_of(alloc, &[("hostname", ":host.com"), ("pathname", "/a/:x{/:y}?")])?;
+    let pattern = pattern_of(
+        alloc,
+        &[("hostname", ":host.com"), ("pathname", "/a/:x{/:y}?")],
+    )?;
     let outcome = expect_match(&rt, alloc, &pattern, &url);
     drop(pattern);
     drop(url);
