@@ -1,6 +1,6 @@
-//! Small programs that use the library, each with a contract in the library's words: a router, the same of a path alone, a
-//! permission check, rules for a cache, and a pattern that is printed and read again. A sixth promises in the words of URLs alone
-//! which user a URL names.
+//! Small programs that use the library, each with a contract in the library's words: a router, the same of a path alone, a router
+//! with values, a permission check, rules for a cache, and a pattern that is printed and read again. A seventh promises in the words
+//! of URLs alone which user a URL names.
 #![tactic(auto)]
 
 ghost use Rattle.std.specs.Prelude.{◌≡◌, ◌+◌, length, OnOk};
@@ -10,6 +10,7 @@ mod path;
 mod permission;
 mod printed;
 mod router;
+mod routes;
 mod users;
 
 use std::alloc::Global;
@@ -19,7 +20,9 @@ use url::Url;
 use urlpattern::component::generate_pattern_string;
 use urlpattern::parser::{Options, parse_pattern_string};
 use urlpattern::regexp::PatternRegexp;
-use urlpattern::{Error, UrlPattern, UrlPatternInit, UrlPatternList, UrlPatternOptions};
+use urlpattern::{
+    Error, UrlPattern, UrlPatternInit, UrlPatternList, UrlPatternMap, UrlPatternOptions,
+};
 use users::Users;
 
 // docs: pattern
@@ -55,6 +58,39 @@ fn path_line(alloc: Global, path: &str) -> Result<String, Error> {
         Some(id) => Ok(format!(in alloc; "{path}: user {id}")?),
         None => Ok(format!(in alloc; "{path}: no user")?),
     }
+}
+
+/// Routes, each with what it shows.
+// docs: map
+fn pages(alloc: Global) -> Result<UrlPatternMap<&'static str, PatternRegexp>, Error> {
+    let mut pages = UrlPatternMap::new(alloc);
+    pages.try_insert(pattern(alloc, "https://example.com/users/:id")?, "profile")?;
+    pages.try_insert(
+        pattern(alloc, "https://example.com/users/:id/files/*")?,
+        "files",
+    )?;
+    pages.try_insert(pattern(alloc, "https://example.com/*")?, "page")?;
+    Ok(pages)
+}
+// docs: end
+
+/// What a URL shows, in words.
+fn page_line(alloc: Global, url: &Url) -> Result<String, Error> {
+    let pages = pages(alloc)?;
+    let shown = routes::shown(alloc, &pages, url);
+    let line = match &shown {
+        Ok(Some((page, Some(id)))) => written(alloc, page, id),
+        Ok(Some((page, None))) => text(alloc, page),
+        Ok(None) => text(alloc, "no page"),
+        Err(_) => Err(Error::OutOfMemory),
+    };
+    drop(pages);
+    line
+}
+
+/// A page of a user, in words.
+fn written(alloc: Global, page: &str, id: &str) -> Result<String, Error> {
+    Ok(format!(in alloc; "{page} of {id}")?)
 }
 
 /// Whether a URL is public, in words.
@@ -126,9 +162,10 @@ fn write_line<W: Write>(out: &mut W, line: Result<String, Error>) -> io::Result<
 fn lines(alloc: Global, url: &str) -> Result<String, Error> {
     let url = Url::parse(alloc, url)?;
     let user = user_line(alloc, &url)?;
+    let page = page_line(alloc, &url)?;
     let permission = permission_line(alloc, &url)?;
     let cached = cache_line(alloc, &url)?;
-    Ok(format!(in alloc; "{url}: {user}, {permission}, {cached}")?)
+    Ok(format!(in alloc; "{url}: {user}, {page}, {permission}, {cached}")?)
 }
 
 fn main(rt: HostRuntime) -> io::Result<()> {

@@ -1,16 +1,15 @@
 -- Lemmas on the names of a component's groups, each once and in order.
-use Rattle.std.proofs.Common.{Less, Ordering, ◌≡◌, ◌↔◌, ℕ, ◌<◌, ⊎_elim, Bor, Bool, true, List, [], ◌∷◌, ◌++◌, append-nil, append_assoc, ap, ap₂, arith, bytes_eq, inl, inr, length, map, refl, reverse, subst, suc, sym, zero, zip, ◌∙◌}
+use Rattle.std.proofs.Common.{Less, Ordering, ◌≡◌, ◌↔◌, ℕ, ◌<◌, Bool, List, [], ◌∷◌, ◌++◌, append-nil, append_assoc, ap, ap₂, arith, bytes_eq, map, refl, reverse, subst, suc, sym, zero, ◌∙◌}
 use Rattle.std.proofs.lemmas.List.{get_or-map, length-map}
-use Rattle.std.proofs.lemmas.List.Elements.{All-from_recursion, recursion_from_All}
 use Rattle.std.proofs.lemmas.List.Kept.{Any-dedup, Contains-from_dedup, IsStrictlySortedBy-dedup}
 use Rattle.std.proofs.lemmas.List.Sorted.{Contains-permutation, IsPermutation-map, IsPermutation-reverse, IsPermutation-sym}
 use Rattle.std.proofs.lemmas.Map.Views.{Contains-keys_from_lookup, IsSome-lookup_from_Contains}
 use Rattle.std.specs.Cmp.Lexicographic.{bytes_decides, nat_list_eq_equiv, on_texts, on_texts_equal, slice_cmp, texts_ties}
 use Rattle.std.specs.List.{AllByRecursion, Contains, dedup, flat_map}
 use Rattle.std.specs.List.Sorted.{IsPermutation, IsSorted, IsStrictlySortedBy}
-use Rattle.std.specs.Map.{keys_of, lookup}
+use Rattle.std.specs.Map.{keys_of}
 use Rattle.std.specs.Ordering.{nat_cmp, on}
-use Rattle.std.specs.Prelude.{◌⊎◌, IsSome, Option, String, encode_utf8_all, string_bytes}
+use Rattle.std.specs.Prelude.{IsSome, Option, String, encode_utf8_all, string_bytes}
 use Rattle.std.specs.Str.{chars}
 use Rattle.std.specs.declared.alloc.Global.{Global}
 use Rattle.urlpat_commands.proofs.AnswerLemmas.{bytes_of_text}
@@ -18,42 +17,31 @@ use Rattle.urlpat_commands.specs.Answers.{AreNames, group_bytes, line_of}
 use Rattle.urlpat_commands.specs.Report.{group_line}
 use Rattle.urlpattern.specs.BorrowedMatches.{pattern_captures_view, groups_view}
 use Rattle.urlpattern.specs.Match.{ResultView}
-use Rattle.urlpattern.specs.Text.{option_text, text_of}
+use Rattle.urlpattern.specs.Text.{text_of}
 use Rattle.urlpattern_syntax.specs.declared.eight.ComponentName.{ComponentName}
 use Rattle.urlpattern.specs.UrlPatternCaptures.{UrlPatternCaptures}
 
 -- ---- names that are gathered
 
-abbrev pub texts : List (Bor (String Global)) → List (List ℕ)
-texts names = map (λ name. text_of name.now) names
+abbrev pub texts : List (String Global) → List (List ℕ)
+texts names = map (λ name. text_of name) names
 
--- the names of the groups that are still to come
-abbrev pub names_left : List (String Global) → List (Option (Bor (List ℕ))) → List (List ℕ)
-names_left names captures = keys_of (zip (map (λ name. text_of name) names) (map option_text captures))
-
-texts-push : (names : List (Bor (String Global))) (name : Bor (String Global)) → texts (names ++ name ∷ []) ≡ texts names ++ text_of name.now ∷ []
+texts-push : (names : List (String Global)) (name : String Global) → texts (names ++ name ∷ []) ≡ texts names ++ text_of name ∷ []
 texts-push [] name = refl
-texts-push (first ∷ names) name = ap (λ rest. text_of first.now ∷ rest) (texts-push names name)
+texts-push (first ∷ names) name = ap (λ rest. text_of first ∷ rest) (texts-push names name)
 
-pub names-more : (before names : List (String Global)) (before_captures captures : List (Option (Bor (List ℕ)))) (name : Bor (String Global)) (capture : Option (Bor (List ℕ)))
-    (old new : List (Bor (String Global))) (all : List (List ℕ)) → before ≡ name.now ∷ names → before_captures ≡ capture ∷ captures → new ≡ old ++ name ∷ [] →
-    texts old ++ names_left before before_captures ≡ all → texts new ++ names_left names captures ≡ all
-names-more before names before_captures captures name capture old new all is_first is_capture is_new was =
-    ap (λ gathered. texts gathered ++ names_left names captures) is_new
-    ∙ ap (λ gathered. gathered ++ names_left names captures) (texts-push old name)
-    ∙ append_assoc (texts old) (text_of name.now ∷ []) (names_left names captures)
-    ∙ ap (λ left. texts old ++ left) (ap₂ names_left (sym is_first) (sym is_capture))
+-- one more name that is gathered: the copy of the first that was still to come
+pub names-more : (before left : List (List ℕ × Option (List ℕ))) (group : List ℕ × Option (List ℕ)) (copy : String Global) (old new : List (String Global)) (all : List (List ℕ)) →
+    before ≡ group ∷ left → text_of copy ≡ group.0 → new ≡ old ++ copy ∷ [] → texts old ++ keys_of before ≡ all → texts new ++ keys_of left ≡ all
+names-more before left group copy old new all is_first is_copy is_new was =
+    ap (λ gathered. texts gathered ++ keys_of left) is_new
+    ∙ ap (λ gathered. gathered ++ keys_of left) (texts-push old copy ∙ ap (λ text. texts old ++ text ∷ []) is_copy)
+    ∙ append_assoc (texts old) (group.0 ∷ []) (keys_of left)
+    ∙ ap (λ groups. texts old ++ keys_of groups) (sym is_first)
     ∙ was
 
-left-end : (names : List (String Global)) (captures : List (Option (Bor (List ℕ)))) → (names ≡ []) ⊎ (captures ≡ []) → names_left names captures ≡ []
-left-end names captures (inl e) = ap (λ rest. names_left rest captures) e
-left-end [] captures (inr e) = refl
-left-end (first ∷ names) captures (inr e) = ap (λ rest. names_left (first ∷ names) rest) e
-
-pub names-end : (names : List (String Global)) (captures : List (Option (Bor (List ℕ)))) (gathered : List (Bor (String Global))) (all : List (List ℕ)) → (names ≡ []) ⊎ (captures ≡ []) →
-    texts gathered ++ names_left names captures ≡ all → texts gathered ≡ all
-names-end names captures gathered all ends was =
-    sym (append-nil (texts gathered)) ∙ ap (λ left. texts gathered ++ left) (sym (left-end names captures ends)) ∙ was
+pub names-end : (left : List (List ℕ × Option (List ℕ))) (gathered : List (String Global)) (all : List (List ℕ)) → left ≡ [] → texts gathered ++ keys_of left ≡ all → texts gathered ≡ all
+names-end left gathered all ends was = sym (append-nil (texts gathered)) ∙ ap (λ groups. texts gathered ++ keys_of groups) (sym ends) ∙ was
 
 -- ---- names and groups
 
@@ -90,19 +78,19 @@ strictly-map f R S same (x ∷ xs) (above, sorted) = (above-map xs above, strict
     above-map [] all = tt
     above-map (y ∷ ys) (first, all) = (sym (same x y) ∙ first, above-map ys all)
 
-abbrev bytes_at : Bor (String Global) → List ℕ
-bytes_at name = string_bytes name.now
+abbrev bytes_at : String Global → List ℕ
+bytes_at name = string_bytes name
 
-abbrev text_at : Bor (String Global) → List ℕ
-text_at name = text_of name.now
+abbrev text_at : String Global → List ℕ
+text_at name = text_of name
 
-abbrev pub is_same_name : Bor (String Global) → Bor (String Global) → Bool
-is_same_name name other = bytes_eq (string_bytes name.now) (string_bytes other.now)
+abbrev pub is_same_name : String Global → String Global → Bool
+is_same_name name other = bytes_eq (string_bytes name) (string_bytes other)
 
-abbrev pub name_cmp : Bor (String Global) → Bor (String Global) → Ordering
-name_cmp name other = slice_cmp nat_cmp (string_bytes name.now) (string_bytes other.now)
+abbrev pub name_cmp : String Global → String Global → Ordering
+name_cmp name other = slice_cmp nat_cmp (string_bytes name) (string_bytes other)
 
-pub names-in_order : (found : UrlPatternCaptures) (component : ComponentName) (gathered sorted : List (Bor (String Global))) → texts gathered ≡ keys_of (groups_view found component) →
+pub names-in_order : (found : UrlPatternCaptures) (component : ComponentName) (gathered sorted : List (String Global)) → texts gathered ≡ keys_of (groups_view found component) →
     IsPermutation gathered sorted → IsSorted name_cmp sorted → AreNames (pattern_captures_view found component) (texts (dedup is_same_name sorted))
 names-in_order found component gathered sorted are_all permuted in_order =
     let once = dedup is_same_name sorted in
@@ -119,17 +107,17 @@ names-in_order found component gathered sorted are_all permuted in_order =
             subst (Contains (texts once)) (ap chars (sym bytes) ∙ same) (contains-map text_at once y (k, within, at_k)),
       );
       in_order = strictly-map text_at name_cmp (on encode_utf8_all (slice_cmp nat_cmp))
-          (λ x y. ap₂ (slice_cmp nat_cmp) (bytes_of_text x.now (text_at x) refl) (bytes_of_text y.now (text_at y) refl)) once
+          (λ x y. ap₂ (slice_cmp nat_cmp) (bytes_of_text x (text_at x) refl) (bytes_of_text y (text_at y) refl)) once
           (IsStrictlySortedBy-dedup (on_texts bytes_at) (λ x y. texts_ties (bytes_at x) (bytes_at y)) sorted in_order);
     }
 
 -- ---- lines
 
 -- the lines by the bytes of names are those by their characters
-pub lines-of_texts : (component : List ℕ) (found : ResultView) (names : List (Bor (String Global))) →
+pub lines-of_texts : (component : List ℕ) (found : ResultView) (names : List (String Global)) →
     flat_map (λ name. group_line component name (group_bytes (found.group (chars name)))) (map bytes_at names) ≡ flat_map (line_of component found) (texts names)
 lines-of_texts component found [] = refl
 lines-of_texts component found (name ∷ names) =
     ap₂ (λ first rest. first ++ rest)
-    (ap (λ bytes. group_line component bytes (group_bytes (found.group (text_at name)))) (bytes_of_text name.now (text_at name) refl))
+    (ap (λ bytes. group_line component bytes (group_bytes (found.group (text_at name)))) (bytes_of_text name (text_at name) refl))
     (lines-of_texts component found names)

@@ -139,12 +139,12 @@ fn push_groups(
 }
 
 /// The names of the groups of a component, each once, in the order of their bytes.
-fn sorted_names<'p>(
+fn sorted_names(
     alloc: Global,
-    found: &UrlPatternCaptures<'p, '_>,
+    found: &UrlPatternCaptures<'_, '_>,
     name: ComponentName,
-) -> Result<Vec<&'p String>, AllocError>
-    ensures { IfOk result (λ names. AreNames (pattern_captures_view found.now name) (map (λ name. text_of name.now) names.items)) }
+) -> Result<Vec<String>, AllocError>
+    ensures { IfOk result (λ names. AreNames (pattern_captures_view found.now name) (map (λ name. text_of name) names.items)) }
 {
     let mut names = names_of(alloc, found, name)?;
     names.sort_unstable();
@@ -153,16 +153,17 @@ fn sorted_names<'p>(
 }
 
 /// The names of the groups of a component, in the order of the pattern.
-fn names_of<'p>(
+fn names_of(
     alloc: Global,
-    found: &UrlPatternCaptures<'p, '_>,
+    found: &UrlPatternCaptures<'_, '_>,
     name: ComponentName,
-) -> Result<Vec<&'p String>, AllocError>
-    ensures { IfOk result (λ names. map (λ name. text_of name.now) names.items ≡ keys_of (groups_view found.now name)) }
+) -> Result<Vec<String>, AllocError>
+    ensures { IfOk result (λ names. map (λ name. text_of name) names.items ≡ keys_of (groups_view found.now name)) }
 {
     let mut names = Vec::new(alloc);
     for (group, _) in found.groups(name) {
-        names.push(group)?;
+        let copy = String::from_str(alloc, group)?;
+        names.push(copy)?;
     }
     Ok(names)
 }

@@ -159,14 +159,6 @@ All-passed P xs from n before passed = λ k d within.
       | inr le ↦ passed k (get_or xs k d) le inside.0 (slice_get-get_or xs k d inside.1)
     ])
 
--- patterns between two that are found do not match
-pub passed_over : {E : Type 0} (answer : E → List ℕ → Option Captures) (texts : Texts) (patterns : List (UrlPattern E)) (index : Listing) → AreIndexed answer patterns index
-    → (from n : ℕ) → All (λ pattern. IsRefused answer (pattern_view pattern) texts) (take from patterns)
-    → ((number : ℕ) → from ≤ number → number < n → ¬ Finds index (hashes_of (address_of texts)) number) → All (λ pattern. IsRefused answer (pattern_view pattern) texts) (take n patterns)
-passed_over answer texts patterns index are from n before others =
-    All-passed (λ pattern. IsRefused answer (pattern_view pattern) texts) patterns from n before
-    (λ k pattern le lt is. are.refuses k pattern is texts (others k le lt))
-
 -- ---- what is fixed of a matcher
 
 pub nil_from_length : (xs : List ℕ) → length xs ≡ 0 → xs ≡ []

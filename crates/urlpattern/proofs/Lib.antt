@@ -1,5 +1,6 @@
 pub mod FixedLemmas
 pub mod ListLemmas
+pub mod NextLemmas
 pub mod PatternMapLemmas
 pub mod InputLemmas
 pub mod EcmaMatchers

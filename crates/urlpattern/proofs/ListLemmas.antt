@@ -1,18 +1,16 @@
 -- Lemmas on the first pattern of a list that matches.
-use Rattle.std.proofs.Common.{◌≡◌, ◌<◌, ◌≤◌, ℕ, Bor, List, ap, ◌∙◌, get_or, length, refl, sym, subst, inr, inl, take}
-use Rattle.std.proofs.lemmas.List.{take-map}
-use Rattle.std.proofs.lemmas.List.Elements.{All-map, All-weaker}
-use Rattle.std.proofs.lemmas.Option.{slice_get-map, slice_get_past, slice_get_read}
+use Rattle.std.proofs.Common.{◌≡◌, ◌<◌, ◌≤◌, ℕ, Bor, List, get_or, length, refl, sym, inr, inl, take}
+use Rattle.std.proofs.lemmas.List.Elements.{All-weaker}
+use Rattle.std.proofs.lemmas.Option.{slice_get_past, slice_get_read}
 use Rattle.std.specs.Prelude.{All, IfOk, IfSome, MatchOption, Option, Some, None, Result, Ok, Err, option_copied, option_map, slice_get}
 use Rattle.urlpattern_init.specs.declared.init.UrlPatternMatchInput.{UrlPatternMatchInput}
 use Rattle.urlpattern_syntax.specs.declared.eight.ComponentName.{ComponentName}
 use Rattle.urlpattern_meaning.specs.PartMeaning.{Captures}
 use Rattle.urlpattern_pattern.proofs.MatchLaws.{refused-unmatched}
-use Rattle.urlpattern.specs.FirstMatch.{IsFirstMatch, IsFirstMatchOf, AsksBeforeMatch, patterns_view}
-use Rattle.urlpattern_pattern.specs.Match.{AsksAnEngine, HasMatch, HasNoMatch, IsMatchOf, IsRefused, ResultView}
+use Rattle.urlpattern.specs.FirstMatch.{IsFirstMatch, IsFirstMatchOf}
+use Rattle.urlpattern_pattern.specs.Match.{HasMatch, HasNoMatch, IsMatchOf, IsRefused, ResultView}
 use Rattle.urlpattern_pattern.specs.MatchInput.{IsNoInput, input_texts}
-use Rattle.urlpattern_pattern.specs.Patterns.{PatternView, pattern_view}
-use Rattle.urlpattern_pattern.specs.declared.pattern.UrlPattern.{UrlPattern}
+use Rattle.urlpattern_pattern.specs.Patterns.{PatternView}
 use Rattle.urlpattern_syntax.specs.declared.error.Error.{Error}
 use Rattle.urlpattern_syntax.specs.Eight.{Texts}
 
@@ -24,37 +22,6 @@ pub got : {X : Type 0} (found : Option (Bor X)) (xs : List X) (i : ℕ) (P : Bor
     → option_copied found ≡ slice_get xs i
 got None xs i P same past = sym (slice_get_past xs i past)
 got (Some x) xs i P same (inside, p) = sym (slice_get_read xs (length xs) i x.now refl inside same)
-
--- ---- patterns that were passed over
-
-module _ {E : Type 0} (answer : E → List ℕ → Option Captures) (texts : Texts) where
-  -- the patterns themselves, and what contracts see of them
-  pub refused-views : (patterns : List (UrlPattern E)) → All (λ pattern. IsRefused answer (pattern_view pattern) texts) patterns
-      → All (λ pattern. IsRefused answer pattern texts) (patterns_view patterns)
-  refused-views patterns refused = All-map (λ view. IsRefused answer view texts) (λ pattern. pattern_view pattern) patterns refused
-
-  -- what contracts see of the pattern at an index, and of those before it
-  there-view : (patterns : List (UrlPattern E)) (index : ℕ) (pattern : UrlPattern E) → slice_get patterns index ≡ Some pattern
-      → slice_get (patterns_view patterns) index ≡ Some (pattern_view pattern)
-  there-view patterns index pattern is_there = slice_get-map (λ pattern. pattern_view pattern) patterns index ∙ ap (option_map (λ pattern. pattern_view pattern)) is_there
-
-  earlier-views : (patterns : List (UrlPattern E)) (index : ℕ) → All (λ earlier. IsRefused answer (pattern_view earlier) texts) (take index patterns)
-      → All (λ pattern. IsRefused answer pattern texts) (take index (patterns_view patterns))
-  earlier-views patterns index refused =
-      subst (λ views. All (λ pattern. IsRefused answer pattern texts) views) (sym (take-map (λ pattern. pattern_view pattern) index patterns)) (refused-views (take index patterns) refused)
-
-  -- the pattern at an index is the first where those before it were passed over
-  pub first-views : (patterns : List (UrlPattern E)) (index : ℕ) (pattern : UrlPattern E) (match : ComponentName → ResultView) → slice_get patterns index ≡ Some pattern
-      → All (λ earlier. IsRefused answer (pattern_view earlier) texts) (take index patterns)
-      → IsMatchOf answer (pattern_view pattern) texts match
-      → IsFirstMatchOf answer (patterns_view patterns) texts (Some (index, match))
-  first-views patterns index pattern match is_there refused is_match = ((pattern_view pattern, there-view patterns index pattern is_there, is_match), earlier-views patterns index refused)
-
-  -- the pattern at an index asks an engine where those before it were passed over
-  pub asks-views : (patterns : List (UrlPattern E)) (index : ℕ) (pattern : UrlPattern E) → slice_get patterns index ≡ Some pattern
-      → All (λ earlier. IsRefused answer (pattern_view earlier) texts) (take index patterns)
-      → AsksAnEngine answer (pattern_view pattern) texts → AsksBeforeMatch answer (patterns_view patterns) texts
-  asks-views patterns index pattern is_there refused asks = (index, pattern_view pattern, there-view patterns index pattern is_there, asks, earlier-views patterns index refused)
 
 -- ---- a first match and its result
 

@@ -1,5 +1,6 @@
 -- Lemmas on keys beside values, as patterns are in a map.
-use Rattle.std.proofs.Common.{◌≡◌, ◌<◌, ◌∙◌, ℕ, zero, suc, List, [], ◌∷◌, ◌++◌, length, arith, refl, ap, map, sym}
+use Rattle.std.proofs.Common.{◌≡◌, ◌∙◌, ℕ, zero, suc, List, [], ◌∷◌, ◌++◌, length, arith, refl, ap, map, sym}
+use Rattle.std.specs.List.{remove}
 use Rattle.std.specs.Prelude.{OnErr, Option, None, Some, Result, Ok, Err, option_map, slice_get, zip}
 
 module _ {K T : Type 0} where
@@ -30,6 +31,22 @@ module _ {K T : Type 0} where
   pairs-append [] (other ∷ values) key value same = absurd (omega arith)
   pairs-append (first ∷ keys) [] key value same = absurd (omega arith)
   pairs-append (first ∷ keys) (other ∷ values) key value same = ap (λ pairs. (first, other) ∷ pairs) (pairs-append keys values key value (omega arith))
+
+  -- a pair less
+  pub pairs-remove : (keys : List K) (values : List T) (index : ℕ) → length values ≡ length keys → zip (remove keys index) (remove values index) ≡ remove (zip keys values) index
+  pairs-remove [] [] zero same = refl
+  pairs-remove [] [] (suc index) same = refl
+  pairs-remove [] (other ∷ values) index same = absurd (omega arith)
+  pairs-remove (first ∷ keys) [] index same = absurd (omega arith)
+  pairs-remove (first ∷ keys) (other ∷ values) zero same = refl
+  pairs-remove (first ∷ keys) (other ∷ values) (suc index) same = ap (λ pairs. (first, other) ∷ pairs) (pairs-remove keys values index (omega arith))
+
+-- where there is nothing at an index, nothing is removed
+pub remove-none : {X : Type 0} (xs : List X) (index : ℕ) → slice_get xs index ≡ None → remove xs index ≡ xs
+remove-none [] zero none = refl
+remove-none [] (suc index) none = refl
+remove-none (x ∷ xs) zero none = absurd cc
+remove-none (x ∷ xs) (suc index) none = ap (λ rest. x ∷ rest) (remove-none xs index none)
 
 pub length-mapped : {A B : Type 0} (f : A → B) (xs : List A) → length (map f xs) ≡ length xs
 length-mapped f [] = refl

@@ -76,6 +76,7 @@ pub use Rattle.urlpattern_syntax.specs.declared.parser.RegexSyntax
 pub mod EcmaRegexps
 pub mod FirstMatch
 pub mod Inputs
+pub mod NextMatch
 pub mod PatternLaws
 pub mod PatternKeys
 pub mod PatternMaps

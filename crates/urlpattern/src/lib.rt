@@ -13,7 +13,7 @@ pub mod quirks;
 pub mod regexp;
 pub mod theorem;
 
-pub use list::UrlPatternList;
+pub use list::{UrlPatternList, UrlPatternMatches};
 pub use map::{UrlPatternMap, UrlPatternMapIter};
 pub use urlpattern_canonical::canonicalize_and_process;
 pub use urlpattern_core::{Error, RegexSyntax, component, error, matcher, parser, tokenizer};
@@ -21,7 +21,7 @@ pub use urlpattern_diagnosis::{Diagnosis, Fault, Span, Subject};
 pub use urlpattern_init::{UrlPatternInit, UrlPatternMatchInput};
 pub use urlpattern_inputs::UrlPatternOptions;
 pub use urlpattern_pattern::{
-    UrlPattern, UrlPatternCaptures, UrlPatternComponentResult, UrlPatternGroups, UrlPatternResult,
-    pathname_texts, url_texts,
+    UrlPattern, UrlPatternCaptures, UrlPatternCapturesIter, UrlPatternComponentResult,
+    UrlPatternGroups, UrlPatternResult, pathname_texts, url_texts,
 };
 pub use urlpattern_syntax::eight::{ComponentName, Eight};

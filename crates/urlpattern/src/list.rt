@@ -11,14 +11,17 @@ ghost use Rattle.urlpattern_init.specs.Inheritance.{texts_of_url};
 ghost use Rattle.urlpattern_init.specs.declared.init.UrlPatternMatchInput.TheVariants as inputs;
 ghost use Rattle.urlpattern_pattern.specs.Calls.{borrowed_texts};
 ghost use Rattle.urlpattern.specs.FirstMatch.{first_captures_view, first_view, patterns_view, CopiesFirstMatch, IsFirstMatch, IsFirstMatchOf, AsksBeforeMatch};
+ghost use Rattle.urlpattern.specs.NextMatch.{matches_left, AsksBeforeMatchFrom, IsFirstMatchFrom};
 ghost use Rattle.urlpattern_pattern.specs.Match.{IfUrl};
 ghost use Rattle.urlpattern_pattern.specs.MatchInput.{texts_view};
 ghost use Rattle.urlpattern_pattern.specs.declared.pattern.UrlPattern.{UrlPattern};
 ghost use Rattle.urlpattern_syntax.specs.Errors.{OnlyOutOfMemory};
 
 mod fixed;
+mod matches;
 
 use fixed::{fixed_text, outline_of};
+pub use matches::UrlPatternMatches;
 use std::alloc::Global;
 use std::marker::Model;
 use std::slice;
@@ -224,6 +227,16 @@ impl<R: RegExp> UrlPatternList<R> {
         Ok(self.first(alloc, input_texts(input))?)
     }
 
+    /// All matches of a URL, in the order of the patterns, each with its pattern's index. They are borrowed from the patterns and
+    /// the URL.
+    ///
+    /// An item may be the error that memory ran out, which comes only where a pattern asks an engine. It is the last.
+    pub fn matches<'p, 'u>(&'p self, alloc: Global, url: &'u Url) -> UrlPatternMatches<'p, 'u, R>
+        ensures { matches_left result ≡ record { patterns = patterns_view self.now; texts = texts_of_url url.now; from = 0 } }
+    {
+        UrlPatternMatches::new(self, alloc, url_texts(url))
+    }
+
     /// The first match of eight texts, copied. `None`: no pattern matches them.
     ///
     /// The error is that memory ran out.
@@ -254,16 +267,31 @@ impl<R: RegExp> UrlPatternList<R> {
             IsFirstMatchOf R.answer (patterns_view self.now) (borrowed_texts texts.entry) (first_captures_view found)) }
         ensures asked { IfErr result (λ _. AsksBeforeMatch R.answer (patterns_view self.now) (borrowed_texts texts.entry)) }
     {
+        self.first_from(alloc, &texts, 0)
+    }
+
+    /// The first match of eight texts by a pattern whose index is not below another. `None`: no such pattern matches them.
+    ///
+    /// Only an engine allocates.
+    fn first_from<'p, 'u>(
+        &'p self,
+        alloc: Global,
+        texts: &Eight<&'u str>,
+        mut from: usize,
+    ) -> Result<Option<(usize, UrlPatternCaptures<'p, 'u>)>, OutOfMemory>
+        ensures first { IfOk result (λ found.
+            IsFirstMatchFrom R.answer (patterns_view self.now) (borrowed_texts texts.now) from (first_captures_view found)) }
+        ensures asked { IfErr result (λ _. AsksBeforeMatchFrom R.answer (patterns_view self.now) (borrowed_texts texts.now) from) }
+    {
         let hashes = Address {
             protocol: texts.protocol,
             hostname: texts.hostname,
             pathname: texts.pathname,
         }
         .hashes();
-        let mut from = 0;
         while let Some(index) = self.index.first_from(&hashes, from) {
             let pattern = &self.patterns[index];
-            if let Some(captures) = captures_of_texts(alloc, pattern, &texts)? {
+            if let Some(captures) = captures_of_texts(alloc, pattern, texts)? {
                 return Ok(Some((index, captures)));
             }
             from = index + 1;

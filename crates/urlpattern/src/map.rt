@@ -1,6 +1,7 @@
 //! Patterns with values, as the routes of a router with their handlers.
 //!
 //! The patterns are a list, whose index finds those that can match, and the values lie beside them.
+ghost use Rattle.std.specs.List.{remove};
 ghost use Rattle.std.specs.Map.Iter.{deref_pair, ShowsInOrder};
 ghost use Rattle.std.specs.Prelude.{◌≡◌, ◌==◌, ◌++◌, [], ◌∷◌, ℕ, length, option_map, slice_get, take, IfErr, IfOk, OnErr, OnOk};
 ghost use Rattle.urlpattern_init.specs.Inheritance.{texts_of_url};
@@ -84,6 +85,20 @@ impl<T, R: RegExp> UrlPatternMap<T, R> {
         match self.values.push(value) {
             Ok(()) => Ok(()),
             Err(_) => unreachable!(),
+        }
+    }
+
+    /// Removes the pattern at an index, and returns it with its value. Each later one moves down by one. `None`: there is none at
+    /// the index, and the map is as it was.
+    ///
+    /// It does not allocate, and takes time in proportion to the length of the map.
+    pub fn remove(&mut self, index: usize) -> Option<(UrlPattern<R>, T)>
+        ensures removed { result ≡ slice_get self.old index }
+        ensures others { self.new ≡ remove self.old index }
+    {
+        match self.patterns.remove(index) {
+            Some(pattern) => Some((pattern, self.values.remove(index))),
+            None => None,
         }
     }
 

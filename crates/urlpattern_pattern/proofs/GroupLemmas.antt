@@ -1,5 +1,5 @@
 -- Lemmas on the groups of a match: a map of them by the characters of its keys, and names beside captures.
-use Rattle.std.proofs.Common.{◌≡◌, ℕ, Bool, true, false, List, [], ◌∷◌, ◌++◌, reverse, zip, bytes_eq, refl, sym, ap, ◌∙◌, ⊎_elim, inl, inr, cond, map, Bor}
+use Rattle.std.proofs.Common.{arith, length, ◌≡◌, ℕ, Bool, true, false, List, [], ◌∷◌, ◌++◌, reverse, zip, bytes_eq, refl, sym, ap, ◌∙◌, ⊎_elim, inl, inr, cond, map, Bor}
 use Rattle.std.proofs.lemmas.Bool.{cases_Bool, cond-true, cond-false, false≢true}
 use Rattle.std.proofs.lemmas.List.{reverse-append}
 use Rattle.std.proofs.lemmas.Str.{encodes-chars, IsUtf8-string_bytes}
@@ -181,3 +181,9 @@ group-captured groups name capture u e =
 pub flattened-text : (found : Option (Option (Bor (List ℕ)))) → option_text (option_flatten found) ≡ option_flatten (option_map option_text found)
 flattened-text None = refl
 flattened-text (Some capture) = refl
+
+-- beside no captures there are no groups
+pub zip-none : {A B C : Type 0} (f : B → C) (names : List A) (captures : List B) → length captures ≡ 0 → zip names (map f captures) ≡ []
+zip-none f [] captures none = refl
+zip-none f (name ∷ names) [] none = refl
+zip-none f (name ∷ names) (capture ∷ captures) none = absurd (omega arith)

@@ -1,9 +1,7 @@
--- Lemmas on names that are put in order.
-use Rattle.std.proofs.Common.{◌≡◌, ◌+◌, ◌<◌, Bool, List, [], ◌∷◌, map, length, refl, ap, ap₂, ◌∙◌, subst, arith}
+-- A lemma on names that are put in order.
+use Rattle.std.proofs.Common.{◌+◌, ◌<◌, Bool, List, [], ◌∷◌, map, length, ap₂, ◌∙◌, subst, arith}
 use Rattle.std.proofs.lemmas.List.{get_or-map, length-map}
-use Rattle.std.specs.Borrow.{Bor}
-use Rattle.std.specs.Prelude.{IsSortedBy, String, string_bytes}
-use Rattle.std.specs.declared.alloc.Global.{Global}
+use Rattle.std.specs.Prelude.{IsSortedBy}
 
 -- values that stand in order stay so where each is seen by the function that they are compared by
 pub sorted_map : {X Y : Type 0} (f : X → Y) (lt : Y → Y → Bool) (xs : List X) → IsSortedBy (λ x y. lt (f x) (f y)) xs → IsSortedBy lt (map f xs)
@@ -11,7 +9,3 @@ sorted_map f lt [] h k d low high = absurd (omega (arith, high))
 sorted_map f lt (x ∷ rest) h k d low high =
     let within : k + 1 < length (x ∷ rest) = subst (λ n. k + 1 < n) (length-map (x ∷ rest) f) high in
     ap₂ lt (get_or-map f (x ∷ rest) (k + 1) x d within) (get_or-map f (x ∷ rest) k x d (omega (arith, within))) ∙ h k x low within
-
-pub bytes_of_names : (names : List (Bor (String Global))) → map (λ name. string_bytes name.now) names ≡ map (λ name. string_bytes name) (map (λ name. name.now) names)
-bytes_of_names [] = refl
-bytes_of_names (name ∷ names) = ap (λ rest. string_bytes name.now ∷ rest) (bytes_of_names names)

@@ -76,9 +76,9 @@ abbrev pub HasCaptures : {E : Type 0} → PatternView E → Texts → Eight Grou
 HasCaptures pattern texts captures result =
     (name : ComponentName) → IsResultOf (pattern name).group_name_list (all_captures captures name) (at texts name) (result name)
 
--- the texts of strings, and the bytes of strings that are lent
+-- the texts of strings, and the bytes of texts that are lent
 abbrev pub texts_of : List (String Global) → List (List ℕ)
 texts_of strings = map (λ text. text_of text) strings
 
-abbrev pub lent_bytes : List (Bor (String Global)) → List (List ℕ)
-lent_bytes strings = map (λ text. string_bytes text.now) strings
+abbrev pub lent_bytes : List (Bor (List ℕ)) → List (List ℕ)
+lent_bytes texts = map (λ text. text.now) texts

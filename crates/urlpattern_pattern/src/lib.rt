@@ -9,6 +9,6 @@ mod pattern;
 
 pub use match_input::parse_match_input;
 pub use pattern::{
-    UrlPattern, UrlPatternCaptures, UrlPatternComponentResult, UrlPatternGroups, UrlPatternResult,
-    captures_of_texts, input_texts, pathname_texts, url_texts,
+    UrlPattern, UrlPatternCaptures, UrlPatternCapturesIter, UrlPatternComponentResult,
+    UrlPatternGroups, UrlPatternResult, captures_of_texts, input_texts, pathname_texts, url_texts,
 };

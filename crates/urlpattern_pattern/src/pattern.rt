@@ -16,7 +16,7 @@ mod once;
 mod result;
 mod texts;
 
-pub use captures::{UrlPatternCaptures, UrlPatternGroups};
+pub use captures::{UrlPatternCaptures, UrlPatternCapturesIter, UrlPatternGroups};
 pub use matching::captures_of_texts;
 pub use result::{UrlPatternComponentResult, UrlPatternResult};
 pub(crate) use texts::copied;

@@ -22,6 +22,37 @@ fn expect_borrowed(rt: &impl Abort, found: &UrlPatternCaptures<'_, '_>) {
     }
 }
 
+/// Compares the groups of a component, and those of all, in their order.
+fn expect_groups(rt: &impl Abort, found: &UrlPatternCaptures<'_, '_>) {
+    let mut groups = found.groups(ComponentName::Pathname);
+    assert_eq!(rt; groups.next(), Some(("x", Some("b"))));
+    assert_eq!(rt; groups.next(), Some(("y", None)));
+    assert_eq!(rt; groups.next(), None);
+    let mut groups = found.iter();
+    let name = ComponentName::Hostname;
+    assert_eq!(rt; groups.next(), Some((name, "host", Some("example"))));
+    let name = ComponentName::Pathname;
+    assert_eq!(rt; groups.next(), Some((name, "x", Some("b"))));
+    assert_eq!(rt; groups.next(), Some((name, "y", None)));
+    assert_eq!(rt; groups.next(), None);
+}
+
+/// Compares a match and its copy.
+fn expect_copied(
+    rt: &impl Abort,
+    alloc: Global,
+    found: &UrlPatternCaptures<'_, '_>,
+) -> Result<(), Error> {
+    expect_borrowed(rt, found);
+    expect_groups(rt, found);
+    let written = format!(in alloc; "{found:?}")?;
+    assert!(rt; !written.is_empty());
+    let copy = found.clone()?;
+    expect_groups(rt, &copy);
+    drop(copy);
+    Ok(())
+}
+
 /// Compares the match of a URL by a pattern.
 fn expect_match(
     rt: &impl Abort,
@@ -30,19 +61,22 @@ fn expect_match(
     url: &Url,
 ) -> Result<(), Error> {
     let found = pattern.captures(alloc, url)?;
-    match &found {
-        Some(found) => expect_borrowed(rt, found),
+    let outcome = match &found {
+        Some(found) => expect_copied(rt, alloc, found),
         None => panic!(rt; "no match"),
-    }
+    };
     drop(found);
-    Ok(())
+    outcome
 }
 
 #[test]
 fn a_match_is_borrowed(rt: HostRuntime) -> Result<(), Fail> {
     let alloc = rt.alloc();
     let url = url_of(alloc, "https://example.com/a/b")?;
-    let pattern = pattern_of(alloc, &[("pathname", "/a/:x{/:y}?")])?;
+    let pattern = pattern_of(
+        alloc,
+        &[("hostname", ":host.com"), ("pathname", "/a/:x{/:y}?")],
+    )?;
     let outcome = expect_match(&rt, alloc, &pattern, &url);
     drop(pattern);
     drop(url);

@@ -1,13 +1,13 @@
 //! Lists of patterns: what they hold, which patterns are asked, components put together by hand, and a list that finds no room.
 
-use crate::given::{pattern_of, url_input};
+use crate::given::{pattern_of, url_input, url_of};
 use crate::stubborn::Wanting;
 use regex::Regex;
 use std::alloc::Global;
 use std::process::Abort;
 use std::test::Fail;
 use urlpattern::regexp::RegExp;
-use urlpattern::{Error, UrlPattern, UrlPatternList};
+use urlpattern::{ComponentName, Error, UrlPattern, UrlPatternList};
 
 /// A path that no engine is asked about, and that matches two segments.
 const NAME: &str = "/a/:x";
@@ -133,6 +133,63 @@ fn a_component_put_together_by_hand_is_found(rt: HostRuntime) -> Result<(), Fail
     ] {
         assert_eq!(rt; first_index(rt.alloc(), &list, url)?, expected, "{url}");
     }
+    Ok(())
+}
+
+/// Paths, of which all but the second match a path of two segments.
+const SEVERAL: [&str; 4] = [NAME, "/b/:x", "/a/*", "/:x/:y"];
+
+/// Removes the first pattern and the last of some.
+fn expect_removed(rt: &impl Abort, alloc: Global, list: &mut UrlPatternList) -> Result<(), Error> {
+    let url = "https://example.com/a/b";
+    assert_eq!(rt; first_index(alloc, list, url)?, Some(0));
+    let removed = list.remove(0);
+    assert_eq!(rt;
+        removed.as_ref().map(|pattern| pattern.pathname()),
+        Some(NAME)
+    );
+    drop(removed);
+    assert_eq!(rt; first_index(alloc, list, url)?, Some(1));
+    drop(list.remove(2));
+    assert!(rt; list.remove(2).is_none());
+    expect_held(rt, alloc, list, &SEVERAL[1..3])
+}
+
+#[test]
+fn a_pattern_is_removed(rt: HostRuntime) -> Result<(), Fail> {
+    let mut list = list_of(rt.alloc(), &SEVERAL)?;
+    let outcome = expect_removed(&rt, rt.alloc(), &mut list);
+    drop(list);
+    outcome?;
+    Ok(())
+}
+
+/// Compares the indices of the patterns that match a URL.
+fn expect_matches(
+    rt: &impl Abort,
+    alloc: Global,
+    list: &UrlPatternList,
+    indices: &[usize],
+) -> Result<(), Error> {
+    let url = url_of(alloc, "https://example.com/a/b")?;
+    let mut found = Vec::new(alloc);
+    for item in list.matches(alloc, &url) {
+        let (index, captures) = item?;
+        assert_eq!(rt; captures.input(ComponentName::Pathname), "/a/b");
+        drop(captures);
+        found.push(index)?;
+    }
+    drop(url);
+    assert_eq!(rt; found.as_slice(), indices);
+    Ok(())
+}
+
+#[test]
+fn all_matches_come_in_order(rt: HostRuntime) -> Result<(), Fail> {
+    let list = list_of(rt.alloc(), &SEVERAL)?;
+    let outcome = expect_matches(&rt, rt.alloc(), &list, &[0, 2, 3]);
+    drop(list);
+    outcome?;
     Ok(())
 }
 

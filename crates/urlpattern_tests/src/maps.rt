@@ -78,3 +78,30 @@ fn a_map_holds_its_routes_and_finds_the_first(rt: HostRuntime) -> Result<(), Fai
     outcome?;
     Ok(())
 }
+
+/// Removes the second route of three.
+fn expect_removed(
+    rt: &impl Abort,
+    alloc: Global,
+    map: &mut UrlPatternMap<u32>,
+) -> Result<(), Error> {
+    assert!(rt; map.remove(ROUTES.len()).is_none());
+    let removed = map.remove(1).map(|(_, value)| value);
+    assert_eq!(rt; removed, Some(2));
+    for (url, expected) in [
+        ("https://example.com/users/me", Some((0, 1))),
+        ("https://example.com/users/you", Some((1, 3))),
+    ] {
+        assert_eq!(rt; first_value(alloc, map, url)?, expected, "{url}");
+    }
+    Ok(())
+}
+
+#[test]
+fn a_route_is_removed_with_its_value(rt: HostRuntime) -> Result<(), Fail> {
+    let mut map = routes(rt.alloc())?;
+    let outcome = expect_removed(&rt, rt.alloc(), &mut map);
+    drop(map);
+    outcome?;
+    Ok(())
+}

@@ -29,7 +29,7 @@ fn expect_named(
     let names = found.sorted_names(alloc)?;
     assert_eq!(rt; names.len(), groups.len());
     for (name, (expected, captured)) in names.iter().zip(groups) {
-        assert_eq!(rt; name.as_str(), *expected);
+        assert_eq!(rt; name, expected);
         assert_eq!(rt; found.get(name), *captured, "of {name:?}");
     }
     Ok(())

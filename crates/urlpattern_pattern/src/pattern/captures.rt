@@ -1,20 +1,20 @@
 //! What the groups of a pattern capture, borrowed from the pattern and from the texts that it matches.
-ghost use Rattle.std.specs.Iterator.Adapters.{zip_first, zip_second};
-ghost use Rattle.std.specs.Prelude.{◌≡◌, map, option_map, zip, IfOk};
-ghost use Rattle.std.specs.Slice.Iter.{iter_rest};
+ghost use Rattle.std.specs.Prelude.{◌≡◌, map, option_map, IfOk};
 ghost use Rattle.std.specs.Str.{chars};
 ghost use Rattle.urlpattern_syntax.specs.declared.eight.ComponentName.{ComponentName as Name};
 ghost use Rattle.urlpattern_pattern.specs.declared.pattern.captures.Missed.TheVariants as all_missed;
-ghost use Rattle.urlpattern_pattern.specs.BorrowedMatches.{pattern_captures_view, groups_view};
+ghost use Rattle.urlpattern_pattern.specs.BorrowedMatches.{all_groups_left, all_groups_view, groups_left, groups_view, pattern_captures_view};
 ghost use Rattle.urlpattern_pattern.specs.Calls.{IsCapturedOf, captures_of, texts_of, HasNoGroups, IsWithoutGroups};
 ghost use Rattle.urlpattern_pattern.specs.Match.{captured_text, component_result_view, group_of, result_view, took_part, IsSameResult};
 ghost use Rattle.urlpattern_syntax.specs.Text.{option_text};
 ghost use Rattle.urlpattern_syntax.specs.Errors.{OnlyOutOfMemory};
-ghost use Rattle.urlpattern_syntax.specs.Eight.{at};
+ghost use Rattle.urlpattern_syntax.specs.Eight.{at, components};
+
+mod groups;
 
 use super::result::{UrlPatternComponentResult, UrlPatternResult, empty_result};
+pub use groups::{UrlPatternCapturesIter, UrlPatternGroups};
 use std::alloc::Global;
-use std::iter::Zip;
 use std::slice;
 use urlpattern_core::Error;
 use urlpattern_core::error::OutOfMemory;
@@ -22,15 +22,10 @@ use urlpattern_core::matcher::Look;
 use urlpattern_core::regexp::RegExp;
 use urlpattern_syntax::eight::{ComponentName, Eight};
 
-/// The groups of a component in their order: each name, with what the group captured. `None`: the group took no part.
-pub type UrlPatternGroups<'c, 'p, 'u> = Zip<
-    slice::Iter<'p, String>,
-    slice::Iter<'c, Option<&'u str>>,
->;
-
 /// A match whose names are borrowed from the pattern, and whose texts and captures from what it matches.
 ///
 /// `UrlPattern::captures` returns it.
+#[derive(Debug, Clone)]
 pub struct UrlPatternCaptures<'p, 'u> {
     /// The names of the groups.
     pub(super) names: Eight<&'p Vec<String>>,
@@ -87,12 +82,19 @@ impl<'p, 'u> UrlPatternCaptures<'p, 'u> {
 
     /// The groups of a component, in their order.
     pub fn groups(&self, component: ComponentName) -> UrlPatternGroups<'_, 'p, 'u>
-        ensures { zip (texts_of (iter_rest (zip_first result))) (map option_text (iter_rest (zip_second result))) ≡ groups_view self.now component }
+        ensures { groups_left result ≡ groups_view self.now component }
     {
-        self.names
-            .get(component)
-            .iter()
-            .zip(self.captures.get(component).as_slice())
+        UrlPatternGroups::new(
+            self.names.get(component),
+            self.captures.get(component).as_slice(),
+        )
+    }
+
+    /// The groups of all components, in the order of the standard, each beside the name of its component.
+    pub fn iter(&self) -> UrlPatternCapturesIter<'_, 'p, 'u>
+        ensures { all_groups_left result ≡ all_groups_view self.now components }
+    {
+        UrlPatternCapturesIter::new(self)
     }
 
     /// The match with copies of its texts, names and captures, as `UrlPattern::exec` returns it.
@@ -177,7 +179,7 @@ impl From<OutOfMemory> for Missed {
 }
 
 /// What the groups of a component capture of its text.
-#[derive(Drop)]
+#[derive(Debug, Clone, Drop)]
 pub(crate) enum GroupCaptures<'u> {
     /// There are no groups.
     Nothing,

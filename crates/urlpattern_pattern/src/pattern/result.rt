@@ -7,11 +7,13 @@ ghost use Rattle.std.specs.Str.{chars};
 ghost use Rattle.urlpattern_pattern.specs.Calls.{captured_bytes, lent_bytes, texts_of, AreGroups, HasNoGroups, IsWithoutGroups};
 ghost use Rattle.urlpattern_pattern.specs.Match.{captured_text, component_result_view, result_view, results_of};
 ghost use Rattle.urlpattern_syntax.specs.Eight.{at};
+ghost use Rattle.urlpattern_syntax.specs.Errors.{OnlyOutOfMemory};
 ghost use Rattle.urlpattern_syntax.specs.Text.{text_of, option_text};
 
 use super::groups::{Groups, add_groups};
 use std::alloc::{AllocError, Global};
 use std::collections::HashMap;
+use urlpattern_core::Error;
 use urlpattern_core::error::OutOfMemory;
 use urlpattern_syntax::eight::{ComponentName, Eight};
 use urlpattern_syntax::{field_of, with_fields};
@@ -105,10 +107,13 @@ impl UrlPatternComponentResult {
     }
 
     /// The names of the groups, in the order of their bytes.
-    pub fn sorted_names(&self, alloc: Global) -> Result<Vec<&String>, AllocError>
+    ///
+    /// The error is that memory ran out.
+    pub fn sorted_names(&self, alloc: Global) -> Result<Vec<&str>, Error>
         ensures differ { IfOk result (λ names. IsUnique string_eq self.now.groups) }
         ensures all { IfOk result (λ names. IsPermutation (map (λ name. string_bytes name) (keys self.now.groups)) (lent_bytes names.items)) }
         ensures in_order { IfOk result (λ names. IsSorted (slice_cmp nat_cmp) (lent_bytes names.items)) }
+        ensures memory { OnlyOutOfMemory result }
     {
         let mut names = names_of(alloc, &self.groups)?;
         names.sort_unstable();
@@ -143,11 +148,15 @@ impl UrlPatternComponentResult {
 }
 
 /// The names of groups.
-fn names_of(alloc: Global, groups: &Groups) -> Result<Vec<&String>, AllocError>
-    ensures all { IfOk result (λ names. map (λ name. name.now) names.items ≡ keys groups.now) }
+fn names_of(alloc: Global, groups: &Groups) -> Result<Vec<&str>, AllocError>
+    ensures all { IfOk result (λ names. lent_bytes names.items ≡ map (λ name. string_bytes name) (keys groups.now)) }
     ensures differ { IfOk result (λ names. IsUnique string_eq groups.now) }
 {
-    groups.keys().collect(alloc)
+    let mut names = Vec::with_capacity(alloc, groups.len())?;
+    for name in groups.keys() {
+        names.push(name.as_str())?;
+    }
+    Ok(names)
 }
 
 /// What the group of a name captured, if it is there and took part.

@@ -1,5 +1,4 @@
 use Rattle.std.proofs.Common.{◌≡◌, ℕ, List, ◌++◌, map, string_bytes, take, take_all, ap, ◌∙◌}
-use Rattle.std.specs.Borrow.{Bor}
 use Rattle.std.specs.List.{flat_map}
 use Rattle.std.specs.Prelude.{String}
 use Rattle.std.specs.Str.{chars}
@@ -14,7 +13,7 @@ use Rattle.urlpat_commands.proofs.matching.push_groups.Goals as goal
 pub returns : goal.returns
 returns c =
     let found = pattern_captures_view c.args.found.now c.args.name in
-    let bytes : List (Bor (String Global)) → List (List ℕ) = map (λ name. string_bytes name.now) in
+    let bytes : List (String Global) → List (List ℕ) = map (λ name. string_bytes name) in
     let line : List ℕ → List ℕ = λ name. group_line (name_text c.args.name) name (group_bytes (found.group (chars name))) in
     let items = c.in_ok-groups.groups.items in
     let all : take c.loop-group.group-index c.deref-group-items.result.now ≡ items =

@@ -10,4 +10,4 @@ use Rattle.urlpat_commands.proofs.matching.push_groups.Given as goal
 abbrev pub invariant-loop-group : goal.invariant-loop-group
 invariant-loop-group l =
     string_bytes l.text ≡ string_bytes l.initial.text
-    ++ flat_map (λ name. group_line (name_text l.fn.name) name (group_bytes ((pattern_captures_view l.found l.fn.name).group (chars name)))) (map (λ name. string_bytes name.now) (take l.group-index l.group-items))
+    ++ flat_map (λ name. group_line (name_text l.fn.name) name (group_bytes ((pattern_captures_view l.found l.fn.name).group (chars name)))) (map (λ name. string_bytes name) (take l.group-index l.group-items))
