@@ -1,16 +1,13 @@
 -- What the groups of parts are to capture, part by part.
-use Rattle.std.proofs.Common.{◌≡◌, ℕ, suc, Bool, true, false, List, [], ◌∷◌, ◌++◌, append_assoc, ap, inl, inr, refl, sym, subst, length, ◌∙◌, Option, Some, None, String, map, string_bytes}
+use Rattle.std.proofs.Common.{◌≡◌, ℕ, suc, Bool, true, false, List, [], ◌∷◌, ◌++◌, append_assoc, ap, refl, sym, subst, length, ◌∙◌, Option, Some, None, String, map, string_bytes}
 use Rattle.std.specs.Char.{is_ascii_digit}
 use Rattle.std.specs.Prelude.{◌&&◌, filter, not, if◌then◌else◌}
 use Rattle.std.specs.declared.alloc.Global.{Global}
-use Rattle.urlpattern_generate.specs.Asked.{AreAsked, IsAsked, RefusesSomeGiven, capture_by_modifier, capture_not_given, empty_or_none}
+use Rattle.urlpattern_generate.specs.Asked.{AreAsked, IsAsked, capture_by_modifier, capture_not_given, empty_or_none}
 use Rattle.urlpattern_generate.specs.Manners.{WritingManner}
-use Rattle.urlpattern_generate.specs.Writers.{AddsAsked, ReportsGiven, ReportsSomeGiven}
-use Rattle.urlpattern_generate.specs.declared.error.GenerateError.{GenerateError}
-use Rattle.urlpattern_generate.specs.declared.error.GenerateError.TheVariants.{Missing, NotCaptured, ReadOtherwise, OutOfMemory}
+use Rattle.urlpattern_generate.specs.Writers.{AddsAsked}
 use Rattle.urlpattern_links.specs.Links.{OfEachGroup, OfFirst, captures_after}
 use Rattle.urlpattern_meaning.specs.PartMeaning.{Captures, capture_of_none}
-use Rattle.urlpattern_syntax.specs.declared.eight.ComponentName.{ComponentName}
 use Rattle.urlpattern_syntax.specs.declared.parser.PartType.{PartType}
 use Rattle.urlpattern_syntax.specs.declared.parser.PartType.TheVariants.{FixedText, FullWildcard, Regexp, SegmentWildcard}
 use Rattle.urlpattern_syntax.specs.Parts.{PartView}
@@ -65,23 +62,6 @@ adds_group manner part capture before after group is e parts rest h = (
   ap (λ captures. captures ++ rest) e ∙ append_assoc before (capture ∷ []) rest,
   group_asked manner part.kind part capture parts rest group is h,
 )
-
--- ---- refusals
-
-pub reports_one : (component : ComponentName) (manner : WritingManner) (part : PartView) (error : GenerateError) → ¬ (part.kind ≡ FixedText) →
-    ReportsGiven component manner part error → ReportsSomeGiven component manner (part ∷ []) error
-reports_one component manner part (Missing of name) group h = absurd h
-reports_one component manner part (NotCaptured of name) group h = (h.0, inl (h.1, group, h.2))
-reports_one component manner part (ReadOtherwise of) group h = absurd h
-reports_one component manner part OutOfMemory group h = tt
-
-pub reports_among : (component : ComponentName) (manner : WritingManner) (part : PartView) (others parts : List PartView) (error : GenerateError) →
-    ((name : List ℕ) → RefusesSomeGiven manner (part ∷ others) name → RefusesSomeGiven manner parts name) →
-    ReportsSomeGiven component manner (part ∷ []) error → ReportsSomeGiven component manner parts error
-reports_among component manner part others parts (Missing of name) weaker h = absurd h
-reports_among component manner part others parts (NotCaptured of name) weaker h = (h.0, weaker (text_of name) (elim h.1 [ inl one ↦ inl one | inr none ↦ absurd none ]))
-reports_among component manner part others parts (ReadOtherwise of) weaker h = absurd h
-reports_among component manner part others parts OutOfMemory weaker h = tt
 
 -- ---- wildcards without name
 

@@ -22,7 +22,7 @@ pub record AsksFor (manner : WritingManner) (pattern : List ℕ) (parts : List P
   pub are_asked : AreAsked manner parts captures
 
 -- The matcher takes the text, and its groups capture this; and the text is canonical, as that of a URL is.
-pub record IsReadBack {E : Type 0} (answer : E → List ℕ → Option Captures) (matcher : MatcherView E) (canonical : List ℕ → Parsed (List ℕ)) (text : List ℕ) (captures : Captures) : Type 0 where
+pub record IsReadWith {E : Type 0} (answer : E → List ℕ → Option Captures) (matcher : MatcherView E) (canonical : List ℕ → Parsed (List ℕ)) (text : List ℕ) (captures : Captures) : Type 0 where
   pub is_matched : Answers answer matcher text (Some captures)
   pub is_canonical : canonical text ≡ Ok text
 
@@ -36,13 +36,13 @@ IsReadOtherwise answer matcher canonical bytes captures =
     ((found : Option Captures) × Answers answer matcher (chars bytes) found × (found ≢ Some captures)) ⊎ IsNotCanonical canonical bytes
 
 -- The text is that of the parts of the pattern text, and is read back with what is asked for.
-pub record IsGenerated {E : Type 0} (answer : E → List ℕ → Option Captures) (matcher : MatcherView E) (manner : WritingManner) (pattern text : List ℕ) : Type 0 where
+pub record IsTextWithGroups {E : Type 0} (answer : E → List ℕ → Option Captures) (matcher : MatcherView E) (manner : WritingManner) (pattern text : List ℕ) : Type 0 where
   pub parts : List PartView
   pub captures : Captures
   pub is_asked : AsksFor manner pattern parts captures
   pub may_capture : MayCaptureAll manner.options parts captures
   pub is_written : text ≡ text_of_parts parts captures
-  pub is_read_back : IsReadBack answer matcher manner.canonical text captures
+  pub is_read_back : IsReadWith answer matcher manner.canonical text captures
 
 -- ---- errors
 

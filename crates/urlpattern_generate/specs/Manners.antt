@@ -32,9 +32,9 @@ abbrev pub is_given_for : ComponentName → (name : List ℕ) → GivenView → 
 is_given_for component name given = bytes_eq (name_text given.component) (name_text component) && bytes_eq given.name name
 
 -- the first text that is given for a group, or none
-abbrev pub given_text : List GivenView → ComponentName → (name : List ℕ) → Option (List ℕ)
-given_text [] component name = None
-given_text (given ∷ others) component name = if is_given_for component name given then Some given.text else given_text others component name
+abbrev pub text_given : List GivenView → ComponentName → (name : List ℕ) → Option (List ℕ)
+text_given [] component name = None
+text_given (given ∷ others) component name = if is_given_for component name given then Some given.text else text_given others component name
 
 -- ---- a component
 
@@ -69,7 +69,7 @@ abbrev pub manner_for : ComponentName → (hierarchical : Bool) → (pattern : L
 manner_for component hierarchical pattern groups = record {
   options = options_for component hierarchical;
   canonical = canonical_for component hierarchical (begins_ipv6 pattern);
-  given = given_text groups component;
+  given = text_given groups component;
 }
 
 -- ---- the texts of a pattern that is read again, which are canonical already

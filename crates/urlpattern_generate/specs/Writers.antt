@@ -1,7 +1,7 @@
 -- The steps in which a component's text is written.
 use Rattle.std.specs.Prelude.{◌≡◌, ◌++◌, ℕ, List, ◌∷◌, Option, Some, None}
 use Rattle.urlpattern_generate.specs.Asked.{AreAsked, RefusesGiven, RefusesSomeGiven}
-use Rattle.urlpattern_generate.specs.Manners.{WritingManner, canonical_for, given_groups, given_text, options_for, unchanged}
+use Rattle.urlpattern_generate.specs.Manners.{WritingManner, canonical_for, given_groups, text_given, options_for, unchanged}
 use Rattle.urlpattern_generate.specs.declared.error.GenerateError.{GenerateError}
 use Rattle.urlpattern_generate.specs.declared.error.GenerateError.TheVariants.{Missing, NotCaptured, ReadOtherwise, OutOfMemory}
 use Rattle.urlpattern_generate.specs.declared.writer.Writer.{Writer}
@@ -16,11 +16,11 @@ use Rattle.urlpattern_syntax.specs.Reading.{Refuses}
 use Rattle.urlpattern_syntax.specs.Text.{text_of}
 
 -- the manner in which it writes
-abbrev pub manner_by : Writer → WritingManner
-manner_by writer = record {
+abbrev pub manner_of_writer : Writer → WritingManner
+manner_of_writer writer = record {
   options = options_for writer.component writer.hierarchical;
   canonical = canonical_for writer.component writer.hierarchical writer.is_ipv6;
-  given = given_text (given_groups writer.groups.now) writer.component;
+  given = text_given (given_groups writer.groups.now) writer.component;
 }
 
 -- an error of the parser is reported as this

@@ -4,7 +4,7 @@ ghost use Rattle.std.specs.Prelude.{◌≡◌, ◌∷◌, ◌++◌, ◌&&◌, []
 ghost use Rattle.std.specs.Char.{is_ascii_digit};
 ghost use Rattle.std.specs.Str.{chars};
 ghost use Rattle.urlpattern_generate.specs.Asked.{AreAsked, IsAsked, capture_not_given, empty_or_none};
-ghost use Rattle.urlpattern_generate.specs.Writers.{AddsAsked, ReportsGiven, ReportsSomeGiven, ReportsWritten, manner_by};
+ghost use Rattle.urlpattern_generate.specs.Writers.{AddsAsked, ReportsGiven, ReportsSomeGiven, ReportsWritten, manner_of_writer};
 ghost use Rattle.urlpattern_links.specs.Links.{MayCaptureAll, RefusesCapture, text_of_parts};
 ghost use Rattle.urlpattern_links.specs.Refused.{given_captures};
 ghost use Rattle.urlpattern_meaning.specs.PartMeaning.{capture_of_none};
@@ -24,8 +24,8 @@ impl Writer<'_> {
     ///
     /// The error is that `url` refuses what is given for a group, or that memory ran out.
     pub(crate) fn captures(&self, parts: &[Part]) -> Result<Vec<Option<String>>, GenerateError>
-        ensures asked { IfOk result (λ captures. AreAsked (manner_by self.now) (parts_view parts.now) (given_captures captures.items)) }
-        ensures refused { IfErr result (ReportsSomeGiven self.now.component (manner_by self.now) (parts_view parts.now)) }
+        ensures asked { IfOk result (λ captures. AreAsked (manner_of_writer self.now) (parts_view parts.now) (given_captures captures.items)) }
+        ensures refused { IfErr result (ReportsSomeGiven self.now.component (manner_of_writer self.now) (parts_view parts.now)) }
     {
         let mut captures = Vec::new(self.alloc);
         let mut left = parts;
@@ -45,8 +45,8 @@ impl Writer<'_> {
         captures: &mut Vec<Option<String>>,
         part: &Part,
     ) -> Result<(), GenerateError>
-        ensures asked { OnOk result (AddsAsked (manner_by self.now) (part_view part.now) (given_captures captures.old.items) (given_captures captures.new.items)) }
-        ensures refused { IfErr result (ReportsSomeGiven self.now.component (manner_by self.now) (part_view part.now ∷ [])) }
+        ensures asked { OnOk result (AddsAsked (manner_of_writer self.now) (part_view part.now) (given_captures captures.old.items) (given_captures captures.new.items)) }
+        ensures refused { IfErr result (ReportsSomeGiven self.now.component (manner_of_writer self.now) (part_view part.now ∷ [])) }
     {
         if part.kind == PartType::FixedText {
             return Ok(());
@@ -61,8 +61,8 @@ impl Writer<'_> {
 
     /// What the group of a part is to capture: the canonical form of what it is given.
     fn capture(&self, part: &Part) -> Result<Option<String>, GenerateError>
-        ensures asked { IfOk result (λ capture. IsAsked (manner_by self.now) (part_view part.now) (option_map text_of capture)) }
-        ensures refused { IfErr result (ReportsGiven self.now.component (manner_by self.now) (part_view part.now)) }
+        ensures asked { IfOk result (λ capture. IsAsked (manner_of_writer self.now) (part_view part.now) (option_map text_of capture)) }
+        ensures refused { IfErr result (ReportsGiven self.now.component (manner_of_writer self.now) (part_view part.now)) }
     {
         let Some(text) = given_text(self.groups, self.component, &part.name) else {
             return Ok(capture_not_given(self.alloc, part));

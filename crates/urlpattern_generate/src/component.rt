@@ -2,9 +2,9 @@
 
 ghost use Rattle.std.specs.Prelude.{◌≡◌, IfErr, IfOk};
 ghost use Rattle.urlpattern_core.specs.Components.{component_view};
-ghost use Rattle.urlpattern_generate.specs.Generating.{AsksFor, IsGenerated, RefusesGroups};
+ghost use Rattle.urlpattern_generate.specs.Generating.{AsksFor, IsTextWithGroups, RefusesGroups};
 ghost use Rattle.urlpattern_generate.specs.Manners.{given_groups, manner_for, unchanged};
-ghost use Rattle.urlpattern_generate.specs.Writers.{manner_by};
+ghost use Rattle.urlpattern_generate.specs.Writers.{manner_of_writer};
 ghost use Rattle.urlpattern_links.specs.Refused.{given_captures};
 ghost use Rattle.urlpattern_syntax.specs.{Options.options_view, Parts.parts_view, Reading.Reads, Text.text_of};
 
@@ -32,7 +32,7 @@ pub fn generate_component<R: RegExp>(
     hierarchical: bool,
     groups: &[GivenGroup<'_>],
 ) -> Result<String, GenerateError>
-    ensures generated { IfOk result (λ text. IsGenerated R.answer (component_view component.now).matcher
+    ensures generated { IfOk result (λ text. IsTextWithGroups R.answer (component_view component.now).matcher
         (manner_for name hierarchical (text_of component.now.pattern_string) (given_groups groups.now)) (text_of component.now.pattern_string) (text_of text)) }
     ensures refused { IfErr result (RefusesGroups R.answer (component_view component.now).matcher name
         (manner_for name hierarchical (text_of component.now.pattern_string) (given_groups groups.now)) (text_of component.now.pattern_string)) }
@@ -51,10 +51,10 @@ pub fn generate_component<R: RegExp>(
 impl Writer<'_> {
     /// The text of a component.
     fn text<R: RegExp>(&self, component: &Component<R>) -> Result<String, GenerateError>
-        ensures generated { IfOk result (λ text. IsGenerated R.answer (component_view component.now).matcher
-            (manner_by self.now) (text_of component.now.pattern_string) (text_of text)) }
+        ensures generated { IfOk result (λ text. IsTextWithGroups R.answer (component_view component.now).matcher
+            (manner_of_writer self.now) (text_of component.now.pattern_string) (text_of text)) }
         ensures refused { IfErr result (RefusesGroups R.answer (component_view component.now).matcher self.now.component
-            (manner_by self.now) (text_of component.now.pattern_string)) }
+            (manner_of_writer self.now) (text_of component.now.pattern_string)) }
     {
         let Ok(options) = self.options() else {
             return Err(GenerateError::OutOfMemory);
@@ -72,12 +72,12 @@ impl Writer<'_> {
         options: &Options,
         parts: &[Part],
     ) -> Result<String, GenerateError>
-        requires options { options_view options.now ≡ (manner_by self.now).options }
-        requires reads { Reads (text_of component.now.pattern_string) (manner_by self.now).options unchanged (parts_view parts.now) }
-        ensures generated { IfOk result (λ text. IsGenerated R.answer (component_view component.now).matcher
-            (manner_by self.now) (text_of component.now.pattern_string) (text_of text)) }
+        requires options { options_view options.now ≡ (manner_of_writer self.now).options }
+        requires reads { Reads (text_of component.now.pattern_string) (manner_of_writer self.now).options unchanged (parts_view parts.now) }
+        ensures generated { IfOk result (λ text. IsTextWithGroups R.answer (component_view component.now).matcher
+            (manner_of_writer self.now) (text_of component.now.pattern_string) (text_of text)) }
         ensures refused { IfErr result (RefusesGroups R.answer (component_view component.now).matcher self.now.component
-            (manner_by self.now) (text_of component.now.pattern_string)) }
+            (manner_of_writer self.now) (text_of component.now.pattern_string)) }
     {
         match self.captures(parts) {
             Ok(captures) => self.text_with(component, options, parts, &captures),
@@ -93,12 +93,12 @@ impl Writer<'_> {
         parts: &[Part],
         captures: &[Option<String>],
     ) -> Result<String, GenerateError>
-        requires options { options_view options.now ≡ (manner_by self.now).options }
-        requires asked { AsksFor (manner_by self.now) (text_of component.now.pattern_string) (parts_view parts.now) (given_captures captures.now) }
-        ensures generated { IfOk result (λ text. IsGenerated R.answer (component_view component.now).matcher
-            (manner_by self.now) (text_of component.now.pattern_string) (text_of text)) }
+        requires options { options_view options.now ≡ (manner_of_writer self.now).options }
+        requires asked { AsksFor (manner_of_writer self.now) (text_of component.now.pattern_string) (parts_view parts.now) (given_captures captures.now) }
+        ensures generated { IfOk result (λ text. IsTextWithGroups R.answer (component_view component.now).matcher
+            (manner_of_writer self.now) (text_of component.now.pattern_string) (text_of text)) }
         ensures refused { IfErr result (RefusesGroups R.answer (component_view component.now).matcher self.now.component
-            (manner_by self.now) (text_of component.now.pattern_string)) }
+            (manner_of_writer self.now) (text_of component.now.pattern_string)) }
     {
         let text = match self.written(options, parts, captures) {
             Ok(text) => text,

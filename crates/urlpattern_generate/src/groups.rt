@@ -2,7 +2,7 @@
 
 ghost use Rattle.std.specs.Prelude.{◌≡◌, ◌↔◌, IsTrue, bytes_eq};
 ghost use Rattle.std.specs.Str.{chars};
-ghost use Rattle.urlpattern_generate.specs.Manners.{given_groups, given_text, given_view, is_given_for};
+ghost use Rattle.urlpattern_generate.specs.Manners.{given_groups, text_given, given_view, is_given_for};
 ghost use Rattle.urlpattern_syntax.specs.Text.{option_text};
 
 use urlpattern_syntax::eight::ComponentName;
@@ -16,7 +16,7 @@ pub(crate) fn given_text<'g>(
     component: ComponentName,
     name: &str,
 ) -> Option<&'g str>
-    ensures { option_text result ≡ given_text (given_groups groups.now) component (chars name.now) }
+    ensures { option_text result ≡ text_given (given_groups groups.now) component (chars name.now) }
 {
     for given in groups {
         if is_given_for(component, name, given) {

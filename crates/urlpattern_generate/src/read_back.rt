@@ -3,8 +3,8 @@
 ghost use Rattle.std.specs.Prelude.{◌≡◌, ◌↔◌, Some, IfOk, IsTrue, MatchBool, map};
 ghost use Rattle.std.specs.Str.{chars};
 ghost use Rattle.urlpattern_core.specs.{CaptureTexts.captures_view, Matchers.matcher_view};
-ghost use Rattle.urlpattern_generate.specs.Generating.{IsNotCanonical, IsReadBack, IsReadOtherwise};
-ghost use Rattle.urlpattern_generate.specs.Writers.{manner_by};
+ghost use Rattle.urlpattern_generate.specs.Generating.{IsNotCanonical, IsReadWith, IsReadOtherwise};
+ghost use Rattle.urlpattern_generate.specs.Writers.{manner_of_writer};
 ghost use Rattle.urlpattern_links.specs.Refused.{given_captures};
 ghost use Rattle.urlpattern_syntax.specs.Text.{option_text};
 
@@ -24,8 +24,8 @@ impl Writer<'_> {
         captures: &[Option<String>],
     ) -> Result<bool, AllocError>
         ensures { IfOk result (λ back. MatchBool back
-            (IsReadBack R.answer (matcher_view matcher.now) (manner_by self.now).canonical (chars text.now) (given_captures captures.now))
-            (IsReadOtherwise R.answer (matcher_view matcher.now) (manner_by self.now).canonical text.now (given_captures captures.now))) }
+            (IsReadWith R.answer (matcher_view matcher.now) (manner_of_writer self.now).canonical (chars text.now) (given_captures captures.now))
+            (IsReadOtherwise R.answer (matcher_view matcher.now) (manner_of_writer self.now).canonical text.now (given_captures captures.now))) }
     {
         let Ok(found) = matcher.matches(self.alloc, text) else {
             return Err(AllocError);
@@ -39,8 +39,8 @@ impl Writer<'_> {
     /// Whether a text is canonical.
     fn is_canonical(&self, text: &str) -> Result<bool, AllocError>
         ensures { IfOk result (λ is. MatchBool is
-            ((manner_by self.now).canonical (chars text.now) ≡ Ok (chars text.now))
-            (IsNotCanonical (manner_by self.now).canonical text.now)) }
+            ((manner_of_writer self.now).canonical (chars text.now) ≡ Ok (chars text.now))
+            (IsNotCanonical (manner_of_writer self.now).canonical text.now)) }
     {
         match self.canonical(text) {
             Ok(value) => Ok(is_same_text(&value, text)),

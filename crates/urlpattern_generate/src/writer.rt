@@ -4,7 +4,7 @@ ghost use Rattle.std.specs.Prelude.{◌≡◌, IfErr, IfOk, length, codes};
 ghost use Rattle.std.specs.Str.{chars};
 ghost use Rattle.urlpattern_canonical.specs.Canonical.{IsAnswer};
 ghost use Rattle.urlpattern_generate.specs.Manners.{IsUnchanged, begins_ipv6, unchanged};
-ghost use Rattle.urlpattern_generate.specs.Writers.{IsPatternError, ReportsPattern, manner_by};
+ghost use Rattle.urlpattern_generate.specs.Writers.{IsPatternError, ReportsPattern, manner_of_writer};
 ghost use Rattle.urlpattern_syntax.specs.{Errors.OnlyOutOfMemory, Options.options_view, Parts.parts_view};
 ghost use Rattle.urlpattern_syntax.specs.Reading.{IsReadAs};
 
@@ -32,7 +32,7 @@ impl Writer<'_> {
     ///
     /// The error is that memory ran out.
     pub(crate) fn options(&self) -> Result<Options, Error>
-        ensures ok { IfOk result (λ options. options_view options ≡ (manner_by self.now).options) }
+        ensures ok { IfOk result (λ options. options_view options ≡ (manner_of_writer self.now).options) }
         ensures memory { OnlyOutOfMemory result }
     {
         match self.component {
@@ -46,7 +46,7 @@ impl Writer<'_> {
     ///
     /// The error is the refusal of `url`, or that memory ran out.
     pub(crate) fn canonical(&self, text: &str) -> Result<String, Error>
-        ensures { IsAnswer ((manner_by self.now).canonical (chars text.now)) (length text.now) result }
+        ensures { IsAnswer ((manner_of_writer self.now).canonical (chars text.now)) (length text.now) result }
     {
         let values = &self.canonicalizer;
         match self.component {

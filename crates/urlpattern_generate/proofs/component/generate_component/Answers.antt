@@ -3,7 +3,7 @@ use Rattle.std.specs.Prelude.{IfErr}
 use Rattle.std.specs.Str.{chars}
 use Rattle.urlpattern_core.specs.Matchers.{matcher_view}
 use Rattle.urlpattern_generate.specs.Generating.{RefusesGroups}
-use Rattle.urlpattern_generate.specs.Manners.{begins_ipv6, canonical_for, given_groups, given_text, options_for}
+use Rattle.urlpattern_generate.specs.Manners.{begins_ipv6, canonical_for, given_groups, text_given, options_for}
 use Rattle.urlpattern_syntax.specs.Text.{text_of}
 use Rattle.urlpattern_generate.proofs.component.generate_component.Goals as goal
 
@@ -17,6 +17,6 @@ returns-clause-refused g c =
     (record {
       options = options_for name hierarchical;
       canonical = canonical_for name hierarchical is_ipv6;
-      given = given_text (given_groups c.args.groups.now) name;
+      given = text_given (given_groups c.args.groups.now) name;
     }) pattern))
     (c.begins_ipv6.ensures ∙ ap (λ bytes. begins_ipv6 (chars bytes)) c.deref.ensures) c.text.ensures.refused
