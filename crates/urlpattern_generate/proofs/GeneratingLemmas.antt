@@ -1,0 +1,51 @@
+-- Why a component has no text, by the steps in which it is written.
+use Rattle.std.proofs.Common.{◌≡◌, ℕ, List, inl, inr, refl, subst, Option}
+use Rattle.urlpattern_generate.specs.Generating.{RefusesGroups}
+use Rattle.urlpattern_generate.specs.Manners.{WritingManner, unchanged}
+use Rattle.urlpattern_generate.specs.Writers.{IsPatternError, ReportsPattern}
+use Rattle.urlpattern_generate.specs.declared.error.GenerateError.{GenerateError}
+use Rattle.urlpattern_generate.specs.declared.error.GenerateError.TheVariants.{Missing, NotCaptured, ReadOtherwise, OutOfMemory}
+use Rattle.urlpattern_meaning.specs.Matching.{MatcherView}
+use Rattle.urlpattern_meaning.specs.PartMeaning.{Captures}
+use Rattle.urlpattern_syntax.specs.declared.eight.ComponentName.{ComponentName}
+use Rattle.urlpattern_syntax.specs.declared.error.Error.{Error}
+use Rattle.urlpattern_syntax.specs.declared.error.Error.TheVariants as errors
+use Rattle.urlpattern_syntax.specs.declared.error.ParserError.TheVariants as parser_errors
+use Rattle.urlpattern_syntax.specs.Errors.{ErrorView, ErrorView as views, MemoryOr, error_view}
+use Rattle.urlpattern_syntax.specs.Options.{OptionsView}
+use Rattle.urlpattern_meaning.proofs.Encodings.{Weakens, refuses_weaker}
+use Rattle.urlpattern_syntax.specs.Reading.{Encoding, Refuses}
+
+pub pattern_refused : {E : Type 0} (answer : E → List ℕ → Option Captures) (matcher : MatcherView E) (component : ComponentName) (manner : WritingManner) (pattern : List ℕ) (options : OptionsView) (error : GenerateError) →
+    options ≡ manner.options → ReportsPattern component options pattern error → RefusesGroups answer matcher component manner pattern error
+pattern_refused answer matcher component manner pattern options (Missing of name) e h = absurd h
+pattern_refused answer matcher component manner pattern options (NotCaptured of name) e h = absurd h
+pattern_refused answer matcher component manner pattern options (ReadOtherwise of) e h =
+    let reported = subst (λ (o : OptionsView). ReportsPattern component o pattern (ReadOtherwise of)) e h in (reported.0, inl reported.1)
+pattern_refused answer matcher component manner pattern options OutOfMemory e h = tt
+
+-- ---- what the parser reports
+
+-- an error that is seen as out of memory is that
+seen_as_memory : (error : Error) → error_view error ≡ views.OutOfMemory → error ≡ errors.OutOfMemory
+seen_as_memory errors.OutOfMemory e = refl
+seen_as_memory errors.BaseUrlRequired e = absurd cc
+seen_as_memory errors.BaseUrlWithInit e = absurd cc
+seen_as_memory (errors.Tokenizer fault place) e = absurd cc
+seen_as_memory (errors.Parser (parser_errors.ExpectedToken expected found value)) e = absurd cc
+seen_as_memory (errors.Parser (parser_errors.DuplicateName name)) e = absurd cc
+seen_as_memory (errors.Url reason) e = absurd cc
+seen_as_memory (errors.RegExp unit) e = absurd cc
+
+-- an error that is not out of memory is the other
+is_other : (Is : ErrorView → Type 0) (error : Error) → ¬ (error ≡ errors.OutOfMemory) → MemoryOr Is error → Is (error_view error)
+is_other Is error other (inl memory) = absurd (other (seen_as_memory error memory))
+is_other Is error other (inr is) = is
+
+pub pattern_reported : (component : ComponentName) (strong : Encoding) → Weakens strong unchanged → (options : OptionsView) (pattern : List ℕ) (error : Error) (reported : GenerateError) →
+    IsPatternError component error reported → MemoryOr (Refuses pattern options strong) error → ReportsPattern component options pattern reported
+pattern_reported component strong weaker options pattern error (Missing of name) is h = absurd is
+pattern_reported component strong weaker options pattern error (NotCaptured of name) is h = absurd is
+pattern_reported component strong weaker options pattern error (ReadOtherwise of) is h =
+    (is.0, (error_view error, refuses_weaker strong unchanged weaker pattern options (error_view error) (is_other (Refuses pattern options strong) error is.1 h)))
+pattern_reported component strong weaker options pattern error OutOfMemory is h = tt

@@ -1,0 +1,4 @@
+pub mod Asked
+pub mod Generating
+pub mod Manners
+pub mod Writers

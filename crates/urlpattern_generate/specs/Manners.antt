@@ -1,0 +1,83 @@
+-- How the text of a component is written: the groups that are given, the options of its pattern, and canonical values.
+use Rattle.std.specs.Prelude.{◌≡◌, ◌&&◌, ◌==◌, ℕ, Bool, List, [], ◌∷◌, bytes_eq, codes, map, slice_index, Option, Some, None, Result, Ok, Err, String, string_bytes, if◌then◌else◌}
+use Rattle.std.specs.{Borrow.Bor, Str.chars}
+use Rattle.std.specs.declared.alloc.Global.{Global}
+use Rattle.url.specs.Parser.{Parsed}
+use Rattle.urlpattern_canonical.specs.Canonical.{canonical_hash, canonical_hostname, canonical_ipv6_hostname, canonical_opaque_pathname, canonical_password, canonical_pathname, canonical_port, canonical_protocol, canonical_search, canonical_username}
+use Rattle.urlpattern_syntax.specs.declared.eight.ComponentName.{ComponentName}
+use Rattle.urlpattern_syntax.specs.declared.eight.ComponentName.TheVariants.{Protocol, Username, Password, Hostname, Port, Pathname, Search, Hash}
+use Rattle.urlpattern_syntax.specs.declared.error.Error.{Error}
+use Rattle.urlpattern_syntax.specs.declared.error.Error.TheVariants as errors
+use Rattle.urlpattern_syntax.specs.Eight.{name_text}
+use Rattle.urlpattern_syntax.specs.Options.{OptionsView, default_options, hostname_options, pathname_options}
+use Rattle.urlpattern_syntax.specs.Reading.{Encoding, encoding_of}
+use Rattle.urlpattern_syntax.specs.Text.{begins_with}
+
+-- ---- the groups that are given
+
+-- The text that is given for the group of a name in a component.
+pub record GivenView : Type 0 where
+  pub component : ComponentName
+  pub name : List ℕ
+  pub text : List ℕ
+
+abbrev pub given_view : (ComponentName × Bor (List ℕ) × Bor (List ℕ)) → GivenView
+given_view given = record { component = given.0; name = chars given.1.now; text = chars given.2.now }
+
+abbrev pub given_groups : List (ComponentName × Bor (List ℕ) × Bor (List ℕ)) → List GivenView
+given_groups groups = map given_view groups
+
+-- it is given for this group
+abbrev pub is_given_for : ComponentName → (name : List ℕ) → GivenView → Bool
+is_given_for component name given = bytes_eq (name_text given.component) (name_text component) && bytes_eq given.name name
+
+-- the first text that is given for a group, or none
+abbrev pub text_given : List GivenView → ComponentName → (name : List ℕ) → Option (List ℕ)
+text_given [] component name = None
+text_given (given ∷ others) component name = if is_given_for component name given then Some given.text else text_given others component name
+
+-- ---- a component
+
+-- The options under which its pattern text is read, the canonical form of its values, and the texts that are given for its groups.
+pub record WritingManner : Type 0 where
+  pub options : OptionsView
+  pub canonical : List ℕ → Parsed (List ℕ)
+  pub given : (name : List ℕ) → Option (List ℕ)
+
+abbrev pub options_for : ComponentName → (hierarchical : Bool) → OptionsView
+options_for Hostname hierarchical = hostname_options
+options_for Pathname hierarchical = if hierarchical then pathname_options else default_options
+options_for component hierarchical = default_options
+
+-- the canonical form of a value, where the pathname is hierarchical or not and the hostname is an IPv6 address or not
+abbrev pub canonical_for : ComponentName → (hierarchical is_ipv6 : Bool) → List ℕ → Parsed (List ℕ)
+canonical_for Protocol hierarchical is_ipv6 text = canonical_protocol text
+canonical_for Username hierarchical is_ipv6 text = canonical_username text
+canonical_for Password hierarchical is_ipv6 text = canonical_password text
+canonical_for Hostname hierarchical is_ipv6 text = if is_ipv6 then canonical_ipv6_hostname text else canonical_hostname text
+canonical_for Port hierarchical is_ipv6 text = canonical_port None text
+canonical_for Pathname hierarchical is_ipv6 text = if hierarchical then canonical_pathname text else canonical_opaque_pathname text
+canonical_for Search hierarchical is_ipv6 text = canonical_search text
+canonical_for Hash hierarchical is_ipv6 text = canonical_hash text
+
+-- the pattern text begins as that of an IPv6 address does
+abbrev pub begins_ipv6 : (pattern : List ℕ) → Bool
+begins_ipv6 pattern = begins_with (λ c. c == slice_index (codes "[") 0) pattern
+
+-- the manner in which a component of this pattern text is written
+abbrev pub manner_for : ComponentName → (hierarchical : Bool) → (pattern : List ℕ) → List GivenView → WritingManner
+manner_for component hierarchical pattern groups = record {
+  options = options_for component hierarchical;
+  canonical = canonical_for component hierarchical (begins_ipv6 pattern);
+  given = text_given groups component;
+}
+
+-- ---- the texts of a pattern that is read again, which are canonical already
+
+-- the text as it is, or memory ran out
+abbrev pub IsUnchanged : (bytes : List ℕ) → Result (String Global) Error → Type 0
+IsUnchanged bytes (Ok copy) = string_bytes copy ≡ bytes
+IsUnchanged bytes (Err error) = error ≡ errors.OutOfMemory
+
+abbrev pub unchanged : Encoding
+unchanged = encoding_of IsUnchanged

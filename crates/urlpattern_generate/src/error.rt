@@ -1,0 +1,28 @@
+//! Why a pattern has no text with the groups that are given.
+
+ghost use Rattle.std.specs.Prelude.{◌≡◌};
+ghost use Rattle.urlpattern_generate.specs.declared.error.GenerateError.TheVariants as errors;
+
+use std::alloc::AllocError;
+use urlpattern_syntax::eight::ComponentName;
+
+/// Why a pattern has no text with the groups that are given.
+#[derive(Debug, PartialEq, Eq, Drop)]
+pub enum GenerateError {
+    /// The group of this name is not given, and may not be left out.
+    Missing(ComponentName, String),
+    /// The group of this name may not capture what it is given.
+    NotCaptured(ComponentName, String),
+    /// The text of the component would be read with other groups, or is not canonical, so that no URL has it.
+    ReadOtherwise(ComponentName),
+    /// The allocator had no memory.
+    OutOfMemory,
+}
+
+impl From<AllocError> for GenerateError {
+    ghost from_gives = { λ _ error. error ≡ errors.OutOfMemory };
+
+    fn from(_error: AllocError) -> GenerateError {
+        GenerateError::OutOfMemory
+    }
+}

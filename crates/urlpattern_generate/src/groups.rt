@@ -1,0 +1,42 @@
+//! The groups that are given.
+
+ghost use Rattle.std.specs.Prelude.{◌≡◌, ◌↔◌, IsTrue, bytes_eq};
+ghost use Rattle.std.specs.Str.{chars};
+ghost use Rattle.urlpattern_generate.specs.Manners.{given_groups, text_given, given_view, is_given_for};
+ghost use Rattle.urlpattern_syntax.specs.Text.{option_text};
+
+use urlpattern_syntax::eight::ComponentName;
+
+/// The text that is given for a group: the component, the name of the group, and the text.
+pub type GivenGroup<'g> = (ComponentName, &'g str, &'g str);
+
+/// The first text that is given for the group of a name. `None`: there is none.
+pub(crate) fn given_text<'g>(
+    groups: &[GivenGroup<'g>],
+    component: ComponentName,
+    name: &str,
+) -> Option<&'g str>
+    ensures { option_text result ≡ text_given (given_groups groups.now) component (chars name.now) }
+{
+    for given in groups {
+        if is_given_for(component, name, given) {
+            return Some(given.2);
+        }
+    }
+    None
+}
+
+/// Whether a text is given for this group.
+fn is_given_for(component: ComponentName, name: &str, given: &GivenGroup<'_>) -> bool
+    ensures { result ≡ is_given_for component (chars name.now) (given_view given.now) }
+{
+    given.0.as_str() == component.as_str() && is_same_text(given.1, name)
+}
+
+/// Whether two texts are the same.
+pub(crate) fn is_same_text(text: &str, other: &str) -> bool
+    ensures test { result ≡ bytes_eq (chars text.now) (chars other.now) }
+    ensures same { IsTrue result ↔ (chars text.now ≡ chars other.now) }
+{
+    text == other
+}

@@ -1,0 +1,15 @@
+//! The text of a component whose groups capture what is given.
+#![tactic(auto)]
+
+mod captures;
+mod component;
+mod error;
+mod groups;
+mod read_back;
+#[cfg(test)]
+mod tests;
+mod writer;
+
+pub use component::generate_component;
+pub use error::GenerateError;
+pub use groups::GivenGroup;

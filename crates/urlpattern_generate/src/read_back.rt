@@ -1,0 +1,87 @@
+//! Whether a text is read back as it was meant.
+
+ghost use Rattle.std.specs.Prelude.{◌≡◌, ◌↔◌, Some, IfOk, IsTrue, MatchBool, map};
+ghost use Rattle.std.specs.Str.{chars};
+ghost use Rattle.urlpattern_core.specs.{CaptureTexts.captures_view, Matchers.matcher_view};
+ghost use Rattle.urlpattern_generate.specs.Generating.{IsNotCanonical, IsReadWith, IsReadOtherwise};
+ghost use Rattle.urlpattern_generate.specs.Writers.{manner_of_writer};
+ghost use Rattle.urlpattern_links.specs.Refused.{given_captures};
+ghost use Rattle.urlpattern_syntax.specs.Text.{option_text};
+
+use crate::groups::is_same_text;
+use crate::writer::Writer;
+use std::alloc::AllocError;
+use urlpattern_core::matcher::Matcher;
+use urlpattern_core::regexp::RegExp;
+use urlpattern_syntax::Error;
+
+impl Writer<'_> {
+    /// Whether a matcher takes a text with these captures, and the text is canonical.
+    pub(crate) fn is_read_back<R: RegExp>(
+        &self,
+        matcher: &Matcher<R>,
+        text: &str,
+        captures: &[Option<String>],
+    ) -> Result<bool, AllocError>
+        ensures { IfOk result (λ back. MatchBool back
+            (IsReadWith R.answer (matcher_view matcher.now) (manner_of_writer self.now).canonical (chars text.now) (given_captures captures.now))
+            (IsReadOtherwise R.answer (matcher_view matcher.now) (manner_of_writer self.now).canonical text.now (given_captures captures.now))) }
+    {
+        let Ok(found) = matcher.matches(self.alloc, text) else {
+            return Err(AllocError);
+        };
+        if !are_captures(&found, captures) {
+            return Ok(false);
+        }
+        self.is_canonical(text)
+    }
+
+    /// Whether a text is canonical.
+    fn is_canonical(&self, text: &str) -> Result<bool, AllocError>
+        ensures { IfOk result (λ is. MatchBool is
+            ((manner_of_writer self.now).canonical (chars text.now) ≡ Ok (chars text.now))
+            (IsNotCanonical (manner_of_writer self.now).canonical text.now)) }
+    {
+        match self.canonical(text) {
+            Ok(value) => Ok(is_same_text(&value, text)),
+            Err(Error::OutOfMemory) => Err(AllocError),
+            Err(_) => Ok(false),
+        }
+    }
+}
+
+/// Whether a matcher found these captures.
+fn are_captures(found: &Option<Vec<Option<&str>>>, captures: &[Option<String>]) -> bool
+    ensures { IsTrue result ↔ (captures_view found.now ≡ Some (given_captures captures.now)) }
+{
+    match found {
+        Some(found) => are_same(found, captures),
+        None => false,
+    }
+}
+
+/// Whether two lists of captures are the same.
+fn are_same(found: &[Option<&str>], captures: &[Option<String>]) -> bool
+    ensures { IsTrue result ↔ (map option_text found.now ≡ given_captures captures.now) }
+{
+    if found.len() != captures.len() {
+        return false;
+    }
+    for i in 0..found.len() {
+        if !is_same(found[i], captures[i].as_deref()) {
+            return false;
+        }
+    }
+    true
+}
+
+/// Whether two captures are the same.
+fn is_same(capture: Option<&str>, other: Option<&str>) -> bool
+    ensures { IsTrue result ↔ (option_text capture.entry ≡ option_text other.entry) }
+{
+    match (capture, other) {
+        (Some(text), Some(other)) => is_same_text(text, other),
+        (None, None) => true,
+        _ => false,
+    }
+}
