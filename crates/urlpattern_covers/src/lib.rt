@@ -11,8 +11,6 @@ mod making;
 mod parts;
 mod search;
 mod states;
-#[cfg(test)]
-mod tests;
 
 pub use automaton::{Automaton, Edge, Test};
 pub use making::MOST_STATES;

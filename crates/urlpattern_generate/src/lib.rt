@@ -6,8 +6,6 @@ mod component;
 mod error;
 mod groups;
 mod read_back;
-#[cfg(test)]
-mod tests;
 mod writer;
 
 pub use component::generate_component;

@@ -4,8 +4,6 @@
 mod error;
 pub mod laws;
 mod pieces;
-#[cfg(test)]
-mod tests;
 mod text;
 
 pub use error::LinkError;

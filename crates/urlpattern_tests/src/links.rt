@@ -3,8 +3,8 @@
 ghost use Rattle.std.specs.Prelude.{◌≡◌, IfOk};
 ghost use Rattle.urlpattern_syntax.specs.declared.parser.PartType.{PartType};
 
-use crate::{LinkError, text_of_parts};
 use std::alloc::{AllocError, Global};
+use urlpattern_links::{LinkError, text_of_parts};
 use urlpattern_syntax::parser::{Options, Part, PartModifier, PartType};
 
 /// A segment after a slash, `/:id`.

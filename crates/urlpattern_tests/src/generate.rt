@@ -1,9 +1,9 @@
 //! Texts of components whose groups capture what is given.
 
-use crate::{GenerateError, GivenGroup, generate_component};
 use regex::Regex;
-use std::alloc::Global;
+use std::alloc::{AllocError, Global};
 use urlpattern_core::component::Component;
+use urlpattern_generate::{GenerateError, GivenGroup, generate_component};
 use urlpattern_syntax::Error;
 use urlpattern_syntax::eight::ComponentName;
 use urlpattern_syntax::parser::Options;
@@ -32,7 +32,7 @@ fn generated(
 
 /// Patterns of a pathname, texts for the groups `a` and `b`, and the text or a word for the error.
 #[test]
-fn texts_are_generated_or_refused(rt: HostRuntime) {
+fn texts_are_generated_or_refused(rt: HostRuntime) -> Result<(), AllocError> {
     let cases = [
         ("/:a/:b", "x", "y", "/x/y"),
         ("/:a-:b", "x", "y", "/x-y"),
@@ -64,7 +64,8 @@ fn texts_are_generated_or_refused(rt: HostRuntime) {
                 assert_eq!(rt; (expected, name.as_str()), ("not captured a", "a"));
             }
             Err(GenerateError::ReadOtherwise(_)) => assert_eq!(rt; expected, "read otherwise"),
-            Err(GenerateError::OutOfMemory) => return,
+            Err(GenerateError::OutOfMemory) => return Err(AllocError),
         }
     }
+    Ok(())
 }

@@ -1,9 +1,9 @@
 //! Pairs of pathname patterns, with how long the shortest text is that only the asked one means, and the shortest that both mean.
 
-use crate::{Covering, Overlap, covers, overlaps};
 use std::alloc::Global;
 use std::process::Abort;
 use std::test::Fail;
+use urlpattern_covers::{Covering, Overlap, covers, overlaps};
 use urlpattern_syntax::error::Error;
 use urlpattern_syntax::parser::{Options, Part, parse_pattern_string};
 

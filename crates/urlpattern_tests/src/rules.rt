@@ -1,12 +1,12 @@
 //! Patterns of paths, compared.
 
-use crate::{
-    ComponentParts, PatternCovering, PatternOverlap, PatternParts, Shadowed, first_covering,
-    unreachable,
-};
 use std::alloc::Global;
 use std::cmp::Ordering;
 use std::test::Fail;
+use urlpattern_rules::{
+    ComponentParts, PatternCovering, PatternOverlap, PatternParts, Shadowed, first_covering,
+    unreachable,
+};
 use urlpattern_syntax::eight::{ComponentName, Eight};
 use urlpattern_syntax::error::Error;
 use urlpattern_syntax::parser::{Options, parse_pattern_string};
