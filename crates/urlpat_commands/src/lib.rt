@@ -3,7 +3,10 @@
 #![tactic(auto)]
 
 mod command;
+mod filter;
 mod first;
+mod help;
 mod matching;
+mod notes;
 
 pub use command::{DONE, FAILED, Failure, NO_MATCH, fail, run};

@@ -1,0 +1,12 @@
+-- The lines that were read so far are answered: answers to the others complete those to all.
+use Rattle.std.proofs.Common.{◌≡◌, ℕ, ◌≤◌, List, IfSome, Some}
+use Rattle.std.specs.Io.KnownBytes.{Appends}
+use Rattle.urlpat_lines.proofs.AnswerLemmas.{Completes}
+use Rattle.urlpat_lines.proofs.answers.answer_lines.Given as goal
+
+abbrev pub invariant-lines : goal.invariant-lines
+invariant-lines g l =
+    (l.tally.selected ≤ l.number)
+    × IfSome (g.In.Read.remaining l.initial.input) (λ text. (rest so_far : List ℕ) × (g.In.Read.remaining l.input ≡ Some rest)
+    × Appends (g.Out.Write.contents l.initial.out) (g.Out.Write.contents l.out) so_far
+    × Completes (g.R.Rule.Answers l.rule) text rest l.tally.selected so_far)

@@ -1,0 +1,9 @@
+-- The bytes that were read so far are a part of the first line, of which as much is kept as may be.
+use Rattle.std.proofs.Common.{◌≢◌, ℕ, List, All}
+use Rattle.std.specs.Io.KnownBytes.{Consumes}
+use Rattle.urlpat_lines.specs.Lines.{IsKept}
+use Rattle.urlpat_lines.proofs.reading.read_line.Given as goal
+
+abbrev pub invariant-fills : goal.invariant-fills
+invariant-fills g l =
+    (part : List ℕ) × Consumes (g.In.Read.remaining l.initial.input) (g.In.Read.remaining l.input) part × All (λ byte. byte ≢ 10) part × IsKept l.line.items part

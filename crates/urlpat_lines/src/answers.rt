@@ -1,0 +1,161 @@
+//! The answers to the lines of a reader.
+ghost use Rattle.std.specs.Prelude.{◌≡◌, ◌+◌, ◌<◌, ◌^◌, ℕ, List, IfOk, IfSome, OnOk};
+ghost use Rattle.std.specs.Io.KnownBytes.{Appends};
+ghost use Rattle.urlpat_lines.specs.Answers.{AppendsAnswer, AppendsAnswerTo, WritesAnswers, selected_by};
+ghost use Rattle.urlpat_lines.specs.declared.answers.Verdict.{Verdict};
+
+use crate::reading::{LONGEST, read_line, without_end};
+use std::alloc::{AllocError, Global};
+use std::io::{BufRead, Write};
+use std::{io, str};
+
+/// What is made of a line.
+#[derive(Debug, Clone, Copy, PartialEq, Eq)]
+pub enum Verdict {
+    /// It is one of those that are looked for.
+    Selected,
+    /// It is none of them.
+    Passed,
+    /// It is none of them, as it is no URL.
+    NoUrl,
+    /// It is not UTF-8, or too long.
+    Refused,
+}
+
+/// A rule that answers a line.
+pub trait Rule {
+    ghost Answers: { Self → (text line : List ℕ) → Verdict → (written : List ℕ) → Type 0 };
+
+    /// Answers a line, and appends what is to be written. `text` is the line without its end.
+    ///
+    /// The error is that memory ran out.
+    fn answer(&self, text: &str, line: &[u8], written: &mut Vec<u8>) -> Result<Verdict, AllocError>
+        ensures { IfOk result (AppendsAnswer (Answers self.now) text.now line.now written.old.items written.new.items) };
+}
+
+/// How many lines there are of each kind.
+#[derive(Debug, Clone, Copy, PartialEq, Eq)]
+pub struct Tally {
+    /// Those that are looked for.
+    pub selected: u64,
+    /// Those that are no URL.
+    pub no_url: u64,
+    /// Those that are not UTF-8, or too long.
+    pub refused: u64,
+}
+
+/// Why lines are answered no further.
+#[derive(Debug, Drop)]
+pub enum Fault {
+    /// The reader failed.
+    Read,
+    /// The writer failed.
+    Write,
+    /// Memory ran out.
+    OutOfMemory,
+}
+
+impl From<io::Error> for Fault {
+    fn from(error: io::Error) -> Fault {
+        match error.kind() {
+            io::ErrorKind::OutOfMemory => Fault::OutOfMemory,
+            _ => Fault::Read,
+        }
+    }
+}
+
+impl From<AllocError> for Fault {
+    fn from(_error: AllocError) -> Fault {
+        Fault::OutOfMemory
+    }
+}
+
+/// Answers the lines of a reader by a rule, and writes what is to be written for each. A line that is refused is reported to `err`,
+/// with its number.
+pub fn answer_lines<In: BufRead, Out: Write, Err: Write, R: Rule>(
+    alloc: Global,
+    rule: &R,
+    input: &mut In,
+    out: &mut Out,
+    err: &mut Err,
+) -> Result<Tally, Fault>
+    ensures { IfOk result (λ tally. IfSome (In.remaining input.old) (λ text. WritesAnswers (R.Answers rule.now) text tally.selected (Out.contents out.old) (Out.contents out.new))) }
+{
+    let mut tally = Tally {
+        selected: 0,
+        no_url: 0,
+        refused: 0,
+    };
+    let mut line = Vec::new(alloc);
+    let mut written = Vec::new(alloc);
+    'lines: for number in 0..u64::MAX {
+        if !read_line(input, &mut line)? {
+            return Ok(tally);
+        }
+        written.clear();
+        let verdict = answer_line(rule, &line, &mut written)?;
+        write_piece(out, &written)?;
+        report(verdict, number, &line, err);
+        tally = counted(tally, verdict);
+    }
+    Err(Fault::Read)
+}
+
+/// Writes what is to be written for a line.
+fn write_piece<Out: Write>(out: &mut Out, piece: &[u8]) -> Result<(), Fault>
+    ensures { OnOk result (Appends (Out.contents out.old) (Out.contents out.new) piece.now) }
+{
+    match out.write_all(piece) {
+        Ok(()) => Ok(()),
+        Err(_) => Err(Fault::Write),
+    }
+}
+
+/// Answers a line by a rule, and appends what is to be written for it.
+///
+/// The error is that memory ran out.
+fn answer_line<R: Rule>(rule: &R, line: &[u8], written: &mut Vec<u8>) -> Result<Verdict, AllocError>
+    ensures { IfOk result (AppendsAnswerTo (R.Answers rule.now) line.now written.old.items written.new.items) }
+{
+    if line.len() > LONGEST {
+        return Ok(Verdict::Refused);
+    }
+    match str::from_utf8(without_end(line)) {
+        Ok(text) => rule.answer(text, line, written),
+        Err(_) => Ok(Verdict::Refused),
+    }
+}
+
+/// Reports a line that is refused.
+fn report<Err: Write>(verdict: Verdict, number: u64, line: &[u8], err: &mut Err) {
+    if verdict == Verdict::Refused {
+        let number = number.saturating_add(1);
+        let _ = if line.len() > LONGEST {
+            writeln!(err, "line {number} is longer than {LONGEST} bytes")
+        } else {
+            writeln!(err, "line {number} is not UTF-8")
+        };
+    }
+}
+
+/// The tally after one more line.
+fn counted(tally: Tally, verdict: Verdict) -> Tally
+    requires { tally.selected + 1 < 2 ^ 64 }
+    ensures { result.selected ≡ tally.selected + selected_by verdict }
+{
+    match verdict {
+        Verdict::Selected => Tally {
+            selected: tally.selected + 1,
+            ..tally
+        },
+        Verdict::Passed => tally,
+        Verdict::NoUrl => Tally {
+            no_url: tally.no_url.saturating_add(1),
+            ..tally
+        },
+        Verdict::Refused => Tally {
+            refused: tally.refused.saturating_add(1),
+            ..tally
+        },
+    }
+}
