@@ -6,7 +6,7 @@ ghost use Rattle.urlpattern_diagnosis.specs.Places.{IsFaultMoved, IsPlaceOf};
 
 use crate::fault::Fault;
 use crate::place::Place;
-use crate::reason::reason_of;
+use crate::reason::{reason_before_search, reason_of};
 use crate::span::Span;
 use std::alloc::{AllocError, Global};
 use std::fmt;
@@ -70,7 +70,7 @@ impl Diagnosis {
         ensures within { IfOk result (λ diagnosis. IsFaultIn text.now diagnosis.fault) }
     {
         let fault = Fault::whole(text);
-        Self::of_fault(alloc, error, subject, text, fault)
+        Self::of_fault(alloc, error, subject, text, fault, false)
     }
 
     /// A part of a text has a fault, or the whole text is at fault if it does not have the part.
@@ -97,16 +97,18 @@ impl Diagnosis {
             Some(place) => place.moved(text, part, fault),
             None => Fault::whole(text),
         };
-        Self::of_fault(alloc, error, subject, text, moved)
+        let before_search = is_before_search(text, part, place);
+        Self::of_fault(alloc, error, subject, text, moved, before_search)
     }
 
-    /// A text has a fault.
+    /// A text has a fault, which may be in what is before a `?` that begins the search.
     fn of_fault(
         alloc: Global,
         error: Error,
         subject: Subject,
         text: &str,
         fault: Fault,
+        before_search: bool,
     ) -> Result<Self, AllocError>
         requires { IsFaultIn text.now fault }
         ensures error { IfOk result (λ diagnosis. diagnosis.error ≡ error) }
@@ -115,7 +117,7 @@ impl Diagnosis {
         ensures fault { IfOk result (λ diagnosis. diagnosis.fault ≡ fault) }
     {
         let part = &text[fault.span.start..fault.span.end];
-        let reason = reason_of(alloc, &error, part, subject.name())?;
+        let reason = full_reason(alloc, &error, part, subject, before_search)?;
         Ok(Diagnosis {
             error,
             subject,
@@ -124,6 +126,31 @@ impl Diagnosis {
             reason,
         })
     }
+}
+
+/// Why a part of a text is refused with this error.
+fn full_reason(
+    alloc: Global,
+    error: &Error,
+    part: &str,
+    subject: Subject,
+    before_search: bool,
+) -> Result<String, AllocError> {
+    let reason = reason_of(alloc, error, part, subject.name())?;
+    if before_search {
+        reason_before_search(alloc, error, reason)
+    } else {
+        Ok(reason)
+    }
+}
+
+/// Whether a `?` follows a part of a text.
+fn is_before_search(text: &str, part: &str, place: Option<Place>) -> bool {
+    let Some(Place { start, lead }) = place else {
+        return false;
+    };
+    let end = start.saturating_add(part.len().saturating_sub(lead));
+    text.as_bytes().get(end) == Some(&b'?')
 }
 
 /// Prints three lines: the reason, the text, and a line that marks the part at fault by `^` and the one before it that

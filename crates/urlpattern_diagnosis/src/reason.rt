@@ -2,6 +2,7 @@
 
 use regex_syntax::{Config, ErrorKind};
 use std::alloc::{AllocError, Global};
+use url::ParseError;
 use urlpattern_syntax::error::{Error, ParserError, RegexFault, TokenizerError};
 use urlpattern_syntax::tokenizer::TokenType;
 
@@ -30,9 +31,40 @@ pub fn reason_of(
         Error::Parser(ParserError::DuplicateName(name)) => {
             format!(in alloc; "the name `{name}` occurs twice: first here, and here")
         }
+        Error::Url(ParseError::RelativeUrlWithoutBase) => schemeless_reason(alloc, part, what),
         Error::Url(reason) => format!(in alloc; "`{part}` is no {what}: {reason}"),
         Error::RegExp(()) => expression_reason(alloc, part),
         Error::OutOfMemory => String::from_str(alloc, "out of memory"),
+    }
+}
+
+/// Why a text is no protocol, or no URL by itself.
+fn schemeless_reason(alloc: Global, part: &str, what: &str) -> Result<String, AllocError> {
+    if what == "protocol" {
+        format!(in alloc;
+            "`{part}` is no {what}: it begins with a letter, and has letters, digits, `+`, `-` and `.`"
+        )
+    } else {
+        format!(in alloc; "`{part}` is no {what}: begin it with a protocol, as `https://`")
+    }
+}
+
+/// The reason for an error before a `?` that begins the search, which is why what is open is not closed.
+///
+/// The error is that memory ran out.
+pub fn reason_before_search(
+    alloc: Global,
+    error: &Error,
+    reason: String,
+) -> Result<String, AllocError> {
+    match error {
+        Error::Tokenizer(TokenizerError::InvalidRegex(RegexFault::MissingClose), _)
+        | Error::Parser(ParserError::ExpectedToken(TokenType::Close, TokenType::End, _)) => {
+            let hinted = format!(in alloc; "{reason}; the `?` after it begins the search");
+            drop(reason);
+            hinted
+        }
+        _ => Ok(reason),
     }
 }
 
