@@ -14,7 +14,8 @@ use Rattle.urlpat_commands.specs.declared.command.Failure.{Failure}
 use Rattle.urlpat_commands.specs.declared.command.Failure.TheVariants as failures
 use Rattle.urlpat_commands.specs.declared.command.Printed.{Printed}
 use Rattle.urlpat_commands.specs.declared.command.TheConstants.{DONE, NO_MATCH}
-use Rattle.urlpat_commands.specs.Help.{IsHelp}
+use Rattle.urlpat_words.specs.Help.{IsHelp}
+pub use Rattle.urlpat_words.specs.Words.{words_view}
 use Rattle.urlpat_commands.specs.Kinds.{IsKind, NamesOptions}
 use Rattle.urlpat_commands.specs.Report.{component_lines, first_line, group_line}
 use Rattle.urlpattern.specs.Eight.{components, name_text}
@@ -43,10 +44,6 @@ use Rattle.urlpattern_syntax.specs.declared.error.Error.{Error}
 use Rattle.urlpattern_syntax.specs.declared.error.Error.TheVariants as errors
 use Rattle.urlpattern_syntax.specs.declared.parser.PartType.TheVariants.{Regexp}
 use Rattle.urlpattern_syntax.specs.declared.parser.RegexSyntax.TheVariants.{Rust}
-
--- the bytes of each word
-abbrev pub words_view : List (String Global) → List (List ℕ)
-words_view words = map (λ word. string_bytes word) words
 
 -- ---- what a component is compiled to
 

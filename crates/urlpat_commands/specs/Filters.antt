@@ -4,13 +4,13 @@ use Rattle.std.specs.Io.KnownBytes.{Appends}
 use Rattle.std.specs.Str.{chars}
 use Rattle.url.specs.Parts.{Parts}
 use Rattle.urlpat_commands.specs.Answers.{IsPatternOf, IsUnmatchedBy, IsUrlOf, Prints, base_of, group_bytes}
-use Rattle.urlpat_commands.specs.declared.filter.Query.{Query}
-use Rattle.urlpat_commands.specs.declared.filter.Shape.{Shape}
-use Rattle.urlpat_commands.specs.declared.filter.Shape.TheVariants as shapes
+use Rattle.urlpat_words.specs.declared.query.Query.{Query}
+use Rattle.urlpat_words.specs.declared.query.Shape.{Shape}
+use Rattle.urlpat_words.specs.declared.query.Shape.TheVariants as shapes
 use Rattle.urlpat_lines.specs.Answers.{AreAnswersTo, lines_of}
+use Rattle.urlpat_words.specs.Queries.{AreFilterWords, IsQueryOf}
 use Rattle.urlpat_lines.specs.declared.answers.Verdict.{Verdict}
 use Rattle.urlpat_lines.specs.declared.answers.Verdict.TheVariants as verdicts
-use Rattle.urlpattern.specs.Eight.{name_text}
 use Rattle.urlpattern.specs.Match.{IsMatch, ResultView}
 use Rattle.urlpattern.specs.Patterns.{PatternView}
 use Rattle.urlpattern_engine.specs.PatternRegexps.{pattern_answer}
@@ -19,31 +19,6 @@ use Rattle.urlpattern_init.specs.declared.init.UrlPatternMatchInput.TheVariants 
 use Rattle.urlpattern_syntax.specs.declared.eight.ComponentName.{ComponentName}
 
 -- ---- the words
-
--- the word is the name of a component, a dot and the name of a group
-abbrev pub NamesGroup : (word : List ℕ) → Bool × Shape → Type 0
-NamesGroup word (inverted, shapes.Group component name) = (inverted ≡ false) × (word ≡ name_text component ++ codes "." ++ name.now)
-NamesGroup word asked = ⊥
-
--- the words after the base ask whether lines that do not match are looked for, and for what is printed of a line
-abbrev pub IsAskedBy : (words : List (List ℕ)) → Bool × Shape → Type 0
-IsAskedBy [] asked = asked ≡ (false, shapes.Line)
-IsAskedBy (flag ∷ []) asked =
-    ((flag ≡ codes "--not") × (asked ≡ (true, shapes.Line))) ⊎ ((flag ≡ codes "--count") × (asked ≡ (false, shapes.Count)))
-IsAskedBy (first ∷ second ∷ []) asked =
-    ((first ≡ codes "--not") × (second ≡ codes "--count") × (asked ≡ (true, shapes.Count)))
-    ⊎ ((first ≡ codes "--group") × NamesGroup second asked)
-IsAskedBy words asked = ⊥
-
--- the words after `filter` ask for this
-abbrev pub IsQueryOf : (words : List (List ℕ)) → Query → Type 0
-IsQueryOf (pattern ∷ base ∷ flags) query =
-    (query.pattern.now ≡ pattern) × (query.base.now ≡ base) × IsAskedBy flags (query.inverted, query.shape)
-IsQueryOf words query = ⊥
-
--- the words are `filter` and these
-abbrev pub AreFilterWords : (words rest : List (List ℕ)) → Type 0
-AreFilterWords words rest = words ≡ codes "filter" ∷ rest
 
 abbrev pub AskToFilter : (words : List (List ℕ)) → Type 0
 AskToFilter words = (rest : List (List ℕ)) × AreFilterWords words rest

@@ -1,6 +1,5 @@
 pub mod Answers
 pub mod Filters
-pub mod Help
 pub mod Kinds
 pub mod Notes
 pub mod Report

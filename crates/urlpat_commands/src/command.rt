@@ -4,7 +4,7 @@ ghost use Rattle.std.specs.Io.KnownBytes.{Appends};
 ghost use Rattle.std.specs.Prelude.{◌≡◌, ◌≢◌, ◌⊎◌, map, string_bytes, IfErr, IfOk, IfSome, OnOk, Ok, None};
 ghost use Rattle.urlpat_commands.specs.Answers.{FailsComponent, FailsWhere, AreAnswered, IsCommandAnswer, IsComponentAnswer, IsComponentFailure, IsComponentText, IsCopy, IsFailure, IsPrintedOf, Prints, IsFirstAnswer, IsFirstFailure, IsShortAnswer, IsShortFailure, IsMatchAnswer, IsMatchFailure, words_view};
 ghost use Rattle.urlpat_commands.specs.Kinds.{IsKind, NamesOptions};
-ghost use Rattle.urlpat_commands.specs.Filters.{AreFilterWords, AskToFilter, Does};
+ghost use Rattle.urlpat_commands.specs.Filters.{AskToFilter, Does};
 ghost use Rattle.urlpat_commands.specs.Notes.{HasRefusedInput};
 ghost use Rattle.urlpat_commands.specs.Report.{component_lines, failure_lines};
 ghost use Rattle.urlpat_commands.specs.declared.command.Failure.{Failure};
@@ -15,12 +15,12 @@ ghost use Rattle.urlpattern_syntax.specs.declared.error.Error.TheVariants as err
 
 use crate::filter::filter;
 use crate::first::first_groups;
-use crate::help::help_of;
 use crate::matching::{NO_BASE, matched_groups};
 use crate::notes::{diagnosis_note, input_note};
 use std::alloc::{AllocError, Global};
 use std::io;
 use std::io::{BufRead, Write};
+use urlpat_words::{filter_words, help_of};
 use urlpattern::Error;
 use urlpattern::component::{generate_pattern_string, generate_regular_expression_and_name_list};
 use urlpattern::parser::{Options, parse_pattern_string};
@@ -94,28 +94,6 @@ pub fn run<In: BufRead, Out: Write, Err: Write>(
     match filter_words(words) {
         Some(rest) => filter(alloc, rest, input, out, err),
         None => run_once(alloc, words, out, err),
-    }
-}
-
-/// The words after `filter`. `None`: the first word is another.
-fn filter_words(words: &[String]) -> Option<&[String]>
-    ensures { IfSome result (λ rest. AreFilterWords (words_view words.now) (words_view rest.now)) }
-{
-    let [command, rest @ ..] = words else {
-        return None;
-    };
-    if command.as_str() == "filter" && !asks_for_help(rest) {
-        Some(rest)
-    } else {
-        None
-    }
-}
-
-/// Whether the words after a command ask for the help on it.
-fn asks_for_help(words: &[String]) -> bool {
-    match words {
-        [word] => word.as_str() == "--help",
-        _ => false,
     }
 }
 

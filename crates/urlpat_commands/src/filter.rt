@@ -3,7 +3,7 @@
 ghost use Rattle.std.specs.Prelude.{◌≡◌, ◌≢◌, option_copied, IfOk, IfSome, OnOk};
 ghost use Rattle.std.specs.Io.KnownBytes.{Appends};
 ghost use Rattle.urlpat_commands.specs.Answers.{words_view};
-ghost use Rattle.urlpat_commands.specs.Filters.{AnswersMatched, AnswersUnmatched, FilterAnswers, FiltersLines, GetsPiece, IsAskedBy, IsQueryOf, NamesGroup, count_line, status_of};
+ghost use Rattle.urlpat_commands.specs.Filters.{AnswersMatched, AnswersUnmatched, FilterAnswers, FiltersLines, GetsPiece, count_line, status_of};
 ghost use Rattle.urlpat_lines.specs.declared.answers.Verdict.TheVariants as verdicts;
 ghost use Rattle.urlpattern.specs.BorrowedMatches.{pattern_captures_view};
 ghost use Rattle.urlpattern.specs.Patterns.{pattern_view};
@@ -15,32 +15,13 @@ use std::alloc::{AllocError, Global};
 use std::io;
 use std::io::{BufRead, Write};
 use urlpat_lines::{Fault, Rule, Tally, Verdict, answer_lines};
+use urlpat_words::{Shape, query_of};
 use urlpattern::regexp::PatternRegexp;
-use urlpattern::{ComponentName, UrlPattern, UrlPatternCaptures};
+use urlpattern::{UrlPattern, UrlPatternCaptures};
 
 /// The usage of `filter`.
 const FILTER_USAGE: &str =
     "usage: urlpat filter PATTERN BASE [--not] [--count] [--group COMPONENT.NAME]\n";
-
-/// What is printed of a line that is looked for.
-#[derive(Clone, Copy)]
-pub enum Shape<'a> {
-    /// The line as it is.
-    Line,
-    /// Nothing: they are counted.
-    Count,
-    /// What a group captured.
-    Group(ComponentName, &'a str),
-}
-
-/// What the words after `filter` ask for.
-#[derive(Clone, Copy)]
-struct Query<'a> {
-    pattern: &'a str,
-    base: &'a str,
-    inverted: bool,
-    shape: Shape<'a>,
-}
 
 /// A rule that selects the lines whose URLs match a pattern, or those that do not.
 #[derive(Drop)]
@@ -142,55 +123,6 @@ fn report_fault<Err: Write>(fault: &Fault, err: &mut Err) -> u8
         Fault::OutOfMemory => err.write_all(b"out of memory\n"),
     };
     FAILED
-}
-
-/// What the words ask for. `None`: they are not the words of `filter`.
-fn query_of(words: &[String]) -> Option<Query<'_>>
-    ensures { IfSome result (IsQueryOf (words_view words.now)) }
-{
-    let [pattern, base, flags @ ..] = words else {
-        return None;
-    };
-    let (inverted, shape) = asked_by(flags)?;
-    Some(Query {
-        pattern,
-        base,
-        inverted,
-        shape,
-    })
-}
-
-/// What the words after the base ask for: whether lines that do not match are looked for, and what is printed of a line.
-fn asked_by(flags: &[String]) -> Option<(bool, Shape<'_>)>
-    ensures { IfSome result (IsAskedBy (words_view flags.now)) }
-{
-    match flags {
-        [] => Some((false, Shape::Line)),
-        [flag] => match flag.as_str() {
-            "--not" => Some((true, Shape::Line)),
-            "--count" => Some((false, Shape::Count)),
-            _ => None,
-        },
-        [first, second] => match (first.as_str(), second.as_str()) {
-            ("--not", "--count") => Some((true, Shape::Count)),
-            ("--group", name) => group_of(name),
-            _ => None,
-        },
-        _ => None,
-    }
-}
-
-/// The group of a name, after that of its component and a dot.
-fn group_of(word: &str) -> Option<(bool, Shape<'_>)>
-    ensures { IfSome result (λ asked. NamesGroup word.now asked) }
-{
-    for &component in ComponentName::all() {
-        let rest = word.strip_prefix(component.as_str());
-        if let Some(name) = rest.and_then(|rest| rest.strip_prefix('.')) {
-            return Some((false, Shape::Group(component, name)));
-        }
-    }
-    None
 }
 
 impl Rule for Filter<'_> {

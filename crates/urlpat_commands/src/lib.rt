@@ -5,7 +5,6 @@
 mod command;
 mod filter;
 mod first;
-mod help;
 mod matching;
 mod notes;
 

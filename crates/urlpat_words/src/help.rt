@@ -1,8 +1,8 @@
 //! What `--help` and `--version` print.
 
-ghost use Rattle.std.specs.Prelude.{IfSome};
-ghost use Rattle.urlpat_commands.specs.Answers.{words_view};
-ghost use Rattle.urlpat_commands.specs.Help.{IsCommandHelp, IsHelp, IsProgramHelp};
+ghost use Rattle.std.specs.Prelude.{IfSome, IsTrue};
+ghost use Rattle.urlpat_words.specs.Words.{words_view};
+ghost use Rattle.urlpat_words.specs.Help.{AskForHelp, IsCommandHelp, IsHelp, IsHelpOn, IsProgramHelp};
 
 /// The help on the program.
 const HELP: &str = "\
@@ -113,12 +113,27 @@ fn program_help(word: &str) -> Option<&'static str>
 fn command_help(command: &str, words: &[String]) -> Option<&'static str>
     ensures { IfSome result (λ text. IsCommandHelp command.now (words_view words.now) text.now) }
 {
-    let [word] = words else {
-        return None;
-    };
-    if word.as_str() != "--help" {
-        return None;
+    if asks_for_help(words) {
+        help_on(command)
+    } else {
+        None
     }
+}
+
+/// Whether the words after a command ask for the help on it.
+pub fn asks_for_help(words: &[String]) -> bool
+    ensures { IsTrue result → AskForHelp (words_view words.now) }
+{
+    let [word] = words else {
+        return false;
+    };
+    word.as_str() == "--help"
+}
+
+/// The help on a command.
+fn help_on(command: &str) -> Option<&'static str>
+    ensures { IfSome result (λ text. IsHelpOn command.now text.now) }
+{
     match command {
         "component" => Some(COMPONENT_HELP),
         "match" => Some(MATCH_HELP),

@@ -1,6 +1,6 @@
 -- The help that the program prints.
 use Rattle.std.specs.Prelude.{◌≡◌, ◌⊎◌, ℕ, List, [], ◌∷◌, codes}
-use Rattle.urlpat_commands.specs.declared.help.TheConstants.{HELP, VERSION, COMPONENT_HELP, MATCH_HELP, FIRST_HELP, FILTER_HELP}
+use Rattle.urlpat_words.specs.declared.help.TheConstants.{HELP, VERSION, COMPONENT_HELP, MATCH_HELP, FIRST_HELP, FILTER_HELP}
 
 -- the text is what a single word asks for
 abbrev pub IsProgramHelp : (word text : List ℕ) → Type 0
@@ -13,9 +13,11 @@ IsHelpOn command text =
     ⊎ ((command ≡ codes "first") × (text ≡ FIRST_HELP.now)) ⊎ ((command ≡ codes "filter") × (text ≡ FILTER_HELP.now))
 
 -- the words after a command ask for the help on it
+abbrev pub AskForHelp : (words : List (List ℕ)) → Type 0
+AskForHelp words = words ≡ codes "--help" ∷ []
+
 abbrev pub IsCommandHelp : (command : List ℕ) → (words : List (List ℕ)) → (text : List ℕ) → Type 0
-IsCommandHelp command (word ∷ []) text = (word ≡ codes "--help") × IsHelpOn command text
-IsCommandHelp command words text = ⊥
+IsCommandHelp command words text = AskForHelp words × IsHelpOn command text
 
 -- the text is the help that the words ask for
 abbrev pub IsHelp : (words : List (List ℕ)) → (text : List ℕ) → Type 0
