@@ -1,5 +1,5 @@
 pub mod Answers
-pub mod Filters
+pub mod FilterLines
 pub mod Kinds
 pub mod Notes
 pub mod Report

@@ -4,7 +4,7 @@ ghost use Rattle.std.specs.Io.KnownBytes.{Appends};
 ghost use Rattle.std.specs.Prelude.{◌≡◌, ◌≢◌, ◌⊎◌, map, string_bytes, IfErr, IfOk, IfSome, OnOk, Ok, None};
 ghost use Rattle.urlpat_commands.specs.Answers.{FailsComponent, FailsWhere, AreAnswered, IsCommandAnswer, IsComponentAnswer, IsComponentFailure, IsComponentText, IsCopy, IsFailure, IsPrintedOf, Prints, IsFirstAnswer, IsFirstFailure, IsShortAnswer, IsShortFailure, IsMatchAnswer, IsMatchFailure, words_view};
 ghost use Rattle.urlpat_commands.specs.Kinds.{IsKind, NamesOptions};
-ghost use Rattle.urlpat_commands.specs.Filters.{AskToFilter, Does};
+ghost use Rattle.urlpat_commands.specs.FilterLines.{AskToFilter, Does};
 ghost use Rattle.urlpat_commands.specs.Notes.{HasRefusedInput};
 ghost use Rattle.urlpat_commands.specs.Report.{component_lines, failure_lines};
 ghost use Rattle.urlpat_commands.specs.declared.command.Failure.{Failure};

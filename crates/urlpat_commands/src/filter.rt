@@ -1,10 +1,9 @@
 //! The command `filter`: the lines of a reader whose URLs match a pattern.
 
-ghost use Rattle.std.specs.Prelude.{◌≡◌, ◌≢◌, option_copied, IfOk, IfSome, OnOk};
-ghost use Rattle.std.specs.Io.KnownBytes.{Appends};
-ghost use Rattle.urlpat_commands.specs.Answers.{words_view};
-ghost use Rattle.urlpat_commands.specs.Filters.{AnswersMatched, AnswersUnmatched, FilterAnswers, FiltersLines, GetsPiece, count_line, status_of};
-ghost use Rattle.urlpat_lines.specs.declared.answers.Verdict.TheVariants as verdicts;
+ghost use Rattle.std.specs.Prelude.{◌≡◌, ◌≢◌, ◌++◌, option_copied, IfSome, OnOk};
+ghost use Rattle.urlpat_commands.specs.Answers.{IsUnmatchedBy, words_view};
+ghost use Rattle.urlpat_commands.specs.FilterLines.{FiltersLines, IsCapturedBy, captures_of};
+ghost use Rattle.urlpat_filter.specs.Filters.{group_text};
 ghost use Rattle.urlpattern.specs.BorrowedMatches.{pattern_captures_view};
 ghost use Rattle.urlpattern.specs.Patterns.{pattern_view};
 
@@ -12,9 +11,8 @@ use crate::command::{DONE, FAILED, NO_MATCH};
 use crate::matching::{base_of, capture_of, compiled, url_of};
 use crate::notes::write_refusal;
 use std::alloc::{AllocError, Global};
-use std::io;
 use std::io::{BufRead, Write};
-use urlpat_lines::{Fault, Rule, Tally, Verdict, answer_lines};
+use urlpat_filter::{LineMatcher, Outcome, filter_lines};
 use urlpat_words::{Shape, query_of};
 use urlpattern::regexp::PatternRegexp;
 use urlpattern::{UrlPattern, UrlPatternCaptures};
@@ -23,14 +21,12 @@ use urlpattern::{UrlPattern, UrlPatternCaptures};
 const FILTER_USAGE: &str =
     "usage: urlpat filter PATTERN BASE [--not] [--count] [--group COMPONENT.NAME]\n";
 
-/// A rule that selects the lines whose URLs match a pattern, or those that do not.
+/// A pattern that matches the URLs of lines, under a base URL.
 #[derive(Drop)]
-struct Filter<'a> {
+struct UrlLines<'a> {
     alloc: Global,
     pattern: &'a UrlPattern<PatternRegexp>,
     base: Option<&'a str>,
-    inverted: bool,
-    shape: Shape<'a>,
 }
 
 /// Does what the words after `filter` ask for, and gives the status to end with.
@@ -41,7 +37,8 @@ pub fn filter<In: BufRead, Out: Write, Err: Write>(
     out: &mut Out,
     err: &mut Err,
 ) -> u8
-    ensures { result ≢ FAILED → FiltersLines (words_view words.now) result (In.remaining input.old) (Out.contents out.old) (Out.contents out.new) }
+    ensures status { (result ≡ DONE) ⊎ (result ≡ NO_MATCH) ⊎ (result ≡ FAILED) }
+    ensures answers { result ≢ FAILED → FiltersLines (words_view words.now) result (In.remaining input.old) (Out.contents out.old) (Out.contents out.new) }
 {
     let Some(query) = query_of(words) else {
         let _ = err.write_all(FILTER_USAGE.as_bytes());
@@ -52,142 +49,63 @@ pub fn filter<In: BufRead, Out: Write, Err: Write>(
         Ok(pattern) => pattern,
         Err(error) => return write_refusal(alloc, query.pattern, base, error, err),
     };
-    let rule = Filter {
+    let matcher = UrlLines {
         alloc,
         pattern: &pattern,
         base,
-        inverted: query.inverted,
-        shape: query.shape,
     };
-    let answered = answer_lines(alloc, &rule, input, out, err);
+    let found = filter_lines(alloc, query, &matcher, input, out, err);
     drop(pattern);
-    match answered {
-        Ok(tally) => finish(query.shape, tally, out, err),
-        Err(fault) => report_fault(&fault, err),
+    match found {
+        Some(true) => DONE,
+        Some(false) => NO_MATCH,
+        None => FAILED,
     }
 }
 
-/// Writes the count, if lines are counted, and how many lines were no URL, and gives the status to end with.
-fn finish<Out: Write, Err: Write>(
-    shape: Shape<'_>,
-    tally: Tally,
-    out: &mut Out,
-    err: &mut Err,
-) -> u8
-    ensures written { result ≢ FAILED → Appends (Out.contents out.old) (Out.contents out.new) (count_line shape tally.selected) }
-    ensures status { result ≢ FAILED → result ≡ status_of tally.selected }
-{
-    if write_count(shape, tally.selected, out).is_err() {
-        return FAILED;
-    }
-    report_tally(tally, err);
-    if tally.selected > 0 { DONE } else { NO_MATCH }
-}
+impl LineMatcher for UrlLines<'_> {
+    ghost Matches = { λ lines text capture. IsCapturedBy (pattern_view lines.pattern.now) (option_copied lines.base) text capture };
 
-/// Writes the count, if lines are counted, and what is still to be written.
-fn write_count<Out: Write>(
-    shape: Shape<'_>,
-    selected: u64,
-    out: &mut Out,
-) -> io::Result<()>
-    ensures { OnOk result (Appends (Out.contents out.old) (Out.contents out.new) (count_line shape selected)) }
-{
-    if let Shape::Count = shape {
-        writeln!(out, "{selected}")?;
-    }
-    out.flush()
-}
+    ghost Differs = { λ lines text. IsUnmatchedBy (pattern_view lines.pattern.now) text (option_copied lines.base) };
 
-/// Reports how many lines were no URL, or were refused.
-fn report_tally<Err: Write>(tally: Tally, err: &mut Err) {
-    let Tally {
-        selected: _,
-        no_url,
-        refused,
-    } = tally;
-    if no_url > 0 {
-        let _ = writeln!(err, "lines that are no URL: {no_url}");
-    }
-    if refused > 0 {
-        let _ = writeln!(err, "lines that are refused: {refused}");
-    }
-}
-
-/// Reports why lines are answered no further, unless the output is closed, and gives the status to end with.
-fn report_fault<Err: Write>(fault: &Fault, err: &mut Err) -> u8
-    ensures { result ≡ FAILED }
-{
-    let _ = match fault {
-        Fault::Read => err.write_all(b"standard input cannot be read\n"),
-        Fault::Write => Ok(()),
-        Fault::OutOfMemory => err.write_all(b"out of memory\n"),
-    };
-    FAILED
-}
-
-impl Rule for Filter<'_> {
-    ghost Answers = { λ filter text line verdict written. FilterAnswers (pattern_view filter.pattern.now) (option_copied filter.base) filter.inverted filter.shape text line verdict written };
-
-    fn answer(&self, text: &str, line: &[u8], written: &mut Vec<u8>) -> Result<Verdict, AllocError> {
+    fn outcome(
+        &self,
+        text: &str,
+        shape: Shape<'_>,
+        written: &mut Vec<u8>,
+    ) -> Result<Outcome, AllocError> {
         let Ok(found) = url_of(self.alloc, self.base, text) else {
             return Err(AllocError);
         };
         let Some(url) = found else {
-            return self.unmatched(Verdict::NoUrl, line, written);
+            return Ok(Outcome::NoUrl);
         };
         match self.pattern.captures(self.alloc, &url) {
             Ok(Some(found)) => {
-                let verdict = self.matched(&found, line, written);
+                let pushed = push_capture(&found, shape, written);
                 drop(found);
-                verdict
+                pushed?;
+                Ok(Outcome::Match)
             }
-            Ok(None) => self.unmatched(Verdict::Passed, line, written),
+            Ok(None) => Ok(Outcome::NoMatch),
             Err(_) => Err(AllocError),
         }
     }
 }
 
-impl Filter<'_> {
-    /// Appends what is to be written for a line that matches.
-    fn matched(
-        &self,
-        found: &UrlPatternCaptures<'_, '_>,
-        line: &[u8],
-        written: &mut Vec<u8>,
-    ) -> Result<Verdict, AllocError>
-        ensures { IfOk result (λ verdict. GetsPiece (AnswersMatched self.now.inverted self.now.shape line.now (pattern_captures_view found.now) verdict) written.old.items written.new.items) }
-    {
-        if self.inverted {
-            return Ok(Verdict::Passed);
-        }
-        match self.shape {
-            Shape::Line => written.extend_from_slice(line)?,
-            Shape::Count => {}
-            Shape::Group(component, name) => {
-                let capture = capture_of(found, component, name).unwrap_or("");
-                written.extend_from_slice(capture.as_bytes())?;
-                written.push(b'\n')?;
-            }
-        }
-        Ok(Verdict::Selected)
-    }
-
-    /// Appends what is to be written for a line that does not match. The verdict is the one on lines that are not looked for.
-    fn unmatched(
-        &self,
-        verdict: Verdict,
-        line: &[u8],
-        written: &mut Vec<u8>,
-    ) -> Result<Verdict, AllocError>
-        requires { verdict ≢ verdicts.Selected }
-        ensures { IfOk result (λ answer. GetsPiece (AnswersUnmatched self.now.inverted self.now.shape line.now answer) written.old.items written.new.items) }
-    {
-        if !self.inverted {
-            return Ok(verdict);
-        }
-        if let Shape::Line = self.shape {
-            written.extend_from_slice(line)?;
-        }
-        Ok(Verdict::Selected)
+/// Appends what a group captured, if the shape has one.
+fn push_capture(
+    found: &UrlPatternCaptures<'_, '_>,
+    shape: Shape<'_>,
+    written: &mut Vec<u8>,
+) -> Result<(), AllocError>
+    ensures { OnOk result (written.new.items ≡ written.old.items ++ group_text shape.entry (captures_of (pattern_captures_view found.now))) }
+{
+    match shape {
+        Shape::Group(component, name) => match capture_of(found, component, name) {
+            Some(capture) => written.extend_from_slice(capture.as_bytes()),
+            None => Ok(()),
+        },
+        Shape::Line | Shape::Count => Ok(()),
     }
 }
