@@ -5,6 +5,8 @@
 
 mod answers;
 mod reading;
+#[cfg(test)]
+mod tests;
 
 pub use answers::{Fault, Rule, Tally, Verdict, answer_lines};
 pub use reading::{LONGEST, read_line, without_end};
