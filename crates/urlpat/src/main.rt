@@ -1,17 +1,29 @@
-//! Matches a URL against a pattern, or finds the first of some patterns that matches it, and prints what the groups capture, or
-//! shows what the pattern of one component is compiled to.
+//! Matches URLs against patterns: one URL, the first of some patterns, or the lines of standard input; and shows what the pattern of
+//! one component is compiled to.
 #![tactic(auto)]
 
 use std::alloc::AllocError;
+use std::io::{BufReader, BufWriter};
 use std::process::ExitCode;
 use std::{env, io};
 use urlpat_commands::{Failure, fail, run};
 
 fn main(rt: HostRuntime) -> ExitCode {
     ExitCode::from(match words(&rt) {
-        Ok(words) => run(rt.alloc(), &words, &mut rt.stdout(), &mut rt.stderr()),
+        Ok(words) => match run_buffered(&rt, &words) {
+            Ok(status) => status,
+            Err(_) => fail(&Failure::from(AllocError), &mut rt.stderr()),
+        },
         Err(failure) => fail(&failure, &mut rt.stderr()),
     })
+}
+
+/// Does what the arguments ask for, over buffers, and gives the status to end with. The error is that memory ran out.
+fn run_buffered(rt: &HostRuntime, words: &[String]) -> io::Result<u8> {
+    let alloc = rt.alloc();
+    let mut input = BufReader::new(alloc, rt.stdin())?;
+    let mut out = BufWriter::new(alloc, rt.stdout())?;
+    Ok(run(alloc, words, &mut input, &mut out, &mut rt.stderr()))
 }
 
 /// The arguments after the program's own name. The error is that one of them is not UTF-8, or that memory ran out.

@@ -2,3 +2,4 @@ mod AnswerExamples
 mod GroupNames
 mod AnswerLemmas
 mod FirstLemmas
+mod ShortLemmas

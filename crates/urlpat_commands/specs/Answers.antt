@@ -14,6 +14,8 @@ use Rattle.urlpat_commands.specs.declared.command.Failure.{Failure}
 use Rattle.urlpat_commands.specs.declared.command.Failure.TheVariants as failures
 use Rattle.urlpat_commands.specs.declared.command.Printed.{Printed}
 use Rattle.urlpat_commands.specs.declared.command.TheConstants.{DONE, NO_MATCH}
+use Rattle.urlpat_words.specs.Help.{IsHelp}
+pub use Rattle.urlpat_words.specs.Words.{words_view}
 use Rattle.urlpat_commands.specs.Kinds.{IsKind, NamesOptions}
 use Rattle.urlpat_commands.specs.Report.{component_lines, first_line, group_line}
 use Rattle.urlpattern.specs.Eight.{components, name_text}
@@ -42,10 +44,6 @@ use Rattle.urlpattern_syntax.specs.declared.error.Error.{Error}
 use Rattle.urlpattern_syntax.specs.declared.error.Error.TheVariants as errors
 use Rattle.urlpattern_syntax.specs.declared.parser.PartType.TheVariants.{Regexp}
 use Rattle.urlpattern_syntax.specs.declared.parser.RegexSyntax.TheVariants.{Rust}
-
--- the bytes of each word
-abbrev pub words_view : List (String Global) → List (List ℕ)
-words_view words = map (λ word. string_bytes word) words
 
 -- ---- what a component is compiled to
 
@@ -265,7 +263,20 @@ abbrev pub IsFirstFailure : (words : List (List ℕ)) → Failure → Type 0
 IsFirstFailure (base ∷ input ∷ pattern ∷ patterns) failure = IsRefusal (RefusesOneOf (pattern ∷ patterns) (base_of base)) failure
 IsFirstFailure words failure = failure ≡ failures.Usage
 
+-- ---- the short form: a pattern and an input, without a base URL
+
+abbrev pub IsShortAnswer : (pattern : List ℕ) → (words : List (List ℕ)) → (text : List ℕ) → (status : ℕ) → Type 0
+IsShortAnswer pattern (input ∷ []) text status = AnswersMatch (IsMatchText pattern input None text) (IsUnmatched pattern input None) text status
+IsShortAnswer pattern words text status = ⊥
+
+abbrev pub IsShortFailure : (pattern : List ℕ) → (words : List (List ℕ)) → Failure → Type 0
+IsShortFailure pattern (input ∷ []) failure = IsRefusal (RefusesPatternOf pattern None) failure
+IsShortFailure pattern words failure = failure ≡ failures.Usage
+
 -- ---- commands
+
+abbrev pub IsCommand : List ℕ → Type 0
+IsCommand word = (word ≡ codes "component") ⊎ (word ≡ codes "match") ⊎ (word ≡ codes "first")
 
 -- the answer to the words, and the status of the run: 0, or 1 where an input is not matched
 abbrev pub IsCommandAnswer : (words : List (List ℕ)) → (text : List ℕ) → (status : ℕ) → Type 0
@@ -274,9 +285,7 @@ IsCommandAnswer (command ∷ words) text status =
     ((command ≡ codes "component") × IsComponentAnswer words text status)
     ⊎ ((command ≡ codes "match") × IsMatchAnswer words text status)
     ⊎ ((command ≡ codes "first") × IsFirstAnswer words text status)
-
-abbrev pub IsCommand : List ℕ → Type 0
-IsCommand word = (word ≡ codes "component") ⊎ (word ≡ codes "match") ⊎ (word ≡ codes "first")
+    ⊎ ((¬ IsCommand command) × IsShortAnswer command words text status)
 
 -- why there is none: the words are no command, something is refused, or memory ran out
 abbrev pub IsFailure : (words : List (List ℕ)) → Failure → Type 0
@@ -285,17 +294,21 @@ IsFailure (command ∷ words) failure =
     ((command ≡ codes "component") × IsComponentFailure words failure)
     ⊎ ((command ≡ codes "match") × IsMatchFailure words failure)
     ⊎ ((command ≡ codes "first") × IsFirstFailure words failure)
-    ⊎ (¬ IsCommand command × (failure ≡ failures.Usage))
+    ⊎ ((¬ IsCommand command) × IsShortFailure command words failure)
 
 -- ---- what the program does
 
+-- the text answers the words with this status: it is the help that they ask for, or the answer to a command
+abbrev pub Answers : (words : List (List ℕ)) → (text : List ℕ) → (status : ℕ) → Type 0
+Answers words text status = (IsHelp words text × (status ≡ 0)) ⊎ IsCommandAnswer words text status
+
 -- what is printed answers the words, with this status
 abbrev pub Prints : (words : List (List ℕ)) → (status : ℕ) → (old new : Option (List ℕ)) → Type 0
-Prints words status old new = (text : List ℕ) × IsCommandAnswer words text status × Appends old new text
+Prints words status old new = (text : List ℕ) × Answers words text status × Appends old new text
 
 -- the words have an answer, which is not printed or only in part
 abbrev pub AreAnswered : (words : List (List ℕ)) → Type 0
-AreAnswered words = (text : List ℕ) × (status : ℕ) × IsCommandAnswer words text status
+AreAnswered words = (text : List ℕ) × (status : ℕ) × Answers words text status
 
 -- the words have none, and this is so
 abbrev pub FailsWhere : (words : List (List ℕ)) → (IsSo : Type 0) → Type 0

@@ -1,3 +1,5 @@
 pub mod Answers
+pub mod FilterLines
 pub mod Kinds
+pub mod Notes
 pub mod Report

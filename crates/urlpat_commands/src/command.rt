@@ -2,8 +2,10 @@
 
 ghost use Rattle.std.specs.Io.KnownBytes.{Appends};
 ghost use Rattle.std.specs.Prelude.{◌≡◌, ◌≢◌, ◌⊎◌, map, string_bytes, IfErr, IfOk, IfSome, OnOk, Ok, None};
-ghost use Rattle.urlpat_commands.specs.Answers.{FailsComponent, FailsWhere, AreAnswered, IsCommandAnswer, IsComponentAnswer, IsComponentFailure, IsComponentText, IsCopy, IsFailure, IsPrintedOf, Prints, IsFirstAnswer, IsFirstFailure, IsMatchAnswer, IsMatchFailure, words_view};
+ghost use Rattle.urlpat_commands.specs.Answers.{FailsComponent, FailsWhere, AreAnswered, IsCommandAnswer, IsComponentAnswer, IsComponentFailure, IsComponentText, IsCopy, IsFailure, IsPrintedOf, Prints, IsFirstAnswer, IsFirstFailure, IsShortAnswer, IsShortFailure, IsMatchAnswer, IsMatchFailure, words_view};
 ghost use Rattle.urlpat_commands.specs.Kinds.{IsKind, NamesOptions};
+ghost use Rattle.urlpat_commands.specs.FilterLines.{AskToFilter, Does};
+ghost use Rattle.urlpat_commands.specs.Notes.{HasRefusedInput};
 ghost use Rattle.urlpat_commands.specs.Report.{component_lines, failure_lines};
 ghost use Rattle.urlpat_commands.specs.declared.command.Failure.{Failure};
 ghost use Rattle.urlpat_commands.specs.declared.command.Failure.TheVariants as failures;
@@ -11,11 +13,14 @@ ghost use Rattle.urlpattern.specs.Options.{options_view};
 ghost use Rattle.urlpattern.specs.Errors.{OnlyOutOfMemory};
 ghost use Rattle.urlpattern_syntax.specs.declared.error.Error.TheVariants as errors;
 
+use crate::filter::filter;
 use crate::first::first_groups;
-use crate::matching::matched_groups;
+use crate::matching::{NO_BASE, matched_groups};
+use crate::notes::{diagnosis_note, input_note};
 use std::alloc::{AllocError, Global};
 use std::io;
-use std::io::Write;
+use std::io::{BufRead, Write};
+use urlpat_words::{filter_words, help_of};
 use urlpattern::Error;
 use urlpattern::component::{generate_pattern_string, generate_regular_expression_and_name_list};
 use urlpattern::parser::{Options, parse_pattern_string};
@@ -72,8 +77,28 @@ impl From<AllocError> for Failure {
 
 /// Does what the words ask for, and gives the status to end with.
 ///
-/// The answer goes to `out` in one piece. Why there is none goes to `err`.
-pub fn run<Out: Write, Err: Write>(
+/// `filter` reads lines from `input`. What is printed goes to `out`, the answer of each other command in one piece. Why there is no
+/// answer goes to `err`, and that an input or a line is no URL.
+pub fn run<In: BufRead, Out: Write, Err: Write>(
+    alloc: Global,
+    words: &[String],
+    input: &mut In,
+    out: &mut Out,
+    err: &mut Err,
+) -> u8
+    ensures status { (result ≡ DONE) ⊎ (result ≡ NO_MATCH) ⊎ (result ≡ FAILED) }
+    ensures answers { result ≢ FAILED → Does (words_view words.now) result (In.remaining input.old) (Out.contents out.old) (Out.contents out.new) }
+    ensures quiet { result ≢ FAILED → (err.new ≡ err.old) ⊎ HasRefusedInput (words_view words.now) ⊎ AskToFilter (words_view words.now) }
+    ensures fails { result ≡ FAILED → FailsWhere (words_view words.now) (out.new ≡ out.old) ⊎ AreAnswered (words_view words.now) ⊎ AskToFilter (words_view words.now) }
+{
+    match filter_words(words) {
+        Some(rest) => filter(alloc, rest, input, out, err),
+        None => run_once(alloc, words, out, err),
+    }
+}
+
+/// Does what the words of a command that reads nothing ask for, and gives the status to end with.
+fn run_once<Out: Write, Err: Write>(
     alloc: Global,
     words: &[String],
     out: &mut Out,
@@ -81,15 +106,75 @@ pub fn run<Out: Write, Err: Write>(
 ) -> u8
     ensures status { (result ≡ DONE) ⊎ (result ≡ NO_MATCH) ⊎ (result ≡ FAILED) }
     ensures answers { result ≢ FAILED → Prints (words_view words.now) result (Out.contents out.old) (Out.contents out.new) }
-    ensures quiet { result ≢ FAILED → err.new ≡ err.old }
+    ensures quiet { result ≢ FAILED → (err.new ≡ err.old) ⊎ HasRefusedInput (words_view words.now) }
     ensures fails { result ≡ FAILED → FailsWhere (words_view words.now) (out.new ≡ out.old) ⊎ AreAnswered (words_view words.now) }
 {
-    match answer(alloc, words) {
-        Ok(answer) => match out.write_all(answer.text.as_bytes()) {
-            Ok(()) => answer.status,
+    if let Some(text) = help_of(words) {
+        return match print(text.as_bytes(), out) {
+            Ok(()) => DONE,
             Err(_) => FAILED,
+        };
+    }
+    match answer(alloc, words) {
+        Ok(answer) => match note_beside(alloc, words, answer.status) {
+            Ok(note) => match print(answer.text.as_bytes(), out) {
+                Ok(()) => {
+                    write_note(&note, err);
+                    answer.status
+                }
+                Err(_) => FAILED,
+            },
+            Err(error) => fail(&Failure::from(error), err),
         },
-        Err(failure) => fail(&failure, err),
+        Err(failure) => fail_with_note(alloc, words, &failure, err),
+    }
+}
+
+/// Writes a text, and all that is still to be written.
+fn print<Out: Write>(text: &[u8], out: &mut Out) -> io::Result<()>
+    ensures { OnOk result (Appends (Out.contents out.old) (Out.contents out.new) text.now) }
+{
+    out.write_all(text)?;
+    out.flush()
+}
+
+/// What is said beside an answer with this status.
+fn note_beside(alloc: Global, words: &[String], status: u8) -> Result<Option<String>, Error>
+    ensures { IfOk result (λ note. IfSome note (λ text. HasRefusedInput (words_view words.now))) }
+{
+    if status == NO_MATCH {
+        input_note(alloc, words)
+    } else {
+        Ok(None)
+    }
+}
+
+/// Writes what is said beside an answer, if there is such.
+fn write_note<Err: Write>(note: &Option<String>, err: &mut Err)
+    ensures { note.now ≡ None → err.new ≡ err.old }
+{
+    if let Some(text) = note {
+        let _ = err.write_all(text.as_bytes());
+    }
+}
+
+/// Reports why there is no answer, and what is wrong with the pattern among the words, and gives the status to end with.
+fn fail_with_note<Err: Write>(
+    alloc: Global,
+    words: &[String],
+    failure: &Failure,
+    err: &mut Err,
+) -> u8
+    ensures { result ≡ FAILED }
+{
+    match diagnosis_note(alloc, words, failure) {
+        Ok(note) => {
+            if report(failure, err).is_ok() {
+                write_note(&note, err);
+            }
+            FAILED
+        }
+        Err(error) => fail(&Failure::from(Error::from(error)), err),
     }
 }
 
@@ -123,8 +208,20 @@ fn answer(alloc: Global, words: &[String]) -> Result<Printed, Failure>
         "component" => component_answer(alloc, rest),
         "match" => match_answer(alloc, rest),
         "first" => first_answer(alloc, rest),
-        _ => Err(Failure::Usage),
+        pattern => short_answer(alloc, pattern, rest),
     }
+}
+
+/// What a pattern and the words after it ask for.
+fn short_answer(alloc: Global, pattern: &str, words: &[String]) -> Result<Printed, Failure>
+    ensures answers { IfOk result (λ answer. IsShortAnswer pattern.now (words_view words.now) (string_bytes answer.text) answer.status) }
+    ensures fails { IfErr result (IsShortFailure pattern.now (words_view words.now)) }
+{
+    let [input] = words else {
+        return Err(Failure::Usage);
+    };
+    let lines = matched_groups(alloc, pattern, NO_BASE, input)?;
+    Ok(answer_of(alloc, lines)?)
 }
 
 /// What the words after `component` ask for.
@@ -199,7 +296,7 @@ fn component(alloc: Global, kind: &str, pattern: &str) -> Result<String, Failure
 }
 
 /// The options of this name, if there are such.
-fn options_of(alloc: Global, kind: &str) -> Result<Option<Options>, Error>
+pub fn options_of(alloc: Global, kind: &str) -> Result<Option<Options>, Error>
     ensures some { IfOk result (λ found. IfSome found (λ options. NamesOptions kind.now (options_view options))) }
     ensures none { result ≡ Ok None → ¬ IsKind kind.now }
     ensures memory { OnlyOutOfMemory result }

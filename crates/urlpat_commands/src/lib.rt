@@ -3,7 +3,9 @@
 #![tactic(auto)]
 
 mod command;
+mod filter;
 mod first;
 mod matching;
+mod notes;
 
 pub use command::{DONE, FAILED, Failure, NO_MATCH, fail, run};

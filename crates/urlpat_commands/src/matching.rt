@@ -21,7 +21,7 @@ use urlpattern::{
 };
 
 /// The word that stands for no base URL.
-const NO_BASE: &str = "-";
+pub const NO_BASE: &str = "-";
 
 /// A line for each group of the match of an input. `None`: the input is not matched.
 ///
@@ -169,7 +169,7 @@ fn names_of(
 }
 
 /// What a group captured. `None`: it took no part.
-fn capture_of<'u>(
+pub fn capture_of<'u>(
     found: &UrlPatternCaptures<'_, 'u>,
     name: ComponentName,
     group: &str,

@@ -1,0 +1,39 @@
+-- Lemmas on the short form, and on what is said beside an answer.
+use Rattle.std.proofs.Common.{◌≡◌, ℕ, ◌<◌, ◌≤◌, List, [], ◌∷◌, length, get_or, arith, subst, Option, None, Some, Result, Ok, Err, IfOk, IfSome}
+use Rattle.std.specs.Prelude.{String, string_bytes}
+use Rattle.std.specs.declared.alloc.Global.{Global}
+use Rattle.urlpat_commands.specs.Answers.{AnswersMatch, IsMatchText, IsRefusedText, IsShortAnswer, IsShortFailure, IsUnmatched, RefusesPatternOf, base_of, words_view}
+use Rattle.urlpat_commands.specs.Notes.{HasRefusedFirstInput, HasRefusedMatchInput, HasRefusedShortInput}
+use Rattle.urlpat_commands.specs.declared.command.Failure.TheVariants as failures
+use Rattle.urlpattern.specs.Errors.{MemoryOr}
+use Rattle.urlpattern_syntax.specs.declared.error.Error.{Error}
+
+module _ (words : List (String Global)) (input : String Global) (pattern : List ℕ) (are : words ≡ input ∷ []) where
+  pub short_answers : (text : List ℕ) (status : ℕ) → AnswersMatch (IsMatchText pattern (string_bytes input) None text) (IsUnmatched pattern (string_bytes input) None) text status
+      → IsShortAnswer pattern (words_view words) text status
+  short_answers text status reported = rw are reported
+
+  pub short_fails : (error : Error) → MemoryOr (RefusesPatternOf pattern None) error → IsShortFailure pattern (words_view words) (failures.Refused error)
+  short_fails error reported = rw are reported
+
+-- what is said of the second and third of three words
+pub refused_match_input : (words : List (String Global)) (base input : String Global) → 3 ≤ length words → length words < 4 → base ≡ get_or words 1 base → input ≡ get_or words 2 input
+    → IsRefusedText (string_bytes input) (base_of (string_bytes base)) → HasRefusedMatchInput (words_view words)
+refused_match_input [] base input least most is_base is_input refused = absurd (omega (arith, least))
+refused_match_input (x ∷ []) base input least most is_base is_input refused = absurd (omega (arith, least))
+refused_match_input (x ∷ y ∷ []) base input least most is_base is_input refused = absurd (omega (arith, least))
+refused_match_input (x ∷ y ∷ z ∷ []) base input least most is_base is_input refused = rw (is_base, is_input) at refused
+refused_match_input (x ∷ y ∷ z ∷ w ∷ rest) base input least most is_base is_input refused = absurd (omega (arith, most))
+
+-- what is said of the first two words
+pub refused_first_input : (words : List (String Global)) (base input : String Global) → 2 ≤ length words → base ≡ get_or words 0 base → input ≡ get_or words 1 input
+    → IsRefusedText (string_bytes input) (base_of (string_bytes base)) → HasRefusedFirstInput (words_view words)
+refused_first_input [] base input least is_base is_input refused = absurd (omega (arith, least))
+refused_first_input (x ∷ []) base input least is_base is_input refused = absurd (omega (arith, least))
+refused_first_input (x ∷ y ∷ rest) base input least is_base is_input refused = rw (is_base, is_input) at refused
+
+-- what follows of a note, if there is one
+pub of_note : {N E : Type 0} (P Q : Type 0) (note : Result (Option N) E) → (P → Q) → IfOk note (λ found. IfSome found (λ text. P)) → IfOk note (λ found. IfSome found (λ text. Q))
+of_note P Q (Err error) f h = h
+of_note P Q (Ok None) f h = h
+of_note P Q (Ok (Some text)) f h = f h

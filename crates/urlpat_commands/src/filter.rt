@@ -1,0 +1,111 @@
+//! The command `filter`: the lines of a reader whose URLs match a pattern.
+
+ghost use Rattle.std.specs.Prelude.{◌≡◌, ◌≢◌, ◌++◌, option_copied, IfSome, OnOk};
+ghost use Rattle.urlpat_commands.specs.Answers.{IsUnmatchedBy, words_view};
+ghost use Rattle.urlpat_commands.specs.FilterLines.{FiltersLines, IsCapturedBy, captures_of};
+ghost use Rattle.urlpat_filter.specs.Filters.{group_text};
+ghost use Rattle.urlpattern.specs.BorrowedMatches.{pattern_captures_view};
+ghost use Rattle.urlpattern.specs.Patterns.{pattern_view};
+
+use crate::command::{DONE, FAILED, NO_MATCH};
+use crate::matching::{base_of, capture_of, compiled, url_of};
+use crate::notes::write_refusal;
+use std::alloc::{AllocError, Global};
+use std::io::{BufRead, Write};
+use urlpat_filter::{LineMatcher, Outcome, filter_lines};
+use urlpat_words::{Shape, query_of};
+use urlpattern::regexp::PatternRegexp;
+use urlpattern::{UrlPattern, UrlPatternCaptures};
+
+/// The usage of `filter`.
+const FILTER_USAGE: &str =
+    "usage: urlpat filter PATTERN BASE [--not] [--count] [--group COMPONENT.NAME]\n";
+
+/// A pattern that matches the URLs of lines, under a base URL.
+#[derive(Drop)]
+struct UrlLines<'a> {
+    alloc: Global,
+    pattern: &'a UrlPattern<PatternRegexp>,
+    base: Option<&'a str>,
+}
+
+/// Does what the words after `filter` ask for, and gives the status to end with.
+pub fn filter<In: BufRead, Out: Write, Err: Write>(
+    alloc: Global,
+    words: &[String],
+    input: &mut In,
+    out: &mut Out,
+    err: &mut Err,
+) -> u8
+    ensures status { (result ≡ DONE) ⊎ (result ≡ NO_MATCH) ⊎ (result ≡ FAILED) }
+    ensures answers { result ≢ FAILED → FiltersLines (words_view words.now) result (In.remaining input.old) (Out.contents out.old) (Out.contents out.new) }
+{
+    let Some(query) = query_of(words) else {
+        let _ = err.write_all(FILTER_USAGE.as_bytes());
+        return FAILED;
+    };
+    let base = base_of(query.base);
+    let pattern = match compiled(alloc, query.pattern, base) {
+        Ok(pattern) => pattern,
+        Err(error) => return write_refusal(alloc, query.pattern, base, error, err),
+    };
+    let matcher = UrlLines {
+        alloc,
+        pattern: &pattern,
+        base,
+    };
+    let found = filter_lines(alloc, query, &matcher, input, out, err);
+    drop(pattern);
+    match found {
+        Some(true) => DONE,
+        Some(false) => NO_MATCH,
+        None => FAILED,
+    }
+}
+
+impl LineMatcher for UrlLines<'_> {
+    ghost Matches = { λ lines text capture. IsCapturedBy (pattern_view lines.pattern.now) (option_copied lines.base) text capture };
+
+    ghost Differs = { λ lines text. IsUnmatchedBy (pattern_view lines.pattern.now) text (option_copied lines.base) };
+
+    fn outcome(
+        &self,
+        text: &str,
+        shape: Shape<'_>,
+        written: &mut Vec<u8>,
+    ) -> Result<Outcome, AllocError> {
+        let Ok(found) = url_of(self.alloc, self.base, text) else {
+            return Err(AllocError);
+        };
+        let Some(url) = found else {
+            return Ok(Outcome::NoUrl);
+        };
+        match self.pattern.captures(self.alloc, &url) {
+            Ok(Some(found)) => {
+                let pushed = push_capture(&found, shape, written);
+                drop(found);
+                pushed?;
+                Ok(Outcome::Match)
+            }
+            Ok(None) => Ok(Outcome::NoMatch),
+            Err(_) => Err(AllocError),
+        }
+    }
+}
+
+/// Appends what a group captured, if the shape has one.
+fn push_capture(
+    found: &UrlPatternCaptures<'_, '_>,
+    shape: Shape<'_>,
+    written: &mut Vec<u8>,
+) -> Result<(), AllocError>
+    ensures { OnOk result (written.new.items ≡ written.old.items ++ group_text shape.entry (captures_of (pattern_captures_view found.now))) }
+{
+    match shape {
+        Shape::Group(component, name) => match capture_of(found, component, name) {
+            Some(capture) => written.extend_from_slice(capture.as_bytes()),
+            None => Ok(()),
+        },
+        Shape::Line | Shape::Count => Ok(()),
+    }
+}

@@ -1,0 +1,3 @@
+pub mod Help
+pub mod Queries
+pub mod Words

@@ -1,0 +1,40 @@
+-- What the words after `filter` ask for. Words are bytes.
+use Rattle.std.specs.Prelude.{◌≡◌, ◌⊎◌, ℕ, Bool, true, false, List, [], ◌∷◌, ◌++◌, codes}
+use Rattle.urlpat_words.specs.declared.query.Query.{Query}
+use Rattle.urlpat_words.specs.declared.query.Shape.{Shape}
+use Rattle.urlpat_words.specs.declared.query.Shape.TheVariants as shapes
+use Rattle.urlpattern_syntax.specs.Eight.{name_text}
+
+-- the word is the name of a component, a dot and the name of a group
+abbrev pub NamesGroup : (word : List ℕ) → Bool × Shape → Type 0
+NamesGroup word (inverted, shapes.Group component name) = (inverted ≡ false) × (word ≡ name_text component ++ 46 ∷ name.now)
+NamesGroup word (inverted, shapes.Line) = ⊥
+NamesGroup word (inverted, shapes.Count) = ⊥
+
+-- a word asks for the lines that do not match, or for their count
+abbrev pub IsAskedByOne : (flag : List ℕ) → Bool × Shape → Type 0
+IsAskedByOne flag asked =
+    ((flag ≡ codes "--not") × (asked ≡ (true, shapes.Line))) ⊎ ((flag ≡ codes "--count") × (asked ≡ (false, shapes.Count)))
+
+-- two words ask for the count of those that do not match, or for what a group captured
+abbrev pub IsAskedByTwo : (first second : List ℕ) → Bool × Shape → Type 0
+IsAskedByTwo first second asked =
+    ((first ≡ codes "--not") × (second ≡ codes "--count") × (asked ≡ (true, shapes.Count)))
+    ⊎ ((first ≡ codes "--group") × NamesGroup second asked)
+
+-- the words after the base ask whether lines that do not match are looked for, and for what is printed of a line
+abbrev pub IsAskedBy : (words : List (List ℕ)) → Bool × Shape → Type 0
+IsAskedBy [] asked = asked ≡ (false, shapes.Line)
+IsAskedBy (flag ∷ []) asked = IsAskedByOne flag asked
+IsAskedBy (first ∷ second ∷ []) asked = IsAskedByTwo first second asked
+IsAskedBy (first ∷ second ∷ third ∷ words) asked = ⊥
+
+-- the words after `filter` ask for this
+abbrev pub IsQueryOf : (words : List (List ℕ)) → Query → Type 0
+IsQueryOf (pattern ∷ base ∷ flags) query =
+    (query.pattern.now ≡ pattern) × (query.base.now ≡ base) × IsAskedBy flags (query.inverted, query.shape)
+IsQueryOf words query = ⊥
+
+-- the words are `filter` and these
+abbrev pub AreFilterWords : (words rest : List (List ℕ)) → Type 0
+AreFilterWords words rest = words ≡ codes "filter" ∷ rest

@@ -1,0 +1,144 @@
+//! What `--help` and `--version` print.
+
+ghost use Rattle.std.specs.Prelude.{IfSome, IsTrue};
+ghost use Rattle.urlpat_words.specs.Words.{words_view};
+ghost use Rattle.urlpat_words.specs.Help.{AskForHelp, IsCommandHelp, IsHelp, IsHelpOn, IsProgramHelp};
+
+/// The help on the program.
+const HELP: &str = "\
+urlpat matches URLs against URL patterns, such as https://example.com/users/:id
+
+usage: urlpat PATTERN URL
+       urlpat match PATTERN BASE INPUT
+       urlpat first BASE INPUT PATTERN..
+       urlpat filter PATTERN BASE
+       urlpat component default|hostname|pathname PATTERN
+       urlpat --version
+
+  match      prints what the groups of a pattern capture of a URL
+  first      finds the first of some patterns that matches a URL
+  filter     prints the lines of standard input whose URLs match
+  component  shows what the pattern of one component is compiled to
+
+BASE is a URL for the pattern and the input, or - for none.
+`urlpat COMMAND --help` says more of a command.
+
+example: urlpat 'https://example.com/users/:id' https://example.com/users/7
+";
+
+/// The name and the version of the program.
+const VERSION: &str = "urlpat 0.6.0\n";
+
+/// The help on `component`.
+const COMPONENT_HELP: &str = "\
+Shows what the pattern of one component is compiled to: the names of its groups, its regular expression, and the pattern that is
+printed for it.
+
+usage: urlpat component default|hostname|pathname PATTERN
+
+A name stands for a segment, which ends at a dot in a hostname and at a slash in a pathname. By default there are no segments.
+
+example: urlpat component pathname /users/:id
+";
+
+/// The help on `match`.
+const MATCH_HELP: &str = "\
+Prints a line for each group of a pattern: its component, its name, and after = what it captured of a URL. If the URL does not
+match, prints `no match` and ends with status 1.
+
+usage: urlpat match PATTERN BASE INPUT
+
+BASE is a URL for the pattern and the input, or - for none.
+
+example: urlpat match /users/:id https://example.com/ /users/7
+";
+
+/// The help on `first`.
+const FIRST_HELP: &str = "\
+Prints `match` and the index of the first pattern that matches a URL, from 0 on, and a line for each group. If none matches, prints
+`no match` and ends with status 1.
+
+usage: urlpat first BASE INPUT PATTERN..
+
+BASE is a URL for the patterns and the input, or - for none.
+
+example: urlpat first https://example.com/ /users/7 /about /users/:id
+";
+
+/// The help on `filter`.
+const FILTER_HELP: &str = "\
+Prints the lines of standard input whose URLs match a pattern, as they are. Ends with status 1 if there is none.
+
+usage: urlpat filter PATTERN BASE
+       urlpat filter PATTERN BASE --not
+       urlpat filter PATTERN BASE --count
+       urlpat filter PATTERN BASE --not --count
+       urlpat filter PATTERN BASE --group COMPONENT.NAME
+
+  --not    prints the lines that do not match
+  --count  prints how many there are, and no line
+  --group  prints what a group captured, in place of the line
+
+BASE is a URL for the pattern and the lines, or - for none. A line that is no URL does not match.
+
+example: urlpat filter 'https://example.com/users/:id' - --group pathname.id <urls.txt
+";
+
+/// The help that the words ask for. `None`: they ask for none.
+pub fn help_of(words: &[String]) -> Option<&'static str>
+    ensures { IfSome result (λ text. IsHelp (words_view words.now) text.now) }
+{
+    let [command, rest @ ..] = words else {
+        return None;
+    };
+    if rest.is_empty() {
+        program_help(command)
+    } else {
+        command_help(command, rest)
+    }
+}
+
+/// The help that a single word asks for.
+fn program_help(word: &str) -> Option<&'static str>
+    ensures { IfSome result (λ text. IsProgramHelp word.now text.now) }
+{
+    match word {
+        "--help" => Some(HELP),
+        "--version" => Some(VERSION),
+        _ => None,
+    }
+}
+
+/// The help on a command that the words after it ask for.
+fn command_help(command: &str, words: &[String]) -> Option<&'static str>
+    ensures { IfSome result (λ text. IsCommandHelp command.now (words_view words.now) text.now) }
+{
+    if asks_for_help(words) {
+        help_on(command)
+    } else {
+        None
+    }
+}
+
+/// Whether the words after a command ask for the help on it.
+pub fn asks_for_help(words: &[String]) -> bool
+    ensures { IsTrue result → AskForHelp (words_view words.now) }
+{
+    let [word] = words else {
+        return false;
+    };
+    word.as_str() == "--help"
+}
+
+/// The help on a command.
+fn help_on(command: &str) -> Option<&'static str>
+    ensures { IfSome result (λ text. IsHelpOn command.now text.now) }
+{
+    match command {
+        "component" => Some(COMPONENT_HELP),
+        "match" => Some(MATCH_HELP),
+        "first" => Some(FIRST_HELP),
+        "filter" => Some(FILTER_HELP),
+        _ => None,
+    }
+}

@@ -1,0 +1,121 @@
+//! What the words after `filter` ask for.
+
+ghost use Rattle.std.specs.Prelude.{◌≡◌, ◌∷◌, ◌++◌, IfSome};
+ghost use Rattle.urlpat_words.specs.Queries.{AreFilterWords, IsAskedBy, IsAskedByOne, IsAskedByTwo, IsQueryOf, NamesGroup};
+ghost use Rattle.urlpat_words.specs.Words.{words_view};
+
+use crate::help::asks_for_help;
+use urlpattern_syntax::eight::ComponentName;
+
+/// What is printed of a line that is looked for.
+#[derive(Clone, Copy)]
+pub enum Shape<'a> {
+    /// The line as it is.
+    Line,
+    /// Nothing: they are counted.
+    Count,
+    /// What a group captured.
+    Group(ComponentName, &'a str),
+}
+
+/// What the words after `filter` ask for.
+#[derive(Clone, Copy)]
+pub struct Query<'a> {
+    /// The pattern.
+    pub pattern: &'a str,
+    /// The word for its base URL.
+    pub base: &'a str,
+    /// Whether the lines that do not match are looked for.
+    pub inverted: bool,
+    /// What is printed of a line that is looked for.
+    pub shape: Shape<'a>,
+}
+
+/// The words after `filter`. `None`: the first word is another, or they ask for help.
+pub fn filter_words(words: &[String]) -> Option<&[String]>
+    ensures { IfSome result (λ rest. AreFilterWords (words_view words.now) (words_view rest.now)) }
+{
+    let [command, rest @ ..] = words else {
+        return None;
+    };
+    if command.as_str() == "filter" && !asks_for_help(rest) {
+        Some(rest)
+    } else {
+        None
+    }
+}
+
+/// What the words after `filter` ask for. `None`: they are not such words.
+pub fn query_of(words: &[String]) -> Option<Query<'_>>
+    ensures { IfSome result (IsQueryOf (words_view words.now)) }
+{
+    let [pattern, base, flags @ ..] = words else {
+        return None;
+    };
+    let (inverted, shape) = asked_by(flags)?;
+    Some(Query {
+        pattern,
+        base,
+        inverted,
+        shape,
+    })
+}
+
+/// What the words after the base ask for: whether lines that do not match are looked for, and what is printed of a line.
+fn asked_by(flags: &[String]) -> Option<(bool, Shape<'_>)>
+    ensures { IfSome result (IsAskedBy (words_view flags.now)) }
+{
+    match flags {
+        [] => Some((false, Shape::Line)),
+        [flag] => asked_by_one(flag),
+        [first, second] => asked_by_two(first, second),
+        _ => None,
+    }
+}
+
+/// The same of one word.
+fn asked_by_one(flag: &str) -> Option<(bool, Shape<'_>)>
+    ensures { IfSome result (IsAskedByOne flag.now) }
+{
+    match flag {
+        "--not" => Some((true, Shape::Line)),
+        "--count" => Some((false, Shape::Count)),
+        _ => None,
+    }
+}
+
+/// The same of two words.
+fn asked_by_two<'a>(first: &str, second: &'a str) -> Option<(bool, Shape<'a>)>
+    ensures { IfSome result (IsAskedByTwo first.now second.now) }
+{
+    match first {
+        "--not" => {
+            if second == "--count" {
+                Some((true, Shape::Count))
+            } else {
+                None
+            }
+        }
+        "--group" => group_of(second),
+        _ => None,
+    }
+}
+
+/// The group of a name, after that of its component and a dot.
+fn group_of(word: &str) -> Option<(bool, Shape<'_>)>
+    ensures { IfSome result (NamesGroup word.now) }
+{
+    for &component in ComponentName::all() {
+        if let Some(name) = after(word, component.as_str()) {
+            return Some((false, Shape::Group(component, name)));
+        }
+    }
+    None
+}
+
+/// What follows a name and a dot.
+fn after<'a>(word: &'a str, name: &str) -> Option<&'a str>
+    ensures { IfSome result (λ rest. word.now ≡ name.now ++ 46 ∷ rest.now) }
+{
+    word.strip_prefix(name)?.strip_prefix('.')
+}
