@@ -72,6 +72,8 @@ pub enum Operation {
     FirstMatch,
     /// What is wrong with a pattern.
     Diagnose,
+    /// The text of a component with given groups.
+    Generate,
     /// What a plain value writes as JSON that is read of JSON.
     Json,
     /// Which values of a type equal each other.
@@ -96,6 +98,7 @@ pub const OPERATIONS: &[(&str, Operation)] = &[
     ("quirks_pattern", Operation::QuirksPattern),
     ("first_match", Operation::FirstMatch),
     ("diagnose", Operation::Diagnose),
+    ("generate", Operation::Generate),
     ("json", Operation::Json),
     ("equal", Operation::Equal),
 ];
@@ -112,6 +115,7 @@ impl Operation {
                 | Operation::QuirksPattern
                 | Operation::FirstMatch
                 | Operation::Diagnose
+                | Operation::Generate
         )
     }
 }

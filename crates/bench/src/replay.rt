@@ -7,6 +7,7 @@ mod constructors;
 mod diagnoses;
 mod engines;
 mod first_match;
+mod generated;
 mod given;
 mod matchers;
 mod patterns;
@@ -163,6 +164,7 @@ fn is_same_over<R: RegExp>(operation: Operation, case: &Case<'_>) -> Result<bool
         Operation::QuirksPattern => plain::is_same::<R>(case),
         Operation::FirstMatch => first_match::is_same::<R>(case),
         Operation::Diagnose => diagnoses::is_same::<R>(case),
+        Operation::Generate => generated::is_same::<R>(case),
         Operation::Json => trees::is_same(case),
         Operation::Equal => trees::is_same_equality(case),
     }

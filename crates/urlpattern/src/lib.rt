@@ -18,6 +18,7 @@ pub use map::{UrlPatternMap, UrlPatternMapIter};
 pub use urlpattern_canonical::canonicalize_and_process;
 pub use urlpattern_core::{Error, RegexSyntax, component, error, matcher, parser, tokenizer};
 pub use urlpattern_diagnosis::{Diagnosis, Fault, Span, Subject};
+pub use urlpattern_generate::{GenerateError, GivenGroup};
 pub use urlpattern_init::{UrlPatternInit, UrlPatternMatchInput};
 pub use urlpattern_inputs::UrlPatternOptions;
 pub use urlpattern_pattern::{

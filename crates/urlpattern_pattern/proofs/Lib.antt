@@ -2,6 +2,7 @@ pub mod Results
 pub mod MatchInputLemmas
 pub mod GroupLemmas
 pub mod NameOrder
+pub mod GeneratedLemmas
 pub mod MatchSteps
 pub mod MismatchLemmas
 pub mod MatchLaws

@@ -3,6 +3,7 @@ pub mod ByText
 pub mod ByTextLaws
 pub mod Calls
 pub mod Folded
+pub mod GeneratedTexts
 pub mod Match
 pub mod MatchInput
 pub mod Meaning

@@ -8,6 +8,7 @@ ghost use Rattle.urlpattern_syntax.specs.Eight.{at};
 mod captures;
 mod create;
 mod diagnose;
+mod generate;
 mod groups;
 mod json;
 mod matching;
