@@ -54,7 +54,7 @@ pub found_answer : (options : OptionsView) (parts : List PartView) (other_option
 found_answer options parts other_options others is_meant one other (Text text) gen other_gen same other_same is =
     let here = parts_accepted options parts one gen same text.items in
     let there = parts_accepted other_options others other other_gen other_same text.items in
-    (here.0 is.0, whether_by is_meant (AcceptsText other text.items) (MeansText other_options others text.items) there is.1)
+    (here.0 is.0, whether_by is_meant (AcceptsText other text.items) (MeansText other_options others text.items) there is.1, is.2)
 found_answer options parts other_options others is_meant one other Nothing gen other_gen same other_same is = λ text fine plain meant.
     let here = parts_accepted options parts one gen same text in
     let there = parts_accepted other_options others other other_gen other_same text in

@@ -1,6 +1,8 @@
 -- Pairs of a state and states, and what their texts lead to.
 use Rattle.std.proofs.Common.{◌≡◌, ◌≢◌, ℕ, zero, suc, ◌<◌, Bool, true, false, List, [], ◌∷◌, ◌++◌, length, refl, sym, subst, ap, ◌∙◌, ◌⊎◌, inl, inr, ◌↔◌, arith, ◌+◌, ◌≤◌, append_assoc, append-nil, eq-eqb, take, get_or, take_all, length-append}
 use Rattle.std.proofs.lemmas.List.{get_or_append_left, take-append-le, take_more}
+use Rattle.std.proofs.lemmas.Bool.{ne_eqb}
+use Rattle.std.proofs.lemmas.List.Folds.{list_all-append}
 use Rattle.std.proofs.lemmas.List.Elements.{All-contains, All-more, All-weaker, Contains-append_left, Contains-get_or, Contains-push_cases}
 use Rattle.std.specs.List.{All, Contains}
 use Rattle.std.specs.{Char.IsScalar, Str.all_scalars}
@@ -16,13 +18,18 @@ use Rattle.urlpattern_covers.proofs.StateSets.{leads_moved, leads_starts, length
 
 -- ---- what is reached
 
+-- a text without line feed, and one character more
+lacks_more : (text : List ℕ) (c : ℕ) → c ≢ line_feed → IsTrue (lacks line_feed text) → IsTrue (lacks line_feed (text ++ c ∷ []))
+lacks_more text c other plain =
+    list_all-append (λ d. not (d == line_feed)) text (c ∷ []) ∙ ap (λ b. b && (not (c == line_feed) && true)) plain ∙ ap (λ b. not b && true) (ne_eqb c line_feed other)
+
 within_width : (other : Automaton) (flags : List Bool) → IsWithin other → length flags ≡ other.states → All (λ edge. edge.to < length flags) other.edges.items
 within_width other flags within width = λ k d lt. let h = within.edges k d lt in omega arith
 
 -- by one character more
-pub step_reached : (one other : Automaton) (pair next : Pair) (c : ℕ) (edge : Edge) → IsWithin other → IsReached one other pair → Contains one.edges.items edge →
+pub step_reached : (one other : Automaton) (pair next : Pair) (c : ℕ) (edge : Edge) → c ≢ line_feed → IsWithin other → IsReached one other pair → Contains one.edges.items edge →
     edge.from ≡ pair.state → IsTrue (passes edge.test c) → IsStep edge.to (moved other.edges.items pair.states.items c) (pair.text.items ++ c ∷ []) next → IsReached one other next
-step_reached one other pair next c edge within reached has from passed (state_is, states_are, text_is) =
+step_reached one other pair next c edge plain within reached has from passed (state_is, states_are, text_is) =
     let edges = other.edges.items in
     let flags = pair.states.items in
     let moves = (λ (text : List ℕ). leads_moved edges flags c text (within_width other flags within reached.width)) in
@@ -34,6 +41,7 @@ step_reached one other pair next c edge within reached has from passed (state_is
         λ leads. subst (λ t. AcceptsText other t) (sym (longer text)) ((reached.states (c ∷ text)).1 ((moves text).0 (subst (λ f. LeadsIn edges f text) states_are leads))),
       );
       width = ap length states_are ∙ length_moved edges flags c ∙ reached.width;
+      line = subst (λ t. IsTrue (lacks line_feed t)) (sym text_is) (lacks_more pair.text.items c plain reached.line);
     }
 
 -- before the first character
@@ -45,6 +53,7 @@ start_reached one other pair within has states_are text_is = record {
     λ leads. subst (λ t. AcceptsText other (t ++ text)) (sym text_is) ((leads_starts other text within).1 (subst (λ f. LeadsIn other.edges.items f text) states_are leads)),
   );
   width = ap length states_are ∙ length_starts other;
+  line = subst (λ t. IsTrue (lacks line_feed t)) (sym text_is) refl;
 }
 
 -- a copy of a pair
@@ -56,6 +65,7 @@ copy_reached one other pair copy reached (state_is, states_are, text_is) = recor
     λ leads. subst (λ t. AcceptsText other (t ++ text)) (sym text_is) ((reached.states text).1 (subst (λ f. LeadsIn other.edges.items f text) states_are leads)),
   );
   width = ap length states_are ∙ reached.width;
+  line = subst (λ t. IsTrue (lacks line_feed t)) (sym text_is) reached.line;
 }
 
 -- ---- what is found
@@ -73,7 +83,7 @@ whether_empty edges flags false false e h = λ leads. let k : is_in flags 0 ≡ 
 
 -- the text of a pair whose state is the last
 pub found_text : (one other : Automaton) (pair : Pair) (b : Bool) → IsReached one other pair → pair.state ≡ 0 → is_in pair.states.items 0 ≡ b →
-    AcceptsText one pair.text.items × IsWhether b (AcceptsText other pair.text.items)
+    AcceptsText one pair.text.items × IsWhether b (AcceptsText other pair.text.items) × IsTrue (lacks line_feed pair.text.items)
 found_text one other pair b reached last states_is =
     let nothing = append-nil pair.text.items in (
       subst (λ t. AcceptsText one t) nothing (reached.state [] last),
@@ -82,6 +92,7 @@ found_text one other pair b reached last states_is =
           (let same = reached.states [] in (same.1, same.0))
           (whether_empty other.edges.items pair.states.items b b states_is refl)
           ),
+      reached.line,
     )
 
 -- a pair that is no witness, and each that it leads to is seen
@@ -149,14 +160,14 @@ pub extended_more : (old mid new : List Pair) → IsExtended old mid → IsExten
 extended_more old mid new (more, e) (last, f) = (more ++ last, f ∙ ap (λ l. l ++ last) e ∙ append_assoc old more last)
 
 -- pairs that are grown by one that is reached
-pub grown_reached : (one other : Automaton) (pair : Pair) (c : ℕ) (edge : Edge) (states : List Bool) (old new : List Pair) → IsWithin other → IsReached one other pair →
+pub grown_reached : (one other : Automaton) (pair : Pair) (c : ℕ) (edge : Edge) (states : List Bool) (old new : List Pair) → c ≢ line_feed → IsWithin other → IsReached one other pair →
     Contains one.edges.items edge → states ≡ moved other.edges.items pair.states.items c → IsGrownBy (IsStepBy edge pair c states) old new →
     All (IsReached one other) old → All (IsReached one other) new
-grown_reached one other pair c edge states old new within reached has e grown all = λ k d lt.
+grown_reached one other pair c edge states old new plain within reached has e grown all = λ k d lt.
     let it = get_or new k d in
     elim (grown it (Contains-get_or new k d lt)) [
       | inl before ↦ All-contains (IsReached one other) old it all before
-      | inr (by_edge, (state_is, states_are, text_is)) ↦ step_reached one other pair it c edge within reached has by_edge.0 by_edge.1 (state_is, states_are ∙ e, text_is)
+      | inr (by_edge, (state_is, states_are, text_is)) ↦ step_reached one other pair it c edge plain within reached has by_edge.0 by_edge.1 (state_is, states_are ∙ e, text_is)
     ]
 
 -- a pair that is done stays done

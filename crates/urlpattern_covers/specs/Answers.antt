@@ -29,22 +29,24 @@ IsReason options parts other_options others reasons.TooMany = Unit {0}
 abbrev pub IsCovering : OptionsView → List PartView → (asked_options : OptionsView) → (asked : List PartView) → Covering → Type 0
 IsCovering options parts asked_options asked coverings.Covered =
     (text : List ℕ) → IsTrue (all_scalars text) → IsTrue (lacks line_feed text) → MeansText asked_options asked text → MeansText options parts text
-IsCovering options parts asked_options asked (coverings.NotCovered text) = MeansText asked_options asked text.items × ¬ MeansText options parts text.items
+IsCovering options parts asked_options asked (coverings.NotCovered text) =
+    MeansText asked_options asked text.items × (¬ MeansText options parts text.items) × IsTrue (lacks line_feed text.items)
 IsCovering options parts asked_options asked (coverings.Unknown reason) = IsReason asked_options asked options parts reason
 
 -- whether both mean a text without line feed
 abbrev pub IsOverlap : OptionsView → List PartView → OptionsView → List PartView → Overlap → Type 0
 IsOverlap options parts other_options others overlaps.Apart =
     (text : List ℕ) → IsTrue (all_scalars text) → IsTrue (lacks line_feed text) → MeansText options parts text → ¬ MeansText other_options others text
-IsOverlap options parts other_options others (overlaps.Common text) = MeansText options parts text.items × MeansText other_options others text.items
+IsOverlap options parts other_options others (overlaps.Common text) =
+    MeansText options parts text.items × MeansText other_options others text.items × IsTrue (lacks line_feed text.items)
 IsOverlap options parts other_options others (overlaps.Unknown reason) = IsReason options parts other_options others reason
 
 -- ---- steps
 
--- a text that the parts mean, and the others as wanted
+-- a text without line feed that the parts mean, and the others as wanted
 abbrev pub IsSought : OptionsView → List PartView → OptionsView → List PartView → (is_meant : Bool) → Answer → Type 0
 IsSought options parts other_options others is_meant (answers.Text text) =
-    MeansText options parts text.items × IsWhether is_meant (MeansText other_options others text.items)
+    MeansText options parts text.items × IsWhether is_meant (MeansText other_options others text.items) × IsTrue (lacks line_feed text.items)
 IsSought options parts other_options others is_meant answers.Nothing =
     (text : List ℕ) → IsTrue (all_scalars text) → IsTrue (lacks line_feed text) → MeansText options parts text → IsWhether (not is_meant) (MeansText other_options others text)
 IsSought options parts other_options others is_meant (answers.Unknown reason) = IsReason options parts other_options others reason

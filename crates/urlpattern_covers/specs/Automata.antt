@@ -43,9 +43,10 @@ abbrev pub IsWhether : Bool → Type 0 → Type 0
 IsWhether true fact = fact
 IsWhether false fact = ¬ fact
 
--- What a search finds. A text is accepted by the first automaton, and by the second as wanted. Where nothing is found, there
--- is no such text of characters without line feed.
+-- What a search finds. A text without line feed is accepted by the first automaton, and by the second as wanted. Where nothing is
+-- found, there is no such text of characters.
 abbrev pub IsFoundBy : (one other : Automaton) → (is_accepted : Bool) → Found → Type 0
-IsFoundBy one other is_accepted (Text text) = AcceptsText one text.items × IsWhether is_accepted (AcceptsText other text.items)
+IsFoundBy one other is_accepted (Text text) =
+    AcceptsText one text.items × IsWhether is_accepted (AcceptsText other text.items) × IsTrue (lacks line_feed text.items)
 IsFoundBy one other is_accepted Nothing = (text : List ℕ) → IsTrue (all_scalars text) → IsTrue (lacks line_feed text) → AcceptsText one text → IsWhether (not is_accepted) (AcceptsText other text)
 IsFoundBy one other is_accepted TooMany = Unit {0}

@@ -5,7 +5,7 @@ use Rattle.urlpattern_covers.specs.Automata.{Leads, LeadsFrom, named, passes}
 use Rattle.urlpattern_covers.specs.declared.automaton.Automaton.{Automaton}
 use Rattle.urlpattern_covers.specs.declared.automaton.Edge.{Edge}
 use Rattle.urlpattern_covers.specs.declared.search.Pair.{Pair}
-use Rattle.urlpattern_syntax.specs.Text.{is_among, line_feed}
+use Rattle.urlpattern_syntax.specs.Text.{is_among, lacks, line_feed}
 
 -- ---- sets of states
 
@@ -51,11 +51,12 @@ AreClasses edges others classes = (c : ℕ) → IsScalar c →
 -- ---- pairs
 
 -- What is true of a pair: its text leads from a start of the first automaton to its state, and from the starts of the second to
--- its states, and to no others.
+-- its states, and to no others. The text has no line feed.
 pub record IsReached (one other : Automaton) (pair : Pair) : Type 0 where
   pub state : (text : List ℕ) → Leads one.edges.items pair.state text → LeadsFrom one.edges.items one.starts.items (pair.text.items ++ text)
   pub states : (text : List ℕ) → LeadsFrom other.edges.items other.starts.items (pair.text.items ++ text) ↔ LeadsIn other.edges.items pair.states.items text
   pub width : length pair.states.items ≡ other.states
+  pub line : IsTrue (lacks line_feed pair.text.items)
 
 -- one of the pairs has this state and these states
 abbrev pub IsSeen : List Pair → (state : ℕ) → (states : List Bool) → Type 0

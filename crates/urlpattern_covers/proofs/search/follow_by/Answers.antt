@@ -31,7 +31,7 @@ loop-edge-preserved c =
     subst (λ s. IsBy edge pair c.args.c → IsSeen new edge.to s) states_are
     (subst (λ l. IsBy (get_or l i none) pair c.args.c → IsSeen new (get_or l i none).to c.deref-in-loop-edge.result.now) here after.seen) in
     record {
-      reached = grown_reached one other pair c.args.c edge states old new c.requires.within c.requires.pair (Contains-get_or edges i none lt) refl grown before.reached;
+      reached = grown_reached one other pair c.args.c edge states old new c.if-c-eq10.false c.requires.within c.requires.pair (Contains-get_or edges i none lt) refl grown before.reached;
       kept = extended_more c.args.pairs.now.items old new before.kept after.kept;
       followed = λ it has. elim (contains_more edges i none it lt has) [
         | inl earlier ↦ λ by_edge. seen_more old new it.to states after.kept (before.followed it earlier by_edge)

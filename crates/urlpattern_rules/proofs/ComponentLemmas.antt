@@ -1,0 +1,122 @@
+-- What is known of one component.
+use Rattle.std.proofs.Common.{◌≡◌, ◌≢◌, ◌∙◌, ℕ, Bool, true, false, List, [], ◌∷◌, ◌++◌, ◌⊎◌, inl, inr, refl, sym, subst, ap, append-nil, Option, Some, None}
+use Rattle.std.specs.List.{list_any}
+use Rattle.std.specs.Prelude.{◌||◌, IsTrue}
+use Rattle.std.specs.Str.{all_scalars}
+use Rattle.std.proofs.lemmas.List.Elements.{All-cons, All-head, All-nil, All-tail}
+use Rattle.urlpattern_covers.specs.Answers.{IsCovering, IsOverlap, is_custom_kind, is_custom_part}
+use Rattle.urlpattern_covers.specs.Meaning.{MeansText}
+use Rattle.urlpattern_covers.specs.declared.parts.Covering.{Covering}
+use Rattle.urlpattern_covers.specs.declared.parts.Covering.TheVariants as coverings
+use Rattle.urlpattern_covers.specs.declared.parts.Overlap.{Overlap}
+use Rattle.urlpattern_covers.specs.declared.parts.Overlap.TheVariants as overlaps
+use Rattle.urlpattern_covers.specs.declared.parts.Reason.{Reason}
+use Rattle.urlpattern_covers.specs.declared.parts.Reason.TheVariants as reasons
+use Rattle.urlpattern_meaning.specs.PartMeaning.{AreGenerated}
+use Rattle.urlpattern_rules.specs.Comparing.{AreApart, IsComponentCovering, IsComponentOverlap, IsExample, IsKnown, IsMeantBy, IsOnlyIn, IsReasonFor, IsWithin, MeansIn, TakesEachLine, TakesNoLine, full_wildcard}
+use Rattle.urlpattern_rules.specs.declared.component.ComponentParts.{ComponentParts}
+use Rattle.urlpattern_syntax.specs.declared.parser.{Part.Part, PartType.PartType}
+use Rattle.urlpattern_syntax.specs.{Options.OptionsView, Options.default_options, Options.options_view, Parts.PartView, Parts.part_view, Parts.parts_view, Text.lacks, Text.line_feed}
+
+-- ---- custom regular expressions
+
+kind_other : (kind : PartType) → is_custom_kind kind ≡ false → kind ≢ PartType.Regexp
+kind_other kind e same = let custom : is_custom_kind kind ≡ true = ap is_custom_kind same in absurd cc
+
+kind_custom : (kind : PartType) → is_custom_kind kind ≡ true → kind ≡ PartType.Regexp
+kind_custom PartType.Regexp e = refl
+kind_custom PartType.FixedText e = absurd cc
+kind_custom PartType.SegmentWildcard e = absurd cc
+kind_custom PartType.FullWildcard e = absurd cc
+
+generated_cases : (part : Part) (parts : List Part) (b : Bool) → is_custom_part part ≡ b → (b || list_any is_custom_part parts) ≡ false → (list_any is_custom_part parts ≡ false → AreGenerated (parts_view parts)) → AreGenerated (parts_view (part ∷ parts))
+generated_cases part parts true e none later = absurd cc
+generated_cases part parts false e none later = All-cons (λ (it : PartView). it.kind ≢ PartType.Regexp) (part_view part) (parts_view parts) (kind_other part.kind e) (later none)
+
+pub generated : (parts : List Part) → list_any is_custom_part parts ≡ false → AreGenerated (parts_view parts)
+generated [] none = All-nil (λ (it : PartView). it.kind ≢ PartType.Regexp)
+generated (part ∷ parts) none = generated_cases part parts (is_custom_part part) refl none (generated parts)
+
+custom_cases : (part : Part) (parts : List Part) (b : Bool) → is_custom_part part ≡ b → (b || list_any is_custom_part parts) ≡ true → (list_any is_custom_part parts ≡ true → ¬ AreGenerated (parts_view parts)) → ¬ AreGenerated (parts_view (part ∷ parts))
+custom_cases part parts true e some later are = All-head (λ (it : PartView). it.kind ≢ PartType.Regexp) (part_view part) (parts_view parts) are (kind_custom part.kind e)
+custom_cases part parts false e some later are = later some (All-tail (λ (it : PartView). it.kind ≢ PartType.Regexp) (part_view part) (parts_view parts) are)
+
+pub custom : (parts : List Part) → list_any is_custom_part parts ≡ true → ¬ AreGenerated (parts_view parts)
+custom [] some are = absurd cc
+custom (part ∷ parts) some are = custom_cases part parts (is_custom_part part) refl some (custom parts) are
+
+-- ---- reasons
+
+pub reason_first : (component other : ComponentParts) (reason : Reason) → IsReasonFor component component reason → IsReasonFor component other reason
+reason_first component other reasons.CustomExpression h = λ both. h (both.1, both.1)
+reason_first component other reasons.IgnoredCase (inl e) = inr e
+reason_first component other reasons.IgnoredCase (inr e) = inr e
+reason_first component other reasons.TooMany h = tt
+
+pub reason_second : (component other : ComponentParts) (reason : Reason) → IsReasonFor other other reason → IsReasonFor component other reason
+reason_second component other reasons.CustomExpression h = λ both. h (both.0, both.0)
+reason_second component other reasons.IgnoredCase (inl e) = inl e
+reason_second component other reasons.IgnoredCase (inr e) = inl e
+reason_second component other reasons.TooMany h = tt
+
+-- ---- a full wildcard
+
+pub wildcard_means : (options : OptionsView) (text : List ℕ) → IsTrue (lacks line_feed text) → MeansText options (full_wildcard ∷ []) text
+wildcard_means options text line =
+    let whole : text ≡ text ++ [] = sym (append-nil text) in
+    (Some text ∷ [], text, [], Some text ∷ [], [], whole, refl,
+      record {
+        count = 1;
+        allowed = refl;
+        are_copies = (text, [], whole, (text, whole, line), refl);
+        are_captures = (Some text, (text, whole, refl), refl);
+      },
+      (refl, refl))
+
+-- ---- answers of lists of parts
+
+pub covering_known : (component asked : ComponentParts) (covering : Covering) → IsKnown component → IsKnown asked →
+    IsCovering (options_view component.options) (parts_view component.parts.items) (options_view asked.options) (parts_view asked.parts.items) covering →
+    IsComponentCovering component asked covering
+covering_known component asked coverings.Covered known asked_known is = inr (record { known = known; asked_known = asked_known; within = is })
+covering_known component asked (coverings.NotCovered text) known asked_known is =
+    record { known = known; meant = record { known = asked_known; means = is.0; line = is.2 }; not_meant = is.1 }
+covering_known component asked (coverings.Unknown reason) known asked_known is = is
+
+pub overlap_known : (component other : ComponentParts) (overlap : Overlap) → IsKnown component → IsKnown other →
+    IsOverlap (options_view component.options) (parts_view component.parts.items) (options_view other.options) (parts_view other.parts.items) overlap →
+    IsComponentOverlap component other overlap
+overlap_known component other overlaps.Apart known other_known is = record { known = known; other_known = other_known; apart = is }
+overlap_known component other (overlaps.Common text) known other_known is =
+    (record { known = known; means = is.0; line = is.2 }, record { known = other_known; means = is.1; line = is.2 })
+overlap_known component other (overlaps.Unknown reasons.CustomExpression) known other_known is = λ both. is (both.1, both.0)
+overlap_known component other (overlaps.Unknown reasons.IgnoredCase) known other_known (inl e) = inr e
+overlap_known component other (overlaps.Unknown reasons.IgnoredCase) known other_known (inr e) = inl e
+overlap_known component other (overlaps.Unknown reasons.TooMany) known other_known is = tt
+
+-- what covers a full wildcard takes each line
+pub each_line : (component anything : ComponentParts) → IsKnown component → parts_view anything.parts.items ≡ full_wildcard ∷ [] →
+    IsCovering (options_view component.options) (parts_view component.parts.items) (options_view anything.options) (parts_view anything.parts.items) coverings.Covered → TakesEachLine component
+each_line component anything known are is = record {
+  known = known;
+  takes = λ text fine line. is text fine line (subst (λ parts. MeansText (options_view anything.options) parts text) (sym are) (wildcard_means (options_view anything.options) text line));
+}
+
+-- what overlaps a full wildcard has an example
+wildcard_generated : AreGenerated (full_wildcard ∷ [])
+wildcard_generated = All-cons (λ (it : PartView). it.kind ≢ PartType.Regexp) full_wildcard [] (λ e. let h : is_custom_kind PartType.FullWildcard ≡ is_custom_kind PartType.Regexp = ap is_custom_kind e in absurd cc) (All-nil (λ (it : PartView). it.kind ≢ PartType.Regexp))
+
+pub example_known : (component anything : ComponentParts) (overlap : Overlap) → IsKnown component →
+    options_view anything.options ≡ default_options → parts_view anything.parts.items ≡ full_wildcard ∷ [] →
+    IsOverlap (options_view component.options) (parts_view component.parts.items) (options_view anything.options) (parts_view anything.parts.items) overlap → IsExample component overlap
+example_known component anything overlaps.Apart known options are is = record {
+  known = known;
+  takes_none = λ text fine line means. is text fine line means (subst (λ parts. MeansText (options_view anything.options) parts text) (sym are) (wildcard_means (options_view anything.options) text line));
+}
+example_known component anything (overlaps.Common text) known options are is = record { known = known; means = is.0; line = is.2 }
+example_known component anything (overlaps.Unknown reasons.CustomExpression) known options are is =
+    absurd (is (known.generated, subst AreGenerated (sym are) wildcard_generated))
+example_known component anything (overlaps.Unknown reasons.IgnoredCase) known options are (inl e) = inl e
+example_known component anything (overlaps.Unknown reasons.IgnoredCase) known options are (inr e) =
+    let f : anything.options.ignore_case ≡ false = ap (λ (o : OptionsView). o.ignore_case) options in absurd cc
+example_known component anything (overlaps.Unknown reasons.TooMany) known options are is = tt

@@ -1,0 +1,2 @@
+pub mod ComponentLemmas
+pub mod OrderLemmas

@@ -1,0 +1,174 @@
+//! The parts of one component.
+
+ghost use Rattle.std.specs.Prelude.{◌≡◌, [], ◌∷◌, IfNone, IfOk, IfSome, IsTrue, false};
+ghost use Rattle.std.specs.List.{list_any};
+ghost use Rattle.urlpattern_covers.specs.Answers.{is_custom_part};
+ghost use Rattle.urlpattern_syntax.specs.Options.{default_options, options_view};
+ghost use Rattle.urlpattern_syntax.specs.Parts.{parts_view};
+
+use std::alloc::{AllocError, Global};
+use urlpattern_covers::{Covering, Overlap, Reason, covers, overlaps};
+use urlpattern_syntax::parser::{Options, Part, PartModifier, PartType};
+
+/// The parts of one component, and the options under which they were read.
+#[derive(Debug, Drop)]
+pub struct ComponentParts {
+    /// The options.
+    pub options: Options,
+    /// The parts.
+    pub parts: Vec<Part>,
+}
+
+impl ComponentParts {
+    ghost use Rattle.urlpattern_rules.specs.Comparing.{IsComponentCovering, IsComponentOverlap, IsExample, IsKnown, IsReasonFor, TakesEachLine, full_wildcard};
+
+    /// A full wildcard alone, which means each text without line feed.
+    fn anything(alloc: Global) -> Result<Self, AllocError>
+        ensures options { IfOk result (λ component. options_view component.options ≡ default_options) }
+        ensures parts { IfOk result (λ component. parts_view component.parts.items ≡ full_wildcard ∷ []) }
+    {
+        let mut parts = Vec::new(alloc);
+        parts.push(Part {
+            kind: PartType::FullWildcard,
+            value: String::new(alloc),
+            modifier: PartModifier::None,
+            name: String::new(alloc),
+            prefix: String::new(alloc),
+            suffix: String::new(alloc),
+        })?;
+        Ok(Self {
+            options: Options::default(alloc),
+            parts,
+        })
+    }
+
+    /// Why nothing is known of what the parts mean. `None`: it is known.
+    fn unknown(&self) -> Option<Reason>
+        ensures known { IfNone result (IsKnown self.now) }
+        ensures reason { IfSome result (IsReasonFor self.now self.now) }
+    {
+        if self.options.ignore_case {
+            return Some(Reason::IgnoredCase);
+        }
+        if has_custom(&self.parts) {
+            return Some(Reason::CustomExpression);
+        }
+        None
+    }
+
+    /// Why it is not known how the parts compare with others. `None`: of both is known what they mean.
+    fn unknown_with(&self, other: &Self) -> Option<Reason>
+        ensures known { IfNone result (IsKnown self.now × IsKnown other.now) }
+        ensures reason { IfSome result (IsReasonFor self.now other.now) }
+    {
+        match self.unknown() {
+            Some(reason) => Some(reason),
+            None => other.unknown(),
+        }
+    }
+
+    /// Whether the parts are known to mean each text without line feed.
+    fn takes_each_line(&self, alloc: Global) -> Result<bool, AllocError>
+        ensures { IfOk result (λ takes. IsTrue takes → TakesEachLine self.now) }
+    {
+        match self.unknown() {
+            Some(_) => Ok(false),
+            None => self.covers_anything(alloc),
+        }
+    }
+
+    /// Whether the parts, of which is known what they mean, mean each text without line feed.
+    fn covers_anything(&self, alloc: Global) -> Result<bool, AllocError>
+        requires { IsKnown self.now }
+        ensures { IfOk result (λ takes. IsTrue takes → TakesEachLine self.now) }
+    {
+        let anything = Self::anything(alloc)?;
+        let covering = covers(
+            alloc,
+            &self.options,
+            &self.parts,
+            &anything.options,
+            &anything.parts,
+        )?;
+        match covering {
+            Covering::Covered => Ok(true),
+            _ => Ok(false),
+        }
+    }
+
+    /// Returns whether each text without line feed that the asked parts mean is meant by these.
+    pub(crate) fn covers(&self, alloc: Global, asked: &Self) -> Result<Covering, AllocError>
+        ensures { IfOk result (IsComponentCovering self.now asked.now) }
+    {
+        match self.unknown_with(asked) {
+            None => covers(
+                alloc,
+                &self.options,
+                &self.parts,
+                &asked.options,
+                &asked.parts,
+            ),
+            Some(reason) => {
+                if self.takes_each_line(alloc)? {
+                    return Ok(Covering::Covered);
+                }
+                Ok(Covering::Unknown(reason))
+            }
+        }
+    }
+
+    /// Returns whether both mean a text without line feed.
+    pub(crate) fn overlaps(&self, alloc: Global, other: &Self) -> Result<Overlap, AllocError>
+        ensures { IfOk result (IsComponentOverlap self.now other.now) }
+    {
+        match self.unknown_with(other) {
+            None => overlaps(
+                alloc,
+                &self.options,
+                &self.parts,
+                &other.options,
+                &other.parts,
+            ),
+            Some(reason) => Ok(Overlap::Unknown(reason)),
+        }
+    }
+
+    /// Returns a text without line feed that the parts mean, if there is one.
+    pub(crate) fn example(&self, alloc: Global) -> Result<Overlap, AllocError>
+        ensures { IfOk result (IsExample self.now) }
+    {
+        match self.unknown() {
+            None => self.common_with_anything(alloc),
+            Some(reason) => Ok(Overlap::Unknown(reason)),
+        }
+    }
+
+    /// Returns a text without line feed that the parts mean, if there is one. It is known what they mean.
+    fn common_with_anything(&self, alloc: Global) -> Result<Overlap, AllocError>
+        requires { IsKnown self.now }
+        ensures { IfOk result (IsExample self.now) }
+    {
+        let anything = Self::anything(alloc)?;
+        overlaps(
+            alloc,
+            &self.options,
+            &self.parts,
+            &anything.options,
+            &anything.parts,
+        )
+    }
+}
+
+/// Whether one of the parts is a custom regular expression.
+fn has_custom(parts: &[Part]) -> bool
+    ensures { result ≡ list_any is_custom_part parts.now }
+{
+    parts.iter().any(|part| is_custom(part))
+}
+
+/// Whether the part is a custom regular expression.
+fn is_custom(part: &Part) -> bool
+    ensures { result ≡ is_custom_part part.now }
+{
+    matches!(part.kind, PartType::Regexp)
+}

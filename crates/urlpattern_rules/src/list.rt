@@ -1,0 +1,79 @@
+//! Lists of patterns: which cover which.
+
+ghost use Rattle.std.specs.Prelude.{◌≡◌, ℕ, All, IfOk, MatchOption, OnOk, Some, take};
+ghost use Rattle.std.specs.List.{slice_get};
+ghost use Rattle.urlpattern_rules.specs.Comparing.{CoversAt, IsListed, IsNotKnownToCover, IsUnreachable, Tells, with_found};
+ghost use Rattle.urlpattern_rules.specs.declared.pattern.PatternParts.{PatternParts};
+
+use crate::pattern::{PatternCovering, PatternParts};
+use std::alloc::{AllocError, Global};
+
+/// A pattern of a list that one before it covers.
+#[derive(Clone, Copy, Debug, PartialEq, Eq)]
+pub struct Unreachable {
+    /// The index of the pattern.
+    pub pattern: usize,
+    /// The index of the first that is known to cover it.
+    pub by: usize,
+}
+
+/// Returns the index of the first of these patterns that is known to cover the asked one.
+///
+/// Each pattern before it does not mean some eight texts that the asked one means, or it is not known whether it does.
+pub fn first_covering(
+    alloc: Global,
+    patterns: &[PatternParts],
+    asked: &PatternParts,
+) -> Result<Option<usize>, AllocError>
+    ensures { IfOk result (λ found. MatchOption found (All (IsNotKnownToCover asked.now) patterns.now)
+        (λ index. CoversAt patterns.now asked.now index × All (IsNotKnownToCover asked.now) (take index patterns.now))) }
+{
+    for (index, pattern) in patterns.iter().enumerate() {
+        if is_known_to_cover(alloc, pattern, asked)? {
+            return Ok(Some(index));
+        }
+    }
+    Ok(None)
+}
+
+/// Whether it is known that the pattern covers the asked one.
+fn is_known_to_cover(
+    alloc: Global,
+    pattern: &PatternParts,
+    asked: &PatternParts,
+) -> Result<bool, AllocError>
+    ensures { IfOk result (Tells pattern.now asked.now) }
+{
+    match pattern.covers(alloc, asked)? {
+        PatternCovering::Covered => Ok(true),
+        _ => Ok(false),
+    }
+}
+
+/// Lists each pattern that one before it is known to cover, with the index of the first such one.
+///
+/// In a list whose first match counts these are never found. A pattern that several others cover only together is not listed.
+pub fn unreachable(
+    alloc: Global,
+    patterns: &[PatternParts],
+) -> Result<Vec<Unreachable>, AllocError>
+    ensures covered { IfOk result (λ found. All (IsUnreachable patterns.now) found.items) }
+    ensures others { IfOk result (λ found. (index : ℕ) (asked : PatternParts) → slice_get patterns.now index ≡ Some asked → IsListed patterns.now found.items index asked) }
+{
+    let mut found = Vec::new(alloc);
+    for (index, asked) in patterns.iter().enumerate() {
+        let by = first_covering(alloc, &patterns[..index], asked)?;
+        add(&mut found, index, by)?;
+    }
+    Ok(found)
+}
+
+/// Adds a pattern that this one covers, if one does.
+fn add(found: &mut Vec<Unreachable>, pattern: usize, by: Option<usize>) -> Result<(), AllocError>
+    ensures { OnOk result (found.new.items ≡ with_found found.old.items pattern by) }
+{
+    if let Some(by) = by {
+        found.push(Unreachable { pattern, by })?;
+    }
+    Ok(())
+}

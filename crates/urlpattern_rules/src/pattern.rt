@@ -1,0 +1,218 @@
+//! The parts of a pattern's eight components.
+
+ghost use Rattle.std.specs.Prelude.{◌≡◌, IfErr, IfOk};
+ghost use Rattle.std.specs.Str.{chars};
+ghost use Rattle.urlpattern_syntax.specs.Eight.{at};
+ghost use Rattle.urlpattern_syntax.specs.Text.{text_of};
+
+use crate::component::ComponentParts;
+use std::alloc::{AllocError, Global};
+use urlpattern_covers::{Covering, Overlap, Reason};
+use urlpattern_syntax::eight::{ComponentName, Eight};
+
+/// The parts of a pattern's eight components.
+#[derive(Debug, Drop)]
+pub struct PatternParts {
+    /// Those of each component.
+    pub components: Eight<ComponentParts>,
+}
+
+/// Eight texts in which two patterns part.
+#[derive(Debug, Drop)]
+pub struct Parting {
+    /// A component whose text the one pattern does not mean.
+    pub component: ComponentName,
+    /// The texts, which the asked pattern means.
+    pub texts: Eight<String>,
+}
+
+/// Whether a pattern covers another one.
+#[derive(Debug, Drop)]
+pub enum PatternCovering {
+    /// It means whatever the asked one means.
+    Covered,
+    /// It does not mean these texts, which the asked one means.
+    NotCovered(Parting),
+    /// It is not known, because of this component.
+    Unknown(ComponentName, Reason),
+}
+
+/// Whether two patterns overlap.
+#[derive(Debug, Drop)]
+pub enum PatternOverlap {
+    /// No eight texts are meant by both.
+    Apart,
+    /// Both mean these.
+    Common(Eight<String>),
+    /// It is not known, because of this component.
+    Unknown(ComponentName, Reason),
+}
+
+/// The first component in which two patterns part.
+#[derive(Debug, Drop)]
+pub(crate) enum First {
+    /// There is none.
+    Nowhere,
+    /// This one, by this text.
+    At(ComponentName, Vec<char>),
+    /// There is none, as far as is known, and of this one nothing is known.
+    Unknown(ComponentName, Reason),
+}
+
+/// Why a component has no text.
+#[derive(Debug, Drop)]
+pub(crate) enum Lack {
+    /// There is none.
+    Nothing(ComponentName),
+    /// It is not known.
+    Unknown(ComponentName, Reason),
+    /// Memory ran out.
+    OutOfMemory,
+}
+
+impl From<AllocError> for Lack {
+    fn from(_: AllocError) -> Self {
+        Self::OutOfMemory
+    }
+}
+
+impl PatternParts {
+    ghost use Rattle.urlpattern_rules.specs.Comparing.{IsCommonText, IsFirst, IsMeantBy, IsPatternCovering, IsPatternOverlap, IsTextWith, LacksExample, MeansEach};
+
+    /// Returns whether this pattern means all that the asked one means: eight texts without line feed.
+    ///
+    /// Components are compared one by one. One that takes each text covers any other. Of other components with a custom regular
+    /// expression, and where case is ignored, nothing is known; and nothing where the work would be too much, which has a bound.
+    /// The texts of `NotCovered` are among the shortest.
+    pub fn covers(&self, alloc: Global, asked: &Self) -> Result<PatternCovering, AllocError>
+        ensures { IfOk result (IsPatternCovering self.now asked.now) }
+    {
+        match self.first_parting(alloc, asked)? {
+            First::Nowhere => Ok(PatternCovering::Covered),
+            First::At(component, text) => self.parted(alloc, asked, component, &text),
+            First::Unknown(component, reason) => Ok(PatternCovering::Unknown(component, reason)),
+        }
+    }
+
+    /// Returns whether both patterns mean some eight texts without line feed, and such texts.
+    ///
+    /// What is not known is as for [`PatternParts::covers`].
+    pub fn overlaps(&self, alloc: Global, other: &Self) -> Result<PatternOverlap, AllocError>
+        ensures { IfOk result (IsPatternOverlap self.now other.now) }
+    {
+        let text = |name: ComponentName| -> Result<String, Lack>
+            ensures { IsCommonText self.entry.now other.entry.now name result }
+        { self.common_text(alloc, other, name) };
+        match Eight::try_from_fn(text) {
+            Ok(texts) => Ok(PatternOverlap::Common(texts)),
+            Err(Lack::Nothing(_)) => Ok(PatternOverlap::Apart),
+            Err(Lack::Unknown(component, reason)) => Ok(PatternOverlap::Unknown(component, reason)),
+            Err(Lack::OutOfMemory) => Err(AllocError),
+        }
+    }
+
+    /// The first component in which the patterns part.
+    fn first_parting(&self, alloc: Global, asked: &Self) -> Result<First, AllocError>
+        ensures { IfOk result (IsFirst self.now asked.now) }
+    {
+        let mut first = First::Nowhere;
+        for name in ComponentName::all() {
+            let covering = self
+                .components
+                .get(*name)
+                .covers(alloc, asked.components.get(*name))?;
+            match covering {
+                Covering::Covered => {}
+                Covering::NotCovered(text) => return Ok(First::At(*name, text)),
+                Covering::Unknown(reason) => first = First::Unknown(*name, reason),
+            }
+        }
+        Ok(first)
+    }
+
+    /// The answer where the patterns part in this component, by this text.
+    fn parted(
+        &self,
+        alloc: Global,
+        asked: &Self,
+        component: ComponentName,
+        text: &[char],
+    ) -> Result<PatternCovering, AllocError>
+        requires { IsFirst self.now asked.now (First.At component text.now) }
+        ensures { IfOk result (IsPatternCovering self.now asked.now) }
+    {
+        let text = string_of(alloc, text)?;
+        match asked.texts_with(alloc, component, &text) {
+            Ok(texts) => Ok(PatternCovering::NotCovered(Parting { component, texts })),
+            Err(Lack::Nothing(_)) => Ok(PatternCovering::Covered),
+            Err(Lack::Unknown(name, reason)) => Ok(PatternCovering::Unknown(name, reason)),
+            Err(Lack::OutOfMemory) => Err(AllocError),
+        }
+    }
+
+    /// Eight texts that the pattern means, with this one for a component.
+    fn texts_with(
+        &self,
+        alloc: Global,
+        component: ComponentName,
+        text: &str,
+    ) -> Result<Eight<String>, Lack>
+        requires { IsMeantBy (at self.now.components component) (chars text.now) }
+        ensures meant { IfOk result (MeansEach self.now) }
+        ensures same { IfOk result (λ texts. text_of (at texts component) ≡ chars text.now) }
+        ensures lack { IfErr result (LacksExample self.now) }
+    {
+        let value = |name: ComponentName| -> Result<String, Lack>
+            ensures { IsTextWith self.entry.now component (chars text.entry.now) name result }
+        { self.text_with(alloc, name, component, text) };
+        Eight::try_from_fn(value)
+    }
+
+    /// A text of a component that the pattern means: this one for the component where patterns part.
+    fn text_with(
+        &self,
+        alloc: Global,
+        name: ComponentName,
+        parted: ComponentName,
+        text: &str,
+    ) -> Result<String, Lack>
+        requires { IsMeantBy (at self.now.components parted) (chars text.now) }
+        ensures { IsTextWith self.now parted (chars text.now) name result }
+    {
+        if name == parted {
+            return Ok(String::from_str(alloc, text)?);
+        }
+        match self.components.get(name).example(alloc)? {
+            Overlap::Common(text) => Ok(string_of(alloc, &text)?),
+            Overlap::Apart => Err(Lack::Nothing(name)),
+            Overlap::Unknown(reason) => Err(Lack::Unknown(name, reason)),
+        }
+    }
+
+    /// A text of a component that both patterns mean.
+    fn common_text(
+        &self,
+        alloc: Global,
+        other: &Self,
+        name: ComponentName,
+    ) -> Result<String, Lack>
+        ensures { IsCommonText self.now other.now name result }
+    {
+        let overlap = self
+            .components
+            .get(name)
+            .overlaps(alloc, other.components.get(name))?;
+        match overlap {
+            Overlap::Common(text) => Ok(string_of(alloc, &text)?),
+            Overlap::Apart => Err(Lack::Nothing(name)),
+            Overlap::Unknown(reason) => Err(Lack::Unknown(name, reason)),
+        }
+    }
+}
+
+/// A text of its characters.
+fn string_of(alloc: Global, characters: &[char]) -> Result<String, AllocError>
+    ensures { IfOk result (λ text. text_of text ≡ characters.now) }
+{
+    characters.iter().copied().collect(alloc)
+}
