@@ -72,6 +72,10 @@ pub enum Operation {
     FirstMatch,
     /// What is wrong with a pattern.
     Diagnose,
+    /// Which of two patterns is more specific in a component.
+    Compare,
+    /// Whether a pattern covers another, and whether they overlap.
+    Covers,
     /// What a plain value writes as JSON that is read of JSON.
     Json,
     /// Which values of a type equal each other.
@@ -96,6 +100,8 @@ pub const OPERATIONS: &[(&str, Operation)] = &[
     ("quirks_pattern", Operation::QuirksPattern),
     ("first_match", Operation::FirstMatch),
     ("diagnose", Operation::Diagnose),
+    ("compare", Operation::Compare),
+    ("covers", Operation::Covers),
     ("json", Operation::Json),
     ("equal", Operation::Equal),
 ];

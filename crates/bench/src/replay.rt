@@ -11,6 +11,7 @@ mod given;
 mod matchers;
 mod patterns;
 mod plain;
+mod rules;
 mod tokens;
 mod trees;
 mod values;
@@ -163,6 +164,8 @@ fn is_same_over<R: RegExp>(operation: Operation, case: &Case<'_>) -> Result<bool
         Operation::QuirksPattern => plain::is_same::<R>(case),
         Operation::FirstMatch => first_match::is_same::<R>(case),
         Operation::Diagnose => diagnoses::is_same::<R>(case),
+        Operation::Compare => rules::is_same_order(case),
+        Operation::Covers => rules::is_same_covering(case),
         Operation::Json => trees::is_same(case),
         Operation::Equal => trees::is_same_equality(case),
     }

@@ -1,2 +1,3 @@
 pub mod ComponentLemmas
 pub mod OrderLemmas
+pub mod PatternLemmas

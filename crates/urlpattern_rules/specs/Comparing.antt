@@ -12,7 +12,7 @@ use Rattle.urlpattern_covers.specs.declared.parts.Overlap.TheVariants as overlap
 use Rattle.urlpattern_covers.specs.declared.parts.Reason.{Reason}
 use Rattle.urlpattern_meaning.specs.PartMeaning.{AreGenerated}
 use Rattle.urlpattern_rules.specs.declared.component.ComponentParts.{ComponentParts}
-use Rattle.urlpattern_rules.specs.declared.list.Unreachable.{Unreachable}
+use Rattle.urlpattern_rules.specs.declared.list.Shadowed.{Shadowed}
 use Rattle.urlpattern_rules.specs.declared.pattern.First.{First}
 use Rattle.urlpattern_rules.specs.declared.pattern.First.TheVariants as firsts
 use Rattle.urlpattern_rules.specs.declared.pattern.Lack.{Lack}
@@ -23,7 +23,8 @@ use Rattle.urlpattern_rules.specs.declared.pattern.PatternCovering.TheVariants a
 use Rattle.urlpattern_rules.specs.declared.pattern.PatternOverlap.{PatternOverlap}
 use Rattle.urlpattern_rules.specs.declared.pattern.PatternOverlap.TheVariants as commons
 use Rattle.urlpattern_rules.specs.declared.pattern.PatternParts.{PatternParts}
-use Rattle.urlpattern_syntax.specs.{Eight.ComponentName, Eight.Eight, Eight.at, Options.options_view, Parts.PartView, Parts.parts_view, Text.lacks, Text.line_feed, Text.text_of}
+use Rattle.urlpattern_syntax.specs.declared.eight.{ComponentName.ComponentName, Eight.Eight}
+use Rattle.urlpattern_syntax.specs.{Eight.at, Options.options_view, Parts.PartView, Parts.parts_view, Text.lacks, Text.line_feed, Text.text_of}
 use Rattle.urlpattern_syntax.specs.declared.parser.{PartModifier.PartModifier, PartType.PartType}
 
 -- ---- one component
@@ -151,9 +152,20 @@ abbrev pub LacksExample : (asked : PatternParts) → Lack → Type 0
 LacksExample asked =
     IsLack (λ name. TakesNoLine (at asked.components name)) (λ name reason. IsReasonFor (at asked.components name) (at asked.components name) reason)
 
--- a text of the component that the asked pattern means: this one for the component where the patterns part
+-- what is found up to here, or else what is known of one component more
+abbrev pub first_or : First → (name : ComponentName) → Covering → First
+first_or (firsts.At earlier text) name covering = firsts.At earlier text
+first_or firsts.Nowhere name coverings.Covered = firsts.Nowhere
+first_or firsts.Nowhere name (coverings.NotCovered text) = firsts.At name text
+first_or firsts.Nowhere name (coverings.Unknown reason) = firsts.Unknown name reason
+first_or (firsts.Unknown earlier why) name coverings.Covered = firsts.Unknown earlier why
+first_or (firsts.Unknown earlier why) name (coverings.NotCovered text) = firsts.At name text
+first_or (firsts.Unknown earlier why) name (coverings.Unknown reason) = firsts.Unknown name reason
+
+-- a text of the component that the asked pattern means, if it means this one in the component where the patterns part
 abbrev pub IsTextWith : (asked : PatternParts) → (parted : ComponentName) → (text : List ℕ) → ComponentName → Result (String Global) Lack → Type 0
-IsTextWith asked parted text name (Ok found) = IsMeantBy (at asked.components name) (text_of found) × (name ≡ parted → text_of found ≡ text)
+IsTextWith asked parted text name (Ok found) =
+    (IsMeantBy (at asked.components parted) text → IsMeantBy (at asked.components name) (text_of found)) × (name ≡ parted → text_of found ≡ text)
 IsTextWith asked parted text name (Err lack) = LacksExample asked lack
 
 -- a text of the component that both patterns mean
@@ -177,7 +189,7 @@ Tells pattern asked true = IsCovered pattern asked
 Tells pattern asked false = IsNotKnownToCover asked pattern
 
 -- one more is found, if this one covers it
-abbrev pub with_found : List Unreachable → (pattern : ℕ) → (by : Option ℕ) → List Unreachable
+abbrev pub with_found : List Shadowed → (pattern : ℕ) → (by : Option ℕ) → List Shadowed
 with_found found pattern None = found
 with_found found pattern (Some by) = found ++ record { pattern = pattern; by = by } ∷ []
 
@@ -186,11 +198,11 @@ abbrev pub CoversAt : List PatternParts → (asked : PatternParts) → (index : 
 CoversAt patterns asked index = (pattern : PatternParts) × (slice_get patterns index ≡ Some pattern) × IsCovered pattern asked
 
 -- the pattern of an index is covered by one before it
-abbrev pub IsUnreachable : List PatternParts → Unreachable → Type 0
-IsUnreachable patterns found =
+abbrev pub IsShadowed : List PatternParts → Shadowed → Type 0
+IsShadowed patterns found =
     (found.by < found.pattern) × ((asked : PatternParts) × (slice_get patterns found.pattern ≡ Some asked) × CoversAt patterns asked found.by)
 
 -- the pattern of an index is listed as unreachable, or of none before it is known that it covers it
-abbrev pub IsListed : List PatternParts → List Unreachable → (index : ℕ) → PatternParts → Type 0
+abbrev pub IsListed : List PatternParts → List Shadowed → (index : ℕ) → PatternParts → Type 0
 IsListed patterns found index asked =
     ((by : ℕ) × Contains found (record { pattern = index; by = by })) ⊎ All (IsNotKnownToCover asked) (take index patterns)

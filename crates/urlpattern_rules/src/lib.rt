@@ -11,7 +11,7 @@ mod order;
 mod pattern;
 
 pub use component::ComponentParts;
-pub use list::{Unreachable, first_covering, unreachable};
+pub use list::{Shadowed, first_covering, unreachable};
 pub use order::compare_parts;
 pub use pattern::{Parting, PatternCovering, PatternOverlap, PatternParts};
 pub use urlpattern_covers::Reason;

@@ -2,7 +2,7 @@
 
 ghost use Rattle.std.specs.Prelude.{◌≡◌, ℕ, All, IfOk, MatchOption, OnOk, Some, take};
 ghost use Rattle.std.specs.List.{slice_get};
-ghost use Rattle.urlpattern_rules.specs.Comparing.{CoversAt, IsListed, IsNotKnownToCover, IsUnreachable, Tells, with_found};
+ghost use Rattle.urlpattern_rules.specs.Comparing.{CoversAt, IsListed, IsNotKnownToCover, IsShadowed, Tells, with_found};
 ghost use Rattle.urlpattern_rules.specs.declared.pattern.PatternParts.{PatternParts};
 
 use crate::pattern::{PatternCovering, PatternParts};
@@ -10,7 +10,7 @@ use std::alloc::{AllocError, Global};
 
 /// A pattern of a list that one before it covers.
 #[derive(Clone, Copy, Debug, PartialEq, Eq)]
-pub struct Unreachable {
+pub struct Shadowed {
     /// The index of the pattern.
     pub pattern: usize,
     /// The index of the first that is known to cover it.
@@ -28,8 +28,8 @@ pub fn first_covering(
     ensures { IfOk result (λ found. MatchOption found (All (IsNotKnownToCover asked.now) patterns.now)
         (λ index. CoversAt patterns.now asked.now index × All (IsNotKnownToCover asked.now) (take index patterns.now))) }
 {
-    for (index, pattern) in patterns.iter().enumerate() {
-        if is_known_to_cover(alloc, pattern, asked)? {
+    for index in 0..patterns.len() {
+        if is_known_to_cover(alloc, &patterns[index], asked)? {
             return Ok(Some(index));
         }
     }
@@ -56,24 +56,24 @@ fn is_known_to_cover(
 pub fn unreachable(
     alloc: Global,
     patterns: &[PatternParts],
-) -> Result<Vec<Unreachable>, AllocError>
-    ensures covered { IfOk result (λ found. All (IsUnreachable patterns.now) found.items) }
+) -> Result<Vec<Shadowed>, AllocError>
+    ensures covered { IfOk result (λ found. All (IsShadowed patterns.now) found.items) }
     ensures others { IfOk result (λ found. (index : ℕ) (asked : PatternParts) → slice_get patterns.now index ≡ Some asked → IsListed patterns.now found.items index asked) }
 {
     let mut found = Vec::new(alloc);
-    for (index, asked) in patterns.iter().enumerate() {
-        let by = first_covering(alloc, &patterns[..index], asked)?;
+    for index in 0..patterns.len() {
+        let by = first_covering(alloc, &patterns[..index], &patterns[index])?;
         add(&mut found, index, by)?;
     }
     Ok(found)
 }
 
 /// Adds a pattern that this one covers, if one does.
-fn add(found: &mut Vec<Unreachable>, pattern: usize, by: Option<usize>) -> Result<(), AllocError>
+fn add(found: &mut Vec<Shadowed>, pattern: usize, by: Option<usize>) -> Result<(), AllocError>
     ensures { OnOk result (found.new.items ≡ with_found found.old.items pattern by) }
 {
     if let Some(by) = by {
-        found.push(Unreachable { pattern, by })?;
+        found.push(Shadowed { pattern, by })?;
     }
     Ok(())
 }

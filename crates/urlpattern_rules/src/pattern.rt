@@ -6,7 +6,9 @@ ghost use Rattle.urlpattern_syntax.specs.Eight.{at};
 ghost use Rattle.urlpattern_syntax.specs.Text.{text_of};
 
 use crate::component::ComponentParts;
+use crate::order::compare_parts;
 use std::alloc::{AllocError, Global};
+use std::cmp::Ordering;
 use urlpattern_covers::{Covering, Overlap, Reason};
 use urlpattern_syntax::eight::{ComponentName, Eight};
 
@@ -71,13 +73,34 @@ pub(crate) enum Lack {
 }
 
 impl From<AllocError> for Lack {
-    fn from(_: AllocError) -> Self {
-        Self::OutOfMemory
+    ghost use Rattle.urlpattern_rules.specs.declared.pattern.Lack.TheVariants as lacking;
+
+    ghost from_gives = { λ _ lack. lack ≡ lacking.OutOfMemory };
+
+    fn from(_error: AllocError) -> Lack {
+        Lack::OutOfMemory
+    }
+}
+
+impl First {
+    ghost use Rattle.urlpattern_rules.specs.Comparing.{first_or};
+
+    /// What is found up to here, or else what is known of one component more.
+    fn or(self, name: ComponentName, covering: Covering) -> First
+        ensures { result ≡ first_or self name covering }
+    {
+        match (self, covering) {
+            (First::At(earlier, text), _) => First::At(earlier, text),
+            (_, Covering::NotCovered(text)) => First::At(name, text),
+            (_, Covering::Unknown(reason)) => First::Unknown(name, reason),
+            (first, Covering::Covered) => first,
+        }
     }
 }
 
 impl PatternParts {
-    ghost use Rattle.urlpattern_rules.specs.Comparing.{IsCommonText, IsFirst, IsMeantBy, IsPatternCovering, IsPatternOverlap, IsTextWith, LacksExample, MeansEach};
+    ghost use Rattle.urlpattern_rules.specs.Order.{parts_cmp};
+    ghost use Rattle.urlpattern_rules.specs.Comparing.{IsCommonText, IsFirst, IsMeantBy, IsOnlyIn, IsPatternCovering, IsPatternOverlap, IsTextWith, LacksExample, MeansEach};
 
     /// Returns whether this pattern means all that the asked one means: eight texts without line feed.
     ///
@@ -111,21 +134,29 @@ impl PatternParts {
         }
     }
 
+    /// Compares two patterns in one component, as [`compare_parts`] does: the more specific is the greater.
+    ///
+    /// What is covered need not be less specific, nor the other way round: `/a{/b}?` is greater than `/:x`, and has the text `/a/b`, which
+    /// the other has not.
+    ///
+    /// <https://urlpattern.spec.whatwg.org/#dom-urlpattern-comparecomponent>
+    pub fn compare_component(component: ComponentName, left: &Self, right: &Self) -> Ordering
+        ensures { result ≡ parts_cmp (at left.now.components component).parts.items (at right.now.components component).parts.items }
+    {
+        let left = left.components.get(component);
+        let right = right.components.get(component);
+        compare_parts(&left.parts, &right.parts)
+    }
+
     /// The first component in which the patterns part.
     fn first_parting(&self, alloc: Global, asked: &Self) -> Result<First, AllocError>
         ensures { IfOk result (IsFirst self.now asked.now) }
     {
         let mut first = First::Nowhere;
         for name in ComponentName::all() {
-            let covering = self
-                .components
-                .get(*name)
-                .covers(alloc, asked.components.get(*name))?;
-            match covering {
-                Covering::Covered => {}
-                Covering::NotCovered(text) => return Ok(First::At(*name, text)),
-                Covering::Unknown(reason) => first = First::Unknown(*name, reason),
-            }
+            let component = self.components.get(*name);
+            let covering = component.covers(alloc, asked.components.get(*name))?;
+            first = first.or(*name, covering);
         }
         Ok(first)
     }
@@ -138,7 +169,7 @@ impl PatternParts {
         component: ComponentName,
         text: &[char],
     ) -> Result<PatternCovering, AllocError>
-        requires { IsFirst self.now asked.now (First.At component text.now) }
+        requires { IsOnlyIn (at self.now.components component) (at asked.now.components component) text.now }
         ensures { IfOk result (IsPatternCovering self.now asked.now) }
     {
         let text = string_of(alloc, text)?;
@@ -176,7 +207,6 @@ impl PatternParts {
         parted: ComponentName,
         text: &str,
     ) -> Result<String, Lack>
-        requires { IsMeantBy (at self.now.components parted) (chars text.now) }
         ensures { IsTextWith self.now parted (chars text.now) name result }
     {
         if name == parted {

@@ -1,0 +1,93 @@
+//! The parts of a pattern's components are read.
+
+ghost use Rattle.std.specs.Prelude.{◌≡◌, IfOk, length};
+ghost use Rattle.std.specs.Str.{chars};
+ghost use Rattle.urlpattern_canonical.specs.Canonical.{IsAnswer};
+ghost use Rattle.urlpattern_core.specs.Components.{component_view};
+ghost use Rattle.urlpattern_init.specs.Inheritance.{values_view};
+ghost use Rattle.urlpattern_pattern.specs.ByText.{AnswersByItsText};
+ghost use Rattle.urlpattern_pattern.specs.CompilerSteps.{manner_by};
+ghost use Rattle.urlpattern_pattern.specs.Patterns.{pattern_view};
+ghost use Rattle.urlpattern_readings.specs.Readings.{AreItsParts, AreReadByValues, IsReadAs, IsReadFor};
+ghost use Rattle.urlpattern_syntax.specs.Eight.{at};
+ghost use Rattle.urlpattern_syntax.specs.declared.eight.ComponentName.{ComponentName};
+
+use std::alloc::Global;
+use urlpattern_canonical::canonicalize_and_process::Canonicalizer;
+use urlpattern_core::Error;
+use urlpattern_core::component::Component;
+use urlpattern_core::parser::parse_pattern_string;
+use urlpattern_core::regexp::RegExp;
+use urlpattern_init::UrlPatternInit;
+use urlpattern_inputs::UrlPatternOptions;
+use urlpattern_pattern::{Compiler, UrlPattern, pattern_of, pattern_values};
+use urlpattern_rules::{ComponentParts, PatternParts};
+use urlpattern_syntax::eight::{ComponentName, Eight};
+
+/// Reads the parts of a pattern that was compiled from this init and these options.
+///
+/// If it answers by the texts of the init, as a pattern over `PatternRegexp` does, then each component of which it is known what its
+/// parts mean matches what they mean.
+///
+/// The error is that of a text that is refused, which was not when the pattern was compiled, or that memory ran out.
+pub fn parts_of<R: RegExp>(
+    alloc: Global,
+    pattern: &UrlPattern<R>,
+    init: &UrlPatternInit,
+    options: &UrlPatternOptions,
+) -> Result<PatternParts, Error>
+    ensures { AnswersByItsText R.answer init.now options.now (pattern_view pattern.now) → IfOk result (AreItsParts R.answer (pattern_view pattern.now)) }
+{
+    let values = pattern_values(alloc, init)?;
+    let parts = parts_of_values(alloc, &pattern.protocol, &values, options);
+    drop(values);
+    parts
+}
+
+/// Reads the parts of values, under the protocol that they were compiled to.
+fn parts_of_values<R: RegExp>(
+    alloc: Global,
+    protocol: &Component<R>,
+    values: &UrlPatternInit,
+    options: &UrlPatternOptions,
+) -> Result<PatternParts, Error>
+    ensures { IfOk result (AreReadByValues R.answer options.now (values_view values.now) (component_view protocol.now).matcher) }
+{
+    let canonicalizer = Canonicalizer::shared(alloc)?;
+    let compiler = Compiler {
+        alloc,
+        canonicalizer,
+        values,
+        options,
+    };
+    let hierarchical = compiler.is_hierarchical(protocol)?;
+    read_each(&compiler, hierarchical)
+}
+
+/// Reads the parts of each component.
+fn read_each(compiler: &Compiler<'_>, hierarchical: bool) -> Result<PatternParts, Error>
+    ensures { IfOk result (λ parts. (name : ComponentName) → IsReadAs (manner_by compiler.now hierarchical name) (at parts.components name)) }
+{
+    let value = |name: ComponentName| -> Result<ComponentParts, Error>
+        ensures { IsReadFor (manner_by compiler.entry.now hierarchical name) result }
+    { read(compiler, name, hierarchical) };
+    let components = Eight::try_from_fn(value)?;
+    Ok(PatternParts { components })
+}
+
+/// Reads the parts of a component.
+fn read(
+    compiler: &Compiler<'_>,
+    component: ComponentName,
+    hierarchical: bool,
+) -> Result<ComponentParts, Error>
+    ensures { IsReadFor (manner_by compiler.now hierarchical component) result }
+{
+    let options = compiler.options_of(component, hierarchical)?;
+    let canonicalize = |text: &str| -> Result<String, Error>
+        ensures { IsAnswer ((manner_by compiler.entry.now hierarchical component).canonical (chars text.now)) (length text.now) result }
+    { compiler.canonical(component, hierarchical, text) };
+    let pattern = pattern_of(compiler.values, component).unwrap_or("*");
+    let parts = parse_pattern_string(compiler.alloc, pattern, &options, canonicalize)?;
+    Ok(ComponentParts { options, parts })
+}

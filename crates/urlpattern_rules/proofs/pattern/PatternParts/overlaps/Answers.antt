@@ -1,0 +1,4 @@
+use Rattle.urlpattern_rules.proofs.pattern.PatternParts.overlaps.Goals as goal
+
+pub returns-in-Ok : goal.returns-in-Ok
+returns-in-Ok c = ?
