@@ -8,7 +8,7 @@ use Rattle.std.specs.Prelude.{Option, IsTrue, codes, encode_utf8_all, false}
 use Rattle.std.specs.Str.{chars}
 use Rattle.url.specs.Parser.{Parsed}
 use Rattle.urlpattern_pattern.proofs.MeaningLemmas.{none_custom}
-use Rattle.urlpattern_pattern.specs.Compiled.{IsComponentCompiled, Manner, canonical_encoding}
+use Rattle.urlpattern_create.specs.Compiled.{IsComponentCompiled, Manner, canonical_encoding}
 use Rattle.urlpattern_pattern.specs.Meaning.{ReadsAs}
 use Rattle.urlpattern_core.proofs.FirstMatchers.{flags_agree}
 use Rattle.urlpattern_core.specs.Components.{ComponentView, engine_flags, has_regexp}

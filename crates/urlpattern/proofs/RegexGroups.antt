@@ -19,7 +19,7 @@ use Rattle.urlpattern_meaning.specs.Matching.{Answers, FollowsMiddle}
 use Rattle.urlpattern_meaning.specs.PartMeaning.{Captures}
 use Rattle.urlpattern_pattern.proofs.MatchLaws.{texts-one}
 use Rattle.urlpattern_pattern.proofs.MeaningLemmas.{none_custom, read_once}
-use Rattle.urlpattern_pattern.specs.Compiled.{AreCompiled, IsComponentCompiled, Manner, manner_of}
+use Rattle.urlpattern_create.specs.Compiled.{AreCompiled, IsComponentCompiled, Manner, manner_of}
 use Rattle.urlpattern_pattern.specs.Match.{IsMatch, IsResultOf, ResultView}
 use Rattle.urlpattern_pattern.specs.MatchInput.{input_texts}
 use Rattle.urlpattern_pattern.specs.ByText.{IsFirstResult}

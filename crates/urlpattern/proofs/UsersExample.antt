@@ -5,8 +5,8 @@ use Rattle.std.specs.Prelude.{codes}
 use Rattle.std.specs.Str.{chars}
 use Rattle.url.proofs.OnLiterals.{url_on_literals}
 use Rattle.urlpattern.proofs.ReadTexts.{IsOfParts, anything, anything_read, canonical_value, literal, literal_read, nothing_read, of_parts, text_and_segment}
-use Rattle.urlpattern_pattern.specs.Compiled.{AreCompiled, EachIsCompiled, Manner, canonical_encoding, manner_of}
-use Rattle.urlpattern_pattern.specs.FromString.{IsPatternOfText}
+use Rattle.urlpattern_create.specs.Compiled.{AreCompiled, EachIsCompiled, Manner, canonical_encoding, manner_of}
+use Rattle.urlpattern_create.specs.FromString.{IsPatternOfText}
 use Rattle.urlpattern_pattern.specs.Patterns.{PatternView}
 use Rattle.urlpattern_canonical.specs.Canonical.{canonical_hash, canonical_hostname, canonical_password, canonical_pathname, canonical_protocol, canonical_search, canonical_username}
 use Rattle.urlpattern_canonical.specs.declared.canonicalize_and_process.ProcessType.TheVariants.{Pattern}

@@ -14,8 +14,8 @@ use Rattle.urlpattern_inputs.specs.declared.init.UrlPatternInit.{UrlPatternInit 
 use Rattle.urlpattern_inputs.specs.declared.input.StringOrInit.{StringOrInit}
 use Rattle.urlpattern_inputs.specs.declared.input.StringOrInit.TheVariants as inputs
 use Rattle.urlpattern_inputs.specs.InputValues.{plain_init_texts, input_view}
-pub use Rattle.urlpattern_pattern.specs.FromString.{RefusesText, parsed_base, text_bytes}
-use Rattle.urlpattern_pattern.specs.FromString.{IsInitOfText}
+pub use Rattle.urlpattern_create.specs.FromString.{RefusesText, parsed_base, text_bytes}
+use Rattle.urlpattern_create.specs.FromString.{IsInitOfText}
 use Rattle.urlpattern_syntax.specs.Errors.{ErrorView, ErrorView as views}
 use Rattle.urlpattern_syntax.specs.{Text.text_of, Eight.Values}
 

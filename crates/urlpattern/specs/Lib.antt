@@ -34,10 +34,10 @@ pub use Rattle.urlpattern_pattern.specs.BorrowedMatches
 pub use Rattle.urlpattern_pattern.specs.ByText
 pub use Rattle.urlpattern_pattern.specs.ByTextLaws
 pub use Rattle.urlpattern_pattern.specs.Calls
-pub use Rattle.urlpattern_pattern.specs.Compiled
-pub use Rattle.urlpattern_pattern.specs.CompilerSteps
-pub use Rattle.urlpattern_pattern.specs.Diagnoses
-pub use Rattle.urlpattern_pattern.specs.FromString
+pub use Rattle.urlpattern_create.specs.Compiled
+pub use Rattle.urlpattern_create.specs.CompilerSteps
+pub use Rattle.urlpattern_create.specs.Diagnoses
+pub use Rattle.urlpattern_create.specs.FromString
 pub use Rattle.urlpattern_pattern.specs.Match
 pub use Rattle.urlpattern_pattern.specs.MatchInput
 pub use Rattle.urlpattern_pattern.specs.Meaning

@@ -8,7 +8,7 @@ use Rattle.urlpattern_meaning.specs.PartMeaning.{Captures}
 use Rattle.urlpattern_inputs.specs.declared.options.UrlPatternOptions.{UrlPatternOptions}
 use Rattle.urlpattern_syntax.specs.declared.eight.ComponentName.{ComponentName}
 use Rattle.urlpattern_syntax.specs.Eight.{Texts, Values, at}
-use Rattle.urlpattern_pattern.specs.Compiled.{AreCompiled, Manner, manner_of}
+use Rattle.urlpattern_create.specs.Compiled.{AreCompiled, Manner, manner_of}
 use Rattle.urlpattern_pattern.specs.Match.{HasMatch, HasNoMatch, IsLongInput, IsMatch, IsSameResult, ResultView}
 use Rattle.urlpattern_pattern.specs.{MatchInput.input_texts, ByText.IsFirstResult, Patterns.PatternView}
 use Rattle.urlpattern_pattern.specs.Meaning.{IsExecuted, IsFoundByMeaning, MeaningPremises, RegexPremises}

@@ -1,6 +1,7 @@
 -- What browsers are answered.
 use Rattle.std.specs.Prelude.{◌≡◌, ℕ, List, Result, IfOk}
-use Rattle.urlpattern_pattern.specs.{Compiled.IsPatternOfInit, Patterns.PatternView, Patterns.has_regexp_groups}
+use Rattle.urlpattern_pattern.specs.{Patterns.PatternView, Patterns.has_regexp_groups}
+use Rattle.urlpattern_create.specs.{Compiled.IsPatternOfInit}
 use Rattle.urlpattern_core.specs.Components.{component_view}
 use Rattle.urlpattern_core.specs.declared.component.Component.{Component}
 use Rattle.urlpattern_compiled.specs.Plain.{plain_component}

@@ -2,8 +2,6 @@ pub mod Results
 pub mod MatchInputLemmas
 pub mod GroupLemmas
 pub mod NameOrder
-pub mod CompiledLemmas
-pub mod DiagnosisLemmas
 pub mod MatchSteps
 pub mod MismatchLemmas
 pub mod MatchLaws

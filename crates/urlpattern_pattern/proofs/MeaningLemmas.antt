@@ -14,7 +14,7 @@ use Rattle.urlpattern_meaning.proofs.MatcherMeaning.{matcher_means}
 use Rattle.urlpattern_meaning.specs.Matching.{Agrees, Answers}
 use Rattle.urlpattern_meaning.specs.PartMeaning.{Captures, PartsMean}
 use Rattle.urlpattern_pattern.proofs.MatchLaws.{no_input-long, texts-one}
-use Rattle.urlpattern_pattern.specs.Compiled.{AreCompiled, Manner, canonical_encoding, manner_of}
+use Rattle.urlpattern_create.specs.Compiled.{AreCompiled, Manner, canonical_encoding, manner_of}
 use Rattle.urlpattern_pattern.specs.Match.{HasNoMatch, IsLongInput, IsMatch, IsResultOf, ResultView, group_of, result_view}
 use Rattle.urlpattern_pattern.specs.declared.pattern.result.UrlPatternResult.{UrlPatternResult}
 use Rattle.urlpattern_pattern.specs.MatchInput.{input_texts}

@@ -19,7 +19,7 @@ use Rattle.urlpattern_meaning.specs.Matching.{Answers, ArePeeled, EndsPlain, IsM
 use Rattle.urlpattern_meaning.specs.PartMeaning.{Captures}
 use Rattle.urlpattern_meaning.specs.Printing.{printed}
 use Rattle.urlpattern_pattern.proofs.MatchersDecide.{Decided, answered, bool_decided, text_decided}
-use Rattle.urlpattern_pattern.specs.Compiled.{FirstRefused, HasHierarchicalPath, IsComponentCompiled, IsComponentRefused, IsPathKind, IsPatternOfInit, Manner, RefusesInit, after_protocol, canonical_encoding, is_mark, manner_of, pattern_values, without_default_port}
+use Rattle.urlpattern_create.specs.Compiled.{FirstRefused, HasHierarchicalPath, IsComponentCompiled, IsComponentRefused, IsPathKind, IsPatternOfInit, Manner, RefusesInit, after_protocol, canonical_encoding, is_mark, manner_of, pattern_values, without_default_port}
 use Rattle.urlpattern_pattern.specs.Meaning.{ReadsAs}
 use Rattle.urlpattern_pattern.specs.Outcomes.{EngineAnswers, InitsHaveOutcomes, InitsHaveValues, IsOfTexts, UrlAnswers, of_texts}
 use Rattle.urlpattern_pattern.specs.Patterns.{PatternView}

@@ -20,7 +20,7 @@ use Rattle.urlpattern_meaning.specs.PartMeaning.{Captures}
 use Rattle.urlpattern_pattern.proofs.ByTextLemmas.{bool_one, component_by, scheme_accepted, scheme_taken}
 use Rattle.urlpattern_pattern.proofs.MeaningLemmas.{read_once}
 use Rattle.urlpattern_pattern.specs.ByText.{AnswersByText, HasMeaning, MakesFirstWays}
-use Rattle.urlpattern_pattern.specs.Compiled.{AreCompiled, FirstRefused, HasHierarchicalPath, IsComponentCompiled, IsComponentRefused, IsPathKind, Manner, RefusesValues, after_protocol, canonical_encoding, manner_of, pattern_values}
+use Rattle.urlpattern_create.specs.Compiled.{AreCompiled, FirstRefused, HasHierarchicalPath, IsComponentCompiled, IsComponentRefused, IsPathKind, Manner, RefusesValues, after_protocol, canonical_encoding, manner_of, pattern_values}
 use Rattle.urlpattern_pattern.specs.Meaning.{ReadsAs}
 use Rattle.urlpattern_pattern.specs.Outcomes.{AcceptsAlike, Decides, FirstWaysDecide, InitRefusalsAreOne, IsOfTexts, PatternsExcludeRefusals, TakesOrRefuses, TakesOrRefusesText, of_texts}
 use Rattle.urlpattern_pattern.specs.Patterns.{PatternView}

@@ -10,7 +10,8 @@ use Rattle.urlpattern_meaning.specs.{FirstAnswers.AnswersFirstInMiddle, FirstAns
 use Rattle.urlpattern_syntax.specs.declared.eight.{ComponentName.ComponentName, ComponentName.TheVariants.Protocol}
 use Rattle.urlpattern_syntax.specs.Eight.{Texts, Values, at}
 use Rattle.urlpattern_syntax.specs.{Parts.PartView, RegexpText.group_names, Text.begins_with}
-use Rattle.urlpattern_pattern.specs.Compiled.{AreCompiled, IsPathKind, Manner, is_mark, manner_of, pattern_values}
+use Rattle.urlpattern_create.specs.FromString.{IsInitOfText}
+use Rattle.urlpattern_create.specs.Compiled.{AreCompiled, IsPathKind, Manner, is_mark, manner_of, pattern_values}
 use Rattle.urlpattern_pattern.specs.Match.{IsLongInput, IsResultOf, ResultView}
 use Rattle.urlpattern_pattern.specs.{MatchInput.input_texts, Patterns.PatternView}
 use Rattle.urlpattern_pattern.specs.Meaning.{IsExecuted, IsFoundByMeaning, ReadsAs}
@@ -106,3 +107,8 @@ pub record IsExecutedByMeaning {E : Type 0} (engine : Engine E) (init : UrlPatte
   pub by_text : MakesFirstWays engine → AnswersByItsText engine.answer init asked pattern
   pub found_by_text : (firsts : MakesFirstWays engine) (texts : Texts) → input_texts input ≡ Ok texts → ¬ IsLongInput input
       → IsFoundByText (manner_of asked (by_text firsts).values (by_text firsts).hierarchical) texts found
+
+-- it answers by the texts of the init of this constructor string with this base URL
+abbrev pub AnswersByTextOf : {E : Type 0} → Engine E → (text : List ℕ) → (base : Option (List ℕ)) → UrlPatternOptions → PatternView E → Type 0
+AnswersByTextOf engine text base asked pattern =
+    (init : UrlPatternInit) × IsInitOfText engine text base init × AnswersByItsText engine.answer init asked pattern

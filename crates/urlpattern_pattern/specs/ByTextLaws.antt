@@ -10,7 +10,7 @@ use Rattle.urlpattern_syntax.specs.declared.eight.ComponentName.{ComponentName}
 use Rattle.urlpattern_syntax.specs.Eight.{Texts, Values, at}
 use Rattle.urlpattern_syntax.specs.Parts.{PartView}
 use Rattle.urlpattern_pattern.specs.ByText.{AnswersByItsText, EnginesAnswerFirst, HasMeaning, IsFoundByText}
-use Rattle.urlpattern_pattern.specs.Compiled.{AreCompiled, IsComponentCompiled, IsPatternOfInit, Manner, manner_of, pattern_values}
+use Rattle.urlpattern_create.specs.Compiled.{AreCompiled, IsComponentCompiled, IsPatternOfInit, Manner, manner_of, pattern_values}
 use Rattle.urlpattern_pattern.specs.Match.{FindsInTexts, IsLongInput, IsSameResult, ResultView}
 use Rattle.urlpattern_pattern.specs.{MatchInput.input_texts, Meaning.IsExecuted, Meaning.ReadsAs, Patterns.PatternView}
 

@@ -2,11 +2,7 @@ pub mod BorrowedMatches
 pub mod ByText
 pub mod ByTextLaws
 pub mod Calls
-pub mod Compiled
-pub mod CompilerSteps
-pub mod Diagnoses
 pub mod Folded
-pub mod FromString
 pub mod Match
 pub mod MatchInput
 pub mod Meaning

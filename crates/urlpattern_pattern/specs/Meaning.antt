@@ -9,7 +9,7 @@ use Rattle.regex.specs.declared.string.regex.Regex.{Regex}
 use Rattle.urlpattern_core.specs.Components.{ComponentView}
 use Rattle.urlpattern_core.specs.declared.regexp.RegExp.{Ghosts as Engine}
 use Rattle.urlpattern_meaning.specs.{FirstAnswers.TookText, Matching.FollowsMiddle, PartMeaning.Captures, PartMeaning.PartsMean}
-use Rattle.urlpattern_pattern.specs.Compiled.{AreCompiled, Manner, canonical_encoding, manner_of, pattern_values}
+use Rattle.urlpattern_create.specs.Compiled.{AreCompiled, Manner, canonical_encoding, manner_of, pattern_values}
 use Rattle.urlpattern_pattern.specs.Match.{HasNoMatch, IsLongInput, IsMatch, IsResultOf, ResultView}
 use Rattle.urlpattern_pattern.specs.{MatchInput.input_texts, Patterns.PatternView}
 use Rattle.urlpattern_syntax.specs.{Parts.PartView, Reading.Reads, RegexpText.group_names, Text.lacks, Text.line_feed}

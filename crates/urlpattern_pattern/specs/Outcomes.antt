@@ -11,7 +11,7 @@ use Rattle.urlpattern_syntax.specs.declared.eight.{ComponentName.ComponentName, 
 use Rattle.urlpattern_syntax.specs.{Eight.Values, Errors.ErrorView, Parts.PartView, Reading.Encoding, RegexpText.regexp_text}
 use Rattle.urlpattern_syntax.specs.Errors.{ErrorView as views}
 use Rattle.urlpattern_pattern.specs.{ByText.MakesFirstWays, ByText.ReadsNoCustom, Meaning.ReadsAs, Patterns.PatternView}
-use Rattle.urlpattern_pattern.specs.Compiled.{IsComponentCompiled, IsPatternOfInit, Manner, RefusesInit, canonical_encoding, manner_of, pattern_values}
+use Rattle.urlpattern_create.specs.Compiled.{IsComponentCompiled, IsPatternOfInit, Manner, RefusesInit, canonical_encoding, manner_of, pattern_values}
 
 -- ---- errors
 

@@ -10,5 +10,5 @@ mod pattern;
 pub use match_input::parse_match_input;
 pub use pattern::{
     UrlPattern, UrlPatternCaptures, UrlPatternComponentResult, UrlPatternGroups, UrlPatternResult,
-    captures_of_texts, init_of_text, input_texts, parse_base, parse_url, pathname_texts, url_texts,
+    captures_of_texts, input_texts, pathname_texts, url_texts,
 };

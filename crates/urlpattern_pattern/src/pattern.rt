@@ -6,20 +6,17 @@ ghost use Rattle.urlpattern_syntax.specs.declared.eight.ComponentName.TheVariant
 ghost use Rattle.urlpattern_syntax.specs.Eight.{at};
 
 mod captures;
+mod create;
 mod diagnose;
-mod from_string;
 mod groups;
 mod json;
 mod matching;
 mod mismatch;
 mod once;
-mod parse;
-mod refusal;
 mod result;
 mod texts;
 
 pub use captures::{UrlPatternCaptures, UrlPatternGroups};
-pub use from_string::{init_of_text, parse_base, parse_url};
 pub use matching::captures_of_texts;
 pub use result::{UrlPatternComponentResult, UrlPatternResult};
 pub(crate) use texts::copied;

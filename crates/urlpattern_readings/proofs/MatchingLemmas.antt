@@ -15,8 +15,9 @@ use Rattle.urlpattern_meaning.specs.PartMeaning.{AreGenerated, Captures}
 use Rattle.urlpattern_pattern.proofs.MatchersDecide.{answered}
 use Rattle.urlpattern_pattern.proofs.MeaningLemmas.{read_once}
 use Rattle.urlpattern_pattern.specs.ByText.{AnswersByItsText, AnswersByText, HasMeaning}
-use Rattle.urlpattern_pattern.specs.Compiled.{Manner, manner_of, pattern_values}
-use Rattle.urlpattern_pattern.specs.{Match.AreMatched, Meaning.ReadsAs, Patterns.PatternView}
+use Rattle.urlpattern_create.specs.Compiled.{Manner, manner_of, pattern_values}
+use Rattle.urlpattern_create.specs.PatternViews.{PatternView}
+use Rattle.urlpattern_pattern.specs.{Match.AreMatched, Meaning.ReadsAs}
 use Rattle.urlpattern_readings.specs.Readings.{ApartMatchNothing, AreItsParts, AreReadByValues, CommonAreMatched, CoveredAreMatched, IsReadAs, PartingsAreMatched, texts_of}
 use Rattle.urlpattern_rules.specs.Comparing.{AreApart, IsComponentCovered, IsCovered, IsKnown, IsMeantBy, IsParting, IsWithin, MeansEach, MeansIn, TakesEachLine, TakesNoLine}
 use Rattle.urlpattern_rules.specs.declared.component.ComponentParts.{ComponentParts}

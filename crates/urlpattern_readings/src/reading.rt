@@ -6,7 +6,7 @@ ghost use Rattle.urlpattern_canonical.specs.Canonical.{IsAnswer};
 ghost use Rattle.urlpattern_core.specs.Components.{component_view};
 ghost use Rattle.urlpattern_init.specs.Inheritance.{values_view};
 ghost use Rattle.urlpattern_pattern.specs.ByText.{AnswersByItsText};
-ghost use Rattle.urlpattern_pattern.specs.CompilerSteps.{manner_by};
+ghost use Rattle.urlpattern_create.specs.CompilerSteps.{manner_by};
 ghost use Rattle.urlpattern_pattern.specs.Patterns.{pattern_view};
 ghost use Rattle.urlpattern_readings.specs.Readings.{AreItsParts, AreReadByValues, IsReadAs, IsReadFor};
 ghost use Rattle.urlpattern_syntax.specs.Eight.{at};
@@ -20,7 +20,8 @@ use urlpattern_core::parser::parse_pattern_string;
 use urlpattern_core::regexp::RegExp;
 use urlpattern_init::UrlPatternInit;
 use urlpattern_inputs::UrlPatternOptions;
-use urlpattern_pattern::{Compiler, UrlPattern, pattern_of, pattern_values};
+use urlpattern_create::{Compiler, pattern_of, pattern_values};
+use urlpattern_pattern::UrlPattern;
 use urlpattern_rules::{ComponentParts, PatternParts};
 use urlpattern_syntax::eight::{ComponentName, Eight};
 

@@ -1,6 +1,6 @@
 //! Patterns for browsers: compiled, and as plain data.
 ghost use Rattle.std.specs.Prelude.{◌≡◌, IfErr, IfOk};
-ghost use Rattle.urlpattern_pattern.specs.Compiled.{IsPatternOfInit, RefusesInit};
+ghost use Rattle.urlpattern_create.specs.Compiled.{IsPatternOfInit, RefusesInit};
 ghost use Rattle.urlpattern_pattern.specs.Patterns.{pattern_view, IfPattern};
 ghost use Rattle.urlpattern.specs.Quirks.{IsPlainOf, plain_pattern, IsPlainOfInit};
 ghost use Rattle.urlpattern_compiled.specs.Values.{pattern_by};

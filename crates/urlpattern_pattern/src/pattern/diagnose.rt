@@ -1,34 +1,21 @@
 //! What is wrong with a pattern that is refused.
 
-ghost use Rattle.std.specs.Prelude.{◌≡◌, option_copied, string_bytes, IfNone, IfOk, IfSome, None};
+ghost use Rattle.std.specs.Prelude.{option_copied, IfNone, IfOk, IfSome};
 ghost use Rattle.std.specs.Str.{chars};
-ghost use Rattle.urlpattern_diagnosis.specs.declared.diagnosis.Subject.TheVariants as subjects;
-ghost use Rattle.urlpattern_init.specs.Inheritance.{values_view};
-ghost use Rattle.urlpattern_pattern.specs.Compiled.{AreCompiled, IsPatternOfInit, RefusesInit, RefusesValues};
-ghost use Rattle.urlpattern_pattern.specs.CompilerSteps.{compiled_values, manner_by};
-ghost use Rattle.urlpattern_diagnosis.specs.Spans.{IsSpanIn};
-ghost use Rattle.urlpattern_pattern.specs.Diagnoses.{IsOf, IsPartOfRefused, IsWithinText, ShowsInit, ShowsPattern, ShowsProtocol, ShowsRefusal, ShowsText};
-ghost use Rattle.urlpattern_pattern.specs.FromString.{IsPatternOfText, RefusesPatternOfText};
+ghost use Rattle.urlpattern_create.specs.Compiled.{IsPatternOfInit, RefusesInit};
+ghost use Rattle.urlpattern_create.specs.Diagnoses.{IsWithinText, ShowsInit, ShowsText};
+ghost use Rattle.urlpattern_create.specs.FromString.{IsPatternOfText, RefusesPatternOfText};
 ghost use Rattle.urlpattern_pattern.specs.Patterns.{PatternView};
 ghost use Rattle.urlpattern_syntax.specs.Errors.{error_view};
 
 use super::UrlPattern;
-use super::from_string::parse_base;
-use super::parse::{Compiler, pattern_of, pattern_values};
-use super::refusal::{Refusal, not_memory};
 use std::alloc::Global;
-use urlpattern_canonical::canonicalize_and_process::Canonicalizer;
-use urlpattern_core::Error;
-use urlpattern_core::error::{OutOfMemory, RegExpError};
+use urlpattern_core::error::OutOfMemory;
 use urlpattern_core::regexp::RegExp;
-use urlpattern_core::tokenizer::{TokenizePolicy, tokenize};
-use urlpattern_diagnosis::{
-    Diagnosis, Fault, Place, Span, Subject, component_start, fault_of, refused_expression,
-    refused_row,
-};
-use urlpattern_init::{UrlPatternInit, protocol_of};
+use urlpattern_create::{diagnose_init, diagnose_text};
+use urlpattern_diagnosis::Diagnosis;
+use urlpattern_init::UrlPatternInit;
 use urlpattern_inputs::UrlPatternOptions;
-use urlpattern_syntax::eight::{ComponentName, Eight};
 
 impl<R: RegExp> UrlPattern<R> {
     /// What is wrong with a constructor string, or with its base URL. `None`: it is accepted.
@@ -45,24 +32,7 @@ impl<R: RegExp> UrlPattern<R> {
         ensures shows { IfOk result (λ found. IfSome found (λ diagnosis. ShowsText R.RegExp pattern.now (option_copied base_url.entry) options diagnosis.subject diagnosis)) }
         ensures within { IfOk result (λ found. IfSome found IsWithinText) }
     {
-        let base = match parse_base(alloc, base_url) {
-            Ok(base) => base,
-            Err(error) => {
-                let error = not_memory(error)?;
-                let text = base_url.unwrap_or("");
-                return Ok(Some(Diagnosis::whole(alloc, error, Subject::Base, text)?));
-            }
-        };
-        let init = match UrlPatternInit::parse_constructor_string::<R>(alloc, pattern, base) {
-            Ok(init) => init,
-            Err(error) => {
-                let error = not_memory(error)?;
-                return Ok(Some(protocol_diagnosis(alloc, error, pattern)?));
-            }
-        };
-        let found = init_diagnosis::<R>(alloc, &init, &options, Some(pattern));
-        drop(init);
-        found
+        diagnose_text::<R>(alloc, pattern, base_url, options)
     }
 
     /// What is wrong with an init. `None`: it is accepted.
@@ -79,244 +49,6 @@ impl<R: RegExp> UrlPattern<R> {
         ensures shows { IfOk result (λ found. IfSome found (ShowsInit R.RegExp init.now options)) }
         ensures within { IfOk result (λ found. IfSome found IsWithinText) }
     {
-        init_diagnosis::<R>(alloc, init, &options, None)
-    }
-}
-
-/// What is wrong with a constructor string that is refused when it is split.
-///
-/// The error is that memory ran out.
-fn protocol_diagnosis(alloc: Global, error: Error, text: &str) -> Result<Diagnosis, OutOfMemory>
-    ensures error { IfOk result (λ diagnosis. diagnosis.error ≡ error) }
-    ensures text { IfOk result (λ diagnosis. string_bytes diagnosis.text ≡ text.now) }
-    ensures shows { IfOk result (λ diagnosis. ShowsProtocol (chars text.now) diagnosis.subject diagnosis) }
-    ensures within { IfOk result IsWithinText }
-{
-    let Ok(found) = protocol_of(alloc, text) else {
-        return Err(OutOfMemory);
-    };
-    match (found, &error) {
-        (None, _) | (_, Error::BaseUrlRequired) => {
-            Ok(Diagnosis::whole(alloc, error, Subject::Whole, text)?)
-        }
-        (Some(protocol), _) => {
-            let fault = fault_of(alloc, protocol, "", &error)?;
-            let name = ComponentName::Protocol;
-            let place = Place::of_component(text, protocol, name, 0, protocol.len());
-            let subject = Subject::Component(name);
-            Ok(Diagnosis::of_part(alloc, error, subject, text, protocol, fault, place)?)
-        }
-    }
-}
-
-/// What is wrong with an init, in a constructor string or else in its own values.
-///
-/// The error is that memory ran out.
-fn init_diagnosis<R: RegExp>(
-    alloc: Global,
-    init: &UrlPatternInit,
-    options: &UrlPatternOptions,
-    string: Option<&str>,
-) -> Result<Option<Diagnosis>, OutOfMemory>
-    ensures accepted { IfOk result (λ found. IfNone found ((compiled : PatternView R) × IsPatternOfInit R.RegExp init.now options.now compiled)) }
-    ensures refused { IfOk result (λ found. IfSome found (λ diagnosis. RefusesInit R.RegExp init.now options.now (error_view diagnosis.error))) }
-    ensures shows { IfOk result (λ found. IfSome found (ShowsInit R.RegExp init.now options.now)) }
-    ensures text { IfOk result (λ found. IfSome found (IsOf (option_copied string.entry))) }
-    ensures within { IfOk result (λ found. IfSome found IsWithinText) }
-{
-    let Ok(values) = pattern_values(alloc, init) else {
-        return Err(OutOfMemory);
-    };
-    let given = Given { string, init };
-    let found = values_diagnosis::<R>(alloc, &values, options, given);
-    drop(values);
-    found
-}
-
-/// What is wrong with values.
-///
-/// The error is that memory ran out.
-fn values_diagnosis<R: RegExp>(
-    alloc: Global,
-    values: &UrlPatternInit,
-    options: &UrlPatternOptions,
-    given: Given<'_>,
-) -> Result<Option<Diagnosis>, OutOfMemory>
-    ensures accepted { IfOk result (λ found. IfNone found ((compiled : PatternView R) × AreCompiled R.RegExp options.now (values_view values.now) compiled)) }
-    ensures refused { IfOk result (λ found. IfSome found (λ diagnosis. RefusesValues R.RegExp options.now (values_view values.now) (error_view diagnosis.error))) }
-    ensures shows { IfOk result (λ found. IfSome found (λ diagnosis. ShowsRefusal R.RegExp options.now (values_view values.now) diagnosis.subject diagnosis)) }
-    ensures text { IfOk result (λ found. IfSome found (IsOf (option_copied given.entry.string))) }
-    ensures within { IfOk result (λ found. IfSome found IsWithinText) }
-{
-    let Ok(canonicalizer) = Canonicalizer::shared(alloc) else {
-        return Err(OutOfMemory);
-    };
-    let compiler = Compiler {
-        alloc,
-        canonicalizer,
-        values,
-        options,
-    };
-    match compiler.pattern::<R>() {
-        Ok(pattern) => {
-            drop(pattern);
-            Ok(None)
-        }
-        Err(error) => {
-            let error = not_memory(error)?;
-            Ok(Some(compiler.diagnosis::<R>(error, given)?))
-        }
-    }
-}
-
-/// What is given as a pattern: an init, and the constructor string that it is of, if there is one.
-#[derive(Clone, Copy)]
-struct Given<'a> {
-    string: Option<&'a str>,
-    init: &'a UrlPatternInit,
-}
-
-impl<'a> Given<'a> {
-    /// The value of a component, if it is given.
-    fn value(&self, component: ComponentName) -> Option<&'a str> {
-        self.init.get(component)
-    }
-
-    /// Where the value of a component begins: a byte index.
-    fn start(&self, component: ComponentName) -> usize {
-        let Some(string) = self.string else {
-            return 0;
-        };
-        let values = Eight {
-            protocol: self.value(ComponentName::Protocol),
-            username: self.value(ComponentName::Username),
-            password: self.value(ComponentName::Password),
-            hostname: self.value(ComponentName::Hostname),
-            port: self.value(ComponentName::Port),
-            pathname: self.value(ComponentName::Pathname),
-            search: self.value(ComponentName::Search),
-            hash: self.value(ComponentName::Hash),
-        };
-        component_start(string, &values, component)
-    }
-}
-
-impl Compiler<'_> {
-    /// What is wrong with values that are refused with this error.
-    ///
-    /// The error is that memory ran out.
-    fn diagnosis<R: RegExp>(&self, error: Error, given: Given<'_>) -> Result<Diagnosis, OutOfMemory>
-        requires { RefusesValues R.RegExp self.now.options.now (compiled_values self.now) (error_view error) }
-        ensures refused { IfOk result (λ diagnosis. RefusesValues R.RegExp self.now.options.now (compiled_values self.now) (error_view diagnosis.error)) }
-        ensures shows { IfOk result (λ diagnosis. ShowsRefusal R.RegExp self.now.options.now (compiled_values self.now) diagnosis.subject diagnosis) }
-        ensures text { IfOk result (IsOf (option_copied given.entry.string)) }
-        ensures within { IfOk result IsWithinText }
-    {
-        match self.first_refused::<R>()? {
-            Some(refusal) => self.component_diagnosis::<R>(refusal, given),
-            None => {
-                let text = given.string.unwrap_or("");
-                Ok(Diagnosis::whole(self.alloc, error, Subject::Whole, text)?)
-            }
-        }
-    }
-
-    /// What is wrong with a component that is refused.
-    ///
-    /// The error is that memory ran out.
-    fn component_diagnosis<R: RegExp>(
-        &self,
-        refusal: Refusal,
-        given: Given<'_>,
-    ) -> Result<Diagnosis, OutOfMemory>
-        ensures error { IfOk result (λ diagnosis. diagnosis.error ≡ refusal.error) }
-        ensures subject { IfOk result (λ diagnosis. diagnosis.subject ≡ subjects.Component refusal.component) }
-        ensures shows { IfOk result (ShowsPattern (manner_by self.now refusal.hierarchical refusal.component)) }
-        ensures text { IfOk result (IsOf (option_copied given.entry.string)) }
-        ensures within { IfOk result IsWithinText }
-    {
-        let Refusal {
-            component,
-            hierarchical,
-            error,
-        } = refusal;
-        let Ok(options) = self.options_of(component, hierarchical) else {
-            return Err(OutOfMemory);
-        };
-        let pattern = pattern_of(self.values, component).unwrap_or("*");
-        let point = options.prefix_code_point.as_str();
-        let fault = match self.refused_part::<R>(component, hierarchical, pattern, &error)? {
-            Some(span) => Fault::of_span(span),
-            None => fault_of(self.alloc, pattern, point, &error)?,
-        };
-        let value = given.value(component).unwrap_or(pattern);
-        let text = given.string.unwrap_or(value);
-        let start = given.start(component);
-        let place = Place::of_component(text, pattern, component, start, value.len());
-        let subject = Subject::Component(component);
-        Ok(Diagnosis::of_part(self.alloc, error, subject, text, pattern, fault, place)?)
-    }
-
-    /// The part of a pattern that is refused by itself: a custom expression by the engine, or a row of characters by `url`.
-    ///
-    /// The error is that memory ran out.
-    fn refused_part<R: RegExp>(
-        &self,
-        component: ComponentName,
-        hierarchical: bool,
-        pattern: &str,
-        error: &Error,
-    ) -> Result<Option<Span>, OutOfMemory>
-        ensures part { IfOk result (λ found. IfSome found (λ span. IsPartOfRefused pattern.now error.now (record { span = span; earlier = None }))) }
-        ensures within { IfOk result (λ found. IfSome found (IsSpanIn pattern.now)) }
-    {
-        match error {
-            Error::RegExp(()) => self.refused_expression::<R>(pattern),
-            Error::Url(_) => self.refused_row(component, hierarchical, pattern),
-            _ => Ok(None),
-        }
-    }
-
-    /// The first custom expression of a pattern that the engine refuses by itself.
-    ///
-    /// The error is that memory ran out.
-    fn refused_expression<R: RegExp>(&self, pattern: &str) -> Result<Option<Span>, OutOfMemory>
-        ensures { IfOk result (λ found. IfSome found (IsSpanIn pattern.now)) }
-    {
-        let Ok(tokens) = tokenize(self.alloc, pattern, TokenizePolicy::Strict) else {
-            return Err(OutOfMemory);
-        };
-        let refuses = |text: &str| -> Result<bool, OutOfMemory> {
-            match R::parse(self.alloc, text, "u", true) {
-                Ok(_) => Ok(false),
-                Err(RegExpError::Pattern) => Ok(true),
-                Err(RegExpError::OutOfMemory) => Err(OutOfMemory),
-            }
-        };
-        refused_expression(pattern, &tokens, refuses)
-    }
-
-    /// The first row of characters of a pattern that `url` refuses by itself.
-    ///
-    /// The error is that memory ran out.
-    fn refused_row(
-        &self,
-        component: ComponentName,
-        hierarchical: bool,
-        pattern: &str,
-    ) -> Result<Option<Span>, OutOfMemory>
-        ensures { IfOk result (λ found. IfSome found (IsSpanIn pattern.now)) }
-    {
-        let Ok(tokens) = tokenize(self.alloc, pattern, TokenizePolicy::Strict) else {
-            return Err(OutOfMemory);
-        };
-        let refuses = |text: &str| -> Result<bool, OutOfMemory> {
-            match self.canonical(component, hierarchical, text) {
-                Ok(_) => Ok(false),
-                Err(Error::OutOfMemory) => Err(OutOfMemory),
-                Err(_) => Ok(true),
-            }
-        };
-        refused_row(self.alloc, pattern, &tokens, refuses)
+        diagnose_init::<R>(alloc, init, options)
     }
 }

@@ -2,7 +2,7 @@
 
 ghost use Rattle.std.specs.Prelude.{option_map, IfErr, IfOk};
 ghost use Rattle.urlpattern_pattern.specs.ByText.{IsExecutedByMeaning};
-ghost use Rattle.urlpattern_pattern.specs.Compiled.{RefusesInit};
+ghost use Rattle.urlpattern_create.specs.Compiled.{RefusesInit};
 ghost use Rattle.urlpattern_pattern.specs.Match.{result_view};
 ghost use Rattle.urlpattern_syntax.specs.Errors.{MemoryOr};
 

@@ -2,8 +2,8 @@ use Rattle.std.proofs.Common.{◌≡◌, ◌∙◌, List, ℕ, codes, refl, rule
 use Rattle.std.specs.Str.{chars}
 use Rattle.urlpattern_core.proofs.CompileLemmas.{text-or_asterisk}
 use Rattle.urlpattern_meaning.proofs.Encodings.{reads_weaker}
-use Rattle.urlpattern_pattern.specs.Compiled.{canonical_encoding}
-use Rattle.urlpattern_pattern.specs.CompilerSteps.{manner_by}
+use Rattle.urlpattern_create.specs.Compiled.{canonical_encoding}
+use Rattle.urlpattern_create.specs.CompilerSteps.{manner_by}
 use Rattle.urlpattern_syntax.specs.Reading.{Reads}
 use Rattle.urlpattern_syntax.specs.{Options.OptionsView, Options.options_view, Parts.parts_view}
 use Rattle.urlpattern_readings.proofs.reading.read.Goals as goal

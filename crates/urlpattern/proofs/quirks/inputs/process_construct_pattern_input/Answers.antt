@@ -1,7 +1,7 @@
 use Rattle.std.proofs.Common.{List, ℕ, subst}
 use Rattle.std.specs.Prelude.{IfErr, IfOk, option_copied}
 use Rattle.std.specs.Str.{chars}
-use Rattle.urlpattern_pattern.specs.FromString.{IsInitOfText}
+use Rattle.urlpattern_create.specs.FromString.{IsInitOfText}
 use Rattle.urlpattern.specs.Inputs.{RefusesText}
 use Rattle.urlpattern_core.specs.Regexes.{regex_engine}
 use Rattle.urlpattern_syntax.specs.Errors.{MemoryOr}

@@ -1,0 +1,2 @@
+pub mod CompiledLemmas
+pub mod DiagnosisLemmas

@@ -1,0 +1,11 @@
+use Rattle.std.proofs.Common.{refl}
+use Rattle.urlpattern_create.specs.Compiled.{IsComponentRefused}
+use Rattle.urlpattern_create.specs.CompilerSteps.{manner_by}
+use Rattle.urlpattern_create.proofs.DiagnosisLemmas.{is_other}
+use Rattle.urlpattern_create.proofs.compile.Compiler.refused.Goals as goal
+
+pub returns-in_ok-error-in-Err-clause-refused : goal.returns-in_ok-error-in-Err-clause-refused
+returns-in_ok-error-in-Err-clause-refused g c = (
+  refl,
+  is_other (IsComponentRefused g.R.RegExp (manner_by c.args.self.now c.args.hierarchical c.args.component)) c.in-Err.error c.in_ok-error-in-Err.error c.in-Err.ensures.refused c.in_ok-error-in-Err.ensures,
+)

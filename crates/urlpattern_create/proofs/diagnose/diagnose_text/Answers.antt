@@ -1,0 +1,47 @@
+use Rattle.std.proofs.Common.{◌≡◌, Ok, sym, subst, inl, inr}
+use Rattle.std.specs.Prelude.{option_copied}
+use Rattle.std.specs.Str.{chars}
+use Rattle.urlpattern_init.specs.ConstructorString.{RefusesString}
+use Rattle.urlpattern_create.specs.FromString.{IsInitOfText, RefusesPatternOfText, parsed_base}
+use Rattle.urlpattern_create.proofs.DiagnosisLemmas.{init_accepted, init_shown, is_other, protocol_shown}
+use Rattle.urlpattern_syntax.specs.declared.error.Error.{Error}
+use Rattle.urlpattern_syntax.specs.Errors.{error_view}
+use Rattle.urlpattern_create.proofs.diagnose.diagnose_text.Goals as goal
+
+pub returns-in-Err-parse_constructor_string-clause-refused : goal.returns-in-Err-parse_constructor_string-clause-refused
+returns-in-Err-parse_constructor_string-clause-refused g c =
+    let text = chars c.args.pattern.now in
+    let refused = is_other (RefusesString text c.in-Ok.base) c.in-Err-parse_constructor_string.error c.in_ok-error-in-Err-parse_constructor_string.error
+    c.in-Err-parse_constructor_string.ensures.refused c.in_ok-error-in-Err-parse_constructor_string.ensures in
+    subst (λ (error : Error). RefusesPatternOfText g.R.RegExp text (option_copied c.args.base_url) c.args.options (error_view error))
+    (sym c.in_ok-protocol_diagnosis-in-Err-parse_constructor_string.ensures.error) (inl (inr (c.in-Ok.base, c.in-Ok.ensures.ok, refused)))
+
+pub returns-in-Err-parse_constructor_string-clause-shows : goal.returns-in-Err-parse_constructor_string-clause-shows
+returns-in-Err-parse_constructor_string-clause-shows g c =
+    let made = c.in_ok-protocol_diagnosis-in-Err-parse_constructor_string.field-0 in
+    let is = c.in_ok-protocol_diagnosis-in-Err-parse_constructor_string.ensures in
+    protocol_shown g.R.RegExp c.args.pattern.now (option_copied c.args.base_url) c.args.options made.subject made is.text is.shows
+
+pub returns-clause-accepted : goal.returns-clause-accepted
+returns-clause-accepted g c =
+    let base = option_copied c.args.base_url in
+    let init = c.in-Ok-parse_constructor_string.init in
+    let of = c.in-Ok-parse_constructor_string.ensures in
+    let is : IsInitOfText g.R.RegExp (chars c.args.pattern.now) base init = record {
+      has_base = subst (λ url. parsed_base base ≡ Ok url) (sym of.base) c.in-Ok.ensures.ok;
+      is_split = of.split;
+      is_complete = of.complete;
+    } in
+    init_accepted g.R.RegExp c.args.pattern.now base c.args.options init is c.init_diagnosis-found.result c.init_diagnosis-found.ensures.accepted
+
+pub returns-clause-shows : goal.returns-clause-shows
+returns-clause-shows g c =
+    let base = option_copied c.args.base_url in
+    let init = c.in-Ok-parse_constructor_string.init in
+    let of = c.in-Ok-parse_constructor_string.ensures in
+    let is : IsInitOfText g.R.RegExp (chars c.args.pattern.now) base init = record {
+      has_base = subst (λ url. parsed_base base ≡ Ok url) (sym of.base) c.in-Ok.ensures.ok;
+      is_split = of.split;
+      is_complete = of.complete;
+    } in
+    init_shown g.R.RegExp c.args.pattern.now base c.args.options init is c.init_diagnosis-found.result c.init_diagnosis-found.ensures.shows c.init_diagnosis-found.ensures.text

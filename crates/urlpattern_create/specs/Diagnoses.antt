@@ -1,0 +1,100 @@
+-- What the diagnosis of a refused pattern says: the error, and where a text is at fault. Texts are their bytes.
+use Rattle.std.specs.Prelude.{◌≡◌, ◌⊎◌, ℕ, Bool, List, [], Option, None, Some, Ok, unwrap_or, string_bytes}
+use Rattle.std.specs.Str.{chars}
+use Rattle.urlpattern_core.specs.declared.regexp.RegExp.{Ghosts as Engine}
+use Rattle.urlpattern_diagnosis.specs.Faults.{IsFaultIn, IsFaultOf, IsWholeFault}
+use Rattle.urlpattern_diagnosis.specs.Places.{IsFaultMoved}
+use Rattle.urlpattern_diagnosis.specs.declared.diagnosis.{Diagnosis.Diagnosis, Subject.Subject}
+use Rattle.urlpattern_diagnosis.specs.declared.diagnosis.Subject.TheVariants as subjects
+use Rattle.urlpattern_diagnosis.specs.declared.fault.Fault.{Fault}
+use Rattle.urlpattern_init.specs.Split.{HasProtocol}
+use Rattle.urlpattern_init.specs.declared.init.UrlPatternInit.{UrlPatternInit}
+use Rattle.urlpattern_inputs.specs.declared.options.UrlPatternOptions.{UrlPatternOptions}
+use Rattle.urlpattern_create.specs.Compiled.{IsComponentRefused, Manner, RefusesValues, manner_of, pattern_values}
+use Rattle.urlpattern_create.specs.FromString.{IsInitOfText}
+use Rattle.urlpattern_create.specs.declared.refusal.Refusal.{Refusal}
+use Rattle.urlpattern_syntax.specs.declared.eight.ComponentName.{ComponentName}
+use Rattle.urlpattern_syntax.specs.declared.error.Error.{Error}
+use Rattle.urlpattern_syntax.specs.declared.error.Error.TheVariants as errors
+use Rattle.urlpattern_syntax.specs.Eight.{Values}
+use Rattle.urlpattern_syntax.specs.Errors.{ErrorView, error_view}
+
+-- ---- the component that is refused
+
+abbrev pub error_of : Refusal → ErrorView
+error_of refusal = error_view refusal.error
+
+-- its component is refused with its error, of those that are read in these manners
+abbrev pub RefusesComponent : {E : Type 0} → Engine E → (manner : ComponentName → Manner) → (hierarchical : Bool) → Refusal → Type 0
+RefusesComponent engine manner hierarchical refusal =
+    (refusal.hierarchical ≡ hierarchical) × IsComponentRefused engine (manner refusal.component) (error_of refusal)
+
+-- the values are refused with its error, that of its component
+abbrev pub IsRefusalOf : {E : Type 0} → Engine E → UrlPatternOptions → Values → Refusal → Type 0
+IsRefusalOf engine asked values refusal =
+    RefusesValues engine asked values (error_of refusal)
+    × RefusesComponent engine (manner_of asked values refusal.hierarchical) refusal.hierarchical refusal
+
+-- ---- the diagnosis
+
+-- `url` or an engine may refuse a part of the pattern
+abbrev pub IsPartOfRefused : (pattern : List ℕ) → Error → Fault → Type 0
+IsPartOfRefused pattern (errors.Url reason) fault = IsFaultIn pattern fault
+IsPartOfRefused pattern (errors.RegExp reason) fault = IsFaultIn pattern fault
+IsPartOfRefused pattern other fault = ⊥
+
+-- its text shows the fault of this pattern, which is read with this prefix code point
+abbrev pub ShowsFault : (pattern point : List ℕ) → Diagnosis → Type 0
+ShowsFault pattern point diagnosis =
+    (fault : Fault) × (IsFaultOf pattern point diagnosis.error fault ⊎ IsPartOfRefused pattern diagnosis.error fault)
+    × IsFaultMoved (string_bytes diagnosis.text) pattern fault diagnosis.fault
+
+-- the whole text is at fault
+abbrev pub ShowsAll : Diagnosis → Type 0
+ShowsAll diagnosis = IsWholeFault (string_bytes diagnosis.text) diagnosis.fault
+
+-- its text shows where a pattern that is read in this manner is at fault
+abbrev pub ShowsPattern : Manner → Diagnosis → Type 0
+ShowsPattern manner diagnosis =
+    (pattern : List ℕ) × (chars pattern ≡ manner.text) × ShowsFault pattern manner.options.prefix diagnosis
+
+-- The component is refused with the error, and the text shows where its pattern is at fault.
+pub record ShowsComponent {E : Type 0} (engine : Engine E) (asked : UrlPatternOptions) (values : Values) (component : ComponentName) (diagnosis : Diagnosis) : Type 0 where
+  pub hierarchical : Bool
+  pub is_refused : IsComponentRefused engine (manner_of asked values hierarchical component) (error_view diagnosis.error)
+  pub shows_pattern : ShowsPattern (manner_of asked values hierarchical component) diagnosis
+
+-- what is shown of the values that are refused
+abbrev pub ShowsRefusal : {E : Type 0} → Engine E → UrlPatternOptions → Values → Subject → Diagnosis → Type 0
+ShowsRefusal engine asked values (subjects.Component component) diagnosis = ShowsComponent engine asked values component diagnosis
+ShowsRefusal engine asked values subjects.Whole diagnosis = ShowsAll diagnosis
+ShowsRefusal engine asked values subjects.Base diagnosis = ⊥
+
+-- the same of an init
+abbrev pub ShowsInit : {E : Type 0} → Engine E → UrlPatternInit → UrlPatternOptions → Diagnosis → Type 0
+ShowsInit engine init asked diagnosis =
+    (values : Values) × (pattern_values init ≡ Ok values) × ShowsRefusal engine asked values diagnosis.subject diagnosis
+
+-- what is shown of a constructor string that is refused when it is split: the pattern of its protocol, or all
+abbrev pub ShowsProtocol : (text : List ℕ) → Subject → Diagnosis → Type 0
+ShowsProtocol text (subjects.Component component) diagnosis =
+    (pattern : List ℕ) × HasProtocol text (λ protocol. protocol ≡ chars pattern) × ShowsFault pattern [] diagnosis
+ShowsProtocol text subjects.Whole diagnosis = ShowsAll diagnosis
+ShowsProtocol text subjects.Base diagnosis = ⊥
+
+-- the text of the diagnosis is this one, if one is given
+abbrev pub IsOf : Option (List ℕ) → Diagnosis → Type 0
+IsOf None diagnosis = Unit {0}
+IsOf (Some bytes) diagnosis = string_bytes diagnosis.text ≡ bytes
+
+-- what is shown of a constructor string or its base URL
+abbrev pub ShowsText : {E : Type 0} → Engine E → (bytes : List ℕ) → (base : Option (List ℕ)) → UrlPatternOptions → Subject → Diagnosis → Type 0
+ShowsText engine bytes base asked subjects.Base diagnosis = (string_bytes diagnosis.text ≡ unwrap_or base []) × ShowsAll diagnosis
+ShowsText engine bytes base asked subject diagnosis =
+    (string_bytes diagnosis.text ≡ bytes)
+    × (ShowsProtocol (chars bytes) subject diagnosis
+    ⊎ ((init : UrlPatternInit) × IsInitOfText engine (chars bytes) base init × ShowsInit engine init asked diagnosis))
+
+-- the spans of the diagnosis lie in its text
+abbrev pub IsWithinText : Diagnosis → Type 0
+IsWithinText diagnosis = IsFaultIn (string_bytes diagnosis.text) diagnosis.fault

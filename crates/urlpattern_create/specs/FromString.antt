@@ -1,0 +1,52 @@
+-- What a pattern is that is compiled from a constructor string, after the URLPattern Standard, section "The URLPattern
+-- class", at "create a URL pattern".
+use Rattle.std.specs.Prelude.{◌≡◌, ◌⊎◌, ℕ, List, [], length, Option, None, Some, Ok, unwrap_or}
+use Rattle.url.specs.Parser.{Parsed, and_then, parse_url}
+use Rattle.url.specs.Parts.{Parts}
+use Rattle.urlpattern_canonical.specs.Canonical.{Reports}
+use Rattle.urlpattern_core.specs.declared.regexp.RegExp.{Ghosts as Engine}
+use Rattle.urlpattern_init.specs.ConstructorString.{HasProtocolOrBase, RefusesString, SplitsInto}
+use Rattle.urlpattern_init.specs.{Inheritance.values_view, SpecialProtocol.IsSpecialTo}
+use Rattle.urlpattern_init.specs.declared.init.UrlPatternInit.{UrlPatternInit}
+use Rattle.urlpattern_inputs.specs.declared.options.UrlPatternOptions.{UrlPatternOptions}
+use Rattle.urlpattern_create.specs.PatternViews.{PatternView}
+use Rattle.urlpattern_create.specs.{Compiled.IsPatternOfInit, Compiled.RefusesInit}
+use Rattle.urlpattern_syntax.specs.Errors.{ErrorView}
+
+-- ---- base URLs: texts are their bytes
+
+-- the URL of a text that may be missing
+abbrev pub parsed_base : Option (List ℕ) → Parsed (Option Parts)
+parsed_base None = Ok None
+parsed_base (Some text) = and_then (parse_url None text) (λ url. Ok (Some url))
+
+abbrev pub text_bytes : Option (List ℕ) → ℕ
+text_bytes text = length (unwrap_or text [])
+
+-- ---- inits
+
+-- The init of a constructor string with this base URL; the engine decides which protocols are special.
+pub record IsInitOfText {E : Type 0} (engine : Engine E) (text : List ℕ) (base : Option (List ℕ)) (init : UrlPatternInit) : Type 0 where
+  pub has_base : parsed_base base ≡ Ok init.base_url
+  pub is_split : SplitsInto (IsSpecialTo engine) text (values_view init)
+  pub is_complete : HasProtocolOrBase init
+
+-- a constructor string is refused with this error, that of its base URL or its own
+abbrev pub RefusesText : (text : List ℕ) → (base : Option (List ℕ)) → ErrorView → Type 0
+RefusesText text base error =
+    Reports (parsed_base base) (text_bytes base) error
+    ⊎ ((url : Option Parts) × (parsed_base base ≡ Ok url) × RefusesString text url error)
+
+-- ---- patterns
+
+-- The constructor string with this base URL is compiled to the pattern.
+pub record IsPatternOfText {E : Type 0} (engine : Engine E) (text : List ℕ) (base : Option (List ℕ)) (asked : UrlPatternOptions) (pattern : PatternView E) : Type 0 where
+  pub init : UrlPatternInit
+  pub is_constructed : IsInitOfText engine text base init
+  pub is_compiled : IsPatternOfInit engine init asked pattern
+
+-- it is refused with this error, as a constructor string or when it is compiled
+abbrev pub RefusesPatternOfText : {E : Type 0} → Engine E → (text : List ℕ) → (base : Option (List ℕ)) → UrlPatternOptions → ErrorView → Type 0
+RefusesPatternOfText engine text base asked error =
+    RefusesText text base error
+    ⊎ ((init : UrlPatternInit) × IsInitOfText engine text base init × RefusesInit engine init asked error)

@@ -1,0 +1,5 @@
+pub mod Compiled
+pub mod CompilerSteps
+pub mod Diagnoses
+pub mod FromString
+pub mod PatternViews

@@ -1,0 +1,13 @@
+//! Creates patterns: compiles the eight components of an init or of a constructor string, and says why they are refused.
+//!
+//! `urlpattern` has these as calls of its type `UrlPattern`.
+#![tactic(auto)]
+
+mod compile;
+mod diagnose;
+mod from_string;
+mod refusal;
+
+pub use compile::{Compiler, compile_init, pattern_of, pattern_values};
+pub use diagnose::{diagnose_init, diagnose_text};
+pub use from_string::{init_of_text, parse_base, parse_url};

@@ -1,0 +1,64 @@
+//! Creates a pattern from an init or from a constructor string.
+
+ghost use Rattle.std.specs.Prelude.{option_copied, IfErr, IfOk};
+ghost use Rattle.std.specs.Str.{chars};
+ghost use Rattle.urlpattern_create.specs.Compiled.{IsPatternOfInit, RefusesInit};
+ghost use Rattle.urlpattern_create.specs.FromString.{IsPatternOfText, RefusesPatternOfText};
+ghost use Rattle.urlpattern_pattern.specs.ByText.{AnswersByItsText, AnswersByTextOf, MakesFirstWays};
+ghost use Rattle.urlpattern_pattern.specs.Patterns.{IfPattern};
+ghost use Rattle.urlpattern_syntax.specs.Errors.{MemoryOr};
+
+use super::UrlPattern;
+use std::alloc::Global;
+use urlpattern_core::Error;
+use urlpattern_core::regexp::RegExp;
+use urlpattern_create::{compile_init, init_of_text};
+use urlpattern_init::UrlPatternInit;
+use urlpattern_inputs::UrlPatternOptions;
+
+impl<R: RegExp> UrlPattern<R> {
+    /// Compiles a pattern from an init: from its own texts, and from what they inherit from its base URL.
+    ///
+    /// The error is that of the first component that is refused, or that memory ran out. The protocol is compiled first, then
+    /// the hostname and the pathname, and then the others as they stand in a URL. A component is refused for its text, by
+    /// `url` for a fixed text in it, or by the engine for its regular expression.
+    ///
+    /// The pattern answers by its texts, with an engine whose matchers answer the first way of what they are made of, as
+    /// `PatternRegexp`'s do.
+    ///
+    /// <https://urlpattern.spec.whatwg.org/#url-pattern-create>
+    pub fn parse(
+        alloc: Global,
+        init: UrlPatternInit,
+        options: UrlPatternOptions,
+    ) -> Result<Self, Error>
+        ensures compiled { IfPattern result (IsPatternOfInit R.RegExp init options) }
+        ensures by_text { MakesFirstWays R.RegExp → IfPattern result (AnswersByItsText R.answer init options) }
+        ensures refused { IfErr result (MemoryOr (RefusesInit R.RegExp init options)) }
+    {
+        match compile_init(alloc, init, options) {
+            Ok(components) => Ok(Self::from_eight(components)),
+            Err(error) => Err(error),
+        }
+    }
+
+    /// Compiles a pattern from a constructor string, the pattern of a whole URL, with a base URL if there is one.
+    ///
+    /// The error is that `url` refuses the base URL, that the string is refused, that of compiling the pattern, or that memory
+    /// ran out.
+    ///
+    /// <https://urlpattern.spec.whatwg.org/#url-pattern-create>
+    pub fn from_constructor_string(
+        alloc: Global,
+        pattern: &str,
+        base_url: Option<&str>,
+        options: UrlPatternOptions,
+    ) -> Result<Self, Error>
+        ensures compiled { IfPattern result (IsPatternOfText R.RegExp (chars pattern.now) (option_copied base_url.entry) options) }
+        ensures by_text { MakesFirstWays R.RegExp → IfPattern result (AnswersByTextOf R.RegExp (chars pattern.now) (option_copied base_url.entry) options) }
+        ensures refused { IfErr result (MemoryOr (RefusesPatternOfText R.RegExp (chars pattern.now) (option_copied base_url.entry) options)) }
+    {
+        let init = init_of_text::<R>(alloc, pattern, base_url)?;
+        Self::parse(alloc, init, options)
+    }
+}
