@@ -76,6 +76,8 @@ pub enum Operation {
     Compare,
     /// Whether a pattern covers another, and whether they overlap.
     Covers,
+    /// Which patterns of a list are covered by one before them.
+    Unreachable,
     /// What a plain value writes as JSON that is read of JSON.
     Json,
     /// Which values of a type equal each other.
@@ -102,6 +104,7 @@ pub const OPERATIONS: &[(&str, Operation)] = &[
     ("diagnose", Operation::Diagnose),
     ("compare", Operation::Compare),
     ("covers", Operation::Covers),
+    ("unreachable", Operation::Unreachable),
     ("json", Operation::Json),
     ("equal", Operation::Equal),
 ];

@@ -1,5 +1,6 @@
 -- What is known of one component.
-use Rattle.std.proofs.Common.{◌≡◌, ◌≢◌, ◌∙◌, ℕ, Bool, true, false, List, [], ◌∷◌, ◌++◌, ◌⊎◌, inl, inr, refl, sym, subst, ap, append-nil, Option, Some, None}
+use Rattle.std.proofs.Common.{◌≡◌, ◌≢◌, ◌∙◌, ℕ, Bool, true, false, List, [], ◌∷◌, ◌++◌, ◌⊎◌, inl, inr, refl, sym, subst, ap, append-nil, Option, Some, None, Result, Ok, Err, IfOk}
+use Rattle.std.specs.declared.alloc.{AllocError.AllocError}
 use Rattle.std.specs.List.{list_any}
 use Rattle.std.specs.Prelude.{◌||◌, IsTrue}
 use Rattle.std.specs.Str.{all_scalars}
@@ -120,3 +121,9 @@ example_known component anything (overlaps.Unknown reasons.IgnoredCase) known op
 example_known component anything (overlaps.Unknown reasons.IgnoredCase) known options are (inr e) =
     let f : anything.options.ignore_case ≡ false = ap (λ (o : OptionsView). o.ignore_case) options in absurd cc
 example_known component anything (overlaps.Unknown reasons.TooMany) known options are is = tt
+
+pub example_result : (component anything : ComponentParts) (result : Result Overlap AllocError) → IsKnown component →
+    options_view anything.options ≡ default_options → parts_view anything.parts.items ≡ full_wildcard ∷ [] →
+    IfOk result (IsOverlap (options_view component.options) (parts_view component.parts.items) (options_view anything.options) (parts_view anything.parts.items)) → IfOk result (IsExample component)
+example_result component anything (Ok overlap) known options are is = example_known component anything overlap known options are is
+example_result component anything (Err error) known options are is = tt

@@ -1,3 +1,4 @@
 pub mod ComponentLemmas
+pub mod ListLemmas
 pub mod OrderLemmas
 pub mod PatternLemmas

@@ -29,7 +29,8 @@ pub fn first_covering(
         (λ index. CoversAt patterns.now asked.now index × All (IsNotKnownToCover asked.now) (take index patterns.now))) }
 {
     for index in 0..patterns.len() {
-        if is_known_to_cover(alloc, &patterns[index], asked)? {
+        let covers = is_known_to_cover(alloc, &patterns[index], asked)?;
+        if covers {
             return Ok(Some(index));
         }
     }
@@ -44,9 +45,14 @@ fn is_known_to_cover(
 ) -> Result<bool, AllocError>
     ensures { IfOk result (Tells pattern.now asked.now) }
 {
-    match pattern.covers(alloc, asked)? {
+    let covering = pattern.covers(alloc, asked)?;
+    match covering {
         PatternCovering::Covered => Ok(true),
-        _ => Ok(false),
+        PatternCovering::NotCovered(parting) => {
+            drop(parting);
+            Ok(false)
+        }
+        PatternCovering::Unknown(_, _) => Ok(false),
     }
 }
 

@@ -244,5 +244,9 @@ impl PatternParts {
 fn string_of(alloc: Global, characters: &[char]) -> Result<String, AllocError>
     ensures { IfOk result (λ text. text_of text ≡ characters.now) }
 {
-    characters.iter().copied().collect(alloc)
+    let mut text = String::new(alloc);
+    for c in characters {
+        text.push(*c)?;
+    }
+    Ok(text)
 }

@@ -1,7 +1,7 @@
 //! Compares patterns by their parts.
 
 use super::{Case, given};
-use crate::recorded::{Answer, Fault, field, has_text, named, optional_text, text};
+use crate::recorded::{Answer, Fault, field, has_text, list, named, optional_text, text};
 use serde_json::Value;
 use std::alloc::Global;
 use std::cmp::Ordering;
@@ -9,7 +9,7 @@ use urlpattern::quirks::process_construct_pattern_input;
 use urlpattern::regexp::PatternRegexp;
 use urlpattern::{ComponentName, Error, UrlPattern, UrlPatternInit};
 use urlpattern_readings::parts_of;
-use urlpattern_rules::{PatternCovering, PatternOverlap, PatternParts, Reason};
+use urlpattern_rules::{PatternCovering, PatternOverlap, PatternParts, Reason, unreachable};
 
 /// The names of the reasons.
 const REASONS: &[(&str, Reason)] = &[
@@ -45,6 +45,31 @@ pub fn is_same_covering(case: &Case<'_>) -> Result<bool, Fault> {
     drop(asked);
     Ok(is_covering(covering, field(recorded, "covers")?)?
         && is_overlap(overlap, field(recorded, "overlaps")?)?)
+}
+
+/// Whether the patterns of a list that one before them covers are those that were recorded, each with the index of that one.
+pub fn is_same_unreachable(case: &Case<'_>) -> Result<bool, Fault> {
+    let Answer::Ok(recorded) = case.answer else {
+        return Ok(false);
+    };
+    let mut patterns = Vec::new(case.alloc);
+    for pattern in list(case.question, "patterns")? {
+        patterns.push(parts(case.alloc, pattern)?)?;
+    }
+    let found = unreachable(case.alloc, &patterns)?;
+    drop(patterns);
+    let expected = list(recorded, "found")?;
+    for (found, expected) in found.iter().zip(expected) {
+        if !is_index(expected, "pattern", found.pattern) || !is_index(expected, "by", found.by) {
+            return Ok(false);
+        }
+    }
+    Ok(found.len() == expected.len())
+}
+
+/// Whether a field is this index.
+fn is_index(recorded: &Value, name: &str, index: usize) -> bool {
+    recorded.get(name).and_then(Value::as_u64) == Some(index as u64)
 }
 
 /// Whether this is the recorded covering: `covered`, the component in which the patterns part with the length of its text, or the

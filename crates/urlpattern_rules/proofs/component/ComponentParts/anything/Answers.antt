@@ -1,4 +1,14 @@
+use Rattle.std.proofs.Common.{◌∙◌, ◌++◌, ◌∷◌, [], ap}
+use Rattle.urlpattern_rules.specs.Comparing.{full_wildcard}
+use Rattle.urlpattern_syntax.proofs.StringTexts.{text-nil}
+use Rattle.urlpattern_syntax.specs.Parts.{parts_view}
 use Rattle.urlpattern_rules.proofs.component.ComponentParts.anything.Goals as goal
 
 pub returns-clause-parts : goal.returns-clause-parts
-returns-clause-parts c = ?
+returns-clause-parts c =
+    let value = text-nil c.new.result c.new.ensures.bytes in
+    let name = text-nil c.new-2.result c.new-2.ensures.bytes in
+    let prefix = text-nil c.new-3.result c.new-3.ensures.bytes in
+    let suffix = text-nil c.new-4.result c.new-4.ensures.bytes in
+    ap parts_view (c.in_ok-push.ensures.items ∙ ap (λ l. l ++ c.push.new.value ∷ []) c.new-parts.ensures.items)
+    ∙ (λ i. record { kind = full_wildcard.kind; value = value i; modifier = full_wildcard.modifier; name = name i; prefix = prefix i; suffix = suffix i } ∷ [])

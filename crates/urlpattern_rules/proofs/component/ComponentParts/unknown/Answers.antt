@@ -11,5 +11,5 @@ returns-then-has_custom-clause-reason c = λ both.
 pub returns-clause-known : goal.returns-clause-known
 returns-clause-known c = record {
   generated = generated c.args.self.now.parts.items (subst (λ l. list_any is_custom_part l ≡ false) c.deref.ensures.value (sym c.has_custom.ensures ∙ c.if-has_custom.false));
-  case_kept = ?;
+  case_kept = c.if-self.false;
 }

@@ -1,0 +1,60 @@
+-- Which patterns of a list are covered by one before them.
+use Rattle.std.proofs.Common.{◌≡◌, ◌∙◌, ◌<◌, ◌+◌, ◌⊎◌, ℕ, zero, suc, List, [], ◌∷◌, ◌++◌, inl, inr, sym, subst, ap, take, arith, Option, Some, None}
+use Rattle.std.proofs.lemmas.List.Elements.{All-push, Contains-append_left, Contains-push}
+use Rattle.std.specs.List.{All, Contains, slice_get}
+use Rattle.std.specs.Prelude.{MatchOption}
+use Rattle.urlpattern_rules.specs.Comparing.{CoversAt, IsListed, IsNotKnownToCover, IsShadowed, with_found}
+use Rattle.urlpattern_rules.specs.declared.list.Shadowed.{Shadowed}
+use Rattle.urlpattern_rules.specs.declared.pattern.PatternParts.{PatternParts}
+use borrow.Author.Count
+
+-- what is found of the patterns below an index
+pub record AreListedBelow (patterns : List PatternParts) (found : List Shadowed) (index : ℕ) : Type 0 where
+  pub covered : All (IsShadowed patterns) found
+  pub others : (k : ℕ) → k < index → (asked : PatternParts) → slice_get patterns k ≡ Some asked → IsListed patterns found k asked
+
+-- the first of these patterns that is known to cover the asked one
+abbrev pub IsFirstBefore : List PatternParts → (asked : PatternParts) → Option ℕ → Type 0
+IsFirstBefore patterns asked by =
+    MatchOption by (All (IsNotKnownToCover asked) patterns) (λ k. CoversAt patterns asked k × All (IsNotKnownToCover asked) (take k patterns))
+
+get_take : (patterns : List PatternParts) (i k : ℕ) (pattern : PatternParts) → slice_get (take i patterns) k ≡ Some pattern → (k < i) × (slice_get patterns k ≡ Some pattern)
+get_take patterns zero k pattern e = absurd cc
+get_take [] (suc i) k pattern e = absurd cc
+get_take (first ∷ patterns) (suc i) zero pattern e = (omega arith, e)
+get_take (first ∷ patterns) (suc i) (suc k) pattern e = let rest = get_take patterns i k pattern e in (omega (arith, rest.0), rest.1)
+
+found_kept : (found : List Shadowed) (i : ℕ) (by : Option ℕ) (one : Shadowed) → Contains found one → Contains (with_found found i by) one
+found_kept found i None one has = has
+found_kept found i (Some k) one has = Contains-append_left found (record { pattern = i; by = k } ∷ []) one has
+
+listed_more : (patterns : List PatternParts) (found : List Shadowed) (i : ℕ) (by : Option ℕ) (k : ℕ) (asked : PatternParts) →
+    IsListed patterns found k asked → IsListed patterns (with_found found i by) k asked
+listed_more patterns found i by k asked (inl (other, has)) = inl (other, found_kept found i by (record { pattern = k; by = other }) has)
+listed_more patterns found i by k asked (inr none) = inr none
+
+listed_here : (patterns : List PatternParts) (found : List Shadowed) (i : ℕ) (by : Option ℕ) (asked : PatternParts) →
+    IsFirstBefore (take i patterns) asked by → IsListed patterns (with_found found i by) i asked
+listed_here patterns found i None asked is = inr is
+listed_here patterns found i (Some k) asked is = inl (k, Contains-push found (record { pattern = i; by = k }))
+
+shadowed_more : (patterns : List PatternParts) (found : List Shadowed) (i : ℕ) (by : Option ℕ) (asked : PatternParts) → slice_get patterns i ≡ Some asked →
+    IsFirstBefore (take i patterns) asked by → All (IsShadowed patterns) found → All (IsShadowed patterns) (with_found found i by)
+shadowed_more patterns found i None asked there is before = before
+shadowed_more patterns found i (Some k) asked there is before =
+    let (pattern, at_k, covered) = is.0 in
+    let two = get_take patterns i k pattern at_k in
+    All-push (IsShadowed patterns) found (record { pattern = i; by = k }) before (two.0, (asked, there, (pattern, two.1, covered)))
+
+pub below_more : (patterns : List PatternParts) (found : List Shadowed) (i : ℕ) (asked : PatternParts) (by : Option ℕ) → slice_get patterns i ≡ Some asked →
+    IsFirstBefore (take i patterns) asked by → AreListedBelow patterns found i → AreListedBelow patterns (with_found found i by) (i + 1)
+below_more patterns found i asked by there is before =
+    let new = with_found found i by in
+    let P : ℕ → Type 0 = λ k. (other : PatternParts) → slice_get patterns k ≡ Some other → IsListed patterns new k other in
+    record {
+      covered = shadowed_more patterns found i by asked there is before.covered;
+      others = Count.below_more P i (λ k lt other at_k. listed_more patterns found i by k other (before.others k lt other at_k))
+          (λ other at_i.
+              let same : asked ≡ other = (let both : Some asked ≡ Some other = sym there ∙ at_i in cc) in
+              subst (λ (a : PatternParts). IsListed patterns new i a) same (listed_here patterns found i by asked is));
+    }
