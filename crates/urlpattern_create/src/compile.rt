@@ -237,11 +237,7 @@ impl Compiler<'_> {
     /// The options that the pattern of the component is read under.
     ///
     /// The error is that memory ran out.
-    pub fn options_of(
-        &self,
-        component: ComponentName,
-        hierarchical: bool,
-    ) -> Result<Options, Error>
+    pub fn options_of(&self, component: ComponentName, hierarchical: bool) -> Result<Options, Error>
         ensures ok { IfOk result (λ options. options_view options ≡ (manner_by self.now hierarchical component).options) }
         ensures memory { OnlyOutOfMemory result }
     {

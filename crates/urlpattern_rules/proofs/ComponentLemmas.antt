@@ -64,15 +64,24 @@ reason_second component other reasons.TooMany h = tt
 
 pub wildcard_means : (options : OptionsView) (text : List ℕ) → IsTrue (lacks line_feed text) → MeansText options (full_wildcard ∷ []) text
 wildcard_means options text line =
-    let whole : text ≡ text ++ [] = sym (append-nil text) in
-    (Some text ∷ [], (text, [], Some text ∷ [], [], whole, refl,
-      record {
-        count = 1;
-        allowed = refl;
-        are_copies = (text, [], whole, (text, whole, line), refl);
-        are_captures = (Some text, (text, whole, refl), refl);
-      },
-      (refl, refl)))
+    let whole : text ≡ text ++ [] = sym (append-nil text) in (
+      Some text ∷ [],
+      (
+        text,
+        [],
+        Some text ∷ [],
+        [],
+        whole,
+        refl,
+        record {
+          count = 1;
+          allowed = refl;
+          are_copies = (text, [], whole, (text, whole, line), refl);
+          are_captures = (Some text, (text, whole, refl), refl);
+        },
+        (refl, refl),
+      ),
+    )
 
 -- ---- answers of lists of parts
 

@@ -55,6 +55,6 @@ below_more patterns found i asked by there is before =
       covered = shadowed_more patterns found i by asked there is before.covered;
       others = Count.below_more P i (λ k lt other at_k. listed_more patterns found i by k other (before.others k lt other at_k))
           (λ other at_i.
-              let same : asked ≡ other = (let both : Some asked ≡ Some other = sym there ∙ at_i in cc) in
-              subst (λ (a : PatternParts). IsListed patterns new i a) same (listed_here patterns found i by asked is));
+          let same : asked ≡ other = (let both : Some asked ≡ Some other = sym there ∙ at_i in cc) in
+          subst (λ (a : PatternParts). IsListed patterns new i a) same (listed_here patterns found i by asked is));
     }

@@ -58,7 +58,7 @@ first_pairs_are zero [] (other ∷ others) h k = absurd (omega arith)
 first_pairs_are zero (rank ∷ ranks) others h k = absurd (omega arith)
 first_pairs_are (suc n) ranks others h k =
     ap (λ o. ordering_then (rank_cmp (first_rank ranks) (first_rank others)) o)
-        (first_pairs_are n (other_ranks ranks) (other_ranks others) (fewer n ranks h) (fewer n others k))
+    (first_pairs_are n (other_ranks ranks) (other_ranks others) (fewer n ranks h) (fewer n others k))
     ∙ sym (first_decides ranks others)
 
 -- ---- all pairs

@@ -9,6 +9,8 @@ pub mod laws;
 mod list;
 mod order;
 mod pattern;
+#[cfg(test)]
+mod tests;
 
 pub use component::ComponentParts;
 pub use list::{Shadowed, first_covering, unreachable};

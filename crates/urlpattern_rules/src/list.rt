@@ -59,10 +59,7 @@ fn is_known_to_cover(
 /// Lists each pattern that one before it is known to cover, with the index of the first such one.
 ///
 /// In a list whose first match counts these are never found. A pattern that several others cover only together is not listed.
-pub fn unreachable(
-    alloc: Global,
-    patterns: &[PatternParts],
-) -> Result<Vec<Shadowed>, AllocError>
+pub fn unreachable(alloc: Global, patterns: &[PatternParts]) -> Result<Vec<Shadowed>, AllocError>
     ensures covered { IfOk result (λ found. All (IsShadowed patterns.now) found.items) }
     ensures others { IfOk result (λ found. (index : ℕ) (asked : PatternParts) → slice_get patterns.now index ≡ Some asked → IsListed patterns.now found.items index asked) }
 {

@@ -220,12 +220,7 @@ impl PatternParts {
     }
 
     /// A text of a component that both patterns mean.
-    fn common_text(
-        &self,
-        alloc: Global,
-        other: &Self,
-        name: ComponentName,
-    ) -> Result<String, Lack>
+    fn common_text(&self, alloc: Global, other: &Self, name: ComponentName) -> Result<String, Lack>
         ensures { IsCommonText self.now other.now name result }
     {
         let overlap = self

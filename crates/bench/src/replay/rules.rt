@@ -43,8 +43,10 @@ pub fn is_same_covering(case: &Case<'_>) -> Result<bool, Fault> {
     let overlap = pattern.overlaps(case.alloc, &asked)?;
     drop(pattern);
     drop(asked);
-    Ok(is_covering(covering, field(recorded, "covers")?)?
-        && is_overlap(overlap, field(recorded, "overlaps")?)?)
+    Ok(
+        is_covering(covering, field(recorded, "covers")?)?
+            && is_overlap(overlap, field(recorded, "overlaps")?)?,
+    )
 }
 
 /// Whether the patterns of a list that one before them covers are those that were recorded, each with the index of that one.
@@ -80,8 +82,10 @@ fn is_covering(covering: PatternCovering, recorded: &Value) -> Result<bool, Faul
         PatternCovering::NotCovered(parting) => {
             let name = parting.component;
             let length = parting.texts.get(name).chars().count();
-            Ok(has_text(recorded, "component", name.as_str())
-                && recorded.get("length").and_then(Value::as_u64) == Some(length as u64))
+            Ok(
+                has_text(recorded, "component", name.as_str())
+                    && recorded.get("length").and_then(Value::as_u64) == Some(length as u64),
+            )
         }
         PatternCovering::Unknown(name, reason) => is_unknown(name, reason, recorded),
     }
@@ -111,11 +115,7 @@ fn is_unknown(name: ComponentName, reason: Reason, recorded: &Value) -> Result<b
 /// The parts of a pattern.
 fn parts(alloc: Global, fields: &Value) -> Result<PatternParts, Fault> {
     let options = given::options(alloc, fields)?;
-    let pattern = made(UrlPattern::<PatternRegexp>::parse(
-        alloc,
-        init(alloc, fields)?,
-        options,
-    ))?;
+    let pattern = made(UrlPattern::<PatternRegexp>::parse(alloc, init(alloc, fields)?, options))?;
     let init = init(alloc, fields)?;
     let options = given::options(alloc, fields)?;
     let parts = parts_of(alloc, &pattern, &init, &options);

@@ -16,10 +16,14 @@ loop-index-preserved c =
 pub returns-then-covers : goal.returns-then-covers
 returns-then-covers c =
     let patterns = c.args.patterns.now in
-    let pattern = c.index-patterns-index.result in
-    ((pattern, slice_get_read patterns (length patterns) c.loop-index.index pattern refl c.loop-index-test.true c.index-patterns-index.is,
-        subst (Tells pattern c.args.asked.now) c.if-covers.true c.in_ok-covers.ensures),
-      c.loop-index.invariant)
+    let pattern = c.index-patterns-index.result in (
+      (
+        pattern,
+        slice_get_read patterns (length patterns) c.loop-index.index pattern refl c.loop-index-test.true c.index-patterns-index.is,
+        subst (Tells pattern c.args.asked.now) c.if-covers.true c.in_ok-covers.ensures,
+      ),
+      c.loop-index.invariant,
+    )
 
 pub returns : goal.returns
 returns c = subst (λ list. All (IsNotKnownToCover c.args.asked.now) list) (take_all c.loop-index.index c.args.patterns.now c.loop-index-test.false) c.loop-index.invariant

@@ -6,7 +6,9 @@ use Rattle.urlpattern_rules.specs.Comparing.{IsShadowed}
 use Rattle.urlpattern_rules.proofs.list.unreachable.Goals as goal
 
 pub loop-index-init : goal.loop-index-init
-loop-index-init c = ?
+loop-index-init c =
+    subst (λ found. AreListedBelow c.args.patterns.now found 0) (sym c.new-found.ensures.items)
+    (record { covered = All-nil (IsShadowed c.args.patterns.now); others = λ k lt. absurd (omega arith) })
 
 pub loop-index-preserved : goal.loop-index-preserved
 loop-index-preserved c =

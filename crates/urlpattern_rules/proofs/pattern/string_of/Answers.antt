@@ -22,4 +22,4 @@ pub returns : goal.returns
 returns c =
     let bytes = string_bytes c.loop-c.text in
     encodes_same (chars bytes) c.args.characters.now (encodes-chars bytes (IsUtf8-string_bytes c.loop-c.text) ∙ c.loop-c.invariant
-        ∙ ap encode_utf8_all (take_all c.loop-c.c-index c.args.characters.now c.loop-c-test.false))
+    ∙ ap encode_utf8_all (take_all c.loop-c.c-index c.args.characters.now c.loop-c-test.false))

@@ -1,4 +1,5 @@
-use Rattle.std.proofs.Common.{◌∙◌, ◌++◌, ◌∷◌, [], ap}
+use Rattle.std.proofs.Common.{List, ◌∙◌, ◌++◌, ◌∷◌, [], ap}
+use Rattle.urlpattern_syntax.specs.declared.parser.Part.{Part}
 use Rattle.urlpattern_rules.specs.Comparing.{full_wildcard}
 use Rattle.urlpattern_syntax.proofs.StringTexts.{text-nil}
 use Rattle.urlpattern_syntax.specs.Parts.{parts_view}
@@ -10,5 +11,13 @@ returns-clause-parts c =
     let name = text-nil c.new-2.result c.new-2.ensures.bytes in
     let prefix = text-nil c.new-3.result c.new-3.ensures.bytes in
     let suffix = text-nil c.new-4.result c.new-4.ensures.bytes in
-    ap parts_view (c.in_ok-push.ensures.items ∙ ap (λ l. l ++ c.push.new.value ∷ []) c.new-parts.ensures.items)
+    let part : Part = record {
+      kind = full_wildcard.kind;
+      value = c.new.result;
+      modifier = full_wildcard.modifier;
+      name = c.new-2.result;
+      prefix = c.new-3.result;
+      suffix = c.new-4.result;
+    } in
+    ap parts_view (c.in_ok-push.ensures.items ∙ ap (λ (list : List Part). list ++ part ∷ []) c.new-parts.ensures.items)
     ∙ (λ i. record { kind = full_wildcard.kind; value = value i; modifier = full_wildcard.modifier; name = name i; prefix = prefix i; suffix = suffix i } ∷ [])
