@@ -138,8 +138,6 @@ impl PatternParts {
     ///
     /// What is covered need not be less specific, nor the other way round: `/a{/b}?` is greater than `/:x`, and has the text `/a/b`, which
     /// the other has not.
-    ///
-    /// <https://urlpattern.spec.whatwg.org/#dom-urlpattern-comparecomponent>
     pub fn compare_component(component: ComponentName, left: &Self, right: &Self) -> Ordering
         ensures { result ≡ parts_cmp (at left.now.components component).parts.items (at right.now.components component).parts.items }
     {
