@@ -15,7 +15,7 @@ use Rattle.urlpattern_meaning.specs.PartMeaning.{AreGenerated, Captures}
 use Rattle.urlpattern_pattern.proofs.MatchersDecide.{answered}
 use Rattle.urlpattern_pattern.proofs.MeaningLemmas.{read_once}
 use Rattle.urlpattern_pattern.specs.ByText.{AnswersByItsText, AnswersByText, HasMeaning}
-use Rattle.urlpattern_create.specs.Compiled.{Manner, manner_of, pattern_values}
+use Rattle.urlpattern_create.specs.Compiled.{IsPathKind, Manner, manner_of, pattern_values}
 use Rattle.urlpattern_create.specs.PatternViews.{PatternView}
 use Rattle.urlpattern_pattern.specs.{Match.AreMatched, Meaning.ReadsAs}
 use Rattle.urlpattern_readings.specs.Readings.{ApartMatchNothing, AreItsParts, AreReadByValues, CommonAreMatched, CoveredAreMatched, IsReadAs, PartingsAreMatched, texts_of}
@@ -122,3 +122,9 @@ pub parts_result : {E : Type 0} (answer : E → List ℕ → Option Captures) (i
     AnswersByItsText answer init asked pattern → pattern_values init ≡ Ok values → IfOk result (AreReadByValues answer asked values (pattern Protocol).matcher) → IfOk result (AreItsParts answer pattern)
 parts_result answer init asked pattern values (Ok parts) by are read = its_parts answer init asked pattern values parts by are read
 parts_result answer init asked pattern values (Err error) by are read = read
+
+pub read_values : {E : Type 0} (answer : E → List ℕ → Option Captures) (asked : UrlPatternOptions) (values : Values) (protocol : MatcherView E) (hierarchical : Bool) (result : Result PatternParts Error) →
+    IsPathKind answer values protocol hierarchical → IfOk result (λ parts. (name : ComponentName) → IsReadAs (manner_of asked values hierarchical name) (at parts.components name)) →
+    IfOk result (AreReadByValues answer asked values protocol)
+read_values answer asked values protocol hierarchical (Ok parts) kind reads = record { hierarchical = hierarchical; path_kind = kind; reads = reads }
+read_values answer asked values protocol hierarchical (Err error) kind reads = tt
