@@ -65,7 +65,7 @@ pub its_parts : {E : Type 0} (answer : E → List ℕ → Option Captures) (init
     AnswersByItsText answer init asked pattern → pattern_values init ≡ Ok values → AreReadByValues answer asked values (pattern Protocol).matcher parts → AreItsParts answer pattern parts
 its_parts answer init asked pattern values parts by are read name known text line =
     let component = at parts.components name in
-    let one : values ≡ by.values = (let both : Ok values ≡ Ok by.values = sym are ∙ by.are_values in cc) in
+    let one : values ≡ by.values = cc (sym are ∙ by.are_values) in
     let again = subst (λ (v : Values). AreReadByValues answer asked v (pattern Protocol).matcher parts) one read in
     let path : again.hierarchical ≡ by.hierarchical = same_truth _ again.hierarchical by.hierarchical again.path_kind by.by_protocol in
     let is : IsReadAs (manner_of asked by.values by.hierarchical name) component =
