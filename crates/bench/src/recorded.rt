@@ -74,6 +74,12 @@ pub enum Operation {
     Diagnose,
     /// The text of a component with given groups.
     Generate,
+    /// Which of two patterns is more specific in a component.
+    Compare,
+    /// Whether a pattern covers another, and whether they overlap.
+    Covers,
+    /// Which patterns of a list are covered by one before them.
+    Unreachable,
     /// What a plain value writes as JSON that is read of JSON.
     Json,
     /// Which values of a type equal each other.
@@ -99,6 +105,9 @@ pub const OPERATIONS: &[(&str, Operation)] = &[
     ("first_match", Operation::FirstMatch),
     ("diagnose", Operation::Diagnose),
     ("generate", Operation::Generate),
+    ("compare", Operation::Compare),
+    ("covers", Operation::Covers),
+    ("unreachable", Operation::Unreachable),
     ("json", Operation::Json),
     ("equal", Operation::Equal),
 ];

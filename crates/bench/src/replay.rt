@@ -12,6 +12,7 @@ mod given;
 mod matchers;
 mod patterns;
 mod plain;
+mod rules;
 mod tokens;
 mod trees;
 mod values;
@@ -165,6 +166,9 @@ fn is_same_over<R: RegExp>(operation: Operation, case: &Case<'_>) -> Result<bool
         Operation::FirstMatch => first_match::is_same::<R>(case),
         Operation::Diagnose => diagnoses::is_same::<R>(case),
         Operation::Generate => generated::is_same::<R>(case),
+        Operation::Compare => rules::is_same_order(case),
+        Operation::Covers => rules::is_same_covering(case),
+        Operation::Unreachable => rules::is_same_unreachable(case),
         Operation::Json => trees::is_same(case),
         Operation::Equal => trees::is_same_equality(case),
     }

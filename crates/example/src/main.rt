@@ -1,11 +1,12 @@
 //! Small programs that use the library, each with a contract in the library's words: a router, the same of a path alone, a router
-//! with values, a permission check, rules for a cache, and a pattern that is printed and read again. A seventh promises in the words
-//! of URLs alone which user a URL names.
+//! with values, a permission check, a store of permissions, rules for a cache, and a pattern that is printed and read again. Another
+//! promises in the words of URLs alone which user a URL names.
 #![tactic(auto)]
 
 ghost use Rattle.std.specs.Prelude.{◌≡◌, ◌+◌, length, OnOk};
 
 mod cache;
+mod grants;
 mod path;
 mod permission;
 mod printed;
@@ -13,6 +14,7 @@ mod router;
 mod routes;
 mod users;
 
+use grants::Grants;
 use std::alloc::Global;
 use std::io;
 use std::io::Write;
@@ -23,6 +25,7 @@ use urlpattern::regexp::PatternRegexp;
 use urlpattern::{
     Error, UrlPattern, UrlPatternInit, UrlPatternList, UrlPatternMap, UrlPatternOptions,
 };
+use urlpattern::rules::{PatternParts, parts_of};
 use users::Users;
 
 // docs: pattern
@@ -107,6 +110,32 @@ fn permission_line(alloc: Global, url: &Url) -> Result<String, Error> {
     }
 }
 
+/// The parts of the pattern of a constructor string.
+fn parts(alloc: Global, text: &str) -> Result<PatternParts, Error> {
+    let init = UrlPatternInit::parse_constructor_string::<PatternRegexp>(alloc, text, None)?;
+    let options = UrlPatternOptions::default();
+    let pattern = pattern(alloc, text)?;
+    let parts = parts_of(alloc, &pattern, &init, &options);
+    drop(pattern);
+    drop(init);
+    parts
+}
+
+/// Whether an extension may have a pattern, in words.
+fn grants_line(alloc: Global, asked: &str) -> Result<String, Error> {
+    let mut grants = Grants::new(alloc);
+    grants.grant(parts(alloc, "https://*.example.com/*")?)?;
+    let asked_parts = parts(alloc, asked)?;
+    let permitted = grants.check(alloc, &asked_parts);
+    drop(grants);
+    drop(asked_parts);
+    if permitted? {
+        Ok(format!(in alloc; "{asked}: permitted")?)
+    } else {
+        Ok(format!(in alloc; "{asked}: not permitted")?)
+    }
+}
+
 /// For how long a URL is kept, in words.
 fn cache_line(alloc: Global, url: &Url) -> Result<String, Error> {
     let mut patterns = UrlPatternList::new(alloc);
@@ -172,6 +201,9 @@ fn main(rt: HostRuntime) -> io::Result<()> {
     let mut out = rt.stdout();
     for url in ["https://example.com/users/123", "https://example.com/about"] {
         write_line(&mut out, lines(rt.alloc(), url))?;
+    }
+    for asked in ["https://cdn.example.com/:file", "https://example.com/*"] {
+        write_line(&mut out, grants_line(rt.alloc(), asked))?;
     }
     write_line(&mut out, path_line(rt.alloc(), "/users/123"))?;
     write_line(&mut out, printed_line(rt.alloc()))

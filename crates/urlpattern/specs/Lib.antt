@@ -44,6 +44,10 @@ pub use Rattle.urlpattern_pattern.specs.Meaning
 pub use Rattle.urlpattern_pattern.specs.Mismatch
 pub use Rattle.urlpattern_pattern.specs.Patterns
 pub use Rattle.urlpattern_pattern.specs.ResultJson
+pub use Rattle.urlpattern_readings.specs.Readings
+pub use Rattle.urlpattern_rules.specs.Comparing
+pub use Rattle.urlpattern_rules.specs.Order
+pub use Rattle.urlpattern_rules.specs.declared.pattern.PatternParts
 pub use Rattle.urlpattern_syntax.specs.Eight
 pub use Rattle.urlpattern_syntax.specs.ErrorText
 pub use Rattle.urlpattern_syntax.specs.Errors

@@ -11,6 +11,7 @@ mod list;
 mod map;
 pub mod quirks;
 pub mod regexp;
+pub mod rules;
 pub mod theorem;
 
 pub use list::{UrlPatternList, UrlPatternMatches};

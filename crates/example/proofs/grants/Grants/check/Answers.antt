@@ -1,0 +1,18 @@
+use Rattle.std.proofs.Common.{◌≡◌, ◌∙◌, ℕ, List, sym, subst, true, false, Option, Some, None}
+use Rattle.std.specs.List.{All}
+use Rattle.std.specs.Prelude.{IsTrue, MatchOption, is_some, take}
+use Rattle.example.specs.Grants.{IsGranted}
+use Rattle.urlpattern.specs.Comparing.{CoversAt, IsNotKnownToCover}
+use Rattle.urlpattern.specs.PatternParts.{PatternParts}
+use Rattle.example.proofs.grants.Grants.check.Goals as goal
+
+granted_by : (granted : List PatternParts) (asked : PatternParts) (found : Option ℕ) →
+    MatchOption found (All (IsNotKnownToCover asked) granted) (λ index. CoversAt granted asked index × All (IsNotKnownToCover asked) (take index granted)) →
+    IsTrue (is_some found) → IsGranted granted asked
+granted_by granted asked None is yes = absurd (let both : false ≡ true = yes in cc both)
+granted_by granted asked (Some index) is yes = (index, is.0)
+
+pub returns : goal.returns
+returns c = λ yes.
+    subst (λ (list : List PatternParts). IsGranted list c.args.asked.now) c.deref.ensures.value
+    (granted_by c.deref.result.now c.args.asked.now c.in_ok-found.found c.in_ok-found.ensures (sym c.is_some.ensures ∙ yes))

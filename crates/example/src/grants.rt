@@ -1,0 +1,44 @@
+//! A store of permissions: a pattern is permitted if one that was granted covers it.
+
+// docs: grants
+ghost use Rattle.example.specs.Grants.{IsGranted};
+ghost use Rattle.std.specs.Prelude.{◌≡◌, ◌++◌, ◌∷◌, [], IfOk, IsTrue, OnOk};
+
+use std::alloc::{AllocError, Global};
+use urlpattern::rules::{PatternParts, first_covering};
+
+/// What was granted: patterns, by their parts.
+#[derive(Debug, Drop)]
+pub struct Grants {
+    /// The patterns.
+    pub patterns: Vec<PatternParts>,
+}
+
+impl Grants {
+    /// A store of nothing.
+    pub fn new(alloc: Global) -> Self
+        ensures { result.patterns.items ≡ [] }
+    {
+        Self {
+            patterns: Vec::new(alloc),
+        }
+    }
+
+    /// Grants a pattern.
+    pub fn grant(&mut self, pattern: PatternParts) -> Result<(), AllocError>
+        ensures { OnOk result (self.new.patterns.items ≡ self.old.patterns.items ++ pattern ∷ []) }
+    {
+        self.patterns.push(pattern)?;
+        Ok(())
+    }
+
+    /// Whether it is known that a pattern was granted that covers the asked one. Whatever the asked one matches is then matched by that
+    /// pattern.
+    pub fn check(&self, alloc: Global, asked: &PatternParts) -> Result<bool, AllocError>
+        ensures { IfOk result (λ permitted. IsTrue permitted → IsGranted self.now.patterns.items asked.now) }
+    {
+        let found = first_covering(alloc, &self.patterns, asked)?;
+        Ok(found.is_some())
+    }
+}
+// docs: end

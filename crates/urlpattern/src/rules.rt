@@ -1,0 +1,11 @@
+//! Patterns compared by their parts: which is more specific, which covers another, and which overlap.
+//!
+//! [`parts_of`] gives the parts of a compiled pattern. No URL is needed.
+
+pub use urlpattern_readings::laws::{covered_patterns_match, overlapping_patterns_match};
+pub use urlpattern_readings::parts_of;
+pub use urlpattern_rules::laws::parts_are_in_order;
+pub use urlpattern_rules::{
+    ComponentParts, Parting, PatternCovering, PatternOverlap, PatternParts, Reason, Shadowed,
+    compare_parts, first_covering, unreachable,
+};
