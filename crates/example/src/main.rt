@@ -22,10 +22,10 @@ use url::Url;
 use urlpattern::component::generate_pattern_string;
 use urlpattern::parser::{Options, parse_pattern_string};
 use urlpattern::regexp::PatternRegexp;
+use urlpattern::rules::{PatternParts, parts_of};
 use urlpattern::{
     Error, UrlPattern, UrlPatternInit, UrlPatternList, UrlPatternMap, UrlPatternOptions,
 };
-use urlpattern::rules::{PatternParts, parts_of};
 use users::Users;
 
 // docs: pattern

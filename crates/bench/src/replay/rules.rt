@@ -7,10 +7,10 @@ use std::alloc::Global;
 use std::cmp::Ordering;
 use urlpattern::quirks::process_construct_pattern_input;
 use urlpattern::regexp::PatternRegexp;
-use urlpattern::{ComponentName, Error, UrlPattern, UrlPatternInit};
 use urlpattern::rules::{
     PatternCovering, PatternOverlap, PatternParts, Reason, parts_of, unreachable,
 };
+use urlpattern::{ComponentName, Error, UrlPattern, UrlPatternInit};
 
 /// The names of the reasons.
 const REASONS: &[(&str, Reason)] = &[
