@@ -1,5 +1,5 @@
 -- The text of a component of a pattern, by that of the component alone.
-use Rattle.std.proofs.Common.{◌≡◌, ℕ, Bool, List, Option, Result, Ok, Err, String, inl, inr, subst}
+use Rattle.std.proofs.Common.{◌≡◌, ℕ, Bool, List, Option, Result, Ok, Err, String, inr, subst}
 use Rattle.std.specs.Prelude.{IfErr, IfOk}
 use Rattle.std.specs.declared.alloc.Global.{Global}
 use Rattle.urlpattern_core.specs.Components.{ComponentView}

@@ -57,7 +57,9 @@ pub fn is_same_unreachable(case: &Case<'_>) -> Result<bool, Fault> {
     };
     let mut patterns = Vec::new(case.alloc);
     for pattern in list(case.question, "patterns")? {
-        patterns.push(parts(case.alloc, pattern)?)?;
+        if patterns.push(parts(case.alloc, pattern)?).is_err() {
+            return Err(Fault::OutOfMemory);
+        }
     }
     let found = unreachable(case.alloc, &patterns)?;
     drop(patterns);
