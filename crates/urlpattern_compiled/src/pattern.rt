@@ -130,7 +130,7 @@ impl UrlPatternComponent {
         ensures plain { IfOk result (λ plain. component_by text_of plain ≡ plain_component R.text_made_of (compiled.component_view component)) }
         ensures memory { OnlyOutOfMemory result }
     {
-        let (pattern_string, regexp, group_name_list, matcher) = component.into_fields();
+        let (pattern_string, regexp, group_name_list, matcher, _) = component.into_fields();
         Ok(Self {
             pattern_string,
             regexp_string: engine_text(alloc, &regexp)?,

@@ -2,7 +2,7 @@
 //!
 //! <https://urlpattern.spec.whatwg.org/#component>
 
-ghost use Rattle.std.specs.Prelude.{◌≡◌, ◌&&◌, length, map, not, IfOk};
+ghost use Rattle.std.specs.Prelude.{◌≡◌, ◌&&◌, Some, length, map, not, string_bytes, IfOk};
 ghost use Rattle.urlpattern_core.specs.Generated.{HasGeneratedMeaning, HaveCaptures};
 ghost use Rattle.urlpattern_syntax.specs.{Errors.OnlyOutOfMemory, Options.options_view, Parts.parts_view, Text.text_of};
 ghost use Rattle.urlpattern_syntax.specs.RegexpText.{group_names, is_empty, is_fixed_text, regexp_text};
@@ -21,6 +21,7 @@ pub use normal::normalize_part_list;
 pub use printed::generate_pattern_string;
 use regexp_text::generate_regular_expression;
 use std::alloc::{AllocError, Global};
+use std::fmt;
 
 /// What a pattern text is compiled to.
 ///
@@ -42,18 +43,34 @@ pub struct Component<R> {
 }
 
 impl<R: Drop> Component<R> {
-    /// The fields by value: pattern text, engine's value, names of the groups, and matcher.
-    pub fn into_fields(self) -> (String, Result<R, Error>, Vec<String>, Matcher<R>)
-        ensures { result ≡ (self.pattern_string, self.regexp, self.group_name_list, self.matcher) }
+    /// The fields by value: pattern text, engine's value, names of the groups, matcher, and whether there is a regular expression of
+    /// its own.
+    pub fn into_fields(self) -> (String, Result<R, Error>, Vec<String>, Matcher<R>, bool)
+        ensures { result ≡ (self.pattern_string, self.regexp, self.group_name_list, self.matcher, self.has_regexp_group) }
     {
         let Self {
             pattern_string,
             regexp,
             group_name_list,
             matcher,
-            has_regexp_group: _,
+            has_regexp_group,
         } = self;
-        (pattern_string, regexp, group_name_list, matcher)
+        (
+            pattern_string,
+            regexp,
+            group_name_list,
+            matcher,
+            has_regexp_group,
+        )
+    }
+}
+
+/// Prints the pattern text.
+impl<R> fmt::Display for Component<R> {
+    ghost output = { λ component. Some (string_bytes component.pattern_string) };
+
+    fn fmt<W: fmt::Write>(&self, f: &mut fmt::Formatter<W>) -> fmt::Result {
+        f.write_str(&self.pattern_string)
     }
 }
 

@@ -13,13 +13,13 @@ use urlpattern::{ComponentName, Error, UrlPatternMatchInput};
 
 /// The plain matcher of a component.
 fn plain_matcher<R: RegExp>(alloc: Global, component: Component<R>) -> Result<Matcher, Error> {
-    let (_, _, _, matcher) = component.into_fields();
+    let (_, _, _, matcher, _) = component.into_fields();
     Matcher::from_matcher(alloc, matcher)
 }
 
 /// What the plain matcher of a component has between prefix and suffix.
 fn plain_inner<R: RegExp>(alloc: Global, component: Component<R>) -> Result<InnerMatcher, Error> {
-    let (_, _, _, matcher) = component.into_fields();
+    let (_, _, _, matcher, _) = component.into_fields();
     InnerMatcher::from_inner(alloc, matcher.inner)
 }
 
