@@ -7,6 +7,19 @@ use std::test::Fail;
 use url::Url;
 use urlpattern::{ComponentName, Error, UrlPattern, UrlPatternCaptures};
 
+/// The groups of all components. Of a component that is left out it is a wildcard, whose name is a number.
+const EACH: &[(ComponentName, &str, Option<&str>)] = &[
+    (ComponentName::Protocol, "0", Some("https")),
+    (ComponentName::Username, "0", Some("")),
+    (ComponentName::Password, "0", Some("")),
+    (ComponentName::Hostname, "host", Some("example")),
+    (ComponentName::Port, "0", Some("")),
+    (ComponentName::Pathname, "x", Some("b")),
+    (ComponentName::Pathname, "y", None),
+    (ComponentName::Search, "0", Some("")),
+    (ComponentName::Hash, "0", Some("")),
+];
+
 /// Compares the path that a match borrows, and its groups.
 fn expect_borrowed(rt: &impl Abort, found: &UrlPatternCaptures<'_, '_>) {
     assert_eq!(rt; found.input(ComponentName::Pathname), "/a/b");
@@ -29,11 +42,9 @@ fn expect_groups(rt: &impl Abort, found: &UrlPatternCaptures<'_, '_>) {
     assert_eq!(rt; groups.next(), Some(("y", None)));
     assert_eq!(rt; groups.next(), None);
     let mut groups = found.iter();
-    let name = ComponentName::Hostname;
-    assert_eq!(rt; groups.next(), Some((name, "host", Some("example"))));
-    let name = ComponentName::Pathname;
-    assert_eq!(rt; groups.next(), Some((name, "x", Some("b"))));
-    assert_eq!(rt; groups.next(), Some((name, "y", None)));
+    for group in EACH {
+        assert_eq!(rt; groups.next(), Some(*group));
+    }
     assert_eq!(rt; groups.next(), None);
 }
 
