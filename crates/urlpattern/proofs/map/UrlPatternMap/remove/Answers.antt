@@ -1,9 +1,24 @@
 use Rattle.std.proofs.Common.{◌<◌, ◌∙◌, ap, arith, length, refl, sym}
+use Rattle.std.proofs.lemmas.List.Edits.{length-remove}
 use Rattle.std.proofs.lemmas.Option.{slice_get_read, slice_get_within}
 use Rattle.std.specs.List.{remove}
 use Rattle.std.specs.Prelude.{slice_get}
 use Rattle.urlpattern.proofs.PatternMapLemmas.{no_pair_at, pair_at, pairs-remove, remove-none}
 use Rattle.urlpattern.proofs.map.UrlPatternMap.remove.Goals as goal
+
+pub invariant_of-self : goal.invariant_of-self
+invariant_of-self g c =
+    let patterns = c.self.inside.patterns in
+    let values = c.self.inside.values.items in
+    let index = c.args.index in
+    let within : index < length patterns = slice_get_within patterns index c.in-Some.pattern (sym c.in-Some.ensures.removed) in
+    let fewer = length-remove patterns index within in
+    let fewer_values = length-remove values index (omega (arith, within, c.self.invariant)) in
+    rw (c.remove-in-Some.ensures.items, c.remove.ensures.others) (omega (arith, fewer, fewer_values, c.self.invariant))
+
+pub invariant_of-self-in-None : goal.invariant_of-self-in-None
+invariant_of-self-in-None g c =
+    rw (c.remove.ensures.others, remove-none c.self.inside.patterns c.args.index (sym c.in-None.ensures.removed)) c.self.invariant
 
 pub returns-in-Some-clause-removed : goal.returns-in-Some-clause-removed
 returns-in-Some-clause-removed g c =
