@@ -3,3 +3,4 @@ mod GroupNames
 mod AnswerLemmas
 mod FirstLemmas
 mod ShortLemmas
+mod FilterLemmas

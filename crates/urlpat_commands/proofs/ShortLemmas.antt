@@ -32,6 +32,10 @@ refused_first_input [] base input least is_base is_input refused = absurd (omega
 refused_first_input (x ∷ []) base input least is_base is_input refused = absurd (omega (arith, least))
 refused_first_input (x ∷ y ∷ rest) base input least is_base is_input refused = rw (is_base, is_input) at refused
 
+-- what is said of the only word
+pub refused_short_input : (words : List (String Global)) (input : String Global) → words ≡ input ∷ [] → IsRefusedText (string_bytes input) None → HasRefusedShortInput (words_view words)
+refused_short_input words input are refused = rw are refused
+
 -- what follows of a note, if there is one
 pub of_note : {N E : Type 0} (P Q : Type 0) (note : Result (Option N) E) → (P → Q) → IfOk note (λ found. IfSome found (λ text. P)) → IfOk note (λ found. IfSome found (λ text. Q))
 of_note P Q (Err error) f h = h

@@ -1,6 +1,6 @@
 //! The command `filter`: the lines of a reader whose URLs match a pattern.
 
-ghost use Rattle.std.specs.Prelude.{◌≡◌, ◌≢◌, ◌++◌, option_copied, IfSome, OnOk};
+ghost use Rattle.std.specs.Prelude.{◌≡◌, ◌≢◌, ◌⊎◌, ◌++◌, option_copied, OnOk};
 ghost use Rattle.urlpat_commands.specs.Answers.{IsUnmatchedBy, words_view};
 ghost use Rattle.urlpat_commands.specs.FilterLines.{FiltersLines, IsCapturedBy, captures_of};
 ghost use Rattle.urlpat_filter.specs.Filters.{group_text};

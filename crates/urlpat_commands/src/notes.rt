@@ -25,6 +25,7 @@ pub fn input_note(alloc: Global, words: &[String]) -> Result<Option<String>, Err
         return Ok(None);
     };
     match command.as_str() {
+        "component" => Ok(None),
         "match" => match_note(alloc, rest),
         "first" => first_note(alloc, rest),
         _ => short_note(alloc, rest),

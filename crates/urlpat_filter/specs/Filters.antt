@@ -1,9 +1,9 @@
 -- What `filter` answers to the lines that it reads. Texts are bytes.
-use Rattle.std.specs.Prelude.{◌≡◌, ◌≢◌, ◌⊎◌, ℕ, Bool, true, false, List, [], ◌++◌, codes, decimal, nat_lt, Option, None, Some}
+use Rattle.std.specs.Prelude.{◌≡◌, ◌⊎◌, ℕ, Bool, true, false, List, [], ◌++◌, codes, decimal, nat_lt, Option, None, Some}
 use Rattle.std.specs.Io.KnownBytes.{Appends}
 use Rattle.urlpat_filter.specs.declared.filter.Outcome.{Outcome}
 use Rattle.urlpat_filter.specs.declared.filter.Outcome.TheVariants as outcomes
-use Rattle.urlpat_lines.specs.Answers.{AreAnswersTo, lines_of}
+use Rattle.urlpat_lines.specs.Answers.{AreAnswersTo, lines_of, selected_by}
 use Rattle.urlpat_lines.specs.declared.answers.Verdict.{Verdict}
 use Rattle.urlpat_lines.specs.declared.answers.Verdict.TheVariants as verdicts
 use Rattle.urlpat_words.specs.declared.query.Shape.{Shape}
@@ -55,8 +55,8 @@ AnswersMatched false shape line verdict written = (verdict ≡ verdicts.Selected
 
 -- a line that does not match is selected, if such lines are looked for
 abbrev pub AnswersUnmatched : (inverted : Bool) → Shape → (line : List ℕ) → Verdict → (written : List ℕ) → Type 0
-AnswersUnmatched true shape line verdict written = (verdict ≡ verdicts.Selected) × (written ≡ other_text shape line)
-AnswersUnmatched false shape line verdict written = (verdict ≢ verdicts.Selected) × (written ≡ [])
+AnswersUnmatched true shape line verdict written = (selected_by verdict ≡ 1) × (written ≡ other_text shape line)
+AnswersUnmatched false shape line verdict written = (selected_by verdict ≡ 0) × (written ≡ [])
 
 -- A line whose text matches is answered with what its group captured, and one whose text does not without.
 abbrev pub FilterAnswers : (Matches : (text : List ℕ) → Captured → Type 0) → (Differs : (text : List ℕ) → Type 0) → (inverted : Bool) → Shape

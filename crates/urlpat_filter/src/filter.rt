@@ -1,8 +1,8 @@
 //! The command `filter`, over anything that matches lines.
-ghost use Rattle.std.specs.Prelude.{◌≡◌, ◌≢◌, ℕ, List, Option, IfOk, IfSome, OnOk, None, nat_lt};
+ghost use Rattle.std.specs.Prelude.{◌≡◌, ℕ, List, Option, IfOk, IfSome, OnOk, None, nat_lt};
 ghost use Rattle.std.specs.Io.KnownBytes.{Appends};
 ghost use Rattle.urlpat_filter.specs.Filters.{AnswersMatched, AnswersUnmatched, FilterAnswers, FiltersText, GetsPiece, IsOutcome, asked_shape, count_line};
-ghost use Rattle.urlpat_lines.specs.declared.answers.Verdict.TheVariants as verdicts;
+ghost use Rattle.urlpat_lines.specs.Answers.{selected_by};
 ghost use Rattle.urlpattern_syntax.specs.declared.eight.ComponentName.{ComponentName};
 
 use std::alloc::{AllocError, Global};
@@ -195,7 +195,7 @@ fn answer_other(
     line: &[u8],
     written: &mut Vec<u8>,
 ) -> Result<Verdict, AllocError>
-    requires { verdict ≢ verdicts.Selected }
+    requires { selected_by verdict ≡ 0 }
     ensures { IfOk result (λ answer. GetsPiece (AnswersUnmatched inverted shape.entry line.now answer) written.old.items written.new.items) }
 {
     if !inverted {
@@ -205,5 +205,15 @@ fn answer_other(
         Shape::Line => written.extend_from_slice(line)?,
         Shape::Count | Shape::Group(_, _) => {}
     }
-    Ok(Verdict::Selected)
+    Ok(selected(verdict))
+}
+
+/// The verdict on a line that is looked for, by the one on a line that is not.
+fn selected(verdict: Verdict) -> Verdict
+    ensures { selected_by result ≡ 1 }
+{
+    match verdict {
+        Verdict::NoUrl | Verdict::SelectedNoUrl => Verdict::SelectedNoUrl,
+        Verdict::Passed | Verdict::Selected | Verdict::Refused => Verdict::Selected,
+    }
 }

@@ -86,4 +86,5 @@ pub selected-most : (verdict : Verdict) → selected_by verdict ≤ 1
 selected-most verdicts.Selected = omega arith
 selected-most verdicts.Passed = omega arith
 selected-most verdicts.NoUrl = omega arith
+selected-most verdicts.SelectedNoUrl = omega arith
 selected-most verdicts.Refused = omega arith

@@ -23,6 +23,7 @@ IsRefusedLine line = (LONGEST < length line) ⊎ ¬ IsUtf8 (without_terminator l
 -- how many lines are selected by a verdict on one
 abbrev pub selected_by : Verdict → ℕ
 selected_by verdicts.Selected = 1
+selected_by verdicts.SelectedNoUrl = 1
 selected_by verdict = 0
 
 module _ (Answers : (text line : List ℕ) → Verdict → (written : List ℕ) → Type 0) where

@@ -18,6 +18,8 @@ pub enum Verdict {
     Passed,
     /// It is none of them, as it is no URL.
     NoUrl,
+    /// It is one of those that are looked for, and no URL.
+    SelectedNoUrl,
     /// It is not UTF-8, or too long.
     Refused,
 }
@@ -150,6 +152,11 @@ fn counted(tally: Tally, verdict: Verdict) -> Tally
         },
         Verdict::Passed => tally,
         Verdict::NoUrl => Tally {
+            no_url: tally.no_url.saturating_add(1),
+            ..tally
+        },
+        Verdict::SelectedNoUrl => Tally {
+            selected: tally.selected + 1,
             no_url: tally.no_url.saturating_add(1),
             ..tally
         },
