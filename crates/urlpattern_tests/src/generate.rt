@@ -2,6 +2,7 @@
 
 use regex::Regex;
 use std::alloc::{AllocError, Global};
+use std::test::Fail;
 use urlpattern_core::component::Component;
 use urlpattern_generate::{GenerateError, GivenGroup, generate_component};
 use urlpattern_syntax::Error;
@@ -32,7 +33,7 @@ fn generated(
 
 /// Patterns of a pathname, texts for the groups `a` and `b`, and the text or a word for the error.
 #[test]
-fn texts_are_generated_or_refused(rt: HostRuntime) -> Result<(), AllocError> {
+fn texts_are_generated_or_refused(rt: HostRuntime) -> Result<(), Fail> {
     let cases = [
         ("/:a/:b", "x", "y", "/x/y"),
         ("/:a-:b", "x", "y", "/x-y"),
@@ -64,7 +65,7 @@ fn texts_are_generated_or_refused(rt: HostRuntime) -> Result<(), AllocError> {
                 assert_eq!(rt; (expected, name.as_str()), ("not captured a", "a"));
             }
             Err(GenerateError::ReadOtherwise(_)) => assert_eq!(rt; expected, "read otherwise"),
-            Err(GenerateError::OutOfMemory) => return Err(AllocError),
+            Err(GenerateError::OutOfMemory) => return Err(Fail::from(AllocError)),
         }
     }
     Ok(())

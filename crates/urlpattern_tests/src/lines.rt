@@ -2,6 +2,7 @@
 ghost use Rattle.std.specs.Prelude.{⊤};
 
 use std::alloc::AllocError;
+use std::test::Fail;
 use urlpat_lines::{LONGEST, Rule, Verdict, answer_lines};
 
 /// A rule that selects the lines of fewer than four characters, and writes them as they are.
@@ -26,7 +27,7 @@ impl Rule for Short {
 }
 
 #[test]
-fn lines_are_answered_in_order(rt: HostRuntime) -> Result<(), AllocError> {
+fn lines_are_answered_in_order(rt: HostRuntime) -> Result<(), Fail> {
     let alloc = rt.alloc();
     let cases: [(&[u8], &[u8], u64, u64); 6] = [
         (b"", b"", 0, 0),
@@ -39,9 +40,10 @@ fn lines_are_answered_in_order(rt: HostRuntime) -> Result<(), AllocError> {
     for (text, wanted, selected, refused) in cases {
         let mut input = text;
         let mut out = Vec::new(alloc);
-        let mut err = Vec::new(alloc);
+        // What is reported finds room without a request for memory.
+        let mut err = Vec::with_capacity(alloc, 1024)?;
         let Ok(tally) = answer_lines(alloc, &Short, &mut input, &mut out, &mut err) else {
-            return Err(AllocError);
+            return Err(Fail::from(AllocError));
         };
         assert!(rt; out.as_slice() == wanted);
         assert!(rt; tally.selected == selected && tally.refused == refused);
@@ -51,7 +53,7 @@ fn lines_are_answered_in_order(rt: HostRuntime) -> Result<(), AllocError> {
 }
 
 #[test]
-fn a_line_that_is_too_long_is_refused(rt: HostRuntime) -> Result<(), AllocError> {
+fn a_line_that_is_too_long_is_refused(rt: HostRuntime) -> Result<(), Fail> {
     let alloc = rt.alloc();
     let mut text = vec![in alloc; b'a'; LONGEST + 1]?;
     text.extend_from_slice(b"\nb\n")?;
@@ -63,7 +65,7 @@ fn a_line_that_is_too_long_is_refused(rt: HostRuntime) -> Result<(), AllocError>
             assert!(rt; tally.selected == 1 && tally.refused == 1);
             assert!(rt; out.as_slice() == b"b\n".as_slice());
         }
-        Err(_) => return Err(AllocError),
+        Err(_) => return Err(Fail::from(AllocError)),
     }
     Ok(())
 }

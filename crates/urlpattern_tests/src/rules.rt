@@ -1,6 +1,6 @@
 //! Patterns of paths, compared.
 
-use std::alloc::Global;
+use std::alloc::{AllocError, Global};
 use std::cmp::Ordering;
 use std::test::Fail;
 use urlpattern_rules::{
@@ -30,7 +30,7 @@ fn parts(alloc: Global, pathname: &str) -> Result<PatternParts, Error> {
 }
 
 #[test]
-fn two(rt: HostRuntime) -> Result<(), Fail> {
+fn two_patterns_are_compared(rt: HostRuntime) -> Result<(), Fail> {
     let alloc = rt.alloc();
     let any = parts(alloc, "/*")?;
     let named = parts(alloc, "/:name")?;
@@ -42,11 +42,13 @@ fn two(rt: HostRuntime) -> Result<(), Fail> {
 }
 
 #[test]
-fn many(rt: HostRuntime) -> Result<(), Fail> {
+fn patterns_of_a_list_are_compared(rt: HostRuntime) -> Result<(), Fail> {
     let alloc = rt.alloc();
     let mut patterns = Vec::new(alloc);
     for pathname in ["/a/:b", "/a/b", "/*", "/c"] {
-        patterns.push(parts(alloc, pathname)?)?;
+        if patterns.push(parts(alloc, pathname)?).is_err() {
+            return Err(Fail::from(AllocError));
+        }
     }
     let asked = parts(alloc, "/c/d")?;
     assert_eq!(rt; first_covering(alloc, &patterns, &asked)?, Some(2));
