@@ -87,6 +87,7 @@ fn page_line(alloc: Global, url: &Url) -> Result<String, Error> {
         Ok(None) => text(alloc, "no page"),
         Err(_) => Err(Error::OutOfMemory),
     };
+    drop(shown);
     drop(pages);
     line
 }

@@ -9,10 +9,10 @@ use Rattle.example.proofs.grants.Grants.check.Goals as goal
 granted_by : (granted : List PatternParts) (asked : PatternParts) (found : Option ℕ) →
     MatchOption found (All (IsNotKnownToCover asked) granted) (λ index. CoversAt granted asked index × All (IsNotKnownToCover asked) (take index granted)) →
     IsTrue (is_some found) → IsGranted granted asked
-granted_by granted asked None is yes = absurd (let both : false ≡ true = yes in cc both)
-granted_by granted asked (Some index) is yes = (index, is.0)
+granted_by granted asked None is there = absurd (let both : false ≡ true = there in cc both)
+granted_by granted asked (Some index) is there = (index, is.0)
 
 pub returns : goal.returns
-returns c = λ yes.
+returns c = λ there.
     subst (λ (list : List PatternParts). IsGranted list c.args.asked.now) c.deref.ensures.value
-    (granted_by c.deref.result.now c.args.asked.now c.in_ok-found.found c.in_ok-found.ensures (sym c.is_some.ensures ∙ yes))
+    (granted_by c.deref.result.now c.args.asked.now c.in_ok-found.found c.in_ok-found.ensures (sym c.is_some.ensures ∙ there))
