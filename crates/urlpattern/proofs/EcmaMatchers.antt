@@ -3,7 +3,7 @@ use Rattle.std.proofs.Common.{◌≡◌, ℕ, List, Option, Some, None}
 use Rattle.std.specs.Prelude.{IfSome, IsTrue, is_some, option_and_then}
 use Rattle.std.specs.Str.{all_scalars}
 use Rattle.regex.specs.declared.string.regex.Regex.{Regex}
-use Rattle.urlpattern.specs.EcmaRegexps.{KeepsRegex, ecma_engine}
+use Rattle.urlpattern_engine.specs.EcmaRegexps.{KeepsRegex, ecma_engine}
 use Rattle.urlpattern_core.specs.Regexes.{IsRegexOf, regex_answer}
 use Rattle.urlpattern_core.specs.FirstWays.{EachAnswersFirst}
 use Rattle.urlpattern_meaning.specs.Dialect.{IsTreeOf, Items}

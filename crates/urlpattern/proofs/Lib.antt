@@ -1,7 +1,3 @@
-pub mod FixedLemmas
-pub mod ListLemmas
-pub mod NextLemmas
-pub mod PatternMapLemmas
 pub mod InputLemmas
 pub mod EcmaMatchers
 pub mod RegexGroups

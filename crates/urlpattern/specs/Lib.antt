@@ -1,5 +1,5 @@
 pub use Rattle.urlpattern_canonical.specs.Canonical
-pub use Rattle.urlpattern_core.specs.CaptureTexts
+pub use Rattle.urlpattern_meaning.specs.CaptureTexts
 pub use Rattle.urlpattern_core.specs.Components
 pub use Rattle.urlpattern_core.specs.FirstWays
 pub use Rattle.urlpattern_core.specs.Generated
@@ -15,6 +15,10 @@ pub use Rattle.urlpattern_init.specs.SpecialProtocol
 pub use Rattle.urlpattern_init.specs.Split
 pub use Rattle.urlpattern_init.specs.Splitting
 pub use Rattle.urlpattern_init.specs.UrlTexts
+pub use Rattle.urlpattern_list.specs.FirstMatch
+pub use Rattle.urlpattern_list.specs.NextMatch
+pub use Rattle.urlpattern_list.specs.PatternKeys
+pub use Rattle.urlpattern_list.specs.PatternMaps
 pub use Rattle.urlpattern_meaning.specs.Dialect
 pub use Rattle.urlpattern_meaning.specs.FirstAnswers
 pub use Rattle.urlpattern_meaning.specs.Laws
@@ -62,6 +66,7 @@ pub use Rattle.urlpattern_syntax.specs.RegexpText
 pub use Rattle.urlpattern_syntax.specs.Stops
 pub use Rattle.urlpattern_syntax.specs.Text
 pub use Rattle.urlpattern_syntax.specs.Tokens
+pub use Rattle.urlpattern_engine.specs.EcmaRegexps
 pub use Rattle.urlpattern_engine.specs.PatternRegexps
 pub use Rattle.urlpattern_engine.specs.declared.pattern_regexp.PatternRegexp
 pub use Rattle.urlpattern_init.specs.declared.init.UrlPatternInit
@@ -77,12 +82,7 @@ pub use Rattle.urlpattern_syntax.specs.declared.error.ParserError
 pub use Rattle.urlpattern_syntax.specs.declared.parser.Options as ParserOptions
 pub use Rattle.urlpattern_syntax.specs.declared.parser.Part
 pub use Rattle.urlpattern_syntax.specs.declared.parser.RegexSyntax
-pub mod EcmaRegexps
-pub mod FirstMatch
 pub mod Inputs
-pub mod NextMatch
 pub mod PatternLaws
-pub mod PatternKeys
-pub mod PatternMaps
 pub mod Quirks
 pub mod Theorem

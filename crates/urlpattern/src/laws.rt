@@ -4,7 +4,7 @@
 
 ghost use Rattle.std.specs.Prelude.{⊤, ℕ, List, Option};
 ghost use Rattle.urlpattern_pattern.specs.ByText.{MakesFirstWays};
-ghost use Rattle.urlpattern.specs.EcmaRegexps.{KeepsRegex, ecma_engine};
+ghost use Rattle.urlpattern_engine.specs.EcmaRegexps.{KeepsRegex, ecma_engine};
 ghost use Rattle.urlpattern.specs.PatternLaws.{AnswersMeanTheParts, FirstResultsAreOne, MatchesAreOne, RegexMeetsPremises, RegexResultsAreFirst, TestsAgree, TestsAreOne};
 ghost use Rattle.urlpattern_pattern.specs.Folded.{FoldedFirstsAreAnswered, FoldedWaysAreAnswered};
 ghost use Rattle.urlpattern_pattern.specs.Outcomes.{DecidesGenerated, FirstWaysDecide, InitRefusalsAreOne, InitsHaveOutcomes, InitsHaveValues, PatternsExcludeRefusals};

@@ -7,21 +7,18 @@
 #![tactic(auto)]
 
 pub mod laws;
-mod list;
-mod map;
 pub mod quirks;
 pub mod regexp;
 pub mod rules;
 pub mod theorem;
 
-pub use list::{UrlPatternList, UrlPatternMatches};
-pub use map::{UrlPatternMap, UrlPatternMapIter};
 pub use urlpattern_canonical::canonicalize_and_process;
 pub use urlpattern_core::{Error, RegexSyntax, component, error, matcher, parser, tokenizer};
 pub use urlpattern_diagnosis::{Diagnosis, Fault, Span, Subject};
 pub use urlpattern_generate::{GenerateError, GivenGroup};
 pub use urlpattern_init::{UrlPatternInit, UrlPatternMatchInput};
 pub use urlpattern_inputs::UrlPatternOptions;
+pub use urlpattern_list::{UrlPatternList, UrlPatternMap, UrlPatternMapIter, UrlPatternMatches};
 pub use urlpattern_pattern::{
     UrlPattern, UrlPatternCaptures, UrlPatternCapturesIter, UrlPatternComponentResult,
     UrlPatternGroups, UrlPatternResult, pathname_texts, url_texts,

@@ -1,15 +1,14 @@
 //! Types and calls for browsers: an engine in ECMAScript's syntax, plain data, inits and inputs as they are given, and the
 //! texts of a match input.
 
-mod ecma_regexp;
 mod inputs;
 mod parsing;
 
 pub use crate::Error;
 pub use crate::component::Component;
-pub use ecma_regexp::EcmaRegexp;
 pub use inputs::{process_construct_pattern_input, process_match_input};
 pub use parsing::{parse_pattern, parse_pattern_as_lib};
 pub use urlpattern_compiled::{InnerMatcher, Matcher, UrlPattern, UrlPatternComponent};
+pub use urlpattern_engine::EcmaRegexp;
 pub use urlpattern_inputs::{Inputs, MatchInput, StringOrInit, UrlPatternInit};
 pub use urlpattern_pattern::parse_match_input;

@@ -1,4 +1,3 @@
-pub mod CaptureTexts
 pub mod Components
 pub mod Regexes
 pub mod FirstWays
@@ -7,5 +6,4 @@ pub mod Looks
 pub mod Matchers
 pub mod Neighbours
 pub mod NormalForms
-pub mod Outlines
 pub mod PartTexts

@@ -6,7 +6,7 @@
 pub mod component;
 pub mod laws;
 pub mod matcher;
-pub mod outline;
 pub mod regexp;
 
+pub use urlpattern_meaning::outline;
 pub use urlpattern_syntax::{Error, RegexSyntax, error, parser, tokenizer};

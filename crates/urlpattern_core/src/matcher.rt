@@ -2,7 +2,7 @@
 
 ghost use Rattle.std.specs.Prelude.{◌≡◌, ◌↔◌, [], ℕ, List, IfErr, IfNone, IfOk, IfSome, IsTrue, map, not};
 ghost use Rattle.std.specs.{Char.to_ascii_lowercase, Str.chars};
-ghost use Rattle.urlpattern_core.specs.CaptureTexts.{captures_view};
+ghost use Rattle.urlpattern_meaning.specs.CaptureTexts.{captures_view};
 ghost use Rattle.urlpattern_core.specs.Matchers.{BeginsWithFolded, EndsWithFolded, matcher_view};
 ghost use Rattle.urlpattern_meaning.specs.Matching.{Answers, AsksEngine, HasMiddle, IsMatched, IsSame, MayBeEmpty, MayRunOutOfMemory, PassesFilter};
 ghost use Rattle.urlpattern_syntax.specs.{Errors.OnlyOutOfMemory, Text.lacks};

@@ -4,8 +4,8 @@ mod rust;
 
 ghost use Rattle.std.specs.Prelude.{◌≡◌, ◌≢◌, Bool, ℕ, List, Option, Err, IfOk, None};
 ghost use Rattle.std.specs.Str.{chars};
-ghost use Rattle.urlpattern_core.specs.CaptureTexts.{captures_view};
-ghost use Rattle.urlpattern_core.specs.Outlines.{HasOutline};
+ghost use Rattle.urlpattern_meaning.specs.CaptureTexts.{captures_view};
+ghost use Rattle.urlpattern_meaning.specs.Outlines.{HasOutline};
 ghost use Rattle.urlpattern_meaning.specs.PartMeaning.{Captures};
 ghost use Rattle.urlpattern_syntax.specs.declared.error.RegExpError.TheVariants.{Pattern};
 ghost use Rattle.urlpattern_syntax.specs.declared.parser.RegexSyntax.{RegexSyntax};

@@ -28,11 +28,11 @@ use Rattle.urlpattern_engine.specs.declared.pattern_regexp.Expression.{Expressio
 use Rattle.urlpattern_engine.specs.declared.pattern_regexp.Expression.TheVariants.{Own, Compiled, Kept, Other}
 use Rattle.urlpattern_engine.specs.declared.pattern_regexp.PatternRegexp.{PatternRegexp}
 use Rattle.urlpattern_engine.specs.PatternRegexps.{IsExpressionOf, IsPatternRegexpOf, expression_answer, pattern_answer, pattern_engine}
-use Rattle.urlpattern_engine.specs.declared.step.Step.{Step}
+use Rattle.urlpattern_steps.specs.declared.step.Step.{Step}
 use Rattle.urlpattern_engine.specs.Automatons.{IsRegexReadAs, config_for, names_of}
-use Rattle.urlpattern_engine.specs.ReadSteps.{AreStepsOf, IsGenerated}
+use Rattle.urlpattern_walk.specs.ReadSteps.{AreStepsOf, IsGenerated}
 use Rattle.urlpattern_engine.specs.Readings.{ValuesAnswerAsRead, re_answer}
-use Rattle.urlpattern_engine.specs.Walk.{walk}
+use Rattle.urlpattern_steps.specs.Walk.{walk}
 use Rattle.urlpattern_meaning.proofs.FirstAnswers.{took_all}
 use Rattle.urlpattern_engine.proofs.AutomatonLemmas.{answers_as_tree, automaton_first, automaton_same}
 use Rattle.urlpattern_engine.proofs.TwoReadings.{default_read, first_is_read, read_by_default, regex_read, regexes_same, tree_is_read, tree_same}

@@ -1,9 +1,4 @@
-pub mod Walk
-pub mod Failed
-pub mod Taken
-pub mod Table
-pub mod ReadSteps
 pub mod Readings
-pub mod OutlineSteps
 pub mod Automatons
 pub mod PatternRegexps
+pub mod EcmaRegexps

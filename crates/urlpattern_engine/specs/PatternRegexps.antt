@@ -7,8 +7,8 @@ use Rattle.urlpattern_engine.specs.Automatons.{IsNfaOf, IsReadAtStart, IsRegexRe
 use Rattle.urlpattern_engine.specs.declared.pattern_regexp.Expression.{Expression}
 use Rattle.urlpattern_engine.specs.declared.pattern_regexp.Expression.TheVariants.{Own, Compiled, Kept, Other}
 use Rattle.urlpattern_engine.specs.declared.pattern_regexp.PatternRegexp.{PatternRegexp}
-use Rattle.urlpattern_engine.specs.ReadSteps.{AreStepsOf, IsGenerated}
-use Rattle.urlpattern_engine.specs.Walk.{walk}
+use Rattle.urlpattern_walk.specs.ReadSteps.{AreStepsOf, IsGenerated}
+use Rattle.urlpattern_steps.specs.Walk.{walk}
 use Rattle.urlpattern_meaning.specs.PartMeaning.{Captures}
 use Rattle.urlpattern_syntax.specs.declared.parser.RegexSyntax.TheVariants.{Rust}
 use Rattle.urlpattern_syntax.specs.Text.{text_of}

@@ -6,7 +6,7 @@ ghost use Rattle.regex.specs.Writes.{both};
 ghost use Rattle.regex_compile.specs.Implements.{Implements};
 ghost use Rattle.regex_hir.specs.Meaning.{meaning};
 ghost use Rattle.regex_vm.specs.Found.{group_cells};
-ghost use Rattle.urlpattern_core.specs.CaptureTexts.{captures_view};
+ghost use Rattle.urlpattern_meaning.specs.CaptureTexts.{captures_view};
 ghost use Rattle.urlpattern_engine.specs.Automatons.{IsNfaOf, IsRegexReadAs, config_for, automaton_answer, cell_texts, match_at_start, place_of, text_cut};
 ghost use Rattle.urlpattern_syntax.specs.Text.{option_text};
 

@@ -2,27 +2,27 @@
 
 ghost use Rattle.std.specs.Prelude.{◌≡◌, IfOk};
 ghost use Rattle.std.specs.Str.{chars};
-ghost use Rattle.urlpattern_core.specs.CaptureTexts.{captures_view};
+ghost use Rattle.urlpattern_meaning.specs.CaptureTexts.{captures_view};
 ghost use Rattle.urlpattern_core.specs.Components.{ignores_case};
 ghost use Rattle.urlpattern_engine.specs.PatternRegexps.{IsExpressionOf, pattern_engine};
-ghost use Rattle.urlpattern_engine.specs.ReadSteps.{IsGenerated};
-ghost use Rattle.urlpattern_engine.specs.Walk.{walk};
+ghost use Rattle.urlpattern_walk.specs.ReadSteps.{IsGenerated};
+ghost use Rattle.urlpattern_steps.specs.Walk.{walk};
 ghost use Rattle.urlpattern_syntax.specs.Text.{text_of};
 
 use crate::automaton::{Automaton, regex_of};
-use crate::by_table::walk_by_table;
-use crate::choices::{Strategy, strategy_of};
 use crate::kept::Kept;
-use crate::outline::{outline_of, outline_of_any};
-use crate::reading::read_steps;
-use crate::step::Step;
-use crate::walk::walk;
 use regex::Regex;
 use std::alloc::{AllocError, Global};
 use urlpattern_core::RegexSyntax;
 use urlpattern_core::error::{OutOfMemory, RegExpError};
 use urlpattern_core::outline::OutlineItem;
 use urlpattern_core::regexp::RegExp;
+use urlpattern_walk::choices::{Strategy, strategy_of};
+use urlpattern_walk::outline::{outline_of, outline_of_any};
+use urlpattern_walk::reading::read_steps;
+use urlpattern_steps::step::Step;
+use urlpattern_walk::walk::walk;
+use urlpattern_walk::walk_by_table;
 
 /// An engine that answers what `regex::Regex` answers.
 ///

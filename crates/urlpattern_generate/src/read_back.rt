@@ -2,7 +2,8 @@
 
 ghost use Rattle.std.specs.Prelude.{◌≡◌, ◌↔◌, Some, IfOk, IsTrue, MatchBool, map};
 ghost use Rattle.std.specs.Str.{chars};
-ghost use Rattle.urlpattern_core.specs.{CaptureTexts.captures_view, Matchers.matcher_view};
+ghost use Rattle.urlpattern_core.specs.Matchers.{matcher_view};
+ghost use Rattle.urlpattern_meaning.specs.CaptureTexts.{captures_view};
 ghost use Rattle.urlpattern_generate.specs.Generating.{IsNotCanonical, IsReadWith, IsReadOtherwise};
 ghost use Rattle.urlpattern_generate.specs.Writers.{manner_of_writer};
 ghost use Rattle.urlpattern_links.specs.Refused.{given_captures};

@@ -5,9 +5,9 @@ use Rattle.std.proofs.lemmas.Bool.Decides.{nat_tests}
 use Rattle.std.proofs.lemmas.List.{append_assoc, at_drop_all, at_drop_more, length_push, length-take, length-append}
 use Rattle.std.specs.Borrow.{Bor}
 use Rattle.std.specs.Prelude.{Option, Some, None, chars, fold, is_some, option_map, unwrap_or, IsTrue}
-use Rattle.urlpattern_core.specs.declared.outline.OutlineItem.{OutlineItem}
-use Rattle.urlpattern_core.specs.declared.outline.OutlineItem.TheVariants.{Character, Run}
-use Rattle.urlpattern_core.specs.Outlines.{HasOutline}
+use Rattle.urlpattern_meaning.specs.declared.outline.OutlineItem.{OutlineItem}
+use Rattle.urlpattern_meaning.specs.declared.outline.OutlineItem.TheVariants.{Character, Run}
+use Rattle.urlpattern_meaning.specs.Outlines.{HasOutline}
 use Rattle.urlpattern_index.specs.FixedTexts.{IsText}
 use Rattle.urlpattern_index.specs.Keys.{AreEnough, mixed, mixed_segments, option_hash, segment_hashes, text_hash}
 use Rattle.urlpattern_index.specs.Segments.{AddsSegment, AreSegmentsOf, CountAlike}

@@ -1,7 +1,7 @@
 -- What is fixed of the inputs that a pattern matches, and the texts of an input.
 use Rattle.std.specs.Prelude.{◌≡◌, ℕ, List, Option, None, Some, chars, option_map}
-use Rattle.urlpattern_core.specs.declared.outline.OutlineItem.{OutlineItem}
-use Rattle.urlpattern_core.specs.Outlines.{HasOutline}
+use Rattle.urlpattern_meaning.specs.declared.outline.OutlineItem.{OutlineItem}
+use Rattle.urlpattern_meaning.specs.Outlines.{HasOutline}
 use Rattle.urlpattern_index.specs.declared.fixed.{Address.Address, Fixed.Fixed}
 
 -- A protocol and a hostname, where they are fixed, and an outline of the pathname.

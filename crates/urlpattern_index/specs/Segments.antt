@@ -1,7 +1,7 @@
 -- What the segments of an outline say of each path that has it.
 use Rattle.std.specs.Prelude.{◌≡◌, ◌≤◌, ℕ, Bool, List, [], ◌∷◌, ◌++◌, length, Option, is_some, unwrap_or}
-use Rattle.urlpattern_core.specs.declared.outline.OutlineItem.{OutlineItem}
-use Rattle.urlpattern_core.specs.Outlines.{HasOutline}
+use Rattle.urlpattern_meaning.specs.declared.outline.OutlineItem.{OutlineItem}
+use Rattle.urlpattern_meaning.specs.Outlines.{HasOutline}
 use Rattle.urlpattern_index.specs.FixedTexts.{AddressTexts, FixedTexts, HasTexts}
 use Rattle.urlpattern_index.specs.Keys.{AreEnough, Fits, form_key, form_view, hashes_of, mixed_segments, segment_hashes}
 use Rattle.urlpattern_index.specs.declared.form.Place.{Place}

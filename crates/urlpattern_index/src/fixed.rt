@@ -1,6 +1,6 @@
 //! What is fixed of the inputs that a pattern matches, and the texts of an input.
 
-use urlpattern_core::outline::OutlineItem;
+use urlpattern_meaning::outline::OutlineItem;
 
 /// What is fixed of the inputs that a pattern matches.
 #[derive(Debug, Clone, Copy, Drop)]

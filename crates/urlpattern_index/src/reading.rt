@@ -7,7 +7,7 @@ use crate::address::SEGMENTS;
 use crate::form::DEPTH;
 use crate::hashes::mixed;
 use arrayvec::ArrayVec;
-use urlpattern_core::outline::OutlineItem;
+use urlpattern_meaning::outline::OutlineItem;
 
 /// The first segments of an outline.
 #[derive(Drop)]

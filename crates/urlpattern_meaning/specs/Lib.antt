@@ -1,9 +1,11 @@
+pub mod CaptureTexts
 pub mod Dialect
 pub mod FirstAnswers
 pub mod Laws
 pub mod LawsOfMeaning
 pub mod LawsOfReading
 pub mod Matching
+pub mod Outlines
 pub mod PartMeaning
 pub mod Printing
 pub mod RoundTrip

@@ -1,7 +1,7 @@
 use Rattle.std.specs.Prelude.{⊤}
 use Rattle.urlpattern_pattern.proofs.ByTextLemmas.{taken_by_text}
 use Rattle.urlpattern.proofs.EcmaMatchers.{kept_by_ecma_first}
-use Rattle.urlpattern.specs.EcmaRegexps.{KeepsRegex, ecma_engine}
+use Rattle.urlpattern_engine.specs.EcmaRegexps.{KeepsRegex, ecma_engine}
 use Rattle.urlpattern_core.proofs.RegexMatchers.{taken_first}
 use Rattle.urlpattern_core.specs.Regexes.{regex_engine}
 use Rattle.urlpattern_engine.proofs.EngineLaws.{taken_first as taken_by_pattern_regexp_first}

@@ -1,6 +1,6 @@
 use Rattle.std.proofs.Common.{◌≡◌, [], ◌∙◌, ◌+◌, arith, drop, refl, subst, sym, true≢false}
 use Rattle.std.proofs.lemmas.List.{at_drop_all}
-use Rattle.urlpattern_core.specs.declared.outline.OutlineItem.TheVariants.{Character, Run}
+use Rattle.urlpattern_meaning.specs.declared.outline.OutlineItem.TheVariants.{Character, Run}
 use Rattle.urlpattern_index.proofs.SegmentLemmas.{AreReadTo, all_segments, left_segments, next_item, read_none, read_other, read_run, read_slash}
 use Rattle.urlpattern_index.proofs.reading.read_segments.Goals.{in-Character-eq47+else-not-push, in-Character, in-Run-eq47}
 use Rattle.urlpattern_index.specs.Segments.{AreSegmentsOf}

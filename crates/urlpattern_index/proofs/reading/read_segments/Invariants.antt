@@ -1,5 +1,5 @@
 use Rattle.std.proofs.Common.{◌≡◌, ◌≤◌, ℕ, List, false, drop, length}
-use Rattle.urlpattern_core.specs.Outlines.{HasOutline}
+use Rattle.urlpattern_meaning.specs.Outlines.{HasOutline}
 use Rattle.urlpattern_index.proofs.SegmentLemmas.{IsReadTo}
 use Rattle.urlpattern_index.proofs.reading.read_segments.Given as goal
 

@@ -2,7 +2,7 @@ use Rattle.std.proofs.Common.{sym, ◌∙◌}
 use Rattle.std.specs.Prelude.{◌≡◌, None, is_some}
 use Rattle.std.specs.Str.{chars}
 use Rattle.urlpattern_meaning.specs.Matching.{Answers}
-use Rattle.urlpattern_core.specs.CaptureTexts.{captures_view}
+use Rattle.urlpattern_meaning.specs.CaptureTexts.{captures_view}
 use Rattle.urlpattern_core.specs.Matchers.{matcher_view}
 use Rattle.urlpattern_core.proofs.MatcherAnswers.{answers-matched, is_some-map}
 use Rattle.urlpattern_core.proofs.matcher.Matcher.accepts.Goals as goal

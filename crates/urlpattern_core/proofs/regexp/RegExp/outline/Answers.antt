@@ -1,6 +1,6 @@
 use Rattle.std.proofs.Common.{[], refl, subst, sym}
 use Rattle.std.proofs.lemmas.List.{append-nil}
-use Rattle.urlpattern_core.specs.Outlines.{HasOutline}
+use Rattle.urlpattern_meaning.specs.Outlines.{HasOutline}
 use Rattle.urlpattern_core.proofs.regexp.RegExp.outline.Goals as goal
 
 pub returns : goal.returns

@@ -2,7 +2,7 @@ use Rattle.std.proofs.Common.{◌≡◌, List, ℕ, sym, subst}
 use Rattle.std.proofs.lemmas.Str.{IsUtf8-string_bytes}
 use Rattle.std.specs.Prelude.{IfOk, string_bytes}
 use Rattle.std.specs.Str.{chars}
-use Rattle.urlpattern_core.specs.CaptureTexts.{captures_view}
+use Rattle.urlpattern_meaning.specs.CaptureTexts.{captures_view}
 use Rattle.urlpattern_engine.specs.Automatons.{IsRegexReadAs}
 use Rattle.urlpattern_engine.proofs.AutomatonLemmas.{automaton_same_once}
 use Rattle.urlpattern_engine.proofs.automaton.Automaton.matches_long.Goals as goal

@@ -1,11 +1,11 @@
 use Rattle.std.proofs.Common.{◌≡◌, sym, subst}
 use Rattle.std.specs.Prelude.{IfOk}
 use Rattle.std.specs.Str.{chars}
-use Rattle.urlpattern_core.specs.CaptureTexts.{captures_view}
+use Rattle.urlpattern_meaning.specs.CaptureTexts.{captures_view}
 use Rattle.urlpattern_core.specs.Regexes.{regex_answer}
 use Rattle.urlpattern_engine.specs.Automatons.{automaton_answer, names_of, tree_answer}
 use Rattle.urlpattern_engine.specs.PatternRegexps.{expression_answer, pattern_answer}
-use Rattle.urlpattern_engine.specs.Walk.{walk}
+use Rattle.urlpattern_steps.specs.Walk.{walk}
 use Rattle.urlpattern_engine.proofs.pattern_regexp.PatternRegexpRegExp.matches.Goals as goal
 
 pub returns-in-Own : goal.returns-in-Own

@@ -1,6 +1,6 @@
 use Rattle.std.proofs.Common.{ap, false, sym, ◌∙◌}
 use Rattle.urlpattern_engine.specs.PatternRegexps.{expression_answer, pattern_answer}
-use Rattle.urlpattern_engine.specs.Walk.{walk}
+use Rattle.urlpattern_steps.specs.Walk.{walk}
 use Rattle.urlpattern_engine.proofs.pattern_regexp.PatternRegexpRegExp.outline.Goals as goal
 
 pub returns-in_ok-outline_of-in-Own : goal.returns-in_ok-outline_of-in-Own

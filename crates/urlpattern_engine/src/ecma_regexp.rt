@@ -1,0 +1,65 @@
+//! The engine of a browser, played by the crate `regex`.
+
+use regex::Regex;
+use std::alloc::Global;
+use urlpattern_core::RegexSyntax;
+use urlpattern_core::error::{OutOfMemory, RegExpError};
+use urlpattern_core::regexp::RegExp;
+
+/// A regular expression in ECMAScript's syntax: its text and its flags, for a browser's own engine.
+///
+/// The crate `regex` reads the text once, and what it made of it is kept. The value matches by that, and matches nothing
+/// if `regex` refused the text.
+#[derive(Drop)]
+pub struct EcmaRegexp(String, String, Option<Regex>);
+
+/// The text is refused only with `force_eval`.
+impl RegExp for EcmaRegexp {
+    ghost use Rattle.urlpattern_engine.specs.EcmaRegexps.{ecma_engine};
+
+    ghost syntax_of = { ecma_engine.syntax_of };
+
+    ghost IsMade = { ecma_engine.IsMade };
+
+    ghost MayRefuse = { ecma_engine.MayRefuse };
+
+    ghost answer = { ecma_engine.answer };
+
+    ghost text_made_of = { ecma_engine.text_made_of };
+
+    fn syntax() -> RegexSyntax {
+        RegexSyntax::EcmaScript
+    }
+
+    fn parse(
+        alloc: Global,
+        pattern: &str,
+        flags: &str,
+        force_eval: bool,
+    ) -> Result<EcmaRegexp, RegExpError> {
+        let read = match Regex::parse(alloc, pattern, flags, force_eval) {
+            Ok(regex) => Some(regex),
+            Err(RegExpError::OutOfMemory) => return Err(RegExpError::OutOfMemory),
+            Err(RegExpError::Pattern) if force_eval => return Err(RegExpError::Pattern),
+            Err(RegExpError::Pattern) => None,
+        };
+        let pattern = String::from_str(alloc, pattern)?;
+        let flags = String::from_str(alloc, flags)?;
+        Ok(EcmaRegexp(pattern, flags, read))
+    }
+
+    fn matches<'a>(
+        &self,
+        alloc: Global,
+        text: &'a str,
+    ) -> Result<Option<Vec<Option<&'a str>>>, OutOfMemory> {
+        match &self.2 {
+            Some(regex) => regex.matches(alloc, text),
+            None => Ok(None),
+        }
+    }
+
+    fn pattern_string(&self) -> &str {
+        self.0.as_str()
+    }
+}

@@ -1,0 +1,4 @@
+pub mod FixedLemmas
+pub mod ListLemmas
+pub mod NextLemmas
+pub mod PatternMapLemmas

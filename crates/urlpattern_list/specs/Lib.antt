@@ -1,0 +1,4 @@
+pub mod FirstMatch
+pub mod NextMatch
+pub mod PatternKeys
+pub mod PatternMaps

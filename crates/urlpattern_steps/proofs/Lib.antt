@@ -1,0 +1,8 @@
+pub mod OptionLemmas
+pub mod Tried
+pub mod Rounds
+mod SameLemmas
+pub mod RunLemmas
+pub mod StepLemmas
+pub mod CopyLemmas
+pub mod StepExamples

@@ -1,0 +1,159 @@
+//! Texts that are repeated, by the steps that they are made up of.
+
+ghost use Rattle.std.specs.Prelude.{◌≡◌, ◌++◌, ℕ, suc, ◌<◌, List, length, None, IfNone, IfSome, drop, get_or, take, if◌then◌else◌};
+ghost use Rattle.std.specs.Option.{option_or};
+ghost use Rattle.std.specs.Str.{chars};
+ghost use Rattle.urlpattern_steps.specs.Walk.{AreCopiesOf, BeginsAs, IsWithoutLast, going_on, in_turn, literal_text, literals};
+
+use crate::step::Step;
+use crate::texts::{after_same, is_same, split_first, without_last};
+
+/// The steps after the first so many, if there are more.
+pub fn pass(steps: &[Step], count: usize) -> &[Step]
+    ensures { result.now ≡ drop count steps.now }
+{
+    steps.get(count..).unwrap_or(&[])
+}
+
+/// The first so many steps, or all where there are fewer.
+pub fn first_steps(steps: &[Step], count: usize) -> &[Step]
+    ensures { result.now ≡ take count steps.now }
+{
+    steps.get(..count).unwrap_or(steps)
+}
+
+/// What follows a text, as it is compared, in another that begins with it: the first character and those of the literal steps.
+pub fn after_literals<'t>(
+    text: &'t str,
+    first: char,
+    literal: &[Step],
+    ignore_case: bool,
+) -> Option<&'t str>
+    ensures cut { IfSome result (λ rest. BeginsAs ignore_case (literal_text first literal.now) (chars text.now) (chars rest.now)) }
+    ensures other { IfNone result ((rest : List ℕ) → ¬ BeginsAs ignore_case (literal_text first literal.now) (chars text.now) rest) }
+    ensures len { IfSome result (λ rest. length rest.now < length text.now) }
+{
+    let mut rest = after_same(text, first, ignore_case)?;
+    let mut left = literal;
+    while let Some((step, others)) = left.split_first() {
+        if let Step::Literal(c) = step {
+            let Some(remaining) = after_same(rest, *c, ignore_case) else {
+                return None;
+            };
+            rest = remaining;
+        }
+        left = others;
+    }
+    Some(rest)
+}
+
+/// What follows all copies of a text, as it is compared, at the front of another: of the first character and those of the literal
+/// steps.
+pub fn skip_copies<'t>(
+    text: &'t str,
+    first: char,
+    literal: &[Step],
+    ignore_case: bool,
+) -> &'t str
+    ensures front { (copies : List (List ℕ)) × (chars text.now ≡ in_turn copies ++ chars result.now) × AreCopiesOf ignore_case (literal_text first literal.now) copies }
+    ensures all { (rest : List ℕ) → ¬ BeginsAs ignore_case (literal_text first literal.now) (chars result.now) rest }
+{
+    let mut rest = text;
+    while let Some(remaining) = after_literals(rest, first, literal, ignore_case) {
+        rest = remaining;
+    }
+    rest
+}
+
+/// A text without its last characters, one and as many as there are literal steps. `None`: it has not so many.
+pub fn without_copy<'t>(text: &'t str, literal: &[Step]) -> Option<&'t str>
+    ensures few { IfNone result (length (chars text.now) < suc (length (literals literal.now))) }
+    ensures cut { IfSome result (λ front. IsWithoutLast (suc (length (literals literal.now))) text.now front.now) }
+    ensures len { IfSome result (λ front. length front.now < length text.now) }
+{
+    let Some(mut front) = without_last(text) else {
+        return None;
+    };
+    let mut left = literal;
+    while let Some((step, others)) = left.split_first() {
+        if let Step::Literal(_) = step {
+            let Some(shorter) = without_last(front) else {
+                return None;
+            };
+            front = shorter;
+        }
+        left = others;
+    }
+    Some(front)
+}
+
+/// How many of the steps are literal.
+fn literal_count(literal: &[Step]) -> usize
+    ensures { result ≡ length (literals literal.now) }
+{
+    let mut count = 0;
+    let mut left = literal;
+    while let Some((step, others)) = left.split_first() {
+        if let Step::Literal(_) = step {
+            count += 1;
+        }
+        left = others;
+    }
+    count
+}
+
+/// What the table has for the text that follows the first character and those of the literal steps, as they are compared. The table has an entry for each
+/// end of the text that has fewer characters, from the shortest on.
+pub fn begun_after(
+    table: &[Option<usize>],
+    first: char,
+    literal: &[Step],
+    ignore_case: bool,
+    text: &str,
+) -> Option<usize>
+    ensures there { (rest : List ℕ) → BeginsAs ignore_case (literal_text first literal.now) (chars text.now) rest → length table.now ≡ length (chars text.now)
+        → result ≡ get_or table.now (length rest) None }
+    ensures other { ((rest : List ℕ) → ¬ BeginsAs ignore_case (literal_text first literal.now) (chars text.now) rest) → result ≡ None }
+{
+    after_literals(text, first, literal, ignore_case)?;
+    let index = table
+        .len()
+        .checked_sub(literal_count(literal))?
+        .checked_sub(1)?;
+    match table.get(index) {
+        Some(entry) => *entry,
+        None => None,
+    }
+}
+
+/// Where a run ends that goes on with the first character of a text, by where it ends later. `None`: it does not go on.
+pub fn goes_on(
+    text: &str,
+    end: char,
+    ignore_case: bool,
+    later: Option<usize>,
+) -> Option<usize>
+    ensures { result ≡ going_on ignore_case end later (chars text.now) }
+{
+    match split_first(text) {
+        Some((c, _)) if !is_same(c, end, ignore_case) => later,
+        _ => None,
+    }
+}
+
+/// Where a run ends that begins here, and one that may end here, by where it ends if it goes on and if it stops here.
+pub fn ends(
+    is_greedy: bool,
+    onward: Option<usize>,
+    stopping: Option<usize>,
+) -> (Option<usize>, Option<usize>)
+    ensures beginning { result.0 ≡ (if is_greedy then option_or onward stopping else onward) }
+    ensures either { result.1 ≡ (if is_greedy then option_or onward stopping else option_or stopping onward) }
+{
+    if is_greedy {
+        let either = onward.or(stopping);
+        (either, either)
+    } else {
+        (onward, stopping.or(onward))
+    }
+}

@@ -1,0 +1,48 @@
+//! Which texts steps are seen not to take.
+
+ghost use Rattle.std.specs.Prelude.{IsTrue};
+ghost use Rattle.urlpattern_steps.specs.Walk.{StopAt};
+
+use crate::repeats::pass;
+use crate::step::Step;
+
+/// Whether the steps are seen to take no text that begins with another character than this.
+pub fn stop_at(steps: &[Step], end: char) -> bool
+    ensures { IsTrue result → StopAt end steps.now }
+{
+    let mut rest = steps;
+    while let Some((step, others)) = rest.split_first() {
+        match step {
+            Step::Literal(c) => return *c == end,
+            Step::Maybe(group) => {
+                if !begin_with(others, end) {
+                    return false;
+                }
+                rest = pass(others, group.steps);
+            }
+            Step::Copies(copies) => {
+                if copies.text.first != end {
+                    return false;
+                }
+                if !copies.may_be_missing {
+                    return true;
+                }
+                rest = pass(others, copies.text.others);
+            }
+            Step::Segment(_) | Step::Anything | Step::Longest(_) | Step::Segments(_) => {
+                return false;
+            }
+        }
+    }
+    true
+}
+
+/// Whether the first step takes this character and no other.
+fn begin_with(steps: &[Step], c: char) -> bool
+    ensures { IsTrue result → StopAt c steps.now }
+{
+    match steps.split_first() {
+        Some((Step::Literal(other), _)) => *other == c,
+        _ => false,
+    }
+}

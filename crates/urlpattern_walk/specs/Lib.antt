@@ -1,0 +1,5 @@
+pub mod Failed
+pub mod Taken
+pub mod Table
+pub mod ReadSteps
+pub mod OutlineSteps
