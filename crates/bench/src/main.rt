@@ -1,7 +1,6 @@
 //! Replays questions and their answers over the library, and prints how many there are and how many of them differ.
 #![tactic(auto)]
 
-mod recorded;
 mod replay;
 mod report;
 

@@ -1,29 +1,24 @@
 //! Asks the library what was asked when a case was recorded, and compares the answers.
 
 mod calls;
-mod compiled;
-mod components;
 mod constructors;
 mod diagnoses;
-mod engines;
 mod first_match;
 mod generated;
 mod given;
-mod matchers;
+mod inputs;
 mod patterns;
 mod plain;
 mod rules;
-mod tokens;
 mod trees;
-mod values;
 
-use crate::recorded::{
-    Answer, Fault, OPERATIONS, Operation, field, is_set, list, named, optional_text, text,
+use bench_rows::recorded::{
+    Answer, Fault, OPERATIONS, Operation, field, is_set, named, optional_text, text,
 };
+use bench_rows::{Case, compiled, components, engines, matchers, tokens, values};
 use regex::Regex;
 use serde_json::Value;
-use std::alloc::{AllocError, Global};
-use urlpattern::Error;
+use std::alloc::Global;
 use urlpattern::quirks::EcmaRegexp;
 use urlpattern::regexp::{PatternRegexp, RegExp};
 
@@ -63,55 +58,6 @@ fn outcome_of(alloc: Global, recorded: &Value) -> Result<Outcome, Fault> {
         is_error: matches!(answer, Answer::Err(_)),
         is_same: is_same != is_set(recorded, "wrong"),
     })
-}
-
-/// A question, and the answer that was recorded.
-#[derive(Drop)]
-pub struct Case<'a> {
-    alloc: Global,
-    question: &'a Value,
-    answer: Answer<'a>,
-    over_pattern_regexp: Answer<'a>,
-}
-
-impl Case<'_> {
-    /// Whether what is found is what was recorded: a value that a call says is so, or an error that prints the text.
-    fn is_answer<T: Drop, F: FnOnce(&T, &Value) -> Result<bool, Fault>>(
-        &self,
-        found: Result<T, Error>,
-        is_recorded: F,
-    ) -> Result<bool, Fault>
-        requires { F.IsAlwaysCallable is_recorded }
-    {
-        let is_answer = match (&found, self.answer) {
-            (Err(Error::OutOfMemory), _) => Err(Fault::OutOfMemory),
-            (Ok(found), Answer::Ok(recorded)) => is_recorded(found, recorded),
-            (Err(error), Answer::Err(text)) => prints(self.alloc, error, text).map_err(Fault::from),
-            _ => Ok(false),
-        };
-        drop(found);
-        is_answer
-    }
-
-    /// Whether each input of the question has the recorded result in its place.
-    fn are_results<F: Fn(&Value, &Value) -> Result<bool, Fault>>(
-        &self,
-        recorded: &Value,
-        is_result: F,
-    ) -> Result<bool, Fault>
-        requires { F.IsAlwaysCallable is_result }
-    {
-        let inputs = list(self.question, "inputs")?;
-        let Ok(results) = list(recorded, "results") else {
-            return Ok(false);
-        };
-        for (input, expected) in inputs.iter().zip(results) {
-            if !is_result(input, expected)? {
-                return Ok(false);
-            }
-        }
-        Ok(inputs.len() == results.len())
-    }
 }
 
 /// Whether the library answers a case as recorded, over each engine that the case is about.
@@ -158,7 +104,7 @@ fn is_same_over<R: RegExp>(operation: Operation, case: &Case<'_>) -> Result<bool
         Operation::HandMatcher => matchers::is_same_by_hand(case),
         Operation::Canonicalize => values::is_same_canonical(case),
         Operation::Process => values::is_same_processed(case),
-        Operation::MatchInput => values::is_same_match_input(case),
+        Operation::MatchInput => inputs::is_same(case),
         Operation::Constructor => constructors::is_same(case),
         Operation::Construct => constructors::is_same_init(case),
         Operation::Pattern => patterns::is_same::<R>(case),
@@ -171,22 +117,5 @@ fn is_same_over<R: RegExp>(operation: Operation, case: &Case<'_>) -> Result<bool
         Operation::Unreachable => rules::is_same_unreachable(case),
         Operation::Json => trees::is_same(case),
         Operation::Equal => trees::is_same_equality(case),
-    }
-}
-
-/// Whether the error prints the text. An asterisk stands for any error of a URL.
-fn prints(alloc: Global, error: &Error, text: &str) -> Result<bool, AllocError> {
-    if text == "*" {
-        return Ok(matches!(error, Error::Url(_)));
-    }
-    Ok(format!(in alloc; "{error}")?.as_str() == text)
-}
-
-/// Whether calls succeeded and answered yes. Only memory that ran out is a fault.
-fn succeeded(found: Result<bool, Error>) -> Result<bool, Fault> {
-    match found {
-        Ok(is_same) => Ok(is_same),
-        Err(Error::OutOfMemory) => Err(Fault::OutOfMemory),
-        Err(_) => Ok(false),
     }
 }

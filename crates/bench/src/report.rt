@@ -1,6 +1,6 @@
 //! The run over files of cases, and what it prints.
 
-use crate::recorded::{Fault, OPERATIONS, Operation};
+use bench_rows::recorded::{Fault, OPERATIONS, Operation};
 use crate::replay::{Outcome, replay};
 use std::alloc::{AllocError, Global};
 use std::io::Write;

@@ -3,8 +3,7 @@ use Rattle.std.proofs.Common.{◌≡◌, ℕ, List, refl, ap, ◌∙◌}
 use Rattle.std.proofs.lemmas.Str.{encodes-chars, encodes_same, IsUtf8-string_bytes}
 use Rattle.std.specs.Prelude.{MatchResult, Result, Ok, Err, String, string_bytes, encode_utf8_all}
 use Rattle.std.specs.declared.alloc.Global.{Global}
-use Rattle.urlpattern.specs.Errors.{ErrorView, error_view}
-use Rattle.urlpattern.specs.Errors.{ErrorView as views}
+use Rattle.urlpattern.specs.Errors.{ErrorView, error_view, ErrorView as views}
 use Rattle.urlpattern.specs.Reading.{answer_view}
 use Rattle.urlpattern.specs.Text.{text_of}
 use Rattle.urlpattern.specs.Error.{Error}

@@ -16,7 +16,8 @@ use Rattle.url.specs.declared.scheme.SchemeType.TheVariants.{SpecialNotFile}
 use Rattle.url.specs.declared.slicing.Position.TheVariants.{AfterPort, BeforePort}
 use Rattle.urlpattern.proofs.ReadTexts.{IsTextAndSegment, anything_means, literal_means, text_and_segment_mean}
 use Rattle.urlpattern.proofs.UsersExample.{chars-path, chars-scheme, host_by_text, no_port, users_of_parts, users_options, users_parts}
-use Rattle.urlpattern.specs.Match.{HasNoMatch, IsMatch, ResultView, group_of}
+use Rattle.urlpattern.specs.Match.{HasNoMatch, IsMatch}
+use Rattle.urlpattern.specs.ResultViews.{ResultView, group_of}
 use Rattle.urlpattern.specs.MatchInput.{input_texts}
 use Rattle.urlpattern.specs.Patterns.{PatternView}
 use Rattle.urlpattern.specs.PatternRegexps.{pattern_answer}

@@ -2,7 +2,8 @@
 use Rattle.std.specs.Prelude.{◌≡◌, ◌⊎◌, ℕ, List, codes, Option, None}
 use Rattle.std.specs.Str.{chars}
 use Rattle.url.specs.Parts.{Parts}
-use Rattle.urlpattern.specs.Match.{HasNoMatch, IsMatch, IsMatchOf, IsRefused, ResultView, captured_text}
+use Rattle.urlpattern.specs.Match.{HasNoMatch, IsMatch, IsMatchOf, IsRefused}
+use Rattle.urlpattern.specs.ResultViews.{ResultView, captured_text}
 use Rattle.urlpattern.specs.MatchInput.{pathname_alone}
 use Rattle.urlpattern.specs.Patterns.{PatternView}
 use Rattle.urlpattern.specs.PartMeaning.{Captures}

@@ -5,7 +5,7 @@ use Rattle.std.specs.Str.{chars}
 use Rattle.url.specs.Parts.{Parts}
 use Rattle.urlpattern.specs.ComponentName.TheVariants.{Pathname}
 use Rattle.urlpattern.specs.FirstMatch.{FirstView, IsFirstMatch}
-use Rattle.urlpattern.specs.Match.{captured_text}
+use Rattle.urlpattern.specs.ResultViews.{captured_text}
 use Rattle.urlpattern.specs.PartMeaning.{Captures}
 use Rattle.urlpattern.specs.PatternMaps.{entry_patterns}
 use Rattle.urlpattern.specs.UrlPattern.{UrlPattern}

@@ -10,7 +10,7 @@ use Rattle.urlpat_commands.specs.declared.command.Failure.TheVariants as failure
 use Rattle.urlpat_commands.specs.declared.command.Printed.{Printed}
 use Rattle.urlpattern.specs.Eight.{name_text}
 use Rattle.urlpattern.specs.Errors.{MemoryOr}
-use Rattle.urlpattern.specs.Match.{ResultView}
+use Rattle.urlpattern.specs.ResultViews.{ResultView}
 use Rattle.urlpattern.specs.Patterns.{PatternView}
 use Rattle.urlpattern.specs.Text.{text_of}
 use Rattle.urlpattern_engine.specs.declared.pattern_regexp.PatternRegexp.{PatternRegexp}

@@ -16,7 +16,7 @@ use Rattle.urlpat_commands.proofs.AnswerLemmas.{bytes_of_text}
 use Rattle.urlpat_commands.specs.Answers.{AreNames, group_bytes, line_of}
 use Rattle.urlpat_commands.specs.Report.{group_line}
 use Rattle.urlpattern.specs.BorrowedMatches.{pattern_captures_view, groups_view}
-use Rattle.urlpattern.specs.Match.{ResultView}
+use Rattle.urlpattern.specs.ResultViews.{ResultView}
 use Rattle.urlpattern.specs.Text.{text_of}
 use Rattle.urlpattern_syntax.specs.declared.eight.ComponentName.{ComponentName}
 use Rattle.urlpattern.specs.UrlPatternCaptures.{UrlPatternCaptures}

@@ -1,10 +1,9 @@
 -- What the program answers to its words, and what it refuses. Words and texts are bytes.
 use Rattle.std.specs.Prelude.{◌≡◌, ◌≢◌, ◌↔◌, ◌⊎◌, All, ◌++◌, ℕ, false, if◌then◌else◌, List, [], ◌∷◌, length, map, max, codes, bytes_eq, Option, None, Some, Result, Ok, Err, String, string_bytes, encode_utf8_all, slice_get, take, IsSome, MatchOption}
-use Rattle.std.specs.Ordering.{on}
+use Rattle.std.specs.Ordering.{on, nat_cmp}
 use Rattle.std.specs.Cmp.Lexicographic.{slice_cmp}
 use Rattle.std.specs.List.{AllZip, Contains, flat_map}
 use Rattle.std.specs.List.Sorted.{IsStrictlySortedBy}
-use Rattle.std.specs.Ordering.{nat_cmp}
 use Rattle.std.specs.Str.{chars}
 use Rattle.std.specs.declared.alloc.Global.{Global}
 use Rattle.std.specs.Io.KnownBytes.{Appends}
@@ -20,15 +19,15 @@ use Rattle.urlpat_commands.specs.Kinds.{IsKind, NamesOptions}
 use Rattle.urlpat_commands.specs.Report.{component_lines, first_line, group_line}
 use Rattle.urlpattern.specs.Eight.{components, name_text}
 use Rattle.urlpattern.specs.Dialect.{HasMeaningOf}
-use Rattle.urlpattern.specs.Errors.{ErrorView}
+use Rattle.urlpattern.specs.Errors.{ErrorView, MemoryOr}
 use Rattle.urlpattern.specs.Canonical.{IsRefusedByUrl}
 use Rattle.urlpattern.specs.FirstMatch.{IsFirstMatch}
 use Rattle.urlpattern.specs.FromString.{IsPatternOfText, RefusesPatternOfText}
 use Rattle.urlpattern.specs.Inputs.{parsed_text, text_bytes}
 use Rattle.urlpattern.specs.Laws.{Answered, listed}
-use Rattle.urlpattern.specs.Match.{HasNoMatch, IsMatch, ResultView}
+use Rattle.urlpattern.specs.Match.{HasNoMatch, IsMatch}
+use Rattle.urlpattern.specs.ResultViews.{ResultView}
 use Rattle.urlpattern.specs.Options.{OptionsView}
-use Rattle.urlpattern.specs.Errors.{MemoryOr}
 use Rattle.urlpattern.specs.Parts.{PartView}
 use Rattle.urlpattern.specs.Patterns.{PatternView}
 use Rattle.urlpattern.specs.Printing.{Keeps, printed}

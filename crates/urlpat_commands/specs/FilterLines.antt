@@ -6,7 +6,8 @@ use Rattle.urlpat_commands.specs.Answers.{IsPatternOf, IsUnmatchedBy, IsUrlOf, P
 use Rattle.urlpat_filter.specs.Filters.{Captured, FilterAnswers, FiltersText}
 use Rattle.urlpat_words.specs.Queries.{AreFilterWords, IsQueryOf}
 use Rattle.urlpat_words.specs.declared.query.Query.{Query}
-use Rattle.urlpattern.specs.Match.{IsMatch, ResultView}
+use Rattle.urlpattern.specs.Match.{IsMatch}
+use Rattle.urlpattern.specs.ResultViews.{ResultView}
 use Rattle.urlpattern.specs.Patterns.{PatternView}
 use Rattle.urlpattern_engine.specs.PatternRegexps.{pattern_answer}
 use Rattle.urlpattern_engine.specs.declared.pattern_regexp.PatternRegexp.{PatternRegexp}

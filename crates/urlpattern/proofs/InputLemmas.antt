@@ -2,8 +2,7 @@
 use Rattle.std.proofs.Common.{◌≡◌, ℕ, inl, inr}
 use Rattle.url.specs.declared.error.ParseError.{ParseError}
 use Rattle.url.specs.Parser.{Parsed}
-use Rattle.urlpattern_canonical.specs.Canonical.{IsRefusedByUrl}
-use Rattle.urlpattern_canonical.specs.Canonical.{Reports}
+use Rattle.urlpattern_canonical.specs.Canonical.{IsRefusedByUrl, Reports}
 use Rattle.urlpattern_syntax.specs.declared.error.Error.{Error}
 use Rattle.urlpattern_syntax.specs.declared.error.Error.TheVariants as errors
 use Rattle.urlpattern_syntax.specs.Errors.{MemoryOr}

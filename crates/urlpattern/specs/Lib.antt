@@ -15,6 +15,9 @@ pub use Rattle.urlpattern_init.specs.SpecialProtocol
 pub use Rattle.urlpattern_init.specs.Split
 pub use Rattle.urlpattern_init.specs.Splitting
 pub use Rattle.urlpattern_init.specs.UrlTexts
+pub use Rattle.urlpattern_laws.specs.Folded
+pub use Rattle.urlpattern_laws.specs.Outcomes
+pub use Rattle.urlpattern_laws.specs.PatternLaws
 pub use Rattle.urlpattern_list.specs.FirstMatch
 pub use Rattle.urlpattern_list.specs.NextMatch
 pub use Rattle.urlpattern_list.specs.PatternKeys
@@ -34,7 +37,7 @@ pub use Rattle.urlpattern_inputs.specs.InputValues
 pub use Rattle.urlpattern_compiled.specs.Json
 pub use Rattle.urlpattern_compiled.specs.Plain
 pub use Rattle.urlpattern_compiled.specs.Values
-pub use Rattle.urlpattern_pattern.specs.BorrowedMatches
+pub use Rattle.urlpattern_matches.specs.BorrowedMatches
 pub use Rattle.urlpattern_pattern.specs.ByText
 pub use Rattle.urlpattern_pattern.specs.ByTextLaws
 pub use Rattle.urlpattern_pattern.specs.Calls
@@ -43,11 +46,13 @@ pub use Rattle.urlpattern_create.specs.CompilerSteps
 pub use Rattle.urlpattern_create.specs.Diagnoses
 pub use Rattle.urlpattern_create.specs.FromString
 pub use Rattle.urlpattern_pattern.specs.Match
-pub use Rattle.urlpattern_pattern.specs.MatchInput
+pub use Rattle.urlpattern_matches.specs.MatchInput
 pub use Rattle.urlpattern_pattern.specs.Meaning
 pub use Rattle.urlpattern_pattern.specs.Mismatch
 pub use Rattle.urlpattern_pattern.specs.Patterns
-pub use Rattle.urlpattern_pattern.specs.ResultJson
+pub use Rattle.urlpattern_matches.specs.GroupTexts
+pub use Rattle.urlpattern_matches.specs.ResultJson
+pub use Rattle.urlpattern_matches.specs.ResultViews
 pub use Rattle.urlpattern_readings.specs.Readings
 pub use Rattle.urlpattern_rules.specs.Comparing
 pub use Rattle.urlpattern_rules.specs.Order
@@ -73,9 +78,9 @@ pub use Rattle.urlpattern_init.specs.declared.init.UrlPatternInit
 pub use Rattle.urlpattern_init.specs.declared.init.UrlPatternMatchInput
 pub use Rattle.urlpattern_inputs.specs.declared.options.UrlPatternOptions
 pub use Rattle.urlpattern_pattern.specs.declared.pattern.UrlPattern
-pub use Rattle.urlpattern_pattern.specs.declared.pattern.captures.UrlPatternCaptures
-pub use Rattle.urlpattern_pattern.specs.declared.pattern.result.UrlPatternComponentResult
-pub use Rattle.urlpattern_pattern.specs.declared.pattern.result.UrlPatternResult
+pub use Rattle.urlpattern_matches.specs.declared.captures.UrlPatternCaptures
+pub use Rattle.urlpattern_matches.specs.declared.result.UrlPatternComponentResult
+pub use Rattle.urlpattern_matches.specs.declared.result.UrlPatternResult
 pub use Rattle.urlpattern_syntax.specs.declared.eight.ComponentName
 pub use Rattle.urlpattern_syntax.specs.declared.error.Error
 pub use Rattle.urlpattern_syntax.specs.declared.error.ParserError
@@ -83,6 +88,5 @@ pub use Rattle.urlpattern_syntax.specs.declared.parser.Options as ParserOptions
 pub use Rattle.urlpattern_syntax.specs.declared.parser.Part
 pub use Rattle.urlpattern_syntax.specs.declared.parser.RegexSyntax
 pub mod Inputs
-pub mod PatternLaws
 pub mod Quirks
 pub mod Theorem

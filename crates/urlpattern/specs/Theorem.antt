@@ -10,7 +10,7 @@ pub use Rattle.urlpattern_meaning.specs.LawsOfMeaning.{CapturesHaveNames, FirstW
 use Rattle.urlpattern_meaning.specs.LawsOfReading.{OfPartsThatWereRead, OutcomesAreOne, OutcomesLackOnlyAnswers, UnderEachList}
 use Rattle.urlpattern_meaning.specs.Matching.{AnswersByMeaning, IsMadeOf, MatcherView}
 use Rattle.urlpattern_meaning.specs.RoundTrip.{IsNotRefused, ReadsAsJoined, ReadsOnlyAsJoined}
-use Rattle.urlpattern.specs.PatternLaws.{TestsAgree, TestsAreOne}
+use Rattle.urlpattern_laws.specs.PatternLaws.{TestsAgree, TestsAreOne}
 use Rattle.urlpattern_syntax.specs.{Options.OptionsView, Parts.PartView, RegexpText.regexp_text}
 
 -- A text has an outcome, parts or an error, or else it asks the encoding about a text to which that has no answer. It has one

@@ -1,12 +1,11 @@
 //! URL patterns: texts such as `/users/:id` that say which URLs are meant, and name their pieces.
 //!
-//! A list of patterns gives the first that matches, and `quirks` is for browsers. The rest of the crate gathers what the crates
-//! below it have, so that a user names it alone.
+//! Lists and maps of patterns give the first that matches, and `quirks` is for browsers. The crate gathers what the crates below it
+//! have, so that a user names it alone.
 //!
 //! <https://urlpattern.spec.whatwg.org/>
 #![tactic(auto)]
 
-pub mod laws;
 pub mod quirks;
 pub mod regexp;
 pub mod rules;
@@ -18,9 +17,11 @@ pub use urlpattern_diagnosis::{Diagnosis, Fault, Span, Subject};
 pub use urlpattern_generate::{GenerateError, GivenGroup};
 pub use urlpattern_init::{UrlPatternInit, UrlPatternMatchInput};
 pub use urlpattern_inputs::UrlPatternOptions;
+pub use urlpattern_laws::laws;
 pub use urlpattern_list::{UrlPatternList, UrlPatternMap, UrlPatternMapIter, UrlPatternMatches};
-pub use urlpattern_pattern::{
-    UrlPattern, UrlPatternCaptures, UrlPatternCapturesIter, UrlPatternComponentResult,
-    UrlPatternGroups, UrlPatternResult, pathname_texts, url_texts,
+pub use urlpattern_matches::{
+    UrlPatternCaptures, UrlPatternCapturesIter, UrlPatternComponentResult, UrlPatternGroups,
+    UrlPatternResult, pathname_texts, url_texts,
 };
+pub use urlpattern_pattern::UrlPattern;
 pub use urlpattern_syntax::eight::{ComponentName, Eight};

@@ -11,4 +11,4 @@ pub use parsing::{parse_pattern, parse_pattern_as_lib};
 pub use urlpattern_compiled::{InnerMatcher, Matcher, UrlPattern, UrlPatternComponent};
 pub use urlpattern_engine::EcmaRegexp;
 pub use urlpattern_inputs::{Inputs, MatchInput, StringOrInit, UrlPatternInit};
-pub use urlpattern_pattern::parse_match_input;
+pub use urlpattern_matches::parse_match_input;

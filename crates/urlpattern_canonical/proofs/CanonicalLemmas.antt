@@ -19,9 +19,7 @@ use Rattle.urlpattern_syntax.proofs.TextLemmas.{chars-empty}
 use Rattle.urlpattern_syntax.specs.declared.error.Error.{Error}
 use Rattle.urlpattern_syntax.specs.declared.error.Error.TheVariants as errors
 use Rattle.urlpattern_syntax.specs.declared.error.ParserError.TheVariants as parser_errors
-use Rattle.urlpattern_syntax.specs.Errors.{ErrorView, error_view}
-use Rattle.urlpattern_syntax.specs.Errors.{ErrorView as views}
-use Rattle.urlpattern_syntax.specs.Errors.{MemoryOr}
+use Rattle.urlpattern_syntax.specs.Errors.{ErrorView, error_view, ErrorView as views, MemoryOr}
 use Rattle.urlpattern_syntax.specs.Text.{begins_with, option_text, text_of}
 
 -- ---- refusals

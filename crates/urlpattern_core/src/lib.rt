@@ -4,7 +4,6 @@
 #![tactic(auto)]
 
 pub mod component;
-pub mod laws;
 pub mod matcher;
 pub mod regexp;
 

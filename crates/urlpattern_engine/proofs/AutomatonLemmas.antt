@@ -31,7 +31,7 @@ use Rattle.regex_syntax.specs.Grammar.{Names}
 use Rattle.regex_syntax.specs.Verdict.{Reads}
 use Rattle.regex_vm.specs.Found.{cell, first_match, group_cells}
 use Rattle.urlpattern_core.specs.Regexes.{group_texts, regex_answer, text_between}
-use Rattle.urlpattern_core.proofs.RegexWays.{read_answers_first}
+use Rattle.urlpattern_regex.proofs.RegexWays.{read_answers_first}
 use Rattle.urlpattern_engine.specs.Automatons.{IsRegexReadAs, IsNfaOf, IsReadAtStart, automaton_answer, config_for, match_captures, cell_texts, match_at_start, place_of, text_cut, tree_answer}
 use Rattle.urlpattern_engine.proofs.TextParts.{text_parts}
 use Rattle.urlpattern_engine.proofs.TwoReadings.{readings_same, regex_answer_is, regex_is_read}

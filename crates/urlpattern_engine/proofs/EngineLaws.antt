@@ -13,7 +13,7 @@ use Rattle.urlpattern_core.specs.Regexes.{IsRegexOf, regex_answer, regex_engine}
 use Rattle.urlpattern_core.specs.FirstWays.{AllAnswerAlike, ComponentsTakeGenerated, EachAnswersFirst, KeepsCase, MatchersTakeGenerated, ValuesAnswerAlike, ValuesAnswerByFlags, ValuesAnswerFirst}
 use Rattle.urlpattern_core.specs.Generated.{AreGenerated}
 use Rattle.urlpattern_core.proofs.FirstMatchers.{first_alike, made_first}
-use Rattle.urlpattern_core.proofs.RegexWays.{read_answers_first, regex_answers_first}
+use Rattle.urlpattern_regex.proofs.RegexWays.{read_answers_first, regex_answers_first}
 use Rattle.urlpattern_meaning.specs.Dialect.{IsTreeOf, Items}
 use Rattle.urlpattern_meaning.specs.FirstAnswers.{AnswersFirst}
 use Rattle.urlpattern_meaning.specs.Ways.{first_way, first_way_by}

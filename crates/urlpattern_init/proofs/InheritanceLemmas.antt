@@ -23,9 +23,7 @@ use Rattle.urlpattern_init.specs.Inheritance.{asked_bytes, bytes_of, first_refus
 use Rattle.urlpattern_canonical.specs.declared.canonicalize_and_process.ProcessType.{ProcessType}
 use Rattle.urlpattern_canonical.specs.declared.canonicalize_and_process.ProcessType.TheVariants.{Pattern, Url}
 use Rattle.urlpattern_syntax.specs.declared.error.Error.TheVariants as errors
-use Rattle.urlpattern_syntax.specs.Errors.{ErrorView, error_view}
-use Rattle.urlpattern_syntax.specs.Errors.{ErrorView as views}
-use Rattle.urlpattern_syntax.specs.Errors.{MemoryOr}
+use Rattle.urlpattern_syntax.specs.Errors.{ErrorView, error_view, ErrorView as views, MemoryOr}
 
 -- ---- the path up to its last slash
 

@@ -4,10 +4,5 @@ pub mod SeenLemmas
 pub mod TextBetween
 pub mod SplitLemmas
 pub mod UserinfoLemmas
-pub mod SplitUnique
-pub mod SplitExists
 pub mod InheritanceLemmas
-pub mod SplitExamples
-pub mod PlainTexts
-pub mod UrlTexts
 pub mod SchemeLemmas

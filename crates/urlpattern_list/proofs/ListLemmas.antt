@@ -8,8 +8,9 @@ use Rattle.urlpattern_syntax.specs.declared.eight.ComponentName.{ComponentName}
 use Rattle.urlpattern_meaning.specs.PartMeaning.{Captures}
 use Rattle.urlpattern_pattern.proofs.MatchLaws.{refused-unmatched}
 use Rattle.urlpattern_list.specs.FirstMatch.{IsFirstMatch, IsFirstMatchOf}
-use Rattle.urlpattern_pattern.specs.Match.{HasMatch, HasNoMatch, IsMatchOf, IsRefused, ResultView}
-use Rattle.urlpattern_pattern.specs.MatchInput.{IsNoInput, input_texts}
+use Rattle.urlpattern_pattern.specs.Match.{HasMatch, HasNoMatch, IsMatchOf, IsRefused}
+use Rattle.urlpattern_matches.specs.ResultViews.{ResultView}
+use Rattle.urlpattern_matches.specs.MatchInput.{IsNoInput, input_texts}
 use Rattle.urlpattern_pattern.specs.Patterns.{PatternView}
 use Rattle.urlpattern_syntax.specs.declared.error.Error.{Error}
 use Rattle.urlpattern_syntax.specs.Eight.{Texts}

@@ -10,7 +10,8 @@ use Rattle.urlpattern_list.specs.PatternKeys.{AreIndexed, address_of}
 use Rattle.urlpattern_index.specs.Keys.{hashes_of}
 use Rattle.urlpattern_index.specs.Listed.{Finds, Listing}
 use Rattle.urlpattern_meaning.specs.PartMeaning.{Captures}
-use Rattle.urlpattern_pattern.specs.Match.{AsksAnEngine, IsMatchOf, IsRefused, ResultView}
+use Rattle.urlpattern_pattern.specs.Match.{AsksAnEngine, IsMatchOf, IsRefused}
+use Rattle.urlpattern_matches.specs.ResultViews.{ResultView}
 use Rattle.urlpattern_pattern.specs.Patterns.{PatternView, pattern_view}
 use Rattle.urlpattern_pattern.specs.declared.pattern.UrlPattern.{UrlPattern}
 use Rattle.urlpattern_syntax.specs.declared.eight.ComponentName.{ComponentName}

@@ -2,9 +2,13 @@
 use Rattle.std.specs.Prelude.{◌≡◌, ◌⊎◌, ℕ, List, map, take, All, Option, Some, None, option_map, slice_get}
 use Rattle.urlpattern_init.specs.declared.init.UrlPatternMatchInput.{UrlPatternMatchInput}
 use Rattle.urlpattern_syntax.specs.declared.eight.ComponentName.{ComponentName}
-use Rattle.urlpattern_pattern.specs.declared.pattern.{UrlPattern.UrlPattern, captures.UrlPatternCaptures.UrlPatternCaptures, result.UrlPatternResult.UrlPatternResult}
-use Rattle.urlpattern_pattern.specs.{BorrowedMatches.pattern_captures_view, Patterns.PatternView, Patterns.pattern_view}
-use Rattle.urlpattern_pattern.specs.Match.{AreMatched, AsksAnEngine, HasMatch, HasNoMatch, IsMatch, IsMatchOf, IsRefused, ResultView, result_view}
+use Rattle.urlpattern_pattern.specs.declared.pattern.UrlPattern.{UrlPattern}
+use Rattle.urlpattern_matches.specs.declared.captures.UrlPatternCaptures.{UrlPatternCaptures}
+use Rattle.urlpattern_matches.specs.declared.result.UrlPatternResult.{UrlPatternResult}
+use Rattle.urlpattern_matches.specs.BorrowedMatches.{pattern_captures_view}
+use Rattle.urlpattern_pattern.specs.Patterns.{PatternView, pattern_view}
+use Rattle.urlpattern_pattern.specs.Match.{AreMatched, AsksAnEngine, HasMatch, HasNoMatch, IsMatch, IsMatchOf, IsRefused}
+use Rattle.urlpattern_matches.specs.ResultViews.{ResultView, result_view}
 use Rattle.urlpattern_meaning.specs.PartMeaning.{Captures}
 use Rattle.urlpattern_syntax.specs.Eight.{Texts}
 

@@ -2,8 +2,10 @@
 use Rattle.std.specs.Prelude.{◌≡◌, ℕ, List, Option, Some, IfSome, option_map, slice_get}
 use Rattle.std.specs.Borrow.{Bor}
 use Rattle.std.specs.Map.{keys_of, values_of}
-use Rattle.urlpattern_pattern.specs.declared.pattern.{UrlPattern.UrlPattern, captures.UrlPatternCaptures.UrlPatternCaptures}
-use Rattle.urlpattern_pattern.specs.{BorrowedMatches.pattern_captures_view, Patterns.PatternView}
+use Rattle.urlpattern_pattern.specs.declared.pattern.UrlPattern.{UrlPattern}
+use Rattle.urlpattern_matches.specs.declared.captures.UrlPatternCaptures.{UrlPatternCaptures}
+use Rattle.urlpattern_matches.specs.BorrowedMatches.{pattern_captures_view}
+use Rattle.urlpattern_pattern.specs.Patterns.{PatternView}
 use Rattle.urlpattern_list.specs.FirstMatch.{FirstView, patterns_view}
 
 -- what the components of each pattern of a `UrlPatternMap` are compiled to

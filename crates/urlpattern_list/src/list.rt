@@ -9,11 +9,11 @@ ghost use Rattle.std.specs.Prelude.{◌≡◌, ◌==◌, ◌++◌, [], ◌∷◌
 ghost use Rattle.std.specs.Slice.Iter.{iter_rest};
 ghost use Rattle.urlpattern_init.specs.Inheritance.{texts_of_url};
 ghost use Rattle.urlpattern_init.specs.declared.init.UrlPatternMatchInput.TheVariants as inputs;
-ghost use Rattle.urlpattern_pattern.specs.Calls.{borrowed_texts};
+ghost use Rattle.urlpattern_matches.specs.GroupTexts.{borrowed_texts};
 ghost use Rattle.urlpattern_list.specs.FirstMatch.{first_captures_view, first_view, patterns_view, CopiesFirstMatch, IsFirstMatch, IsFirstMatchOf, AsksBeforeMatch};
 ghost use Rattle.urlpattern_list.specs.NextMatch.{matches_left, AsksBeforeMatchFrom, IsFirstMatchFrom};
 ghost use Rattle.urlpattern_pattern.specs.Match.{IfUrl};
-ghost use Rattle.urlpattern_pattern.specs.MatchInput.{texts_view};
+ghost use Rattle.urlpattern_matches.specs.MatchInput.{texts_view};
 ghost use Rattle.urlpattern_pattern.specs.declared.pattern.UrlPattern.{UrlPattern};
 ghost use Rattle.urlpattern_syntax.specs.Errors.{OnlyOutOfMemory};
 
@@ -32,10 +32,10 @@ use urlpattern_core::regexp::RegExp;
 use urlpattern_index::{Address, Fixed, Index};
 use urlpattern_init::UrlPatternMatchInput;
 use urlpattern_inputs::MatchInput;
-use urlpattern_pattern::{
-    UrlPattern, UrlPatternCaptures, UrlPatternResult, captures_of_texts, input_texts,
-    parse_match_input, url_texts,
+use urlpattern_matches::{
+    UrlPatternCaptures, UrlPatternResult, input_texts, parse_match_input, url_texts,
 };
+use urlpattern_pattern::{UrlPattern, captures_of_texts};
 use urlpattern_syntax::eight::Eight;
 
 /// Patterns in their order, as the routes of a router.

@@ -20,7 +20,8 @@ use std::marker::Model;
 use url::Url;
 use urlpattern_core::Error;
 use urlpattern_core::regexp::RegExp;
-use urlpattern_pattern::{UrlPattern, UrlPatternCaptures};
+use urlpattern_matches::UrlPatternCaptures;
+use urlpattern_pattern::UrlPattern;
 
 /// Patterns in their order, each with a value, as the routes of a router with their handlers.
 ///

@@ -4,8 +4,7 @@ use Rattle.std.specs.Prelude.{IsTrue}
 use Rattle.std.specs.List.{list_all}
 use Rattle.std.proofs.lemmas.Bool.{and_parts}
 use Rattle.urlpattern_syntax.proofs.TokenWords.{joined_values}
-use Rattle.urlpattern_syntax.specs.Pieces.{Placeholder, Matched, IsFilled, TakesRegexp, BeginsWithKind, is_text, is_placeholder}
-use Rattle.urlpattern_syntax.specs.Pieces.{Matched as matched}
+use Rattle.urlpattern_syntax.specs.Pieces.{Placeholder, Matched, IsFilled, TakesRegexp, BeginsWithKind, is_text, is_placeholder, Matched as matched}
 use Rattle.urlpattern_syntax.specs.Tokens.{TokenView}
 use Rattle.urlpattern_meaning.proofs.PlaceholderForms.{cons_one, no_text, begins, PlaceholderForm, placeholder_form, placeholder_one, form_begins}
 

@@ -3,8 +3,7 @@ use Rattle.std.proofs.Common.{◌≡◌, ◌≢◌, ℕ, List, [], ◌∷◌, ap
 use Rattle.std.specs.Prelude.{Result, Ok, Err}
 use Rattle.urlpattern_meaning.proofs.ReadingLaws.{reading_one, reading_or_refusal, refusal_one}
 use Rattle.urlpattern_meaning.specs.Laws.{AnswersOnce, AnswersOnceGivenMemory, HasOutcome, Outcome}
-use Rattle.urlpattern_syntax.specs.Errors.{ErrorView}
-use Rattle.urlpattern_syntax.specs.Errors.{ErrorView as errors}
+use Rattle.urlpattern_syntax.specs.Errors.{ErrorView, ErrorView as errors}
 use Rattle.urlpattern_syntax.specs.Options.{OptionsView}
 use Rattle.urlpattern_syntax.specs.Parts.{PartView}
 use Rattle.urlpattern_syntax.specs.Reading.{AreMet, AreParts, Capture, Demand, Encode, Encoding, Expect, Fails, FirstFails, Fixed, IsMet, Item, NewName, Reads, Refuses, demands, items_of}

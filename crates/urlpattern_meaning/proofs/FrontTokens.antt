@@ -8,10 +8,7 @@ use lib.Dec.{ltb}
 use Rattle.urlpattern_syntax.specs.declared.tokenizer.TokenType.{TokenType}
 use Rattle.urlpattern_syntax.specs.declared.tokenizer.TokenType.TheVariants.{Asterisk, Char, Close, End, EscapedChar, InvalidChar, Name, Open, OtherModifier, Regexp}
 use Rattle.urlpattern_syntax.specs.Text.{BeginsWith, is_among, is_name_start, is_name_part}
-use Rattle.urlpattern_syntax.specs.Tokens.{Body, Front, body_text, front_text, IsBody, IsFront, IsRegexpBody, IsRegexpFront, is_question_mark}
-use Rattle.urlpattern_syntax.specs.Tokens.{Body as bodies, Front as fronts}
-use Rattle.urlpattern_syntax.specs.Tokens.{FaultView, IncompleteEscapeCode, InvalidName, InvalidRegex, RegexpFault, StartsWithQuestionMark, NotAscii, EscapedNotAscii, GroupAtEnd, CapturingGroup, NotClosed, NoBody, reason, LacksRegexp, IsFaultAt}
-use Rattle.urlpattern_syntax.specs.Tokens.{IsLexed, Spells, EndsThere, IsName, marks, is_ignored, SkipsBy}
+use Rattle.urlpattern_syntax.specs.Tokens.{Body, Front, body_text, front_text, IsBody, IsFront, IsRegexpBody, IsRegexpFront, is_question_mark, Body as bodies, Front as fronts, FaultView, IncompleteEscapeCode, InvalidName, InvalidRegex, RegexpFault, StartsWithQuestionMark, NotAscii, EscapedNotAscii, GroupAtEnd, CapturingGroup, NotClosed, NoBody, reason, LacksRegexp, IsFaultAt, IsLexed, Spells, EndsThere, IsName, marks, is_ignored, SkipsBy}
 
 -- ---- what stands after an opening bracket, read from the front
 

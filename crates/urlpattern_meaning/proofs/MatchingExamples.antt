@@ -4,8 +4,7 @@ use Rattle.std.proofs.lemmas.List.{append_cancel_left, append_cancel_right}
 use Rattle.std.specs.Char.{to_ascii_lowercase}
 use Rattle.std.specs.Prelude.{◌==◌, codes, slice_index}
 use Rattle.urlpattern_syntax.specs.declared.parser.PartModifier.TheVariants as modifiers
-use Rattle.urlpattern_syntax.specs.Errors.{ErrorView}
-use Rattle.urlpattern_syntax.specs.Errors.{ErrorView as views}
+use Rattle.urlpattern_syntax.specs.Errors.{ErrorView, ErrorView as views}
 use Rattle.urlpattern_meaning.specs.Matching.{ArePeeled, IsSame, Literal, SingleCapture, RegExp, MatcherView, IsMadeOf, Answers}
 use Rattle.urlpattern_syntax.specs.Options.{default_options, pathname_options}
 use Rattle.urlpattern_meaning.specs.PartMeaning.{Captures}

@@ -14,8 +14,7 @@ use Rattle.urlpattern_syntax.specs.declared.tokenizer.TokenType.TheVariants.{Nam
 use Rattle.urlpattern_meaning.specs.Laws.{CountFrom, numbers_among}
 use Rattle.urlpattern_syntax.specs.Options.{OptionsView}
 use Rattle.urlpattern_syntax.specs.Parts.{PartView}
-use Rattle.urlpattern_syntax.specs.Pieces.{ArePieces, Ending, IsPlaceholderOf, Matched, Piece, kinds, values}
-use Rattle.urlpattern_syntax.specs.Pieces.{Ending as endings, Matched as matched, Piece as pieces}
+use Rattle.urlpattern_syntax.specs.Pieces.{ArePieces, Ending, IsPlaceholderOf, Matched, Piece, kinds, values, Ending as endings, Matched as matched, Piece as pieces}
 use Rattle.urlpattern_syntax.specs.Reading.{AreMet, Capture, Demand, Encoding, Fixed, Item, Reads, demands_after, encode_fixed, items_from, items_of, joined_items, name_or, next_number, with_text}
 use Rattle.urlpattern_syntax.specs.RegexpText.{group_names}
 use Rattle.urlpattern_syntax.specs.Text.{begins_with, BeginsWith}

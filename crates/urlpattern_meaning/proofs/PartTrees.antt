@@ -1,7 +1,6 @@
 -- The tree of the regular expression of a list of parts, which reads no text.
 use Rattle.std.specs.Prelude.{◌≢◌, ℕ, Bool, true, false, ◌&&◌, List, [], ◌∷◌, Option, Some, None, if◌then◌else◌}
-use Rattle.urlpattern_meaning.specs.Dialect.{Atom, Literal, Dot, AnyBut, Captured, Grouped, Character, Plain, Escaped, Items, Nothing, Item, Quantifier}
-use Rattle.urlpattern_meaning.specs.Dialect.{Quantifier as quantifiers}
+use Rattle.urlpattern_meaning.specs.Dialect.{Atom, Literal, Dot, AnyBut, Captured, Grouped, Character, Plain, Escaped, Items, Nothing, Item, Quantifier, Quantifier as quantifiers}
 use Rattle.urlpattern_syntax.specs.declared.parser.PartModifier.{PartModifier}
 use Rattle.urlpattern_syntax.specs.declared.parser.PartModifier.TheVariants as modifiers
 use Rattle.urlpattern_syntax.specs.declared.parser.PartType.{PartType}

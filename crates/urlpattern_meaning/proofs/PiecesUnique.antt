@@ -5,8 +5,7 @@ use Rattle.std.proofs.lemmas.Bool.{false≢true}
 use Rattle.urlpattern_syntax.specs.declared.parser.PartModifier.{PartModifier}
 use Rattle.urlpattern_syntax.specs.declared.tokenizer.TokenType.{TokenType}
 use Rattle.urlpattern_syntax.specs.declared.tokenizer.TokenType.TheVariants.{Char, Close, End, Name, Open}
-use Rattle.urlpattern_syntax.specs.Pieces.{Piece, Ending, Stops, LacksClose, Placeholder, ArePieces, IsPiece, IsEnding, IsBraced, IsPrefixOf, TakesPrefix, BeginsWithKind, is_text, is_placeholder, is_stop}
-use Rattle.urlpattern_syntax.specs.Pieces.{Piece as pieces}
+use Rattle.urlpattern_syntax.specs.Pieces.{Piece, Ending, Stops, LacksClose, Placeholder, ArePieces, IsPiece, IsEnding, IsBraced, IsPrefixOf, TakesPrefix, BeginsWithKind, is_text, is_placeholder, is_stop, Piece as pieces}
 use Rattle.urlpattern_syntax.specs.Tokens.{TokenView}
 use Rattle.urlpattern_meaning.proofs.PlaceholderForms.{OneList, cons_one, first_family, family_of, text_family, placeholder_family, stop_family, begins_family, PlaceholderForm, placeholder_form, placeholder_one, form_begins, ModifierForm, modifier_form, modifier_one}
 use Rattle.urlpattern_meaning.proofs.BraceForms.{Content, Texts, Filled, ContentForm, texts, content_one, filled_form, widened}

@@ -6,8 +6,7 @@ use Rattle.urlpattern_syntax.specs.declared.parser.PartModifier.{PartModifier}
 use Rattle.urlpattern_syntax.specs.declared.parser.PartModifier.TheVariants as modifiers
 use Rattle.urlpattern_syntax.specs.declared.tokenizer.TokenType.{TokenType}
 use Rattle.urlpattern_syntax.specs.declared.tokenizer.TokenType.TheVariants.{Asterisk, Char, Close, End, EscapedChar, InvalidChar, Name, Open, OtherModifier, Regexp}
-use Rattle.urlpattern_syntax.specs.Pieces.{Placeholder, Matched, IsPlaceholderOf, IsModifier, TakesModifier, TakesRegexp, BeginsWithKind, is_text, is_placeholder, is_modifier, is_regexp, is_stop}
-use Rattle.urlpattern_syntax.specs.Pieces.{Matched as matched}
+use Rattle.urlpattern_syntax.specs.Pieces.{Placeholder, Matched, IsPlaceholderOf, IsModifier, TakesModifier, TakesRegexp, BeginsWithKind, is_text, is_placeholder, is_modifier, is_regexp, is_stop, Matched as matched}
 use Rattle.urlpattern_syntax.specs.Tokens.{TokenView}
 
 -- ---- lists and kinds

@@ -5,8 +5,7 @@ use Rattle.std.proofs.lemmas.Bool.{false≢true}
 use Rattle.urlpattern_syntax.proofs.TokenExamples.{no}
 use Rattle.urlpattern_syntax.specs.Options.{OptionsView}
 use Rattle.urlpattern_syntax.specs.Parts.{PartView}
-use Rattle.urlpattern_syntax.specs.Pieces.{ArePieces, BeginsWithKind, Ending, IsPiece, Piece, is_modifier, is_placeholder, is_regexp}
-use Rattle.urlpattern_syntax.specs.Pieces.{Ending as endings}
+use Rattle.urlpattern_syntax.specs.Pieces.{ArePieces, BeginsWithKind, Ending, IsPiece, Piece, is_modifier, is_placeholder, is_regexp, Ending as endings}
 use Rattle.urlpattern_syntax.specs.Reading.{items_from, joined_items}
 use Rattle.urlpattern_syntax.specs.RegexpText.{is_empty, is_fixed_text, is_unmodified}
 use Rattle.urlpattern_syntax.specs.Text.{BeginsWith, byte_len, is_name_part}

@@ -8,8 +8,7 @@ use Rattle.urlpattern_syntax.specs.declared.parser.PartType.TheVariants.{FixedTe
 use Rattle.urlpattern_syntax.specs.declared.tokenizer.TokenType.{TokenType}
 use Rattle.urlpattern_syntax.specs.Options.{OptionsView}
 use Rattle.urlpattern_syntax.specs.Parts.{PartView}
-use Rattle.urlpattern_syntax.specs.Pieces.{BeginsWithKind, Matched, is_modifier, is_placeholder, is_regexp}
-use Rattle.urlpattern_syntax.specs.Pieces.{Ending as endings}
+use Rattle.urlpattern_syntax.specs.Pieces.{BeginsWithKind, Matched, is_modifier, is_placeholder, is_regexp, Ending as endings}
 use Rattle.urlpattern_syntax.specs.Reading.{Capture, compared, items_from, joined_items, kind_of, number_after, value_of}
 use Rattle.urlpattern_syntax.specs.RegexpText.{is_empty, is_fixed_text, is_unmodified}
 use Rattle.urlpattern_syntax.specs.Text.{BeginsWith, begins_with, byte_len, is_name_part}

@@ -10,9 +10,7 @@ use Rattle.urlpattern_syntax.specs.declared.parser.PartType.TheVariants.{FixedTe
 use Rattle.urlpattern_syntax.specs.declared.tokenizer.TokenType.{TokenType}
 use Rattle.urlpattern_syntax.specs.Options.{OptionsView}
 use Rattle.urlpattern_syntax.specs.Parts.{PartView}
-use Rattle.urlpattern_syntax.specs.Pieces.{BeginsWithKind, is_modifier, is_placeholder, is_regexp, is_text}
-use Rattle.urlpattern_syntax.specs.Pieces.{Ending as endings, Piece as pieces}
-use Rattle.urlpattern_syntax.specs.Pieces.{ArePieces, Piece}
+use Rattle.urlpattern_syntax.specs.Pieces.{BeginsWithKind, is_modifier, is_placeholder, is_regexp, is_text, Ending as endings, Piece as pieces, ArePieces, Piece}
 use Rattle.urlpattern_syntax.specs.Reading.{Fixed, Item, items_from, joined_items, with_text}
 use Rattle.urlpattern_syntax.specs.RegexpText.{is_fixed_text, is_plain, is_unmodified, modifier_text}
 use Rattle.urlpattern_syntax.specs.Text.{BeginsWith, begins_with, byte_len, is_name_part}

@@ -8,8 +8,7 @@ use Rattle.urlpattern_syntax.specs.declared.tokenizer.TokenType.{TokenType}
 use Rattle.urlpattern_syntax.specs.declared.tokenizer.TokenType.TheVariants.{Char}
 use Rattle.urlpattern_syntax.specs.Options.{OptionsView}
 use Rattle.urlpattern_syntax.specs.Parts.{PartView}
-use Rattle.urlpattern_syntax.specs.Pieces.{BeginsWithKind, IsBraced, IsPiece, IsPlaceholderOf, IsPrefixOf, Piece, Placeholder, is_modifier, is_placeholder, is_regexp, is_text}
-use Rattle.urlpattern_syntax.specs.Pieces.{Piece as pieces}
+use Rattle.urlpattern_syntax.specs.Pieces.{BeginsWithKind, IsBraced, IsPiece, IsPlaceholderOf, IsPrefixOf, Piece, Placeholder, is_modifier, is_placeholder, is_regexp, is_text, Piece as pieces}
 use Rattle.urlpattern_syntax.specs.Reading.{Capture, item, number_after}
 use Rattle.urlpattern_syntax.specs.RegexpText.{escaped, is_empty, is_fixed_text, is_unmodified, modifier_text}
 use Rattle.urlpattern_syntax.specs.Text.{BeginsWith, begins_with, is_among, is_name_part}

@@ -12,13 +12,11 @@ use Rattle.urlpattern_syntax.specs.declared.tokenizer.TokenType.{TokenType}
 use Rattle.urlpattern_syntax.specs.declared.tokenizer.TokenType.TheVariants as tokens
 use Rattle.urlpattern_syntax.specs.Options.{OptionsView}
 use Rattle.urlpattern_syntax.specs.Parts.{PartView}
-use Rattle.urlpattern_syntax.specs.Pieces.{BeginsWithKind, IsPlaceholderOf, Matched, Placeholder, TakesRegexp, is_modifier, is_regexp, kinds}
-use Rattle.urlpattern_syntax.specs.Pieces.{Matched as matched}
+use Rattle.urlpattern_syntax.specs.Pieces.{BeginsWithKind, IsPlaceholderOf, Matched, Placeholder, TakesRegexp, is_modifier, is_regexp, kinds, Matched as matched}
 use Rattle.urlpattern_syntax.specs.Reading.{compared, kind_of, name_or, next_number, value_of}
 use Rattle.urlpattern_syntax.specs.RegexpText.{captured, full_wildcard, is_fixed_text, segment_wildcard, segment_wildcard_of}
 use Rattle.urlpattern_syntax.specs.Text.{BeginsWith, begins_with, is_name_part}
-use Rattle.urlpattern_syntax.specs.Tokens.{IsName, IsRegexpBody, TokenView}
-use Rattle.urlpattern_syntax.specs.Tokens.{Body as bodies}
+use Rattle.urlpattern_syntax.specs.Tokens.{IsName, IsRegexpBody, TokenView, Body as bodies}
 use Rattle.urlpattern_meaning.specs.Printing.{has_custom_name, is_segment, printed_match, printed_name}
 use Rattle.urlpattern_meaning.specs.RoundTrip.{HasFields, IsNamed, following_number}
 use Rattle.urlpattern_syntax.proofs.NameCharacters.{decimal_digited, name_not_digited}

@@ -6,8 +6,7 @@ use Rattle.urlpattern_syntax.proofs.TokenExamples.{no}
 use Rattle.urlpattern_syntax.specs.declared.parser.PartModifier.TheVariants as modifiers
 use Rattle.urlpattern_syntax.specs.declared.tokenizer.TokenType.{TokenType}
 use Rattle.urlpattern_syntax.specs.declared.tokenizer.TokenType.TheVariants.{Char, EscapedChar}
-use Rattle.urlpattern_syntax.specs.Pieces.{ArePieces, AreTexts, BeginsWithKind, Ending, Piece, TakesPrefix, is_modifier, is_placeholder, is_regexp, is_text}
-use Rattle.urlpattern_syntax.specs.Pieces.{Piece as pieces}
+use Rattle.urlpattern_syntax.specs.Pieces.{ArePieces, AreTexts, BeginsWithKind, Ending, Piece, TakesPrefix, is_modifier, is_placeholder, is_regexp, is_text, Piece as pieces}
 use Rattle.urlpattern_syntax.specs.Reading.{Capture, Fixed, Item, items_from, joined_items, with_text}
 use Rattle.urlpattern_syntax.specs.RegexpText.{escaped}
 use Rattle.urlpattern_syntax.specs.Text.{is_among}

@@ -3,13 +3,11 @@ use Rattle.std.proofs.Common.{◌≡◌, ℕ, List, [], ◌∷◌, sym, ap, ◌�
 use Rattle.std.specs.Prelude.{Ok, Err}
 use Rattle.urlpattern_meaning.proofs.PiecesUnique.{pieces_one}
 use Rattle.urlpattern_meaning.proofs.TokensUnique.{fault_one, tokens_one, tokens_or_fault}
-use Rattle.urlpattern_syntax.specs.Errors.{ErrorView}
-use Rattle.urlpattern_syntax.specs.Errors.{ErrorView as views}
+use Rattle.urlpattern_syntax.specs.Errors.{ErrorView, ErrorView as views}
 use Rattle.urlpattern_meaning.specs.Laws.{AnswersOnce}
 use Rattle.urlpattern_syntax.specs.Options.{OptionsView}
 use Rattle.urlpattern_syntax.specs.Parts.{PartView, fixed_text}
-use Rattle.urlpattern_syntax.specs.Pieces.{ArePieces, Ending, Piece}
-use Rattle.urlpattern_syntax.specs.Pieces.{Ending as endings}
+use Rattle.urlpattern_syntax.specs.Pieces.{ArePieces, Ending, Piece, Ending as endings}
 use Rattle.urlpattern_syntax.specs.Reading.{AreMet, AreParts, Capture, Demand, Encode, Encoding, Expect, Fails, FailsDemand, FirstFails, Fixed, IsMet, Item, NewName, Reads, Refuses, capture_part, demands, items_of}
 use Rattle.urlpattern_syntax.specs.Tokens.{AreTokens, TokenView}
 

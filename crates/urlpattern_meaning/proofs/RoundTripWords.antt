@@ -4,8 +4,7 @@ use Rattle.urlpattern_syntax.specs.declared.parser.PartType.{PartType}
 use Rattle.urlpattern_syntax.specs.declared.parser.PartType.TheVariants.{FixedText}
 use Rattle.urlpattern_syntax.specs.Options.{OptionsView}
 use Rattle.urlpattern_syntax.specs.Parts.{PartView}
-use Rattle.urlpattern_syntax.specs.Pieces.{ArePieces, Matched, Piece}
-use Rattle.urlpattern_syntax.specs.Pieces.{Ending as endings}
+use Rattle.urlpattern_syntax.specs.Pieces.{ArePieces, Matched, Piece, Ending as endings}
 use Rattle.urlpattern_syntax.specs.Reading.{Capture, Fixed, Item, compared, items_of, kind_of, value_of}
 use Rattle.urlpattern_syntax.specs.RegexpText.{is_plain}
 use Rattle.urlpattern_syntax.specs.Tokens.{AreTokens, TokenView, end_of}

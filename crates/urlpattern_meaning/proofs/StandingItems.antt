@@ -11,8 +11,7 @@ use Rattle.urlpattern_syntax.specs.declared.tokenizer.TokenType.TheVariants.{End
 use Rattle.urlpattern_syntax.specs.Errors.{ErrorView}
 use Rattle.urlpattern_syntax.specs.Options.{OptionsView}
 use Rattle.urlpattern_syntax.specs.Parts.{PartView, fixed_text}
-use Rattle.urlpattern_syntax.specs.Pieces.{Matched}
-use Rattle.urlpattern_syntax.specs.Pieces.{Ending as endings}
+use Rattle.urlpattern_syntax.specs.Pieces.{Matched, Ending as endings}
 use Rattle.urlpattern_syntax.specs.Reading.{AreMet, AreParts, Capture, Encoding, FirstFails, Fixed, Item, capture_part, compared, demands_after, encode_fixed, value_of}
 use Rattle.urlpattern_syntax.specs.RegexpText.{is_fixed_text}
 use Rattle.urlpattern_syntax.specs.Tokens.{TokenView}

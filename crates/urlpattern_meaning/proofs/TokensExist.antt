@@ -11,8 +11,7 @@ use Rattle.urlpattern_syntax.specs.declared.tokenizer.TokenType.{TokenType}
 use Rattle.urlpattern_syntax.specs.declared.tokenizer.TokenType.TheVariants.{Asterisk, Char, Close, EscapedChar, InvalidChar, Name, Open, OtherModifier, Regexp}
 use Rattle.urlpattern_meaning.specs.Laws.{HasLenientTokens, HasTokensOrFault}
 use Rattle.urlpattern_syntax.specs.Text.{byte_len, BeginsAt, BeginsWith, is_among, is_name_start, is_name_part}
-use Rattle.urlpattern_syntax.specs.Tokens.{FaultView, IncompleteEscapeCode, InvalidName, InvalidRegex, StartsWithQuestionMark, NotAscii, EscapedNotAscii, GroupAtEnd, CapturingGroup, NotClosed, NoBody, reason, IsFaultAt, is_question_mark}
-use Rattle.urlpattern_syntax.specs.Tokens.{EndsThere, IsCut, IsInvalidCharOf, IsLexed, IsTokenOf, Skips, SkipsBy, Spells, TokenView, end_of, is_ignored, marks}
+use Rattle.urlpattern_syntax.specs.Tokens.{FaultView, IncompleteEscapeCode, InvalidName, InvalidRegex, StartsWithQuestionMark, NotAscii, EscapedNotAscii, GroupAtEnd, CapturingGroup, NotClosed, NoBody, reason, IsFaultAt, is_question_mark, EndsThere, IsCut, IsInvalidCharOf, IsLexed, IsTokenOf, Skips, SkipsBy, Spells, TokenView, end_of, is_ignored, marks}
 
 -- ---- what is skipped
 

@@ -36,8 +36,9 @@ use Rattle.urlpattern_pattern.specs.ByText.{AnswersByItsText, AnswersByText, Eng
 use Rattle.urlpattern_create.specs.Compiled.{AreCompiled, HasHierarchicalPath, IsComponentCompiled, IsPathKind, IsPatternOfInit, Manner, manner_of, pattern_values}
 use Rattle.urlpattern_pattern.specs.declared.pattern.UrlPattern.{UrlPattern}
 use Rattle.urlpattern_init.specs.declared.init.UrlPatternMatchInput.{UrlPatternMatchInput}
-use Rattle.urlpattern_pattern.specs.MatchInput.{input_texts}
-use Rattle.urlpattern_pattern.specs.Match.{FindsInTexts, IsLongInput, IsMatchOf, IsRefused, IsResultOf, IsSameResult, ResultView, group_of}
+use Rattle.urlpattern_matches.specs.MatchInput.{input_texts}
+use Rattle.urlpattern_pattern.specs.Match.{FindsInTexts, IsLongInput, IsMatchOf, IsRefused}
+use Rattle.urlpattern_matches.specs.ResultViews.{IsResultOf, IsSameResult, ResultView, group_of}
 use Rattle.urlpattern_pattern.specs.ByTextLaws.{AllHaveMeaning, FindingsAreOne, IsSameFinding, TakenPatternsAnswerByText}
 use Rattle.urlpattern_pattern.specs.Meaning.{IsExecuted, ReadsAs}
 use Rattle.urlpattern_pattern.specs.Patterns.{IfPattern, PatternView, pattern_view}

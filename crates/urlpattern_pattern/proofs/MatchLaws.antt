@@ -3,8 +3,9 @@ use Rattle.std.proofs.Common.{◌≡◌, ℕ, Bool, List, refl, sym, ap, ◌∙�
 use Rattle.std.specs.Prelude.{Option, Ok, Err}
 use Rattle.urlpattern_syntax.specs.declared.eight.ComponentName.{ComponentName}
 use Rattle.urlpattern_init.specs.declared.init.UrlPatternMatchInput.{UrlPatternMatchInput}
-use Rattle.urlpattern_pattern.specs.Match.{HasMatch, HasNoMatch, IsLongInput, IsMatch, IsRefused, IsSameResult, ResultView, group_of}
-use Rattle.urlpattern_pattern.specs.MatchInput.{IsNoInput, input_texts}
+use Rattle.urlpattern_pattern.specs.Match.{HasMatch, HasNoMatch, IsLongInput, IsMatch, IsRefused}
+use Rattle.urlpattern_matches.specs.ResultViews.{IsSameResult, ResultView, group_of}
+use Rattle.urlpattern_matches.specs.MatchInput.{IsNoInput, input_texts}
 use Rattle.urlpattern_pattern.specs.Patterns.{PatternView}
 use Rattle.urlpattern_core.proofs.MatcherAnswers.{matches-accepts}
 use Rattle.urlpattern_meaning.specs.Matching.{Accepts, InnerView, Literal, Matches, MatcherView, RegExp, SingleCapture}

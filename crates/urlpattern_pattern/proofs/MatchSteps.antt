@@ -6,9 +6,11 @@ use Rattle.urlpattern_syntax.specs.declared.eight.ComponentName.{ComponentName}
 use Rattle.urlpattern_init.specs.declared.init.UrlPatternMatchInput.{UrlPatternMatchInput}
 use Rattle.urlpattern_syntax.specs.declared.eight.Eight.{Eight}
 use Rattle.urlpattern_syntax.proofs.EightLemmas.{by_name}
-use Rattle.urlpattern_pattern.specs.Calls.{AreLooks, AskWithCause, borrowed_texts}
-use Rattle.urlpattern_pattern.specs.Match.{AreMatched, AsksAnEngine, HasMatch, HasNoMatch, IsMatch, IsMatchOf, IsRefused, IsSameResult, ResultView}
-use Rattle.urlpattern_pattern.specs.MatchInput.{input_texts}
+use Rattle.urlpattern_pattern.specs.Calls.{AreLooks, AskWithCause}
+use Rattle.urlpattern_matches.specs.GroupTexts.{borrowed_texts}
+use Rattle.urlpattern_pattern.specs.Match.{AreMatched, AsksAnEngine, HasMatch, HasNoMatch, IsMatch, IsMatchOf, IsRefused}
+use Rattle.urlpattern_matches.specs.ResultViews.{IsSameResult, ResultView}
+use Rattle.urlpattern_matches.specs.MatchInput.{input_texts}
 use Rattle.urlpattern_pattern.specs.Patterns.{PatternView}
 use Rattle.urlpattern_core.specs.Looks.{IsAsking, look_answer}
 use Rattle.urlpattern_core.specs.declared.matcher.look.Look.{Look}

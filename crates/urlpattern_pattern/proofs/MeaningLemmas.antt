@@ -15,9 +15,10 @@ use Rattle.urlpattern_meaning.specs.Matching.{Agrees, Answers}
 use Rattle.urlpattern_meaning.specs.PartMeaning.{Captures, PartsMean}
 use Rattle.urlpattern_pattern.proofs.MatchLaws.{no_input-long, texts-one}
 use Rattle.urlpattern_create.specs.Compiled.{AreCompiled, Manner, canonical_encoding, manner_of}
-use Rattle.urlpattern_pattern.specs.Match.{HasNoMatch, IsLongInput, IsMatch, IsResultOf, ResultView, group_of, result_view}
-use Rattle.urlpattern_pattern.specs.declared.pattern.result.UrlPatternResult.{UrlPatternResult}
-use Rattle.urlpattern_pattern.specs.MatchInput.{input_texts}
+use Rattle.urlpattern_pattern.specs.Match.{HasNoMatch, IsLongInput, IsMatch}
+use Rattle.urlpattern_matches.specs.ResultViews.{IsResultOf, ResultView, group_of, result_view}
+use Rattle.urlpattern_matches.specs.declared.result.UrlPatternResult.{UrlPatternResult}
+use Rattle.urlpattern_matches.specs.MatchInput.{input_texts}
 use Rattle.urlpattern_pattern.specs.Meaning.{IsExecuted, IsFoundByMeaning, IsMeant, MeaningPremises, ReadsAs}
 use Rattle.urlpattern_pattern.specs.Patterns.{PatternView}
 use Rattle.urlpattern_syntax.specs.declared.parser.PartType.{PartType}

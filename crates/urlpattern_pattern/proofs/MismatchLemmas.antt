@@ -9,7 +9,7 @@ use Rattle.urlpattern_core.specs.declared.component.Component.{Component}
 use Rattle.urlpattern_meaning.specs.Matching.{IsMatched, MatcherView}
 use Rattle.urlpattern_meaning.specs.PartMeaning.{Captures}
 use Rattle.urlpattern_pattern.proofs.MatchSteps.{text-at}
-use Rattle.urlpattern_pattern.specs.Calls.{borrowed_texts}
+use Rattle.urlpattern_matches.specs.GroupTexts.{borrowed_texts}
 use Rattle.urlpattern_pattern.specs.Mismatch.{MatchesBefore}
 use Rattle.urlpattern_pattern.specs.Patterns.{PatternView, components_of, pattern_view}
 use Rattle.urlpattern_pattern.specs.declared.pattern.UrlPattern.{UrlPattern}

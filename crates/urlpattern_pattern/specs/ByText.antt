@@ -12,8 +12,10 @@ use Rattle.urlpattern_syntax.specs.Eight.{Texts, Values, at}
 use Rattle.urlpattern_syntax.specs.{Parts.PartView, RegexpText.group_names, Text.begins_with}
 use Rattle.urlpattern_create.specs.FromString.{IsInitOfText}
 use Rattle.urlpattern_create.specs.Compiled.{AreCompiled, IsPathKind, Manner, is_mark, manner_of, pattern_values}
-use Rattle.urlpattern_pattern.specs.Match.{IsLongInput, IsResultOf, ResultView}
-use Rattle.urlpattern_pattern.specs.{MatchInput.input_texts, Patterns.PatternView}
+use Rattle.urlpattern_pattern.specs.Match.{IsLongInput}
+use Rattle.urlpattern_matches.specs.ResultViews.{IsResultOf, ResultView}
+use Rattle.urlpattern_matches.specs.MatchInput.{input_texts}
+use Rattle.urlpattern_pattern.specs.Patterns.{PatternView}
 use Rattle.urlpattern_pattern.specs.Meaning.{IsExecuted, IsFoundByMeaning, ReadsAs}
 
 -- the pattern text has no custom regular expression

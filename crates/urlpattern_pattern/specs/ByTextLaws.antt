@@ -11,8 +11,11 @@ use Rattle.urlpattern_syntax.specs.Eight.{Texts, Values, at}
 use Rattle.urlpattern_syntax.specs.Parts.{PartView}
 use Rattle.urlpattern_pattern.specs.ByText.{AnswersByItsText, EnginesAnswerFirst, HasMeaning, IsFoundByText}
 use Rattle.urlpattern_create.specs.Compiled.{AreCompiled, IsComponentCompiled, IsPatternOfInit, Manner, manner_of, pattern_values}
-use Rattle.urlpattern_pattern.specs.Match.{FindsInTexts, IsLongInput, IsSameResult, ResultView}
-use Rattle.urlpattern_pattern.specs.{MatchInput.input_texts, Meaning.IsExecuted, Meaning.ReadsAs, Patterns.PatternView}
+use Rattle.urlpattern_pattern.specs.Match.{FindsInTexts, IsLongInput}
+use Rattle.urlpattern_matches.specs.ResultViews.{IsSameResult, ResultView}
+use Rattle.urlpattern_matches.specs.MatchInput.{input_texts}
+use Rattle.urlpattern_pattern.specs.Meaning.{IsExecuted, ReadsAs}
+use Rattle.urlpattern_pattern.specs.Patterns.{PatternView}
 
 -- ---- patterns that answer by their texts
 

@@ -1,56 +1,14 @@
--- What groups capture while a match is made: captures, looks at the eight texts, and maps of groups.
-use Rattle.std.specs.Prelude.{◌≡◌, ℕ, List, [], ◌∷◌, map, Option, None, Some, Result, Ok, Err, IfOk, String, string_bytes}
-use Rattle.std.specs.{Borrow.Bor, HashMap.HashMap, Str.chars}
-use Rattle.std.specs.declared.alloc.{AllocError.AllocError, Global.Global}
+-- What groups capture while a match is made: looks at the eight texts, and what is captured of them.
+use Rattle.std.specs.Prelude.{◌≡◌, ℕ, List, Option, Some}
 use Rattle.urlpattern_syntax.specs.declared.eight.{ComponentName.ComponentName, Eight.Eight}
-use Rattle.urlpattern_pattern.specs.declared.pattern.{captures.GroupCaptures.GroupCaptures, captures.Missed.Missed}
-use Rattle.urlpattern_pattern.specs.declared.pattern.captures.GroupCaptures.TheVariants as captured
-use Rattle.urlpattern_pattern.specs.declared.pattern.captures.Missed.TheVariants as missed
-use Rattle.urlpattern_pattern.specs.Match.{IsResultOf, ResultView, group_in, group_of, result_view}
-use Rattle.urlpattern_pattern.specs.declared.pattern.result.UrlPatternResult.{UrlPatternResult}
+use Rattle.urlpattern_matches.specs.declared.captures.GroupCaptures.{GroupCaptures}
+use Rattle.urlpattern_matches.specs.GroupTexts.{captures_of}
+use Rattle.urlpattern_matches.specs.ResultViews.{IsResultOf, ResultView}
 use Rattle.urlpattern_core.specs.Looks.{look_answer, IsAsking}
 use Rattle.urlpattern_core.specs.declared.matcher.look.Look.{Look}
 use Rattle.urlpattern_meaning.specs.{Matching.Answers, Matching.AsksEngine, PartMeaning.Captures}
 use Rattle.urlpattern_pattern.specs.Patterns.{PatternView}
-use Rattle.urlpattern_syntax.specs.Text.{option_text, text_of}
-use Rattle.urlpattern_syntax.specs.Eight.{Texts, at, each}
-
--- the texts that are lent
-abbrev pub borrowed_texts : Eight (Bor (List ℕ)) → Texts
-borrowed_texts texts = each (λ name. chars (at texts name).now)
-
--- what the groups of a component capture
-abbrev pub captures_of : GroupCaptures → Captures
-captures_of captured.Nothing = []
-captures_of (captured.One capture) = option_text capture ∷ []
-captures_of (captured.Groups captures) = map option_text captures.items
-
--- what is captured of what was looked at, where an engine that is asked matches and has memory
-abbrev pub IsCapturedOf : {E : Type 0} → (answer : E → List ℕ → Option Captures) → Look E → Result GroupCaptures Missed → Type 0
-IsCapturedOf answer look (Ok captured) = look_answer answer (Some look) ≡ Some (captures_of captured)
-IsCapturedOf answer look (Err missed.Unmatched) = look_answer answer (Some look) ≡ None
-IsCapturedOf answer look (Err missed.OutOfMemory) = IsAsking look
-
--- a text is copied, unless memory ran out
-abbrev pub IsTextCopied : List ℕ → Result (String Global) AllocError → Type 0
-IsTextCopied text copied = IfOk copied (λ copy. text_of copy ≡ text)
-
--- the map has the groups of these names, which capture this, and no others
-abbrev pub AreGroups : {S : Type 0} → (names : List (List ℕ)) → Captures → HashMap (String Global) (Option (String Global)) S → Type 0
-AreGroups names captures groups = (name : List ℕ) → group_in groups name ≡ group_of names captures name
-
--- the map has no groups
-abbrev pub HasNoGroups : {S : Type 0} → HashMap (String Global) (Option (String Global)) S → Type 0
-HasNoGroups groups = (name : List ℕ) → group_in groups name ≡ None
-
--- no component of the result has groups
-abbrev pub IsWithoutGroups : UrlPatternResult → Type 0
-IsWithoutGroups result = (component : ComponentName) (name : List ℕ) → (result_view result component).group name ≡ None
-
--- the bytes that a group captured, if it is there and took part
-abbrev pub captured_bytes : Option (Option (String Global)) → Option (List ℕ)
-captured_bytes (Some (Some text)) = Some (string_bytes text)
-captured_bytes found = None
+use Rattle.urlpattern_syntax.specs.Eight.{Texts, at}
 
 -- the looks at the texts result in what the matchers of the pattern answer
 abbrev pub AreLooks : {E : Type 0} → (answer : E → List ℕ → Option Captures) → PatternView E → Texts → Eight (Look E) → Type 0
@@ -76,9 +34,3 @@ abbrev pub HasCaptures : {E : Type 0} → PatternView E → Texts → Eight Grou
 HasCaptures pattern texts captures result =
     (name : ComponentName) → IsResultOf (pattern name).group_name_list (all_captures captures name) (at texts name) (result name)
 
--- the texts of strings, and the bytes of texts that are lent
-abbrev pub texts_of : List (String Global) → List (List ℕ)
-texts_of strings = map (λ text. text_of text) strings
-
-abbrev pub lent_bytes : List (Bor (List ℕ)) → List (List ℕ)
-lent_bytes texts = map (λ text. text.now) texts

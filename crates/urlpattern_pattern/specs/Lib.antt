@@ -1,13 +1,8 @@
-pub mod BorrowedMatches
 pub mod ByText
 pub mod ByTextLaws
 pub mod Calls
-pub mod Folded
 pub mod GeneratedTexts
 pub mod Match
-pub mod MatchInput
 pub mod Meaning
 pub mod Mismatch
-pub mod Outcomes
 pub mod Patterns
-pub mod ResultJson

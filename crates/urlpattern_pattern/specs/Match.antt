@@ -1,63 +1,17 @@
 -- What it means that a pattern matches an input, and the groups of a match, after the URLPattern Standard, section
 -- "Matching", at "match".
-use Rattle.std.specs.Prelude.{◌≡◌, ◌≤◌, ◌⊎◌, ℕ, Bool, List, MatchBool, MatchOption, reverse, zip, bytes_eq, Option, Some, None, is_some, option_map, Ok, String}
-use Rattle.std.specs.Option.{option_flatten}
-use Rattle.std.specs.{HashMap.HashMap, HashMap.get_by, Map.lookup}
-use Rattle.std.specs.declared.alloc.Global.{Global}
-use Rattle.urlpattern_syntax.specs.declared.eight.{ComponentName.ComponentName, Eight.Eight}
+use Rattle.std.specs.Prelude.{◌≡◌, ◌≤◌, ◌⊎◌, ℕ, Bool, List, MatchBool, MatchOption, zip, Option, Some, None, Ok}
+use Rattle.urlpattern_syntax.specs.declared.eight.ComponentName.{ComponentName}
 use Rattle.urlpattern_init.specs.Inheritance.{texts_of_url}
 use Rattle.urlpattern_init.specs.declared.init.UrlPatternMatchInput.{UrlPatternMatchInput}
 use Rattle.urlpattern_init.specs.declared.init.UrlPatternMatchInput.TheVariants.{Init, Url as UrlInput}
-use Rattle.urlpattern_pattern.specs.declared.pattern.result.UrlPatternComponentResult.{UrlPatternComponentResult}
-use Rattle.urlpattern_pattern.specs.declared.pattern.result.UrlPatternResult.{UrlPatternResult}
-use Rattle.urlpattern_pattern.specs.MatchInput.{IsNoInput, input_bytes, input_texts}
+use Rattle.urlpattern_matches.specs.MatchInput.{IsNoInput, input_bytes, input_texts}
+use Rattle.urlpattern_matches.specs.ResultViews.{IsResultOf, ResultView}
 use Rattle.urlpattern_pattern.specs.Patterns.{PatternView}
 use Rattle.urlpattern_canonical.specs.Canonical.{long_text}
 use Rattle.urlpattern_meaning.specs.Matching.{Answers, AsksEngine, IsMatched}
 use Rattle.urlpattern_meaning.specs.PartMeaning.{Captures}
-use Rattle.urlpattern_syntax.specs.{Text.text_of, Eight.Texts, Eight.at}
-
--- ---- groups
-
--- what the group of a name captures, if there is one: names stand beside captures, names or captures that have none beside
--- them are passed over, and of equal names the last counts
-abbrev pub group_of : (names : List (List ℕ)) → Captures → (name : List ℕ) → Option (Option (List ℕ))
-group_of names captures name = lookup (bytes_eq name) (reverse (zip names captures))
-
--- what a map of groups has at a name
-abbrev pub group_in : {S : Type 0} → HashMap (String Global) (Option (String Global)) S → (name : List ℕ) → Option (Option (List ℕ))
-group_in groups name = option_map (option_map text_of) (get_by (λ key. bytes_eq name (text_of key)) groups)
-
--- ---- results
-
--- A `UrlPatternComponentResult`: the text that was matched, and what its groups have at a name.
-pub record ResultView : Type 0 where
-  pub input : List ℕ
-  pub group : (name : List ℕ) → Option (Option (List ℕ))
-
-abbrev pub component_result_view : UrlPatternComponentResult → ResultView
-component_result_view result = record { input = text_of result.input; group = group_in result.groups }
-
--- the result of each component
-abbrev pub results_of : UrlPatternResult → Eight UrlPatternComponentResult
-results_of result = record { protocol = result.protocol; username = result.username; password = result.password; hostname = result.hostname; port = result.port; pathname = result.pathname; search = result.search; hash = result.hash }
-
--- the results, each as it is seen
-abbrev pub result_view : UrlPatternResult → ComponentName → ResultView
-result_view result name = component_result_view (at (results_of result) name)
-
--- what the group of a name captured: None where there is no such group, or it took no part
-abbrev pub captured_text : ResultView → (name : List ℕ) → Option (List ℕ)
-captured_text result name = option_flatten (result.group name)
-
--- whether the group of a name took part in the match: None where there is no such group
-abbrev pub took_part : ResultView → (name : List ℕ) → Option Bool
-took_part result name = option_map is_some (result.group name)
-
--- The result of a component with groups of these names, which capture this of the text.
-pub record IsResultOf (names : List (List ℕ)) (captures : Captures) (text : List ℕ) (result : ResultView) : Type 0 where
-  pub has_input : result.input ≡ text
-  pub has_groups : (name : List ℕ) → result.group name ≡ group_of names captures name
+use Rattle.urlpattern_syntax.specs.Eight.{Texts, at}
 
 -- ---- matches
 
@@ -139,9 +93,6 @@ IfUrl Holds (UrlInput url) = Holds (texts_of_url url)
 IfUrl Holds (Init init) = Unit {0}
 
 -- ---- words of laws
-
-abbrev pub IsSameResult : (result other : ResultView) → Type 0
-IsSameResult result other = (result.input ≡ other.input) × ((name : List ℕ) → result.group name ≡ other.group name)
 
 -- a text about which `url` is asked is longer than it is sure to take
 abbrev pub IsLongInput : UrlPatternMatchInput → Type 0

@@ -8,7 +8,8 @@ use Rattle.regex.specs.declared.string.regex.Regex.{Regex}
 use Rattle.urlpattern_core.specs.Components.{ComponentView}
 use Rattle.urlpattern_meaning.specs.{FirstAnswers.TookText, Matching.FollowsMiddle, PartMeaning.Captures, PartMeaning.PartsMean}
 use Rattle.urlpattern_create.specs.Compiled.{Manner, canonical_encoding}
-use Rattle.urlpattern_pattern.specs.Match.{HasNoMatch, IsMatch, IsResultOf, ResultView}
+use Rattle.urlpattern_pattern.specs.Match.{HasNoMatch, IsMatch}
+use Rattle.urlpattern_matches.specs.ResultViews.{IsResultOf, ResultView}
 use Rattle.urlpattern_pattern.specs.{Patterns.PatternView}
 use Rattle.urlpattern_syntax.specs.{Parts.PartView, Reading.Reads, RegexpText.group_names, Text.lacks, Text.line_feed}
 use Rattle.urlpattern_syntax.specs.Eight.{Texts, at}

@@ -5,23 +5,14 @@ ghost use Rattle.urlpattern_pattern.specs.Patterns.{components_of, has_regexp_gr
 ghost use Rattle.urlpattern_syntax.specs.declared.eight.ComponentName.TheVariants as names;
 ghost use Rattle.urlpattern_syntax.specs.Eight.{at};
 
-mod captures;
 mod create;
 mod diagnose;
 mod generate;
-mod groups;
-mod json;
 mod matching;
 mod mismatch;
 mod once;
-mod result;
-mod texts;
 
-pub use captures::{UrlPatternCaptures, UrlPatternCapturesIter, UrlPatternGroups};
 pub use matching::captures_of_texts;
-pub use result::{UrlPatternComponentResult, UrlPatternResult};
-pub(crate) use texts::copied;
-pub use texts::{input_texts, pathname_texts, url_texts};
 use urlpattern_core::component::Component;
 use urlpattern_core::regexp::RegExp;
 use urlpattern_syntax::eight::{ComponentName, Eight};

@@ -6,9 +6,8 @@ use Rattle.urlpattern_init.specs.UrlTexts.{EachIsLine, IsLine}
 use Rattle.urlpattern_inputs.specs.declared.options.UrlPatternOptions.{UrlPatternOptions}
 use Rattle.urlpattern_meaning.specs.Matching.{IsMatched, MatcherView}
 use Rattle.urlpattern_meaning.specs.PartMeaning.{Captures}
-use Rattle.urlpattern_pattern.specs.{Patterns.PatternView}
+use Rattle.urlpattern_pattern.specs.{Patterns.PatternView, Match.AreMatched, Meaning.ReadsAs}
 use Rattle.urlpattern_create.specs.{Compiled.IsPathKind, Compiled.Manner, Compiled.manner_of}
-use Rattle.urlpattern_pattern.specs.{Match.AreMatched, Meaning.ReadsAs}
 use Rattle.urlpattern_rules.specs.Comparing.{AreApart, IsCovered, IsKnown, IsParting, MeansEach, MeansIn}
 use Rattle.urlpattern_rules.specs.declared.component.ComponentParts.{ComponentParts}
 use Rattle.urlpattern_rules.specs.declared.pattern.{Parting.Parting, PatternParts.PatternParts}

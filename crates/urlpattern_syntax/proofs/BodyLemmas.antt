@@ -1,15 +1,12 @@
 -- Lemmas on the body of a custom regular expression: how a front of it goes on to its end, and how to a fault.
-use Rattle.std.proofs.Common.{◌≡◌, ℕ, suc, zero, ◌≤◌, ◌<◌, ◌⊎◌, Bool, false, List, [], ◌∷◌, ◌++◌, refl, sym, ap, ◌∙◌, subst, inl, inr, append_assoc}
+use Rattle.std.proofs.Common.{◌≡◌, ℕ, suc, zero, ◌≤◌, ◌<◌, ◌⊎◌, Bool, false, List, [], ◌∷◌, ◌++◌, refl, sym, ap, ◌∙◌, subst, inl, inr, append_assoc, ◌+◌, ◌-◌, ◌==◌, arith}
 use Rattle.std.specs.Prelude.{codes, IsTrue}
-use Rattle.std.proofs.Common.{◌+◌, ◌-◌, ◌==◌, arith}
 use Rattle.std.proofs.Math.Numerals.{add-one}
 use Rattle.std.proofs.lemmas.Bool.{false≢true, both_ways, or_cases, or_left}
 use Rattle.std.proofs.lemmas.List.{append-nil, append_cancel_right}
 use Rattle.urlpattern_syntax.specs.declared.tokenizer.TokenType.TheVariants.{Regexp}
-use Rattle.urlpattern_syntax.specs.Tokens.{FaultView, IncompleteEscapeCode, InvalidName, InvalidRegex, NotAscii, EscapedNotAscii, GroupAtEnd, CapturingGroup, NotClosed, reason, IsFaultAt, IsLexed, LacksEscaped, LacksQuestionMark}
+use Rattle.urlpattern_syntax.specs.Tokens.{FaultView, IncompleteEscapeCode, InvalidName, InvalidRegex, NotAscii, EscapedNotAscii, GroupAtEnd, CapturingGroup, NotClosed, reason, IsFaultAt, IsLexed, LacksEscaped, LacksQuestionMark, Body, Front, body_text, front_text, IsBody, IsFront, IsRegexpFront, is_question_mark, Body as bodies, Front as fronts}
 use Rattle.urlpattern_syntax.specs.Text.{BeginsWith, is_among}
-use Rattle.urlpattern_syntax.specs.Tokens.{Body, Front, body_text, front_text, IsBody, IsFront, IsRegexpFront, is_question_mark}
-use Rattle.urlpattern_syntax.specs.Tokens.{Body as bodies, Front as fronts}
 
 -- the text is of a body
 pub record IsBodyText (text : List ℕ) : Type 0 where

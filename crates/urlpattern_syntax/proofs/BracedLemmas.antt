@@ -4,8 +4,7 @@ use Rattle.urlpattern_syntax.specs.declared.parser.PartModifier.{PartModifier}
 use Rattle.urlpattern_syntax.specs.declared.parser.pieces.Reader.{Reader}
 use Rattle.urlpattern_syntax.specs.declared.tokenizer.TokenType.TheVariants.{Close, Open}
 use Rattle.urlpattern_syntax.specs.Parsing.{BeginsWithClose, BeginsWithPiece, BeginsWithPlaceholder, BeginsWithTexts, HasEndingAt, Takes}
-use Rattle.urlpattern_syntax.specs.Pieces.{BeginsWithKind, IsFilled, Placeholder, is_placeholder, is_text}
-use Rattle.urlpattern_syntax.specs.Pieces.{Ending as endings, Piece as pieces}
+use Rattle.urlpattern_syntax.specs.Pieces.{BeginsWithKind, IsFilled, Placeholder, is_placeholder, is_text, Ending as endings, Piece as pieces}
 use Rattle.urlpattern_syntax.specs.Tokens.{TokenView, token_view}
 use Rattle.urlpattern_syntax.proofs.PieceLemmas.{filled, filled_cut, filled_group, not_first, open_ending, text_group}
 use Rattle.urlpattern_syntax.proofs.ReaderLemmas.{takes_then}

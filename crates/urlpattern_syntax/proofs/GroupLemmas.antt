@@ -3,8 +3,7 @@ use Rattle.std.proofs.Common.{◌≡◌, List, ℕ, [], ◌∷◌, ◌++◌, ref
 use Rattle.std.specs.Prelude.{Contains, Ok, Err}
 use Rattle.urlpattern_syntax.specs.declared.parser.PartModifier.{PartModifier}
 use Rattle.urlpattern_syntax.specs.declared.parser.PartType.{PartType}
-use Rattle.urlpattern_syntax.specs.Errors.{ErrorView}
-use Rattle.urlpattern_syntax.specs.Errors.{ErrorView as error_views}
+use Rattle.urlpattern_syntax.specs.Errors.{ErrorView, ErrorView as error_views}
 use Rattle.urlpattern_syntax.specs.Options.{OptionsView}
 use Rattle.urlpattern_syntax.specs.Parsing.{AddsParts, PartListView, item_demands, pending_items}
 use Rattle.urlpattern_syntax.specs.Pieces.{Matched, Placeholder}

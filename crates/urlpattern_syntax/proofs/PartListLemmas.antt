@@ -8,13 +8,11 @@ use Rattle.std.proofs.lemmas.Bool.{and_parts, both_ways}
 use Rattle.std.proofs.lemmas.List.{append-nil}
 use Rattle.urlpattern_syntax.specs.declared.tokenizer.TokenType.{TokenType}
 use Rattle.urlpattern_syntax.specs.declared.tokenizer.TokenType.TheVariants.{Asterisk, Char, Close, End, EscapedChar, InvalidChar, Name, Open, OtherModifier, Regexp}
-use Rattle.urlpattern_syntax.specs.Errors.{ErrorView}
-use Rattle.urlpattern_syntax.specs.Errors.{ErrorView as error_views}
+use Rattle.urlpattern_syntax.specs.Errors.{ErrorView, ErrorView as error_views}
 use Rattle.urlpattern_syntax.specs.Options.{OptionsView}
 use Rattle.urlpattern_syntax.proofs.TokenWords.{FailsTokens, ReadsTokens, joined_values}
 use Rattle.urlpattern_syntax.specs.Parsing.{AddsItem, AddsParts, FailsItem, IsTokenList, MemoryOr, PartListView, item_demands, pending_items}
-use Rattle.urlpattern_syntax.specs.Pieces.{ArePieces, BeginsWithKind, Ending, IsEnding, IsPiece, Piece, is_placeholder, is_text}
-use Rattle.urlpattern_syntax.specs.Pieces.{Ending as endings, Piece as kinds_of_piece}
+use Rattle.urlpattern_syntax.specs.Pieces.{ArePieces, BeginsWithKind, Ending, IsEnding, IsPiece, Piece, is_placeholder, is_text, Ending as endings, Piece as kinds_of_piece}
 use Rattle.urlpattern_syntax.specs.Reading.{AreMet, AreParts, Capture, Encoding, Expect, FirstFails, Fixed, Item, demands, demands_after, encode_fixed, item, items_from, items_of, joined_items, next_number, number_after, with_text}
 use Rattle.urlpattern_syntax.specs.RegexpText.{group_names}
 use Rattle.urlpattern_syntax.specs.Tokens.{TokenView}

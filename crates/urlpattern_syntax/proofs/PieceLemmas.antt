@@ -1,8 +1,7 @@
 -- Lemmas on pieces: what tokens begin with.
-use Rattle.std.proofs.Common.{◌≡◌, ◌≢◌, ℕ, ◌⊎◌, Bool, true, false, List, [], ◌∷◌, ◌++◌, Some, None, refl, sym, ap, ◌∙◌, subst, inl, inr}
+use Rattle.std.proofs.Common.{◌≡◌, ◌≢◌, ℕ, ◌⊎◌, Bool, true, false, List, [], ◌∷◌, ◌++◌, Some, None, refl, sym, ap, ◌∙◌, subst, inl, inr, append_assoc}
 use Rattle.std.specs.Prelude.{codes, IsTrue}
 use Rattle.std.specs.List.{list_all}
-use Rattle.std.proofs.Common.{append_assoc}
 use Rattle.std.proofs.lemmas.List.{append-nil}
 use Rattle.std.proofs.lemmas.List.Folds.{list_all-append}
 use Rattle.std.proofs.lemmas.Bool.{false≢true, and_from, and_parts}
@@ -13,8 +12,7 @@ use Rattle.urlpattern_syntax.specs.declared.tokenizer.TokenType.TheVariants.{Ast
 use Rattle.urlpattern_syntax.specs.Cursors.{AreTokensAfter}
 use Rattle.urlpattern_syntax.proofs.TokenWords.{joined_values, BeginsWithToken}
 use Rattle.urlpattern_syntax.specs.Parsing.{BeginsWithClose, BeginsWithPiece, BeginsWithTexts, HasEndingAt, BeginsWithPlaceholder, BeginsWithModifier, IsTokenList, IsModifierSpelled}
-use Rattle.urlpattern_syntax.specs.Pieces.{AreTexts, IsBraced, IsFilled, IsOpenGroup, IsPrefixOf, TakesPrefix, is_text, BeginsWithKind, IsModifier, TakesModifier, TakesRegexp, Matched, Placeholder, is_modifier, is_placeholder, is_regexp, is_stop}
-use Rattle.urlpattern_syntax.specs.Pieces.{Ending as endings, Matched as matched, Piece as pieces}
+use Rattle.urlpattern_syntax.specs.Pieces.{AreTexts, IsBraced, IsFilled, IsOpenGroup, IsPrefixOf, TakesPrefix, is_text, BeginsWithKind, IsModifier, TakesModifier, TakesRegexp, Matched, Placeholder, is_modifier, is_placeholder, is_regexp, is_stop, Ending as endings, Matched as matched, Piece as pieces}
 use Rattle.urlpattern_syntax.specs.Tokens.{AreTokens, IsCut, IsTokenOf, Spells, TokenView, end_of}
 
 -- ---- token lists

@@ -11,8 +11,7 @@ use Rattle.urlpattern_syntax.specs.declared.tokenizer.TokenType.{TokenType}
 use Rattle.urlpattern_syntax.specs.declared.tokenizer.TokenType.TheVariants.{Asterisk, Char, Close, End, EscapedChar, Name, Open, OtherModifier, Regexp}
 use Rattle.urlpattern_syntax.proofs.TokenWords.{joined_values}
 use Rattle.urlpattern_syntax.specs.Parsing.{BeginsWithPlaceholder, BeginsWithModifier, IsTokenList}
-use Rattle.urlpattern_syntax.specs.Pieces.{Piece, Ending, Stops, LacksClose, Placeholder, Matched, ArePieces, IsPiece, IsEnding, IsBare, IsBraced, IsFilled, IsPrefixOf, IsPlaceholderOf, TakesPrefix, TakesRegexp, BeginsWithKind, is_text, is_placeholder, is_modifier, is_stop}
-use Rattle.urlpattern_syntax.specs.Pieces.{Matched as matched, Piece as pieces}
+use Rattle.urlpattern_syntax.specs.Pieces.{Piece, Ending, Stops, LacksClose, Placeholder, Matched, ArePieces, IsPiece, IsEnding, IsBare, IsBraced, IsFilled, IsPrefixOf, IsPlaceholderOf, TakesPrefix, TakesRegexp, BeginsWithKind, is_text, is_placeholder, is_modifier, is_stop, Matched as matched, Piece as pieces}
 use Rattle.urlpattern_syntax.specs.Tokens.{TokenView}
 use Rattle.urlpattern_syntax.proofs.PieceLemmas.{IsTokenList-rest, IsTokenList-texts, bare_piece, named, named_regexp, narrower, one_or_more, open_texts, optional, unnamed_regexp, wildcard, zero_or_more}
 

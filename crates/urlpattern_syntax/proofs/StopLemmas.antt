@@ -6,8 +6,7 @@ use Rattle.std.proofs.lemmas.Bool.{and_parts}
 use Rattle.std.proofs.lemmas.List.{append-nil}
 use Rattle.urlpattern_syntax.specs.declared.parser.pieces.Reader.{Reader}
 use Rattle.urlpattern_syntax.specs.Parsing.{BeginsWithPiece, BeginsWithRow, HasEndingAt, HasTokensLeft, StartsText, Takes}
-use Rattle.urlpattern_syntax.specs.Pieces.{ArePieces, BeginsWithKind, Ending, IsEnding, Piece, is_text}
-use Rattle.urlpattern_syntax.specs.Pieces.{Piece as kinds_of_piece}
+use Rattle.urlpattern_syntax.specs.Pieces.{ArePieces, BeginsWithKind, Ending, IsEnding, Piece, is_text, Piece as kinds_of_piece}
 use Rattle.urlpattern_syntax.specs.Stops.{IsStopOf, found_in}
 use Rattle.urlpattern_syntax.specs.Tokens.{AreTokens, TokenView, token_view}
 use Rattle.urlpattern_syntax.proofs.PartListLemmas.{no_placeholder, row_goes_on}

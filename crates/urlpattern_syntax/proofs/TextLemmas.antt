@@ -1,7 +1,6 @@
 -- Lemmas on texts: characters against bytes, places, and where a text may be cut.
 use Rattle.std.proofs.Common.{◌≡◌, ℕ, ◌-◌, ◌≤◌, List, [], ◌∷◌, ◌++◌, length, take, refl, sym, ap, ◌∙◌, arith, length-append}
-use Rattle.std.specs.Prelude.{codes, encode_utf8_all}
-use Rattle.std.specs.Prelude.{slice_range}
+use Rattle.std.specs.Prelude.{codes, encode_utf8_all, slice_range}
 use Rattle.std.proofs.Math.Seq.{take-append_seam}
 use Rattle.std.specs.Char.{encode_utf8}
 use Rattle.std.specs.Str.{chars, IsUtf8}

@@ -6,13 +6,11 @@ use Rattle.std.specs.Str.{chars}
 use Rattle.urlpattern_syntax.specs.declared.parser.pieces.Next.{Next}
 use Rattle.urlpattern_syntax.specs.declared.parser.pieces.Reader.{Reader}
 use Rattle.urlpattern_syntax.specs.declared.tokenizer.TokenType.TheVariants.{Close, End}
-use Rattle.urlpattern_syntax.specs.Errors.{ErrorView, error_view}
-use Rattle.urlpattern_syntax.specs.Errors.{ErrorView as error_views}
+use Rattle.urlpattern_syntax.specs.Errors.{ErrorView, error_view, ErrorView as error_views}
 use Rattle.urlpattern_syntax.specs.Options.{OptionsView}
 use Rattle.urlpattern_syntax.proofs.TokenWords.{FailsTokens, ReadsTokens}
 use Rattle.urlpattern_syntax.specs.Parsing.{AddsItem, AddsParts, BeginsWithPiece, BeginsWithRow, HasEndingAt, FailsItem, FaultOr, HasTokensLeft, IsNext, MemoryOr, PartListView, StartsText, Takes, pending_items, reader_text}
-use Rattle.urlpattern_syntax.specs.Pieces.{IsEnding, Piece}
-use Rattle.urlpattern_syntax.specs.Pieces.{Ending as endings}
+use Rattle.urlpattern_syntax.specs.Pieces.{IsEnding, Piece, Ending as endings}
 use Rattle.urlpattern_syntax.specs.Reading.{Encoding, Expect, FirstFails, Reads, Refuses, encode_fixed, item, number_after}
 use Rattle.urlpattern_syntax.specs.Tokens.{AreTokens, ReportsFault, TokenView, fault_view, token_view}
 use Rattle.urlpattern_syntax.proofs.PartListLemmas.{HasRead, fails_end, fails_open, fails_piece, nothing_read, reads_end, reads_piece, reads_row}

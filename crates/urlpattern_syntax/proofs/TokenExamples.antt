@@ -8,9 +8,7 @@ use Rattle.unicode.proofs.BinaryLemmas.{is_id_start_stepped, is_id_continue_step
 use Rattle.urlpattern_syntax.specs.declared.tokenizer.TokenType.{TokenType}
 use Rattle.urlpattern_syntax.specs.declared.tokenizer.TokenType.TheVariants.{Close, Regexp, Name, Char, EscapedChar, End, InvalidChar}
 use Rattle.urlpattern_syntax.specs.Text.{byte_len, BeginsAt, BeginsWith, is_among, is_name_start, is_name_part}
-use Rattle.urlpattern_syntax.specs.Tokens.{TokenView, Spells, EndsThere, IsName, IsTokenOf, AreTokens, AreLenientTokens, IsFault, IncompleteEscapeCode, InvalidName, InvalidRegex, Nothing, Plain, IsRegexpBody, Here, IsRegexpFront, IsCut, marks, is_ignored, is_question_mark, Skips}
-use Rattle.urlpattern_syntax.specs.Tokens.{RegexpFault, LacksRegexp, reason}
-use Rattle.urlpattern_syntax.specs.Tokens.{RegexpFault as regexp_faults}
+use Rattle.urlpattern_syntax.specs.Tokens.{TokenView, Spells, EndsThere, IsName, IsTokenOf, AreTokens, AreLenientTokens, IsFault, IncompleteEscapeCode, InvalidName, InvalidRegex, Nothing, Plain, IsRegexpBody, Here, IsRegexpFront, IsCut, marks, is_ignored, is_question_mark, Skips, RegexpFault, LacksRegexp, reason, RegexpFault as regexp_faults}
 
 -- ---- steps
 

@@ -5,8 +5,7 @@ use Rattle.urlpattern_syntax.specs.declared.tokenizer.TokenType.{TokenType}
 use Rattle.urlpattern_syntax.specs.Errors.{ErrorView}
 use Rattle.urlpattern_syntax.specs.Options.{OptionsView}
 use Rattle.urlpattern_syntax.specs.Parts.{PartView}
-use Rattle.urlpattern_syntax.specs.Pieces.{ArePieces, Piece, Ending}
-use Rattle.urlpattern_syntax.specs.Pieces.{Ending as endings, Piece as pieces}
+use Rattle.urlpattern_syntax.specs.Pieces.{ArePieces, Piece, Ending, Ending as endings, Piece as pieces}
 use Rattle.urlpattern_syntax.specs.Reading.{demands, items_of, AreMet, AreParts, Encoding, FirstFails}
 use Rattle.urlpattern_syntax.specs.Tokens.{TokenView}
 

@@ -1,7 +1,8 @@
 //! Matches an input by the call that a question names.
 
-use super::{Case, given};
-use crate::recorded::{Fault, named, optional_text};
+use super::given;
+use bench_rows::Case;
+use bench_rows::recorded::{Fault, named, optional_text};
 use serde_json::Value;
 use std::alloc::Global;
 use url::Url;

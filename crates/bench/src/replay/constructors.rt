@@ -1,7 +1,8 @@
 //! Asks for the components of constructor strings, and for the inits of strings and of a browser's inits.
 
-use super::{Case, given};
-use crate::recorded::{Fault, optional_text, text};
+use super::given;
+use bench_rows::Case;
+use bench_rows::recorded::{Fault, optional_text, text};
 use regex::Regex;
 use serde_json::Value;
 use std::alloc::Global;

@@ -1,7 +1,8 @@
 //! Asks what is wrong with patterns.
 
-use super::{Case, given};
-use crate::recorded::{Answer, Fault, has_text, list, optional_text};
+use super::given;
+use bench_rows::Case;
+use bench_rows::recorded::{Answer, Fault, has_text, list, optional_text};
 use serde_json::Value;
 use std::alloc::Global;
 use urlpattern::quirks::process_construct_pattern_input;

@@ -1,7 +1,8 @@
 //! Asks for texts of components whose groups capture what is given.
 
-use super::{Case, patterns};
-use crate::recorded::{Answer, Fault, has_text, list, text};
+use super::patterns;
+use bench_rows::Case;
+use bench_rows::recorded::{Answer, Fault, has_text, list, text};
 use serde_json::Value;
 use std::alloc::Global;
 use urlpattern::regexp::RegExp;

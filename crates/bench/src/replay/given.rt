@@ -1,6 +1,6 @@
 //! What a question gives, as the library reads it of JSON.
 
-use crate::recorded::{Fault, field, optional_text};
+use bench_rows::recorded::{Fault, field, optional_text};
 use serde_json::Value;
 use std::alloc::Global;
 use std::borrow::CowStr;

@@ -1,8 +1,9 @@
 //! Builds the patterns that were built when a case was recorded, and matches what was matched.
 
 use super::calls::{self, Call};
-use super::{Case, given, prints};
-use crate::recorded::{Fault, has_text, is_set, optional_text, text};
+use super::given;
+use bench_rows::{Case, prints};
+use bench_rows::recorded::{Fault, has_text, is_set, optional_text, text};
 use serde_json::Value;
 use std::alloc::Global;
 use urlpattern::quirks::{parse_pattern_as_lib, process_construct_pattern_input};

@@ -1,7 +1,8 @@
 //! Compiles patterns to plain data.
 
-use super::{Case, given};
-use crate::recorded::{Fault, optional_text};
+use super::given;
+use bench_rows::Case;
+use bench_rows::recorded::{Fault, optional_text};
 use serde_json::Value;
 use std::alloc::Global;
 use urlpattern::quirks::{StringOrInit, parse_pattern, process_construct_pattern_input};

@@ -1,7 +1,8 @@
 //! Compares patterns by their parts.
 
-use super::{Case, given};
-use crate::recorded::{Answer, Fault, field, has_text, list, named, optional_text, text};
+use super::given;
+use bench_rows::Case;
+use bench_rows::recorded::{Answer, Fault, field, has_text, list, named, optional_text, text};
 use serde_json::Value;
 use std::alloc::Global;
 use std::cmp::Ordering;

@@ -1,7 +1,8 @@
 //! Reads plain values of JSON, writes them, and compares them with each other.
 
-use super::{Case, given};
-use crate::recorded::{Answer, Fault, field, is_set, list, optional_text, text};
+use super::given;
+use bench_rows::Case;
+use bench_rows::recorded::{Answer, Fault, field, is_set, list, optional_text, text};
 use serde::Serialize;
 use serde::de::DeserializeOwned;
 use serde_json::Value;

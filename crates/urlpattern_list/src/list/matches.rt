@@ -4,7 +4,7 @@ use super::UrlPatternList;
 use std::alloc::Global;
 use urlpattern_core::Error;
 use urlpattern_core::regexp::RegExp;
-use urlpattern_pattern::UrlPatternCaptures;
+use urlpattern_matches::UrlPatternCaptures;
 use urlpattern_syntax::eight::Eight;
 
 /// The matches of a URL that are left, in the order of the patterns, each with its pattern's index.
@@ -23,7 +23,7 @@ impl<'p, 'u, R: RegExp> UrlPatternMatches<'p, 'u, R> {
     ghost use Rattle.std.specs.Prelude.{◌≡◌};
     ghost use Rattle.urlpattern_list.specs.FirstMatch.{patterns_view};
     ghost use Rattle.urlpattern_list.specs.NextMatch.{matches_left};
-    ghost use Rattle.urlpattern_pattern.specs.Calls.{borrowed_texts};
+    ghost use Rattle.urlpattern_matches.specs.GroupTexts.{borrowed_texts};
 
     /// All matches of eight texts.
     pub(super) fn new(list: &'p UrlPatternList<R>, alloc: Global, texts: Eight<&'u str>) -> Self

@@ -5,20 +5,18 @@ ghost use Rattle.std.specs.Prelude.{◌≡◌, None, Some, zip, IfErr, IfNone, I
 ghost use Rattle.urlpattern_core.specs.Looks.{look_answer, IsAsking};
 ghost use Rattle.urlpattern_init.specs.declared.init.UrlPatternMatchInput.TheVariants as inputs;
 ghost use Rattle.urlpattern_init.specs.Inheritance.{texts_of_url};
-ghost use Rattle.urlpattern_pattern.specs.BorrowedMatches.{IfMatch, groups_view, pattern_captures_view};
-ghost use Rattle.urlpattern_pattern.specs.Match.{AreAnswers, AreGroupsInOrder, AsksAnEngine, CopiesMatch, FindsInInput, FindsInTexts, IfUrl, IsRefused, TestsInput, TestsTexts, result_view};
-ghost use Rattle.urlpattern_pattern.specs.MatchInput.{texts_view};
-ghost use Rattle.urlpattern_pattern.specs.Calls.{AreCaptured, AreLooks, AskWithCause, HasCaptures, all_captures, borrowed_texts};
+ghost use Rattle.urlpattern_matches.specs.BorrowedMatches.{IfMatch, groups_view, pattern_captures_view};
+ghost use Rattle.urlpattern_pattern.specs.Match.{AreAnswers, AreGroupsInOrder, AsksAnEngine, CopiesMatch, FindsInInput, FindsInTexts, IfUrl, IsRefused, TestsInput, TestsTexts};
+ghost use Rattle.urlpattern_matches.specs.ResultViews.{result_view};
+ghost use Rattle.urlpattern_matches.specs.MatchInput.{texts_view};
+ghost use Rattle.urlpattern_pattern.specs.Calls.{AreCaptured, AreLooks, AskWithCause, HasCaptures, all_captures};
+ghost use Rattle.urlpattern_matches.specs.GroupTexts.{borrowed_texts};
 ghost use Rattle.urlpattern_pattern.specs.Patterns.{components_of, pattern_view};
 ghost use Rattle.urlpattern_syntax.specs.declared.eight.ComponentName.{ComponentName as Name};
 ghost use Rattle.urlpattern_syntax.specs.Errors.{OnlyOutOfMemory};
 ghost use Rattle.urlpattern_syntax.specs.Eight.{at};
 
 use super::UrlPattern;
-use super::captures::{GroupCaptures, Missed, UrlPatternCaptures};
-use super::result::UrlPatternResult;
-use super::texts::{input_texts, url_texts};
-use crate::match_input::parse_match_input;
 use std::alloc::Global;
 use url::Url;
 use urlpattern_core::Error;
@@ -27,6 +25,10 @@ use urlpattern_core::matcher::Look;
 use urlpattern_core::regexp::RegExp;
 use urlpattern_init::UrlPatternMatchInput;
 use urlpattern_inputs::MatchInput;
+use urlpattern_matches::{
+    GroupCaptures, Missed, UrlPatternCaptures, UrlPatternResult, captures_from, input_texts,
+    parse_match_input, url_texts,
+};
 use urlpattern_syntax::eight::{ComponentName, Eight};
 use urlpattern_syntax::with_fields;
 
@@ -202,11 +204,7 @@ impl<R: RegExp> UrlPattern<R> {
         let names = |name: ComponentName| -> &Vec<String>
             ensures { result.now ≡ (at (components_of self.entry.now) name).group_name_list }
         { &self.get(name).group_name_list };
-        UrlPatternCaptures {
-            names: Eight::from_fn(names),
-            texts: with_fields!(Eight, texts),
-            captures,
-        }
+        captures_from(Eight::from_fn(names), with_fields!(Eight, texts), captures)
     }
 
     /// What the components see in their texts, before an engine is asked. `None`: one of them does not match.

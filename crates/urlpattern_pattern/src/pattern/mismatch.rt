@@ -1,17 +1,17 @@
 //! Why a pattern does not match: the first component that does not match its text.
 ghost use Rattle.std.specs.Prelude.{IfErr, IfOk};
 ghost use Rattle.urlpattern_init.specs.Inheritance.{texts_of_url};
-ghost use Rattle.urlpattern_pattern.specs.Calls.{borrowed_texts};
+ghost use Rattle.urlpattern_matches.specs.GroupTexts.{borrowed_texts};
 ghost use Rattle.urlpattern_pattern.specs.Mismatch.{AsksInTurn, FindsMismatch};
 ghost use Rattle.urlpattern_pattern.specs.Patterns.{pattern_view};
 ghost use Rattle.urlpattern_syntax.specs.Errors.{OnlyOutOfMemory};
 
 use super::UrlPattern;
-use super::texts::url_texts;
 use std::alloc::Global;
 use url::Url;
 use urlpattern_core::Error;
 use urlpattern_core::regexp::RegExp;
+use urlpattern_matches::url_texts;
 use urlpattern_syntax::eight::{ComponentName, Eight};
 
 impl<R: RegExp> UrlPattern<R> {

@@ -3,16 +3,16 @@
 ghost use Rattle.std.specs.Prelude.{option_map, IfErr, IfOk};
 ghost use Rattle.urlpattern_pattern.specs.ByText.{IsExecutedByMeaning};
 ghost use Rattle.urlpattern_create.specs.Compiled.{RefusesInit};
-ghost use Rattle.urlpattern_pattern.specs.Match.{result_view};
+ghost use Rattle.urlpattern_matches.specs.ResultViews.{result_view};
 ghost use Rattle.urlpattern_syntax.specs.Errors.{MemoryOr};
 
 use super::UrlPattern;
-use super::result::UrlPatternResult;
 use std::alloc::Global;
 use urlpattern_core::Error;
 use urlpattern_core::regexp::RegExp;
 use urlpattern_init::{UrlPatternInit, UrlPatternMatchInput};
 use urlpattern_inputs::UrlPatternOptions;
+use urlpattern_matches::UrlPatternResult;
 
 impl<R: RegExp> UrlPattern<R> {
     /// Compiles the pattern of an init and matches one input: `parse`, and then `exec`.

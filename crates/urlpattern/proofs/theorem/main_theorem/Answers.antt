@@ -2,7 +2,7 @@ use Rattle.std.specs.Prelude.{false}
 use Rattle.urlpattern_core.specs.Components.{IsEngineOf}
 use Rattle.urlpattern_meaning.proofs.CallbackLaws.{outcome_one}
 use Rattle.urlpattern_meaning.proofs.CaptureCount.{captures_counted}
-use Rattle.urlpattern_core.proofs.RegexMatchers.{taken_first}
+use Rattle.urlpattern_regex.proofs.RegexMatchers.{taken_first}
 use Rattle.urlpattern_engine.proofs.EngineLaws.{taken_first as taken_by_pattern_regexp_first}
 use Rattle.urlpattern_meaning.proofs.FirstAnswers.{first_one, matcher_first}
 use Rattle.urlpattern_meaning.proofs.MatcherMeaning.{matcher_means}

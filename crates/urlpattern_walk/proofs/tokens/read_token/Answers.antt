@@ -1,10 +1,8 @@
 use Rattle.std.specs.Str.{chars}
 use Rattle.urlpattern_meaning.specs.Dialect.{IsCharacter}
-use Rattle.urlpattern_walk.specs.ReadSteps.{BeginsWithCharacter}
+use Rattle.urlpattern_walk.specs.ReadSteps.{BeginsWithCharacter, IsRead, IsUnquantified, times_text}
 use Rattle.urlpattern_walk.proofs.TokenLemmas.{literal-spells}
 use Rattle.std.proofs.Common.{◌++◌}
-use Rattle.urlpattern_walk.specs.ReadSteps.{IsRead, IsUnquantified}
-use Rattle.urlpattern_walk.specs.ReadSteps.{times_text}
 use Rattle.urlpattern_walk.proofs.FrontLemmas.{by_token}
 use Rattle.urlpattern_walk.proofs.tokens.read_token.Goals as goal
 

@@ -1,7 +1,7 @@
 use Rattle.std.proofs.lemmas.Result.{IfErr-weaker}
 use Rattle.urlpattern_list.proofs.FixedLemmas.{ok-weaker}
 use Rattle.urlpattern_list.proofs.NextLemmas.{asks-of_all, first-of_all}
-use Rattle.urlpattern_pattern.specs.Calls.{borrowed_texts}
+use Rattle.urlpattern_matches.specs.GroupTexts.{borrowed_texts}
 use Rattle.urlpattern_list.specs.FirstMatch.{first_captures_view, patterns_view}
 use Rattle.urlpattern_list.proofs.list.UrlPatternList.first.Goals as goal
 

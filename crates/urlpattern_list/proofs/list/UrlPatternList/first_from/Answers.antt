@@ -5,8 +5,8 @@ use Rattle.urlpattern_index.specs.Listed.{Finds}
 use Rattle.urlpattern_pattern.proofs.Results.{if_err}
 use Rattle.urlpattern_list.proofs.FixedLemmas.{found_within}
 use Rattle.urlpattern_list.proofs.NextLemmas.{asks-views, first-views, passed-more, passed-views, passed_over}
-use Rattle.urlpattern_pattern.specs.BorrowedMatches.{pattern_captures_view}
-use Rattle.urlpattern_pattern.specs.Calls.{borrowed_texts}
+use Rattle.urlpattern_matches.specs.BorrowedMatches.{pattern_captures_view}
+use Rattle.urlpattern_matches.specs.GroupTexts.{borrowed_texts}
 use Rattle.urlpattern_list.specs.FirstMatch.{patterns_view}
 use Rattle.urlpattern_list.specs.NextMatch.{AsksBeforeMatchFrom, IsFirstMatchFrom}
 use Rattle.urlpattern_pattern.specs.Match.{IsMatchOf}

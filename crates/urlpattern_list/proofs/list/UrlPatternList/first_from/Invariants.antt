@@ -1,5 +1,5 @@
 use Rattle.std.proofs.Common.{length, ◌-◌, ◌≤◌}
-use Rattle.urlpattern_pattern.specs.Calls.{borrowed_texts}
+use Rattle.urlpattern_matches.specs.GroupTexts.{borrowed_texts}
 use Rattle.urlpattern_list.proofs.NextLemmas.{ArePassed}
 use Rattle.urlpattern_list.proofs.list.UrlPatternList.first_from.Given as goal
 

@@ -1,11 +1,11 @@
 use Rattle.std.proofs.Common.{ap, subst, sym, ◌∙◌}
 use Rattle.std.specs.Prelude.{◌≡◌, IfErr, Ok}
 use Rattle.urlpattern_list.proofs.ListLemmas.{first-of_texts}
-use Rattle.urlpattern_pattern.specs.Calls.{borrowed_texts}
+use Rattle.urlpattern_matches.specs.GroupTexts.{borrowed_texts}
 use Rattle.urlpattern_list.specs.FirstMatch.{CopiesFirstMatch, patterns_view}
-use Rattle.urlpattern_pattern.specs.Match.{result_view}
-use Rattle.urlpattern_pattern.specs.declared.pattern.result.UrlPatternResult.{UrlPatternResult}
-use Rattle.urlpattern_pattern.specs.MatchInput.{input_texts}
+use Rattle.urlpattern_matches.specs.ResultViews.{result_view}
+use Rattle.urlpattern_matches.specs.declared.result.UrlPatternResult.{UrlPatternResult}
+use Rattle.urlpattern_matches.specs.MatchInput.{input_texts}
 use Rattle.urlpattern_syntax.specs.Eight.{Texts}
 use Rattle.urlpattern_list.proofs.list.UrlPatternList.first_match.Goals as goal
 

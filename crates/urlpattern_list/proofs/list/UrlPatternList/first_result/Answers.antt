@@ -2,10 +2,10 @@ use Rattle.std.proofs.Common.{inr}
 use Rattle.urlpattern_pattern.proofs.Results.{if_err}
 use Rattle.urlpattern_list.proofs.ListLemmas.{first-same}
 use Rattle.urlpattern_pattern.proofs.MatchSteps.{match-same}
-use Rattle.urlpattern_pattern.specs.BorrowedMatches.{pattern_captures_view}
-use Rattle.urlpattern_pattern.specs.Calls.{borrowed_texts}
+use Rattle.urlpattern_matches.specs.BorrowedMatches.{pattern_captures_view}
+use Rattle.urlpattern_matches.specs.GroupTexts.{borrowed_texts}
 use Rattle.urlpattern_list.specs.FirstMatch.{patterns_view}
-use Rattle.urlpattern_pattern.specs.Match.{result_view}
+use Rattle.urlpattern_matches.specs.ResultViews.{result_view}
 use Rattle.urlpattern_list.proofs.list.UrlPatternList.first_result.Goals as goal
 
 pub returns-in_ok-to_result-in-Some-clause-first : goal.returns-in_ok-to_result-in-Some-clause-first

@@ -8,7 +8,7 @@ use Rattle.urlpattern_init.specs.Inheritance.{texts_of_url}
 use Rattle.urlpattern_init.specs.declared.init.UrlPatternMatchInput.TheVariants.{Url}
 use Rattle.urlpattern_list.proofs.PatternMapLemmas.{length-mapped}
 use Rattle.urlpattern_pattern.proofs.Results.{if_err}
-use Rattle.urlpattern_pattern.specs.BorrowedMatches.{pattern_captures_view}
+use Rattle.urlpattern_matches.specs.BorrowedMatches.{pattern_captures_view}
 use Rattle.urlpattern_pattern.specs.Match.{HasNoMatch}
 use Rattle.urlpattern_pattern.specs.Patterns.{pattern_view}
 use Rattle.urlpattern_pattern.specs.declared.pattern.UrlPattern.{UrlPattern}

@@ -2,7 +2,7 @@ use Rattle.std.specs.Prelude.{option_map}
 use Rattle.urlpattern_core.proofs.Peeling.{if_ok-map}
 use Rattle.urlpattern_pattern.proofs.ByTextLemmas.{executed_by_text}
 use Rattle.urlpattern_pattern.proofs.MeaningLemmas.{executed_of}
-use Rattle.urlpattern_pattern.specs.Match.{result_view}
+use Rattle.urlpattern_matches.specs.ResultViews.{result_view}
 use Rattle.urlpattern_pattern.specs.Patterns.{pattern_view}
 use Rattle.urlpattern_pattern.proofs.pattern.UrlPattern.exec_once.Goals as goal
 

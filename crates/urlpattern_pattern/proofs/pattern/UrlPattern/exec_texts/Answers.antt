@@ -1,9 +1,10 @@
 use Rattle.std.proofs.Common.{inr}
 use Rattle.urlpattern_pattern.proofs.Results.{if_err}
 use Rattle.urlpattern_pattern.proofs.MatchSteps.{match-same}
-use Rattle.urlpattern_pattern.specs.BorrowedMatches.{pattern_captures_view}
-use Rattle.urlpattern_pattern.specs.Calls.{borrowed_texts}
-use Rattle.urlpattern_pattern.specs.Match.{IsMatchOf, result_view}
+use Rattle.urlpattern_matches.specs.BorrowedMatches.{pattern_captures_view}
+use Rattle.urlpattern_matches.specs.GroupTexts.{borrowed_texts}
+use Rattle.urlpattern_pattern.specs.Match.{IsMatchOf}
+use Rattle.urlpattern_matches.specs.ResultViews.{result_view}
 use Rattle.urlpattern_pattern.specs.Patterns.{pattern_view}
 use Rattle.urlpattern_pattern.proofs.pattern.UrlPattern.exec_texts.Goals as goal
 

@@ -2,9 +2,10 @@ use Rattle.std.proofs.Common.{ap, subst, sym}
 use Rattle.std.specs.Prelude.{IfErr, Ok}
 use Rattle.urlpattern_init.specs.declared.init.UrlPatternMatchInput.TheVariants.{Url}
 use Rattle.urlpattern_pattern.proofs.MatchSteps.{found-of_texts}
-use Rattle.urlpattern_pattern.specs.Calls.{borrowed_texts}
-use Rattle.urlpattern_pattern.specs.Match.{CopiesMatch, result_view}
-use Rattle.urlpattern_pattern.specs.declared.pattern.result.UrlPatternResult.{UrlPatternResult}
+use Rattle.urlpattern_matches.specs.GroupTexts.{borrowed_texts}
+use Rattle.urlpattern_pattern.specs.Match.{CopiesMatch}
+use Rattle.urlpattern_matches.specs.ResultViews.{result_view}
+use Rattle.urlpattern_matches.specs.declared.result.UrlPatternResult.{UrlPatternResult}
 use Rattle.urlpattern_pattern.specs.Patterns.{pattern_view}
 use Rattle.urlpattern_syntax.specs.Eight.{Texts}
 use Rattle.urlpattern_pattern.proofs.pattern.UrlPattern.exec_url.Goals as goal

@@ -1,5 +1,6 @@
 use Rattle.urlpattern_pattern.proofs.MatchSteps.{reports-some}
-use Rattle.urlpattern_pattern.specs.Calls.{all_captures, borrowed_texts}
+use Rattle.urlpattern_pattern.specs.Calls.{all_captures}
+use Rattle.urlpattern_matches.specs.GroupTexts.{borrowed_texts}
 use Rattle.urlpattern_pattern.specs.Match.{AreAnswers, AreMatched, IsRefused}
 use Rattle.urlpattern_pattern.specs.Patterns.{pattern_view}
 use Rattle.urlpattern_pattern.proofs.pattern.UrlPattern.is_matched.Goals as goal

@@ -5,7 +5,7 @@ use Rattle.std.specs.Prelude.{All, None}
 use Rattle.urlpattern_meaning.specs.Matching.{Answers, AsksEngine, IsMatched, MatcherView}
 use Rattle.urlpattern_pattern.proofs.MismatchLemmas.{matches_before, of_each, of_got}
 use Rattle.urlpattern_pattern.proofs.Results.{if_err}
-use Rattle.urlpattern_pattern.specs.Calls.{borrowed_texts}
+use Rattle.urlpattern_matches.specs.GroupTexts.{borrowed_texts}
 use Rattle.urlpattern_pattern.specs.Patterns.{pattern_view}
 use Rattle.urlpattern_syntax.specs.declared.eight.ComponentName.{ComponentName}
 use Rattle.urlpattern_syntax.specs.declared.eight.ComponentName.TheVariants.{Protocol}

@@ -2,7 +2,7 @@ use Rattle.std.proofs.Common.{ap, sym}
 use Rattle.std.specs.Prelude.{Ok}
 use Rattle.urlpattern_init.specs.declared.init.UrlPatternMatchInput.TheVariants.{Url}
 use Rattle.urlpattern_pattern.proofs.MatchSteps.{test-of_texts}
-use Rattle.urlpattern_pattern.specs.Calls.{borrowed_texts}
+use Rattle.urlpattern_matches.specs.GroupTexts.{borrowed_texts}
 use Rattle.urlpattern_pattern.specs.Patterns.{pattern_view}
 use Rattle.urlpattern_pattern.proofs.pattern.UrlPattern.test_url.Goals as goal
 

@@ -1,8 +1,8 @@
 use Rattle.std.proofs.Common.{String, Vec, ap, map, sym, zip}
 use Rattle.std.specs.Str.{chars}
 use Rattle.std.specs.declared.alloc.Global.{Global}
-use Rattle.urlpattern_pattern.specs.Calls.{captures_of}
-use Rattle.urlpattern_pattern.specs.Match.{group_of}
+use Rattle.urlpattern_matches.specs.GroupTexts.{captures_of}
+use Rattle.urlpattern_matches.specs.ResultViews.{group_of}
 use Rattle.urlpattern_syntax.proofs.EightLemmas.{at-each}
 use Rattle.urlpattern_syntax.specs.Eight.{at}
 use Rattle.urlpattern_syntax.specs.Text.{text_of}

@@ -1,4 +1,4 @@
-use Rattle.urlpattern_pattern.specs.Calls.{captures_of}
+use Rattle.urlpattern_matches.specs.GroupTexts.{captures_of}
 use Rattle.urlpattern_pattern.proofs.pattern.matching.captures_of_texts.Goals as goal
 use Rattle.urlpattern_syntax.specs.Eight.{at}
 

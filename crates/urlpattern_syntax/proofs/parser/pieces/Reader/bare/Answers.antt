@@ -1,8 +1,7 @@
 use Rattle.std.proofs.Common.{◌++◌, List, ℕ}
 use Rattle.std.specs.Str.{chars}
 use Rattle.urlpattern_syntax.specs.Parsing.{BeginsWithModifier, BeginsWithPiece, BeginsWithPlaceholder, placeholder_view}
-use Rattle.urlpattern_syntax.specs.Pieces.{IsPrefixOf}
-use Rattle.urlpattern_syntax.specs.Pieces.{Piece as pieces}
+use Rattle.urlpattern_syntax.specs.Pieces.{IsPrefixOf, Piece as pieces}
 use Rattle.urlpattern_syntax.specs.Tokens.{TokenView}
 use Rattle.urlpattern_syntax.proofs.PieceLemmas.{bare_piece}
 use Rattle.urlpattern_syntax.proofs.ReaderLemmas.{takes_then}

@@ -4,8 +4,7 @@ use Rattle.std.specs.Borrow.{Bor}
 use Rattle.std.specs.Str.{chars}
 use Rattle.std.proofs.lemmas.Result.{on_ok_weaker}
 use Rattle.urlpattern_syntax.specs.Parsing.{BeginsWithPiece, HasTokensLeft, IsNext}
-use Rattle.urlpattern_syntax.specs.Pieces.{IsPrefixOf, TakesPrefix, is_placeholder, is_text}
-use Rattle.urlpattern_syntax.specs.Pieces.{Piece as pieces}
+use Rattle.urlpattern_syntax.specs.Pieces.{IsPrefixOf, TakesPrefix, is_placeholder, is_text, Piece as pieces}
 use Rattle.urlpattern_syntax.specs.Tokens.{TokenView, token_view}
 use Rattle.urlpattern_syntax.proofs.CharacterLemmas.{row_alone, row_texts}
 use Rattle.urlpattern_syntax.proofs.PieceLemmas.{not_first, text_piece}

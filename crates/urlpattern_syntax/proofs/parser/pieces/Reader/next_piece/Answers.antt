@@ -6,8 +6,7 @@ use Rattle.std.specs.Prelude.{IsTrue}
 use Rattle.urlpattern_syntax.specs.declared.tokenizer.Token.{Token}
 use Rattle.urlpattern_syntax.specs.declared.tokenizer.TokenType.TheVariants.{EscapedChar}
 use Rattle.urlpattern_syntax.specs.Parsing.{BeginsWithPiece, IsNext}
-use Rattle.urlpattern_syntax.specs.Pieces.{IsPrefixOf, is_text}
-use Rattle.urlpattern_syntax.specs.Pieces.{Piece as pieces}
+use Rattle.urlpattern_syntax.specs.Pieces.{IsPrefixOf, is_text, Piece as pieces}
 use Rattle.urlpattern_syntax.specs.Tokens.{TokenView, token_view}
 use Rattle.urlpattern_syntax.proofs.PieceLemmas.{text_piece}
 use Rattle.urlpattern_syntax.proofs.ReaderLemmas.{takes_weaker}

@@ -1,0 +1,86 @@
+//! Asks an engine what was asked when a case was recorded.
+
+use crate::case::Case;
+use crate::recorded::{Answer, Fault, has_text, is_set, list, text};
+use serde_json::Value;
+use std::alloc::Global;
+use urlpattern_core::error::{OutOfMemory, RegExpError};
+use urlpattern_core::regexp::RegExp;
+
+/// Whether the answers of this engine are the recorded ones, also of a value that is made to be kept.
+pub fn is_same<R: RegExp>(case: &Case<'_>) -> Result<bool, Fault> {
+    let pattern = text(case.question, "pattern")?;
+    let force_eval = is_set(case.question, "force_eval");
+    let asked = R::parse(case.alloc, pattern, "u", force_eval);
+    let kept = R::parse_to_keep(case.alloc, pattern, "u", force_eval);
+    Ok(is_same_value(case, asked)? && is_same_value(case, kept)?)
+}
+
+/// Whether what an engine made of the text is recorded.
+fn is_same_value<R: RegExp>(case: &Case<'_>, found: Result<R, RegExpError>) -> Result<bool, Fault> {
+    let is_same = match (&found, case.answer) {
+        (Err(RegExpError::OutOfMemory), _) => Err(Fault::OutOfMemory),
+        (Ok(engine), Answer::Ok(recorded)) => is_engine(case, engine, recorded),
+        (Err(RegExpError::Pattern), Answer::Err(text)) => Ok(text == "pattern"),
+        _ => Ok(false),
+    };
+    drop(found);
+    is_same
+}
+
+/// Whether an engine has the recorded text, and answers the texts of a question as recorded.
+fn is_engine<R: RegExp>(case: &Case<'_>, engine: &R, recorded: &Value) -> Result<bool, Fault> {
+    let inputs = list(case.question, "inputs")?;
+    let Ok(matches) = list(recorded, "matches") else {
+        return Ok(false);
+    };
+    Ok(
+        has_text(recorded, "pattern_string", engine.pattern_string())
+            && are_answers(case.alloc, engine, inputs, matches)?,
+    )
+}
+
+/// Whether an engine answers each text as recorded.
+fn are_answers<R: RegExp>(
+    alloc: Global,
+    engine: &R,
+    inputs: &[Value],
+    recorded: &[Value],
+) -> Result<bool, Fault> {
+    for (input, expected) in inputs.iter().zip(recorded) {
+        let input = input.as_str().ok_or(Fault::NoCase)?;
+        if !answers(alloc, engine, input, expected)? {
+            return Ok(false);
+        }
+    }
+    Ok(inputs.len() == recorded.len())
+}
+
+/// Whether an engine answers a text as recorded.
+fn answers<R: RegExp>(
+    alloc: Global,
+    engine: &R,
+    input: &str,
+    expected: &Value,
+) -> Result<bool, OutOfMemory> {
+    let found = engine.matches(alloc, input)?;
+    let is_same = are_captures(&found, expected);
+    drop(found);
+    Ok(is_same)
+}
+
+/// Whether captures are the recorded ones: null where nothing is matched, and for a group that took no part.
+pub fn are_captures(found: &Option<Vec<Option<&str>>>, recorded: &Value) -> bool {
+    match (found, recorded) {
+        (Some(found), Value::Array(recorded)) => {
+            for (text, expected) in found.iter().zip(recorded) {
+                if *text != expected.as_str() {
+                    return false;
+                }
+            }
+            found.len() == recorded.len()
+        }
+        (None, Value::Null) => true,
+        _ => false,
+    }
+}

@@ -1,0 +1,256 @@
+//! Recorded cases: a question and the answer to it on each line, as JSON.
+
+use serde_json::Value;
+use std::alloc::{AllocError, Global};
+use urlpattern_core::RegexSyntax;
+use urlpattern_core::error::OutOfMemory;
+use urlpattern_core::parser::Options;
+
+/// Why nothing comes of a line.
+#[derive(Drop)]
+pub enum Fault {
+    /// It holds no case that is known here.
+    NoCase,
+    /// Memory ran out.
+    OutOfMemory,
+}
+
+impl From<AllocError> for Fault {
+    fn from(_: AllocError) -> Fault {
+        Fault::OutOfMemory
+    }
+}
+
+impl From<OutOfMemory> for Fault {
+    fn from(_: OutOfMemory) -> Fault {
+        Fault::OutOfMemory
+    }
+}
+
+impl From<serde_json::Error> for Fault {
+    fn from(error: serde_json::Error) -> Fault {
+        if error.is_memory() {
+            Fault::OutOfMemory
+        } else {
+            Fault::NoCase
+        }
+    }
+}
+
+/// What a case may ask for.
+#[derive(Clone, Copy, PartialEq, Eq, Drop)]
+pub enum Operation {
+    /// The tokens of a text.
+    Tokenize,
+    /// The parts of a pattern, and what is made of them.
+    Component,
+    /// The normal form of the parts of a pattern.
+    NormalForm,
+    /// The component of a pattern, compiled.
+    Compile,
+    /// What an engine of regular expressions answers.
+    Engine,
+    /// What the matcher of a pattern answers to texts.
+    Matches,
+    /// What a matcher made by hand answers to texts.
+    HandMatcher,
+    /// A canonical value.
+    Canonicalize,
+    /// A value of an init, or an escaped text.
+    Process,
+    /// The texts of a match input.
+    MatchInput,
+    /// The components of a constructor string.
+    Constructor,
+    /// The init of a string or of a browser's init.
+    Construct,
+    /// A pattern, and what it answers to inputs.
+    Pattern,
+    /// A pattern as plain data.
+    QuirksPattern,
+    /// The first match of inputs in a list of patterns.
+    FirstMatch,
+    /// What is wrong with a pattern.
+    Diagnose,
+    /// The text of a component with given groups.
+    Generate,
+    /// Which of two patterns is more specific in a component.
+    Compare,
+    /// Whether a pattern covers another, and whether they overlap.
+    Covers,
+    /// Which patterns of a list are covered by one before them.
+    Unreachable,
+    /// What a plain value writes as JSON that is read of JSON.
+    Json,
+    /// Which values of a type equal each other.
+    Equal,
+}
+
+/// The operations by name, in the order in which their counts are printed.
+pub const OPERATIONS: &[(&str, Operation)] = &[
+    ("tokenize", Operation::Tokenize),
+    ("component", Operation::Component),
+    ("normal_form", Operation::NormalForm),
+    ("compile", Operation::Compile),
+    ("engine", Operation::Engine),
+    ("matches", Operation::Matches),
+    ("hand_matcher", Operation::HandMatcher),
+    ("canonicalize", Operation::Canonicalize),
+    ("process", Operation::Process),
+    ("match_input", Operation::MatchInput),
+    ("constructor", Operation::Constructor),
+    ("construct", Operation::Construct),
+    ("pattern", Operation::Pattern),
+    ("quirks_pattern", Operation::QuirksPattern),
+    ("first_match", Operation::FirstMatch),
+    ("diagnose", Operation::Diagnose),
+    ("generate", Operation::Generate),
+    ("compare", Operation::Compare),
+    ("covers", Operation::Covers),
+    ("unreachable", Operation::Unreachable),
+    ("json", Operation::Json),
+    ("equal", Operation::Equal),
+];
+
+impl Operation {
+    /// Whether an engine answers. The question may name it.
+    pub fn asks_engine(self) -> bool {
+        matches!(
+            self,
+            Operation::Compile
+                | Operation::Engine
+                | Operation::Matches
+                | Operation::Pattern
+                | Operation::QuirksPattern
+                | Operation::FirstMatch
+                | Operation::Diagnose
+                | Operation::Generate
+        )
+    }
+}
+
+/// A recorded answer.
+#[derive(Clone, Copy)]
+pub enum Answer<'a> {
+    /// The answer of a call that succeeded.
+    Ok(&'a Value),
+    /// The printed text of the error.
+    Err(&'a str),
+}
+
+impl<'a> Answer<'a> {
+    /// The answer of a case.
+    pub fn of(case: &'a Value) -> Result<Answer<'a>, Fault> {
+        Answer::read(field(case, "out")?)
+    }
+
+    /// The answer over `PatternRegexp`. It is recorded where it is another.
+    pub fn over_pattern_regexp(case: &'a Value) -> Result<Answer<'a>, Fault> {
+        match case.get("out_pattern") {
+            Some(answer) => Answer::read(answer),
+            None => Answer::of(case),
+        }
+    }
+
+    /// The answer that an object holds.
+    fn read(answer: &'a Value) -> Result<Answer<'a>, Fault> {
+        if let Some(error) = optional_text(answer, "err") {
+            return Ok(Answer::Err(error));
+        }
+        Ok(Answer::Ok(field(answer, "ok")?))
+    }
+}
+
+/// The value of a name in a table.
+pub fn named<T: Copy>(table: &[(&str, T)], name: &str) -> Result<T, Fault> {
+    match table.iter().find(|(other, _)| *other == name) {
+        Some((_, value)) => Ok(*value),
+        None => Err(Fault::NoCase),
+    }
+}
+
+/// A field that has to be there.
+pub fn field<'a>(object: &'a Value, name: &str) -> Result<&'a Value, Fault> {
+    object.get(name).ok_or(Fault::NoCase)
+}
+
+/// The text of a field.
+pub fn text<'a>(object: &'a Value, name: &str) -> Result<&'a str, Fault> {
+    optional_text(object, name).ok_or(Fault::NoCase)
+}
+
+/// The text of a field. `None`: it is missing or null.
+pub fn optional_text<'a>(object: &'a Value, name: &str) -> Option<&'a str> {
+    object.get(name).and_then(Value::as_str)
+}
+
+/// The elements of a field that is a list.
+pub fn list<'a>(object: &'a Value, name: &str) -> Result<&'a [Value], Fault> {
+    match object.get(name).and_then(Value::as_array) {
+        Some(elements) => Ok(elements.as_slice()),
+        None => Err(Fault::NoCase),
+    }
+}
+
+/// The character of a field. `None`: it is missing or null.
+pub fn character(object: &Value, name: &str) -> Option<char> {
+    match optional_text(object, name) {
+        Some(text) => text.chars().next(),
+        None => None,
+    }
+}
+
+/// Whether a field is there and true.
+pub fn is_set(object: &Value, name: &str) -> bool {
+    object.get(name).and_then(Value::as_bool) == Some(true)
+}
+
+/// Whether a field is this text.
+pub fn has_text(object: &Value, name: &str, text: &str) -> bool {
+    optional_text(object, name) == Some(text)
+}
+
+/// Whether a field is a list of these texts.
+pub fn has_texts(object: &Value, name: &str, texts: &[String]) -> bool {
+    let Ok(recorded) = list(object, name) else {
+        return false;
+    };
+    for (recorded, text) in recorded.iter().zip(texts) {
+        if recorded.as_str() != Some(text.as_str()) {
+            return false;
+        }
+    }
+    recorded.len() == texts.len()
+}
+
+/// The options that a question names.
+pub fn options_of(alloc: Global, question: &Value) -> Result<Options, Fault> {
+    let regex_syntax = syntax_of(question)?;
+    let options = options_of_kind(alloc, optional_text(question, "kind"))?;
+    let delimiter = character(question, "delimiter");
+    Ok(Options {
+        delimiter_code_point: delimiter.or(options.delimiter_code_point),
+        prefix_code_point: options.prefix_code_point,
+        regex_syntax,
+        ignore_case: is_set(question, "ignore_case"),
+    })
+}
+
+/// The syntax that a question names.
+fn syntax_of(question: &Value) -> Result<RegexSyntax, Fault> {
+    match optional_text(question, "syntax") {
+        Some("Rust") | None => Ok(RegexSyntax::Rust),
+        Some("EcmaScript") => Ok(RegexSyntax::EcmaScript),
+        Some(_) => Err(Fault::NoCase),
+    }
+}
+
+/// The options of a kind of component.
+fn options_of_kind(alloc: Global, kind: Option<&str>) -> Result<Options, Fault> {
+    match kind {
+        Some("default") | None => Ok(Options::default(alloc)),
+        Some("hostname") => Ok(Options::hostname(alloc)),
+        Some("pathname") => Options::pathname(alloc).map_err(|_| Fault::OutOfMemory),
+        Some(_) => Err(Fault::NoCase),
+    }
+}

@@ -1,0 +1,32 @@
+use Rattle.std.proofs.Common.{◌≡◌, false, true, inl, inr, refl}
+use Rattle.std.specs.Prelude.{Err}
+use Rattle.urlpattern_core.specs.Components.{engine_flags, has_regexp}
+use Rattle.urlpattern_engine.proofs.EngineLaws.{taken_first}
+use Rattle.urlpattern_engine.specs.PatternRegexps.{pattern_engine}
+use Rattle.urlpattern_laws.proofs.OutcomesExist.{init_outcome, inits_have_values}
+use Rattle.urlpattern_laws.proofs.OutcomesOne.{first_ways_decide, init_refusal_one, pattern_or_refusal}
+use Rattle.urlpattern_laws.specs.Outcomes.{TakesOrRefusesGenerated}
+use Rattle.urlpattern_laws.proofs.laws.inits_have_one_outcome.Goals as goal
+
+-- the regular expression of such parts is never refused
+takes_generated : TakesOrRefusesGenerated pattern_engine
+takes_generated manner none parts reads value error taken (inl (named, may)) = may (manner.options, parts, none parts reads, refl)
+takes_generated manner none parts reads value error taken (inr (again, refused)) = let never : false ≡ true = again in cc never
+
+pub returns-clause-not_both : goal.returns-clause-not_both
+returns-clause-not_both g c = pattern_or_refusal g.R.RegExp
+
+pub returns-clause-refusals : goal.returns-clause-refusals
+returns-clause-refusals g c = init_refusal_one g.R.RegExp
+
+pub returns-clause-values : goal.returns-clause-values
+returns-clause-values g c = inits_have_values
+
+pub returns-clause-exist : goal.returns-clause-exist
+returns-clause-exist g c = init_outcome g.R.RegExp
+
+pub returns-clause-by_first_ways : goal.returns-clause-by_first_ways
+returns-clause-by_first_ways g c = first_ways_decide g.R.RegExp
+
+pub returns-clause-pattern_regexp : goal.returns-clause-pattern_regexp
+returns-clause-pattern_regexp g c = first_ways_decide pattern_engine taken_first takes_generated

@@ -1,0 +1,59 @@
+-- The sentences of the laws of whole patterns.
+use Rattle.std.specs.Prelude.{◌≡◌, ◌↔◌, ℕ, List, Ok, Option}
+use Rattle.regex.specs.declared.string.regex.Regex.{Regex}
+use Rattle.urlpattern_core.specs.declared.regexp.RegExp.{Ghosts as Engine}
+use Rattle.urlpattern_core.specs.Regexes.{regex_engine}
+use Rattle.urlpattern_init.specs.declared.init.UrlPatternMatchInput.{UrlPatternMatchInput}
+use Rattle.urlpattern_meaning.specs.PartMeaning.{Captures}
+use Rattle.urlpattern_inputs.specs.declared.options.UrlPatternOptions.{UrlPatternOptions}
+use Rattle.urlpattern_syntax.specs.declared.eight.ComponentName.{ComponentName}
+use Rattle.urlpattern_syntax.specs.Eight.{Texts, Values, at}
+use Rattle.urlpattern_create.specs.Compiled.{AreCompiled, Manner, manner_of}
+use Rattle.urlpattern_pattern.specs.Match.{HasMatch, HasNoMatch, IsLongInput, IsMatch}
+use Rattle.urlpattern_matches.specs.ResultViews.{IsSameResult, ResultView}
+use Rattle.urlpattern_matches.specs.MatchInput.{input_texts}
+use Rattle.urlpattern_pattern.specs.ByText.{IsFirstResult}
+use Rattle.urlpattern_pattern.specs.Patterns.{PatternView}
+use Rattle.urlpattern_pattern.specs.Meaning.{IsExecuted, IsFoundByMeaning, MeaningPremises, RegexPremises}
+
+-- What a compiled pattern answers to an input is what its pattern texts mean.
+abbrev pub AnswersMeanTheParts : {E : Type 0} → Engine E → Type 0
+AnswersMeanTheParts {E} engine = (asked : UrlPatternOptions) (values : Values) (pattern : PatternView E) (input : UrlPatternMatchInput) (texts : Texts)
+    (found : Option (ComponentName → ResultView)) → (compiled : AreCompiled engine asked values pattern) →
+    input_texts input ≡ Ok texts → ¬ IsLongInput input → IsExecuted engine.answer pattern input found →
+    IsFoundByMeaning engine.answer (manner_of asked values compiled.hierarchical) pattern texts found
+
+-- A test is true exactly where there is a match.
+abbrev pub TestsAgree : {E : Type 0} → (answer : E → List ℕ → Option Captures) → Type 0
+TestsAgree {E} answer = (pattern : PatternView E) (input : UrlPatternMatchInput) →
+    HasMatch answer pattern input ↔ ((result : ComponentName → ResultView) × IsMatch answer pattern input result)
+
+-- There is one match.
+abbrev pub MatchesAreOne : {E : Type 0} → (answer : E → List ℕ → Option Captures) → Type 0
+MatchesAreOne {E} answer = (pattern : PatternView E) (input : UrlPatternMatchInput) (result other : ComponentName → ResultView) →
+    IsMatch answer pattern input result → IsMatch answer pattern input other →
+    (component : ComponentName) → IsSameResult (result component) (other component)
+
+-- A test is not false where there is a match, unless a text is longer than `url` is sure to take.
+abbrev pub TestsAreOne : {E : Type 0} → (answer : E → List ℕ → Option Captures) → Type 0
+TestsAreOne {E} answer = (pattern : PatternView E) (input : UrlPatternMatchInput) →
+    HasMatch answer pattern input → HasNoMatch answer pattern input → IsLongInput input
+
+-- What is asked of a component's engine is met by `regex::Regex`, where it took the regular expression.
+abbrev pub RegexMeetsPremises : Type 0
+RegexMeetsPremises = (asked : UrlPatternOptions) (values : Values) (pattern : PatternView Regex) (component : ComponentName) (text : List ℕ) →
+    (compiled : AreCompiled regex_engine asked values pattern) → let manner = manner_of asked values compiled.hierarchical component in
+    RegexPremises manner (pattern component) text → MeaningPremises regex_engine.answer manner (pattern component) text
+
+-- Then the result of a component in a match is that of the first way.
+abbrev pub RegexResultsAreFirst : Type 0
+RegexResultsAreFirst = (asked : UrlPatternOptions) (values : Values) (pattern : PatternView Regex) (input : UrlPatternMatchInput) (texts : Texts)
+    (result : ComponentName → ResultView) (component : ComponentName) →
+    (compiled : AreCompiled regex_engine asked values pattern) → let manner = manner_of asked values compiled.hierarchical component in
+    input_texts input ≡ Ok texts → IsMatch regex_engine.answer pattern input result →
+    RegexPremises manner (pattern component) (at texts component) → IsFirstResult manner (at texts component) (result component)
+
+-- There is one such result.
+abbrev pub FirstResultsAreOne : Type 0
+FirstResultsAreOne = (manner : Manner) (text : List ℕ) (result other : ResultView) →
+    IsFirstResult manner text result → IsFirstResult manner text other → IsSameResult result other

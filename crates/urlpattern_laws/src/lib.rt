@@ -1,0 +1,6 @@
+//! The laws of whole patterns.
+//!
+//! `urlpattern` passes on the module.
+#![tactic(auto)]
+
+pub mod laws;

@@ -1,0 +1,4 @@
+pub mod MatchInputLemmas
+pub mod GroupLemmas
+pub mod NameOrder
+pub mod ResultJsonLemmas

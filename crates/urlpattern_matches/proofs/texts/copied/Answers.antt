@@ -1,0 +1,11 @@
+use Rattle.std.proofs.Common.{◌∙◌, ap}
+use Rattle.urlpattern_matches.specs.GroupTexts.{borrowed_texts}
+use Rattle.urlpattern_syntax.proofs.EightLemmas.{at-each, same_values}
+use Rattle.urlpattern_syntax.specs.Eight.{at, each}
+use Rattle.urlpattern_syntax.specs.Text.{text_of}
+use Rattle.urlpattern_matches.proofs.texts.copied.Goals as goal
+
+pub returns : goal.returns
+returns c =
+    ap (λ texts. each (λ name. text_of (at texts name))) c.from_eight.ensures
+    ∙ same_values _ (borrowed_texts c.args.texts.now) (λ name. at-each (λ other. text_of (at c.in_ok-try_from_fn.field-0 other)) name ∙ (c.in_ok-try_from_fn.ensures.ok name).1)

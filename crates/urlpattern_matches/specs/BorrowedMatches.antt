@@ -1,0 +1,60 @@
+-- A match that is borrowed from the pattern and from what it matches, as a result.
+use Rattle.std.specs.Prelude.{ℕ, List, ◌++◌, map, zip, IfOk, IfSome, Option, Result}
+use Rattle.std.specs.{Borrow.Bor, List.flat_map, Slice.Iter.iter_rest, Str.chars}
+use Rattle.urlpattern_syntax.specs.declared.eight.ComponentName.{ComponentName}
+use Rattle.urlpattern_matches.specs.declared.captures.UrlPatternCaptures.{UrlPatternCaptures}
+use Rattle.urlpattern_matches.specs.declared.captures.groups.UrlPatternCapturesIter.{UrlPatternCapturesIter}
+use Rattle.urlpattern_matches.specs.declared.captures.groups.UrlPatternGroups.{UrlPatternGroups}
+use Rattle.urlpattern_matches.specs.GroupTexts.{captures_of, texts_of}
+use Rattle.urlpattern_matches.specs.ResultViews.{ResultView, group_of}
+use Rattle.urlpattern_syntax.specs.{Text.option_text, Text.text_of, Eight.at}
+
+-- the names of a component's groups
+abbrev pub names_view : UrlPatternCaptures → ComponentName → List (List ℕ)
+names_view found component = map (λ name. text_of name) (at found.names component).now.items
+
+-- the groups of a component in their order: names beside captures
+abbrev pub groups_view : UrlPatternCaptures → ComponentName → List (List ℕ × Option (List ℕ))
+groups_view found component = zip (names_view found component) (captures_of (at found.captures component))
+
+-- ---- groups, one after the other
+
+-- a group: its name beside what it captured
+abbrev pub group_text : Bor (List ℕ) × Option (Bor (List ℕ)) → List ℕ × Option (List ℕ)
+group_text group = (chars group.0.now, option_text group.1)
+
+-- the groups of a component that are left
+abbrev pub groups_left : UrlPatternGroups → List (List ℕ × Option (List ℕ))
+groups_left groups = zip (texts_of (iter_rest groups.names)) (map option_text (iter_rest groups.captures))
+
+-- a group beside the name of its component
+abbrev pub NamedGroup : Type 0
+NamedGroup = ComponentName × List ℕ × Option (List ℕ)
+
+abbrev pub named_group_text : ComponentName × Bor (List ℕ) × Option (Bor (List ℕ)) → NamedGroup
+named_group_text group = (group.0, chars group.1.now, option_text group.2)
+
+abbrev pub named_groups : ComponentName → List (List ℕ × Option (List ℕ)) → List NamedGroup
+named_groups component groups = map (λ group. (component, group.0, group.1)) groups
+
+-- the groups of these components, one component after the other
+abbrev pub all_groups_view : UrlPatternCaptures → List ComponentName → List NamedGroup
+all_groups_view found components = flat_map (λ component. named_groups component (groups_view found component)) components
+
+-- the groups of all components that are left
+abbrev pub all_groups_left : UrlPatternCapturesIter → List NamedGroup
+all_groups_left groups =
+    named_groups groups.component (groups_left groups.groups) ++ all_groups_view groups.captures.now (iter_rest groups.components)
+
+-- ---- results
+
+-- A `UrlPatternCaptures`: the text of each component that was matched, and what its groups have at a name.
+abbrev pub pattern_captures_view : UrlPatternCaptures → ComponentName → ResultView
+pattern_captures_view found component = record {
+  input = chars (at found.texts component).now;
+  group = group_of (names_view found component) (captures_of (at found.captures component));
+}
+
+-- where a match is found, this holds of it
+abbrev pub IfMatch : {Fault : Type 0} → Result (Option UrlPatternCaptures) Fault → (UrlPatternCaptures → Type 0) → Type 0
+IfMatch result Holds = IfOk result (λ found. IfSome found Holds)

@@ -1,0 +1,59 @@
+-- What groups capture, and maps of groups.
+use Rattle.std.specs.Prelude.{◌≡◌, ℕ, List, [], ◌∷◌, map, Option, None, Some, Result, Ok, Err, IfOk, String, string_bytes}
+use Rattle.std.specs.{Borrow.Bor, HashMap.HashMap, Str.chars}
+use Rattle.std.specs.declared.alloc.{AllocError.AllocError, Global.Global}
+use Rattle.urlpattern_syntax.specs.declared.eight.{ComponentName.ComponentName, Eight.Eight}
+use Rattle.urlpattern_matches.specs.declared.{captures.GroupCaptures.GroupCaptures, captures.Missed.Missed}
+use Rattle.urlpattern_matches.specs.declared.captures.GroupCaptures.TheVariants as captured
+use Rattle.urlpattern_matches.specs.declared.captures.Missed.TheVariants as missed
+use Rattle.urlpattern_matches.specs.declared.result.UrlPatternResult.{UrlPatternResult}
+use Rattle.urlpattern_matches.specs.ResultViews.{group_in, group_of, result_view}
+use Rattle.urlpattern_core.specs.Looks.{look_answer, IsAsking}
+use Rattle.urlpattern_core.specs.declared.matcher.look.Look.{Look}
+use Rattle.urlpattern_meaning.specs.PartMeaning.{Captures}
+use Rattle.urlpattern_syntax.specs.Text.{option_text, text_of}
+use Rattle.urlpattern_syntax.specs.Eight.{Texts, at, each}
+
+-- the texts that are lent
+abbrev pub borrowed_texts : Eight (Bor (List ℕ)) → Texts
+borrowed_texts texts = each (λ name. chars (at texts name).now)
+
+-- what the groups of a component capture
+abbrev pub captures_of : GroupCaptures → Captures
+captures_of captured.Nothing = []
+captures_of (captured.One capture) = option_text capture ∷ []
+captures_of (captured.Groups captures) = map option_text captures.items
+
+-- what is captured of what was looked at, where an engine that is asked matches and has memory
+abbrev pub IsCapturedOf : {E : Type 0} → (answer : E → List ℕ → Option Captures) → Look E → Result GroupCaptures Missed → Type 0
+IsCapturedOf answer look (Ok captured) = look_answer answer (Some look) ≡ Some (captures_of captured)
+IsCapturedOf answer look (Err missed.Unmatched) = look_answer answer (Some look) ≡ None
+IsCapturedOf answer look (Err missed.OutOfMemory) = IsAsking look
+
+-- a text is copied, unless memory ran out
+abbrev pub IsTextCopied : List ℕ → Result (String Global) AllocError → Type 0
+IsTextCopied text copied = IfOk copied (λ copy. text_of copy ≡ text)
+
+-- the map has the groups of these names, which capture this, and no others
+abbrev pub AreGroups : {S : Type 0} → (names : List (List ℕ)) → Captures → HashMap (String Global) (Option (String Global)) S → Type 0
+AreGroups names captures groups = (name : List ℕ) → group_in groups name ≡ group_of names captures name
+
+-- the map has no groups
+abbrev pub HasNoGroups : {S : Type 0} → HashMap (String Global) (Option (String Global)) S → Type 0
+HasNoGroups groups = (name : List ℕ) → group_in groups name ≡ None
+
+-- no component of the result has groups
+abbrev pub IsWithoutGroups : UrlPatternResult → Type 0
+IsWithoutGroups result = (component : ComponentName) (name : List ℕ) → (result_view result component).group name ≡ None
+
+-- the bytes that a group captured, if it is there and took part
+abbrev pub captured_bytes : Option (Option (String Global)) → Option (List ℕ)
+captured_bytes (Some (Some text)) = Some (string_bytes text)
+captured_bytes found = None
+
+-- the texts of strings, and the bytes of texts that are lent
+abbrev pub texts_of : List (String Global) → List (List ℕ)
+texts_of strings = map (λ text. text_of text) strings
+
+abbrev pub lent_bytes : List (Bor (List ℕ)) → List (List ℕ)
+lent_bytes texts = map (λ text. text.now) texts

@@ -1,0 +1,5 @@
+pub mod ResultViews
+pub mod GroupTexts
+pub mod BorrowedMatches
+pub mod MatchInput
+pub mod ResultJson

@@ -1,0 +1,92 @@
+-- The JSON of results, in the shape of a browser's `URLPatternResult`: which tree stands for a result, and which trees are read as
+-- which result. Texts are seen as their bytes in UTF-8, which are those of JSON.
+use Rattle.std.specs.Prelude.{◌≡◌, ℕ, Bool, true, ◌&&◌, if◌then◌else◌, List, [], ◌∷◌, Option, None, Some, is_some, String, option_map, string_bytes, codes}
+use Rattle.std.specs.{HashMap.HashMap, HashMap.get_by_text}
+use Rattle.std.specs.declared.alloc.Global.{Global}
+use Rattle.serde_json.specs.Data.{Data, string, Members, no_members, member}
+use Rattle.serde_json.specs.Find.{as_object, as_str, get_member}
+use Rattle.serde_json.specs.declared.value.Value.{Value}
+use Rattle.urlpattern_inputs.specs.Trees.{◌>>=◌, Gain, each_member, found_read, member_read, object_of, read_each, text_read}
+use Rattle.urlpattern_matches.specs.BorrowedMatches.{pattern_captures_view}
+use Rattle.urlpattern_matches.specs.ResultViews.{IsSameResult, result_view, results_of}
+use Rattle.urlpattern_matches.specs.declared.captures.UrlPatternCaptures.{UrlPatternCaptures}
+use Rattle.urlpattern_matches.specs.declared.result.UrlPatternComponentResult.{UrlPatternComponentResult}
+use Rattle.urlpattern_matches.specs.declared.result.UrlPatternResult.{UrlPatternResult}
+use Rattle.urlpattern_syntax.specs.declared.eight.{ComponentName.ComponentName, Eight.Eight}
+use Rattle.urlpattern_syntax.specs.Eight.{at, each, name_text}
+
+-- ---- what a result is
+
+-- what groups have at a name: None where there is no such group, Some None where it took no part
+abbrev pub GroupsByName : Type 0
+GroupsByName = (name : List ℕ) → Option (Option (List ℕ))
+
+-- A `UrlPatternComponentResult`: the text that was matched, and its groups.
+pub record PlainResultView : Type 0 where
+  pub input : List ℕ
+  pub group : GroupsByName
+
+abbrev pub groups_by_name : {S : Type 0} → HashMap (String Global) (Option (String Global)) S → GroupsByName
+groups_by_name groups = λ name. option_map (option_map string_bytes) (get_by_text groups name)
+
+abbrev pub plain_result_view : UrlPatternComponentResult → PlainResultView
+plain_result_view result = record { input = string_bytes result.input; group = groups_by_name result.groups }
+
+abbrev pub plain_results_view : UrlPatternResult → Eight PlainResultView
+plain_results_view result = each (λ name. plain_result_view (at (results_of result) name))
+
+-- ---- what is read
+
+-- what a group captured: a text, or null where it took no part
+abbrev pub captured_read : Data → Option (Option (List ℕ))
+captured_read tree = found_read as_str (Some tree)
+
+-- what an object has at a name, read as what a group captured
+abbrev pub group_member : Members → GroupsByName
+group_member members = λ name. get_member name members >>= captured_read
+
+-- whether each member is a text or null
+abbrev pub are_captures : Members → Bool
+are_captures no_members = true
+are_captures (member name tree rest) = is_some (captured_read tree) && are_captures rest
+
+-- the groups of an object: its members, if each is a text or null
+abbrev pub groups_of_members : Members → Option GroupsByName
+groups_of_members members = if are_captures members then Some (group_member members) else None
+
+unfoldable pub groups_read : Data → Option GroupsByName
+groups_read tree = as_object tree >>= groups_of_members
+
+unfoldable pub component_result_read : Data → Option PlainResultView
+component_result_read tree = do
+  input ← text_read (codes "input") tree
+  group ← member_read groups_read (codes "groups") tree
+  Some (record { input = input; group = group })
+
+abbrev pub result_read : Data → Option (Eight PlainResultView)
+result_read tree = read_each (λ name. member_read component_result_read (name_text name) tree)
+
+-- ---- the trees
+
+-- the tree of a component's result: an object with its text as `input`, and as `groups` an object with its groups, and no other
+-- members
+abbrev pub IsComponentTree : PlainResultView → Data → Type 0
+IsComponentTree result tree =
+    (groups : Data) × (groups_read groups ≡ Some result.group)
+    × (tree ≡ object_of ((codes "input", Some (string result.input)) ∷ (codes "groups", Some groups) ∷ []))
+
+-- the tree of a result: an object with the tree of each component's result
+abbrev pub IsResultTree : Eight PlainResultView → Data → Type 0
+IsResultTree result tree =
+    (components : Eight Data) × ((name : ComponentName) → IsComponentTree (at result name) (at components name))
+    × (tree ≡ object_of (each_member (λ name. Some (at components name))))
+
+-- the tree of a match that is borrowed: that of a result with its texts and groups
+abbrev pub IsTreeOfCaptures : UrlPatternCaptures → Data → Type 0
+IsTreeOfCaptures found tree =
+    (result : UrlPatternResult) × ((name : ComponentName) → IsSameResult (result_view result name) (pattern_captures_view found name))
+    × IsResultTree (plain_results_view result) tree
+
+-- an object's entries gain, at a name, the tree of a component's result
+abbrev pub GainsComponent : (before after : List (String Global × Value)) → (name : List ℕ) → PlainResultView → Type 0
+GainsComponent before after name result = (tree : Data) × IsComponentTree result tree × Gain before after name (Some tree)

@@ -1,0 +1,13 @@
+//! The law of the JSON of results: what a result is written as is read as that result.
+//!
+//! The function here does nothing; what it promises is a theorem.
+ghost use Rattle.std.specs.Prelude.{◌≡◌, Some};
+ghost use Rattle.serde_json.specs.Data.{Data};
+ghost use Rattle.urlpattern_matches.specs.ResultJson.{component_result_read, result_read, IsComponentTree, IsResultTree, PlainResultView};
+ghost use Rattle.urlpattern_syntax.specs.declared.eight.Eight.{Eight};
+
+/// The tree of a result is read as this result, that of a component's result too.
+pub fn results_are_read_back()
+    ensures component { (result : PlainResultView) (tree : Data) → IsComponentTree result tree → component_result_read tree ≡ Some result }
+    ensures result { (result : Eight PlainResultView) (tree : Data) → IsResultTree result tree → result_read tree ≡ Some result }
+{}

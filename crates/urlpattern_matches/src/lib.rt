@@ -1,0 +1,21 @@
+//! What a pattern is matched against, and what its groups captured: the eight texts of an input, captures, and results.
+//!
+//! `urlpattern` passes on the types, and `parse_match_input` in its module `quirks`. The other functions are for the calls of
+//! `urlpattern_pattern`.
+#![tactic(auto)]
+
+mod captures;
+mod groups;
+mod json;
+pub mod laws;
+mod match_input;
+mod result;
+mod texts;
+
+pub use captures::{
+    GroupCaptures, Missed, UrlPatternCaptures, UrlPatternCapturesIter, UrlPatternGroups,
+    captures_from,
+};
+pub use match_input::parse_match_input;
+pub use result::{UrlPatternComponentResult, UrlPatternResult};
+pub use texts::{input_texts, pathname_texts, url_texts};

@@ -1,0 +1,62 @@
+//! The texts that a pattern is matched against.
+ghost use Rattle.std.specs.Prelude.{◌≡◌, [], Ok, option_map, unwrap_or, MatchOption, IfOk};
+ghost use Rattle.urlpattern_syntax.specs.Errors.{OnlyOutOfMemory};
+ghost use Rattle.urlpattern_syntax.specs.Text.{text_of};
+ghost use Rattle.urlpattern_init.specs.Inheritance.{texts_of_url, texts_of_values, values_of};
+ghost use Rattle.urlpattern_matches.specs.MatchInput.{IsNoInput, input_texts, texts_view};
+
+use crate::texts::{copied, url_texts};
+use std::alloc::{AllocError, Global};
+use url::Url;
+use urlpattern_canonical::canonicalize_and_process::ProcessType;
+use urlpattern_core::Error;
+use urlpattern_init::{UrlPatternMatchInput, process_values};
+use urlpattern_inputs::MatchInput;
+use urlpattern_syntax::eight::Eight;
+
+/// The texts of a URL.
+fn of_url(alloc: Global, url: &Url) -> Result<MatchInput, AllocError>
+    ensures { IfOk result (λ texts. texts_view texts ≡ texts_of_url url.now) }
+{
+    copied(alloc, &url_texts(url))
+}
+
+/// The texts of an init's values.
+fn of_values(alloc: Global, values: Eight<Option<String>>) -> MatchInput
+    ensures { texts_view result ≡ texts_of_values (values_of values) }
+{
+    let text = |value: Option<String>| -> String
+        ensures { text_of result ≡ unwrap_or (option_map text_of value) [] }
+    { text_or_empty(alloc, value) };
+    MatchInput::from_eight(values.map(text))
+}
+
+/// The text, or the empty one.
+fn text_or_empty(alloc: Global, text: Option<String>) -> String
+    ensures { text_of result ≡ unwrap_or (option_map text_of text) [] }
+{
+    text.unwrap_or(String::new(alloc))
+}
+
+/// The texts of an input, with what an init inherits from its base URL. `None`: `url` refuses one of them.
+///
+/// The error is that memory ran out.
+///
+/// <https://urlpattern.spec.whatwg.org/#url-pattern-match>
+pub fn parse_match_input(
+    alloc: Global,
+    input: UrlPatternMatchInput,
+) -> Result<Option<MatchInput>, Error>
+    ensures found { IfOk result (λ found. MatchOption found (IsNoInput input)
+        (λ texts. input_texts input ≡ Ok (texts_view texts))) }
+    ensures memory { OnlyOutOfMemory result }
+{
+    match input {
+        UrlPatternMatchInput::Url(url) => Ok(Some(of_url(alloc, &url)?)),
+        UrlPatternMatchInput::Init(init) => match process_values(alloc, &init, &ProcessType::Url) {
+            Ok(values) => Ok(Some(of_values(alloc, values))),
+            Err(Error::Url(_)) => Ok(None),
+            Err(error) => Err(error),
+        },
+    }
+}

@@ -1,0 +1,170 @@
+//! The result of a match: the text of each component, and what its groups capture.
+ghost use Rattle.std.specs.Cmp.Lexicographic.{slice_cmp};
+ghost use Rattle.std.specs.HashMap.{IsUnique, get_by_text, keys};
+ghost use Rattle.std.specs.Ordering.{nat_cmp};
+ghost use Rattle.std.specs.Prelude.{◌≡◌, map, option_copied, string_bytes, string_eq, IfOk, IsPermutation, IsSorted};
+ghost use Rattle.std.specs.Str.{chars};
+ghost use Rattle.urlpattern_matches.specs.GroupTexts.{captured_bytes, lent_bytes, texts_of, AreGroups, HasNoGroups, IsWithoutGroups};
+ghost use Rattle.urlpattern_matches.specs.ResultViews.{captured_text, component_result_view, result_view, results_of};
+ghost use Rattle.urlpattern_syntax.specs.Eight.{at};
+ghost use Rattle.urlpattern_syntax.specs.Errors.{OnlyOutOfMemory};
+ghost use Rattle.urlpattern_syntax.specs.Text.{text_of, option_text};
+
+use crate::groups::{Groups, add_groups};
+use std::alloc::{AllocError, Global};
+use std::collections::HashMap;
+use urlpattern_core::Error;
+use urlpattern_core::error::OutOfMemory;
+use urlpattern_syntax::eight::{ComponentName, Eight};
+use urlpattern_syntax::{field_of, with_fields};
+
+/// The result of a match, for each component.
+///
+/// <https://urlpattern.spec.whatwg.org/#dictdef-urlpatternresult>
+#[derive(Debug, Clone, PartialEq, Eq, Drop)]
+pub struct UrlPatternResult {
+    /// The result of the scheme.
+    pub protocol: UrlPatternComponentResult,
+    /// The result of the user name.
+    pub username: UrlPatternComponentResult,
+    /// The result of the password.
+    pub password: UrlPatternComponentResult,
+    /// The result of the host.
+    pub hostname: UrlPatternComponentResult,
+    /// The result of the port.
+    pub port: UrlPatternComponentResult,
+    /// The result of the path.
+    pub pathname: UrlPatternComponentResult,
+    /// The result of the query.
+    pub search: UrlPatternComponentResult,
+    /// The result of the fragment.
+    pub hash: UrlPatternComponentResult,
+}
+
+/// The result of a match for one component.
+///
+/// <https://urlpattern.spec.whatwg.org/#dictdef-urlpatterncomponentresult>
+#[derive(Debug, Clone, PartialEq, Eq, Drop)]
+pub struct UrlPatternComponentResult {
+    /// The component's text, which was matched.
+    pub input: String,
+    /// What the groups capture, by their names. A group that took no part has `None`, and of equal names the last counts.
+    pub groups: HashMap<String, Option<String>>,
+}
+
+/// The result of empty texts that have no groups. It does not allocate.
+pub(crate) fn empty_result(alloc: Global) -> UrlPatternResult
+    ensures { IsWithoutGroups result }
+{
+    UrlPatternResult {
+        protocol: UrlPatternComponentResult::empty(alloc),
+        username: UrlPatternComponentResult::empty(alloc),
+        password: UrlPatternComponentResult::empty(alloc),
+        hostname: UrlPatternComponentResult::empty(alloc),
+        port: UrlPatternComponentResult::empty(alloc),
+        pathname: UrlPatternComponentResult::empty(alloc),
+        search: UrlPatternComponentResult::empty(alloc),
+        hash: UrlPatternComponentResult::empty(alloc),
+    }
+}
+
+impl UrlPatternResult {
+    /// The result of these components.
+    pub fn from_eight(components: Eight<UrlPatternComponentResult>) -> Self
+        ensures { results_of result ≡ components }
+    {
+        with_fields!(Self, components)
+    }
+
+    /// The results of the components.
+    pub fn into_eight(self) -> Eight<UrlPatternComponentResult>
+        ensures { result ≡ results_of self }
+    {
+        with_fields!(Eight, self)
+    }
+
+    /// The result of a component.
+    pub fn component(&self, component: ComponentName) -> &UrlPatternComponentResult
+        ensures { result.now ≡ at (results_of self.now) component }
+    {
+        field_of!(self, component)
+    }
+
+    /// What the group of a name captured. `None`: there is no such group, or it took no part.
+    pub fn get(&self, component: ComponentName, name: &str) -> Option<&str>
+        ensures { option_text result ≡ captured_text (result_view self.now component) (chars name.now) }
+    {
+        self.component(component).get(name)
+    }
+}
+
+impl UrlPatternComponentResult {
+    /// What the group of a name captured. `None`: there is no such group, or it took no part.
+    pub fn get(&self, name: &str) -> Option<&str>
+        ensures { option_text result ≡ captured_text (component_result_view self.now) (chars name.now) }
+    {
+        capture_of(&self.groups, name)
+    }
+
+    /// The names of the groups, in the order of their bytes.
+    ///
+    /// The error is that memory ran out.
+    pub fn sorted_names(&self, alloc: Global) -> Result<Vec<&str>, Error>
+        ensures differ { IfOk result (λ names. IsUnique string_eq self.now.groups) }
+        ensures all { IfOk result (λ names. IsPermutation (map (λ name. string_bytes name) (keys self.now.groups)) (lent_bytes names.items)) }
+        ensures in_order { IfOk result (λ names. IsSorted (slice_cmp nat_cmp) (lent_bytes names.items)) }
+        ensures memory { OnlyOutOfMemory result }
+    {
+        let mut names = names_of(alloc, &self.groups)?;
+        names.sort_unstable();
+        Ok(names)
+    }
+
+    /// The result of the empty text that has no groups. It does not allocate.
+    fn empty(alloc: Global) -> Self
+        ensures { HasNoGroups result.groups }
+    {
+        Self {
+            input: String::new(alloc),
+            groups: HashMap::new(alloc),
+        }
+    }
+
+    /// Takes a copy of a text, and copies of what the groups with these names capture of it.
+    pub(crate) fn fill(
+        &mut self,
+        alloc: Global,
+        text: &str,
+        names: &[String],
+        captures: &[Option<&str>],
+    ) -> Result<(), OutOfMemory>
+        requires { HasNoGroups self.old.groups }
+        ensures input { IfOk result (λ _. text_of self.new.input ≡ chars text.now) }
+        ensures groups { IfOk result (λ _. AreGroups (texts_of names.now) (map option_text captures.now) self.new.groups) }
+    {
+        self.input = String::from_str(alloc, text)?;
+        add_groups(alloc, &mut self.groups, names, captures)
+    }
+}
+
+/// The names of groups.
+fn names_of(alloc: Global, groups: &Groups) -> Result<Vec<&str>, AllocError>
+    ensures all { IfOk result (λ names. lent_bytes names.items ≡ map (λ name. string_bytes name) (keys groups.now)) }
+    ensures differ { IfOk result (λ names. IsUnique string_eq groups.now) }
+{
+    let mut names = Vec::with_capacity(alloc, groups.len())?;
+    for name in groups.keys() {
+        names.push(name.as_str())?;
+    }
+    Ok(names)
+}
+
+/// What the group of a name captured, if it is there and took part.
+fn capture_of<'a>(groups: &'a Groups, name: &str) -> Option<&'a str>
+    ensures { option_copied result ≡ captured_bytes (get_by_text groups.now name.now) }
+{
+    match groups.get(name) {
+        Some(Some(capture)) => Some(capture),
+        _ => None,
+    }
+}

@@ -1,0 +1,60 @@
+//! The texts of what is matched, borrowed.
+ghost use Rattle.std.specs.Prelude.{◌≡◌, IfOk};
+ghost use Rattle.std.specs.Str.{chars};
+ghost use Rattle.urlpattern_init.specs.Inheritance as inherited;
+ghost use Rattle.urlpattern_init.specs.Inheritance.{texts_of_url};
+ghost use Rattle.urlpattern_matches.specs.MatchInput.{pathname_alone, texts_view};
+ghost use Rattle.urlpattern_matches.specs.GroupTexts.{borrowed_texts, IsTextCopied};
+ghost use Rattle.urlpattern_syntax.specs.Eight.{at};
+
+use std::alloc::{AllocError, Global};
+use url::Url;
+use urlpattern_init::url_text;
+use urlpattern_inputs::MatchInput;
+use urlpattern_syntax::eight::{ComponentName, Eight};
+
+/// The eight texts of a URL, borrowed: what it has for each component, without the marks between them.
+pub fn url_texts(url: &Url) -> Eight<&str>
+    ensures { borrowed_texts result ≡ texts_of_url url.now }
+{
+    let text = |name: ComponentName| -> &str
+        ensures { chars result.now ≡ inherited.url_text name url.entry.now }
+    { url_text(url, name) };
+    Eight::from_fn(text)
+}
+
+/// The eight texts of a path alone: the others are empty. The path is not made canonical.
+pub fn pathname_texts(pathname: &str) -> Eight<&str>
+    ensures { borrowed_texts result ≡ pathname_alone (chars pathname.now) }
+{
+    Eight {
+        protocol: "",
+        username: "",
+        password: "",
+        hostname: "",
+        port: "",
+        pathname,
+        search: "",
+        hash: "",
+    }
+}
+
+/// The texts of an input that has its own.
+pub fn input_texts(input: &MatchInput) -> Eight<&str>
+    ensures { borrowed_texts result ≡ texts_view input.now }
+{
+    let text = |name: ComponentName| -> &str
+        ensures { chars result.now ≡ at (texts_view input.entry.now) name }
+    { input.get(name) };
+    Eight::from_fn(text)
+}
+
+/// Copies of texts.
+pub(crate) fn copied(alloc: Global, texts: &Eight<&str>) -> Result<MatchInput, AllocError>
+    ensures { IfOk result (λ copies. texts_view copies ≡ borrowed_texts texts.now) }
+{
+    let copy = |name: ComponentName| -> Result<String, AllocError>
+        ensures { IsTextCopied (at (borrowed_texts texts.entry.now) name) result }
+    { String::from_str(alloc, *texts.get(name)) };
+    Ok(MatchInput::from_eight(Eight::try_from_fn(copy)?))
+}

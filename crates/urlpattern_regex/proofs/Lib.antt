@@ -1,0 +1,15 @@
+pub mod WayAnswers
+pub mod GroupSlots
+pub mod LoopAttempts
+pub mod TreeAttempts
+pub mod TreeSearch
+pub mod AtomsRead
+pub mod ItemsRead
+pub mod TreeTextsRead
+pub mod TreesRead
+pub mod GroupsRefused
+pub mod TreeDepths
+pub mod Bytes
+pub mod RegexWays
+pub mod RegexMatchers
+pub mod PartDepths

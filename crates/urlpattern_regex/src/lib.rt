@@ -1,0 +1,4 @@
+//! What the crate `regex` answers as an engine: the first way of each generated regular expression.
+#![tactic(auto)]
+
+pub mod laws;
