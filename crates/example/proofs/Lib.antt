@@ -1,3 +1,3 @@
-mod Captured
-mod Copies
-mod UserUrls
+pub mod Captured
+pub mod Copies
+pub mod UserUrls

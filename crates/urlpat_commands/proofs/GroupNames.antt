@@ -18,7 +18,7 @@ use Rattle.urlpat_commands.specs.Report.{group_line}
 use Rattle.urlpattern.specs.BorrowedMatches.{pattern_captures_view, groups_view}
 use Rattle.urlpattern.specs.ResultViews.{ResultView}
 use Rattle.urlpattern.specs.Text.{text_of}
-use Rattle.urlpattern_syntax.specs.declared.eight.ComponentName.{ComponentName}
+use Rattle.urlpattern_eight.specs.declared.eight.ComponentName.{ComponentName}
 use Rattle.urlpattern.specs.UrlPatternCaptures.{UrlPatternCaptures}
 
 -- ---- names that are gathered

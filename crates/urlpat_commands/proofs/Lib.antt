@@ -1,6 +1,6 @@
-mod AnswerExamples
-mod GroupNames
-mod AnswerLemmas
-mod FirstLemmas
-mod ShortLemmas
-mod FilterLemmas
+pub mod AnswerExamples
+pub mod GroupNames
+pub mod AnswerLemmas
+pub mod FirstLemmas
+pub mod ShortLemmas
+pub mod FilterLemmas

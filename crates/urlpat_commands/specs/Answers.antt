@@ -36,7 +36,7 @@ use Rattle.urlpattern.specs.RegexpText.{group_names, regexp_text}
 use Rattle.urlpattern.specs.RoundTrip.{IsPrintable, ReadsBack}
 use Rattle.urlpattern_engine.specs.PatternRegexps.{pattern_answer, pattern_engine}
 use Rattle.urlpattern_engine.specs.declared.pattern_regexp.PatternRegexp.{PatternRegexp}
-use Rattle.urlpattern_syntax.specs.declared.eight.ComponentName.{ComponentName}
+use Rattle.urlpattern_eight.specs.declared.eight.ComponentName.{ComponentName}
 use Rattle.urlpattern_init.specs.declared.init.UrlPatternMatchInput.TheVariants as match_inputs
 use Rattle.urlpattern_inputs.specs.declared.options.UrlPatternOptions.{UrlPatternOptions}
 use Rattle.urlpattern_syntax.specs.declared.error.Error.{Error}

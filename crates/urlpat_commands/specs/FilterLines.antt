@@ -12,7 +12,7 @@ use Rattle.urlpattern.specs.Patterns.{PatternView}
 use Rattle.urlpattern_engine.specs.PatternRegexps.{pattern_answer}
 use Rattle.urlpattern_engine.specs.declared.pattern_regexp.PatternRegexp.{PatternRegexp}
 use Rattle.urlpattern_init.specs.declared.init.UrlPatternMatchInput.TheVariants as match_inputs
-use Rattle.urlpattern_syntax.specs.declared.eight.ComponentName.{ComponentName}
+use Rattle.urlpattern_eight.specs.declared.eight.ComponentName.{ComponentName}
 
 -- the bytes that the groups of a result captured
 abbrev pub captures_of : (ComponentName → ResultView) → Captured

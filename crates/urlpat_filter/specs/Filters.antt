@@ -8,7 +8,7 @@ use Rattle.urlpat_lines.specs.declared.answers.Verdict.{Verdict}
 use Rattle.urlpat_lines.specs.declared.answers.Verdict.TheVariants as verdicts
 use Rattle.urlpat_words.specs.declared.query.Shape.{Shape}
 use Rattle.urlpat_words.specs.declared.query.Shape.TheVariants as shapes
-use Rattle.urlpattern_syntax.specs.declared.eight.ComponentName.{ComponentName}
+use Rattle.urlpattern_eight.specs.declared.eight.ComponentName.{ComponentName}
 
 -- what the groups of a match captured, by component and name
 abbrev pub Captured : Type 0

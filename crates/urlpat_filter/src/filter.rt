@@ -3,7 +3,7 @@ ghost use Rattle.std.specs.Prelude.{◌≡◌, ℕ, List, Option, IfOk, IfSome, 
 ghost use Rattle.std.specs.Io.KnownBytes.{Appends};
 ghost use Rattle.urlpat_filter.specs.Filters.{AnswersMatched, AnswersUnmatched, FilterAnswers, FiltersText, GetsPiece, IsOutcome, asked_shape, count_line};
 ghost use Rattle.urlpat_lines.specs.Answers.{selected_by};
-ghost use Rattle.urlpattern_syntax.specs.declared.eight.ComponentName.{ComponentName};
+ghost use Rattle.urlpattern_eight.specs.declared.eight.ComponentName.{ComponentName};
 
 use std::alloc::{AllocError, Global};
 use std::io;

@@ -3,7 +3,7 @@ use Rattle.std.specs.Prelude.{◌≡◌, ◌⊎◌, ℕ, Bool, true, false, List
 use Rattle.urlpat_words.specs.declared.query.Query.{Query}
 use Rattle.urlpat_words.specs.declared.query.Shape.{Shape}
 use Rattle.urlpat_words.specs.declared.query.Shape.TheVariants as shapes
-use Rattle.urlpattern_syntax.specs.Eight.{name_text}
+use Rattle.urlpattern_eight.specs.Eight.{name_text}
 
 -- the word is the name of a component, a dot and the name of a group
 abbrev pub NamesGroup : (word : List ℕ) → Bool × Shape → Type 0

@@ -5,7 +5,7 @@ ghost use Rattle.urlpat_words.specs.Queries.{AreFilterWords, IsAskedBy, IsAskedB
 ghost use Rattle.urlpat_words.specs.Words.{words_view};
 
 use crate::help::asks_for_help;
-use urlpattern_syntax::eight::ComponentName;
+use urlpattern_eight::ComponentName;
 
 /// What is printed of a line that is looked for.
 #[derive(Clone, Copy)]

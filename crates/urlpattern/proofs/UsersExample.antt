@@ -22,14 +22,14 @@ use Rattle.urlpattern_syntax.proofs.PieceExamples.{PieceCut, bare, ends, piece, 
 use Rattle.urlpattern_syntax.proofs.ReadingExamples.{named}
 use Rattle.urlpattern_syntax.proofs.RegexpTextExamples.{group}
 use Rattle.urlpattern_syntax.proofs.TokenExamples.{no, token, users_front, users_tokens}
-use Rattle.urlpattern_syntax.specs.Eight.{Values}
+use Rattle.urlpattern_eight.specs.Eight.{Values}
 use Rattle.urlpattern_syntax.specs.Options.{OptionsView, default_options, hostname_options, pathname_options}
 use Rattle.urlpattern_syntax.specs.Parts.{PartView, fixed_text}
 use Rattle.urlpattern_syntax.specs.Pieces.{Bare, Piece, Stops, Text}
 use Rattle.urlpattern_syntax.specs.Reading.{AreParts, Reads, items_of}
 use Rattle.urlpattern_syntax.specs.RegexpText.{escaped}
-use Rattle.urlpattern_syntax.specs.declared.eight.ComponentName.{ComponentName}
-use Rattle.urlpattern_syntax.specs.declared.eight.ComponentName.TheVariants.{Protocol, Username, Password, Hostname, Port, Pathname, Search, Hash}
+use Rattle.urlpattern_eight.specs.declared.eight.ComponentName.{ComponentName}
+use Rattle.urlpattern_eight.specs.declared.eight.ComponentName.TheVariants.{Protocol, Username, Password, Hostname, Port, Pathname, Search, Hash}
 use Rattle.urlpattern_syntax.specs.declared.parser.PartModifier.TheVariants as modifiers
 use Rattle.urlpattern_syntax.specs.declared.parser.PartType.TheVariants.{SegmentWildcard}
 use Rattle.urlpattern_syntax.specs.declared.parser.RegexSyntax.TheVariants.{Rust}

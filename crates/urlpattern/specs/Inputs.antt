@@ -17,7 +17,8 @@ use Rattle.urlpattern_inputs.specs.InputValues.{plain_init_texts, input_view}
 pub use Rattle.urlpattern_create.specs.FromString.{RefusesText, parsed_base, text_bytes}
 use Rattle.urlpattern_create.specs.FromString.{IsInitOfText}
 use Rattle.urlpattern_syntax.specs.Errors.{ErrorView, ErrorView as views}
-use Rattle.urlpattern_syntax.specs.{Text.text_of, Eight.Values}
+use Rattle.urlpattern_syntax.specs.Text.{text_of}
+use Rattle.urlpattern_eight.specs.Eight.{Values}
 
 -- ---- URLs: texts are their bytes
 

@@ -57,10 +57,10 @@ pub use Rattle.urlpattern_readings.specs.Readings
 pub use Rattle.urlpattern_rules.specs.Comparing
 pub use Rattle.urlpattern_rules.specs.Order
 pub use Rattle.urlpattern_rules.specs.declared.pattern.PatternParts
-pub use Rattle.urlpattern_syntax.specs.Eight
+pub use Rattle.urlpattern_eight.specs.Eight
 pub use Rattle.urlpattern_syntax.specs.ErrorText
 pub use Rattle.urlpattern_syntax.specs.Errors
-pub use Rattle.urlpattern_syntax.specs.NamedValues
+pub use Rattle.urlpattern_eight.specs.NamedValues
 pub use Rattle.urlpattern_syntax.specs.Options
 pub use Rattle.urlpattern_syntax.specs.Parsing
 pub use Rattle.urlpattern_syntax.specs.Parts
@@ -81,7 +81,7 @@ pub use Rattle.urlpattern_pattern.specs.declared.pattern.UrlPattern
 pub use Rattle.urlpattern_matches.specs.declared.captures.UrlPatternCaptures
 pub use Rattle.urlpattern_matches.specs.declared.result.UrlPatternComponentResult
 pub use Rattle.urlpattern_matches.specs.declared.result.UrlPatternResult
-pub use Rattle.urlpattern_syntax.specs.declared.eight.ComponentName
+pub use Rattle.urlpattern_eight.specs.declared.eight.ComponentName
 pub use Rattle.urlpattern_syntax.specs.declared.error.Error
 pub use Rattle.urlpattern_syntax.specs.declared.error.ParserError
 pub use Rattle.urlpattern_syntax.specs.declared.parser.Options as ParserOptions

@@ -10,7 +10,9 @@ use Rattle.urlpattern_compiled.specs.declared.pattern.{UrlPatternComponent.UrlPa
 use Rattle.urlpattern_core.specs.declared.regexp.RegExp.{Ghosts as Engine}
 use Rattle.urlpattern_init.specs.declared.init.UrlPatternInit.{UrlPatternInit}
 use Rattle.urlpattern_inputs.specs.declared.options.UrlPatternOptions.{UrlPatternOptions}
-use Rattle.urlpattern_syntax.specs.{Eight.each, Text.text_of, Errors.OnlyOutOfMemory}
+use Rattle.urlpattern_eight.specs.Eight.{each}
+use Rattle.urlpattern_syntax.specs.Text.{text_of}
+use Rattle.urlpattern_syntax.specs.Errors.{OnlyOutOfMemory}
 use Rattle.urlpattern_syntax.specs.declared.error.Error.{Error}
 
 -- the plain value of a component is this, unless memory ran out

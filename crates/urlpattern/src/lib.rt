@@ -24,4 +24,4 @@ pub use urlpattern_matches::{
     UrlPatternResult, pathname_texts, url_texts,
 };
 pub use urlpattern_pattern::UrlPattern;
-pub use urlpattern_syntax::eight::{ComponentName, Eight};
+pub use urlpattern_eight::{ComponentName, Eight};

@@ -8,7 +8,7 @@ use Rattle.urlpattern_inputs.specs.declared.reading.Unread.TheVariants.{OutOfMem
 use Rattle.urlpattern_inputs.proofs.EachLemmas.{nothing}
 use Rattle.urlpattern_compiled.specs.Json.{component_read, pattern_read}
 use Rattle.urlpattern_compiled.specs.Values.{PlainPatternView}
-use Rattle.urlpattern_syntax.specs.Eight.{name_text}
+use Rattle.urlpattern_eight.specs.Eight.{name_text}
 
 pub pattern_from : (tree : Data) (pattern : PlainPatternView)
     → read_each (λ name. member_read component_read (name_text name) tree) ≡ Some pattern.components

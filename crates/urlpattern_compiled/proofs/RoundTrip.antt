@@ -10,9 +10,9 @@ use Rattle.urlpattern_compiled.specs.Values.{PlainComponentView, HasFilter, HasF
 use Rattle.urlpattern_compiled.proofs.PatternLemmas.{pattern_from}
 use Rattle.urlpattern_inputs.specs.Trees.{found_read, flag_read, member_read, optional_read, text_read}
 use Rattle.urlpattern_inputs.proofs.EachLemmas.{read_each-all}
-use Rattle.urlpattern_syntax.specs.Eight.{at, name_text}
-use Rattle.urlpattern_syntax.specs.declared.eight.ComponentName.{ComponentName}
-use Rattle.urlpattern_syntax.specs.declared.eight.ComponentName.TheVariants.{Protocol}
+use Rattle.urlpattern_eight.specs.Eight.{at, name_text}
+use Rattle.urlpattern_eight.specs.declared.eight.ComponentName.{ComponentName}
+use Rattle.urlpattern_eight.specs.declared.eight.ComponentName.TheVariants.{Protocol}
 use Rattle.urlpattern_syntax.proofs.StringTexts.{chars-encode}
 
 -- ---- matchers

@@ -6,7 +6,7 @@ use Rattle.serde_json.specs.Find.{as_array, as_str}
 use Rattle.serde_json.specs.View.{items_of}
 use Rattle.urlpattern_inputs.specs.Trees.{◌>>=◌, each_member, flag_read, member_read, object_of, optional_read, read_each, text_read}
 use Rattle.urlpattern_compiled.specs.Values.{PlainComponentView, PlainInnerView, PlainMatcherView, PlainPatternView, literal, single_capture, regexp}
-use Rattle.urlpattern_syntax.specs.Eight.{at, name_text}
+use Rattle.urlpattern_eight.specs.Eight.{at, name_text}
 
 -- ---- the trees
 

@@ -3,8 +3,9 @@ use Rattle.std.specs.Prelude.{ℕ, Bool, List, Option, map, IfSome, ⊤, String,
 use Rattle.std.specs.Char.{IsScalar}
 use Rattle.std.specs.declared.alloc.Global.{Global}
 use Rattle.urlpattern_compiled.specs.declared.{matcher.InnerMatcher.InnerMatcher, matcher.Matcher.Matcher, pattern.UrlPattern.UrlPattern, pattern.UrlPatternComponent.UrlPatternComponent}
-use Rattle.urlpattern_syntax.specs.declared.eight.{ComponentName.ComponentName, Eight.Eight}
-use Rattle.urlpattern_syntax.specs.Eight.{at, each}
+use Rattle.urlpattern_eight.specs.declared.eight.ComponentName.{ComponentName}
+use Rattle.urlpattern_eight.specs.declared.eight.Eight.{Eight}
+use Rattle.urlpattern_eight.specs.Eight.{at, each}
 
 -- ---- what a pattern is
 

@@ -9,7 +9,7 @@ ghost use Rattle.urlpattern_inputs.specs.InputValues.{InitView, InputView};
 ghost use Rattle.urlpattern_inputs.specs.Trees.{IsReadBack};
 ghost use Rattle.urlpattern_compiled.specs.Json.{component_read, component_tree, inner_read, inner_tree, matcher_read, matcher_tree, pattern_read, pattern_tree};
 ghost use Rattle.urlpattern_compiled.specs.Values.{PlainComponentView, HasFilter, HasFilters, PlainInnerView, PlainMatcherView, PlainPatternView};
-ghost use Rattle.urlpattern_syntax.specs.declared.eight.Eight.{Eight};
+ghost use Rattle.urlpattern_eight.specs.declared.eight.Eight.{Eight};
 
 /// The tree of a value is read as this value. A filter has to be a character, as it is in each value of a program.
 pub fn reading_undoes_writing()

@@ -8,7 +8,9 @@ ghost use Rattle.urlpattern_compiled.specs.Plain.{plain_component};
 ghost use Rattle.urlpattern_inputs.specs.ReadResults.{ReturnsRead};
 ghost use Rattle.urlpattern_inputs.specs.Trees.{Gain, member_read};
 ghost use Rattle.urlpattern_compiled.specs.Values.{component_by, component_patterns, plain_component_view, plain_matcher_view, plain_pattern_view};
-ghost use Rattle.urlpattern_syntax.specs.{Eight.at, Errors.OnlyOutOfMemory, Text.text_of};
+ghost use Rattle.urlpattern_eight.specs.Eight.{at};
+ghost use Rattle.urlpattern_syntax.specs.Errors.{OnlyOutOfMemory};
+ghost use Rattle.urlpattern_syntax.specs.Text.{text_of};
 
 use crate::matcher::{Matcher, engine_text};
 use crate::reading::texts_field;
@@ -21,8 +23,7 @@ use urlpattern_core::component::Component;
 use urlpattern_core::regexp::RegExp;
 use urlpattern_inputs::reading::{Unread, flag_field, member, read_or_none, text_field};
 use urlpattern_inputs::writing::put_text;
-use urlpattern_syntax::eight::{ComponentName, Eight};
-use urlpattern_syntax::{field_of, with_fields};
+use urlpattern_eight::{ComponentName, Eight, field_of, with_fields};
 
 /// A pattern for each of a URL's components.
 #[derive(Debug, Clone, PartialEq, Eq, Drop, Serialize, Deserialize)]

@@ -11,10 +11,10 @@ use Rattle.std.proofs.lemmas.Str.{IsUtf8-string_bytes}
 use Rattle.urlpattern_meaning.proofs.Encodings.{Weakens, reads_weaker, refuses_weaker}
 use Rattle.urlpattern_create.specs.Compiled.{AreCompiled, EachIsCompiled, FirstRefused, HasEngine, IsComponentCompiled, IsPathKind, IsComponentRefused, IsPatternOfInit, IsRefusedFrom, Manner, RefusesInit, RefusesValues, after_protocol, has_default_port, is_ipv6_pattern, is_mark, is_same, manner_of, pattern_values, without_default_port}
 use Rattle.urlpattern_create.specs.PatternViews.{IfComponents}
-use Rattle.urlpattern_syntax.specs.declared.eight.ComponentName.{ComponentName as Names}
-use Rattle.urlpattern_syntax.specs.declared.eight.ComponentName.TheVariants.{Protocol}
+use Rattle.urlpattern_eight.specs.declared.eight.ComponentName.{ComponentName as Names}
+use Rattle.urlpattern_eight.specs.declared.eight.ComponentName.TheVariants.{Protocol}
 use Rattle.urlpattern_init.specs.declared.init.UrlPatternInit.{UrlPatternInit}
-use Rattle.urlpattern_syntax.specs.declared.eight.Eight.{Eight}
+use Rattle.urlpattern_eight.specs.declared.eight.Eight.{Eight}
 use Rattle.urlpattern_inputs.specs.declared.options.UrlPatternOptions.{UrlPatternOptions}
 use Rattle.urlpattern_canonical.proofs.MarkLemmas.{bytes_eq-chars}
 use Rattle.urlpattern_canonical.specs.Canonical.{default_port, is_special, without_first}
@@ -27,7 +27,7 @@ use Rattle.urlpattern_syntax.specs.Options.{OptionsView}
 use Rattle.urlpattern_syntax.specs.Reading.{Encoding}
 use Rattle.urlpattern_syntax.specs.RegexpText.{is_empty}
 use Rattle.urlpattern_syntax.specs.Text.{begins_with, text_of}
-use Rattle.urlpattern_syntax.specs.Eight.{Values}
+use Rattle.urlpattern_eight.specs.Eight.{Values}
 
 -- ---- ports
 

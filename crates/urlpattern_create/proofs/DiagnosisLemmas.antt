@@ -18,12 +18,12 @@ use Rattle.urlpattern_create.specs.Diagnoses.{IsOf, IsPartOfRefused, IsRefusalOf
 use Rattle.urlpattern_create.specs.FromString.{IsInitOfText, IsPatternOfText}
 use Rattle.urlpattern_create.specs.PatternViews.{PatternView}
 use Rattle.urlpattern_init.specs.declared.init.UrlPatternInit.{UrlPatternInit}
-use Rattle.urlpattern_syntax.specs.declared.eight.ComponentName.{ComponentName}
+use Rattle.urlpattern_eight.specs.declared.eight.ComponentName.{ComponentName}
 use Rattle.urlpattern_create.specs.declared.refusal.Refusal.{Refusal}
-use Rattle.urlpattern_syntax.specs.declared.eight.ComponentName.TheVariants.{Protocol}
+use Rattle.urlpattern_eight.specs.declared.eight.ComponentName.TheVariants.{Protocol}
 use Rattle.urlpattern_syntax.specs.declared.error.Error.{Error}
 use Rattle.urlpattern_syntax.specs.declared.error.OutOfMemory.{OutOfMemory}
-use Rattle.urlpattern_syntax.specs.Eight.{Values}
+use Rattle.urlpattern_eight.specs.Eight.{Values}
 use Rattle.urlpattern_syntax.specs.Errors.{ErrorView, ErrorView as views, MemoryOr, error_view}
 
 -- an error that is not that memory ran out is one of these

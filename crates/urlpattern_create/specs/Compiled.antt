@@ -6,8 +6,8 @@ use Rattle.url.specs.Parser.{Parsed, and_then}
 use Rattle.urlpattern_init.specs.{Inheritance.init_values, SpecialProtocol.AcceptsSpecialScheme}
 use Rattle.urlpattern_create.specs.PatternViews.{PatternView}
 use Rattle.urlpattern_init.specs.declared.init.UrlPatternInit.{UrlPatternInit}
-use Rattle.urlpattern_syntax.specs.declared.eight.ComponentName.{ComponentName}
-use Rattle.urlpattern_syntax.specs.declared.eight.ComponentName.TheVariants.{Protocol, Username, Password, Hostname, Port, Pathname, Search, Hash}
+use Rattle.urlpattern_eight.specs.declared.eight.ComponentName.{ComponentName}
+use Rattle.urlpattern_eight.specs.declared.eight.ComponentName.TheVariants.{Protocol, Username, Password, Hostname, Port, Pathname, Search, Hash}
 use Rattle.urlpattern_inputs.specs.declared.options.UrlPatternOptions.{UrlPatternOptions}
 use Rattle.urlpattern_canonical.specs.Canonical.{IsAnswer, canonical_hash, canonical_hostname, canonical_ipv6_hostname, canonical_opaque_pathname, canonical_password, canonical_pathname, canonical_port, canonical_protocol, canonical_search, canonical_username, default_port, is_special, without_first}
 use Rattle.urlpattern_core.specs.Components.{ComponentView, IsCompiledFrom}
@@ -17,7 +17,8 @@ use Rattle.urlpattern_meaning.specs.{Matching.MatcherView, PartMeaning.Captures}
 use Rattle.urlpattern_syntax.specs.Errors.{ErrorView, ErrorView as views}
 use Rattle.urlpattern_syntax.specs.Options.{OptionsView, default_options, hostname_options, pathname_options}
 use Rattle.urlpattern_syntax.specs.Reading.{Encoding, Refuses, encoding_of}
-use Rattle.urlpattern_syntax.specs.{Text.begins_with, Eight.Values, Eight.at}
+use Rattle.urlpattern_syntax.specs.Text.{begins_with}
+use Rattle.urlpattern_eight.specs.Eight.{Values, at}
 
 -- ---- the values that are compiled
 

@@ -3,8 +3,8 @@ use Rattle.std.specs.Prelude.{Bool}
 use Rattle.urlpattern_init.specs.Inheritance.{values_view}
 use Rattle.urlpattern_create.specs.declared.compile.Compiler.{Compiler}
 use Rattle.urlpattern_create.specs.Compiled.{Manner, manner_of}
-use Rattle.urlpattern_syntax.specs.declared.eight.ComponentName.{ComponentName}
-use Rattle.urlpattern_syntax.specs.Eight.{Values}
+use Rattle.urlpattern_eight.specs.declared.eight.ComponentName.{ComponentName}
+use Rattle.urlpattern_eight.specs.Eight.{Values}
 
 -- the values that it compiles
 abbrev pub compiled_values : Compiler → Values

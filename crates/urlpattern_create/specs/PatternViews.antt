@@ -1,8 +1,9 @@
 -- A pattern as its components, after the URLPattern Standard, section "URL patterns".
-use Rattle.urlpattern_syntax.specs.declared.eight.{ComponentName.ComponentName, Eight.Eight}
+use Rattle.urlpattern_eight.specs.declared.eight.ComponentName.{ComponentName}
+use Rattle.urlpattern_eight.specs.declared.eight.Eight.{Eight}
 use Rattle.std.specs.Prelude.{Bool, IfOk, Result}
 use Rattle.std.specs.List.{list_any}
-use Rattle.urlpattern_syntax.specs.Eight.{at, components}
+use Rattle.urlpattern_eight.specs.Eight.{at, components}
 use Rattle.urlpattern_core.specs.declared.component.Component.{Component}
 use Rattle.urlpattern_core.specs.Components.{ComponentView, component_view}
 

@@ -8,7 +8,7 @@ ghost use Rattle.urlpattern_init.specs.Inheritance.{values_view};
 ghost use Rattle.urlpattern_create.specs.Compiled.{AreCompiled, EachIsCompiled, FirstRefused, HasEngine, IsComponentCompiled, IsComponentRefused, IsPathKind, IsPatternOfInit, IsRefusedFrom, RefusesInit, RefusesValues, after_protocol, canonical_in_hostname, has_default_port, is_ipv6_pattern, is_mark, is_same, pattern_of, pattern_values, without_default_port};
 ghost use Rattle.urlpattern_create.specs.CompilerSteps.{manner_by, compiled_values};
 ghost use Rattle.urlpattern_create.specs.PatternViews.{IfComponents};
-ghost use Rattle.urlpattern_syntax.specs.declared.eight.ComponentName.{ComponentName};
+ghost use Rattle.urlpattern_eight.specs.declared.eight.ComponentName.{ComponentName};
 ghost use Rattle.urlpattern_syntax.specs.Errors.{MemoryOr, OnlyOutOfMemory};
 ghost use Rattle.urlpattern_syntax.specs.Options.{options_view};
 ghost use Rattle.urlpattern_syntax.specs.Reading.{encoding_by};
@@ -25,7 +25,7 @@ use urlpattern_core::parser::Options;
 use urlpattern_core::regexp::RegExp;
 use urlpattern_init::{UrlPatternInit, accepts_special_scheme, process};
 use urlpattern_inputs::UrlPatternOptions;
-use urlpattern_syntax::eight::{ComponentName, Eight};
+use urlpattern_eight::{ComponentName, Eight};
 
 /// Compiles the components of a pattern from an init: from its own texts, and from what they inherit from its base URL.
 ///

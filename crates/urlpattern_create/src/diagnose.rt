@@ -27,7 +27,7 @@ use urlpattern_diagnosis::{
 };
 use urlpattern_init::{UrlPatternInit, protocol_of};
 use urlpattern_inputs::UrlPatternOptions;
-use urlpattern_syntax::eight::{ComponentName, Eight};
+use urlpattern_eight::{ComponentName, Eight};
 
 /// What is wrong with a constructor string, or with its base URL. `None`: it is accepted.
 ///

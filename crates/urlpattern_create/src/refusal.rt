@@ -5,7 +5,7 @@ ghost use Rattle.urlpattern_core.specs.Components.{ComponentView, component_view
 ghost use Rattle.urlpattern_create.specs.Compiled.{FirstRefused, IsComponentCompiled};
 ghost use Rattle.urlpattern_create.specs.CompilerSteps.{compiled_values, manner_by};
 ghost use Rattle.urlpattern_create.specs.Diagnoses.{IsRefusalOf, RefusesComponent, error_of};
-ghost use Rattle.urlpattern_syntax.specs.declared.eight.ComponentName.TheVariants as names;
+ghost use Rattle.urlpattern_eight.specs.declared.eight.ComponentName.TheVariants as names;
 ghost use Rattle.urlpattern_syntax.specs.Errors.{ErrorView as views, error_view};
 
 use crate::compile::Compiler;
@@ -13,7 +13,7 @@ use urlpattern_core::Error;
 use urlpattern_core::component::Component;
 use urlpattern_core::error::OutOfMemory;
 use urlpattern_core::regexp::RegExp;
-use urlpattern_syntax::eight::ComponentName;
+use urlpattern_eight::ComponentName;
 
 /// The components in the order in which they are compiled after the protocol.
 const AFTER_PROTOCOL: [ComponentName; 7] = [

@@ -11,7 +11,7 @@ use crate::span::Span;
 use std::alloc::{AllocError, Global};
 use std::fmt;
 use urlpattern_syntax::Error;
-use urlpattern_syntax::eight::ComponentName;
+use urlpattern_eight::ComponentName;
 
 /// How many characters of a text are printed at most.
 const WIDTH: usize = 80;

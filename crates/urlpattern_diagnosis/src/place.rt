@@ -6,7 +6,7 @@ ghost use Rattle.urlpattern_diagnosis.specs.Spans.{IsSpanIn};
 
 use crate::fault::Fault;
 use crate::span::Span;
-use urlpattern_syntax::eight::ComponentName;
+use urlpattern_eight::ComponentName;
 
 /// Where a pattern is in a text.
 #[derive(Debug, Clone, Copy, PartialEq, Eq)]

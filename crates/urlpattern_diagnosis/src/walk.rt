@@ -1,7 +1,7 @@
 //! Where the components of a constructor string begin.
 ghost use Rattle.std.specs.Prelude.{◌≤◌, length};
 
-use urlpattern_syntax::eight::{ComponentName, Eight};
+use urlpattern_eight::{ComponentName, Eight};
 
 /// Where a component begins in a constructor string that is split into these, a byte index.
 ///

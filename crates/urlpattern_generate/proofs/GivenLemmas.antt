@@ -5,7 +5,7 @@ use Rattle.std.proofs.lemmas.List.{drop_all}
 use Rattle.std.specs.{Borrow.Bor, Str.chars}
 use Rattle.std.specs.Prelude.{if◌then◌else◌}
 use Rattle.urlpattern_generate.specs.Manners.{given_groups, text_given, given_view, is_given_for}
-use Rattle.urlpattern_syntax.specs.declared.eight.ComponentName.{ComponentName}
+use Rattle.urlpattern_eight.specs.declared.eight.ComponentName.{ComponentName}
 
 abbrev pub Group : Type 0
 Group = ComponentName × Bor (List ℕ) × Bor (List ℕ)

@@ -10,7 +10,7 @@ use Rattle.urlpattern_generate.specs.declared.error.GenerateError.TheVariants.{M
 use Rattle.urlpattern_links.specs.Links.{MayCaptureAll, RefusesCapture, text_of_parts}
 use Rattle.urlpattern_meaning.specs.Matching.{Answers, MatcherView}
 use Rattle.urlpattern_meaning.specs.PartMeaning.{Captures}
-use Rattle.urlpattern_syntax.specs.declared.eight.ComponentName.{ComponentName}
+use Rattle.urlpattern_eight.specs.declared.eight.ComponentName.{ComponentName}
 use Rattle.urlpattern_syntax.specs.Errors.{ErrorView}
 use Rattle.urlpattern_syntax.specs.Parts.{PartView}
 use Rattle.urlpattern_syntax.specs.Reading.{Reads, Refuses}

@@ -6,7 +6,7 @@ use Rattle.urlpattern_generate.specs.declared.error.GenerateError.{GenerateError
 use Rattle.urlpattern_generate.specs.declared.error.GenerateError.TheVariants.{Missing, NotCaptured, ReadOtherwise, OutOfMemory}
 use Rattle.urlpattern_generate.specs.declared.writer.Writer.{Writer}
 use Rattle.urlpattern_meaning.specs.PartMeaning.{Captures}
-use Rattle.urlpattern_syntax.specs.declared.eight.ComponentName.{ComponentName}
+use Rattle.urlpattern_eight.specs.declared.eight.ComponentName.{ComponentName}
 use Rattle.urlpattern_syntax.specs.declared.error.Error.{Error}
 use Rattle.urlpattern_syntax.specs.declared.error.Error.TheVariants as errors
 use Rattle.urlpattern_syntax.specs.Errors.{ErrorView}

@@ -15,7 +15,7 @@ use std::alloc::Global;
 use urlpattern_canonical::canonicalize_and_process::Canonicalizer;
 use urlpattern_core::component::Component;
 use urlpattern_core::regexp::RegExp;
-use urlpattern_syntax::eight::ComponentName;
+use urlpattern_eight::ComponentName;
 use urlpattern_syntax::parser::{Options, Part};
 
 /// The text of a component whose groups capture the canonical forms of what they are given. `hierarchical` says whether a

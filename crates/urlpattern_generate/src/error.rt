@@ -4,7 +4,7 @@ ghost use Rattle.std.specs.Prelude.{◌≡◌};
 ghost use Rattle.urlpattern_generate.specs.declared.error.GenerateError.TheVariants as errors;
 
 use std::alloc::AllocError;
-use urlpattern_syntax::eight::ComponentName;
+use urlpattern_eight::ComponentName;
 
 /// Why a pattern has no text with the groups that are given.
 #[derive(Debug, PartialEq, Eq, Drop)]

@@ -5,7 +5,7 @@ ghost use Rattle.std.specs.Str.{chars};
 ghost use Rattle.urlpattern_generate.specs.Manners.{given_groups, text_given, given_view, is_given_for};
 ghost use Rattle.urlpattern_syntax.specs.Text.{option_text};
 
-use urlpattern_syntax::eight::ComponentName;
+use urlpattern_eight::ComponentName;
 
 /// The text that is given for a group: the component, the name of the group, and the text.
 pub type GivenGroup<'g> = (ComponentName, &'g str, &'g str);

@@ -17,7 +17,7 @@ use Rattle.urlpattern_init.proofs.SeenLemmas.{depth_here, depth_more}
 use Rattle.urlpattern_syntax.specs.Tokens.{AreLenientTokens, TokenView}
 use Rattle.urlpattern_syntax.specs.declared.tokenizer.TokenType.{TokenType}
 use Rattle.urlpattern_syntax.specs.declared.tokenizer.TokenType.TheVariants.{Char, Close, End, EscapedChar, InvalidChar, Open}
-use Rattle.urlpattern_syntax.specs.Eight.{Values}
+use Rattle.urlpattern_eight.specs.Eight.{Values}
 
 -- ---- signs
 

@@ -4,7 +4,8 @@ use Rattle.url.specs.declared.Url.{Url}
 use Rattle.urlpattern_init.specs.SpecialProtocol.{RefusesProtocol}
 use Rattle.urlpattern_init.specs.Split.{HasProtocol, IsSplit, LacksProtocol}
 use Rattle.urlpattern_init.specs.declared.init.UrlPatternInit.{UrlPatternInit}
-use Rattle.urlpattern_syntax.specs.{Eight.Values, Errors.ErrorView}
+use Rattle.urlpattern_eight.specs.Eight.{Values}
+use Rattle.urlpattern_syntax.specs.Errors.{ErrorView}
 use Rattle.urlpattern_syntax.specs.Tokens.{AreLenientTokens, TokenView}
 
 -- The text is split into these components, by its lenient tokens.

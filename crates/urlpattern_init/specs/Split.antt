@@ -4,7 +4,8 @@ use Rattle.std.specs.List.{count_by, fold, range_with_len}
 use Rattle.std.specs.{Option.option_map_or, Str.bytes_eq}
 use Rattle.urlpattern_init.specs.declared.constructor_parser.sections.Section.{Section}
 use Rattle.urlpattern_init.specs.declared.constructor_parser.sections.Section.TheVariants.{Protocol, Authority, Username, Password, Hostname, Port, Pathname, Search, Hash}
-use Rattle.urlpattern_syntax.specs.{Eight.Values, Text.byte_len}
+use Rattle.urlpattern_eight.specs.Eight.{Values}
+use Rattle.urlpattern_syntax.specs.Text.{byte_len}
 use Rattle.urlpattern_syntax.specs.declared.tokenizer.TokenType.{TokenType}
 use Rattle.urlpattern_syntax.specs.Tokens.{AreLenientTokens, TokenView}
 

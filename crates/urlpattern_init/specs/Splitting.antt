@@ -8,7 +8,7 @@ use Rattle.urlpattern_init.specs.declared.constructor_parser.components.Split.{S
 use Rattle.urlpattern_syntax.specs.{Errors.OnlyOutOfMemory, Parsing.views}
 use Rattle.urlpattern_syntax.specs.Tokens.{AreLenientTokens, TokenView}
 use Rattle.urlpattern_syntax.specs.declared.error.Error.{Error}
-use Rattle.urlpattern_syntax.specs.Eight.{Values, at, each}
+use Rattle.urlpattern_eight.specs.Eight.{Values, at, each}
 use Rattle.urlpattern_syntax.specs.Text.{chars, option_text, text_of}
 
 -- the text of a source, and its tokens

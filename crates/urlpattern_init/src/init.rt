@@ -5,12 +5,12 @@ mod processing;
 
 ghost use Rattle.std.specs.Prelude.{◌≡◌};
 ghost use Rattle.urlpattern_init.specs.Inheritance.{values_of, values_view};
-ghost use Rattle.urlpattern_syntax.specs.{Eight.at, Text.option_text};
+ghost use Rattle.urlpattern_eight.specs.Eight.{at};
+ghost use Rattle.urlpattern_syntax.specs.Text.{option_text};
 
 pub use processing::{process, process_values, url_text};
 use url::Url;
-use urlpattern_syntax::eight::{ComponentName, Eight};
-use urlpattern_syntax::{field_of, with_fields};
+use urlpattern_eight::{ComponentName, Eight, field_of, with_fields};
 
 /// The components of a URL pattern, each with its own pattern, or those of a URL to be matched.
 ///

@@ -23,13 +23,13 @@ use Rattle.urlpattern_create.specs.Compiled.{FirstRefused, HasHierarchicalPath, 
 use Rattle.urlpattern_pattern.specs.Meaning.{ReadsAs}
 use Rattle.urlpattern_laws.specs.Outcomes.{EngineAnswers, InitsHaveOutcomes, InitsHaveValues, IsOfTexts, UrlAnswers, of_texts}
 use Rattle.urlpattern_pattern.specs.Patterns.{PatternView}
-use Rattle.urlpattern_syntax.specs.declared.eight.ComponentName.{ComponentName}
-use Rattle.urlpattern_syntax.specs.declared.eight.ComponentName.TheVariants.{Protocol, Username, Password, Hostname, Port, Pathname, Search, Hash}
+use Rattle.urlpattern_eight.specs.declared.eight.ComponentName.{ComponentName}
+use Rattle.urlpattern_eight.specs.declared.eight.ComponentName.TheVariants.{Protocol, Username, Password, Hostname, Port, Pathname, Search, Hash}
 use Rattle.urlpattern_syntax.specs.declared.parser.PartModifier.{PartModifier}
 use Rattle.urlpattern_syntax.specs.declared.parser.PartModifier.TheVariants as modifiers
 use Rattle.urlpattern_syntax.specs.declared.parser.PartType.{PartType}
 use Rattle.urlpattern_syntax.specs.declared.parser.PartType.TheVariants.{SegmentWildcard, FullWildcard}
-use Rattle.urlpattern_syntax.specs.Eight.{Values}
+use Rattle.urlpattern_eight.specs.Eight.{Values}
 use Rattle.urlpattern_syntax.specs.Errors.{ErrorView, ErrorView as views}
 use Rattle.urlpattern_syntax.specs.Options.{OptionsView}
 use Rattle.urlpattern_syntax.specs.Parts.{PartView}

@@ -24,10 +24,10 @@ use Rattle.urlpattern_create.specs.Compiled.{AreCompiled, FirstRefused, HasHiera
 use Rattle.urlpattern_pattern.specs.Meaning.{ReadsAs}
 use Rattle.urlpattern_laws.specs.Outcomes.{AcceptsAlike, Decides, FirstWaysDecide, InitRefusalsAreOne, IsOfTexts, PatternsExcludeRefusals, TakesOrRefuses, TakesOrRefusesText, of_texts}
 use Rattle.urlpattern_pattern.specs.Patterns.{PatternView}
-use Rattle.urlpattern_syntax.specs.declared.eight.ComponentName.{ComponentName}
-use Rattle.urlpattern_syntax.specs.declared.eight.ComponentName.TheVariants.{Protocol}
+use Rattle.urlpattern_eight.specs.declared.eight.ComponentName.{ComponentName}
+use Rattle.urlpattern_eight.specs.declared.eight.ComponentName.TheVariants.{Protocol}
 use Rattle.urlpattern_syntax.specs.declared.error.Error.{Error}
-use Rattle.urlpattern_syntax.specs.Eight.{Values}
+use Rattle.urlpattern_eight.specs.Eight.{Values}
 use Rattle.urlpattern_syntax.specs.Errors.{ErrorView, error_view, ErrorView as views}
 use Rattle.urlpattern_syntax.specs.Parts.{PartView}
 use Rattle.urlpattern_syntax.specs.Reading.{Refuses, answer_view}

@@ -8,7 +8,7 @@ use Rattle.urlpattern_core.specs.Components.{ComponentView, IsComponentOf, IsEng
 use Rattle.urlpattern_core.specs.Regexes.{regex_answer, regex_engine}
 use Rattle.urlpattern_core.specs.FirstWays.{IsTakenBy}
 use Rattle.urlpattern_init.specs.declared.init.UrlPatternMatchInput.{UrlPatternMatchInput}
-use Rattle.urlpattern_syntax.specs.declared.eight.ComponentName.{ComponentName}
+use Rattle.urlpattern_eight.specs.declared.eight.ComponentName.{ComponentName}
 use Rattle.urlpattern_inputs.specs.declared.options.UrlPatternOptions.{UrlPatternOptions}
 use Rattle.urlpattern_meaning.proofs.FirstAnswers.{of_made}
 use Rattle.urlpattern_meaning.proofs.OneMeaning.{is_tree_of}
@@ -28,7 +28,7 @@ use Rattle.urlpattern_pattern.specs.Meaning.{MeaningPremises, RegexPremises}
 use Rattle.urlpattern_pattern.specs.Patterns.{PatternView}
 use Rattle.urlpattern_syntax.specs.Parts.{PartView}
 use Rattle.urlpattern_syntax.specs.RegexpText.{regexp_text}
-use Rattle.urlpattern_syntax.specs.Eight.{Texts, Values, at}
+use Rattle.urlpattern_eight.specs.Eight.{Texts, Values, at}
 
 module _ (manner : Manner) (compiled : ComponentView Regex) (is_compiled : IsComponentCompiled regex_engine manner compiled)
     (text : List ℕ) (premises : RegexPremises manner compiled text) where

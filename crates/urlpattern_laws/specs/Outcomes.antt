@@ -7,9 +7,13 @@ use Rattle.urlpattern_init.specs.SpecialProtocol.{AcceptsSpecialScheme}
 use Rattle.urlpattern_init.specs.declared.init.UrlPatternInit.{UrlPatternInit}
 use Rattle.urlpattern_inputs.specs.declared.options.UrlPatternOptions.{UrlPatternOptions}
 use Rattle.urlpattern_meaning.specs.Laws.{AnswersAsked}
-use Rattle.urlpattern_syntax.specs.declared.eight.{ComponentName.ComponentName, ComponentName.TheVariants.Protocol}
-use Rattle.urlpattern_syntax.specs.{Eight.Values, Errors.ErrorView, Parts.PartView, Reading.Encoding, RegexpText.regexp_text}
-use Rattle.urlpattern_syntax.specs.Errors.{ErrorView as views}
+use Rattle.urlpattern_eight.specs.declared.eight.ComponentName.{ComponentName}
+use Rattle.urlpattern_eight.specs.declared.eight.ComponentName.TheVariants.{Protocol}
+use Rattle.urlpattern_eight.specs.Eight.{Values}
+use Rattle.urlpattern_syntax.specs.Errors.{ErrorView, ErrorView as views}
+use Rattle.urlpattern_syntax.specs.Parts.{PartView}
+use Rattle.urlpattern_syntax.specs.Reading.{Encoding}
+use Rattle.urlpattern_syntax.specs.RegexpText.{regexp_text}
 use Rattle.urlpattern_pattern.specs.{ByText.MakesFirstWays, ByText.ReadsNoCustom, Meaning.ReadsAs, Patterns.PatternView}
 use Rattle.urlpattern_create.specs.Compiled.{IsComponentCompiled, IsPatternOfInit, Manner, RefusesInit, canonical_encoding, manner_of, pattern_values}
 

@@ -6,8 +6,8 @@ use Rattle.urlpattern_core.specs.Regexes.{regex_engine}
 use Rattle.urlpattern_init.specs.declared.init.UrlPatternMatchInput.{UrlPatternMatchInput}
 use Rattle.urlpattern_meaning.specs.PartMeaning.{Captures}
 use Rattle.urlpattern_inputs.specs.declared.options.UrlPatternOptions.{UrlPatternOptions}
-use Rattle.urlpattern_syntax.specs.declared.eight.ComponentName.{ComponentName}
-use Rattle.urlpattern_syntax.specs.Eight.{Texts, Values, at}
+use Rattle.urlpattern_eight.specs.declared.eight.ComponentName.{ComponentName}
+use Rattle.urlpattern_eight.specs.Eight.{Texts, Values, at}
 use Rattle.urlpattern_create.specs.Compiled.{AreCompiled, Manner, manner_of}
 use Rattle.urlpattern_pattern.specs.Match.{HasMatch, HasNoMatch, IsLongInput, IsMatch}
 use Rattle.urlpattern_matches.specs.ResultViews.{IsSameResult, ResultView}

@@ -13,14 +13,14 @@ use Rattle.urlpattern_meaning.specs.Outlines.{HasOutline, IsTextFor}
 use Rattle.urlpattern_index.specs.FixedTexts.{FixedTexts, HasTexts, IsText}
 use Rattle.urlpattern_index.specs.Keys.{Hashes, form_key, hashes_of}
 use Rattle.urlpattern_index.specs.Listed.{Finds, GetsPattern, Listing}
-use Rattle.urlpattern_syntax.specs.declared.eight.ComponentName.TheVariants.{Hostname, Pathname, Protocol}
+use Rattle.urlpattern_eight.specs.declared.eight.ComponentName.TheVariants.{Hostname, Pathname, Protocol}
 use Rattle.urlpattern_meaning.specs.Matching.{Accepts, Answers, InnerView, IsMatched, Literal, MatcherView, folded}
 use Rattle.urlpattern_meaning.specs.PartMeaning.{Captures}
 use Rattle.urlpattern_pattern.specs.Match.{IsRefused}
 use Rattle.urlpattern_pattern.specs.Patterns.{PatternView, pattern_view}
 use Rattle.urlpattern_pattern.specs.declared.pattern.UrlPattern.{UrlPattern}
 use Rattle.urlpattern_list.specs.PatternKeys.{AreFixed, AreIndexed, IsFixedText, address_of, characters, text_matcher}
-use Rattle.urlpattern_syntax.specs.Eight.{Texts}
+use Rattle.urlpattern_eight.specs.Eight.{Texts}
 
 -- ---- texts
 

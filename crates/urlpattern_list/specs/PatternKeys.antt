@@ -6,8 +6,8 @@ use Rattle.urlpattern_meaning.specs.Outlines.{HasOutline}
 use Rattle.urlpattern_index.specs.FixedTexts.{AddressTexts, FixedTexts}
 use Rattle.urlpattern_index.specs.Keys.{hashes_of}
 use Rattle.urlpattern_index.specs.Listed.{Finds, Listing}
-use Rattle.urlpattern_syntax.specs.declared.eight.ComponentName.TheVariants.{Hostname, Pathname, Protocol}
-use Rattle.urlpattern_syntax.specs.Eight.{Texts}
+use Rattle.urlpattern_eight.specs.declared.eight.ComponentName.TheVariants.{Hostname, Pathname, Protocol}
+use Rattle.urlpattern_eight.specs.Eight.{Texts}
 use Rattle.urlpattern_meaning.specs.Matching.{IsMatched, Literal, MatcherView}
 use Rattle.urlpattern_meaning.specs.PartMeaning.{Captures}
 use Rattle.urlpattern_pattern.specs.Match.{IsRefused}

@@ -36,7 +36,7 @@ use urlpattern_matches::{
     UrlPatternCaptures, UrlPatternResult, input_texts, parse_match_input, url_texts,
 };
 use urlpattern_pattern::{UrlPattern, captures_of_texts};
-use urlpattern_syntax::eight::Eight;
+use urlpattern_eight::Eight;
 
 /// Patterns in their order, as the routes of a router.
 #[derive(Debug, Drop)]

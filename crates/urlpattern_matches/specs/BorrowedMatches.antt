@@ -1,13 +1,14 @@
 -- A match that is borrowed from the pattern and from what it matches, as a result.
 use Rattle.std.specs.Prelude.{ℕ, List, ◌++◌, map, zip, IfOk, IfSome, Option, Result}
 use Rattle.std.specs.{Borrow.Bor, List.flat_map, Slice.Iter.iter_rest, Str.chars}
-use Rattle.urlpattern_syntax.specs.declared.eight.ComponentName.{ComponentName}
+use Rattle.urlpattern_eight.specs.declared.eight.ComponentName.{ComponentName}
 use Rattle.urlpattern_matches.specs.declared.captures.UrlPatternCaptures.{UrlPatternCaptures}
 use Rattle.urlpattern_matches.specs.declared.captures.groups.UrlPatternCapturesIter.{UrlPatternCapturesIter}
 use Rattle.urlpattern_matches.specs.declared.captures.groups.UrlPatternGroups.{UrlPatternGroups}
 use Rattle.urlpattern_matches.specs.GroupTexts.{captures_of, texts_of}
 use Rattle.urlpattern_matches.specs.ResultViews.{ResultView, group_of}
-use Rattle.urlpattern_syntax.specs.{Text.option_text, Text.text_of, Eight.at}
+use Rattle.urlpattern_syntax.specs.Text.{option_text, text_of}
+use Rattle.urlpattern_eight.specs.Eight.{at}
 
 -- the names of a component's groups
 abbrev pub names_view : UrlPatternCaptures → ComponentName → List (List ℕ)

@@ -1,14 +1,14 @@
 //! What the groups of a pattern capture, borrowed from the pattern and from the texts that it matches.
 ghost use Rattle.std.specs.Prelude.{◌≡◌, map, option_map, IfOk};
 ghost use Rattle.std.specs.Str.{chars};
-ghost use Rattle.urlpattern_syntax.specs.declared.eight.ComponentName.{ComponentName as Name};
+ghost use Rattle.urlpattern_eight.specs.declared.eight.ComponentName.{ComponentName as Name};
 ghost use Rattle.urlpattern_matches.specs.declared.captures.Missed.TheVariants as all_missed;
 ghost use Rattle.urlpattern_matches.specs.BorrowedMatches.{all_groups_left, all_groups_view, groups_left, groups_view, pattern_captures_view};
 ghost use Rattle.urlpattern_matches.specs.GroupTexts.{IsCapturedOf, captures_of, texts_of, HasNoGroups, IsWithoutGroups};
 ghost use Rattle.urlpattern_matches.specs.ResultViews.{captured_text, component_result_view, group_of, result_view, took_part, IsSameResult};
 ghost use Rattle.urlpattern_syntax.specs.Text.{option_text};
 ghost use Rattle.urlpattern_syntax.specs.Errors.{OnlyOutOfMemory};
-ghost use Rattle.urlpattern_syntax.specs.Eight.{at, components};
+ghost use Rattle.urlpattern_eight.specs.Eight.{at, components};
 
 mod groups;
 
@@ -20,7 +20,7 @@ use urlpattern_core::Error;
 use urlpattern_core::error::OutOfMemory;
 use urlpattern_core::matcher::Look;
 use urlpattern_core::regexp::RegExp;
-use urlpattern_syntax::eight::{ComponentName, Eight};
+use urlpattern_eight::{ComponentName, Eight};
 
 /// A match whose names are borrowed from the pattern, and whose texts and captures from what it matches.
 ///

@@ -12,7 +12,7 @@ use urlpattern_canonical::canonicalize_and_process::ProcessType;
 use urlpattern_core::Error;
 use urlpattern_init::{UrlPatternMatchInput, process_values};
 use urlpattern_inputs::MatchInput;
-use urlpattern_syntax::eight::Eight;
+use urlpattern_eight::Eight;
 
 /// The texts of a URL.
 fn of_url(alloc: Global, url: &Url) -> Result<MatchInput, AllocError>

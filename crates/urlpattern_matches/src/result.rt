@@ -6,7 +6,7 @@ ghost use Rattle.std.specs.Prelude.{◌≡◌, map, option_copied, string_bytes,
 ghost use Rattle.std.specs.Str.{chars};
 ghost use Rattle.urlpattern_matches.specs.GroupTexts.{captured_bytes, lent_bytes, texts_of, AreGroups, HasNoGroups, IsWithoutGroups};
 ghost use Rattle.urlpattern_matches.specs.ResultViews.{captured_text, component_result_view, result_view, results_of};
-ghost use Rattle.urlpattern_syntax.specs.Eight.{at};
+ghost use Rattle.urlpattern_eight.specs.Eight.{at};
 ghost use Rattle.urlpattern_syntax.specs.Errors.{OnlyOutOfMemory};
 ghost use Rattle.urlpattern_syntax.specs.Text.{text_of, option_text};
 
@@ -15,8 +15,7 @@ use std::alloc::{AllocError, Global};
 use std::collections::HashMap;
 use urlpattern_core::Error;
 use urlpattern_core::error::OutOfMemory;
-use urlpattern_syntax::eight::{ComponentName, Eight};
-use urlpattern_syntax::{field_of, with_fields};
+use urlpattern_eight::{ComponentName, Eight, field_of, with_fields};
 
 /// The result of a match, for each component.
 ///

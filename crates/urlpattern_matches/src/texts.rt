@@ -5,13 +5,13 @@ ghost use Rattle.urlpattern_init.specs.Inheritance as inherited;
 ghost use Rattle.urlpattern_init.specs.Inheritance.{texts_of_url};
 ghost use Rattle.urlpattern_matches.specs.MatchInput.{pathname_alone, texts_view};
 ghost use Rattle.urlpattern_matches.specs.GroupTexts.{borrowed_texts, IsTextCopied};
-ghost use Rattle.urlpattern_syntax.specs.Eight.{at};
+ghost use Rattle.urlpattern_eight.specs.Eight.{at};
 
 use std::alloc::{AllocError, Global};
 use url::Url;
 use urlpattern_init::url_text;
 use urlpattern_inputs::MatchInput;
-use urlpattern_syntax::eight::{ComponentName, Eight};
+use urlpattern_eight::{ComponentName, Eight};
 
 /// The eight texts of a URL, borrowed: what it has for each component, without the marks between them.
 pub fn url_texts(url: &Url) -> Eight<&str>

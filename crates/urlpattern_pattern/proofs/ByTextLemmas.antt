@@ -21,11 +21,11 @@ use Rattle.urlpattern_meaning.proofs.FirstAnswers.{first_agrees, first_one, matc
 use Rattle.urlpattern_meaning.specs.FirstAnswers.{IsFirstOf}
 use Rattle.urlpattern_meaning.specs.Matching.{Answers, InnerView}
 use Rattle.urlpattern_meaning.specs.PartMeaning.{Captures}
-use Rattle.urlpattern_syntax.specs.declared.eight.ComponentName.{ComponentName}
-use Rattle.urlpattern_syntax.specs.declared.eight.ComponentName.TheVariants.{Protocol}
+use Rattle.urlpattern_eight.specs.declared.eight.ComponentName.{ComponentName}
+use Rattle.urlpattern_eight.specs.declared.eight.ComponentName.TheVariants.{Protocol}
 use Rattle.urlpattern_syntax.specs.declared.parser.PartType.{PartType}
 use Rattle.urlpattern_syntax.specs.declared.parser.PartType.TheVariants.{FixedText, Regexp, SegmentWildcard, FullWildcard}
-use Rattle.urlpattern_syntax.specs.Eight.{Texts, Values, at}
+use Rattle.urlpattern_eight.specs.Eight.{Texts, Values, at}
 use Rattle.urlpattern_syntax.specs.Parts.{PartView}
 use Rattle.urlpattern_syntax.specs.RegexpText.{group_names}
 use Rattle.urlpattern_syntax.specs.Text.{lacks, line_feed}

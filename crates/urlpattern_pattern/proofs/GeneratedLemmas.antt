@@ -10,8 +10,8 @@ use Rattle.urlpattern_meaning.specs.PartMeaning.{Captures}
 use Rattle.urlpattern_create.specs.Compiled.{IsPathKind}
 use Rattle.urlpattern_pattern.specs.GeneratedTexts.{GeneratesText, MayRefuseGroups, printed_values}
 use Rattle.urlpattern_pattern.specs.Patterns.{PatternView}
-use Rattle.urlpattern_syntax.specs.declared.eight.ComponentName.{ComponentName}
-use Rattle.urlpattern_syntax.specs.declared.eight.ComponentName.TheVariants.{Protocol}
+use Rattle.urlpattern_eight.specs.declared.eight.ComponentName.{ComponentName}
+use Rattle.urlpattern_eight.specs.declared.eight.ComponentName.TheVariants.{Protocol}
 use Rattle.urlpattern_syntax.specs.Text.{text_of}
 
 pub generates : {E : Type 0} (answer : E → List ℕ → Option Captures) (pattern : PatternView E) (component : ComponentName) (groups : List GivenView) (hierarchical : Bool) (view : ComponentView E) (result : Result (String Global) GenerateError) →

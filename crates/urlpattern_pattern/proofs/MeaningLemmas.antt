@@ -7,7 +7,7 @@ use Rattle.url.specs.Parser.{Parsed}
 use Rattle.urlpattern_core.specs.Components.{ComponentView, IsComponentOf, IsEngineOf, engine_flags, has_regexp, is_custom}
 use Rattle.urlpattern_core.specs.declared.regexp.RegExp.{Ghosts as Engine}
 use Rattle.urlpattern_init.specs.declared.init.UrlPatternMatchInput.{UrlPatternMatchInput}
-use Rattle.urlpattern_syntax.specs.declared.eight.ComponentName.{ComponentName}
+use Rattle.urlpattern_eight.specs.declared.eight.ComponentName.{ComponentName}
 use Rattle.urlpattern_inputs.specs.declared.options.UrlPatternOptions.{UrlPatternOptions}
 use Rattle.urlpattern_meaning.proofs.CallbackLaws.{EncodesOnce, reading_one_encoded}
 use Rattle.urlpattern_meaning.proofs.MatcherMeaning.{matcher_means}
@@ -26,7 +26,7 @@ use Rattle.urlpattern_syntax.specs.declared.parser.PartType.TheVariants.{Regexp}
 use Rattle.urlpattern_syntax.specs.Parts.{PartView}
 use Rattle.urlpattern_syntax.specs.RegexpText.{group_names}
 use Rattle.urlpattern_syntax.specs.Text.{text_of}
-use Rattle.urlpattern_syntax.specs.Eight.{Texts, Values, at}
+use Rattle.urlpattern_eight.specs.Eight.{Texts, Values, at}
 
 -- ---- no custom regular expression
 

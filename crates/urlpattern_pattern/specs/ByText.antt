@@ -7,8 +7,9 @@ use Rattle.urlpattern_init.specs.UrlTexts.{IsLine}
 use Rattle.urlpattern_init.specs.declared.init.{UrlPatternInit.UrlPatternInit, UrlPatternMatchInput.UrlPatternMatchInput}
 use Rattle.urlpattern_inputs.specs.declared.options.UrlPatternOptions.{UrlPatternOptions}
 use Rattle.urlpattern_meaning.specs.{FirstAnswers.AnswersFirstInMiddle, FirstAnswers.IsFirstOf, Matching.Agrees, PartMeaning.Captures}
-use Rattle.urlpattern_syntax.specs.declared.eight.{ComponentName.ComponentName, ComponentName.TheVariants.Protocol}
-use Rattle.urlpattern_syntax.specs.Eight.{Texts, Values, at}
+use Rattle.urlpattern_eight.specs.declared.eight.ComponentName.{ComponentName}
+use Rattle.urlpattern_eight.specs.declared.eight.ComponentName.TheVariants.{Protocol}
+use Rattle.urlpattern_eight.specs.Eight.{Texts, Values, at}
 use Rattle.urlpattern_syntax.specs.{Parts.PartView, RegexpText.group_names, Text.begins_with}
 use Rattle.urlpattern_create.specs.FromString.{IsInitOfText}
 use Rattle.urlpattern_create.specs.Compiled.{AreCompiled, IsPathKind, Manner, is_mark, manner_of, pattern_values}

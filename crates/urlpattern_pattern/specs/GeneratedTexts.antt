@@ -7,9 +7,9 @@ use Rattle.urlpattern_generate.specs.declared.error.GenerateError.TheVariants.{O
 use Rattle.urlpattern_meaning.specs.PartMeaning.{Captures}
 use Rattle.urlpattern_create.specs.Compiled.{IsPathKind}
 use Rattle.urlpattern_pattern.specs.Patterns.{PatternView}
-use Rattle.urlpattern_syntax.specs.declared.eight.ComponentName.{ComponentName}
-use Rattle.urlpattern_syntax.specs.declared.eight.ComponentName.TheVariants.{Protocol}
-use Rattle.urlpattern_syntax.specs.Eight.{Values, each}
+use Rattle.urlpattern_eight.specs.declared.eight.ComponentName.{ComponentName}
+use Rattle.urlpattern_eight.specs.declared.eight.ComponentName.TheVariants.{Protocol}
+use Rattle.urlpattern_eight.specs.Eight.{Values, each}
 
 -- the pattern texts of a pattern, as they are written anew
 abbrev pub printed_values : {E : Type 0} → PatternView E → Values

@@ -1,5 +1,6 @@
 -- A `UrlPattern` as its components, after the URLPattern Standard, section "URL patterns".
-use Rattle.urlpattern_syntax.specs.declared.eight.{ComponentName.ComponentName, Eight.Eight}
+use Rattle.urlpattern_eight.specs.declared.eight.ComponentName.{ComponentName}
+use Rattle.urlpattern_eight.specs.declared.eight.Eight.{Eight}
 use Rattle.std.specs.Prelude.{IfOk, Result}
 use Rattle.urlpattern_core.specs.declared.component.Component.{Component}
 use Rattle.urlpattern_core.specs.Components.{ComponentView}

@@ -2,8 +2,8 @@
 ghost use Rattle.std.specs.Prelude.{◌≡◌};
 ghost use Rattle.std.specs.Str.{chars};
 ghost use Rattle.urlpattern_pattern.specs.Patterns.{components_of, has_regexp_groups, pattern_view};
-ghost use Rattle.urlpattern_syntax.specs.declared.eight.ComponentName.TheVariants as names;
-ghost use Rattle.urlpattern_syntax.specs.Eight.{at};
+ghost use Rattle.urlpattern_eight.specs.declared.eight.ComponentName.TheVariants as names;
+ghost use Rattle.urlpattern_eight.specs.Eight.{at};
 
 mod create;
 mod diagnose;
@@ -15,8 +15,7 @@ mod once;
 pub use matching::captures_of_texts;
 use urlpattern_core::component::Component;
 use urlpattern_core::regexp::RegExp;
-use urlpattern_syntax::eight::{ComponentName, Eight};
-use urlpattern_syntax::{field_of, with_fields};
+use urlpattern_eight::{ComponentName, Eight, field_of, with_fields};
 
 /// A pattern that URLs are matched against, compiled component by component.
 ///

@@ -22,9 +22,14 @@ use Rattle.urlpattern_readings.specs.Readings.{ApartMatchNothing, AreItsParts, A
 use Rattle.urlpattern_rules.specs.Comparing.{AreApart, IsComponentCovered, IsCovered, IsKnown, IsMeantBy, IsParting, IsWithin, MeansEach, MeansIn, TakesEachLine, TakesNoLine}
 use Rattle.urlpattern_rules.specs.declared.component.ComponentParts.{ComponentParts}
 use Rattle.urlpattern_rules.specs.declared.pattern.{Parting.Parting, PatternParts.PatternParts}
-use Rattle.urlpattern_syntax.proofs.EightLemmas.{at-each}
-use Rattle.urlpattern_syntax.specs.declared.eight.{ComponentName.ComponentName, ComponentName.TheVariants.Protocol, Eight.Eight}
-use Rattle.urlpattern_syntax.specs.{Eight.Texts, Eight.Values, Eight.at, Eight.each, Options.OptionsView, Options.options_view, Parts.PartView, Parts.parts_view, Text.text_of}
+use Rattle.urlpattern_eight.proofs.EightLemmas.{at-each}
+use Rattle.urlpattern_eight.specs.declared.eight.ComponentName.{ComponentName}
+use Rattle.urlpattern_eight.specs.declared.eight.ComponentName.TheVariants.{Protocol}
+use Rattle.urlpattern_eight.specs.declared.eight.Eight.{Eight}
+use Rattle.urlpattern_eight.specs.Eight.{Texts, Values, at, each}
+use Rattle.urlpattern_syntax.specs.Options.{OptionsView, options_view}
+use Rattle.urlpattern_syntax.specs.Parts.{PartView, parts_view}
+use Rattle.urlpattern_syntax.specs.Text.{text_of}
 
 -- ---- one component
 

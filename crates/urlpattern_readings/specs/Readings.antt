@@ -11,9 +11,14 @@ use Rattle.urlpattern_create.specs.{Compiled.IsPathKind, Compiled.Manner, Compil
 use Rattle.urlpattern_rules.specs.Comparing.{AreApart, IsCovered, IsKnown, IsParting, MeansEach, MeansIn}
 use Rattle.urlpattern_rules.specs.declared.component.ComponentParts.{ComponentParts}
 use Rattle.urlpattern_rules.specs.declared.pattern.{Parting.Parting, PatternParts.PatternParts}
-use Rattle.urlpattern_syntax.specs.declared.eight.{ComponentName.ComponentName, ComponentName.TheVariants.Protocol, Eight.Eight}
+use Rattle.urlpattern_eight.specs.declared.eight.ComponentName.{ComponentName}
+use Rattle.urlpattern_eight.specs.declared.eight.ComponentName.TheVariants.{Protocol}
+use Rattle.urlpattern_eight.specs.declared.eight.Eight.{Eight}
 use Rattle.urlpattern_syntax.specs.declared.error.Error.{Error}
-use Rattle.urlpattern_syntax.specs.{Eight.Texts, Eight.Values, Eight.at, Eight.each, Options.options_view, Parts.parts_view, Text.text_of}
+use Rattle.urlpattern_eight.specs.Eight.{Texts, Values, at, each}
+use Rattle.urlpattern_syntax.specs.Options.{options_view}
+use Rattle.urlpattern_syntax.specs.Parts.{parts_view}
+use Rattle.urlpattern_syntax.specs.Text.{text_of}
 
 -- ---- reading
 

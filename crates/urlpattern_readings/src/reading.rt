@@ -9,8 +9,8 @@ ghost use Rattle.urlpattern_pattern.specs.ByText.{AnswersByItsText};
 ghost use Rattle.urlpattern_create.specs.CompilerSteps.{manner_by};
 ghost use Rattle.urlpattern_pattern.specs.Patterns.{pattern_view};
 ghost use Rattle.urlpattern_readings.specs.Readings.{AreItsParts, AreReadByValues, IsReadAs, IsReadFor};
-ghost use Rattle.urlpattern_syntax.specs.Eight.{at};
-ghost use Rattle.urlpattern_syntax.specs.declared.eight.ComponentName.{ComponentName};
+ghost use Rattle.urlpattern_eight.specs.Eight.{at};
+ghost use Rattle.urlpattern_eight.specs.declared.eight.ComponentName.{ComponentName};
 
 use std::alloc::Global;
 use urlpattern_canonical::canonicalize_and_process::Canonicalizer;
@@ -23,7 +23,7 @@ use urlpattern_init::UrlPatternInit;
 use urlpattern_inputs::UrlPatternOptions;
 use urlpattern_pattern::UrlPattern;
 use urlpattern_rules::{ComponentParts, PatternParts};
-use urlpattern_syntax::eight::{ComponentName, Eight};
+use urlpattern_eight::{ComponentName, Eight};
 
 /// Reads the parts of a pattern that was compiled from this init and these options.
 ///

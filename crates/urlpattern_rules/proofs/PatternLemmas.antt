@@ -8,9 +8,9 @@ use Rattle.urlpattern_rules.specs.Comparing.{IsComponentCovered, IsComponentCove
 use Rattle.urlpattern_rules.specs.declared.pattern.First.{First}
 use Rattle.urlpattern_rules.specs.declared.pattern.First.TheVariants as firsts
 use Rattle.urlpattern_rules.specs.declared.pattern.PatternParts.{PatternParts}
-use Rattle.urlpattern_syntax.proofs.EightLemmas.{of_each}
-use Rattle.urlpattern_syntax.specs.Eight.{at, components}
-use Rattle.urlpattern_syntax.specs.declared.eight.ComponentName.{ComponentName}
+use Rattle.urlpattern_eight.proofs.EightLemmas.{of_each}
+use Rattle.urlpattern_eight.specs.Eight.{at, components}
+use Rattle.urlpattern_eight.specs.declared.eight.ComponentName.{ComponentName}
 
 abbrev pub IsCoveredIn : (pattern asked : PatternParts) → ComponentName → Type 0
 IsCoveredIn pattern asked name = IsComponentCovered (at pattern.components name) (at asked.components name)

@@ -23,8 +23,12 @@ use Rattle.urlpattern_rules.specs.declared.pattern.PatternCovering.TheVariants a
 use Rattle.urlpattern_rules.specs.declared.pattern.PatternOverlap.{PatternOverlap}
 use Rattle.urlpattern_rules.specs.declared.pattern.PatternOverlap.TheVariants as commons
 use Rattle.urlpattern_rules.specs.declared.pattern.PatternParts.{PatternParts}
-use Rattle.urlpattern_syntax.specs.declared.eight.{ComponentName.ComponentName, Eight.Eight}
-use Rattle.urlpattern_syntax.specs.{Eight.at, Options.options_view, Parts.PartView, Parts.parts_view, Text.lacks, Text.line_feed, Text.text_of}
+use Rattle.urlpattern_eight.specs.declared.eight.ComponentName.{ComponentName}
+use Rattle.urlpattern_eight.specs.declared.eight.Eight.{Eight}
+use Rattle.urlpattern_eight.specs.Eight.{at}
+use Rattle.urlpattern_syntax.specs.Options.{options_view}
+use Rattle.urlpattern_syntax.specs.Parts.{PartView, parts_view}
+use Rattle.urlpattern_syntax.specs.Text.{lacks, line_feed, text_of}
 use Rattle.urlpattern_syntax.specs.declared.parser.{PartModifier.PartModifier, PartType.PartType}
 
 -- ---- one component

@@ -2,7 +2,7 @@
 
 ghost use Rattle.std.specs.Prelude.{◌≡◌, IfErr, IfOk};
 ghost use Rattle.std.specs.Str.{chars};
-ghost use Rattle.urlpattern_syntax.specs.Eight.{at};
+ghost use Rattle.urlpattern_eight.specs.Eight.{at};
 ghost use Rattle.urlpattern_syntax.specs.Text.{text_of};
 
 use crate::component::ComponentParts;
@@ -10,7 +10,7 @@ use crate::order::compare_parts;
 use std::alloc::{AllocError, Global};
 use std::cmp::Ordering;
 use urlpattern_covers::{Covering, Overlap, Reason};
-use urlpattern_syntax::eight::{ComponentName, Eight};
+use urlpattern_eight::{ComponentName, Eight};
 
 /// The parts of a pattern's eight components.
 #[derive(Debug, Drop)]

@@ -12,7 +12,7 @@ use Rattle.urlpattern_init.specs.declared.constructor_parser.sections.Section.Th
 use Rattle.urlpattern_syntax.specs.declared.tokenizer.TokenType.{TokenType}
 use Rattle.urlpattern_syntax.specs.declared.tokenizer.TokenType.TheVariants.{End, EscapedChar, InvalidChar, Name, Open, OtherModifier}
 use Rattle.urlpattern_syntax.proofs.TokenExamples.{literals, name, no, none, token}
-use Rattle.urlpattern_syntax.specs.Eight.{Values}
+use Rattle.urlpattern_eight.specs.Eight.{Values}
 use Rattle.urlpattern_syntax.specs.Text.{byte_len}
 use Rattle.urlpattern_syntax.specs.Tokens.{AreLenientTokens, InvalidName, IsInvalidCharOf, IsTokenOf, TokenView}
 

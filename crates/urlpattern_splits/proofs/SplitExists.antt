@@ -13,7 +13,7 @@ use Rattle.urlpattern_splits.proofs.SplitUnique.{search_not_end}
 use Rattle.urlpattern_init.proofs.TextBetween.{are_closed, text_between}
 use Rattle.urlpattern_meaning.proofs.TokensExist.{lenient_tokens_exist}
 use Rattle.urlpattern_syntax.specs.Tokens.{AreLenientTokens, TokenView, end_of}
-use Rattle.urlpattern_syntax.specs.Eight.{Values, each}
+use Rattle.urlpattern_eight.specs.Eight.{Values, each}
 
 -- ---- components that are still to be found
 

@@ -17,7 +17,7 @@ use Rattle.urlpattern_meaning.proofs.TokensUnique.{lenient_tokens_one}
 use Rattle.urlpattern_syntax.proofs.TextLemmas.{byte_len-append, byte_len-nil, length-le-byte_len}
 use Rattle.urlpattern_syntax.specs.Text.{byte_len}
 use Rattle.urlpattern_syntax.specs.Tokens.{AreLenientTokens, IsCut, TokenView, end_of}
-use Rattle.urlpattern_syntax.specs.Eight.{Values}
+use Rattle.urlpattern_eight.specs.Eight.{Values}
 
 -- ---- texts
 

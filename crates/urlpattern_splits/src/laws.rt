@@ -9,7 +9,7 @@ ghost use Rattle.urlpattern_init.specs.Inheritance.{texts_of_url};
 ghost use Rattle.urlpattern_init.specs.SpecialProtocol.{IsSpecialTo};
 ghost use Rattle.urlpattern_init.specs.UrlTexts.{EachIsLine, TextsOfUrlsAreLines};
 ghost use Rattle.urlpattern_meaning.specs.Laws.{AtMostOne};
-ghost use Rattle.urlpattern_syntax.specs.Eight.{Values};
+ghost use Rattle.urlpattern_eight.specs.Eight.{Values};
 
 use url::Url;
 use urlpattern_core::regexp::RegExp;

@@ -1,7 +1,7 @@
 pub mod OptionLemmas
 pub mod Tried
 pub mod Rounds
-mod SameLemmas
+pub mod SameLemmas
 pub mod RunLemmas
 pub mod StepLemmas
 pub mod CopyLemmas

@@ -4,7 +4,6 @@ pub mod Escaped
 pub mod TextLemmas
 pub mod ComparedTexts
 pub mod BodyLemmas
-pub mod EightLemmas
 pub mod PieceLemmas
 pub mod PiecesExist
 pub mod ReadingLemmas

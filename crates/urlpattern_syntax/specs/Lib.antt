@@ -1,9 +1,7 @@
 pub mod Cursors
-pub mod Eight
 pub mod ErrorText
 pub mod Errors
 pub mod GivenNames
-pub mod NamedValues
 pub mod Options
 pub mod Parsing
 pub mod PartLists

@@ -1,7 +1,6 @@
 //! The syntax of URL patterns: from the text of one component's pattern to its tokens and its parts.
 #![tactic(auto)]
 
-pub mod eight;
 pub mod error;
 pub mod escape;
 pub mod parser;

@@ -7,7 +7,7 @@ use urlpattern_rules::{
     ComponentParts, PatternCovering, PatternOverlap, PatternParts, Shadowed, first_covering,
     unreachable,
 };
-use urlpattern_syntax::eight::{ComponentName, Eight};
+use urlpattern_eight::{ComponentName, Eight};
 use urlpattern_syntax::error::Error;
 use urlpattern_syntax::parser::{Options, parse_pattern_string};
 

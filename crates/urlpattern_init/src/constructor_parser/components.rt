@@ -5,7 +5,9 @@ ghost use Rattle.urlpattern_init.specs.Inheritance.{values_view};
 ghost use Rattle.urlpattern_init.specs.declared.constructor_parser.sections.Section.TheVariants.{Hostname, Pathname, Port, Search};
 ghost use Rattle.urlpattern_init.specs.Split.{AuthorityFrom, EndsAt, HashAt, HashFrom, HostnameFrom, IsAbsoluteSplit, IsRelativeSplit, IsTextBetween, NoAuthority, PathnameAt, PathnameFrom, PortAt, SearchAt, SearchFrom, UserinfoFrom, depth_before, ends_at, implied_pathname, is_at_sign, is_colon_sign, is_slash_sign};
 ghost use Rattle.urlpattern_init.specs.Splitting.{CanRead, HasRead, HasTurnForSlash, HasTurns, IsOwned, IsSource, NoPathname, NoSearch, may_follow, split_values, text_of_source, tokens_of};
-ghost use Rattle.urlpattern_syntax.specs.{Eight.at, Errors.OnlyOutOfMemory, Text.option_text};
+ghost use Rattle.urlpattern_eight.specs.Eight.{at};
+ghost use Rattle.urlpattern_syntax.specs.Errors.{OnlyOutOfMemory};
+ghost use Rattle.urlpattern_syntax.specs.Text.{option_text};
 
 use super::sections::{Position, Section};
 use super::tokens::Source;
@@ -13,7 +15,7 @@ use crate::init::UrlPatternInit;
 use std::alloc::Global;
 use url::Url;
 use urlpattern_core::Error;
-use urlpattern_syntax::eight::{ComponentName, Eight};
+use urlpattern_eight::{ComponentName, Eight};
 
 /// The components that were found, and how many looks at a token that took.
 #[derive(Drop)]

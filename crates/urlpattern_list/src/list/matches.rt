@@ -5,7 +5,7 @@ use std::alloc::Global;
 use urlpattern_core::Error;
 use urlpattern_core::regexp::RegExp;
 use urlpattern_matches::UrlPatternCaptures;
-use urlpattern_syntax::eight::Eight;
+use urlpattern_eight::Eight;
 
 /// The matches of a URL that are left, in the order of the patterns, each with its pattern's index.
 ///

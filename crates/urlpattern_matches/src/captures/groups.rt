@@ -2,7 +2,7 @@
 
 use super::UrlPatternCaptures;
 use std::slice;
-use urlpattern_syntax::eight::ComponentName;
+use urlpattern_eight::ComponentName;
 
 /// The groups of a component that are left, in their order: each name, with what the group captured. `None`: the group took no
 /// part.
@@ -64,7 +64,7 @@ pub struct UrlPatternCapturesIter<'c, 'p, 'u> {
 impl<'c, 'p, 'u> UrlPatternCapturesIter<'c, 'p, 'u> {
     ghost use Rattle.std.specs.Prelude.{◌≡◌};
     ghost use Rattle.urlpattern_matches.specs.BorrowedMatches.{all_groups_left, all_groups_view};
-    ghost use Rattle.urlpattern_syntax.specs.Eight.{components};
+    ghost use Rattle.urlpattern_eight.specs.Eight.{components};
 
     /// All groups.
     pub(super) fn new(captures: &'c UrlPatternCaptures<'p, 'u>) -> Self

@@ -4,7 +4,7 @@ ghost use Rattle.urlpattern_generate.specs.Manners.{given_groups};
 ghost use Rattle.urlpattern_create.specs.Compiled.{IsPathKind};
 ghost use Rattle.urlpattern_pattern.specs.GeneratedTexts.{GeneratesText, MayRefuseGroups, printed_values};
 ghost use Rattle.urlpattern_pattern.specs.Patterns.{pattern_view};
-ghost use Rattle.urlpattern_syntax.specs.declared.eight.ComponentName.TheVariants as names;
+ghost use Rattle.urlpattern_eight.specs.declared.eight.ComponentName.TheVariants as names;
 ghost use Rattle.urlpattern_syntax.specs.Errors.{OnlyOutOfMemory};
 ghost use Rattle.urlpattern_syntax.specs.Text.{text_of};
 
@@ -15,7 +15,7 @@ use urlpattern_core::Error;
 use urlpattern_core::regexp::RegExp;
 use urlpattern_generate::{GenerateError, GivenGroup, generate_component};
 use urlpattern_init::accepts_special_scheme;
-use urlpattern_syntax::eight::ComponentName;
+use urlpattern_eight::ComponentName;
 
 impl<R: RegExp> UrlPattern<R> {
     /// The text of a component that the component matches, with these groups: each captures the canonical form of the text that it

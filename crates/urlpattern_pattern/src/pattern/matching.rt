@@ -12,9 +12,9 @@ ghost use Rattle.urlpattern_matches.specs.MatchInput.{texts_view};
 ghost use Rattle.urlpattern_pattern.specs.Calls.{AreCaptured, AreLooks, AskWithCause, HasCaptures, all_captures};
 ghost use Rattle.urlpattern_matches.specs.GroupTexts.{borrowed_texts};
 ghost use Rattle.urlpattern_pattern.specs.Patterns.{components_of, pattern_view};
-ghost use Rattle.urlpattern_syntax.specs.declared.eight.ComponentName.{ComponentName as Name};
+ghost use Rattle.urlpattern_eight.specs.declared.eight.ComponentName.{ComponentName as Name};
 ghost use Rattle.urlpattern_syntax.specs.Errors.{OnlyOutOfMemory};
-ghost use Rattle.urlpattern_syntax.specs.Eight.{at};
+ghost use Rattle.urlpattern_eight.specs.Eight.{at};
 
 use super::UrlPattern;
 use std::alloc::Global;
@@ -29,8 +29,7 @@ use urlpattern_matches::{
     GroupCaptures, Missed, UrlPatternCaptures, UrlPatternResult, captures_from, input_texts,
     parse_match_input, url_texts,
 };
-use urlpattern_syntax::eight::{ComponentName, Eight};
-use urlpattern_syntax::with_fields;
+use urlpattern_eight::{ComponentName, Eight, with_fields};
 
 impl<R: RegExp> UrlPattern<R> {
     /// Whether the pattern matches an input. A URL's texts are its own; an init's are those that it results in, with what it

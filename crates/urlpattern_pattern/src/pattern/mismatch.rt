@@ -12,7 +12,7 @@ use url::Url;
 use urlpattern_core::Error;
 use urlpattern_core::regexp::RegExp;
 use urlpattern_matches::url_texts;
-use urlpattern_syntax::eight::{ComponentName, Eight};
+use urlpattern_eight::{ComponentName, Eight};
 
 impl<R: RegExp> UrlPattern<R> {
     /// The first component that does not match its text of a URL, in the order protocol, user name, password, hostname, port,

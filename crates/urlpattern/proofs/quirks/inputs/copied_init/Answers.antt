@@ -1,7 +1,7 @@
 use Rattle.std.proofs.Common.{option_map, ◌∙◌}
 use Rattle.urlpattern.specs.Inputs.{plain_values}
-use Rattle.urlpattern_syntax.proofs.EightLemmas.{at-each, same_values}
-use Rattle.urlpattern_syntax.specs.Eight.{at}
+use Rattle.urlpattern_eight.proofs.EightLemmas.{at-each, same_values}
+use Rattle.urlpattern_eight.specs.Eight.{at}
 use Rattle.urlpattern_syntax.specs.Text.{text_of}
 use Rattle.urlpattern.proofs.quirks.inputs.copied_init.Goals as goal
 

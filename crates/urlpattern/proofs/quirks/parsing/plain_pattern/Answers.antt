@@ -5,8 +5,8 @@ use Rattle.urlpattern_core.specs.declared.component.Component.{Component}
 use Rattle.urlpattern_inputs.proofs.EachLemmas.{each-same}
 use Rattle.urlpattern_compiled.specs.Plain.{plain_component}
 use Rattle.urlpattern_compiled.specs.Values.{component_by}
-use Rattle.urlpattern_syntax.specs.Eight.{at, each}
-use Rattle.urlpattern_syntax.specs.declared.eight.Eight.{Eight}
+use Rattle.urlpattern_eight.specs.Eight.{at, each}
+use Rattle.urlpattern_eight.specs.declared.eight.Eight.{Eight}
 use Rattle.urlpattern_syntax.specs.Text.{text_of}
 use Rattle.urlpattern.proofs.quirks.parsing.plain_pattern.Goals as goal
 

@@ -5,8 +5,8 @@ use Rattle.urlpattern_inputs.proofs.EachLemmas.{passed_on, read_each-fails, read
 use Rattle.urlpattern_compiled.specs.Json.{component_read, pattern_read}
 use Rattle.urlpattern_compiled.specs.Values.{plain_component_view, plain_pattern_view}
 use Rattle.urlpattern_compiled.proofs.PatternLemmas.{pattern_fails, pattern_from}
-use Rattle.urlpattern_syntax.specs.Eight.{at, each, name_text}
-use Rattle.urlpattern_syntax.specs.declared.eight.ComponentName.{ComponentName}
+use Rattle.urlpattern_eight.specs.Eight.{at, each, name_text}
+use Rattle.urlpattern_eight.specs.declared.eight.ComponentName.{ComponentName}
 use Rattle.urlpattern_compiled.proofs.pattern.UrlPattern.read.Goals as goal
 
 pub returns-in_err-components : goal.returns-in_err-components

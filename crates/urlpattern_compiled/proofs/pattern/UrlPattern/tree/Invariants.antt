@@ -3,7 +3,7 @@ use Rattle.serde_json.specs.View.{members_view}
 use Rattle.urlpattern_inputs.proofs.TreeLemmas.{with_each}
 use Rattle.urlpattern_compiled.specs.Json.{component_tree}
 use Rattle.urlpattern_compiled.specs.Values.{plain_pattern_view}
-use Rattle.urlpattern_syntax.specs.Eight.{at}
+use Rattle.urlpattern_eight.specs.Eight.{at}
 use Rattle.urlpattern_compiled.proofs.pattern.UrlPattern.tree.Given as goal
 
 abbrev pub invariant-loop-name : goal.invariant-loop-name

@@ -2,8 +2,8 @@ use Rattle.std.proofs.Common.{[], ◌∷◌}
 use Rattle.urlpattern_core.specs.Components.{component_view}
 use Rattle.urlpattern_create.specs.CompilerSteps.{manner_by}
 use Rattle.urlpattern_create.proofs.CompiledLemmas.{refused_after}
-use Rattle.urlpattern_syntax.proofs.EightLemmas.{by_name}
-use Rattle.urlpattern_syntax.specs.declared.eight.ComponentName.TheVariants.{Hostname, Pathname, Username, Password, Port, Search, Hash}
+use Rattle.urlpattern_eight.proofs.EightLemmas.{by_name}
+use Rattle.urlpattern_eight.specs.declared.eight.ComponentName.TheVariants.{Hostname, Pathname, Username, Password, Port, Search, Hash}
 use Rattle.urlpattern_create.proofs.compile.Compiler.after_protocol.Goals as goal
 
 pub returns-in_err-component-clause-refused : goal.returns-in_err-component-clause-refused

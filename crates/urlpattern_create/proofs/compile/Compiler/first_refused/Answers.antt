@@ -1,7 +1,7 @@
 use Rattle.urlpattern_create.specs.Compiled.{IsComponentRefused}
 use Rattle.urlpattern_create.specs.CompilerSteps.{compiled_values, manner_by}
 use Rattle.urlpattern_create.proofs.DiagnosisLemmas.{is_other, protocol_refused}
-use Rattle.urlpattern_syntax.specs.declared.eight.ComponentName.TheVariants.{Protocol}
+use Rattle.urlpattern_eight.specs.declared.eight.ComponentName.TheVariants.{Protocol}
 use Rattle.std.proofs.Common.{false}
 use Rattle.urlpattern_create.proofs.compile.Compiler.first_refused.Goals as goal
 

@@ -6,7 +6,7 @@ use Rattle.urlpattern_create.specs.CompilerSteps.{manner_by}
 use Rattle.urlpattern_create.specs.Diagnoses.{error_of}
 use Rattle.urlpattern_create.proofs.CompiledLemmas.{first_refused}
 use Rattle.urlpattern_create.proofs.DiagnosisLemmas.{IsCompiledBy, all_more, cut_at}
-use Rattle.urlpattern_syntax.specs.declared.eight.ComponentName.{ComponentName}
+use Rattle.urlpattern_eight.specs.declared.eight.ComponentName.{ComponentName}
 use Rattle.urlpattern_create.proofs.compile.Compiler.first_refused_of.Goals as goal
 
 pub returns-in-Some-clause-first : goal.returns-in-Some-clause-first

@@ -8,7 +8,7 @@ use Rattle.urlpattern_matches.specs.GroupTexts.{borrowed_texts}
 use Rattle.urlpattern_list.specs.FirstMatch.{AsksBeforeMatch, patterns_view}
 use Rattle.urlpattern_matches.specs.declared.captures.UrlPatternCaptures.{UrlPatternCaptures}
 use Rattle.urlpattern_list.proofs.list.UrlPatternList.first_captures.Goals as goal
-use Rattle.urlpattern_syntax.specs.Eight.{Texts}
+use Rattle.urlpattern_eight.specs.Eight.{Texts}
 
 pub returns-clause-first : goal.returns-clause-first
 returns-clause-first g c =

@@ -3,8 +3,8 @@ use Rattle.serde_json.specs.View.{view}
 use Rattle.urlpattern_inputs.specs.Trees.{member_read, read_each}
 use Rattle.urlpattern_inputs.proofs.EachLemmas.{passed_on, read_each-fails, read_each-seen}
 use Rattle.urlpattern_matches.specs.ResultJson.{component_result_read, plain_result_view, plain_results_view}
-use Rattle.urlpattern_syntax.specs.Eight.{at, each, name_text}
-use Rattle.urlpattern_syntax.specs.declared.eight.ComponentName.{ComponentName}
+use Rattle.urlpattern_eight.specs.Eight.{at, each, name_text}
+use Rattle.urlpattern_eight.specs.declared.eight.ComponentName.{ComponentName}
 use Rattle.urlpattern_matches.proofs.result.UrlPatternResult.read.Goals as goal
 
 pub returns-in_err-components : goal.returns-in_err-components

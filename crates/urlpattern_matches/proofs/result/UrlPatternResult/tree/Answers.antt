@@ -1,10 +1,10 @@
 use Rattle.std.proofs.Common.{refl}
 use Rattle.serde_json.proofs.Views.{view-Object}
 use Rattle.serde_json.specs.Data.{Data}
-use Rattle.urlpattern_syntax.proofs.EightLemmas.{by_name}
+use Rattle.urlpattern_eight.proofs.EightLemmas.{by_name}
 use Rattle.urlpattern_matches.specs.ResultJson.{IsComponentTree, plain_results_view}
-use Rattle.urlpattern_syntax.specs.Eight.{at}
-use Rattle.urlpattern_syntax.specs.declared.eight.Eight.{Eight}
+use Rattle.urlpattern_eight.specs.Eight.{at}
+use Rattle.urlpattern_eight.specs.declared.eight.Eight.{Eight}
 use Rattle.urlpattern_matches.proofs.result.UrlPatternResult.tree.Goals as goal
 
 pub returns : goal.returns

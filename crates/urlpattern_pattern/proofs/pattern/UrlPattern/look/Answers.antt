@@ -1,6 +1,6 @@
-use Rattle.urlpattern_syntax.specs.declared.eight.ComponentName.TheVariants.{Protocol, Username, Password, Hostname, Port, Pathname, Search, Hash}
+use Rattle.urlpattern_eight.specs.declared.eight.ComponentName.TheVariants.{Protocol, Username, Password, Hostname, Port, Pathname, Search, Hash}
 use Rattle.urlpattern_pattern.proofs.Results.{if_none}
-use Rattle.urlpattern_syntax.proofs.EightLemmas.{by_name}
+use Rattle.urlpattern_eight.proofs.EightLemmas.{by_name}
 use Rattle.urlpattern_pattern.proofs.pattern.UrlPattern.look.Goals as goal
 
 pub returns-in_err-look-clause-none : goal.returns-in_err-look-clause-none

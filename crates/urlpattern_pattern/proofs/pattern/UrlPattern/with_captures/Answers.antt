@@ -3,8 +3,8 @@ use Rattle.std.specs.Str.{chars}
 use Rattle.std.specs.declared.alloc.Global.{Global}
 use Rattle.urlpattern_matches.specs.GroupTexts.{captures_of}
 use Rattle.urlpattern_matches.specs.ResultViews.{group_of}
-use Rattle.urlpattern_syntax.proofs.EightLemmas.{at-each}
-use Rattle.urlpattern_syntax.specs.Eight.{at}
+use Rattle.urlpattern_eight.proofs.EightLemmas.{at-each}
+use Rattle.urlpattern_eight.specs.Eight.{at}
 use Rattle.urlpattern_syntax.specs.Text.{text_of}
 use Rattle.urlpattern_pattern.proofs.pattern.UrlPattern.with_captures.Goals as goal
 

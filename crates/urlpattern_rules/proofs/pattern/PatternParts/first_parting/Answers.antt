@@ -1,8 +1,8 @@
 use Rattle.std.proofs.Common.{◌∙◌, ◌+◌, arith, get_or, subst, sym, take, take_all}
 use Rattle.urlpattern_rules.proofs.PatternLemmas.{IsSoFar, so_far_all, so_far_more}
 use Rattle.urlpattern_rules.specs.Comparing.{IsComponentCovering}
-use Rattle.urlpattern_syntax.specs.Eight.{at}
-use Rattle.urlpattern_syntax.specs.declared.eight.ComponentName.TheVariants.{Protocol}
+use Rattle.urlpattern_eight.specs.Eight.{at}
+use Rattle.urlpattern_eight.specs.declared.eight.ComponentName.TheVariants.{Protocol}
 use Rattle.urlpattern_rules.proofs.pattern.PatternParts.first_parting.Goals as goal
 
 pub loop-name-init : goal.loop-name-init

@@ -1,7 +1,7 @@
 use Rattle.std.proofs.Common.{◌∙◌, option_map}
 use Rattle.std.proofs.lemmas.Result.{err_from_is_err_and}
-use Rattle.urlpattern_syntax.proofs.EightLemmas.{at-each, same_values}
-use Rattle.urlpattern_syntax.specs.Eight.{at}
+use Rattle.urlpattern_eight.proofs.EightLemmas.{at-each, same_values}
+use Rattle.urlpattern_eight.specs.Eight.{at}
 use Rattle.urlpattern_syntax.specs.Text.{text_of}
 use Rattle.urlpattern_init.specs.Splitting.{split_values}
 use Rattle.urlpattern_init.proofs.constructor_parser.components.Split.to_init.Goals as goal

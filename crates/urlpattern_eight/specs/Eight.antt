@@ -1,7 +1,8 @@
 -- The eight components of a URL, and a value for each of them.
 use Rattle.std.specs.Prelude.{◌≡◌, ◌≢◌, All, ℕ, List, [], ◌∷◌, ◌++◌, codes, map, MatchOption, Option, Result, Ok, Err}
-pub use Rattle.urlpattern_syntax.specs.declared.eight.{ComponentName.ComponentName, Eight.Eight}
-use Rattle.urlpattern_syntax.specs.declared.eight.ComponentName.TheVariants.{Protocol, Username, Password, Hostname, Port, Pathname, Search, Hash}
+pub use Rattle.urlpattern_eight.specs.declared.eight.ComponentName.{ComponentName}
+pub use Rattle.urlpattern_eight.specs.declared.eight.Eight.{Eight}
+use Rattle.urlpattern_eight.specs.declared.eight.ComponentName.TheVariants.{Protocol, Username, Password, Hostname, Port, Pathname, Search, Hash}
 
 -- the components in the order of the standard
 abbrev pub components : List ComponentName

@@ -2,8 +2,9 @@
 use Rattle.std.specs.Prelude.{List}
 use Rattle.std.specs.Borrow.{Bor}
 use Rattle.std.specs.Slice.Iter.{iter_rest}
-use Rattle.urlpattern_syntax.specs.declared.eight.{ComponentName.ComponentName, named.NamedValues.NamedValues}
-use Rattle.urlpattern_syntax.specs.Eight.{named_values}
+use Rattle.urlpattern_eight.specs.declared.eight.ComponentName.{ComponentName}
+use Rattle.urlpattern_eight.specs.declared.eight.named.NamedValues.{NamedValues}
+use Rattle.urlpattern_eight.specs.Eight.{named_values}
 
 -- a value that is borrowed, beside the name of its component
 abbrev pub named_value : {A : Type 0} → ComponentName × Bor A → ComponentName × A

@@ -1,8 +1,8 @@
 use Rattle.std.proofs.Common.{refl, rules, [], ◌∷◌}
-use Rattle.urlpattern_syntax.proofs.EightLemmas.{passed_on}
-use Rattle.urlpattern_syntax.specs.Eight.{at}
-use Rattle.urlpattern_syntax.specs.declared.eight.ComponentName.TheVariants.{Protocol, Username, Password, Hostname, Port, Pathname, Search, Hash}
-use Rattle.urlpattern_syntax.proofs.eight.Eight.try_map.Goals as goal
+use Rattle.urlpattern_eight.proofs.EightLemmas.{passed_on}
+use Rattle.urlpattern_eight.specs.Eight.{at}
+use Rattle.urlpattern_eight.specs.declared.eight.ComponentName.TheVariants.{Protocol, Username, Password, Hostname, Port, Pathname, Search, Hash}
+use Rattle.urlpattern_eight.proofs.eight.Eight.try_map.Goals as goal
 
 pub returns-in_err-value-clause-err : goal.returns-in_err-value-clause-err
 returns-in_err-value-clause-err g c =

@@ -12,8 +12,8 @@ pub struct NamedValues<'a, T> {
 
 impl<'a, T> NamedValues<'a, T> {
     ghost use Rattle.std.specs.Prelude.{◌≡◌};
-    ghost use Rattle.urlpattern_syntax.specs.Eight.{components, named_values};
-    ghost use Rattle.urlpattern_syntax.specs.NamedValues.{values_left};
+    ghost use Rattle.urlpattern_eight.specs.Eight.{components, named_values};
+    ghost use Rattle.urlpattern_eight.specs.NamedValues.{values_left};
 
     /// All values.
     pub(super) fn new(values: &'a Eight<T>) -> Self
@@ -28,7 +28,7 @@ impl<'a, T> NamedValues<'a, T> {
 
 impl<'a, T> Iterator for NamedValues<'a, T> {
     ghost use Rattle.std.specs.Iterator.{YieldsFirstBy, item_count};
-    ghost use Rattle.urlpattern_syntax.specs.NamedValues.{named_value, values_left};
+    ghost use Rattle.urlpattern_eight.specs.NamedValues.{named_value, values_left};
 
     type Item = (ComponentName, &'a T);
 

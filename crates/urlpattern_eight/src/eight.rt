@@ -1,7 +1,7 @@
 //! The components of a URL, and a value for each of the eight.
 ghost use Rattle.std.specs.Prelude.{◌≡◌, Ok, Some, IfErr, IfOk};
-ghost use Rattle.urlpattern_syntax.specs.Eight.{IsFirstError, NamesComponent, at, components, name_text, named_values};
-ghost use Rattle.urlpattern_syntax.specs.NamedValues.{values_left};
+ghost use Rattle.urlpattern_eight.specs.Eight.{IsFirstError, NamesComponent, at, components, name_text, named_values};
+ghost use Rattle.urlpattern_eight.specs.NamedValues.{values_left};
 
 mod named;
 
@@ -13,14 +13,14 @@ use std::fmt;
 macro_rules! field_of {
     ($values:expr, $name:expr) => {
         match $name {
-            $crate::eight::ComponentName::Protocol => &$values.protocol,
-            $crate::eight::ComponentName::Username => &$values.username,
-            $crate::eight::ComponentName::Password => &$values.password,
-            $crate::eight::ComponentName::Hostname => &$values.hostname,
-            $crate::eight::ComponentName::Port => &$values.port,
-            $crate::eight::ComponentName::Pathname => &$values.pathname,
-            $crate::eight::ComponentName::Search => &$values.search,
-            $crate::eight::ComponentName::Hash => &$values.hash,
+            $crate::ComponentName::Protocol => &$values.protocol,
+            $crate::ComponentName::Username => &$values.username,
+            $crate::ComponentName::Password => &$values.password,
+            $crate::ComponentName::Hostname => &$values.hostname,
+            $crate::ComponentName::Port => &$values.port,
+            $crate::ComponentName::Pathname => &$values.pathname,
+            $crate::ComponentName::Search => &$values.search,
+            $crate::ComponentName::Hash => &$values.hash,
         }
     };
 }

@@ -1,9 +1,9 @@
 use Rattle.std.proofs.Common.{subst}
 use Rattle.std.proofs.Math.Path.{fun_ext}
 use Rattle.std.specs.Prelude.{IfErr}
-use Rattle.urlpattern_syntax.specs.Eight.{IsFirstError}
-use Rattle.urlpattern_syntax.specs.declared.eight.ComponentName.{ComponentName}
-use Rattle.urlpattern_syntax.proofs.eight.Eight.try_from_fn.Goals as goal
+use Rattle.urlpattern_eight.specs.Eight.{IsFirstError}
+use Rattle.urlpattern_eight.specs.declared.eight.ComponentName.{ComponentName}
+use Rattle.urlpattern_eight.proofs.eight.Eight.try_from_fn.Goals as goal
 
 pub returns-clause-err : goal.returns-clause-err
 returns-clause-err g c =

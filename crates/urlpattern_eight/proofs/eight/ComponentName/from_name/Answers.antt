@@ -3,11 +3,11 @@ use Rattle.std.proofs.lemmas.Bool.{false≢true}
 use Rattle.std.proofs.lemmas.List.Elements.{All-more}
 use Rattle.std.specs.Cmp.Lexicographic.{bytes_decides}
 use Rattle.std.specs.Prelude.{All}
-use Rattle.urlpattern_syntax.proofs.EightLemmas.{of_each}
-use Rattle.urlpattern_syntax.specs.declared.eight.ComponentName.{ComponentName}
-use Rattle.urlpattern_syntax.specs.declared.eight.ComponentName.TheVariants.{Protocol}
-use Rattle.urlpattern_syntax.specs.Eight.{name_text}
-use Rattle.urlpattern_syntax.proofs.eight.ComponentName.from_name.Goals as goal
+use Rattle.urlpattern_eight.proofs.EightLemmas.{of_each}
+use Rattle.urlpattern_eight.specs.declared.eight.ComponentName.{ComponentName}
+use Rattle.urlpattern_eight.specs.declared.eight.ComponentName.TheVariants.{Protocol}
+use Rattle.urlpattern_eight.specs.Eight.{name_text}
+use Rattle.urlpattern_eight.proofs.eight.ComponentName.from_name.Goals as goal
 
 pub loop-component-preserved : goal.loop-component-preserved
 loop-component-preserved c =
