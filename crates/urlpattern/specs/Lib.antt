@@ -6,9 +6,9 @@ pub use Rattle.urlpattern_core.specs.Generated
 pub use Rattle.urlpattern_core.specs.Matchers
 pub use Rattle.urlpattern_core.specs.NormalForms
 pub use Rattle.urlpattern_core.specs.Regexes
-pub use Rattle.urlpattern_diagnosis.specs.Faults
-pub use Rattle.urlpattern_diagnosis.specs.Places
-pub use Rattle.urlpattern_diagnosis.specs.Spans
+pub use Rattle.urlpattern_faults.specs.Faults
+pub use Rattle.urlpattern_faults.specs.Places
+pub use Rattle.urlpattern_faults.specs.Spans
 pub use Rattle.urlpattern_init.specs.ConstructorString
 pub use Rattle.urlpattern_init.specs.Inheritance
 pub use Rattle.urlpattern_init.specs.SpecialProtocol

@@ -6,12 +6,12 @@ use Rattle.std.specs.Prelude.{Result, IfNone, IfOk, IfSome, string_bytes}
 use Rattle.std.specs.Str.{chars}
 use Rattle.urlpattern_core.specs.Components.{ComponentView}
 use Rattle.urlpattern_core.specs.declared.regexp.RegExp.{Ghosts as Engine}
-use Rattle.urlpattern_diagnosis.specs.Faults.{IsFaultOf}
-use Rattle.urlpattern_diagnosis.specs.Places.{IsFaultMoved}
+use Rattle.urlpattern_faults.specs.Faults.{IsFaultOf}
+use Rattle.urlpattern_faults.specs.Places.{IsFaultMoved}
 use Rattle.urlpattern_diagnosis.specs.declared.diagnosis.Diagnosis.{Diagnosis}
 use Rattle.urlpattern_diagnosis.specs.declared.diagnosis.Subject.{Subject}
 use Rattle.urlpattern_diagnosis.specs.declared.diagnosis.Subject.TheVariants as subjects
-use Rattle.urlpattern_diagnosis.specs.declared.fault.Fault.{Fault}
+use Rattle.urlpattern_faults.specs.declared.fault.Fault.{Fault}
 use Rattle.urlpattern_inputs.specs.declared.options.UrlPatternOptions.{UrlPatternOptions}
 use Rattle.urlpattern_create.specs.Compiled.{FirstRefused, IsComponentCompiled, IsComponentRefused, IsPathKind, IsPatternOfInit, Manner, RefusesValues, after_protocol, manner_of}
 use Rattle.urlpattern_create.specs.Diagnoses.{IsOf, IsPartOfRefused, IsRefusalOf, RefusesComponent, ShowsFault, ShowsInit, ShowsPattern, ShowsProtocol, ShowsRefusal, ShowsText, error_of}

@@ -2,11 +2,11 @@
 use Rattle.std.specs.Prelude.{◌≡◌, ◌⊎◌, ℕ, Bool, List, [], Option, None, Some, Ok, unwrap_or, string_bytes}
 use Rattle.std.specs.Str.{chars}
 use Rattle.urlpattern_core.specs.declared.regexp.RegExp.{Ghosts as Engine}
-use Rattle.urlpattern_diagnosis.specs.Faults.{IsFaultIn, IsFaultOf, IsWholeFault}
-use Rattle.urlpattern_diagnosis.specs.Places.{IsFaultMoved}
+use Rattle.urlpattern_faults.specs.Faults.{IsFaultIn, IsFaultOf, IsWholeFault}
+use Rattle.urlpattern_faults.specs.Places.{IsFaultMoved}
 use Rattle.urlpattern_diagnosis.specs.declared.diagnosis.{Diagnosis.Diagnosis, Subject.Subject}
 use Rattle.urlpattern_diagnosis.specs.declared.diagnosis.Subject.TheVariants as subjects
-use Rattle.urlpattern_diagnosis.specs.declared.fault.Fault.{Fault}
+use Rattle.urlpattern_faults.specs.declared.fault.Fault.{Fault}
 use Rattle.urlpattern_init.specs.Split.{HasProtocol}
 use Rattle.urlpattern_init.specs.declared.init.UrlPatternInit.{UrlPatternInit}
 use Rattle.urlpattern_inputs.specs.declared.options.UrlPatternOptions.{UrlPatternOptions}

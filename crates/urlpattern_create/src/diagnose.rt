@@ -6,7 +6,7 @@ ghost use Rattle.urlpattern_diagnosis.specs.declared.diagnosis.Subject.TheVarian
 ghost use Rattle.urlpattern_init.specs.Inheritance.{values_view};
 ghost use Rattle.urlpattern_create.specs.Compiled.{AreCompiled, IsPatternOfInit, RefusesInit, RefusesValues};
 ghost use Rattle.urlpattern_create.specs.CompilerSteps.{compiled_values, manner_by};
-ghost use Rattle.urlpattern_diagnosis.specs.Spans.{IsSpanIn};
+ghost use Rattle.urlpattern_faults.specs.Spans.{IsSpanIn};
 ghost use Rattle.urlpattern_create.specs.Diagnoses.{IsOf, IsPartOfRefused, IsWithinText, ShowsInit, ShowsPattern, ShowsProtocol, ShowsRefusal, ShowsText};
 ghost use Rattle.urlpattern_create.specs.FromString.{IsPatternOfText, RefusesPatternOfText};
 ghost use Rattle.urlpattern_create.specs.PatternViews.{PatternView};

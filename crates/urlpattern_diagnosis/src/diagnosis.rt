@@ -1,17 +1,15 @@
 //! What is wrong with a pattern that is refused.
 
 ghost use Rattle.std.specs.Prelude.{◌≡◌, string_bytes, IfOk, IfSome};
-ghost use Rattle.urlpattern_diagnosis.specs.Faults.{IsFaultIn, IsWholeFault};
-ghost use Rattle.urlpattern_diagnosis.specs.Places.{IsFaultMoved, IsPlaceOf};
+ghost use Rattle.urlpattern_faults.specs.Faults.{IsFaultIn, IsWholeFault};
+ghost use Rattle.urlpattern_faults.specs.Places.{IsFaultMoved, IsPlaceOf};
 
-use crate::fault::Fault;
-use crate::place::Place;
 use crate::reason::{reason_before_search, reason_of};
-use crate::span::Span;
 use std::alloc::{AllocError, Global};
 use std::fmt;
-use urlpattern_syntax::Error;
 use urlpattern_eight::ComponentName;
+use urlpattern_faults::{Fault, Place, Span};
+use urlpattern_syntax::Error;
 
 /// How many characters of a text are printed at most.
 const WIDTH: usize = 80;

@@ -2,17 +2,10 @@
 #![tactic(auto)]
 
 mod diagnosis;
-mod fault;
-mod parts;
-mod place;
 mod reason;
-mod span;
 mod walk;
 
 pub use diagnosis::{Diagnosis, Subject};
-pub use fault::{Fault, fault_of};
-pub use parts::{refused_expression, refused_row};
-pub use place::Place;
 pub use reason::reason_of;
-pub use span::Span;
+pub use urlpattern_faults::{Fault, Place, Span, fault_of, refused_expression, refused_row};
 pub use walk::component_start;

@@ -2,8 +2,8 @@ use Rattle.std.proofs.Common.{◌≡◌, ◌⊎◌, ◌∙◌, None, refl, sym, 
 use Rattle.std.specs.Prelude.{IfSome}
 use Rattle.std.specs.Str.{chars}
 use Rattle.urlpattern_core.proofs.CompileLemmas.{text-or_asterisk}
-use Rattle.urlpattern_diagnosis.specs.Faults.{IsFaultOf}
-use Rattle.urlpattern_diagnosis.specs.declared.span.Span.{Span}
+use Rattle.urlpattern_faults.specs.Faults.{IsFaultOf}
+use Rattle.urlpattern_faults.specs.declared.span.Span.{Span}
 use Rattle.urlpattern_create.specs.CompilerSteps.{manner_by}
 use Rattle.urlpattern_create.specs.Diagnoses.{IsPartOfRefused}
 use Rattle.urlpattern_create.proofs.DiagnosisLemmas.{shows_fault}

@@ -1,6 +1,6 @@
 //! Spans of a text.
 ghost use Rattle.std.specs.Prelude.{◌≡◌, length};
-ghost use Rattle.urlpattern_diagnosis.specs.Spans.{IsSpanAt, IsSpanIn, whole_span};
+ghost use Rattle.urlpattern_faults.specs.Spans.{IsSpanAt, IsSpanIn, whole_span};
 
 /// A part of a text, by the byte indices of its first character and of what follows its last.
 #[derive(Debug, Clone, Copy, PartialEq, Eq)]

@@ -1,6 +1,6 @@
 -- Parts of a text by their places, in bytes.
 use Rattle.std.specs.Prelude.{◌≡◌, ℕ, ◌+◌, ◌≤◌, ◌⊎◌, List, length, IsCharBoundary}
-use Rattle.urlpattern_diagnosis.specs.declared.span.Span.{Span}
+use Rattle.urlpattern_faults.specs.declared.span.Span.{Span}
 
 -- the bytes from one place up to another
 abbrev pub span_between : (start end : ℕ) → Span

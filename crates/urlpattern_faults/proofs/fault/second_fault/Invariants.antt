@@ -1,6 +1,6 @@
 use Rattle.std.proofs.Common.{take}
-use Rattle.urlpattern_diagnosis.proofs.NameLemmas.{HasFirst}
-use Rattle.urlpattern_diagnosis.proofs.fault.second_fault.Given as goal
+use Rattle.urlpattern_faults.proofs.NameLemmas.{HasFirst}
+use Rattle.urlpattern_faults.proofs.fault.second_fault.Given as goal
 
 -- of the tokens before this one none gives the name, or one
 abbrev pub invariant-loop-token : goal.invariant-loop-token

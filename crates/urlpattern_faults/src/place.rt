@@ -1,8 +1,8 @@
 //! Where the pattern of a component is in a text that was given.
 ghost use Rattle.std.specs.Prelude.{◌≡◌, IfSome};
-ghost use Rattle.urlpattern_diagnosis.specs.Faults.{IsFaultIn};
-ghost use Rattle.urlpattern_diagnosis.specs.Places.{IsMovedFault, IsMovedSpan, IsPlaceOf};
-ghost use Rattle.urlpattern_diagnosis.specs.Spans.{IsSpanIn};
+ghost use Rattle.urlpattern_faults.specs.Faults.{IsFaultIn};
+ghost use Rattle.urlpattern_faults.specs.Places.{IsMovedFault, IsMovedSpan, IsPlaceOf};
+ghost use Rattle.urlpattern_faults.specs.Spans.{IsSpanIn};
 
 use crate::fault::Fault;
 use crate::span::Span;

@@ -1,8 +1,8 @@
 //! Where the pattern text of a component is at fault.
 ghost use Rattle.std.specs.Prelude.{◌≡◌, ℕ, IfOk, IfSome, None, filter, map};
 ghost use Rattle.std.specs.Str.{chars};
-ghost use Rattle.urlpattern_diagnosis.specs.Faults.{IsFaultIn, IsFaultOf, IsParserFault, IsSecondFault, IsSpanOfToken, IsStopFault, IsWholeFault, gives_name, marks_len};
-ghost use Rattle.urlpattern_diagnosis.specs.Spans.{IsSpanIn};
+ghost use Rattle.urlpattern_faults.specs.Faults.{IsFaultIn, IsFaultOf, IsParserFault, IsSecondFault, IsSpanOfToken, IsStopFault, IsWholeFault, gives_name, marks_len};
+ghost use Rattle.urlpattern_faults.specs.Spans.{IsSpanIn};
 ghost use Rattle.urlpattern_syntax.specs.Tokens.{AreTokens, token_view};
 
 use crate::span::Span;

@@ -1,7 +1,7 @@
 //! The parts of a pattern text that others may refuse: its custom expressions, and its rows of characters.
 ghost use Rattle.std.specs.Prelude.{◌≡◌, IfOk, IfSome, Ok, true};
-ghost use Rattle.urlpattern_diagnosis.specs.Faults.{IsSpanOfBody};
-ghost use Rattle.urlpattern_diagnosis.specs.Spans.{IsSpanIn};
+ghost use Rattle.urlpattern_faults.specs.Faults.{IsSpanOfBody};
+ghost use Rattle.urlpattern_faults.specs.Spans.{IsSpanIn};
 ghost use Rattle.urlpattern_syntax.specs.declared.tokenizer.Token.{Token};
 ghost use Rattle.urlpattern_syntax.specs.declared.tokenizer.TokenType.TheVariants.{Regexp};
 

@@ -3,10 +3,10 @@ use Rattle.std.proofs.Common.{◌≡◌, ℕ, zero, suc, ◌+◌, ◌<◌, Bool,
 use Rattle.std.specs.Prelude.{filter}
 use Rattle.std.proofs.lemmas.List.{append-nil, take-append-drop}
 use Rattle.std.proofs.lemmas.List.Elements.{filter-append, filter_more}
-use Rattle.urlpattern_diagnosis.specs.Faults.{IsSecondFault, IsSpanOfToken, IsWholeFault, gives_name}
-use Rattle.urlpattern_diagnosis.specs.Spans.{IsSpanIn}
-use Rattle.urlpattern_diagnosis.specs.declared.fault.Fault.{Fault}
-use Rattle.urlpattern_diagnosis.specs.declared.span.Span.{Span}
+use Rattle.urlpattern_faults.specs.Faults.{IsSecondFault, IsSpanOfToken, IsWholeFault, gives_name}
+use Rattle.urlpattern_faults.specs.Spans.{IsSpanIn}
+use Rattle.urlpattern_faults.specs.declared.fault.Fault.{Fault}
+use Rattle.urlpattern_faults.specs.declared.span.Span.{Span}
 use Rattle.urlpattern_syntax.specs.declared.tokenizer.Token.{Token}
 use Rattle.urlpattern_syntax.specs.declared.tokenizer.TokenType.TheVariants.{Open}
 

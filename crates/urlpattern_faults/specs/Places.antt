@@ -1,11 +1,11 @@
 -- Where the pattern of a component is in a text that was given. Texts are their bytes.
 use Rattle.std.specs.Prelude.{◌≡◌, ℕ, ◌+◌, ◌-◌, ◌≤◌, ◌⊎◌, List, length, drop, nat_eq, nat_le, IsTrue, MatchBool, MatchOption, None, IsSomeAnd}
 use Rattle.std.specs.List.{starts_with}
-use Rattle.urlpattern_diagnosis.specs.Faults.{IsWholeFault}
-use Rattle.urlpattern_diagnosis.specs.Spans.{IsSpanAt, whole_span}
-use Rattle.urlpattern_diagnosis.specs.declared.fault.Fault.{Fault}
-use Rattle.urlpattern_diagnosis.specs.declared.place.Place.{Place}
-use Rattle.urlpattern_diagnosis.specs.declared.span.Span.{Span}
+use Rattle.urlpattern_faults.specs.Faults.{IsWholeFault}
+use Rattle.urlpattern_faults.specs.Spans.{IsSpanAt, whole_span}
+use Rattle.urlpattern_faults.specs.declared.fault.Fault.{Fault}
+use Rattle.urlpattern_faults.specs.declared.place.Place.{Place}
+use Rattle.urlpattern_faults.specs.declared.span.Span.{Span}
 
 -- The part is in the text at the place, but for the bytes at its front that the text lacks.
 pub record IsPlaceOf (bytes part : List ℕ) (place : Place) : Type 0 where

@@ -1,9 +1,9 @@
 -- Where the pattern text of a component is at fault. Texts are their bytes.
 use Rattle.std.specs.Prelude.{◌≡◌, ℕ, ◌+◌, ◌⊎◌, ◌&&◌, ◌==◌, Bool, true, false, List, [], ◌∷◌, length, map, filter, bytes_eq, Option, Some, None, IsSomeAnd, IfSome, MatchBool, string_bytes}
 use Rattle.std.specs.Str.{chars}
-use Rattle.urlpattern_diagnosis.specs.Spans.{IsSpanAt, IsSpanIn, whole_span}
-use Rattle.urlpattern_diagnosis.specs.declared.fault.Fault.{Fault}
-use Rattle.urlpattern_diagnosis.specs.declared.span.Span.{Span}
+use Rattle.urlpattern_faults.specs.Spans.{IsSpanAt, IsSpanIn, whole_span}
+use Rattle.urlpattern_faults.specs.declared.fault.Fault.{Fault}
+use Rattle.urlpattern_faults.specs.declared.span.Span.{Span}
 use Rattle.urlpattern_syntax.specs.declared.error.Error.{Error}
 use Rattle.urlpattern_syntax.specs.declared.error.Error.TheVariants as errors
 use Rattle.urlpattern_syntax.specs.declared.error.ParserError.{ParserError}
