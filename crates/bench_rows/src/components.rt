@@ -1,7 +1,7 @@
 //! Asks for the parts of a pattern and what is made of them.
 
-use crate::matchers::is_matcher;
 use crate::case::{Case, succeeded};
+use crate::matchers::is_matcher;
 use crate::recorded::{Fault, has_text, has_texts, list, named, optional_text, options_of, text};
 use serde_json::Value;
 use std::alloc::Global;

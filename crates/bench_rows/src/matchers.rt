@@ -1,8 +1,8 @@
 //! Asks matchers what they were asked when a case was recorded.
 
+use crate::case::{Case, succeeded};
 use crate::components::{Callback, parts_of};
 use crate::engines::are_captures;
-use crate::case::{Case, succeeded};
 use crate::recorded::{
     Answer, Fault, character, field, has_text, is_set, list, optional_text, options_of, text,
 };
@@ -11,9 +11,9 @@ use std::alloc::{AllocError, Global};
 use urlpattern_core::component::generate_matcher;
 use urlpattern_core::matcher::{InnerMatcher, Matcher};
 use urlpattern_core::parser::Options;
-use urlpattern_engine::EcmaRegexp;
 use urlpattern_core::regexp::RegExp;
 use urlpattern_core::{Error, RegexSyntax};
+use urlpattern_engine::EcmaRegexp;
 
 /// Whether the matcher of a pattern over an engine answers what was recorded.
 pub fn is_same<R: RegExp>(case: &Case<'_>) -> Result<bool, Fault> {

@@ -14,6 +14,7 @@ pub mod theorem;
 pub use urlpattern_canonical::canonicalize_and_process;
 pub use urlpattern_core::{Error, RegexSyntax, component, error, matcher, parser, tokenizer};
 pub use urlpattern_diagnosis::{Diagnosis, Fault, Span, Subject};
+pub use urlpattern_eight::{ComponentName, Eight};
 pub use urlpattern_generate::{GenerateError, GivenGroup};
 pub use urlpattern_init::{UrlPatternInit, UrlPatternMatchInput};
 pub use urlpattern_inputs::UrlPatternOptions;
@@ -24,4 +25,3 @@ pub use urlpattern_matches::{
     UrlPatternResult, pathname_texts, url_texts,
 };
 pub use urlpattern_pattern::UrlPattern;
-pub use urlpattern_eight::{ComponentName, Eight};

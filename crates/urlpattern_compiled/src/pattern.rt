@@ -21,9 +21,9 @@ use std::alloc::{AllocError, Global};
 use urlpattern_core::Error;
 use urlpattern_core::component::Component;
 use urlpattern_core::regexp::RegExp;
+use urlpattern_eight::{ComponentName, Eight, field_of, with_fields};
 use urlpattern_inputs::reading::{Unread, flag_field, member, read_or_none, text_field};
 use urlpattern_inputs::writing::put_text;
-use urlpattern_eight::{ComponentName, Eight, field_of, with_fields};
 
 /// A pattern for each of a URL's components.
 #[derive(Debug, Clone, PartialEq, Eq, Drop, Serialize, Deserialize)]

@@ -23,9 +23,9 @@ use urlpattern_core::Error;
 use urlpattern_core::component::Component;
 use urlpattern_core::parser::Options;
 use urlpattern_core::regexp::RegExp;
+use urlpattern_eight::{ComponentName, Eight};
 use urlpattern_init::{UrlPatternInit, accepts_special_scheme, process};
 use urlpattern_inputs::UrlPatternOptions;
-use urlpattern_eight::{ComponentName, Eight};
 
 /// Compiles the components of a pattern from an init: from its own texts, and from what they inherit from its base URL.
 ///

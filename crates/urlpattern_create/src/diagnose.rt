@@ -25,9 +25,9 @@ use urlpattern_diagnosis::{
     Diagnosis, Fault, Place, Span, Subject, component_start, fault_of, refused_expression,
     refused_row,
 };
+use urlpattern_eight::{ComponentName, Eight};
 use urlpattern_init::{UrlPatternInit, protocol_of};
 use urlpattern_inputs::UrlPatternOptions;
-use urlpattern_eight::{ComponentName, Eight};
 
 /// What is wrong with a constructor string, or with its base URL. `None`: it is accepted.
 ///

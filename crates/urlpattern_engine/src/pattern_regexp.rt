@@ -17,10 +17,10 @@ use urlpattern_core::RegexSyntax;
 use urlpattern_core::error::{OutOfMemory, RegExpError};
 use urlpattern_core::outline::OutlineItem;
 use urlpattern_core::regexp::RegExp;
+use urlpattern_steps::step::Step;
 use urlpattern_walk::choices::{Strategy, strategy_of};
 use urlpattern_walk::outline::{outline_of, outline_of_any};
 use urlpattern_walk::reading::read_steps;
-use urlpattern_steps::step::Step;
 use urlpattern_walk::walk::walk;
 use urlpattern_walk::walk_by_table;
 

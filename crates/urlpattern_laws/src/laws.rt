@@ -28,9 +28,10 @@ pub use urlpattern_meaning::laws::{
     joining_keeps_meaning, joining_keeps_printed_text, joining_keeps_regexp,
     matchers_answer_the_first_way, matchers_answer_what_parts_mean, names_are_new,
     parts_and_regexp_mean_the_same, parts_that_were_read_print_and_read_back, pieces_are_one,
-    plain_ends_are_removed, printed_patterns_fail_by_the_encoding_alone, printed_patterns_read_back,
-    printed_patterns_read_back_by_callbacks, read_parts_are_pattern_parts, readings_are_one,
-    readings_by_callbacks_are_one, tokens_are_one, tokens_lose_nothing,
+    plain_ends_are_removed, printed_patterns_fail_by_the_encoding_alone,
+    printed_patterns_read_back, printed_patterns_read_back_by_callbacks,
+    read_parts_are_pattern_parts, readings_are_one, readings_by_callbacks_are_one, tokens_are_one,
+    tokens_lose_nothing,
 };
 pub use urlpattern_regex::laws::{
     matchers_by_regex_answer_the_first_way, regex_answers_the_first_way,

@@ -29,6 +29,7 @@ use url::Url;
 use urlpattern_core::Error;
 use urlpattern_core::error::OutOfMemory;
 use urlpattern_core::regexp::RegExp;
+use urlpattern_eight::Eight;
 use urlpattern_index::{Address, Fixed, Index};
 use urlpattern_init::UrlPatternMatchInput;
 use urlpattern_inputs::MatchInput;
@@ -36,7 +37,6 @@ use urlpattern_matches::{
     UrlPatternCaptures, UrlPatternResult, input_texts, parse_match_input, url_texts,
 };
 use urlpattern_pattern::{UrlPattern, captures_of_texts};
-use urlpattern_eight::Eight;
 
 /// Patterns in their order, as the routes of a router.
 #[derive(Debug, Drop)]

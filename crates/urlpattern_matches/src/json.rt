@@ -12,10 +12,10 @@ use crate::result::{UrlPatternComponentResult, UrlPatternResult};
 use serde_json::{Map, Value};
 use std::alloc::{AllocError, Global};
 use std::collections::HashMap;
+use urlpattern_eight::Eight;
 use urlpattern_inputs::reading::{Unread, member, read_or_none, text_field};
 use urlpattern_inputs::writing::put_text;
 use urlpattern_syntax::Error;
-use urlpattern_eight::Eight;
 
 impl UrlPatternResult {
     /// The JSON of the result: an object with a key for each component, which has the object of the component's result.

@@ -9,9 +9,9 @@ ghost use Rattle.urlpattern_eight.specs.Eight.{at};
 
 use std::alloc::{AllocError, Global};
 use url::Url;
+use urlpattern_eight::{ComponentName, Eight};
 use urlpattern_init::url_text;
 use urlpattern_inputs::MatchInput;
-use urlpattern_eight::{ComponentName, Eight};
 
 /// The eight texts of a URL, borrowed: what it has for each component, without the marks between them.
 pub fn url_texts(url: &Url) -> Eight<&str>

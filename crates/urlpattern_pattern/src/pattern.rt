@@ -19,10 +19,10 @@ use urlpattern_eight::{ComponentName, Eight, field_of, with_fields};
 
 /// A pattern that URLs are matched against, compiled component by component.
 ///
-/// Its components may also be put together by hand.
+/// Its components may also be put together by hand. It has a `Drop` of its own, so they are moved out together, by `into_eight`.
 ///
 /// <https://urlpattern.spec.whatwg.org/#url-pattern>
-#[derive(Debug, Drop)]
+#[derive(Debug)]
 pub struct UrlPattern<R: RegExp = regex::Regex> {
     /// What the scheme is matched with, without its colon.
     pub protocol: Component<R>,
@@ -54,7 +54,26 @@ impl<R: RegExp> UrlPattern<R> {
     pub fn into_eight(self) -> Eight<Component<R>>
         ensures { result ≡ components_of self }
     {
-        with_fields!(Eight, self)
+        let Self {
+            protocol,
+            username,
+            password,
+            hostname,
+            port,
+            pathname,
+            search,
+            hash,
+        } = self;
+        Eight {
+            protocol,
+            username,
+            password,
+            hostname,
+            port,
+            pathname,
+            search,
+            hash,
+        }
     }
 
     /// A component by its name.
@@ -129,5 +148,12 @@ impl<R: RegExp> UrlPattern<R> {
         ComponentName::all()
             .iter()
             .any(|&name| self.get(name).has_regexp_group)
+    }
+}
+
+impl<R: RegExp> Drop for UrlPattern<R> {
+    /// Drops the components. Where a pattern goes out of scope, the prover handles one call in place of eight.
+    fn drop(self) {
+        drop(self.into_eight());
     }
 }

@@ -19,11 +19,11 @@ use urlpattern_core::component::Component;
 use urlpattern_core::parser::parse_pattern_string;
 use urlpattern_core::regexp::RegExp;
 use urlpattern_create::{Compiler, pattern_of, pattern_values};
+use urlpattern_eight::{ComponentName, Eight};
 use urlpattern_init::UrlPatternInit;
 use urlpattern_inputs::UrlPatternOptions;
 use urlpattern_pattern::UrlPattern;
 use urlpattern_rules::{ComponentParts, PatternParts};
-use urlpattern_eight::{ComponentName, Eight};
 
 /// Reads the parts of a pattern that was compiled from this init and these options.
 ///

@@ -49,12 +49,7 @@ pub fn after_literals<'t>(
 
 /// What follows all copies of a text, as it is compared, at the front of another: of the first character and those of the literal
 /// steps.
-pub fn skip_copies<'t>(
-    text: &'t str,
-    first: char,
-    literal: &[Step],
-    ignore_case: bool,
-) -> &'t str
+pub fn skip_copies<'t>(text: &'t str, first: char, literal: &[Step], ignore_case: bool) -> &'t str
     ensures front { (copies : List (List ℕ)) × (chars text.now ≡ in_turn copies ++ chars result.now) × AreCopiesOf ignore_case (literal_text first literal.now) copies }
     ensures all { (rest : List ℕ) → ¬ BeginsAs ignore_case (literal_text first literal.now) (chars result.now) rest }
 {
@@ -127,12 +122,7 @@ pub fn begun_after(
 }
 
 /// Where a run ends that goes on with the first character of a text, by where it ends later. `None`: it does not go on.
-pub fn goes_on(
-    text: &str,
-    end: char,
-    ignore_case: bool,
-    later: Option<usize>,
-) -> Option<usize>
+pub fn goes_on(text: &str, end: char, ignore_case: bool, later: Option<usize>) -> Option<usize>
     ensures { result ≡ going_on ignore_case end later (chars text.now) }
 {
     match split_first(text) {

@@ -4,9 +4,9 @@ use regex::Regex;
 use std::alloc::{AllocError, Global};
 use std::test::Fail;
 use urlpattern_core::component::Component;
+use urlpattern_eight::ComponentName;
 use urlpattern_generate::{GenerateError, GivenGroup, generate_component};
 use urlpattern_syntax::Error;
-use urlpattern_eight::ComponentName;
 use urlpattern_syntax::parser::Options;
 
 /// The text of a pathname's pattern with these groups, or a word for the error.

@@ -3,11 +3,11 @@
 use std::alloc::{AllocError, Global};
 use std::cmp::Ordering;
 use std::test::Fail;
+use urlpattern_eight::{ComponentName, Eight};
 use urlpattern_rules::{
     ComponentParts, PatternCovering, PatternOverlap, PatternParts, Shadowed, first_covering,
     unreachable,
 };
-use urlpattern_eight::{ComponentName, Eight};
 use urlpattern_syntax::error::Error;
 use urlpattern_syntax::parser::{Options, parse_pattern_string};
 

@@ -9,12 +9,12 @@ ghost use Rattle.urlpattern_walk.specs.Table.{following, row_at, is_capture, IsR
 ghost use Rattle.urlpattern_walk.specs.Taken.{LeavesWalk};
 
 use crate::fronts::{following, front_of, is_capture};
-use urlpattern_steps::repeats::pass;
-use urlpattern_steps::step::{Group, Step};
 use crate::table::{is_taken, row_for, rows_of};
-use urlpattern_steps::texts::split_at_seam;
 use crate::walk::add_missing;
 use std::alloc::Global;
+use urlpattern_steps::repeats::pass;
+use urlpattern_steps::step::{Group, Step};
+use urlpattern_steps::texts::split_at_seam;
 use urlpattern_syntax::error::OutOfMemory;
 
 /// What the steps capture of a text that they take whole. `None`: they do not take it whole.

@@ -5,9 +5,9 @@ ghost use Rattle.std.specs.Str.{chars};
 ghost use Rattle.urlpattern_walk.specs.Failed.{HasBit, IsStateOf, bit_of};
 ghost use Rattle.urlpattern_steps.specs.Walk.{walk};
 
-use urlpattern_steps::step::Step;
 use std::alloc::{AllocError, Global};
 use std::marker::Model;
+use urlpattern_steps::step::Step;
 
 /// States of a match in which the steps that are left are known not to take the text that is left.
 ///

@@ -7,10 +7,10 @@ ghost use Rattle.urlpattern_steps.specs.Walk.{going_on, literals, walk};
 ghost use Rattle.urlpattern_walk.specs.Table.{begun_of, run_end, following, given, has, later_of, own_count, stretch_of, whole_of, is_capture, IsEntryAfter, IsRow, IsSingle};
 ghost use Rattle.urlpattern_walk.specs.Taken.{IsCutFor};
 
+use std::alloc::Global;
 use urlpattern_steps::repeats::{begun_after, first_steps, goes_on, pass};
 use urlpattern_steps::step::{Step, Stretch};
 use urlpattern_steps::texts::{after_front, without_last};
-use std::alloc::Global;
 use urlpattern_syntax::error::OutOfMemory;
 
 /// Which ends of a text a step and the others take, and what the step takes of the whole.

@@ -5,9 +5,9 @@ ghost use Rattle.urlpattern_meaning.specs.Outlines.{HasOutline};
 ghost use Rattle.urlpattern_walk.specs.OutlineSteps.{outline_item};
 ghost use Rattle.urlpattern_steps.specs.Walk.{walk};
 
-use urlpattern_steps::step::Step;
 use std::alloc::{AllocError, Global};
 use urlpattern_meaning::outline::OutlineItem;
+use urlpattern_steps::step::Step;
 
 /// An outline of each text that the steps take whole, where case counts: up to a step that takes more than characters and one run.
 ///

@@ -5,12 +5,12 @@ ghost use Rattle.std.specs.Str.{chars};
 ghost use Rattle.urlpattern_walk.specs.ReadSteps.{AddsSegments, AreCopySteps, AreGrouped, AreLiterals, AreStepsOf, ClosesSegments, EndsSegments, IsGenerated, IsGroup, IsLeft, MakeUp, ReadsLast};
 ghost use Rattle.urlpattern_steps.specs.Walk.{capture_count};
 
-use urlpattern_steps::step::{Copies, Group, Segments, Step, Stretch};
-use urlpattern_steps::texts::after;
 use crate::tokens::{
     Times, Token, after_open, after_segments, read_literal, read_run, read_token, run_of,
 };
 use std::alloc::{AllocError, Global};
+use urlpattern_steps::step::{Copies, Group, Segments, Step, Stretch};
+use urlpattern_steps::texts::after;
 
 /// The steps of an expression. `None`: it is not generated of parts of which none is custom.
 pub fn read_steps(alloc: Global, regexp: &str) -> Result<Option<Vec<Step>>, AllocError>

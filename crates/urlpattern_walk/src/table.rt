@@ -6,10 +6,10 @@ ghost use Rattle.urlpattern_steps.specs.Walk.{walk};
 ghost use Rattle.urlpattern_walk.specs.Table.{has, row_at, AreRows, IsRow};
 
 use crate::fronts::{following, front_of, has};
+use std::alloc::Global;
 use urlpattern_steps::repeats::pass;
 use urlpattern_steps::step::Step;
 use urlpattern_steps::texts::split_first;
-use std::alloc::Global;
 use urlpattern_syntax::error::OutOfMemory;
 
 /// The rows, from that of no steps to that of all.

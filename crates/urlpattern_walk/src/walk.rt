@@ -13,11 +13,11 @@ mod segments;
 
 use crate::choices::Remembered;
 use crate::failed::Failed;
-use urlpattern_steps::repeats::pass;
 use crate::runs::has_one_end;
+use std::alloc::Global;
+use urlpattern_steps::repeats::pass;
 use urlpattern_steps::step::{Group, Step};
 use urlpattern_steps::texts::{after_same, split_at_first};
-use std::alloc::Global;
 use urlpattern_syntax::error::OutOfMemory;
 
 /// A match by steps that is under way.

@@ -2,8 +2,8 @@
 
 use super::calls::{self, Call};
 use super::given;
-use bench_rows::{Case, prints};
 use bench_rows::recorded::{Fault, has_text, is_set, optional_text, text};
+use bench_rows::{Case, prints};
 use serde_json::Value;
 use std::alloc::Global;
 use urlpattern::quirks::{parse_pattern_as_lib, process_construct_pattern_input};

@@ -16,10 +16,10 @@ use url::Url;
 use urlpattern_canonical::canonicalize_and_process::reported;
 use urlpattern_core::Error;
 use urlpattern_create::{init_of_text, parse_base, parse_url};
+use urlpattern_eight::{ComponentName, Eight};
 use urlpattern_init as init;
 use urlpattern_init::UrlPatternMatchInput;
 use urlpattern_inputs::{Inputs, StringOrInit, UrlPatternInit};
-use urlpattern_eight::{ComponentName, Eight};
 
 /// The init of a pattern: of a constructor string, with a base URL if there is one, or of components one by one.
 ///

@@ -4,8 +4,8 @@ use super::UrlPatternList;
 use std::alloc::Global;
 use urlpattern_core::Error;
 use urlpattern_core::regexp::RegExp;
-use urlpattern_matches::UrlPatternCaptures;
 use urlpattern_eight::Eight;
+use urlpattern_matches::UrlPatternCaptures;
 
 /// The matches of a URL that are left, in the order of the patterns, each with its pattern's index.
 ///

@@ -13,9 +13,9 @@ use std::alloc::Global;
 use urlpattern_canonical::canonicalize_and_process::begins_with_slash;
 use urlpattern_core::Error;
 use urlpattern_core::regexp::RegExp;
+use urlpattern_eight::ComponentName;
 use urlpattern_generate::{GenerateError, GivenGroup, generate_component};
 use urlpattern_init::accepts_special_scheme;
-use urlpattern_eight::ComponentName;
 
 impl<R: RegExp> UrlPattern<R> {
     /// The text of a component that the component matches, with these groups: each captures the canonical form of the text that it

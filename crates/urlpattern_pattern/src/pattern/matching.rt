@@ -23,13 +23,13 @@ use urlpattern_core::Error;
 use urlpattern_core::error::OutOfMemory;
 use urlpattern_core::matcher::Look;
 use urlpattern_core::regexp::RegExp;
+use urlpattern_eight::{ComponentName, Eight, with_fields};
 use urlpattern_init::UrlPatternMatchInput;
 use urlpattern_inputs::MatchInput;
 use urlpattern_matches::{
     GroupCaptures, Missed, UrlPatternCaptures, UrlPatternResult, captures_from, input_texts,
     parse_match_input, url_texts,
 };
-use urlpattern_eight::{ComponentName, Eight, with_fields};
 
 impl<R: RegExp> UrlPattern<R> {
     /// Whether the pattern matches an input. A URL's texts are its own; an init's are those that it results in, with what it

@@ -11,8 +11,8 @@ use std::alloc::Global;
 use url::Url;
 use urlpattern_core::Error;
 use urlpattern_core::regexp::RegExp;
-use urlpattern_matches::url_texts;
 use urlpattern_eight::{ComponentName, Eight};
+use urlpattern_matches::url_texts;
 
 impl<R: RegExp> UrlPattern<R> {
     /// The first component that does not match its text of a URL, in the order protocol, user name, password, hostname, port,

@@ -6,10 +6,10 @@ ghost use Rattle.urlpattern_walk.specs.Failed.{IsStateOf};
 ghost use Rattle.urlpattern_steps.specs.Walk.{walk, walk_copies};
 ghost use Rattle.urlpattern_walk.specs.Taken.{FollowsSteps};
 
+use crate::walk::{Attempt, Taken};
 use urlpattern_steps::repeats::{after_literals, first_steps, pass, skip_copies, without_copy};
 use urlpattern_steps::step::{Copies, Step};
 use urlpattern_steps::texts::after_front;
-use crate::walk::{Attempt, Taken};
 use urlpattern_syntax::tokenizer::before;
 
 impl<'t> Attempt<'_, 't> {

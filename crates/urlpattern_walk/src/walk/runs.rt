@@ -7,9 +7,9 @@ ghost use Rattle.urlpattern_steps.specs.Walk.{walk};
 ghost use Rattle.urlpattern_walk.specs.Taken.{FollowsSteps};
 
 use crate::runs::{longest_front, next_of_run, remember_run};
+use crate::walk::{Attempt, Taken};
 use urlpattern_steps::step::{Run, Step};
 use urlpattern_steps::texts::{after_front, split_at_first, without_last};
-use crate::walk::{Attempt, Taken};
 use urlpattern_syntax::tokenizer::before;
 
 impl<'t> Attempt<'_, 't> {

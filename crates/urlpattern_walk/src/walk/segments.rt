@@ -6,11 +6,11 @@ ghost use Rattle.urlpattern_walk.specs.Failed.{IsStateOf};
 ghost use Rattle.urlpattern_steps.specs.Walk.{walk};
 ghost use Rattle.urlpattern_walk.specs.Taken.{FollowsSteps, IsEndHere, IsEndOfSegments, Untouched};
 
+use crate::walk::{Attempt, Taken};
+use std::mem;
 use urlpattern_steps::repeats::{begun_after, ends, first_steps, goes_on, pass};
 use urlpattern_steps::step::{Segments, Step};
 use urlpattern_steps::texts::{after_front, split_at_seam, without_last};
-use crate::walk::{Attempt, Taken};
-use std::mem;
 use urlpattern_syntax::error::OutOfMemory;
 
 impl<'t> Attempt<'_, 't> {
