@@ -12,9 +12,9 @@ use Rattle.urlpattern_canonical.specs.Canonical.{canonical_hash, canonical_hostn
 use Rattle.urlpattern_canonical.specs.declared.canonicalize_and_process.ProcessType.TheVariants.{Pattern}
 use Rattle.urlpattern_engine.specs.PatternRegexps.{pattern_engine}
 use Rattle.urlpattern_engine.specs.declared.pattern_regexp.PatternRegexp.{PatternRegexp}
-use Rattle.urlpattern_splits.proofs.PlainTexts.{parts_of, plain_parts}
-use Rattle.urlpattern_splits.proofs.SplitExamples.{users_split, users_text, users_values}
-pub use Rattle.urlpattern_splits.proofs.UrlTexts.{chars-path, chars-scheme, host_by_text, no_port}
+use Rattle.urlpattern_init.proofs.PlainTexts.{parts_of, plain_parts}
+use Rattle.urlpattern_init.proofs.SplitExamples.{users_split, users_text, users_values}
+pub use Rattle.urlpattern_init.proofs.UrlTexts.{chars-path, chars-scheme, host_by_text, no_port}
 use Rattle.urlpattern_init.specs.Inheritance.{processed_values, values_view}
 use Rattle.urlpattern_init.specs.SpecialProtocol.{IsSpecialTo}
 use Rattle.urlpattern_inputs.specs.declared.options.UrlPatternOptions.{UrlPatternOptions}

@@ -4,5 +4,10 @@ pub mod SeenLemmas
 pub mod TextBetween
 pub mod SplitLemmas
 pub mod UserinfoLemmas
+pub mod SplitUnique
+pub mod SplitExists
 pub mod InheritanceLemmas
+pub mod SplitExamples
+pub mod PlainTexts
+pub mod UrlTexts
 pub mod SchemeLemmas

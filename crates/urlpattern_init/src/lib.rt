@@ -4,6 +4,7 @@
 
 mod constructor_parser;
 mod init;
+pub mod laws;
 
 pub use constructor_parser::{accepts_special_scheme, protocol_of};
 pub use init::{UrlPatternInit, UrlPatternMatchInput, process, process_values, url_text};

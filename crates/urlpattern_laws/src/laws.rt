@@ -21,6 +21,7 @@ pub use urlpattern_engine::laws::{
     matchers_by_pattern_regexp_answer_the_first_way, pattern_regexps_answer_as_regex_does,
     pattern_regexps_answer_the_first_way, pattern_regexps_take_each_generated_text,
 };
+pub use urlpattern_init::laws::{splits_are_one, texts_are_lines, texts_of_urls_are_lines};
 pub use urlpattern_matches::laws::results_are_read_back;
 pub use urlpattern_meaning::laws::{
     captures_are_as_many_as_names, copies_are_one_capture, dialect_trees_are_one,
@@ -37,7 +38,6 @@ pub use urlpattern_regex::laws::{
     matchers_by_regex_answer_the_first_way, regex_answers_the_first_way,
     regex_refuses_no_generated_syntax,
 };
-pub use urlpattern_splits::laws::{splits_are_one, texts_are_lines, texts_of_urls_are_lines};
 
 /// What a pattern answers to an input is what its pattern texts mean. In a match each component's pattern text means the
 /// component's text, and the groups are the names of its parts beside the captures of one such meaning. No match is answered

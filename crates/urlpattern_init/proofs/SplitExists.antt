@@ -9,7 +9,7 @@ use Rattle.urlpattern_init.specs.Splitting.{may_follow}
 use Rattle.urlpattern_init.specs.declared.constructor_parser.sections.Section.{Section}
 use Rattle.urlpattern_init.specs.declared.constructor_parser.sections.Section.TheVariants.{Authority, Hash, Hostname, Pathname, Port, Protocol, Search, Username}
 use Rattle.urlpattern_init.proofs.SplitLemmas.{may_end_parts, port_sign, sign_goes_on, stops_cases, username_before}
-use Rattle.urlpattern_splits.proofs.SplitUnique.{search_not_end}
+use Rattle.urlpattern_init.proofs.SplitUnique.{search_not_end}
 use Rattle.urlpattern_init.proofs.TextBetween.{are_closed, text_between}
 use Rattle.urlpattern_meaning.proofs.TokensExist.{lenient_tokens_exist}
 use Rattle.urlpattern_syntax.specs.Tokens.{AreLenientTokens, TokenView, end_of}

@@ -1,7 +1,7 @@
-use Rattle.urlpattern_splits.proofs.SplitExists.{split_exists}
-use Rattle.urlpattern_splits.proofs.SplitUnique.{splits_one, splits_one_given}
+use Rattle.urlpattern_init.proofs.SplitExists.{split_exists}
+use Rattle.urlpattern_init.proofs.SplitUnique.{splits_one, splits_one_given}
 use Rattle.urlpattern_init.specs.SpecialProtocol.{IsSpecialTo}
-use Rattle.urlpattern_splits.proofs.laws.splits_are_one.Goals as goal
+use Rattle.urlpattern_init.proofs.laws.splits_are_one.Goals as goal
 
 pub returns-clause-exist : goal.returns-clause-exist
 returns-clause-exist g c = split_exists
