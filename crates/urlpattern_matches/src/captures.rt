@@ -41,9 +41,9 @@ pub fn captures_from<'p, 'u>(
     texts: Eight<&'u str>,
     captures: Eight<GroupCaptures<'u>>,
 ) -> UrlPatternCaptures<'p, 'u>
-    ensures names { result.names ≡ names }
-    ensures texts { result.texts ≡ texts }
-    ensures captures { result.captures ≡ captures }
+    ensures names { result.names ≡ names.entry }
+    ensures texts { result.texts ≡ texts.entry }
+    ensures captures { result.captures ≡ captures.entry }
 {
     UrlPatternCaptures {
         names,
