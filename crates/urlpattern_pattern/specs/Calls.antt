@@ -34,4 +34,3 @@ all_captures captures name = captures_of (at captures name)
 abbrev pub HasCaptures : {E : Type 0} → PatternView E → Texts → Eight GroupCaptures → (result : ComponentName → ResultView) → Type 0
 HasCaptures pattern texts captures result =
     (name : ComponentName) → IsResultOf (pattern name).group_name_list (all_captures captures name) (at texts name) (result name)
-
