@@ -36,4 +36,4 @@ returns-clause-unlike c = λ unlike.
     let old = c.args.pairs.now.items in
     let pushed : c.push-2.new.self.items ≡ old ++ next ∷ [] = c.in_ok-push-2.ensures.items in
     subst AreUnlike (sym pushed) (unlike_more old next unlike (λ seen. false≢true (sym c.if-is_seen.false ∙ c.is_seen.ensures.1
-        (subst (λ l. IsSeen l c.args.edge.to c.args.states.now) (sym c.deref.ensures.value) (subst (IsSeen old c.args.edge.to) c.in_ok-from_slice.ensures.items seen)))))
+    (subst (λ l. IsSeen l c.args.edge.to c.args.states.now) (sym c.deref.ensures.value) (subst (IsSeen old c.args.edge.to) c.in_ok-from_slice.ensures.items seen)))))
