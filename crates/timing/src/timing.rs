@@ -162,7 +162,7 @@ impl<'a, E: RegExp> Subject<'a, E> {
     fn maps(&self, alloc: Global) -> Result<bool, Error> {
         let mut has_groups = false;
         for name in ComponentName::all() {
-            let component = self.pattern.get(*name);
+            let component = self.pattern.get(name);
             has_groups |= make_map(alloc, &component.group_name_list)?;
         }
         Ok(has_groups)

@@ -116,7 +116,7 @@ pub fn push_match(
 ) -> Result<(), AllocError>
     ensures { OnOk result (GetsLines (AreLines (all_named_results (pattern_captures_view found.now))) text.old text.new) }
 {
-    for &name in ComponentName::all() {
+    for name in ComponentName::all() {
         push_groups(alloc, text, found, name)?;
     }
     Ok(())

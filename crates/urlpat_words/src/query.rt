@@ -105,7 +105,7 @@ fn asked_by_two<'a>(first: &str, second: &'a str) -> Option<(bool, Shape<'a>)>
 fn group_of(word: &str) -> Option<(bool, Shape<'_>)>
     ensures { IfSome result (NamesGroup word.now) }
 {
-    for &component in ComponentName::all() {
+    for component in ComponentName::all() {
         if let Some(name) = after(word, component.as_str()) {
             return Some((false, Shape::Group(component, name)));
         }

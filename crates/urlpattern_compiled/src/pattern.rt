@@ -79,7 +79,7 @@ impl UrlPattern {
     {
         let mut members = Map::new(alloc);
         for name in ComponentName::all() {
-            put_component(&mut members, alloc, name.as_str(), self.get(*name))?;
+            put_component(&mut members, alloc, name.as_str(), self.get(name))?;
         }
         let has_regexp_groups = Value::Bool(self.has_regexp_groups);
         serde_json::put(&mut members, alloc, "hasRegexpGroups", has_regexp_groups)?;

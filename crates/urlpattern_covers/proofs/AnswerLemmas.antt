@@ -1,11 +1,12 @@
 -- What a search found, as an answer.
-use Rattle.std.proofs.Common.{◌≡◌, ◌≢◌, ℕ, Bool, true, false, List, [], ◌∷◌, refl, sym, subst, ap, ◌∙◌, ◌↔◌, Option, Some, None, Result, Ok, Err, IfOk, IfSome}
+use Rattle.std.proofs.Common.{◌≡◌, ◌≢◌, ℕ, Bool, true, false, List, [], ◌∷◌, refl, sym, subst, ap, ◌∙◌, ◌↔◌, inl, inr, Option, Some, None, Result, Ok, Err, IfOk, IfSome}
 use Rattle.std.specs.declared.alloc.{AllocError.AllocError}
 use Rattle.std.proofs.lemmas.List.Elements.{All-cons, All-head, All-nil, All-tail}
 use Rattle.std.specs.List.{list_any}
 use Rattle.std.specs.Prelude.{◌||◌, not}
 use Rattle.urlpattern_covers.specs.Answers.{IsSought, answer_of, is_custom_part, is_custom_kind}
-use Rattle.urlpattern_covers.specs.Automata.{AcceptsText, IsFoundBy, IsWhether, IsWithin}
+use Rattle.urlpattern_covers.specs.Automata.{AcceptsText, IsWhether, IsWithin}
+use Rattle.urlpattern_covers.specs.Searching.{IsFoundBy}
 use Rattle.urlpattern_covers.specs.Meaning.{MeansText}
 use Rattle.urlpattern_covers.specs.Making.{made, made_view}
 use Rattle.urlpattern_covers.specs.declared.automaton.Automaton.{Automaton}
@@ -59,7 +60,7 @@ found_answer options parts other_options others is_meant one other Nothing gen o
     let here = parts_accepted options parts one gen same text in
     let there = parts_accepted other_options others other other_gen other_same text in
     whether_by (not is_meant) (AcceptsText other text) (MeansText other_options others text) there (is text fine plain (here.1 meant))
-found_answer options parts other_options others is_meant one other TooMany gen other_gen same other_same is = tt
+found_answer options parts other_options others is_meant one other TooMany gen other_gen same other_same is = inr (inl (one, other, same, other_same, is))
 
 -- ---- what was made
 

@@ -109,19 +109,20 @@ at_least_one all made cells is part absorbs false e text =
     let once = copy_once all made true cells is part e text in
     (λ leads. (0, once.0 leads), λ (n, takes). once.1 (absorbs e (suc n) text takes))
 
-missing_or : (all : List Edge) (made inner : Made) (missing : Bool) (text : List ℕ) → missing ≡ true →
-    LeadsFrom all (with_missing made inner missing).starts text ↔ (LeadsFrom all inner.starts text ⊎ LeadsFrom all made.starts text)
-missing_or all made inner missing text e =
-    let both = from_append all inner.starts made.starts text in
-    let same : (with_missing made inner missing).starts ≡ inner.starts ++ made.starts = ap (λ b. inner.starts ++ (if b then made.starts else [])) e in
-    (λ leads. both.0 (subst (λ l. LeadsFrom all l text) same leads), λ either. subst (λ l. LeadsFrom all l text) (sym same) (both.1 either))
-
 not_missing : (all : List Edge) (made inner : Made) (text : List ℕ) → LeadsFrom all (with_missing made inner false).starts text ↔ LeadsFrom all inner.starts text
 not_missing all made inner text =
     let both = from_append all inner.starts [] text in (
       λ leads. elim (both.0 leads) [ inl before ↦ before | inr none ↦ absurd (from_none all text none) ],
       λ leads. both.1 (inl leads),
     )
+
+-- without the copy, or, where that is not said, what the copy takes as well
+missing_or : (all : List Edge) (made inner : Made) (missing : Bool) (text : List ℕ) → (missing ≡ false → LeadsFrom all made.starts text → LeadsFrom all inner.starts text) →
+    LeadsFrom all (with_missing made inner missing).starts text ↔ (LeadsFrom all inner.starts text ⊎ LeadsFrom all made.starts text)
+missing_or all made inner true text kept = from_append all inner.starts made.starts text
+missing_or all made inner false text kept =
+    let out = not_missing all made inner text in
+    (λ leads. inl (out.0 leads), λ either. elim either [ inl some ↦ out.1 some | inr none ↦ out.1 (kept refl none) ])
 
 at_most_one : (cells : List Cell) (Rest : Texts) (n : ℕ) (text : List ℕ) → n ≤ 1 → TimesThen cells n Rest text → CellsThen cells Rest text ⊎ Rest text
 at_most_one cells Rest zero text le is = inr is
@@ -162,8 +163,8 @@ copies_read all made PartModifier.None cells is part absorbs text =
     )
 copies_read all made PartModifier.Optional cells is part absorbs text =
     let inner = with_cells (with_again made false cells) cells in
-    let out = missing_or all made inner true text refl in
-    let once = copy_once all made false cells is (copies_part all made PartModifier.Optional cells part) refl text in (
+    let once = copy_once all made false cells is (copies_part all made PartModifier.Optional cells part) refl text in
+    let out = missing_or all made inner (has_one cells) text (λ e none. once.1 (absorbs e 0 text none)) in (
       λ leads. elim (out.0 leads) [ inl some ↦ (1, omega arith, once.0 some) | inr none ↦ (0, omega arith, none) ],
       λ (n, le, takes). elim (at_most_one cells (LeadsFrom all made.starts) n text le takes) [ inl some ↦ out.1 (inl (once.1 some)) | inr none ↦ out.1 (inr none) ],
     )
@@ -176,8 +177,8 @@ copies_read all made PartModifier.OneOrMore cells is part absorbs text =
     )
 copies_read all made PartModifier.ZeroOrMore cells is part absorbs text =
     let inner = with_cells (with_again made true cells) cells in
-    let out = missing_or all made inner true text refl in
-    let often = at_least_one all made cells is (copies_part all made PartModifier.ZeroOrMore cells part) absorbs (has_one cells) refl text in (
+    let often = at_least_one all made cells is (copies_part all made PartModifier.ZeroOrMore cells part) absorbs (has_one cells) refl text in
+    let out = missing_or all made inner (has_one cells) text (λ e none. often.1 (0, absorbs e 0 text none)) in (
       λ leads. elim (out.0 leads) [ inl some ↦ (let found = often.0 some in (suc found.0, tt, found.1)) | inr none ↦ (0, tt, none) ],
       λ (n, any, takes). elim (some_or_none cells (LeadsFrom all made.starts) n text takes) [ inl some ↦ out.1 (inl (often.1 some)) | inr none ↦ out.1 (inr none) ],
     )

@@ -8,13 +8,13 @@ use Rattle.std.specs.List.{All, Contains}
 use Rattle.std.specs.{Char.IsScalar, Str.all_scalars}
 use Rattle.std.specs.Prelude.{◌&&◌, ◌==◌, IsTrue, not}
 use Rattle.urlpattern_covers.specs.Automata.{AcceptsText, IsWhether, IsWithin, Leads, LeadsFrom, passes}
-use Rattle.urlpattern_covers.specs.Searching.{AreClasses, IsBy, IsExtended, IsFollowed, IsFollowedBy, IsReached, IsSameFor, IsSeen, IsStep, IsStepBy, IsGrownBy, LeadsIn, is_in, moved, starts_of}
+use Rattle.urlpattern_covers.specs.Searching.{AreClasses, AreUnlike, HasManyPairs, IsBy, IsCome, IsExtended, IsFollowed, IsFollowedBy, IsReached, IsSameFor, IsSeen, IsStep, IsStepBy, IsGrownBy, LeadsIn, come_first, come_next, is_in, moved, starts_of}
 use Rattle.urlpattern_covers.specs.declared.automaton.Automaton.{Automaton}
 use Rattle.urlpattern_covers.specs.declared.automaton.Edge.{Edge}
 use Rattle.urlpattern_covers.specs.declared.search.Pair.{Pair}
 use Rattle.urlpattern_syntax.specs.Text.{lacks, line_feed}
 use Rattle.urlpattern_covers.proofs.CharacterClasses.{same_moved}
-use Rattle.urlpattern_covers.proofs.StateSets.{leads_moved, leads_starts, length_moved, length_starts}
+use Rattle.urlpattern_covers.proofs.StateSets.{contains_head, contains_tail, leads_moved, leads_starts, length_moved, length_starts}
 
 -- ---- what is reached
 
@@ -34,7 +34,9 @@ step_reached one other pair next c edge plain within reached has from passed (st
     let flags = pair.states.items in
     let moves = (λ (text : List ℕ). leads_moved edges flags c text (within_width other flags within reached.width)) in
     let longer : (text : List ℕ) → next.text.items ++ text ≡ pair.text.items ++ (c ∷ text) = λ text. ap (λ t. t ++ text) text_is ∙ append_assoc pair.text.items (c ∷ []) text in
+    let come : IsCome one other edge.to (moved edges flags c) = come_next edge c has passed (subst (λ s. IsCome one other s flags) (sym from) reached.come) in
     record {
+      come = subst (λ f. IsCome one other next.state f) (sym states_are) (subst (λ s. IsCome one other s (moved edges flags c)) (sym state_is) come);
       state = λ text leads. subst (λ t. AcceptsText one t) (sym (longer text)) (reached.state (c ∷ text) (edge, has, from, passed, subst (λ s. Leads one.edges.items s text) state_is leads));
       states = λ text. (
         λ accepts. subst (λ f. LeadsIn edges f text) (sym states_are) ((moves text).1 ((reached.states (c ∷ text)).0 (subst (λ t. AcceptsText other t) (longer text) accepts))),
@@ -47,6 +49,7 @@ step_reached one other pair next c edge plain within reached has from passed (st
 -- before the first character
 pub start_reached : (one other : Automaton) (pair : Pair) → IsWithin other → Contains one.starts.items pair.state → pair.states.items ≡ starts_of other → pair.text.items ≡ [] → IsReached one other pair
 start_reached one other pair within has states_are text_is = record {
+  come = subst (λ f. IsCome one other pair.state f) (sym states_are) (come_first has);
   state = λ text leads. subst (λ t. AcceptsText one (t ++ text)) (sym text_is) (pair.state, has, leads);
   states = λ text. (
     λ accepts. subst (λ f. LeadsIn other.edges.items f text) (sym states_are) ((leads_starts other text within).0 (subst (λ t. AcceptsText other (t ++ text)) text_is accepts)),
@@ -59,6 +62,7 @@ start_reached one other pair within has states_are text_is = record {
 -- a copy of a pair
 pub copy_reached : (one other : Automaton) (pair copy : Pair) → IsReached one other pair → IsStep pair.state pair.states.items pair.text.items copy → IsReached one other copy
 copy_reached one other pair copy reached (state_is, states_are, text_is) = record {
+  come = subst (λ f. IsCome one other copy.state f) (sym states_are) (subst (λ s. IsCome one other s pair.states.items) (sym state_is) reached.come);
   state = λ text leads. subst (λ t. AcceptsText one (t ++ text)) (sym text_is) (reached.state text (subst (λ s. Leads one.edges.items s text) state_is leads));
   states = λ text. (
     λ accepts. subst (λ f. LeadsIn other.edges.items f text) (sym states_are) ((reached.states text).0 (subst (λ t. AcceptsText other (t ++ text)) text_is accepts)),
@@ -195,3 +199,27 @@ done_next one other classes is_accepted old new next pair copy (more, e) lt at (
           (followed c has plain edge there (by_edge.0 ∙ sym state_is, by_edge.1));
     } in
     All-more P new next pair (omega arith) before (subst P (sym here) this)
+
+-- ---- pairs that are unlike
+
+seen_last : (pairs : List Pair) (new : Pair) (state : ℕ) (states : List Bool) → IsSeen (pairs ++ new ∷ []) state states → IsSeen pairs state states ⊎ ((new.state ≡ state) × (new.states.items ≡ states))
+seen_last pairs new state states (pair, has, state_is, states_are) = elim (Contains-push_cases pairs new pair has) [
+  | inl before ↦ inl (pair, before, state_is, states_are)
+  | inr e ↦ inr (ap (λ (it : Pair). it.state) e ∙ state_is, ap (λ (it : Pair). it.states.items) e ∙ states_are)
+]
+
+-- one more, which is like none of them
+pub unlike_more : (pairs : List Pair) (new : Pair) → AreUnlike pairs → ¬ IsSeen pairs new.state new.states.items → AreUnlike (pairs ++ new ∷ [])
+unlike_more [] new unlike apart = (λ (pair, (k, lt, e), state_is, states_are). absurd (omega arith), tt)
+unlike_more (first ∷ pairs) new (apart_first, unlike) apart = (
+  λ seen. elim (seen_last pairs new first.state first.states.items seen) [
+    | inl before ↦ apart_first before
+    | inr (state_is, states_are) ↦ apart (first, contains_head first pairs, sym state_is, sym states_are)
+  ],
+  unlike_more pairs new unlike (λ (pair, has, state_is, states_are). apart (pair, contains_tail first pair pairs has, state_is, states_are)),
+)
+
+-- where the bound is passed
+pub many_pairs : (one other : Automaton) (pairs : List Pair) → All (IsReached one other) pairs → AreUnlike pairs → 10000 < length pairs → HasManyPairs one other
+many_pairs one other pairs reached unlike many =
+    (pairs, All-weaker (IsReached one other) (λ (pair : Pair). IsCome one other pair.state pair.states.items) (λ pair is. is.come) pairs reached, unlike, many)

@@ -1,11 +1,11 @@
 -- An automaton of parts accepts what they mean.
-use Rattle.std.proofs.Common.{◌≡◌, ◌≢◌, ℕ, zero, suc, ◌+◌, ◌<◌, ◌≤◌, Bool, true, false, List, [], ◌∷◌, ◌++◌, length, refl, sym, subst, ap, ◌∙◌, ◌⊎◌, inl, inr, ◌↔◌, arith, reverse, get_or}
+use Rattle.std.proofs.Common.{◌≡◌, ◌≢◌, ℕ, zero, suc, ◌+◌, ◌<◌, ◌≤◌, Bool, true, false, List, [], ◌∷◌, ◌++◌, length, refl, sym, subst, ap, ◌∙◌, ◌⊎◌, inl, inr, ◌↔◌, arith, append_assoc, reverse, get_or}
 use Rattle.std.proofs.lemmas.List.Elements.{Contains-append_cases, Contains-get_or}
 use Rattle.std.specs.List.{All, Contains}
 use Rattle.std.specs.Prelude.{◌&&◌, if◌then◌else◌}
 use Rattle.urlpattern_covers.specs.Automata.{AcceptsText, IsWithin, Leads, LeadsFrom}
 use Rattle.urlpattern_covers.specs.Cells.{cells_of, has_one}
-use Rattle.urlpattern_covers.specs.Making.{Made, heads, made, made_view, may_miss, repeats, with_again, with_cell, with_cells, with_copies, with_missing}
+use Rattle.urlpattern_covers.specs.Making.{HasManyStates, Made, heads, made, made_view, may_miss, repeats, with_again, with_cell, with_cells, with_copies, with_missing}
 use Rattle.urlpattern_covers.specs.declared.automaton.Automaton.{Automaton}
 use Rattle.urlpattern_covers.specs.declared.automaton.Edge.{Edge}
 use Rattle.urlpattern_covers.specs.declared.cells.Cell.{Cell}
@@ -95,7 +95,7 @@ cell_below limit made cell below lt = record {
   starts = starts_below limit made cell below lt;
 }
 
-cells_count : (made : Made) (cells : List Cell) → (with_cells made cells).count ≡ made.count + length cells
+pub cells_count : (made : Made) (cells : List Cell) → (with_cells made cells).count ≡ made.count + length cells
 cells_count made [] = omega arith
 cells_count made (cell ∷ cells) = let e = cells_count (with_cell made cell) cells in let f = cell_count made cell in omega arith
 
@@ -136,7 +136,7 @@ copies_below made modifier cells below =
       edges = inner.edges;
       starts = λ state has. elim (Contains-append_cases (with_cells outer cells).starts _ state has) [
         | inl before ↦ inner.starts state before
-        | inr new ↦ if_below limit (may_miss modifier) made.starts (λ s it. more s (below.starts s it)) state new
+        | inr new ↦ if_below limit (may_miss modifier && has_one cells) made.starts (λ s it. more s (below.starts s it)) state new
       ];
     }
 
@@ -155,3 +155,23 @@ parts_within options parts automaton same =
       edges = λ k d lt. below.edges (get_or automaton.edges.items k d) (Contains-get_or automaton.edges.items k d lt);
       starts = λ k d lt. below.starts (get_or automaton.starts.items k d) (Contains-get_or automaton.starts.items k d lt);
     }
+
+-- ---- how many states there are
+
+part_count : (options : OptionsView) (part : PartView) (parts : List PartView) → (made options (part ∷ parts)).count ≡ (made options parts).count + length (reverse (cells_of options part.kind part))
+part_count options part parts =
+    let cells = reverse (cells_of options part.kind part) in
+    cells_count (with_again (made options parts) (repeats part.modifier) cells) cells
+
+parts_count : (options : OptionsView) (front back : List PartView) → (made options back).count ≤ (made options (front ++ back)).count
+parts_count options [] back = omega arith
+parts_count options (part ∷ front) back = let e = part_count options part (front ++ back) in let le = parts_count options front back in omega arith
+
+-- a part of many cells, or one before many states
+pub many_states : (options : OptionsView) (parts before rest : List PartView) (part : PartView) → parts ≡ (before ++ part ∷ []) ++ rest →
+    (10000 < length (reverse (cells_of options part.kind part))) ⊎ (10000 < (made options rest).count) → HasManyStates options parts
+many_states options parts before rest part e many =
+    let count = part_count options part rest in
+    let le = parts_count options before (part ∷ rest) in
+    let enough : 10000 < (made options (part ∷ rest)).count = elim many [ inl cells ↦ omega arith | inr states ↦ omega arith ] in
+    subst (λ (all : List PartView). HasManyStates options all) (sym (e ∙ append_assoc before (part ∷ []) rest)) (let h : 10000 < (made options (before ++ part ∷ rest)).count = omega arith in h)

@@ -2,7 +2,10 @@
 use Rattle.std.specs.Prelude.{◌≡◌, ℕ, Bool, true, false, not, ◌⊎◌, List, IsTrue}
 use Rattle.std.specs.Str.{all_scalars}
 use Rattle.urlpattern_covers.specs.Automata.{IsWhether}
+use Rattle.urlpattern_covers.specs.Making.{HasManyStates, made, made_view}
 use Rattle.urlpattern_covers.specs.Meaning.{MeansText}
+use Rattle.urlpattern_covers.specs.Searching.{HasManyPairs}
+use Rattle.urlpattern_covers.specs.declared.automaton.Automaton.{Automaton}
 use Rattle.urlpattern_covers.specs.declared.parts.Answer.{Answer}
 use Rattle.urlpattern_covers.specs.declared.parts.Answer.TheVariants as answers
 use Rattle.urlpattern_covers.specs.declared.parts.Covering.{Covering}
@@ -19,11 +22,22 @@ use Rattle.urlpattern_syntax.specs.declared.parser.Part.{Part}
 use Rattle.urlpattern_syntax.specs.declared.parser.PartType.{PartType}
 use Rattle.urlpattern_syntax.specs.Text.{lacks, line_feed}
 
+-- a search of the automaton of one list of parts beside that of another comes to too many pairs
+abbrev pub IsSearchLong : OptionsView → List PartView → OptionsView → List PartView → Type 0
+IsSearchLong options parts other_options others =
+    (one other : Automaton) × (made_view one ≡ made options parts) × (made_view other ≡ made other_options others) × HasManyPairs one other
+
+-- the work is too much: one of the lists needs too many states, or a search of one beside the other is too long
+abbrev pub IsTooMuch : OptionsView → List PartView → OptionsView → List PartView → Type 0
+IsTooMuch options parts other_options others =
+    (HasManyStates options parts ⊎ HasManyStates other_options others)
+    ⊎ (IsSearchLong options parts other_options others ⊎ IsSearchLong other_options others options parts)
+
 -- why nothing is known
 abbrev pub IsReason : OptionsView → List PartView → OptionsView → List PartView → Reason → Type 0
 IsReason options parts other_options others reasons.CustomExpression = ¬ (AreGenerated parts × AreGenerated others)
 IsReason options parts other_options others reasons.IgnoredCase = (options.ignore_case ≡ true) ⊎ (other_options.ignore_case ≡ true)
-IsReason options parts other_options others reasons.TooMany = Unit {0}
+IsReason options parts other_options others reasons.TooMany = IsTooMuch options parts other_options others
 
 -- Whether each text without line feed that the asked parts mean is meant by the parts. A text that is not is an example.
 abbrev pub IsCovering : OptionsView → List PartView → (asked_options : OptionsView) → (asked : List PartView) → Covering → Type 0

@@ -1,13 +1,9 @@
 -- Automata: the texts that they accept.
 use Rattle.std.specs.Prelude.{◌≡◌, ℕ, ◌<◌, Bool, true, false, not, ◌==◌, All, Contains, List, [], ◌∷◌, IsTrue}
-use Rattle.std.specs.Str.{all_scalars}
 use Rattle.urlpattern_covers.specs.declared.automaton.Automaton.{Automaton}
 use Rattle.urlpattern_covers.specs.declared.automaton.Edge.{Edge}
 use Rattle.urlpattern_covers.specs.declared.automaton.Test.{Test}
 use Rattle.urlpattern_covers.specs.declared.automaton.Test.TheVariants.{Only, AnyBut}
-use Rattle.urlpattern_covers.specs.declared.search.Found.{Found}
-use Rattle.urlpattern_covers.specs.declared.search.Found.TheVariants.{Text, Nothing, TooMany}
-use Rattle.urlpattern_syntax.specs.Text.{lacks, line_feed}
 
 -- whether the character passes the test
 abbrev pub passes : Test → ℕ → Bool
@@ -42,11 +38,3 @@ pub record IsWithin (automaton : Automaton) : Type 0 where
 abbrev pub IsWhether : Bool → Type 0 → Type 0
 IsWhether true fact = fact
 IsWhether false fact = ¬ fact
-
--- What a search finds. A text without line feed is accepted by the first automaton, and by the second as wanted. Where nothing is
--- found, there is no such text of characters.
-abbrev pub IsFoundBy : (one other : Automaton) → (is_accepted : Bool) → Found → Type 0
-IsFoundBy one other is_accepted (Text text) =
-    AcceptsText one text.items × IsWhether is_accepted (AcceptsText other text.items) × IsTrue (lacks line_feed text.items)
-IsFoundBy one other is_accepted Nothing = (text : List ℕ) → IsTrue (all_scalars text) → IsTrue (lacks line_feed text) → AcceptsText one text → IsWhether (not is_accepted) (AcceptsText other text)
-IsFoundBy one other is_accepted TooMany = Unit {0}

@@ -1,11 +1,12 @@
 -- How an automaton is made, from the end of a list of parts to its start.
-use Rattle.std.specs.Prelude.{◌≡◌, ℕ, zero, suc, ◌+◌, Bool, true, false, ◌&&◌, List, [], ◌∷◌, ◌++◌, map, reverse, if◌then◌else◌}
+use Rattle.std.specs.Prelude.{◌≡◌, ℕ, zero, suc, ◌+◌, ◌<◌, Bool, true, false, ◌&&◌, List, [], ◌∷◌, ◌++◌, map, reverse, if◌then◌else◌}
 use Rattle.urlpattern_covers.specs.Cells.{cells_of, has_one}
 use Rattle.urlpattern_covers.specs.declared.automaton.Automaton.{Automaton}
 use Rattle.urlpattern_covers.specs.declared.automaton.Edge.{Edge}
 use Rattle.urlpattern_covers.specs.declared.automaton.Test.{Test}
 use Rattle.urlpattern_covers.specs.declared.cells.Cell.{Cell}
 use Rattle.urlpattern_covers.specs.declared.cells.Cell.TheVariants.{One, Many}
+use Rattle.urlpattern_covers.specs.declared.making.TheConstants.{MOST_STATES}
 use Rattle.urlpattern_syntax.specs.{Options.OptionsView, Parts.PartView}
 use Rattle.urlpattern_syntax.specs.declared.parser.PartModifier.{PartModifier}
 
@@ -65,11 +66,15 @@ with_again made again cells = record made { starts = made.starts ++ (if again &&
 abbrev pub with_missing : (made inner : Made) → Bool → Made
 with_missing made inner missing = record inner { starts = inner.starts ++ (if missing then made.starts else []) }
 
--- copies of these cells before it, as many as the modifier allows
+-- copies of these cells before it, as many as the modifier allows; a copy that takes nothing as well need not be left out
 abbrev pub with_copies : Made → PartModifier → List Cell → Made
-with_copies made modifier cells = with_missing made (with_cells (with_again made (repeats modifier) cells) cells) (may_miss modifier)
+with_copies made modifier cells = with_missing made (with_cells (with_again made (repeats modifier) cells) cells) (may_miss modifier && has_one cells)
 
 -- the automaton of parts
 abbrev pub made : OptionsView → List PartView → Made
 made options [] = record { edges = []; starts = 0 ∷ []; count = 1 }
 made options (part ∷ parts) = with_copies (made options parts) part.modifier (reverse (cells_of options part.kind part))
+
+-- it has more states than are allowed: one for each cell of the parts, and one
+abbrev pub HasManyStates : OptionsView → List PartView → Type 0
+HasManyStates options parts = MOST_STATES < (made options parts).count

@@ -1,10 +1,13 @@
 -- The steps of a search over two automata.
 use Rattle.std.specs.Prelude.{◌≡◌, ◌≢◌, ℕ, ◌<◌, Bool, true, false, not, ◌&&◌, ◌↔◌, All, Contains, List, [], ◌∷◌, ◌++◌, ◌⊎◌, length, IsTrue, if◌then◌else◌, slice_set, replicate}
-use Rattle.std.specs.{Char.IsScalar, List.slice_index_or}
-use Rattle.urlpattern_covers.specs.Automata.{Leads, LeadsFrom, named, passes}
+use Rattle.std.specs.{Char.IsScalar, List.slice_index_or, Str.all_scalars}
+use Rattle.urlpattern_covers.specs.Automata.{AcceptsText, IsWhether, Leads, LeadsFrom, named, passes}
 use Rattle.urlpattern_covers.specs.declared.automaton.Automaton.{Automaton}
 use Rattle.urlpattern_covers.specs.declared.automaton.Edge.{Edge}
+use Rattle.urlpattern_covers.specs.declared.search.Found.{Found}
+use Rattle.urlpattern_covers.specs.declared.search.Found.TheVariants.{Text, Nothing, TooMany}
 use Rattle.urlpattern_covers.specs.declared.search.Pair.{Pair}
+use Rattle.urlpattern_covers.specs.declared.search.TheConstants.{MOST_PAIRS}
 use Rattle.urlpattern_syntax.specs.Text.{is_among, lacks, line_feed}
 
 -- ---- sets of states
@@ -50,9 +53,21 @@ AreClasses edges others classes = (c : ℕ) → IsScalar c →
 
 -- ---- pairs
 
--- What is true of a pair: its text leads from a start of the first automaton to its state, and from the starts of the second to
--- its states, and to no others. The text has no line feed.
+-- the states before the first character
+abbrev pub starts_of : Automaton → List Bool
+starts_of automaton = with_states (replicate automaton.states false) automaton.starts.items
+
+-- A search of one automaton beside another comes to this state and these states: before the first character, or by one more from
+-- where it came to.
+pub data IsCome (one other : Automaton) : (state : ℕ) → (states : List Bool) → Type 0 where
+  come_first : {state : ℕ} → Contains one.starts.items state → IsCome one other state (starts_of other)
+  come_next : {states : List Bool} (edge : Edge) (c : ℕ) → Contains one.edges.items edge → IsTrue (passes edge.test c) → IsCome one other edge.from states →
+      IsCome one other edge.to (moved other.edges.items states c)
+
+-- What is true of a pair: the search comes to it, and its text leads from a start of the first automaton to its state, and from the
+-- starts of the second to its states, and to no others. The text has no line feed.
 pub record IsReached (one other : Automaton) (pair : Pair) : Type 0 where
+  pub come : IsCome one other pair.state pair.states.items
   pub state : (text : List ℕ) → Leads one.edges.items pair.state text → LeadsFrom one.edges.items one.starts.items (pair.text.items ++ text)
   pub states : (text : List ℕ) → LeadsFrom other.edges.items other.starts.items (pair.text.items ++ text) ↔ LeadsIn other.edges.items pair.states.items text
   pub width : length pair.states.items ≡ other.states
@@ -75,10 +90,6 @@ IsFollowedBy one other c pairs pair = (edge : Edge) → Contains one.edges.items
 abbrev pub IsFollowed : (one other : Automaton) → (classes : List ℕ) → (pairs : List Pair) → Pair → Type 0
 IsFollowed one other classes pairs pair = (c : ℕ) → Contains classes c → c ≢ line_feed → IsFollowedBy one other c pairs pair
 
--- the states before the first character
-abbrev pub starts_of : Automaton → List Bool
-starts_of automaton = with_states (replicate automaton.states false) automaton.starts.items
-
 -- the new list goes on where the old one ends
 abbrev pub IsExtended : (old new : List Pair) → Type 0
 IsExtended old new = (more : List Pair) × (new ≡ old ++ more)
@@ -94,3 +105,25 @@ IsStep state states text pair = (pair.state ≡ state) × (pair.states.items ≡
 -- the pair is the one to which the edge leads by the character, with these states
 abbrev pub IsStepBy : Edge → Pair → (c : ℕ) → (states : List Bool) → Pair → Type 0
 IsStepBy edge pair c states next = IsBy edge pair c × IsStep edge.to states (pair.text.items ++ c ∷ []) next
+
+-- ---- the bound
+
+-- no two of the pairs have the same state and the same states
+abbrev pub AreUnlike : List Pair → Type 0
+AreUnlike [] = Unit {0}
+AreUnlike (pair ∷ pairs) = (¬ IsSeen pairs pair.state pair.states.items) × AreUnlike pairs
+
+-- it comes to more pairs than are allowed
+abbrev pub HasManyPairs : (one other : Automaton) → Type 0
+HasManyPairs one other =
+    (pairs : List Pair) × All (λ pair. IsCome one other pair.state pair.states.items) pairs × AreUnlike pairs × (MOST_PAIRS < length pairs)
+
+-- ---- what is found
+
+-- What a search finds. A text without line feed is accepted by the first automaton, and by the second as wanted. Where nothing is
+-- found, there is no such text of characters. The search is given up only where it comes to many pairs.
+abbrev pub IsFoundBy : (one other : Automaton) → (is_accepted : Bool) → Found → Type 0
+IsFoundBy one other is_accepted (Text text) =
+    AcceptsText one text.items × IsWhether is_accepted (AcceptsText other text.items) × IsTrue (lacks line_feed text.items)
+IsFoundBy one other is_accepted Nothing = (text : List ℕ) → IsTrue (all_scalars text) → IsTrue (lacks line_feed text) → AcceptsText one text → IsWhether (not is_accepted) (AcceptsText other text)
+IsFoundBy one other is_accepted TooMany = HasManyPairs one other

@@ -1,8 +1,8 @@
 //! An automaton is made of parts, from the last to the first.
 
-ghost use Rattle.std.specs.Prelude.{◌≡◌, ◌↔◌, ◌≤◌, ◌<◌, ◌+◌, ◌++◌, ℕ, List, [], IfOk, IfSome, OnOk, length};
+ghost use Rattle.std.specs.Prelude.{◌≡◌, ◌↔◌, ◌≤◌, ◌<◌, ◌+◌, ◌++◌, ℕ, List, [], IfNone, IfOk, IfSome, OnOk, length};
 ghost use Rattle.urlpattern_covers.specs.{Automata.AcceptsText, Automata.IsWithin, Meaning.MeansText};
-ghost use Rattle.urlpattern_covers.specs.Making.{edges_to, heads, made, made_view, may_miss, repeats, with_again, with_cell, with_cells, with_copies};
+ghost use Rattle.urlpattern_covers.specs.Making.{HasManyStates, edges_to, heads, made, made_view, may_miss, repeats, with_again, with_cell, with_cells, with_copies};
 ghost use Rattle.urlpattern_meaning.specs.PartMeaning.{AreGenerated};
 ghost use Rattle.urlpattern_syntax.specs.{Options.options_view, Parts.parts_view};
 
@@ -14,14 +14,15 @@ use urlpattern_syntax::parser::{Options, Part, PartModifier};
 /// The number of states that an automaton of parts may have: one for each character of their texts, two for each wildcard, and one.
 pub const MOST_STATES: usize = 10_000;
 
-/// Makes the automaton of parts. `None`: it would have too many states.
+/// Makes the automaton of parts. `None`: it would have more than [`MOST_STATES`] states.
 pub(crate) fn make(
     alloc: Global,
     options: &Options,
     parts: &[Part],
 ) -> Result<Option<Automaton>, AllocError>
-    ensures { IfOk result (λ found. IfSome found
+    ensures made { IfOk result (λ found. IfSome found
         (λ automaton. made_view automaton ≡ made (options_view options.now) (parts_view parts.now))) }
+    ensures many { IfOk result (λ found. IfNone found (HasManyStates (options_view options.now) (parts_view parts.now))) }
 {
     let mut automaton = Automaton {
         edges: Vec::new(alloc),
@@ -41,7 +42,8 @@ pub(crate) fn make(
 }
 
 impl Automaton {
-    /// Makes the automaton of parts. `None`: it would have more than [`MOST_STATES`] states, or about as many again.
+    /// Makes the automaton of parts. `None`: it would have more than [`MOST_STATES`] states; where it has less than twice as many, it
+    /// may be made all the same.
     ///
     /// It accepts what the parts mean, if none of them is a custom regular expression.
     pub fn of_parts(
@@ -50,6 +52,7 @@ impl Automaton {
         parts: &[Part],
     ) -> Result<Option<Self>, AllocError>
         ensures within { IfOk result (λ found. IfSome found IsWithin) }
+        ensures many { IfOk result (λ found. IfNone found (HasManyStates (options_view options.now) (parts_view parts.now))) }
         ensures accepts { AreGenerated (parts_view parts.now) → IfOk result (λ found. IfSome found (λ automaton.
             (text : List ℕ) → AcceptsText automaton text ↔ MeansText (options_view options.now) (parts_view parts.now) text)) }
     {
@@ -66,7 +69,7 @@ impl Automaton {
         requires { self.old.states + length cells.now ≤ usize.MAX }
         ensures { OnOk result (made_view self.new ≡ with_copies (made_view self.old) modifier cells.now) }
     {
-        let missing = if may_miss(modifier) {
+        let missing = if may_miss(modifier) && has_one(cells) {
             Vec::from_slice(alloc, &self.starts)?
         } else {
             Vec::new(alloc)

@@ -39,8 +39,8 @@ pub enum Reason {
     CustomExpression,
     /// Case is ignored.
     IgnoredCase,
-    /// The parts have more than [`MOST_STATES`](crate::MOST_STATES) characters and wildcards, or a search would
-    /// visit more than [`MOST_PAIRS`](crate::MOST_PAIRS) pairs.
+    /// The parts have more than [`MOST_STATES`](crate::MOST_STATES) characters and wildcards, or a search
+    /// comes to more than [`MOST_PAIRS`](crate::MOST_PAIRS) pairs.
     TooMany,
 }
 

@@ -1,8 +1,8 @@
 //! A search for a text that one automaton accepts, and another accepts or does not.
 
-ghost use Rattle.std.specs.Prelude.{◌≡◌, ◌≢◌, ℕ, All, Contains, IfOk, OnOk, IsTrue};
-ghost use Rattle.urlpattern_covers.specs.Automata.{IsFoundBy, IsWithin};
-ghost use Rattle.urlpattern_covers.specs.Searching.{IsBy, IsExtended, IsFollowed, IsFollowedBy, IsGrownBy, IsReached, IsSeen, IsStep, IsStepBy, starts_of};
+ghost use Rattle.std.specs.Prelude.{◌≡◌, ◌≢◌, ◌↔◌, ℕ, All, Contains, IfOk, OnOk, IsTrue};
+ghost use Rattle.urlpattern_covers.specs.Automata.{IsWithin};
+ghost use Rattle.urlpattern_covers.specs.Searching.{AreUnlike, IsBy, IsFoundBy, IsExtended, IsFollowed, IsFollowedBy, IsGrownBy, IsReached, IsSeen, IsStep, IsStepBy, starts_of};
 ghost use Rattle.urlpattern_syntax.specs.Text.{line_feed};
 
 use crate::automaton::{Automaton, Edge};
@@ -35,7 +35,7 @@ pub(crate) struct Pair {
 impl Automaton {
     /// Finds a text without line feed that this automaton accepts and the other accepts, or does not accept.
     ///
-    /// It is one of the shortest. The search is given up after [`MOST_PAIRS`] pairs of states.
+    /// It is one of the shortest. The search is given up where it comes to more than [`MOST_PAIRS`] pairs of a state and states.
     pub fn find(
         &self,
         alloc: Global,
@@ -70,10 +70,14 @@ fn first_pairs(alloc: Global, one: &Automaton, other: &Automaton) -> Result<Vec<
     ensures reached { IfOk result (λ pairs. All (IsReached one.now other.now) pairs.items) }
     ensures starts { IfOk result (λ pairs.
         (state : ℕ) → Contains one.now.starts.items state → IsSeen pairs.items state (starts_of other.now)) }
+    ensures unlike { IfOk result (λ pairs. AreUnlike pairs.items) }
 {
     let mut pairs = Vec::new(alloc);
     for state in &one.starts {
         let states = set_of(alloc, &other.starts, other.states)?;
+        if is_seen(&pairs, *state, &states) {
+            continue;
+        }
         pairs.push(Pair {
             state: *state,
             states,
@@ -98,6 +102,7 @@ fn follow(
     ensures reached { OnOk result (All (IsReached one.now other.now) pairs.new.items) }
     ensures kept { OnOk result (IsExtended pairs.old.items pairs.new.items) }
     ensures followed { OnOk result (IsFollowed one.now other.now classes.now pairs.new.items pair.now) }
+    ensures unlike { OnOk result (AreUnlike pairs.old.items → AreUnlike pairs.new.items) }
 {
     for c in classes {
         follow_by(alloc, one, other, *c, pair, pairs)?;
@@ -120,6 +125,7 @@ fn follow_by(
     ensures reached { OnOk result (All (IsReached one.now other.now) pairs.new.items) }
     ensures kept { OnOk result (IsExtended pairs.old.items pairs.new.items) }
     ensures followed { OnOk result (c ≢ line_feed → IsFollowedBy one.now other.now c pairs.new.items pair.now) }
+    ensures unlike { OnOk result (AreUnlike pairs.old.items → AreUnlike pairs.new.items) }
 {
     if c == '\n' {
         return Ok(());
@@ -143,6 +149,7 @@ fn follow_edge(
     ensures kept { OnOk result (IsExtended pairs.old.items pairs.new.items) }
     ensures seen { OnOk result (IsBy edge pair.now c → IsSeen pairs.new.items edge.to states.now) }
     ensures others { OnOk result (IsGrownBy (IsStepBy edge pair.now c states.now) pairs.old.items pairs.new.items) }
+    ensures unlike { OnOk result (AreUnlike pairs.old.items → AreUnlike pairs.new.items) }
 {
     if edge.from != pair.state || !edge.test.passes(c) {
         return Ok(());
@@ -173,7 +180,7 @@ fn copy_of(alloc: Global, pair: &Pair) -> Result<Pair, AllocError>
 
 /// Whether one of the pairs has this state and these states.
 fn is_seen(pairs: &[Pair], state: usize, states: &[bool]) -> bool
-    ensures { IsTrue result → IsSeen pairs.now state states.now }
+    ensures { IsTrue result ↔ IsSeen pairs.now state states.now }
 {
     for pair in pairs {
         if pair.state == state && are_same(&pair.states, states) {
@@ -185,7 +192,7 @@ fn is_seen(pairs: &[Pair], state: usize, states: &[bool]) -> bool
 
 /// Whether the sets of states are the same.
 fn are_same(states: &[bool], others: &[bool]) -> bool
-    ensures { IsTrue result → states.now ≡ others.now }
+    ensures { IsTrue result ↔ states.now ≡ others.now }
 {
     states == others
 }

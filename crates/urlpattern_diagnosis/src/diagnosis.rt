@@ -4,12 +4,13 @@ ghost use Rattle.std.specs.Prelude.{◌≡◌, string_bytes, IfOk, IfSome};
 ghost use Rattle.urlpattern_faults.specs.Faults.{IsFaultIn, IsWholeFault};
 ghost use Rattle.urlpattern_faults.specs.Places.{IsFaultMoved, IsPlaceOf};
 
-use crate::reason::{reason_before_search, reason_of};
+use crate::reason::{OPEN_BRACKET, reason_before_search, reason_of};
 use std::alloc::{AllocError, Global};
 use std::fmt;
 use urlpattern_eight::ComponentName;
 use urlpattern_faults::{Fault, Place, Span};
 use urlpattern_syntax::Error;
+use urlpattern_syntax::error::TokenizerError;
 
 /// How many characters of a text are printed at most.
 const WIDTH: usize = 80;
@@ -68,7 +69,7 @@ impl Diagnosis {
         ensures within { IfOk result (λ diagnosis. IsFaultIn text.now diagnosis.fault) }
     {
         let fault = Fault::whole(text);
-        Self::of_fault(alloc, error, subject, text, fault, false)
+        Self::of_fault(alloc, error, subject, text, fault, Around::Nothing)
     }
 
     /// A part of a text has a fault, or the whole text is at fault if it does not have the part.
@@ -95,18 +96,24 @@ impl Diagnosis {
             Some(place) => place.moved(text, part, fault),
             None => Fault::whole(text),
         };
-        let before_search = is_before_search(text, part, place);
-        Self::of_fault(alloc, error, subject, text, moved, before_search)
+        let around = if is_in_bracket(&error, subject, part, fault) {
+            Around::Bracket
+        } else if is_before_search(text, part, place) {
+            Around::Search
+        } else {
+            Around::Nothing
+        };
+        Self::of_fault(alloc, error, subject, text, moved, around)
     }
 
-    /// A text has a fault, which may be in what is before a `?` that begins the search.
+    /// A text has a fault, which what is around it may explain.
     fn of_fault(
         alloc: Global,
         error: Error,
         subject: Subject,
         text: &str,
         fault: Fault,
-        before_search: bool,
+        around: Around,
     ) -> Result<Self, AllocError>
         requires { IsFaultIn text.now fault }
         ensures error { IfOk result (λ diagnosis. diagnosis.error ≡ error) }
@@ -115,7 +122,7 @@ impl Diagnosis {
         ensures fault { IfOk result (λ diagnosis. diagnosis.fault ≡ fault) }
     {
         let part = &text[fault.span.start..fault.span.end];
-        let reason = full_reason(alloc, &error, part, subject, before_search)?;
+        let reason = full_reason(alloc, &error, part, subject, around)?;
         Ok(Diagnosis {
             error,
             subject,
@@ -126,20 +133,53 @@ impl Diagnosis {
     }
 }
 
+/// What explains a fault besides the part at fault.
+#[derive(Clone, Copy)]
+enum Around {
+    /// Nothing does.
+    Nothing,
+    /// A `?` after the pattern begins the search.
+    Search,
+    /// A `[` before a colon is not closed in the pattern of a hostname, so that the colon begins no port.
+    Bracket,
+}
+
 /// Why a part of a text is refused with this error.
 fn full_reason(
     alloc: Global,
     error: &Error,
     part: &str,
     subject: Subject,
-    before_search: bool,
+    around: Around,
 ) -> Result<String, AllocError> {
-    let reason = reason_of(alloc, error, part, subject.name())?;
-    if before_search {
-        reason_before_search(alloc, error, reason)
-    } else {
-        Ok(reason)
+    match around {
+        Around::Nothing => reason_of(alloc, error, part, subject.name()),
+        Around::Search => {
+            let reason = reason_of(alloc, error, part, subject.name())?;
+            reason_before_search(alloc, error, reason)
+        }
+        Around::Bracket => String::from_str(alloc, OPEN_BRACKET),
     }
+}
+
+/// Whether a colon gives no name in the pattern of a hostname, after a `[` that is not closed.
+fn is_in_bracket(error: &Error, subject: Subject, part: &str, fault: Fault) -> bool {
+    matches!(error, Error::Tokenizer(TokenizerError::InvalidName, _))
+        && subject == Subject::Component(ComponentName::Hostname)
+        && is_open_at(part, fault.span.start)
+}
+
+/// Whether a `[` before a place is not closed: no `]` follows it.
+fn is_open_at(part: &str, place: usize) -> bool {
+    let mut is_open = false;
+    for (index, byte) in part.as_bytes().iter().enumerate() {
+        match byte {
+            b'[' if index < place => is_open = true,
+            b']' => is_open = false,
+            _ => {}
+        }
+    }
+    is_open
 }
 
 /// Whether a `?` follows a part of a text.

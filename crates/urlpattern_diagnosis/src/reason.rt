@@ -6,6 +6,10 @@ use url::ParseError;
 use urlpattern_syntax::error::{Error, ParserError, RegexFault, TokenizerError};
 use urlpattern_syntax::tokenizer::TokenType;
 
+/// Why a colon in the pattern of a hostname gives no name, after a `[` that is not closed.
+pub const OPEN_BRACKET: &str =
+    "`[` is not closed: an IPv6 address ends with `]`, and each `:` in it is written `\\:`";
+
 /// Why a pattern is refused with this error, and what to do. `part` is the text at fault, and `what` is what it should be.
 ///
 /// The error is that memory ran out.

@@ -13,9 +13,9 @@ pub fn component_start(
 ) -> usize {
     let mut rest = after_ignored(text);
     for name in ComponentName::all() {
-        if let Some(value) = components.get(*name) {
-            rest = after_signs(rest, components, *name);
-            if *name == component {
+        if let Some(value) = components.get(name) {
+            rest = after_signs(rest, components, name);
+            if name == component {
                 break;
             }
             rest = after(rest, value);

@@ -66,7 +66,7 @@ pub enum ComponentName {
 }
 
 /// The components in the order of the standard.
-static ALL: [ComponentName; 8] = [
+pub static COMPONENTS: [ComponentName; 8] = [
     ComponentName::Protocol,
     ComponentName::Username,
     ComponentName::Password,
@@ -79,10 +79,10 @@ static ALL: [ComponentName; 8] = [
 
 impl ComponentName {
     /// The components in the order of the standard.
-    pub fn all() -> &'static [Self]
-        ensures { result.now ≡ components }
+    pub fn all() -> [Self; 8]
+        ensures { result ≡ components }
     {
-        &ALL
+        COMPONENTS
     }
 
     /// The name in lower case, which is that of the component's member in JSON.
@@ -105,7 +105,7 @@ impl ComponentName {
     pub fn from_name(name: &str) -> Option<Self>
         ensures { NamesComponent name.now result }
     {
-        for &component in Self::all() {
+        for component in Self::all() {
             if component.as_str() == name {
                 return Some(component);
             }

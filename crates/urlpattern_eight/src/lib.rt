@@ -3,4 +3,4 @@
 
 mod eight;
 
-pub use eight::{ComponentName, Eight, NamedValues};
+pub use eight::{COMPONENTS, ComponentName, Eight, NamedValues};

@@ -67,7 +67,7 @@ impl UrlPatternInit {
     {
         let mut members = Map::new(alloc);
         for name in ComponentName::all() {
-            put_optional(&mut members, alloc, name.as_str(), self.get(*name))?;
+            put_optional(&mut members, alloc, name.as_str(), self.get(name))?;
         }
         put_optional(&mut members, alloc, "baseURL", self.base_url.as_deref())?;
         Ok(members)

@@ -59,7 +59,7 @@ impl MatchInput {
     {
         let mut members = Map::new(alloc);
         for name in ComponentName::all() {
-            put_text(&mut members, alloc, name.as_str(), self.get(*name))?;
+            put_text(&mut members, alloc, name.as_str(), self.get(name))?;
         }
         Ok(Value::Object(members))
     }

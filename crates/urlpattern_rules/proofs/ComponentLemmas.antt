@@ -5,7 +5,7 @@ use Rattle.std.specs.List.{list_any}
 use Rattle.std.specs.Prelude.{◌||◌, IsTrue}
 use Rattle.std.specs.Str.{all_scalars}
 use Rattle.std.proofs.lemmas.List.Elements.{All-cons, All-head, All-nil, All-tail}
-use Rattle.urlpattern_covers.specs.Answers.{IsCovering, IsOverlap, is_custom_kind, is_custom_part}
+use Rattle.urlpattern_covers.specs.Answers.{IsCovering, IsOverlap, IsReason, IsTooMuch, is_custom_kind, is_custom_part}
 use Rattle.urlpattern_covers.specs.Meaning.{MeansText}
 use Rattle.urlpattern_covers.specs.declared.parts.Covering.{Covering}
 use Rattle.urlpattern_covers.specs.declared.parts.Covering.TheVariants as coverings
@@ -14,7 +14,7 @@ use Rattle.urlpattern_covers.specs.declared.parts.Overlap.TheVariants as overlap
 use Rattle.urlpattern_covers.specs.declared.parts.Reason.{Reason}
 use Rattle.urlpattern_covers.specs.declared.parts.Reason.TheVariants as reasons
 use Rattle.urlpattern_meaning.specs.PartMeaning.{AreGenerated}
-use Rattle.urlpattern_rules.specs.Comparing.{AreApart, IsComponentCovering, IsComponentOverlap, IsExample, IsKnown, IsMeantBy, IsOnlyIn, IsReasonFor, IsWithin, MeansIn, TakesEachLine, TakesNoLine, full_wildcard}
+use Rattle.urlpattern_rules.specs.Comparing.{AreApart, IsComponentCovering, IsComponentOverlap, IsExample, IsKnown, IsMeantBy, IsOnlyIn, IsReasonAlone, IsReasonFor, IsUnknownBy, IsWithin, MeansIn, TakesEachLine, TakesNoLine, full_wildcard}
 use Rattle.urlpattern_rules.specs.declared.component.ComponentParts.{ComponentParts}
 use Rattle.urlpattern_syntax.specs.declared.parser.{Part.Part, PartType.PartType}
 use Rattle.urlpattern_syntax.specs.{Options.OptionsView, Options.default_options, Options.options_view, Parts.PartView, Parts.part_view, Parts.parts_view, Text.lacks, Text.line_feed}
@@ -48,17 +48,20 @@ custom (part ∷ parts) some are = custom_cases part parts (is_custom_part part)
 
 -- ---- reasons
 
-pub reason_first : (component other : ComponentParts) (reason : Reason) → IsReasonFor component component reason → IsReasonFor component other reason
-reason_first component other reasons.CustomExpression h = λ both. h (both.1, both.1)
-reason_first component other reasons.IgnoredCase (inl e) = inr e
-reason_first component other reasons.IgnoredCase (inr e) = inr e
-reason_first component other reasons.TooMany h = tt
+pub reason_first : (component other : ComponentParts) (reason : Reason) → IsUnknownBy component reason → IsReasonFor component other reason
+reason_first component other reasons.CustomExpression h = λ both. h both.1
+reason_first component other reasons.IgnoredCase h = inr h
+reason_first component other reasons.TooMany h = absurd h
 
-pub reason_second : (component other : ComponentParts) (reason : Reason) → IsReasonFor other other reason → IsReasonFor component other reason
-reason_second component other reasons.CustomExpression h = λ both. h (both.0, both.0)
-reason_second component other reasons.IgnoredCase (inl e) = inl e
-reason_second component other reasons.IgnoredCase (inr e) = inl e
-reason_second component other reasons.TooMany h = tt
+pub reason_second : (component other : ComponentParts) (reason : Reason) → IsUnknownBy other reason → IsReasonFor component other reason
+reason_second component other reasons.CustomExpression h = λ both. h both.0
+reason_second component other reasons.IgnoredCase h = inl h
+reason_second component other reasons.TooMany h = absurd h
+
+pub reason_alone : (component : ComponentParts) (reason : Reason) → IsUnknownBy component reason → IsReasonAlone component reason
+reason_alone component reasons.CustomExpression h = λ both. h both.0
+reason_alone component reasons.IgnoredCase h = inl h
+reason_alone component reasons.TooMany h = absurd h
 
 -- ---- a full wildcard
 
@@ -93,6 +96,13 @@ covering_known component asked (coverings.NotCovered text) known asked_known is 
     record { known = known; meant = record { known = asked_known; means = is.0; line = is.2 }; not_meant = is.1 }
 covering_known component asked (coverings.Unknown reason) known asked_known is = is
 
+too_much_flips : (options : OptionsView) (parts : List PartView) (other_options : OptionsView) (others : List PartView) →
+    IsTooMuch options parts other_options others → IsTooMuch other_options others options parts
+too_much_flips options parts other_options others (inl (inl states)) = inl (inr states)
+too_much_flips options parts other_options others (inl (inr states)) = inl (inl states)
+too_much_flips options parts other_options others (inr (inl long)) = inr (inr long)
+too_much_flips options parts other_options others (inr (inr long)) = inr (inl long)
+
 pub overlap_known : (component other : ComponentParts) (overlap : Overlap) → IsKnown component → IsKnown other →
     IsOverlap (options_view component.options) (parts_view component.parts.items) (options_view other.options) (parts_view other.parts.items) overlap →
     IsComponentOverlap component other overlap
@@ -102,7 +112,12 @@ overlap_known component other (overlaps.Common text) known other_known is =
 overlap_known component other (overlaps.Unknown reasons.CustomExpression) known other_known is = λ both. is (both.1, both.0)
 overlap_known component other (overlaps.Unknown reasons.IgnoredCase) known other_known (inl e) = inr e
 overlap_known component other (overlaps.Unknown reasons.IgnoredCase) known other_known (inr e) = inl e
-overlap_known component other (overlaps.Unknown reasons.TooMany) known other_known is = tt
+overlap_known component other (overlaps.Unknown reasons.TooMany) known other_known is = too_much_flips (options_view component.options) (parts_view component.parts.items) (options_view other.options) (parts_view other.parts.items) is
+
+pub overlap_result : (component other : ComponentParts) (result : Result Overlap AllocError) → IsKnown component → IsKnown other →
+    IfOk result (IsOverlap (options_view component.options) (parts_view component.parts.items) (options_view other.options) (parts_view other.parts.items)) → IfOk result (IsComponentOverlap component other)
+overlap_result component other (Ok overlap) known other_known is = overlap_known component other overlap known other_known is
+overlap_result component other (Err error) known other_known is = tt
 
 -- what covers a full wildcard takes each line
 pub each_line : (component anything : ComponentParts) → IsKnown component → parts_view anything.parts.items ≡ full_wildcard ∷ [] →
@@ -113,9 +128,6 @@ each_line component anything known are is = record {
 }
 
 -- what overlaps a full wildcard has an example
-wildcard_generated : AreGenerated (full_wildcard ∷ [])
-wildcard_generated = All-cons (λ (it : PartView). it.kind ≢ PartType.Regexp) full_wildcard [] (λ e. let h : is_custom_kind PartType.FullWildcard ≡ is_custom_kind PartType.Regexp = ap is_custom_kind e in absurd cc) (All-nil (λ (it : PartView). it.kind ≢ PartType.Regexp))
-
 pub example_known : (component anything : ComponentParts) (overlap : Overlap) → IsKnown component →
     options_view anything.options ≡ default_options → parts_view anything.parts.items ≡ full_wildcard ∷ [] →
     IsOverlap (options_view component.options) (parts_view component.parts.items) (options_view anything.options) (parts_view anything.parts.items) overlap → IsExample component overlap
@@ -124,12 +136,11 @@ example_known component anything overlaps.Apart known options are is = record {
   takes_none = λ text fine line means. is text fine line means (subst (λ parts. MeansText (options_view anything.options) parts text) (sym are) (wildcard_means (options_view anything.options) text line));
 }
 example_known component anything (overlaps.Common text) known options are is = record { known = known; means = is.0; line = is.2 }
-example_known component anything (overlaps.Unknown reasons.CustomExpression) known options are is =
-    absurd (is (known.generated, subst AreGenerated (sym are) wildcard_generated))
-example_known component anything (overlaps.Unknown reasons.IgnoredCase) known options are (inl e) = inl e
-example_known component anything (overlaps.Unknown reasons.IgnoredCase) known options are (inr e) =
-    let f : anything.options.ignore_case ≡ false = ap (λ (o : OptionsView). o.ignore_case) options in absurd cc
-example_known component anything (overlaps.Unknown reasons.TooMany) known options are is = tt
+example_known component anything (overlaps.Unknown reason) known options are is =
+    let own = options_view component.options in
+    let parts = parts_view component.parts.items in
+    subst (λ (o : OptionsView). IsReason own parts o (full_wildcard ∷ []) reason) options
+    (subst (λ (ps : List PartView). IsReason own parts (options_view anything.options) ps reason) are is)
 
 pub example_result : (component anything : ComponentParts) (result : Result Overlap AllocError) → IsKnown component →
     options_view anything.options ≡ default_options → parts_view anything.parts.items ≡ full_wildcard ∷ [] →

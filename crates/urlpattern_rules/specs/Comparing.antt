@@ -10,6 +10,7 @@ use Rattle.urlpattern_covers.specs.declared.parts.Covering.TheVariants as coveri
 use Rattle.urlpattern_covers.specs.declared.parts.Overlap.{Overlap}
 use Rattle.urlpattern_covers.specs.declared.parts.Overlap.TheVariants as overlaps
 use Rattle.urlpattern_covers.specs.declared.parts.Reason.{Reason}
+use Rattle.urlpattern_covers.specs.declared.parts.Reason.TheVariants as reasons
 use Rattle.urlpattern_meaning.specs.PartMeaning.{AreGenerated}
 use Rattle.urlpattern_rules.specs.declared.component.ComponentParts.{ComponentParts}
 use Rattle.urlpattern_rules.specs.declared.list.Shadowed.{Shadowed}
@@ -26,7 +27,7 @@ use Rattle.urlpattern_rules.specs.declared.pattern.PatternParts.{PatternParts}
 use Rattle.urlpattern_eight.specs.declared.eight.ComponentName.{ComponentName}
 use Rattle.urlpattern_eight.specs.declared.eight.Eight.{Eight}
 use Rattle.urlpattern_eight.specs.Eight.{at}
-use Rattle.urlpattern_syntax.specs.Options.{options_view}
+use Rattle.urlpattern_syntax.specs.Options.{default_options, options_view}
 use Rattle.urlpattern_syntax.specs.Parts.{PartView, parts_view}
 use Rattle.urlpattern_syntax.specs.Text.{lacks, line_feed, text_of}
 use Rattle.urlpattern_syntax.specs.declared.parser.{PartModifier.PartModifier, PartType.PartType}
@@ -42,6 +43,12 @@ pub record IsKnown (component : ComponentParts) : Type 0 where
   pub generated : AreGenerated (parts_view component.parts.items)
   pub case_kept : component.options.ignore_case ≡ false
 
+-- why it is not known what the parts mean
+abbrev pub IsUnknownBy : ComponentParts → Reason → Type 0
+IsUnknownBy component reasons.CustomExpression = ¬ AreGenerated (parts_view component.parts.items)
+IsUnknownBy component reasons.IgnoredCase = component.options.ignore_case ≡ true
+IsUnknownBy component reasons.TooMany = ⊥
+
 -- why it is not known whether the first covers the second, or whether they overlap
 abbrev pub IsReasonFor : (component other : ComponentParts) → Reason → Type 0
 IsReasonFor component other =
@@ -50,6 +57,10 @@ IsReasonFor component other =
 -- a full wildcard
 abbrev pub full_wildcard : PartView
 full_wildcard = record { kind = PartType.FullWildcard; value = []; modifier = PartModifier.None; name = []; prefix = []; suffix = [] }
+
+-- why no text is known that the parts mean: it is sought beside a full wildcard
+abbrev pub IsReasonAlone : ComponentParts → Reason → Type 0
+IsReasonAlone component = IsReason (options_view component.options) (parts_view component.parts.items) default_options (full_wildcard ∷ [])
 
 -- The parts mean each text without line feed.
 pub record TakesEachLine (component : ComponentParts) : Type 0 where
@@ -105,7 +116,7 @@ IsComponentOverlap component other (overlaps.Unknown reason) = IsReasonFor compo
 abbrev pub IsExample : ComponentParts → Overlap → Type 0
 IsExample component overlaps.Apart = TakesNoLine component
 IsExample component (overlaps.Common text) = IsMeantBy component text.items
-IsExample component (overlaps.Unknown reason) = IsReasonFor component component reason
+IsExample component (overlaps.Unknown reason) = IsReasonAlone component reason
 
 -- ---- eight components
 
@@ -125,11 +136,16 @@ pub record IsParting (pattern asked : PatternParts) (parting : Parting) : Type 0
   pub known : IsKnown (at pattern.components parting.component)
   pub not_meant : ¬ MeansIn (at pattern.components parting.component) (text_of (at parting.texts parting.component))
 
+-- why it is not known: of this component nothing is known, or no text of the asked one's
+abbrev pub IsReasonIn : (pattern asked : PatternParts) → ComponentName → Reason → Type 0
+IsReasonIn pattern asked name reason =
+    IsReasonFor (at pattern.components name) (at asked.components name) reason ⊎ IsReasonAlone (at asked.components name) reason
+
 -- whether the pattern covers the asked one
 abbrev pub IsPatternCovering : (pattern asked : PatternParts) → PatternCovering → Type 0
 IsPatternCovering pattern asked answers.Covered = IsCovered pattern asked
 IsPatternCovering pattern asked (answers.NotCovered parting) = IsParting pattern asked parting
-IsPatternCovering pattern asked (answers.Unknown name reason) = IsReasonFor (at pattern.components name) (at asked.components name) reason
+IsPatternCovering pattern asked (answers.Unknown name reason) = IsReasonIn pattern asked name reason
 
 -- whether both patterns mean eight texts
 abbrev pub IsPatternOverlap : (pattern other : PatternParts) → PatternOverlap → Type 0
@@ -154,7 +170,7 @@ IsLack Empty IsReasonAt (lacking.Unknown name reason) = IsReasonAt name reason
 -- a text of a component of the asked pattern is missing
 abbrev pub LacksExample : (asked : PatternParts) → Lack → Type 0
 LacksExample asked =
-    IsLack (λ name. TakesNoLine (at asked.components name)) (λ name reason. IsReasonFor (at asked.components name) (at asked.components name) reason)
+    IsLack (λ name. TakesNoLine (at asked.components name)) (λ name reason. IsReasonAlone (at asked.components name) reason)
 
 -- what is found up to here, or else what is known of one component more
 abbrev pub first_or : First → (name : ComponentName) → Covering → First
@@ -185,7 +201,7 @@ IsCommonText pattern other name (Err lack) =
 abbrev pub IsNotKnownToCover : (asked pattern : PatternParts) → Type 0
 IsNotKnownToCover asked pattern =
     ((parting : Parting) × IsParting pattern asked parting)
-    ⊎ ((name : ComponentName) × (reason : Reason) × IsReasonFor (at pattern.components name) (at asked.components name) reason)
+    ⊎ ((name : ComponentName) × (reason : Reason) × IsReasonIn pattern asked name reason)
 
 -- what is known: that it covers it, or not
 abbrev pub Tells : (pattern asked : PatternParts) → Bool → Type 0

@@ -20,7 +20,7 @@ pub struct ComponentParts {
 }
 
 impl ComponentParts {
-    ghost use Rattle.urlpattern_rules.specs.Comparing.{IsComponentCovering, IsComponentOverlap, IsExample, IsKnown, IsReasonFor, TakesEachLine, full_wildcard};
+    ghost use Rattle.urlpattern_rules.specs.Comparing.{IsComponentCovering, IsComponentOverlap, IsExample, IsKnown, IsReasonFor, IsUnknownBy, TakesEachLine, full_wildcard};
 
     /// A full wildcard alone, which means each text without line feed.
     fn anything(alloc: Global) -> Result<Self, AllocError>
@@ -45,7 +45,7 @@ impl ComponentParts {
     /// Why nothing is known of what the parts mean. `None`: it is known.
     fn unknown(&self) -> Option<Reason>
         ensures known { IfNone result (IsKnown self.now) }
-        ensures reason { IfSome result (IsReasonFor self.now self.now) }
+        ensures reason { IfSome result (IsUnknownBy self.now) }
     {
         if self.options.ignore_case {
             return Some(Reason::IgnoredCase);

@@ -152,9 +152,9 @@ impl PatternParts {
     {
         let mut first = First::Nowhere;
         for name in ComponentName::all() {
-            let component = self.components.get(*name);
-            let covering = component.covers(alloc, asked.components.get(*name))?;
-            first = first.or(*name, covering);
+            let component = self.components.get(name);
+            let covering = component.covers(alloc, asked.components.get(name))?;
+            first = first.or(name, covering);
         }
         Ok(first)
     }

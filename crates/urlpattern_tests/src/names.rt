@@ -5,7 +5,7 @@ use urlpattern::{ComponentName, Eight, Error};
 
 #[test]
 fn a_component_prints_as_its_name_and_is_read_from_it(rt: HostRuntime) -> Result<(), Fail> {
-    for &component in ComponentName::all() {
+    for component in ComponentName::all() {
         let name = component.to_string(rt.alloc())?;
         assert_eq!(rt; ComponentName::from_name(&name), Some(component));
     }

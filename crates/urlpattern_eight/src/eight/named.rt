@@ -1,6 +1,6 @@
 //! The values of the components, one after the other.
 
-use super::{ALL, ComponentName, Eight};
+use super::{COMPONENTS, ComponentName, Eight};
 use std::slice;
 
 /// The values of an `Eight` in the order of the standard, each beside the name of its component.
@@ -21,7 +21,7 @@ impl<'a, T> NamedValues<'a, T> {
     {
         Self {
             values,
-            names: ALL.iter(),
+            names: COMPONENTS.iter(),
         }
     }
 }

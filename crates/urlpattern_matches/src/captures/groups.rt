@@ -2,7 +2,7 @@
 
 use super::UrlPatternCaptures;
 use std::slice;
-use urlpattern_eight::ComponentName;
+use urlpattern_eight::{COMPONENTS, ComponentName};
 
 /// The groups of a component that are left, in their order: each name, with what the group captured. `None`: the group took no
 /// part.
@@ -70,7 +70,7 @@ impl<'c, 'p, 'u> UrlPatternCapturesIter<'c, 'p, 'u> {
     pub(super) fn new(captures: &'c UrlPatternCaptures<'p, 'u>) -> Self
         ensures { all_groups_left result ≡ all_groups_view captures.now components }
     {
-        let mut components = ComponentName::all().iter();
+        let mut components = COMPONENTS.iter();
         components.next();
         Self {
             captures: &*captures,

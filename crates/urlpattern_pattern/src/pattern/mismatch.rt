@@ -42,7 +42,7 @@ impl<R: RegExp> UrlPattern<R> {
         ensures memory { OnlyOutOfMemory result }
         ensures asked { IfErr result (λ _. AsksInTurn R.answer (pattern_view self.now) (borrowed_texts texts.now)) }
     {
-        for &name in ComponentName::all() {
+        for name in ComponentName::all() {
             if !self.get(name).matcher.accepts(alloc, texts.get(name))? {
                 return Ok(Some(name));
             }

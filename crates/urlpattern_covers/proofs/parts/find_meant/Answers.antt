@@ -24,13 +24,13 @@ pub find-requires-clause-one : goal.find-requires-clause-one
 find-requires-clause-one c =
     let options = options_view c.args.options.now in
     let parts = parts_view c.args.parts.now in
-    parts_within options parts c.in-Some.one (that_made options parts c.in_ok-one.field-0 c.in-Some.one c.in-Some.is c.in_ok-one.ensures)
+    parts_within options parts c.in-Some.one (that_made options parts c.in_ok-one.field-0 c.in-Some.one c.in-Some.is c.in_ok-one.ensures.made)
 
 pub find-requires-clause-two : goal.find-requires-clause-two
 find-requires-clause-two c =
     let options = options_view c.args.other_options.now in
     let parts = parts_view c.args.others.now in
-    parts_within options parts c.in-Some-2.other (that_made options parts c.in_ok-other.field-0 c.in-Some-2.other c.in-Some-2.is c.in_ok-other.ensures)
+    parts_within options parts c.in-Some-2.other (that_made options parts c.in_ok-other.field-0 c.in-Some-2.other c.in-Some-2.is c.in_ok-other.ensures.made)
 
 pub returns : goal.returns
 returns c =
@@ -42,6 +42,6 @@ returns c =
     let no_other : list_any is_custom_part c.args.others.now ≡ false = sym c.has_custom-2.ensures ∙ c.if-has_custom-2.false in
     found_parts options parts other_options others c.args.is_meant c.in-Some.one c.in-Some-2.other c.in_ok-found.found c.answer_of.result c.answer_of.ensures
     (generated c.args.parts.now no_custom) (generated c.args.others.now no_other)
-    (that_made options parts c.in_ok-one.field-0 c.in-Some.one c.in-Some.is c.in_ok-one.ensures)
-    (that_made other_options others c.in_ok-other.field-0 c.in-Some-2.other c.in-Some-2.is c.in_ok-other.ensures)
+    (that_made options parts c.in_ok-one.field-0 c.in-Some.one c.in-Some.is c.in_ok-one.ensures.made)
+    (that_made other_options others c.in_ok-other.field-0 c.in-Some-2.other c.in-Some-2.is c.in_ok-other.ensures.made)
     c.in_ok-found.ensures

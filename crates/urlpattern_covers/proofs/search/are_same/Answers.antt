@@ -3,4 +3,4 @@ use Rattle.std.specs.Cmp.{booleans_Decides}
 use Rattle.urlpattern_covers.proofs.search.are_same.Goals as goal
 
 pub returns : goal.returns
-returns c = (slice_eq-Decides booleans_Decides c.args.states.now c.args.others.now c.eq.result c.eq.ensures).0
+returns c = slice_eq-Decides booleans_Decides c.args.states.now c.args.others.now c.eq.result c.eq.ensures

@@ -1,9 +1,10 @@
 use Rattle.std.proofs.Common.{◌≡◌, ◌<◌, ◌≤◌, ◌∙◌, ◌⊎◌, ◌∷◌, [], ◌++◌, ap, inl, inr, ℕ, sym, subst, refl, length, get_or, replicate, false, take}
 use Rattle.std.specs.List.{All, Contains}
+use Rattle.std.proofs.lemmas.Bool.{false≢true}
 use Rattle.std.proofs.lemmas.List.Elements.{All-push, Contains-get_or, Contains-push}
-use Rattle.urlpattern_covers.specs.Searching.{IsReached, IsSeen, starts_of, with_states}
+use Rattle.urlpattern_covers.specs.Searching.{AreUnlike, IsReached, IsSeen, starts_of, with_states}
 use Rattle.urlpattern_covers.specs.declared.search.Pair.{Pair}
-use Rattle.urlpattern_covers.proofs.PairLemmas.{contains_all, contains_more, seen_more, start_reached}
+use Rattle.urlpattern_covers.proofs.PairLemmas.{contains_all, contains_more, seen_more, start_reached, unlike_more}
 use Rattle.urlpattern_covers.proofs.search.first_pairs.Goals as goal
 
 pub loop-state-preserved : goal.loop-state-preserved
@@ -28,6 +29,28 @@ loop-state-preserved c =
         | inl earlier ↦ seen_more old (old ++ next ∷ []) state (starts_of other) (next ∷ [], refl) (c.loop-state.invariant.starts state earlier)
         | inr e ↦ subst (λ s. IsSeen (old ++ next ∷ []) s (starts_of other)) (state_is ∙ e) seen
       ]);
+      unlike = subst AreUnlike (sym pushed) (unlike_more old next c.loop-state.invariant.unlike (λ known. false≢true (sym c.if-is_seen.false ∙ c.is_seen.ensures.1
+          (subst (λ l. IsSeen l next.state c.deref-in-loop-state-2.result.now) (sym c.deref-in-loop-state.ensures.value) (subst (IsSeen old next.state) (sym c.deref-in-loop-state-2.ensures.value) known)))));
+    }
+
+pub loop-state-preserved-then-is_seen : goal.loop-state-preserved-then-is_seen
+loop-state-preserved-then-is_seen c =
+    let other = c.args.other.now in
+    let starts = c.args.one.now.starts.items in
+    let i = c.loop-state.state-index in
+    let old = c.loop-state.pairs.items in
+    let here : c.deref-state-items.result.now ≡ starts = c.deref-state-items.ensures.value in
+    let lt : i < length starts = subst (λ l. i < length l) here c.loop-state-test.true in
+    let states_are = c.deref-in-loop-state-2.ensures.value ∙ c.in_ok-states.ensures ∙ ap (λ l. with_states (replicate other.states false) l) c.deref.ensures.value in
+    let known = subst (λ l. IsSeen l (get_or c.deref-state-items.result.now i 0) c.deref-in-loop-state-2.result.now) c.deref-in-loop-state.ensures.value (c.is_seen.ensures.0 c.if-is_seen.true) in
+    let seen : IsSeen old (get_or starts i 0) (starts_of other) = subst (IsSeen old (get_or starts i 0)) states_are (subst (λ l. IsSeen old (get_or l i 0) c.deref-in-loop-state-2.result.now) here known) in
+    record {
+      reached = c.loop-state.invariant.reached;
+      starts = λ state has. elim (contains_more starts i 0 state lt has) [
+        | inl earlier ↦ c.loop-state.invariant.starts state earlier
+        | inr e ↦ subst (λ s. IsSeen old s (starts_of other)) e seen
+      ];
+      unlike = c.loop-state.invariant.unlike;
     }
 
 pub returns-clause-starts : goal.returns-clause-starts

@@ -13,6 +13,7 @@ loop-c-preserved c =
     let new = c.follow_by.new.pairs.items in
     record {
       reached = after.reached;
+      unlike = λ unlike. after.unlike (before.unlike unlike);
       kept = extended_more c.args.pairs.now.items c.loop-c.pairs.items new before.kept after.kept;
       followed = λ d has. elim (contains_more classes c.loop-c.c-index c.c-item.result d c.loop-c-test.true has) [
         | inl earlier ↦ λ plain edge there by_edge. seen_more c.loop-c.pairs.items new edge.to (moved c.args.other.now.edges.items c.args.pair.now.states.items d) after.kept

@@ -1,6 +1,6 @@
 use Rattle.std.proofs.Common.{◌≡◌, ◌<◌, ℕ, take}
 use Rattle.std.specs.List.{All, Contains}
-use Rattle.urlpattern_covers.specs.Searching.{IsExtended, IsFollowed, IsReached}
+use Rattle.urlpattern_covers.specs.Searching.{AreUnlike, IsExtended, IsFollowed, IsReached}
 use Rattle.urlpattern_covers.proofs.search.follow.Given as goal
 
 abbrev pub invariant-loop-c : goal.invariant-loop-c
@@ -8,4 +8,5 @@ invariant-loop-c l = record {
   reached : All (IsReached l.one l.other) l.pairs.items;
   kept : IsExtended l.fn.pairs.items l.pairs.items;
   followed : IsFollowed l.one l.other (take l.c-index l.classes) l.pairs.items l.pair;
+  unlike : AreUnlike l.fn.pairs.items → AreUnlike l.pairs.items;
 }

@@ -33,6 +33,7 @@ loop-edge-preserved c =
     record {
       reached = grown_reached one other pair c.args.c edge states old new c.if-c-eq10.false c.requires.within c.requires.pair (Contains-get_or edges i none lt) refl grown before.reached;
       kept = extended_more c.args.pairs.now.items old new before.kept after.kept;
+      unlike = λ unlike. after.unlike (before.unlike unlike);
       followed = λ it has. elim (contains_more edges i none it lt has) [
         | inl earlier ↦ λ by_edge. seen_more old new it.to states after.kept (before.followed it earlier by_edge)
         | inr e ↦ subst (λ (it : Edge). IsBy it pair c.args.c → IsSeen new it.to states) e seen

@@ -2,7 +2,7 @@ use Rattle.std.proofs.Common.{◌≡◌, ◌<◌, ℕ, take}
 use Rattle.std.specs.List.{All, Contains}
 use Rattle.std.specs.Prelude.{IsTrue}
 use Rattle.urlpattern_covers.specs.Automata.{passes}
-use Rattle.urlpattern_covers.specs.Searching.{IsBy, IsExtended, IsFollowedBy, IsReached, IsSeen, moved}
+use Rattle.urlpattern_covers.specs.Searching.{AreUnlike, IsBy, IsExtended, IsFollowedBy, IsReached, IsSeen, moved}
 use Rattle.urlpattern_covers.specs.declared.automaton.Edge.{Edge}
 use Rattle.urlpattern_covers.proofs.search.follow_by.Given as goal
 
@@ -12,4 +12,5 @@ invariant-loop-edge l = record {
   kept : IsExtended l.fn.pairs.items l.pairs.items;
   followed : (edge : Edge) → Contains (take l.edge-index l.one.edges.items) edge → IsBy edge l.pair l.c →
       IsSeen l.pairs.items edge.to (moved l.other.edges.items l.pair.states.items l.c);
+  unlike : AreUnlike l.fn.pairs.items → AreUnlike l.pairs.items;
 }

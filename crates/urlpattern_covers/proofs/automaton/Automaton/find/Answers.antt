@@ -59,6 +59,7 @@ loop-next-preserved c =
     record {
       reached = after.reached;
       starts = λ state has. seen_more old new state (starts_of other) after.kept (before.starts state has);
+      unlike = after.unlike before.unlike;
       done = done_next one other classes c.args.is_accepted old new c.loop-next.next c.index.result.now copy after.kept lt c.index.ensures c.in_ok-pair.ensures last followed before.done;
       within = omega arith;
     }

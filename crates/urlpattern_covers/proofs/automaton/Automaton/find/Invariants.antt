@@ -1,7 +1,7 @@
 use Rattle.std.proofs.Common.{◌≡◌, ◌-◌, ◌≤◌, ◌<◌, ℕ, vec_len}
 use Rattle.std.specs.List.{All, Contains}
 use Rattle.std.specs.Prelude.{length, take}
-use Rattle.urlpattern_covers.specs.Searching.{IsReached, IsSeen, starts_of}
+use Rattle.urlpattern_covers.specs.Searching.{AreUnlike, IsReached, IsSeen, starts_of}
 use Rattle.urlpattern_covers.proofs.PairLemmas.{IsDone}
 use Rattle.urlpattern_covers.proofs.automaton.Automaton.find.Given as goal
 
@@ -10,6 +10,7 @@ invariant-loop-next l = record {
   reached : All (IsReached l.self l.other) l.pairs.items;
   starts : (state : ℕ) → Contains l.self.starts.items state → IsSeen l.pairs.items state (starts_of l.other);
   done : All (IsDone l.self l.other l.classes.items l.is_accepted l.pairs.items) (take l.next l.pairs.items);
+  unlike : AreUnlike l.pairs.items;
   within : l.next ≤ length l.pairs.items;
 }
 

@@ -5,8 +5,8 @@ use Rattle.urlpattern_rules.proofs.ComponentLemmas.{custom, generated}
 use Rattle.urlpattern_rules.proofs.component.ComponentParts.unknown.Goals as goal
 
 pub returns-then-has_custom-clause-reason : goal.returns-then-has_custom-clause-reason
-returns-then-has_custom-clause-reason c = λ both.
-    custom c.args.self.now.parts.items (subst (λ l. list_any is_custom_part l ≡ true) c.deref.ensures.value (sym c.has_custom.ensures ∙ c.if-has_custom.true)) both.0
+returns-then-has_custom-clause-reason c =
+    custom c.args.self.now.parts.items (subst (λ l. list_any is_custom_part l ≡ true) c.deref.ensures.value (sym c.has_custom.ensures ∙ c.if-has_custom.true))
 
 pub returns-clause-known : goal.returns-clause-known
 returns-clause-known c = record {
