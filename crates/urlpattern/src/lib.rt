@@ -25,3 +25,4 @@ pub use urlpattern_matches::{
     UrlPatternResult, pathname_texts, url_texts,
 };
 pub use urlpattern_pattern::UrlPattern;
+pub use urlpattern_url::NoLink;

@@ -1,5 +1,6 @@
 pub mod Results
 pub mod GeneratedLemmas
+pub mod LinkedLemmas
 pub mod MatchSteps
 pub mod MismatchLemmas
 pub mod MatchLaws

@@ -2,6 +2,7 @@ pub mod ByText
 pub mod ByTextLaws
 pub mod Calls
 pub mod GeneratedTexts
+pub mod LinkedUrls
 pub mod Match
 pub mod Meaning
 pub mod Mismatch

@@ -8,6 +8,7 @@ ghost use Rattle.urlpattern_eight.specs.Eight.{at};
 mod create;
 mod diagnose;
 mod generate;
+mod link;
 mod matching;
 mod mismatch;
 mod once;

@@ -1,0 +1,36 @@
+-- The URL of a pattern whose groups capture what is given, and why there is none.
+use Rattle.std.specs.Prelude.{◌≢◌, ℕ, List, MatchResult, Option, Result, String}
+use Rattle.std.specs.declared.alloc.Global.{Global}
+use Rattle.url.specs.Parts.{Parts}
+use Rattle.urlpattern_generate.specs.Manners.{GivenView}
+use Rattle.urlpattern_generate.specs.declared.error.GenerateError.{GenerateError}
+use Rattle.urlpattern_generate.specs.declared.error.GenerateError.TheVariants as generating
+use Rattle.urlpattern_init.specs.Inheritance.{texts_of_url}
+use Rattle.urlpattern_meaning.specs.PartMeaning.{Captures}
+use Rattle.urlpattern_pattern.specs.GeneratedTexts.{GeneratesText, MayRefuseGroups}
+use Rattle.urlpattern_pattern.specs.Patterns.{PatternView}
+use Rattle.urlpattern_eight.specs.declared.eight.ComponentName.{ComponentName}
+use Rattle.urlpattern_eight.specs.Eight.{IsFirstError, Texts, at}
+use Rattle.urlpattern_syntax.specs.Text.{text_of}
+use Rattle.urlpattern_url.specs.UrlsOfTexts.{RefusesTexts}
+use Rattle.urlpattern_url.specs.declared.error.NoLink.{NoLink}
+use Rattle.urlpattern_url.specs.declared.error.NoLink.TheVariants.{Component, OutOfMemory}
+
+-- each text is that of its component with these groups
+abbrev pub GeneratesTexts : {E : Type 0} → (answer : E → List ℕ → Option Captures) → PatternView E → List GivenView → Texts → Type 0
+GeneratesTexts answer pattern groups texts = (component : ComponentName) → GeneratesText answer pattern component groups (at texts component)
+
+-- each text of the URL is that of its component with these groups
+abbrev pub IsLink : {E : Type 0} → (answer : E → List ℕ → Option Captures) → PatternView E → List GivenView → Parts → Type 0
+IsLink answer pattern groups url = GeneratesTexts answer pattern groups (texts_of_url url)
+
+-- a component is answered by its text, or by why it has none
+abbrev pub AnswersGroups : {E : Type 0} → (answer : E → List ℕ → Option Captures) → PatternView E → List GivenView → ComponentName → Result (String Global) GenerateError → Type 0
+AnswersGroups answer pattern groups component result =
+    MatchResult result (λ text. GeneratesText answer pattern component groups (text_of text)) (MayRefuseGroups answer pattern component groups)
+
+-- why there is no link: the first component without text, or that its texts are those of no URL
+abbrev pub RefusesLink : {E : Type 0} → (answer : E → List ℕ → Option Captures) → PatternView E → List GivenView → NoLink → Type 0
+RefusesLink answer pattern groups (Component error) = (error ≢ generating.OutOfMemory) × IsFirstError (AnswersGroups answer pattern groups) error
+RefusesLink answer pattern groups OutOfMemory = Unit {0}
+RefusesLink answer pattern groups error = (texts : Texts) × GeneratesTexts answer pattern groups texts × RefusesTexts texts error

@@ -1,0 +1,54 @@
+//! The URL of a pattern whose groups capture what is given.
+ghost use Rattle.std.specs.Prelude.{IfErr, IfOk};
+ghost use Rattle.urlpattern_generate.specs.Manners.{given_groups};
+ghost use Rattle.urlpattern_init.specs.declared.init.UrlPatternMatchInput.TheVariants as inputs;
+ghost use Rattle.urlpattern_pattern.specs.LinkedUrls.{AnswersGroups, GeneratesTexts, IsLink, RefusesLink};
+ghost use Rattle.urlpattern_pattern.specs.Match.{HasMatch};
+ghost use Rattle.urlpattern_pattern.specs.Patterns.{pattern_view};
+ghost use Rattle.urlpattern_eight.specs.Eight.{IsFirstError};
+ghost use Rattle.urlpattern_url.specs.UrlsOfTexts.{texts_view};
+
+use super::UrlPattern;
+use std::alloc::Global;
+use url::Url;
+use urlpattern_core::regexp::RegExp;
+use urlpattern_eight::{ComponentName, Eight};
+use urlpattern_generate::{GenerateError, GivenGroup};
+use urlpattern_url::{NoLink, url_of_texts};
+
+impl<R: RegExp> UrlPattern<R> {
+    /// The URL that the pattern matches, with these groups: each of its texts is what `generate` returns for the component. So a
+    /// component that the pattern leaves open is empty, unless its wildcard is given by its number.
+    ///
+    /// The error is that of the first component that has no text with its groups, that no URL has the texts of the components, or
+    /// that memory ran out.
+    pub fn link(&self, alloc: Global, groups: &[GivenGroup<'_>]) -> Result<Url, NoLink>
+        ensures generated { IfOk result (IsLink R.answer (pattern_view self.now) (given_groups groups.now)) }
+        ensures matched { IfOk result (λ url. HasMatch R.answer (pattern_view self.now) (inputs.Url url)) }
+        ensures refused { IfErr result (RefusesLink R.answer (pattern_view self.now) (given_groups groups.now)) }
+    {
+        let texts = match self.generate_each(alloc, groups) {
+            Ok(texts) => texts,
+            Err(GenerateError::OutOfMemory) => return Err(NoLink::OutOfMemory),
+            Err(error) => return Err(NoLink::Component(error)),
+        };
+        url_of_texts(alloc, &texts)
+    }
+
+    /// The texts of the components with these groups.
+    ///
+    /// The error is that of the first component that has none.
+    fn generate_each(
+        &self,
+        alloc: Global,
+        groups: &[GivenGroup<'_>],
+    ) -> Result<Eight<String>, GenerateError>
+        ensures generated { IfOk result (λ texts. GeneratesTexts R.answer (pattern_view self.now) (given_groups groups.now) (texts_view texts)) }
+        ensures refused { IfErr result (IsFirstError (AnswersGroups R.answer (pattern_view self.now) (given_groups groups.now))) }
+    {
+        let text = |component: ComponentName| -> Result<String, GenerateError>
+            ensures { AnswersGroups R.answer (pattern_view self.entry.now) (given_groups groups.entry.now) component result }
+        { self.generate(alloc, component, groups) };
+        Eight::try_from_fn(text)
+    }
+}

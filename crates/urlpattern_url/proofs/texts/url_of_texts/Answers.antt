@@ -1,0 +1,17 @@
+use Rattle.std.proofs.Common.{None, Ok, subst, ◌∙◌, ◌≡◌}
+use Rattle.url.specs.Parser.{parse_url}
+use Rattle.urlpattern_url.proofs.UrlLemmas.{line_encoded, line_refused}
+use Rattle.urlpattern_url.specs.UrlsOfTexts.{RefusesLine}
+use Rattle.urlpattern_url.proofs.texts.url_of_texts.Goals as goal
+
+pub returns-in-Err-clause-refused : goal.returns-in-Err-clause-refused
+returns-in-Err-clause-refused c =
+    line_refused c.args.texts.now c.in-Err.error
+    (subst (λ bytes. RefusesLine bytes c.in-Err.error) (c.deref.ensures ∙ c.in_ok-line.ensures ∙ line_encoded c.args.texts.now) c.in-Err.ensures.refused)
+
+pub returns-clause-refused : goal.returns-clause-refused
+returns-clause-refused c = (
+  c.in-Ok.url,
+  subst (λ bytes. parse_url None bytes ≡ Ok c.in-Ok.url) (c.deref.ensures ∙ c.in_ok-line.ensures ∙ line_encoded c.args.texts.now) c.in-Ok.ensures.read,
+  c.in-Some.ensures.other,
+)

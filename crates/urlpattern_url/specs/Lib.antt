@@ -1,0 +1,2 @@
+pub mod UrlLines
+pub mod UrlsOfTexts

@@ -1,0 +1,38 @@
+-- The URL that has eight texts, and why there is none.
+use Rattle.std.specs.Prelude.{◌≡◌, ◌≢◌, ℕ, List, encode_utf8_all, length, None, Ok, String}
+use Rattle.std.specs.declared.alloc.Global.{Global}
+use Rattle.url.specs.Parser.{parse_url}
+use Rattle.url.specs.Parts.{Parts}
+use Rattle.urlpattern_canonical.specs.Canonical.{Reports}
+use Rattle.urlpattern_init.specs.Inheritance.{url_text}
+use Rattle.urlpattern_eight.specs.declared.eight.ComponentName.{ComponentName}
+use Rattle.urlpattern_eight.specs.declared.eight.Eight.{Eight}
+use Rattle.urlpattern_eight.specs.Eight.{Texts, at, each}
+use Rattle.urlpattern_syntax.specs.Errors.{ErrorView as views}
+use Rattle.urlpattern_syntax.specs.Text.{text_of}
+use Rattle.urlpattern_url.specs.UrlLines.{url_line}
+use Rattle.urlpattern_url.specs.declared.error.NoLink.{NoLink}
+use Rattle.urlpattern_url.specs.declared.error.NoLink.TheVariants.{OtherText, OutOfMemory, Url}
+
+-- the characters of texts
+abbrev pub texts_view : Eight (String Global) → Texts
+texts_view texts = each (λ name. text_of (at texts name))
+
+-- the bytes of the text of a URL with these texts
+abbrev pub line_of : Texts → List ℕ
+line_of texts = url_line (each (λ name. encode_utf8_all (at texts name)))
+
+-- the URL has another text for this component
+abbrev pub HasOtherText : Parts → Texts → ComponentName → Type 0
+HasOtherText url texts component = url_text component url ≢ at texts component
+
+-- `url` refuses the text of a URL, for this reason
+abbrev pub RefusesLine : (bytes : List ℕ) → NoLink → Type 0
+RefusesLine bytes (Url reason) = Reports (parse_url None bytes) (length bytes) (views.Url reason)
+RefusesLine bytes OutOfMemory = Unit {0}
+RefusesLine bytes error = ⊥
+
+-- there is no URL of these texts, for this reason: `url` refuses the text of it, or reads it as a URL with other texts
+abbrev pub RefusesTexts : Texts → NoLink → Type 0
+RefusesTexts texts (OtherText component) = (url : Parts) × (parse_url None (line_of texts) ≡ Ok url) × HasOtherText url texts component
+RefusesTexts texts error = RefusesLine (line_of texts) error

@@ -1,0 +1,68 @@
+//! The URL of eight texts.
+
+ghost use Rattle.std.specs.Prelude.{◌≡◌, ◌↔◌, None, Ok, IfErr, IfNone, IfOk, IfSome, IsTrue};
+ghost use Rattle.std.specs.Str.{chars};
+ghost use Rattle.url.specs.Parser.{parse_url};
+ghost use Rattle.urlpattern_init.specs.Inheritance.{texts_of_url};
+ghost use Rattle.urlpattern_url.specs.UrlsOfTexts.{HasOtherText, RefusesLine, RefusesTexts, texts_view};
+
+use crate::error::NoLink;
+use crate::line::url_line;
+use std::alloc::Global;
+use url::Url;
+use urlpattern_canonical::canonicalize_and_process::reported;
+use urlpattern_eight::{ComponentName, Eight};
+use urlpattern_init::url_text;
+use urlpattern_syntax::Error;
+
+/// The URL that has these texts.
+///
+/// The error is that `url` refuses them, put together, or reads a URL with other texts, or that memory ran out.
+pub fn url_of_texts(alloc: Global, texts: &Eight<String>) -> Result<Url, NoLink>
+    ensures has { IfOk result (λ url. texts_of_url url ≡ texts_view texts.now) }
+    ensures refused { IfErr result (RefusesTexts (texts_view texts.now)) }
+{
+    let line = url_line(alloc, texts)?;
+    let url = match read(alloc, &line) {
+        Ok(url) => url,
+        Err(error) => return Err(error),
+    };
+    match other_text(&url, texts) {
+        None => Ok(url),
+        Some(component) => Err(NoLink::OtherText(component)),
+    }
+}
+
+/// The URL of a text.
+///
+/// The error is the refusal of `url`, or that memory ran out.
+fn read(alloc: Global, line: &str) -> Result<Url, NoLink>
+    ensures read { IfOk result (λ url. parse_url None line.now ≡ Ok url) }
+    ensures refused { IfErr result (RefusesLine line.now) }
+{
+    match reported(Url::parse(alloc, line), line.len()) {
+        Ok(url) => Ok(url),
+        Err(Error::Url(reason)) => Err(NoLink::Url(reason)),
+        Err(_) => Err(NoLink::OutOfMemory),
+    }
+}
+
+/// A component for which a URL has another text. `None`: it has these texts.
+fn other_text(url: &Url, texts: &Eight<String>) -> Option<ComponentName>
+    ensures same { IfNone result (texts_of_url url.now ≡ texts_view texts.now) }
+    ensures other { IfSome result (HasOtherText url.now (texts_view texts.now)) }
+{
+    for &name in ComponentName::all() {
+        if !is_same_text(url_text(url, name), texts.get(name)) {
+            return Some(name);
+        }
+    }
+    None
+}
+
+/// Whether two texts are the same.
+fn is_same_text(text: &str, other: &str) -> bool
+    ensures { IsTrue result ↔ (chars text.now ≡ chars other.now) }
+{
+    text == other
+}
