@@ -7,6 +7,7 @@ mod first_match;
 mod generated;
 mod given;
 mod inputs;
+mod links;
 mod patterns;
 mod plain;
 mod rules;
@@ -112,6 +113,7 @@ fn is_same_over<R: RegExp>(operation: Operation, case: &Case<'_>) -> Result<bool
         Operation::FirstMatch => first_match::is_same::<R>(case),
         Operation::Diagnose => diagnoses::is_same::<R>(case),
         Operation::Generate => generated::is_same::<R>(case),
+        Operation::Link => links::is_same::<R>(case),
         Operation::Compare => rules::is_same_order(case),
         Operation::Covers => rules::is_same_covering(case),
         Operation::Unreachable => rules::is_same_unreachable(case),

@@ -74,6 +74,8 @@ pub enum Operation {
     Diagnose,
     /// The text of a component with given groups.
     Generate,
+    /// The URL of a pattern with given groups.
+    Link,
     /// Which of two patterns is more specific in a component.
     Compare,
     /// Whether a pattern covers another, and whether they overlap.
@@ -105,6 +107,7 @@ pub const OPERATIONS: &[(&str, Operation)] = &[
     ("first_match", Operation::FirstMatch),
     ("diagnose", Operation::Diagnose),
     ("generate", Operation::Generate),
+    ("link", Operation::Link),
     ("compare", Operation::Compare),
     ("covers", Operation::Covers),
     ("unreachable", Operation::Unreachable),
@@ -125,6 +128,7 @@ impl Operation {
                 | Operation::FirstMatch
                 | Operation::Diagnose
                 | Operation::Generate
+                | Operation::Link
         )
     }
 }

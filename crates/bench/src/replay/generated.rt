@@ -33,7 +33,7 @@ fn component_of(name: &str) -> Result<ComponentName, Fault> {
 }
 
 /// The groups that a question gives: lists of a component, a name and a text.
-fn groups_of<'a>(alloc: Global, given: &'a [Value]) -> Result<Vec<GivenGroup<'a>>, Fault> {
+pub fn groups_of<'a>(alloc: Global, given: &'a [Value]) -> Result<Vec<GivenGroup<'a>>, Fault> {
     let mut groups = Vec::new(alloc);
     for group in given {
         let group = group_of(group)?;
@@ -59,20 +59,27 @@ fn group_of(given: &Value) -> Result<GivenGroup<'_>, Fault> {
 fn is_recorded(found: Result<String, GenerateError>, recorded: &Value) -> Result<bool, Fault> {
     match found {
         Ok(text) => Ok(has_text(recorded, "text", &text)),
-        Err(GenerateError::Missing(component, name)) => {
-            Ok(is_refused(recorded, "missing", component) && has_text(recorded, "group", &name))
+        Err(error) => is_reason(&error, recorded),
+    }
+}
+
+/// Whether the recorded reason is this error.
+pub fn is_reason(error: &GenerateError, recorded: &Value) -> Result<bool, Fault> {
+    match error {
+        GenerateError::Missing(component, name) => {
+            Ok(is_refused(recorded, "missing", *component) && has_text(recorded, "group", name))
         }
-        Err(GenerateError::NotCaptured(component, name)) => Ok(
-            is_refused(recorded, "not captured", component) && has_text(recorded, "group", &name),
+        GenerateError::NotCaptured(component, name) => Ok(
+            is_refused(recorded, "not captured", *component) && has_text(recorded, "group", name),
         ),
-        Err(GenerateError::ReadOtherwise(component)) => {
-            Ok(is_refused(recorded, "read otherwise", component))
+        GenerateError::ReadOtherwise(component) => {
+            Ok(is_refused(recorded, "read otherwise", *component))
         }
-        Err(GenerateError::OutOfMemory) => Err(Fault::OutOfMemory),
+        GenerateError::OutOfMemory => Err(Fault::OutOfMemory),
     }
 }
 
 /// Whether the recorded reason is this one, of this component.
-fn is_refused(recorded: &Value, reason: &str, component: ComponentName) -> bool {
+pub fn is_refused(recorded: &Value, reason: &str, component: ComponentName) -> bool {
     has_text(recorded, "refused", reason) && has_text(recorded, "component", component.as_str())
 }
