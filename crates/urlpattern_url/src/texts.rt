@@ -52,7 +52,7 @@ fn other_text(url: &Url, texts: &Eight<String>) -> Option<ComponentName>
     ensures same { IfNone result (texts_of_url url.now ≡ texts_view texts.now) }
     ensures other { IfSome result (HasOtherText url.now (texts_view texts.now)) }
 {
-    for &name in ComponentName::all() {
+    for name in ComponentName::all() {
         if !is_same_text(url_text(url, name), texts.get(name)) {
             return Some(name);
         }
