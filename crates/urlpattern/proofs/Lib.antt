@@ -1,3 +1,7 @@
+pub mod FixedLemmas
+pub mod ListLemmas
+pub mod NextLemmas
+pub mod PatternMapLemmas
 pub mod InputLemmas
 pub mod ReadTexts
 pub mod UsersExample

@@ -18,10 +18,6 @@ pub use Rattle.urlpattern_init.specs.UrlTexts
 pub use Rattle.urlpattern_laws.specs.Folded
 pub use Rattle.urlpattern_laws.specs.Outcomes
 pub use Rattle.urlpattern_laws.specs.PatternLaws
-pub use Rattle.urlpattern_list.specs.FirstMatch
-pub use Rattle.urlpattern_list.specs.NextMatch
-pub use Rattle.urlpattern_list.specs.PatternKeys
-pub use Rattle.urlpattern_list.specs.PatternMaps
 pub use Rattle.urlpattern_meaning.specs.Dialect
 pub use Rattle.urlpattern_meaning.specs.FirstAnswers
 pub use Rattle.urlpattern_meaning.specs.Laws
@@ -87,6 +83,10 @@ pub use Rattle.urlpattern_syntax.specs.declared.error.ParserError
 pub use Rattle.urlpattern_syntax.specs.declared.parser.Options as ParserOptions
 pub use Rattle.urlpattern_syntax.specs.declared.parser.Part
 pub use Rattle.urlpattern_syntax.specs.declared.parser.RegexSyntax
+pub mod FirstMatch
 pub mod Inputs
+pub mod NextMatch
+pub mod PatternKeys
+pub mod PatternMaps
 pub mod Quirks
 pub mod Theorem

@@ -6,11 +6,15 @@
 //! <https://urlpattern.spec.whatwg.org/>
 #![tactic(auto)]
 
+mod list;
+mod map;
 pub mod quirks;
 pub mod regexp;
 pub mod rules;
 pub mod theorem;
 
+pub use list::{UrlPatternList, UrlPatternMatches};
+pub use map::{UrlPatternMap, UrlPatternMapIter};
 pub use urlpattern_canonical::canonicalize_and_process;
 pub use urlpattern_core::{Error, RegexSyntax, component, error, matcher, parser, tokenizer};
 pub use urlpattern_diagnosis::{Diagnosis, Fault, Span, Subject};
@@ -19,7 +23,6 @@ pub use urlpattern_generate::{GenerateError, GivenGroup};
 pub use urlpattern_init::{UrlPatternInit, UrlPatternMatchInput};
 pub use urlpattern_inputs::UrlPatternOptions;
 pub use urlpattern_laws::laws;
-pub use urlpattern_list::{UrlPatternList, UrlPatternMap, UrlPatternMapIter, UrlPatternMatches};
 pub use urlpattern_matches::{
     UrlPatternCaptures, UrlPatternCapturesIter, UrlPatternComponentResult, UrlPatternGroups,
     UrlPatternResult, pathname_texts, url_texts,

@@ -1,0 +1,218 @@
+-- Lemmas on the patterns that a list does not ask.
+use Rattle.std.proofs.Common.{◌≡◌, ℕ, zero, suc, ◌+◌, ◌<◌, ◌≤◌, ◌⊎◌, Bool, true, false, List, [], ◌∷◌, ◌++◌, ap, append_assoc, arith, get_or, inl, inr, length, refl, subst, sym, take, ◌∙◌}
+use Rattle.std.proofs.lemmas.Bool.{cases_lt}
+use Rattle.std.proofs.lemmas.List.{append-nil, get_or-take, length_push, map-append, take_more}
+use Rattle.std.proofs.lemmas.List.Edits.{length-remove}
+use Rattle.std.proofs.lemmas.Option.{same_Some, slice_get-get_or, slice_get_within}
+use Rattle.std.proofs.lemmas.Slice.Eq.{bytes_eq-Decides}
+use Rattle.std.specs.List.{remove}
+use Rattle.std.specs.Prelude.{All, Err, IfOk, Ok, Option, None, Result, Some, bytes_eq, slice_get}
+use Rattle.urlpattern_meaning.specs.declared.outline.OutlineItem.{OutlineItem}
+use Rattle.urlpattern_meaning.specs.declared.outline.OutlineItem.TheVariants.{Character}
+use Rattle.urlpattern_meaning.specs.Outlines.{HasOutline, IsTextFor}
+use Rattle.urlpattern_index.specs.FixedTexts.{FixedTexts, HasTexts, IsText}
+use Rattle.urlpattern_index.specs.Keys.{Hashes, form_key, hashes_of}
+use Rattle.urlpattern_index.specs.Listed.{Finds, GetsPattern, Listing}
+use Rattle.urlpattern_eight.specs.declared.eight.ComponentName.TheVariants.{Hostname, Pathname, Protocol}
+use Rattle.urlpattern_meaning.specs.Matching.{Accepts, Answers, InnerView, IsMatched, Literal, MatcherView, folded}
+use Rattle.urlpattern_meaning.specs.PartMeaning.{Captures}
+use Rattle.urlpattern_pattern.specs.Match.{IsRefused}
+use Rattle.urlpattern_pattern.specs.Patterns.{PatternView, pattern_view}
+use Rattle.urlpattern_pattern.specs.declared.pattern.UrlPattern.{UrlPattern}
+use Rattle.urlpattern.specs.PatternKeys.{AreFixed, AreIndexed, IsFixedText, address_of, characters, text_matcher}
+use Rattle.urlpattern_eight.specs.Eight.{Texts}
+
+-- ---- texts
+
+same_cases : (xs ys : List ℕ) (test : Bool) → bytes_eq xs ys ≡ test → (xs ≡ ys) ⊎ ¬ (xs ≡ ys)
+same_cases xs ys true is = inl ((bytes_eq-Decides xs ys).0 is)
+same_cases xs ys false is = inr (λ same. let test : bytes_eq xs ys ≡ true = (bytes_eq-Decides xs ys).1 same in let never : ⊥ = cc in never)
+
+same_or_not : (xs ys : List ℕ) → (xs ≡ ys) ⊎ ¬ (xs ≡ ys)
+same_or_not xs ys = same_cases xs ys (bytes_eq xs ys) refl
+
+module _ {E : Type 0} (answer : E → List ℕ → Option Captures) where
+  -- a matcher of one text matches no other
+  other-refused : (matcher : MatcherView E) (text given : List ℕ) → matcher ≡ text_matcher text → ¬ (given ≡ text) → Answers answer matcher given None
+  other-refused matcher text given is other =
+      let P : MatcherView E → Type 0 = λ m. Answers answer m given None in
+      subst P (sym is) (λ captures (middle, (front, back, cut, same_front, same_back), accepts).
+      let front_nil : front ≡ [] = same_front in
+      let back_nil : back ≡ [] = same_back in
+      let middle_is : middle ≡ text = accepts.0 in
+      let whole : given ≡ text = cut ∙ ap (λ f. (f ++ middle) ++ back) front_nil ∙ ap (λ b. middle ++ b) back_nil ∙ append-nil middle ∙ middle_is in
+      other whole)
+
+  text-cases : (matcher : MatcherView E) (fixed : Option (List ℕ)) (given : List ℕ) → IsFixedText matcher fixed → IsText fixed given ⊎ Answers answer matcher given None
+  text-cases matcher None given is = inl tt
+  text-cases matcher (Some text) given is =
+      elim (same_or_not given text) [ inl same ↦ inl same | inr other ↦ inr (other-refused matcher text given is other) ]
+
+  -- the pattern does not match where what is fixed is not there
+  fixed-refused : (pattern : PatternView E) (fixed : FixedTexts) (texts : Texts) → AreFixed answer pattern fixed → ¬ HasTexts fixed (address_of texts) → IsRefused answer pattern texts
+  fixed-refused pattern fixed texts are other =
+      elim (text-cases (pattern Protocol).matcher fixed.protocol texts.protocol are.protocol) [
+        | inr refused ↦ (Protocol, refused)
+        | inl protocol ↦ elim (text-cases (pattern Hostname).matcher fixed.hostname texts.hostname are.hostname) [
+          | inr refused ↦ (Hostname, refused)
+          | inl hostname ↦ (
+            Pathname,
+            λ captures matched.
+                other record { protocol = protocol; hostname = hostname; pathname = are.pathname texts.pathname (captures, matched) },
+          )
+        ]
+      ]
+
+-- ---- elements at an index
+
+got_more : {X : Type 0} (xs : List X) (x y : X) (n : ℕ) → slice_get (xs ++ x ∷ []) n ≡ Some y → (slice_get xs n ≡ Some y) ⊎ ((n ≡ length xs) × (x ≡ y))
+got_more [] x y zero is = inr (refl, same_Some x y is)
+got_more [] x y (suc n) is = absurd (cc)
+got_more (z ∷ xs) x y zero is = inl is
+got_more (z ∷ xs) x y (suc n) is = elim (got_more xs x y n is) [ inl earlier ↦ inl earlier | inr last ↦ inr ((let e : n ≡ length xs = last.0 in omega arith), last.1) ]
+
+got_below : {X : Type 0} (xs : List X) (i n : ℕ) → n < i → slice_get (remove xs i) n ≡ slice_get xs n
+got_below xs zero n lt = absurd (omega arith)
+got_below [] (suc i) n lt = refl
+got_below (x ∷ xs) (suc i) zero lt = refl
+got_below (x ∷ xs) (suc i) (suc n) lt = got_below xs i n (omega arith)
+
+got_above : {X : Type 0} (xs : List X) (i n : ℕ) → i ≤ n → i < length xs → slice_get (remove xs i) n ≡ slice_get xs (suc n)
+got_above [] i n le lt = absurd (omega arith)
+got_above (x ∷ xs) zero n le lt = refl
+got_above (x ∷ xs) (suc i) zero le lt = absurd (omega arith)
+got_above (x ∷ xs) (suc i) (suc n) le lt = got_above xs i n (omega arith) (omega arith)
+
+-- an index that is out of range removes nothing
+pub remove-past : {X : Type 0} (xs : List X) (i : ℕ) → length xs ≤ i → remove xs i ≡ xs
+remove-past [] zero le = refl
+remove-past [] (suc i) le = refl
+remove-past (x ∷ xs) zero le = absurd (omega arith)
+remove-past (x ∷ xs) (suc i) le = ap (λ ys. x ∷ ys) (remove-past xs i (omega arith))
+
+-- ---- patterns that are indexed
+
+-- no patterns
+pub indexed-none : {E : Type 0} (answer : E → List ℕ → Option Captures) (patterns : List (UrlPattern E)) (index : Listing) → patterns ≡ [] → ◌≡◌ {A = Listing} index (record { keys = []; forms = [] })
+    → AreIndexed answer patterns index
+indexed-none answer patterns index none empty = rw (none, empty) record { as_many = refl; refuses = λ number pattern is texts missed. absurd (cc) }
+
+module _ {E : Type 0} (answer : E → List ℕ → Option Captures) (patterns : List (UrlPattern E)) (index : Listing) (are : AreIndexed answer patterns index) where
+  -- one more pattern
+  pub indexed-push : (pattern : UrlPattern E) (new : Listing) (fixed : FixedTexts) → GetsPattern index new fixed → AreFixed answer (pattern_view pattern) fixed
+      → AreIndexed answer (patterns ++ pattern ∷ []) new
+  indexed-push pattern new fixed appends is_fixed = record {
+    as_many = appends.one_more ∙ ap (λ n. n + 1) are.as_many ∙ sym (length_push patterns pattern);
+    refuses = λ number other is texts missed. elim (got_more patterns pattern other number is) [
+      | inl earlier ↦ are.refuses number other earlier texts (λ finds. missed (appends.others (hashes_of (address_of texts)) number finds))
+      | inr last ↦ subst (λ (p : UrlPattern E). IsRefused answer (pattern_view p) texts) last.1 (fixed-refused answer (pattern_view pattern) fixed texts is_fixed
+          (λ has. missed (subst (λ n. Finds new (hashes_of (address_of texts)) n) (are.as_many ∙ sym last.0) (appends.found (address_of texts) has))))
+    ];
+  }
+
+  -- a pattern less
+  pub indexed-remove : (i : ℕ) → i < length patterns → AreIndexed answer (remove patterns i) (record { keys = remove index.keys i; forms = index.forms })
+  indexed-remove i within =
+      let within_keys : i < length index.keys = omega (arith, are.as_many) in
+      record {
+        as_many = (let a = length-remove index.keys i within_keys in let b = length-remove patterns i within in omega (arith, are.as_many));
+        refuses = λ number pattern is texts missed. elim (cases_lt number i) [
+          | inl below ↦ are.refuses number pattern (sym (got_below patterns i number below) ∙ is) texts
+              (λ (form, has, fits, key). missed (form, has, fits, got_below index.keys i number below ∙ key))
+          | inr above ↦ are.refuses (suc number) pattern (sym (got_above patterns i number above within) ∙ is) texts
+              (λ (form, has, fits, key). missed (form, has, fits, got_above index.keys i number above within_keys ∙ key))
+        ];
+      }
+
+  -- what is found is the index of a pattern
+  pub found_within : (hashes : Hashes) (number : ℕ) → Finds index hashes number → number < length patterns
+  found_within hashes number (form, has, fits, key) = let within = slice_get_within index.keys number (form_key form hashes) key in omega (arith, are.as_many)
+
+-- ---- elements that are passed over
+
+take_inside : {X : Type 0} (xs : List X) (n k : ℕ) → k < length (take n xs) → (k < n) × (k < length xs)
+take_inside xs zero k lt = absurd (omega arith)
+take_inside [] (suc n) k lt = absurd (omega arith)
+take_inside (x ∷ xs) (suc n) zero lt = (omega arith, omega arith)
+take_inside (x ∷ xs) (suc n) (suc k) lt =
+    let l : suc k < suc (length (take n xs)) = lt in
+    let h = take_inside xs n k (omega arith) in
+    let a : k < n = h.0 in
+    let b : k < length xs = h.1 in
+    (omega arith, omega arith)
+
+take_within : {X : Type 0} (xs : List X) (n k : ℕ) → k < n → k < length xs → k < length (take n xs)
+take_within xs zero k lt within = absurd (omega arith)
+take_within [] (suc n) k lt within = absurd (omega arith)
+take_within (x ∷ xs) (suc n) zero lt within = omega arith
+take_within (x ∷ xs) (suc n) (suc k) lt within =
+    let h : k < length (take n xs) = take_within xs n k (omega arith) (let l : suc k < suc (length xs) = within in omega arith) in
+    omega arith
+
+pub All-passed : {X : Type 0} (P : X → Type 0) (xs : List X) (from n : ℕ) → All P (take from xs)
+    → ((k : ℕ) (x : X) → from ≤ k → k < n → slice_get xs k ≡ Some x → P x) → All P (take n xs)
+All-passed P xs from n before passed = λ k d within.
+    let inside : (k < n) × (k < length xs) = take_inside xs n k within in
+    let read : get_or (take n xs) k d ≡ get_or xs k d = get_or-take n xs k d inside.0 in
+    subst P (sym read) (elim (cases_lt k from) [
+      | inl lt ↦ subst P (get_or-take from xs k d lt) (before k d (take_within xs from k lt inside.1))
+      | inr le ↦ passed k (get_or xs k d) le inside.0 (slice_get-get_or xs k d inside.1)
+    ])
+
+-- ---- what is fixed of a matcher
+
+pub nil_from_length : (xs : List ℕ) → length xs ≡ 0 → xs ≡ []
+nil_from_length [] is = refl
+nil_from_length (x ∷ xs) is = absurd (omega arith)
+
+pub matcher_of_text : {E : Type 0} (prefix suffix : List ℕ) (inner : InnerView E) (ignore_case : Bool) (text : List ℕ) → prefix ≡ [] → suffix ≡ [] → inner ≡ Literal text → ignore_case ≡ false
+    → ◌≡◌ {A = MatcherView E} record { prefix = prefix; suffix = suffix; inner = inner; ignore_case = ignore_case } (text_matcher text)
+matcher_of_text prefix suffix inner ignore_case text no_prefix no_suffix is_text kept = cc
+
+-- ---- outlines
+
+-- each text has the outline of its characters
+characters-outline : (text : List ℕ) → HasOutline (characters text) text
+characters-outline [] = refl
+characters-outline (c ∷ text) = (c ∷ [], text, refl, refl, characters-outline text)
+
+-- one more character that is read
+pub characters-more : (items : List OutlineItem) (text : List ℕ) (index c : ℕ) → (index < length text) × (c ≡ get_or text index c) → items ≡ characters (take index text)
+    → items ++ Character c ∷ [] ≡ characters (take (index + 1) text)
+characters-more items text index c is_next are =
+    ap (λ i. i ++ Character c ∷ []) are
+    ∙ sym (ap characters (take_more text index c is_next.0 ∙ ap (λ x. take index text ++ x ∷ []) (sym is_next.1)) ∙ map-append (λ c. Character c) (take index text) (c ∷ []))
+
+-- the outlines of two texts are one of both together
+outline-append : (xs ys : List OutlineItem) (text other : List ℕ) → HasOutline xs text → HasOutline ys other → HasOutline (xs ++ ys) (text ++ other)
+outline-append [] ys text other is more = subst (λ t. HasOutline ys (t ++ other)) (sym is) more
+outline-append (x ∷ xs) ys text other (front, rest, cut, is_front, has) more =
+    (front, rest ++ other, ap (λ t. t ++ other) cut ∙ append_assoc front rest other, is_front, outline-append xs ys rest other has more)
+
+-- the outline of prefix, inner text and suffix
+pub matched-outline : {E : Type 0} (answer : E → List ℕ → Option Captures) (matcher : MatcherView E) (inner : List OutlineItem) → matcher.ignore_case ≡ false
+    → ((text : List ℕ) (captures : Captures) → Accepts answer false matcher.inner text captures → HasOutline inner text)
+    → (text : List ℕ) → IsMatched answer matcher text → HasOutline ((characters matcher.prefix ++ inner) ++ characters matcher.suffix) text
+matched-outline answer matcher inner kept is_inner text (captures, (middle, (front, back, cut, same_front, same_back), accepts)) =
+    let same : (one other : List ℕ) → folded matcher.ignore_case one ≡ folded matcher.ignore_case other → one ≡ other =
+    λ one other is. subst (λ ignore_case. folded ignore_case one ≡ folded ignore_case other) kept is in
+    let begins : HasOutline (characters matcher.prefix) front = subst (HasOutline (characters matcher.prefix)) (sym (same front matcher.prefix same_front)) (characters-outline matcher.prefix) in
+    let ends : HasOutline (characters matcher.suffix) back = subst (HasOutline (characters matcher.suffix)) (sym (same back matcher.suffix same_back)) (characters-outline matcher.suffix) in
+    let between : HasOutline inner middle = is_inner middle captures (subst (λ ignore_case. Accepts answer ignore_case matcher.inner middle captures) kept accepts) in
+    subst (HasOutline ((characters matcher.prefix ++ inner) ++ characters matcher.suffix)) (sym cut)
+    (outline-append (characters matcher.prefix ++ inner) (characters matcher.suffix) (front ++ middle) back (outline-append (characters matcher.prefix) inner front middle begins between) ends)
+
+-- the outline of a text that is the same as a literal
+pub literal-outline : (literal text : List ℕ) (items : List OutlineItem) → items ≡ characters literal → text ≡ literal → HasOutline items text
+literal-outline literal text items are same = subst (λ i. HasOutline i text) (sym are) (subst (HasOutline (characters literal)) (sym same) (characters-outline literal))
+
+-- the outline of one run
+pub item-outline : (item : OutlineItem) (text : List ℕ) (items : List OutlineItem) → items ≡ item ∷ [] → IsTextFor item text → HasOutline items text
+item-outline item text items are is = subst (λ i. HasOutline i text) (sym are) (text, [], sym (append-nil text), is, refl)
+
+-- ---- results
+
+-- what is true of a result is true in a weaker form
+pub ok-weaker : {X F : Type 0} (P Q : X → Type 0) → (result : Result X F) → IfOk result P → ((x : X) → P x → Q x) → IfOk result Q
+ok-weaker P Q (Ok x) is to = to x is
+ok-weaker P Q (Err error) is to = tt

@@ -1,0 +1,51 @@
+-- The matches of a list after the first one.
+use Rattle.std.specs.Prelude.{◌≡◌, ◌+◌, ◌<◌, ◌≤◌, ℕ, List, length, Option, Some, None, Result, Ok, Err, slice_get}
+use Rattle.urlpattern.specs.FirstMatch.{FirstView, patterns_view}
+use Rattle.urlpattern.specs.declared.list.matches.UrlPatternMatches.{UrlPatternMatches}
+use Rattle.urlpattern_meaning.specs.PartMeaning.{Captures}
+use Rattle.urlpattern_matches.specs.declared.captures.UrlPatternCaptures.{UrlPatternCaptures}
+use Rattle.urlpattern_matches.specs.BorrowedMatches.{pattern_captures_view}
+use Rattle.urlpattern_matches.specs.GroupTexts.{borrowed_texts}
+use Rattle.urlpattern_pattern.specs.Patterns.{PatternView}
+use Rattle.urlpattern_pattern.specs.Match.{AsksAnEngine, IsMatchOf, IsRefused}
+use Rattle.urlpattern_syntax.specs.declared.error.Error.{Error}
+use Rattle.urlpattern_syntax.specs.declared.error.Error.TheVariants as errors
+use Rattle.urlpattern_eight.specs.Eight.{Texts}
+
+-- the patterns from one index on, up to another, do not match eight texts
+abbrev pub AreRefusedBetween : {E : Type 0} → (answer : E → List ℕ → Option Captures) → List (PatternView E) → Texts → (from end : ℕ) → Type 0
+AreRefusedBetween {E} answer patterns texts from end =
+    (index : ℕ) (pattern : PatternView E) → from ≤ index → index < end → slice_get patterns index ≡ Some pattern → IsRefused answer pattern texts
+
+-- the least index, not below another, whose pattern matches eight texts, with that match, and none where there is no such pattern
+abbrev pub IsFirstMatchFrom : {E : Type 0} → (answer : E → List ℕ → Option Captures) → List (PatternView E) → Texts → (from : ℕ) → Option FirstView → Type 0
+IsFirstMatchFrom {E} answer patterns texts from (Some first) =
+    (from ≤ first.0)
+    × ((pattern : PatternView E) × (slice_get patterns first.0 ≡ Some pattern) × IsMatchOf answer pattern texts first.1)
+    × AreRefusedBetween answer patterns texts from first.0
+IsFirstMatchFrom answer patterns texts from None = AreRefusedBetween answer patterns texts from (length patterns)
+
+-- a pattern whose index is not below another asks an engine, and none between them matches
+abbrev pub AsksBeforeMatchFrom : {E : Type 0} → (answer : E → List ℕ → Option Captures) → List (PatternView E) → Texts → (from : ℕ) → Type 0
+AsksBeforeMatchFrom {E} answer patterns texts from =
+    (index : ℕ) × (pattern : PatternView E) × (from ≤ index) × (slice_get patterns index ≡ Some pattern)
+    × AsksAnEngine answer pattern texts
+    × AreRefusedBetween answer patterns texts from index
+
+-- What is left of the matches of a list: those by patterns from an index on.
+pub record MatchesLeft (E : Type 0) : Type 0 where
+  pub patterns : List (PatternView E)
+  pub texts : Texts
+  pub from : ℕ
+
+abbrev pub matches_left : {E : Type 0} → UrlPatternMatches E → MatchesLeft E
+matches_left matches = record { patterns = patterns_view matches.list.now; texts = borrowed_texts matches.texts; from = matches.from }
+
+-- what comes of the matches that are left, and what is then left: the first of them, and the matches by later patterns; or that
+-- memory ran out, and then nothing is left
+abbrev pub TakesMatch : {E : Type 0} → (answer : E → List ℕ → Option Captures) → MatchesLeft E → Option (Result (ℕ × UrlPatternCaptures) Error) → MatchesLeft E → Type 0
+TakesMatch answer old (Some (Ok first)) new =
+    IsFirstMatchFrom answer old.patterns old.texts old.from (Some (first.0, pattern_captures_view first.1)) × (new ≡ record old { from = first.0 + 1 })
+TakesMatch answer old (Some (Err error)) new =
+    (error ≡ errors.OutOfMemory) × AsksBeforeMatchFrom answer old.patterns old.texts old.from × (new ≡ record old { from = length old.patterns })
+TakesMatch answer old None new = IsFirstMatchFrom answer old.patterns old.texts old.from None × (new ≡ old)

@@ -1,0 +1,21 @@
+-- Patterns, each with a value, and what is found of them.
+use Rattle.std.specs.Prelude.{◌≡◌, ℕ, List, Option, Some, IfSome, option_map, slice_get}
+use Rattle.std.specs.Borrow.{Bor}
+use Rattle.std.specs.Map.{keys_of, values_of}
+use Rattle.urlpattern_pattern.specs.declared.pattern.UrlPattern.{UrlPattern}
+use Rattle.urlpattern_matches.specs.declared.captures.UrlPatternCaptures.{UrlPatternCaptures}
+use Rattle.urlpattern_matches.specs.BorrowedMatches.{pattern_captures_view}
+use Rattle.urlpattern_pattern.specs.Patterns.{PatternView}
+use Rattle.urlpattern.specs.FirstMatch.{FirstView, patterns_view}
+
+-- what the components of each pattern of a `UrlPatternMap` are compiled to
+abbrev pub entry_patterns : {E T : Type 0} → List (UrlPattern E × T) → List (PatternView E)
+entry_patterns entries = patterns_view (keys_of entries)
+
+-- an index with the match, without the value
+abbrev pub first_entry_view : {T : Type 0} → Option (ℕ × Bor T × UrlPatternCaptures) → Option FirstView
+first_entry_view found = option_map (λ first. (first.0, pattern_captures_view first.2)) found
+
+-- the value that is found is that of the entry at the index
+abbrev pub HasValueAt : {K T M : Type 0} → List (K × T) → Option (ℕ × Bor T × M) → Type 0
+HasValueAt entries found = IfSome found (λ first. slice_get (values_of entries) first.0 ≡ Some first.1.now)

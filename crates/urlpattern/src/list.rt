@@ -1,0 +1,313 @@
+//! Lists of patterns, which answer the first one that matches an input.
+//!
+//! The texts of the input are made once. An index finds the patterns that can match them, by the literal protocol and hostname
+//! and by the segments of the pathname. Those look at them, in the order of the list, and nothing is made of those that do not
+//! match.
+ghost use Rattle.std.specs.Iterator.Adapters.{IterYieldsInOrder};
+ghost use Rattle.std.specs.List.{remove};
+ghost use Rattle.std.specs.Prelude.{◌≡◌, ◌==◌, ◌++◌, [], ◌∷◌, length, option_copied, slice_get, IfErr, IfOk, OnErr, OnOk};
+ghost use Rattle.std.specs.Slice.Iter.{iter_rest};
+ghost use Rattle.urlpattern_init.specs.Inheritance.{texts_of_url};
+ghost use Rattle.urlpattern_init.specs.declared.init.UrlPatternMatchInput.TheVariants as inputs;
+ghost use Rattle.urlpattern_matches.specs.GroupTexts.{borrowed_texts};
+ghost use Rattle.urlpattern.specs.FirstMatch.{first_captures_view, first_view, patterns_view, CopiesFirstMatch, IsFirstMatch, IsFirstMatchOf, AsksBeforeMatch};
+ghost use Rattle.urlpattern.specs.NextMatch.{matches_left, AsksBeforeMatchFrom, IsFirstMatchFrom};
+ghost use Rattle.urlpattern_pattern.specs.Match.{IfUrl};
+ghost use Rattle.urlpattern_matches.specs.MatchInput.{texts_view};
+ghost use Rattle.urlpattern_pattern.specs.declared.pattern.UrlPattern.{UrlPattern};
+ghost use Rattle.urlpattern_syntax.specs.Errors.{OnlyOutOfMemory};
+
+mod fixed;
+mod matches;
+
+use fixed::{fixed_text, outline_of};
+pub use matches::UrlPatternMatches;
+use std::alloc::Global;
+use std::marker::Model;
+use std::slice;
+use url::Url;
+use urlpattern_core::Error;
+use urlpattern_core::error::OutOfMemory;
+use urlpattern_core::regexp::RegExp;
+use urlpattern_eight::Eight;
+use urlpattern_index::{Address, Fixed, Index};
+use urlpattern_init::UrlPatternMatchInput;
+use urlpattern_inputs::MatchInput;
+use urlpattern_matches::{
+    UrlPatternCaptures, UrlPatternResult, input_texts, parse_match_input, url_texts,
+};
+use urlpattern_pattern::{UrlPattern, captures_of_texts};
+
+/// Patterns in their order, as the routes of a router.
+#[derive(Debug, Drop)]
+pub struct UrlPatternList<R: RegExp = regex::Regex> {
+    patterns: Vec<UrlPattern<R>>,
+    /// Where the URLs lie that each pattern can match.
+    index: Index,
+}
+
+impl<R: RegExp> Model for UrlPatternList<R> {
+    ghost use Rattle.std.specs.Prelude.{List};
+    ghost use Rattle.urlpattern.specs.PatternKeys.{AreIndexed};
+    ghost use Rattle.urlpattern_pattern.specs.declared.pattern.UrlPattern.{UrlPattern};
+
+    ghost Value = { List (UrlPattern R) };
+
+    ghost view = { λ list. list.patterns.items };
+
+    ghost invariant = { λ list. AreIndexed R.answer list.patterns.items list.index };
+}
+
+impl<R: RegExp> UrlPatternList<R> {
+    /// An empty list. It does not allocate.
+    pub fn new(alloc: Global) -> Self
+        ensures { result ≡ [] }
+    {
+        Self {
+            patterns: Vec::new(alloc),
+            index: Index::new(alloc),
+        }
+    }
+
+    /// An empty list with room for so many patterns.
+    ///
+    /// The error is that memory ran out.
+    pub fn with_capacity(alloc: Global, capacity: usize) -> Result<Self, Error>
+        ensures empty { IfOk result (λ list. list ≡ []) }
+        ensures memory { OnlyOutOfMemory result }
+    {
+        Ok(Self {
+            patterns: Vec::with_capacity(alloc, capacity)?,
+            index: Index::new(alloc),
+        })
+    }
+
+    /// Appends a pattern.
+    ///
+    /// Where memory runs out, the error is the pattern again, and the list is as it was.
+    pub fn push(&mut self, pattern: UrlPattern<R>) -> Result<(), UrlPattern<R>>
+        ensures appended { OnOk result (self.new ≡ self.old ++ pattern ∷ []) }
+        ensures unchanged { OnErr result (self.new ≡ self.old) }
+        ensures handed_back { IfErr result (λ refused. refused ≡ pattern) }
+    {
+        let Ok(()) = self.patterns.reserve(1) else {
+            return Err(pattern);
+        };
+        let alloc = *self.patterns.allocator();
+        let Ok(outline) = outline_of(alloc, &pattern.pathname.matcher) else {
+            return Err(pattern);
+        };
+        let Ok(()) = self.index.push(Fixed {
+            protocol: fixed_text(&pattern.protocol.matcher),
+            hostname: fixed_text(&pattern.hostname.matcher),
+            pathname: &outline,
+        })
+        else {
+            return Err(pattern);
+        };
+        match self.patterns.push(pattern) {
+            Ok(()) => Ok(()),
+            Err(_) => unreachable!(),
+        }
+    }
+
+    /// Appends a pattern.
+    ///
+    /// The error is that memory ran out. The pattern is then dropped, and the list is as it was.
+    pub fn try_push(&mut self, pattern: UrlPattern<R>) -> Result<(), Error>
+        ensures appended { OnOk result (self.new ≡ self.old ++ pattern ∷ []) }
+        ensures unchanged { OnErr result (self.new ≡ self.old) }
+        ensures memory { OnlyOutOfMemory result }
+    {
+        match self.push(pattern) {
+            Ok(()) => Ok(()),
+            Err(_) => Err(Error::OutOfMemory),
+        }
+    }
+
+    /// Removes the pattern at an index, and returns it. Each later pattern moves down by one. `None`: there is none at the index,
+    /// and the list is as it was.
+    ///
+    /// It does not allocate, and takes time in proportion to the length of the list.
+    pub fn remove(&mut self, index: usize) -> Option<UrlPattern<R>>
+        ensures removed { result ≡ slice_get self.old index }
+        ensures others { self.new ≡ remove self.old index }
+    {
+        if index >= self.patterns.len() {
+            return None;
+        }
+        self.index.remove(index);
+        Some(self.patterns.remove(index))
+    }
+
+    /// How many patterns there are.
+    pub fn len(&self) -> usize
+        ensures { result ≡ length self.now }
+    {
+        self.patterns.len()
+    }
+
+    /// Whether there is no pattern.
+    pub fn is_empty(&self) -> bool
+        ensures { result ≡ (length self.now == 0) }
+    {
+        self.patterns.is_empty()
+    }
+
+    /// The pattern at an index, if there is one.
+    pub fn get(&self, index: usize) -> Option<&UrlPattern<R>>
+        ensures { option_copied result ≡ slice_get self.now index }
+    {
+        self.patterns.get(index)
+    }
+
+    /// The patterns, in their order.
+    pub fn iter(&self) -> slice::Iter<'_, UrlPattern<R>>
+        ensures rest { iter_rest result ≡ self.now }
+        ensures runs { IterYieldsInOrder (UrlPattern R) }
+    {
+        self.patterns.iter()
+    }
+
+    /// The least index whose pattern matches an input, and that match. `None`: no pattern matches it.
+    ///
+    /// The answer is that of `UrlPattern::exec` on one pattern after the other until one matches. Patterns after that one are
+    /// not asked, nor are those that the index leaves out.
+    ///
+    /// The error is that memory ran out. Of a URL an engine allocates, and the copy of a match.
+    pub fn first_match(
+        &self,
+        alloc: Global,
+        input: UrlPatternMatchInput,
+    ) -> Result<Option<(usize, UrlPatternResult)>, Error>
+        ensures first { IfOk result (λ found. IsFirstMatch R.answer (patterns_view self.now) input (first_view found)) }
+        ensures memory { OnlyOutOfMemory result }
+        ensures copied { IfErr result (λ _. IfUrl (CopiesFirstMatch R.answer (patterns_view self.now)) input) }
+    {
+        match input {
+            UrlPatternMatchInput::Url(url) => self.first_result(alloc, url_texts(&url)),
+            input => match parse_match_input(alloc, input)? {
+                Some(texts) => self.first_result(alloc, input_texts(&texts)),
+                None => Ok(None),
+            },
+        }
+    }
+
+    /// The least index whose pattern matches a URL, and that match, borrowed from the pattern and the URL. `None`: no pattern
+    /// matches it.
+    ///
+    /// The answer is that of `UrlPattern::captures` on one pattern after the other until one matches.
+    ///
+    /// The error is that memory ran out. Only an engine allocates.
+    pub fn first_captures<'p, 'u>(
+        &'p self,
+        alloc: Global,
+        url: &'u Url,
+    ) -> Result<Option<(usize, UrlPatternCaptures<'p, 'u>)>, Error>
+        ensures first { IfOk result (λ found. IsFirstMatch R.answer (patterns_view self.now) (inputs.Url url.now) (first_captures_view found)) }
+        ensures memory { OnlyOutOfMemory result }
+        ensures asked { IfErr result (λ _. AsksBeforeMatch R.answer (patterns_view self.now) (texts_of_url url.now)) }
+    {
+        Ok(self.first(alloc, url_texts(url))?)
+    }
+
+    /// The least index whose pattern matches an input that has its eight texts, and that match, borrowed from the pattern and
+    /// the input. `None`: no pattern matches it.
+    ///
+    /// The error is that memory ran out. Only an engine allocates.
+    pub fn first_captures_of_input<'p, 'u>(
+        &'p self,
+        alloc: Global,
+        input: &'u MatchInput,
+    ) -> Result<Option<(usize, UrlPatternCaptures<'p, 'u>)>, Error>
+        ensures first { IfOk result (λ found. IsFirstMatchOf R.answer (patterns_view self.now) (texts_view input.now) (first_captures_view found)) }
+        ensures memory { OnlyOutOfMemory result }
+        ensures asked { IfErr result (λ _. AsksBeforeMatch R.answer (patterns_view self.now) (texts_view input.now)) }
+    {
+        Ok(self.first(alloc, input_texts(input))?)
+    }
+
+    /// All matches of a URL, in the order of the patterns, each with its pattern's index. They are borrowed from the patterns and
+    /// the URL.
+    ///
+    /// An item may be the error that memory ran out, which comes only where a pattern asks an engine. It is the last.
+    pub fn matches<'p, 'u>(&'p self, alloc: Global, url: &'u Url) -> UrlPatternMatches<'p, 'u, R>
+        ensures { matches_left result ≡ record { patterns = patterns_view self.now; texts = texts_of_url url.now; from = 0 } }
+    {
+        UrlPatternMatches::new(self, alloc, url_texts(url))
+    }
+
+    /// The first match of eight texts, copied. `None`: no pattern matches them.
+    ///
+    /// The error is that memory ran out.
+    fn first_result(
+        &self,
+        alloc: Global,
+        texts: Eight<&str>,
+    ) -> Result<Option<(usize, UrlPatternResult)>, Error>
+        ensures first { IfOk result (λ found. IsFirstMatchOf R.answer (patterns_view self.now) (borrowed_texts texts.entry) (first_view found)) }
+        ensures memory { OnlyOutOfMemory result }
+        ensures copied { IfErr result (λ _. CopiesFirstMatch R.answer (patterns_view self.now) (borrowed_texts texts.entry)) }
+    {
+        match self.first(alloc, texts)? {
+            Some((index, captures)) => Ok(Some((index, captures.to_result(alloc)?))),
+            None => Ok(None),
+        }
+    }
+
+    /// The first match of eight texts. `None`: no pattern matches them.
+    ///
+    /// Only an engine allocates.
+    fn first<'p, 'u>(
+        &'p self,
+        alloc: Global,
+        texts: Eight<&'u str>,
+    ) -> Result<Option<(usize, UrlPatternCaptures<'p, 'u>)>, OutOfMemory>
+        ensures first { IfOk result (λ found.
+            IsFirstMatchOf R.answer (patterns_view self.now) (borrowed_texts texts.entry) (first_captures_view found)) }
+        ensures asked { IfErr result (λ _. AsksBeforeMatch R.answer (patterns_view self.now) (borrowed_texts texts.entry)) }
+    {
+        self.first_from(alloc, &texts, 0)
+    }
+
+    /// The first match of eight texts by a pattern whose index is not below another. `None`: no such pattern matches them.
+    ///
+    /// Only an engine allocates.
+    fn first_from<'p, 'u>(
+        &'p self,
+        alloc: Global,
+        texts: &Eight<&'u str>,
+        mut from: usize,
+    ) -> Result<Option<(usize, UrlPatternCaptures<'p, 'u>)>, OutOfMemory>
+        ensures first { IfOk result (λ found.
+            IsFirstMatchFrom R.answer (patterns_view self.now) (borrowed_texts texts.now) from (first_captures_view found)) }
+        ensures asked { IfErr result (λ _. AsksBeforeMatchFrom R.answer (patterns_view self.now) (borrowed_texts texts.now) from) }
+    {
+        let hashes = Address {
+            protocol: texts.protocol,
+            hostname: texts.hostname,
+            pathname: texts.pathname,
+        }
+        .hashes();
+        while let Some(index) = self.index.first_from(&hashes, from) {
+            let pattern = &self.patterns[index];
+            if let Some(captures) = captures_of_texts(alloc, pattern, texts)? {
+                return Ok(Some((index, captures)));
+            }
+            from = index + 1;
+        }
+        Ok(None)
+    }
+}
+
+impl<'a, R: RegExp> IntoIterator for &'a UrlPatternList<R> {
+    type Item = &'a UrlPattern<R>;
+
+    type IntoIter = slice::Iter<'a, UrlPattern<R>>;
+
+    ghost into_iter_gives = { λ list patterns. (iter_rest patterns ≡ list.now) × IterYieldsInOrder (UrlPattern R) };
+
+    fn into_iter(self) -> slice::Iter<'a, UrlPattern<R>> {
+        self.iter()
+    }
+}

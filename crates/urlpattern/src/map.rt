@@ -1,0 +1,199 @@
+//! Patterns with values, as the routes of a router with their handlers.
+//!
+//! The patterns are a list, whose index finds those that can match, and the values lie beside them.
+ghost use Rattle.std.specs.List.{remove};
+ghost use Rattle.std.specs.Map.Iter.{deref_pair, ShowsInOrder};
+ghost use Rattle.std.specs.Prelude.{◌≡◌, ◌==◌, ◌++◌, [], ◌∷◌, ℕ, length, option_map, slice_get, take, IfErr, IfOk, OnErr, OnOk};
+ghost use Rattle.urlpattern_init.specs.Inheritance.{texts_of_url};
+ghost use Rattle.urlpattern_init.specs.declared.init.UrlPatternMatchInput.TheVariants as inputs;
+ghost use Rattle.urlpattern.specs.FirstMatch.{AsksBeforeMatch, IsFirstMatch};
+ghost use Rattle.urlpattern.specs.PatternMaps.{entry_patterns, first_entry_view, HasValueAt};
+ghost use Rattle.urlpattern_pattern.specs.declared.pattern.UrlPattern.{UrlPattern};
+ghost use Rattle.urlpattern_syntax.specs.Errors.{OnlyOutOfMemory};
+
+mod iter;
+
+use crate::list::UrlPatternList;
+pub use iter::UrlPatternMapIter;
+use std::alloc::Global;
+use std::marker::Model;
+use url::Url;
+use urlpattern_core::Error;
+use urlpattern_core::regexp::RegExp;
+use urlpattern_matches::UrlPatternCaptures;
+use urlpattern_pattern::UrlPattern;
+
+/// Patterns in their order, each with a value, as the routes of a router with their handlers.
+///
+/// Where several patterns match, the first of them counts.
+#[derive(Debug, Drop)]
+pub struct UrlPatternMap<T, R: RegExp = regex::Regex> {
+    patterns: UrlPatternList<R>,
+    /// The value of each pattern.
+    values: Vec<T>,
+}
+
+impl<T, R: RegExp> Model for UrlPatternMap<T, R> {
+    ghost use Rattle.std.specs.Prelude.{◌≡◌, List, length, zip};
+    ghost use Rattle.urlpattern_pattern.specs.declared.pattern.UrlPattern.{UrlPattern};
+
+    ghost Value = { List (UrlPattern R × T) };
+
+    ghost view = { λ map. zip map.patterns map.values.items };
+
+    ghost invariant = { λ map. length map.values.items ≡ length map.patterns };
+}
+
+impl<T, R: RegExp> UrlPatternMap<T, R> {
+    /// An empty map. It does not allocate.
+    pub fn new(alloc: Global) -> Self
+        ensures { result ≡ [] }
+    {
+        Self {
+            patterns: UrlPatternList::new(alloc),
+            values: Vec::new(alloc),
+        }
+    }
+
+    /// An empty map with room for so many patterns.
+    ///
+    /// The error is that memory ran out.
+    pub fn with_capacity(alloc: Global, capacity: usize) -> Result<Self, Error>
+        ensures empty { IfOk result (λ map. map ≡ []) }
+        ensures memory { OnlyOutOfMemory result }
+    {
+        Ok(Self {
+            patterns: UrlPatternList::with_capacity(alloc, capacity)?,
+            values: Vec::with_capacity(alloc, capacity)?,
+        })
+    }
+
+    /// Appends a pattern with its value.
+    ///
+    /// Where memory runs out, the error is the pattern and the value again, and the map is as it was.
+    pub fn insert(&mut self, pattern: UrlPattern<R>, value: T) -> Result<(), (UrlPattern<R>, T)>
+        ensures appended { OnOk result (self.new ≡ self.old ++ (pattern, value) ∷ []) }
+        ensures unchanged { OnErr result (self.new ≡ self.old) }
+        ensures handed_back { IfErr result (λ refused. refused ≡ (pattern, value)) }
+    {
+        let Ok(()) = self.values.reserve(1) else {
+            return Err((pattern, value));
+        };
+        match self.patterns.push(pattern) {
+            Ok(()) => {}
+            Err(pattern) => return Err((pattern, value)),
+        }
+        match self.values.push(value) {
+            Ok(()) => Ok(()),
+            Err(_) => unreachable!(),
+        }
+    }
+
+    /// Removes the pattern at an index, and returns it with its value. Each later one moves down by one. `None`: there is none at
+    /// the index, and the map is as it was.
+    ///
+    /// It does not allocate, and takes time in proportion to the length of the map.
+    pub fn remove(&mut self, index: usize) -> Option<(UrlPattern<R>, T)>
+        ensures removed { result ≡ slice_get self.old index }
+        ensures others { self.new ≡ remove self.old index }
+    {
+        match self.patterns.remove(index) {
+            Some(pattern) => Some((pattern, self.values.remove(index))),
+            None => None,
+        }
+    }
+
+    /// How many patterns there are.
+    pub fn len(&self) -> usize
+        ensures { result ≡ length self.now }
+    {
+        self.patterns.len()
+    }
+
+    /// Whether there is no pattern.
+    pub fn is_empty(&self) -> bool
+        ensures { result ≡ (length self.now == 0) }
+    {
+        self.patterns.is_empty()
+    }
+
+    /// The pattern at an index with its value, if there is one.
+    pub fn get(&self, index: usize) -> Option<(&UrlPattern<R>, &T)>
+        ensures { option_map deref_pair result ≡ slice_get self.now index }
+    {
+        match self.patterns.get(index) {
+            Some(pattern) => Some((pattern, &self.values[index])),
+            None => None,
+        }
+    }
+
+    /// The patterns in their order, each with its value.
+    pub fn iter(&self) -> UrlPatternMapIter<'_, T, R>
+        ensures rest { result ≡ self.now }
+        ensures runs { ShowsInOrder (deref_pair {K = UrlPattern R} {X = T}) }
+    {
+        UrlPatternMapIter::new(self.patterns.iter(), self.values.iter())
+    }
+
+    /// The least index whose pattern matches a URL, with the pattern's value and the match, borrowed from the map and the URL.
+    /// `None`: no pattern matches it.
+    ///
+    /// The error is that memory ran out. Only an engine allocates.
+    pub fn first_captures<'m, 'u>(
+        &'m self,
+        alloc: Global,
+        url: &'u Url,
+    ) -> Result<Option<(usize, &'m T, UrlPatternCaptures<'m, 'u>)>, Error>
+        ensures first { IfOk result (λ found. IsFirstMatch R.answer (entry_patterns self.now) (inputs.Url url.now) (first_entry_view found)) }
+        ensures value { IfOk result (HasValueAt self.now) }
+        ensures memory { OnlyOutOfMemory result }
+        ensures asked { IfErr result (λ _. AsksBeforeMatch R.answer (entry_patterns self.now) (texts_of_url url.now)) }
+    {
+        match self.patterns.first_captures(alloc, url)? {
+            Some((index, captures)) => Ok(Some((index, &self.values[index], captures))),
+            None => Ok(None),
+        }
+    }
+}
+
+impl<T: Drop, R: RegExp> UrlPatternMap<T, R> {
+    /// Appends a pattern with its value.
+    ///
+    /// The error is that memory ran out. The pattern and the value are then dropped, and the map is as it was.
+    pub fn try_insert(&mut self, pattern: UrlPattern<R>, value: T) -> Result<(), Error>
+        ensures appended { OnOk result (self.new ≡ self.old ++ (pattern, value) ∷ []) }
+        ensures unchanged { OnErr result (self.new ≡ self.old) }
+        ensures memory { OnlyOutOfMemory result }
+    {
+        match self.insert(pattern, value) {
+            Ok(()) => Ok(()),
+            Err(_) => Err(Error::OutOfMemory),
+        }
+    }
+
+    /// Appends patterns with their values, in their order.
+    ///
+    /// The error is that memory ran out. Those before the first that found no room are then appended, and the others dropped.
+    pub fn extend(&mut self, entries: Vec<(UrlPattern<R>, T)>) -> Result<(), Error>
+        ensures appended { OnOk result (self.new ≡ self.old ++ entries.items) }
+        ensures some { OnErr result ((taken : ℕ) × (self.new ≡ self.old ++ take taken entries.items)) }
+        ensures memory { OnlyOutOfMemory result }
+    {
+        for (pattern, value) in entries {
+            self.try_insert(pattern, value)?;
+        }
+        Ok(())
+    }
+}
+
+impl<'a, T, R: RegExp> IntoIterator for &'a UrlPatternMap<T, R> {
+    type Item = (&'a UrlPattern<R>, &'a T);
+
+    type IntoIter = UrlPatternMapIter<'a, T, R>;
+
+    ghost into_iter_gives = { λ map entries. (entries ≡ map.now) × ShowsInOrder (deref_pair {K = UrlPattern R} {X = T}) };
+
+    fn into_iter(self) -> UrlPatternMapIter<'a, T, R> {
+        self.iter()
+    }
+}

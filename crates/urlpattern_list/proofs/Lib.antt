@@ -1,4 +1,0 @@
-pub mod FixedLemmas
-pub mod ListLemmas
-pub mod NextLemmas
-pub mod PatternMapLemmas

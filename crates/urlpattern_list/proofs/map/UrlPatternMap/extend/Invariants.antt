@@ -1,9 +1,0 @@
-use Rattle.std.proofs.Common.{◌≡◌, ◌++◌}
-use Rattle.urlpattern_list.proofs.map.UrlPatternMap.extend.Given as goal
-
--- what was appended, and what is left
-abbrev pub invariant-loop-pattern : goal.invariant-loop-pattern
-invariant-loop-pattern g l = record {
-  appended : l.self ≡ l.fn.self ++ l.yielded;
-  left : l.yielded ++ l.pattern-iterator.rest.items ≡ l.fn.entries.items;
-}

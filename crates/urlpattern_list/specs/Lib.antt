@@ -1,4 +1,0 @@
-pub mod FirstMatch
-pub mod NextMatch
-pub mod PatternKeys
-pub mod PatternMaps
