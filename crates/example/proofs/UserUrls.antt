@@ -5,7 +5,7 @@ use Rattle.std.specs.Option.{option_flatten}
 use Rattle.std.specs.Prelude.{◌++◌, IfNone, IfOk, IfSome, Option, Result, codes, decimal, option_map, unwrap_or}
 use Rattle.std.specs.Str.{chars}
 use Rattle.example.specs.NamedUsers.{NamesNone, NamesUser}
-use Rattle.example.specs.Users.{IsNoUser, IsPatternOfUsers, IsUser}
+use Rattle.example.specs.Users.{IsNoUser, IsPatternOfUsers, IsUser, IsUserUrl}
 use Rattle.url.proofs.OnLiterals.{url_on_literals}
 use Rattle.url.specs.Host.{host_text, parse_special_host}
 use Rattle.url.specs.Parts.{IsValid, Parts, host_or_empty, text_between}
@@ -16,7 +16,7 @@ use Rattle.url.specs.declared.scheme.SchemeType.TheVariants.{SpecialNotFile}
 use Rattle.url.specs.declared.slicing.Position.TheVariants.{AfterPort, BeforePort}
 use Rattle.urlpattern.proofs.ReadTexts.{IsTextAndSegment, anything_means, literal_means, text_and_segment_mean}
 use Rattle.urlpattern.proofs.UsersExample.{chars-path, chars-scheme, host_by_text, no_port, users_of_parts, users_options, users_parts}
-use Rattle.urlpattern.specs.Match.{HasNoMatch, IsMatch}
+use Rattle.urlpattern.specs.Match.{HasMatch, HasNoMatch, IsMatch}
 use Rattle.urlpattern.specs.ResultViews.{ResultView, group_of}
 use Rattle.urlpattern.specs.MatchInput.{input_texts}
 use Rattle.urlpattern.specs.Patterns.{PatternView}
@@ -104,6 +104,16 @@ module _ (pattern : PatternView PatternRegexp) (is : IsPatternOfUsers pattern) (
   no_user (inl (inr long)) id user = omega (arith, long)
   no_user (inr (texts, are_texts, (component, refused))) id user =
       let meant = user_meant url id valid lines user component in agrees texts component None are_texts refused meant.0 meant.1
+
+  -- what is matched is the URL of a user
+  pub user_matched : HasMatch pattern_answer pattern (inputs.Url url) → IsUserUrl url
+  unfolding chars
+  user_matched (texts, are_texts, matched) =
+      let means = λ (component : ComponentName). agrees texts component (Some (matched component).0) are_texts (matched component).1 in
+      let path = (text_and_segment_mean pathname_options (codes "/users") (codes "/") (codes "id") (chars url.path) (matched Pathname).0).0 (means Pathname) in
+      let scheme = ((literal_means default_options (codes "https") _ _).0 (means Protocol)).0 in
+      let host = ((literal_means hostname_options (codes "example.com") _ _).0 (means Hostname)).0 in
+      (path.0, user_of_texts url (matched Pathname).0 valid scheme host (means Port).0 path)
 
   -- what is named is the id of a user
   pub named : (id : List ℕ) → NamesUser pattern_answer pattern url (Some id) → IsUser url id

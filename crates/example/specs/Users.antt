@@ -21,6 +21,10 @@ pub record IsUser (url : Parts) (id : List ℕ) : Type 0 where
   pub not_empty : id ≢ []
   pub no_slash : IsTrue (lacks slash id)
 
+-- the URL is that of a user
+abbrev pub IsUserUrl : Parts → Type 0
+IsUserUrl url = (id : List ℕ) × IsUser url id
+
 -- the URL is that of no user
 abbrev pub IsNoUser : Parts → Type 0
 IsNoUser url = (id : List ℕ) → ¬ IsUser url id

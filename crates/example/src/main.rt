@@ -1,6 +1,6 @@
 //! Small programs that use the library, each with a contract in the library's words: a router, the same of a path alone, a router
 //! with values, a permission check, a store of permissions, rules for a cache, and a pattern that is printed and read again. Another
-//! promises in the words of URLs alone which user a URL names.
+//! promises in the words of URLs alone which user a URL names, and writes the URL of a user.
 #![tactic(auto)]
 
 ghost use Rattle.std.specs.Prelude.{◌≡◌, ◌+◌, length, OnOk};
@@ -24,7 +24,7 @@ use urlpattern::parser::{Options, parse_pattern_string};
 use urlpattern::regexp::PatternRegexp;
 use urlpattern::rules::{PatternParts, parts_of};
 use urlpattern::{
-    Error, UrlPattern, UrlPatternInit, UrlPatternList, UrlPatternMap, UrlPatternOptions,
+    Error, NoLink, UrlPattern, UrlPatternInit, UrlPatternList, UrlPatternMap, UrlPatternOptions,
 };
 use users::Users;
 
@@ -47,6 +47,18 @@ fn user_line(alloc: Global, url: &Url) -> Result<String, Error> {
     match id? {
         Some(id) => Ok(format!(in alloc; "user {id}")?),
         None => text(alloc, "no user"),
+    }
+}
+
+/// The URL of a user, in words.
+fn link_line(alloc: Global, id: &str) -> Result<String, Error> {
+    let users = Users::new(alloc)?;
+    let url = users.url(alloc, id);
+    drop(users);
+    match url {
+        Ok(url) => Ok(format!(in alloc; "user {id}: {url}")?),
+        Err(NoLink::OutOfMemory) => Err(Error::OutOfMemory),
+        Err(_) => Ok(format!(in alloc; "user {id}: no URL")?),
     }
 }
 
@@ -205,6 +217,9 @@ fn main(rt: HostRuntime) -> io::Result<()> {
     }
     for asked in ["https://cdn.example.com/:file", "https://example.com/*"] {
         write_line(&mut out, grants_line(rt.alloc(), asked))?;
+    }
+    for id in ["a b", "a/b"] {
+        write_line(&mut out, link_line(rt.alloc(), id))?;
     }
     write_line(&mut out, path_line(rt.alloc(), "/users/123"))?;
     write_line(&mut out, printed_line(rt.alloc()))

@@ -2,7 +2,7 @@
 
 ghost use Rattle.std.specs.Prelude.{IfNone, IfOk, IfSome};
 ghost use Rattle.std.specs.Str.{chars};
-ghost use Rattle.example.specs.Users.{IsNoUser, IsUser};
+ghost use Rattle.example.specs.Users.{IsNoUser, IsUser, IsUserUrl};
 ghost use Rattle.urlpattern.specs.Errors.{OnlyOutOfMemory};
 
 use crate::router;
@@ -11,7 +11,7 @@ use std::marker::Model;
 use url::Url;
 use urlpattern::laws::texts_are_lines;
 use urlpattern::regexp::PatternRegexp;
-use urlpattern::{Error, UrlPattern, UrlPatternOptions};
+use urlpattern::{ComponentName, Error, NoLink, UrlPattern, UrlPatternOptions};
 
 // docs: users
 /// The users under `https://example.com/users/`, with the pattern of their URLs, which is compiled once.
@@ -57,6 +57,23 @@ impl Users {
         // A law of the library: each text of a URL is of characters without line feed.
         texts_are_lines(url);
         router::user(alloc, &self.pattern, url)
+    }
+
+    /// Writes the URL of the user with this id, which is made canonical: `a b` is `a%20b`.
+    ///
+    /// The error is that of `UrlPattern::link`. An id that is empty, or has a slash, is that of no user.
+    pub fn url(&self, alloc: Global, id: &str) -> Result<Url, NoLink>
+        ensures { IfOk result IsUserUrl }
+    {
+        let url = match self
+            .pattern
+            .link(alloc, &[(ComponentName::Pathname, "id", id)])
+        {
+            Ok(url) => url,
+            Err(error) => return Err(error),
+        };
+        texts_are_lines(&url);
+        Ok(url)
     }
 }
 // docs: end
