@@ -1,18 +1,10 @@
 //! Asks the library what was asked when a case was recorded, and compares the answers.
 
-mod calls;
-mod constructors;
-mod diagnoses;
 mod first_match;
-mod generated;
-mod given;
-mod inputs;
-mod links;
-mod patterns;
-mod plain;
-mod rules;
-mod trees;
 
+use bench_patterns::{
+    constructors, diagnoses, generated, inputs, links, patterns, plain, rules, trees,
+};
 use bench_rows::recorded::{
     Answer, Fault, OPERATIONS, Operation, field, is_set, named, optional_text, text,
 };

@@ -24,9 +24,11 @@ pub fn max_age<R: RegExp>(
     ensures first { IfOk result (IsOfFirst R.answer (patterns_view patterns.now) ages.now (UrlPatternMatchInput.Url url.now)) }
     ensures memory { OnlyOutOfMemory result }
 {
+    // docs: max_age
     let Some((index, found)) = patterns.first_captures(alloc, url)? else {
         return Ok(None);
     };
     drop(found);
     Ok(ages.get(index).copied())
+    // docs: end
 }

@@ -15,6 +15,7 @@ mod routes;
 mod users;
 
 use grants::Grants;
+// docs: imports
 use std::alloc::Global;
 use std::io;
 use std::io::Write;
@@ -26,16 +27,19 @@ use urlpattern::rules::{PatternParts, parts_of};
 use urlpattern::{
     Error, NoLink, UrlPattern, UrlPatternInit, UrlPatternList, UrlPatternMap, UrlPatternOptions,
 };
+// docs: end
 use users::Users;
 
 // docs: pattern
 /// A pattern over the library's own engine. It answers as `regex::Regex` does, the engine of `UrlPattern` alone, mostly faster.
+// docs: own_engine
 type Pattern = UrlPattern<PatternRegexp>;
 
 /// The pattern of a constructor string.
 fn pattern(alloc: Global, text: &str) -> Result<Pattern, Error> {
     Pattern::from_constructor_string(alloc, text, None, UrlPatternOptions::default())
 }
+// docs: end
 // docs: end
 
 /// The user that a URL names, in words.
@@ -55,18 +59,22 @@ fn link_line(alloc: Global, id: &str) -> Result<String, Error> {
     let users = Users::new(alloc)?;
     let url = users.url(alloc, id);
     drop(users);
+    // docs: no_link
     match url {
         Ok(url) => Ok(format!(in alloc; "user {id}: {url}")?),
         Err(NoLink::OutOfMemory) => Err(Error::OutOfMemory),
         Err(_) => Ok(format!(in alloc; "user {id}: no URL")?),
     }
+    // docs: end
 }
 
 /// The user that a path names, in words.
 fn path_line(alloc: Global, path: &str) -> Result<String, Error> {
+    // docs: init
     let mut init = UrlPatternInit::default();
     init.pathname = Some(String::from_str(alloc, "/users/:id")?);
     let users = Pattern::parse(alloc, init, UrlPatternOptions::default())?;
+    // docs: end
     let id = path::user(alloc, &users, path);
     drop(users);
     match id? {
@@ -78,6 +86,7 @@ fn path_line(alloc: Global, path: &str) -> Result<String, Error> {
 /// Routes, each with what it shows.
 // docs: map
 fn pages(alloc: Global) -> Result<UrlPatternMap<&'static str, PatternRegexp>, Error> {
+    // docs: pages
     let mut pages = UrlPatternMap::new(alloc);
     pages.try_insert(pattern(alloc, "https://example.com/users/:id")?, "profile")?;
     pages.try_insert(
@@ -86,6 +95,7 @@ fn pages(alloc: Global) -> Result<UrlPatternMap<&'static str, PatternRegexp>, Er
     )?;
     pages.try_insert(pattern(alloc, "https://example.com/*")?, "page")?;
     Ok(pages)
+    // docs: end
 }
 // docs: end
 
@@ -125,6 +135,7 @@ fn permission_line(alloc: Global, url: &Url) -> Result<String, Error> {
 
 /// The parts of the pattern of a constructor string.
 fn parts(alloc: Global, text: &str) -> Result<PatternParts, Error> {
+    // docs: parts
     let init = UrlPatternInit::parse_constructor_string::<PatternRegexp>(alloc, text, None)?;
     let options = UrlPatternOptions::default();
     let pattern = pattern(alloc, text)?;
@@ -132,6 +143,7 @@ fn parts(alloc: Global, text: &str) -> Result<PatternParts, Error> {
     drop(pattern);
     drop(init);
     parts
+    // docs: end
 }
 
 /// Whether an extension may have a pattern, in words.
@@ -151,12 +163,14 @@ fn grants_line(alloc: Global, asked: &str) -> Result<String, Error> {
 
 /// For how long a URL is kept, in words.
 fn cache_line(alloc: Global, url: &Url) -> Result<String, Error> {
+    // docs: list
     let mut patterns = UrlPatternList::new(alloc);
     add(
         &mut patterns,
         pattern(alloc, "https://example.com/users/*")?,
     )?;
     add(&mut patterns, pattern(alloc, "https://example.com/*")?)?;
+    // docs: end
     let seconds = cache::max_age(alloc, &patterns, &[60, 86_400], url);
     drop(patterns);
     match seconds? {
@@ -167,11 +181,13 @@ fn cache_line(alloc: Global, url: &Url) -> Result<String, Error> {
 
 /// The pattern text of parts that were printed and read again.
 fn printed_line(alloc: Global) -> Result<String, Error> {
+    // docs: printed
     let options = Options::pathname(alloc)?;
     let copied = |text: &str| -> Result<String, Error> { Ok(String::from_str(alloc, text)?) };
     let parts = parse_pattern_string(alloc, "/users/:id([^/]+?)/edit", &options, copied)?;
     let again = printed::printed_and_read(alloc, &parts, &options)?;
     generate_pattern_string(alloc, &again, &options)
+    // docs: end
 }
 
 /// A copy of words.
@@ -193,12 +209,14 @@ fn add(patterns: &mut UrlPatternList<PatternRegexp>, pattern: Pattern) -> Result
 }
 
 /// Writes a line, or why there is none.
+// docs: write_line
 fn write_line<W: Write>(out: &mut W, line: Result<String, Error>) -> io::Result<()> {
     match line {
         Ok(line) => writeln!(out, "{line}"),
         Err(error) => writeln!(out, "{error}"),
     }
 }
+// docs: end
 
 /// What the modules answer about a URL.
 fn lines(alloc: Global, url: &str) -> Result<String, Error> {
@@ -210,6 +228,7 @@ fn lines(alloc: Global, url: &str) -> Result<String, Error> {
     Ok(format!(in alloc; "{url}: {user}, {page}, {permission}, {cached}")?)
 }
 
+// docs: main
 fn main(rt: HostRuntime) -> io::Result<()> {
     let mut out = rt.stdout();
     for url in ["https://example.com/users/123", "https://example.com/about"] {
@@ -224,3 +243,4 @@ fn main(rt: HostRuntime) -> io::Result<()> {
     write_line(&mut out, path_line(rt.alloc(), "/users/123"))?;
     write_line(&mut out, printed_line(rt.alloc()))
 }
+// docs: end

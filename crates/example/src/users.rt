@@ -38,9 +38,11 @@ impl Users {
     ///
     /// The error is that of `UrlPattern::from_constructor_string`.
     pub fn new(alloc: Global) -> Result<Self, Error> {
+        // docs: new_users
         let options = UrlPatternOptions::default();
         let pattern = UrlPattern::from_constructor_string(alloc, router::USERS, None, options)?;
         Ok(Self { pattern })
+        // docs: end
     }
 
     /// The id of the user whose URL this is, borrowed from the URL. `None`: it is the URL of no user.
@@ -65,6 +67,7 @@ impl Users {
     pub fn url(&self, alloc: Global, id: &str) -> Result<Url, NoLink>
         ensures { IfOk result IsUserUrl }
     {
+        // docs: user_link
         let url = match self
             .pattern
             .link(alloc, &[(ComponentName::Pathname, "id", id)])
@@ -72,6 +75,7 @@ impl Users {
             Ok(url) => url,
             Err(error) => return Err(error),
         };
+        // docs: end
         texts_are_lines(&url);
         Ok(url)
     }

@@ -1,5 +1,6 @@
-//! Times the library's calls (`time FILE ..`) and lookups among routes (`routes FILE`), draws times that standard input gives (`chart`), and asks questions that are made
-//! by a seed, on which calls have to agree (`questions SEED COUNT`, and `lists SEED COUNT` for those on lists).
+//! Times the library's calls (`time FILE ..`), links (`link-times FILE ..`) and lookups among routes (`routes FILE`), draws times that standard input gives (`chart`), and asks questions
+//! that are made by a seed, on which calls have to agree (`questions SEED COUNT`, `lists SEED COUNT` for those on lists, and `pairs SEED COUNT` for those on pairs of
+//! patterns), or makes links of what was captured (`links SEED COUNT`). `rules FILE` times comparisons of all routes with each other.
 #![tactic(auto)]
 
 mod calls;
@@ -7,6 +8,7 @@ mod chart;
 mod questions;
 mod timing;
 
+use questions::Alone;
 use std::process::ExitCode;
 use std::{env, io};
 
@@ -24,6 +26,18 @@ const QUESTIONS: &str = "questions";
 
 /// The word that asks for questions on lists alone.
 const LISTS: &str = "lists";
+
+/// The word that asks for questions on pairs of patterns alone.
+const PAIRS: &str = "pairs";
+
+/// The word that asks for times of comparisons of routes.
+const RULES: &str = "rules";
+
+/// The word that asks for links of what was captured.
+const LINKS: &str = "links";
+
+/// The word that asks for times of links.
+const LINK_TIMES: &str = "link-times";
 
 /// The status of a run in which nothing differs.
 const SAME: u8 = 0;
@@ -53,6 +67,10 @@ fn run(rt: &HostRuntime) -> io::Result<bool> {
             timing::run(rt, paths, &mut rt.stdout())?;
             Ok(true)
         }
+        [command, paths @ ..] if command.as_str() == LINK_TIMES => {
+            timing::run_links(rt, paths, &mut rt.stdout())?;
+            Ok(true)
+        }
         [command, path] if command.as_str() == ROUTES => {
             timing::run_routes(rt, path, &mut rt.stdout())?;
             Ok(true)
@@ -67,7 +85,19 @@ fn run(rt: &HostRuntime) -> io::Result<bool> {
         }
         [command, seed, count] if command.as_str() == LISTS => {
             let (seed, count) = (number(seed)?, number(count)?);
-            questions::run_lists(rt.alloc(), seed, count, &mut rt.stdout())
+            questions::run_alone(rt.alloc(), Alone::Lists, seed, count, &mut rt.stdout())
+        }
+        [command, seed, count] if command.as_str() == PAIRS => {
+            let (seed, count) = (number(seed)?, number(count)?);
+            questions::run_alone(rt.alloc(), Alone::Rules, seed, count, &mut rt.stdout())
+        }
+        [command, path] if command.as_str() == RULES => {
+            timing::run_rules(rt, path, &mut rt.stdout())?;
+            Ok(true)
+        }
+        [command, seed, count] if command.as_str() == LINKS => {
+            let (seed, count) = (number(seed)?, number(count)?);
+            questions::links::run(rt.alloc(), seed, count, &mut rt.stdout())
         }
         _ => Err(io::Error::from(io::ErrorKind::InvalidInput)),
     }

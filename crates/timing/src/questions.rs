@@ -6,11 +6,13 @@
 mod constructors;
 mod engines;
 mod given;
+pub mod links;
 mod lists;
 mod making;
 mod matchers;
 mod patterns;
 mod printing;
+mod rules;
 mod trees;
 
 use making::Maker;
@@ -184,20 +186,53 @@ impl Tallies {
     }
 }
 
-/// Asks so many questions on lists, of the seed and the numbers after it, and prints those to which calls do not agree, and the
+/// Questions of one kind alone.
+#[derive(Clone, Copy)]
+pub enum Alone {
+    /// Lists of patterns.
+    Lists,
+    /// Pairs of patterns, of which the one may cover the other.
+    Rules,
+}
+
+impl Alone {
+    /// The name of the kind.
+    fn name(self) -> &'static str {
+        match self {
+            Alone::Lists => "lists",
+            Alone::Rules => "pairs of patterns",
+        }
+    }
+
+    /// Asks a question.
+    fn ask(self, maker: &mut Maker) -> Result<Outcome, Error> {
+        match self {
+            Alone::Lists => lists::ask(maker),
+            Alone::Rules => rules::ask(maker),
+        }
+    }
+}
+
+/// Asks so many questions of a kind, of the seed and the numbers after it, and prints those to which calls do not agree, and the
 /// counts. Says whether all agree.
-pub fn run_lists<O: Write>(alloc: Global, seed: u64, count: u64, out: &mut O) -> io::Result<bool> {
+pub fn run_alone<O: Write>(
+    alloc: Global,
+    alone: Alone,
+    seed: u64,
+    count: u64,
+    out: &mut O,
+) -> io::Result<bool> {
     let mut tally = Tally::default();
     for index in 0..count {
         let number = seed.wrapping_add(index);
         let mut maker = Maker::new(alloc, number);
-        let outcome = lists::ask(&mut maker).unwrap_or(Outcome::Differs);
+        let outcome = alone.ask(&mut maker).unwrap_or(Outcome::Differs);
         tally.count(outcome);
         if matches!(outcome, Outcome::Differs) {
             writeln!(out, "question {number} differs:{}", maker.made())?;
         }
     }
-    tally.print(out, "lists")?;
+    tally.print(out, alone.name())?;
     Ok(tally.differing == 0)
 }
 

@@ -2,9 +2,11 @@
 //! of lists of routes, and matchers that leave an engine many choices.
 
 mod hostile;
+mod links;
 mod lists;
 mod rounds;
 mod routes;
+mod rules;
 
 use crate::calls::{is_set, optional_text};
 use regex::Regex;
@@ -244,6 +246,22 @@ pub fn run<R: Files + AllocGlobal + Clock, O: Write>(
     hostile::run(rt, out)
 }
 
+/// Prints what the link of what each pair captures takes: its name, and a column each for the link and for `Url::parse` of its text.
+pub fn run_links<R: Files + AllocGlobal + Clock, O: Write>(
+    rt: &R,
+    paths: &[String],
+    out: &mut O,
+) -> io::Result<()> {
+    writeln!(out, "name\tlink\tUrl::parse")?;
+    for path in paths {
+        let text = fs::read_to_string(rt, path)?;
+        for line in text.lines() {
+            links::time_line(rt, line, out)?;
+        }
+    }
+    Ok(())
+}
+
 /// Prints what the table of a file's routes takes, and tables that are made.
 pub fn run_routes<R: Files + AllocGlobal + Clock, O: Write>(
     rt: &R,
@@ -252,6 +270,16 @@ pub fn run_routes<R: Files + AllocGlobal + Clock, O: Write>(
 ) -> io::Result<()> {
     let text = fs::read_to_string(rt, path)?;
     routes::run(rt, &text, out)
+}
+
+/// Prints what comparisons of all routes of a file with each other take.
+pub fn run_rules<R: AllocGlobal + Clock + Files, O: Write>(
+    rt: &R,
+    path: &str,
+    out: &mut O,
+) -> io::Result<()> {
+    let text = fs::read_to_string(rt, path)?;
+    rules::run(rt, &text, out)
 }
 
 /// Prints what the pair of a line takes.

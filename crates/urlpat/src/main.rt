@@ -1,12 +1,31 @@
-//! Matches URLs against patterns: one URL, the first of some patterns, or the lines of standard input; and shows what the pattern of
-//! one component is compiled to.
+//! Matches URLs against patterns: one URL, the first of some patterns, or the lines of standard input; prints the URL that a pattern
+//! matches with given groups; compares patterns; and shows what the pattern of one component is compiled to.
 #![tactic(auto)]
+
+ghost use Rattle.std.specs.Prelude.{⊤};
 
 use std::alloc::AllocError;
 use std::io::{BufReader, BufWriter};
 use std::process::ExitCode;
-use std::{env, io};
-use urlpat_commands::{Failure, fail, run};
+use std::{env, fs, io};
+use urlpat_commands::{Failure, fail};
+use urlpat_links::{link, link_words};
+use urlpat_rules::{Tables, run};
+
+/// The files of the host.
+#[derive(Drop)]
+struct HostFiles<'a> {
+    rt: &'a HostRuntime,
+}
+
+impl Tables for HostFiles<'_> {
+    // Nothing is known of what a file has.
+    ghost Has = { λ files name table. ⊤ };
+
+    fn read(&self, name: &str) -> io::Result<Vec<u8>> {
+        fs::read(self.rt, name)
+    }
+}
 
 fn main(rt: HostRuntime) -> ExitCode {
     ExitCode::from(match words(&rt) {
@@ -23,7 +42,11 @@ fn run_buffered(rt: &HostRuntime, words: &[String]) -> io::Result<u8> {
     let alloc = rt.alloc();
     let mut input = BufReader::new(alloc, rt.stdin())?;
     let mut out = BufWriter::new(alloc, rt.stdout())?;
-    Ok(run(alloc, words, &mut input, &mut out, &mut rt.stderr()))
+    if let Some(rest) = link_words(words) {
+        return Ok(link(alloc, rest, &mut out, &mut rt.stderr()));
+    }
+    let files = HostFiles { rt };
+    Ok(run(alloc, &files, words, &mut input, &mut out, &mut rt.stderr()))
 }
 
 /// The arguments after the program's own name. The error is that one of them is not UTF-8, or that memory ran out.

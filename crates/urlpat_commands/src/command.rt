@@ -131,7 +131,7 @@ fn run_once<Out: Write, Err: Write>(
 }
 
 /// Writes a text, and all that is still to be written.
-fn print<Out: Write>(text: &[u8], out: &mut Out) -> io::Result<()>
+pub fn print<Out: Write>(text: &[u8], out: &mut Out) -> io::Result<()>
     ensures { OnOk result (Appends (Out.contents out.old) (Out.contents out.new) text.now) }
 {
     out.write_all(text)?;

@@ -8,4 +8,6 @@ mod first;
 mod matching;
 mod notes;
 
-pub use command::{DONE, FAILED, Failure, NO_MATCH, fail, run};
+pub use command::{DONE, FAILED, Failure, NO_MATCH, fail, print, run};
+pub use matching::{base_of, compiled};
+pub use notes::write_refusal;

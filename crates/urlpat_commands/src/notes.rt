@@ -137,7 +137,11 @@ pub fn write_refusal<Err: Write>(
 ) -> u8
     ensures { result ≡ FAILED }
 {
-    match match_diagnosis(alloc, pattern, base) {
+    let note = match error {
+        Error::OutOfMemory => Ok(None),
+        _ => match_diagnosis(alloc, pattern, base),
+    };
+    match note {
         Ok(Some(note)) => {
             let _ = write!(err, "{error}\n{note}");
         }
@@ -158,6 +162,7 @@ fn match_diagnosis(
     pattern: &str,
     base: Option<&str>,
 ) -> Result<Option<String>, OutOfMemory> {
+    // docs: diagnosis
     match diagnosed(alloc, pattern, base)? {
         Some(diagnosis) => {
             let text = format!(in alloc; "{diagnosis}\n");
@@ -166,6 +171,7 @@ fn match_diagnosis(
         }
         None => Ok(None),
     }
+    // docs: end
 }
 
 /// What is wrong with the first constructor string that is refused, after its number, or with the base.
@@ -186,13 +192,16 @@ fn first_diagnosis(
 
 /// A diagnosis after the number of its pattern. Of the base no pattern is named.
 fn numbered(alloc: Global, index: usize, diagnosis: &Diagnosis) -> Result<String, OutOfMemory> {
+    // docs: subject
     match diagnosis.subject {
         Subject::Base => Ok(format!(in alloc; "{diagnosis}\n")?),
         _ => Ok(format!(in alloc; "pattern {index}: {diagnosis}\n")?),
     }
+    // docs: end
 }
 
 /// What is wrong with a constructor string, or its base.
+// docs: diagnose
 fn diagnosed(
     alloc: Global,
     pattern: &str,
@@ -201,6 +210,7 @@ fn diagnosed(
     let options = UrlPatternOptions::default();
     UrlPattern::<PatternRegexp>::diagnose(alloc, pattern, base, options)
 }
+// docs: end
 
 /// What is wrong with the pattern of a component, under the options of this name.
 fn component_diagnosis(

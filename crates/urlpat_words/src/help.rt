@@ -12,13 +12,19 @@ usage: urlpat PATTERN URL
        urlpat match PATTERN BASE INPUT
        urlpat first BASE INPUT PATTERN..
        urlpat filter PATTERN BASE
+       urlpat link PATTERN BASE NAME=VALUE..
+       urlpat covers PATTERN ASKED
+       urlpat unreachable FILE [BASE]
        urlpat component default|hostname|pathname PATTERN
        urlpat --version
 
-  match      prints what the groups of a pattern capture of a URL
-  first      finds the first of some patterns that matches a URL
-  filter     prints the lines of standard input whose URLs match
-  component  shows what the pattern of one component is compiled to
+  match        prints what the groups of a pattern capture of a URL
+  first        finds the first of some patterns that matches a URL
+  filter       prints the lines of standard input whose URLs match
+  link         prints the URL that a pattern matches with given groups
+  covers       says whether a pattern matches whatever another one does
+  unreachable  finds the patterns of a table that one before them covers
+  component    shows what the pattern of one component is compiled to
 
 BASE is a URL for the pattern and the input, or - for none.
 `urlpat COMMAND --help` says more of a command.
@@ -84,6 +90,44 @@ BASE is a URL for the pattern and the lines, or - for none. A line that is no UR
 example: urlpat filter 'https://example.com/users/:id' - --group pathname.id <urls.txt
 ";
 
+/// The help on `link`.
+const LINK_HELP: &str = "\
+Prints the URL that a pattern matches with these groups. If there is none, ends with status 1.
+
+usage: urlpat link PATTERN BASE NAME=VALUE..
+
+NAME is that of a component, a dot and that of a group, or that of a group alone, where one component alone has it. A group without
+name has a number in its component, from 0 on. BASE is a URL for the pattern, or - for none.
+
+example: urlpat link /users/:id https://example.com/ id=7
+";
+
+/// The help on `covers`.
+const COVERS_HELP: &str = "\
+Prints `covered` if a pattern matches whatever another one, the asked one, matches. If not, prints in which component they part, and
+a text for each component that the asked one matches, and ends with status 1.
+
+usage: urlpat covers PATTERN ASKED
+
+Of a custom expression nothing is known; only a component that is a wildcard alone covers it. Where it is not known whether a pattern
+covers another, the status is 2. The texts need not be those of a URL.
+
+example: urlpat covers 'https://example.com/*' 'https://example.com/users/:id'
+";
+
+/// The help on `unreachable`.
+const UNREACHABLE_HELP: &str = "\
+Finds the patterns of a table that are never the first match, since one before them covers them. Prints a line for each: the number
+of its line, a tab, and that of the pattern that covers it. Ends with status 1 if there is none.
+
+usage: urlpat unreachable FILE [BASE]
+
+The file has a pattern a line, and its name after a tab, if it has one. A line that is empty or begins with # is skipped. BASE is a
+URL for the patterns.
+
+example: urlpat unreachable routes.txt https://example.com/
+";
+
 /// The help that the words ask for. `None`: they ask for none.
 pub fn help_of(words: &[String]) -> Option<&'static str>
     ensures { IfSome result (λ text. IsHelp (words_view words.now) text.now) }
@@ -139,6 +183,9 @@ fn help_on(command: &str) -> Option<&'static str>
         "match" => Some(MATCH_HELP),
         "first" => Some(FIRST_HELP),
         "filter" => Some(FILTER_HELP),
+        "link" => Some(LINK_HELP),
+        "covers" => Some(COVERS_HELP),
+        "unreachable" => Some(UNREACHABLE_HELP),
         _ => None,
     }
 }

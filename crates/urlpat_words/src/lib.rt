@@ -4,5 +4,5 @@
 mod help;
 mod query;
 
-pub use help::help_of;
+pub use help::{asks_for_help, help_of};
 pub use query::{Query, Shape, filter_words, query_of};

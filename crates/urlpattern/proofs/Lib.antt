@@ -2,6 +2,5 @@ pub mod FixedLemmas
 pub mod ListLemmas
 pub mod NextLemmas
 pub mod PatternMapLemmas
-pub mod InputLemmas
 pub mod ReadTexts
 pub mod UsersExample

@@ -49,6 +49,8 @@ pub use Rattle.urlpattern_pattern.specs.Patterns
 pub use Rattle.urlpattern_matches.specs.GroupTexts
 pub use Rattle.urlpattern_matches.specs.ResultJson
 pub use Rattle.urlpattern_matches.specs.ResultViews
+pub use Rattle.urlpattern_quirks.specs.Inputs
+pub use Rattle.urlpattern_quirks.specs.Quirks
 pub use Rattle.urlpattern_readings.specs.Readings
 pub use Rattle.urlpattern_rules.specs.Comparing
 pub use Rattle.urlpattern_rules.specs.Order
@@ -84,9 +86,7 @@ pub use Rattle.urlpattern_syntax.specs.declared.parser.Options as ParserOptions
 pub use Rattle.urlpattern_syntax.specs.declared.parser.Part
 pub use Rattle.urlpattern_syntax.specs.declared.parser.RegexSyntax
 pub mod FirstMatch
-pub mod Inputs
 pub mod NextMatch
 pub mod PatternKeys
 pub mod PatternMaps
-pub mod Quirks
 pub mod Theorem

@@ -39,6 +39,17 @@ use urlpattern_matches::{
 use urlpattern_pattern::{UrlPattern, captures_of_texts};
 
 /// Patterns in their order, as the routes of a router.
+///
+/// Here `pattern` compiles a constructor string, and `add` pushes a pattern:
+///
+/// ```rust list
+/// let mut patterns = UrlPatternList::new(alloc);
+/// add(
+///     &mut patterns,
+///     pattern(alloc, "https://example.com/users/*")?,
+/// )?;
+/// add(&mut patterns, pattern(alloc, "https://example.com/*")?)?;
+/// ```
 #[derive(Debug, Drop)]
 pub struct UrlPatternList<R: RegExp = regex::Regex> {
     patterns: Vec<UrlPattern<R>>,
@@ -199,6 +210,16 @@ impl<R: RegExp> UrlPatternList<R> {
     /// The answer is that of `UrlPattern::captures` on one pattern after the other until one matches.
     ///
     /// The error is that memory ran out. Only an engine allocates.
+    ///
+    /// Here `ages` has a number for each pattern:
+    ///
+    /// ```rust max_age
+    /// let Some((index, found)) = patterns.first_captures(alloc, url)? else {
+    ///     return Ok(None);
+    /// };
+    /// drop(found);
+    /// Ok(ages.get(index).copied())
+    /// ```
     pub fn first_captures<'p, 'u>(
         &'p self,
         alloc: Global,

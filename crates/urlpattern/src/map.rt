@@ -26,6 +26,19 @@ use urlpattern_pattern::UrlPattern;
 /// Patterns in their order, each with a value, as the routes of a router with their handlers.
 ///
 /// Where several patterns match, the first of them counts.
+///
+/// Here `pattern` compiles a constructor string:
+///
+/// ```rust pages
+/// let mut pages = UrlPatternMap::new(alloc);
+/// pages.try_insert(pattern(alloc, "https://example.com/users/:id")?, "profile")?;
+/// pages.try_insert(
+///     pattern(alloc, "https://example.com/users/:id/files/*")?,
+///     "files",
+/// )?;
+/// pages.try_insert(pattern(alloc, "https://example.com/*")?, "page")?;
+/// Ok(pages)
+/// ```
 #[derive(Debug, Drop)]
 pub struct UrlPatternMap<T, R: RegExp = regex::Regex> {
     patterns: UrlPatternList<R>,
@@ -139,6 +152,15 @@ impl<T, R: RegExp> UrlPatternMap<T, R> {
     /// `None`: no pattern matches it.
     ///
     /// The error is that memory ran out. Only an engine allocates.
+    ///
+    /// The value of the first route that matches, and what the group `ID` captures:
+    ///
+    /// ```rust routes
+    /// let Some((_, value, found)) = routes.first_captures(alloc, url)? else {
+    ///     return Ok(None);
+    /// };
+    /// Ok(Some((value, found.get(ComponentName::Pathname, ID))))
+    /// ```
     pub fn first_captures<'m, 'u>(
         &'m self,
         alloc: Global,

@@ -33,6 +33,12 @@ pub struct Matcher {
 }
 
 /// What stands between the prefix and the suffix of a text. In JSON the key `kind` says which of the three it is.
+///
+/// ```rust inner_matcher
+/// let middle = InnerMatcher::RegExp {
+///     regexp: String::from_str(alloc, "^(?:/(a[))$")?,
+/// };
+/// ```
 #[derive(Debug, Clone, PartialEq, Eq, Drop, Serialize, Deserialize)]
 #[serde(tag = "kind", rename_all = "camelCase", rename_all_fields = "camelCase")]
 pub enum InnerMatcher {

@@ -26,6 +26,16 @@ use urlpattern_inputs::reading::{Unread, flag_field, member, read_or_none, text_
 use urlpattern_inputs::writing::put_text;
 
 /// A pattern for each of a URL's components.
+///
+/// The JSON of the pattern that a browser's input stands for:
+///
+/// ```rust plain_pattern
+/// let init = process_construct_pattern_input(alloc, input, base)?;
+/// let pattern = parse_pattern::<R>(alloc, init, options)?;
+/// let tree = pattern.to_json_value(alloc);
+/// drop(pattern);
+/// tree
+/// ```
 #[derive(Debug, Clone, PartialEq, Eq, Drop, Serialize, Deserialize)]
 #[serde(rename_all = "camelCase")]
 pub struct UrlPattern {
@@ -50,6 +60,16 @@ pub struct UrlPattern {
 }
 
 /// The pattern of one component.
+///
+/// A component whose regular expression was rejected has an empty text for it:
+///
+/// ```rust plain
+/// let component: Component<EcmaRegexp> = path_of(alloc, "/(a[)")?;
+/// let plain = UrlPatternComponent::from_component(alloc, component)?;
+/// assert_eq!(rt; plain.pattern_string.as_str(), "/(a[)");
+/// assert_eq!(rt; plain.regexp_string.as_str(), "");
+/// assert_eq!(rt; plain.matcher.inner, middle);
+/// ```
 #[derive(Debug, Clone, PartialEq, Eq, Drop, Serialize, Deserialize)]
 #[serde(rename_all = "camelCase")]
 pub struct UrlPatternComponent {

@@ -2,9 +2,6 @@ pub mod CompileLemmas
 pub mod FirstMatchers
 pub mod EngineLemmas
 pub mod FoldedEnds
-pub mod PrintedTexts
-pub mod RegexpTexts
 pub mod MatcherTexts
 pub mod MatcherAnswers
 pub mod Peeling
-pub mod NameLists

@@ -1,9 +1,7 @@
+pub use Rattle.urlpattern_printing.specs.Generated
+pub use Rattle.urlpattern_printing.specs.NormalForms
 pub mod Components
 pub mod Regexes
 pub mod FirstWays
-pub mod Generated
 pub mod Looks
 pub mod Matchers
-pub mod Neighbours
-pub mod NormalForms
-pub mod PartTexts

@@ -15,6 +15,14 @@ pub use look::Look;
 use std::alloc::Global;
 
 /// What a text is matched with: its prefix, its suffix, and what stands between them.
+///
+/// Here `parts_of` parses a pattern text:
+///
+/// ```rust matcher_of
+/// let options = Options::default(alloc);
+/// let parts = parts_of(alloc, "{a}?b", &options)?;
+/// generate_matcher(alloc, &parts, &options, "u")
+/// ```
 #[derive(Debug, Drop)]
 pub struct Matcher<R> {
     /// The text that a matched text begins with.
@@ -28,6 +36,20 @@ pub struct Matcher<R> {
 }
 
 /// What stands between the prefix and the suffix of a text.
+///
+/// A matcher keeps the error of an expression that was rejected, and then matches nothing:
+///
+/// ```rust refused_matcher
+/// assert!(rt;
+///     matches!(
+///         &matcher.inner,
+///         InnerMatcher::RegExp {
+///             regexp: Err(Error::RegExp(()))
+///         }
+///     )
+/// );
+/// assert!(rt; matcher.matches(alloc, "b")?.is_none());
+/// ```
 #[derive(Debug, Drop)]
 pub enum InnerMatcher<R> {
     /// This text.

@@ -1,12 +1,12 @@
 -- Lemmas on the component that is refused, and on what a diagnosis shows of it.
-use Rattle.std.proofs.Common.{◌≡◌, ◌≢◌, ◌⊎◌, ℕ, ◌+◌, ◌<◌, List, [], ◌∷◌, ◌++◌, length, get_or, take, drop, Bool, false, Option, Some, None, Ok, Err, refl, sym, ap, ◌∙◌, subst, inl, inr, add-one, drop-cons}
+use Rattle.std.proofs.Common.{◌≡◌, ◌≢◌, ◌⊎◌, Bor, ℕ, ◌+◌, ◌<◌, List, [], ◌∷◌, ◌++◌, length, get_or, take, drop, Bool, false, Option, Some, None, Ok, Err, refl, sym, ap, ◌∙◌, subst, inl, inr, add-one, drop-cons}
 use Rattle.std.proofs.lemmas.List.{take-append-drop}
 use Rattle.std.specs.List.{AllByRecursion}
-use Rattle.std.specs.Prelude.{Result, IfNone, IfOk, IfSome, string_bytes}
+use Rattle.std.specs.Prelude.{Result, IfNone, IfOk, IfSome, option_copied, string_bytes, unwrap_or}
 use Rattle.std.specs.Str.{chars}
 use Rattle.urlpattern_core.specs.Components.{ComponentView}
 use Rattle.urlpattern_core.specs.declared.regexp.RegExp.{Ghosts as Engine}
-use Rattle.urlpattern_faults.specs.Faults.{IsFaultOf}
+use Rattle.urlpattern_faults.specs.Faults.{IsFaultOf, IsUrlFault}
 use Rattle.urlpattern_faults.specs.Places.{IsFaultMoved}
 use Rattle.urlpattern_diagnosis.specs.declared.diagnosis.Diagnosis.{Diagnosis}
 use Rattle.urlpattern_diagnosis.specs.declared.diagnosis.Subject.{Subject}
@@ -14,7 +14,7 @@ use Rattle.urlpattern_diagnosis.specs.declared.diagnosis.Subject.TheVariants as 
 use Rattle.urlpattern_faults.specs.declared.fault.Fault.{Fault}
 use Rattle.urlpattern_inputs.specs.declared.options.UrlPatternOptions.{UrlPatternOptions}
 use Rattle.urlpattern_create.specs.Compiled.{FirstRefused, IsComponentCompiled, IsComponentRefused, IsPathKind, IsPatternOfInit, Manner, RefusesValues, after_protocol, manner_of}
-use Rattle.urlpattern_create.specs.Diagnoses.{IsOf, IsPartOfRefused, IsRefusalOf, RefusesComponent, ShowsFault, ShowsInit, ShowsPattern, ShowsProtocol, ShowsRefusal, ShowsText, error_of}
+use Rattle.urlpattern_create.specs.Diagnoses.{IsOf, IsPartOfRefused, IsRefusalOf, RefusesComponent, ShowsAll, ShowsFault, ShowsInit, ShowsPattern, ShowsProtocol, ShowsRefusal, ShowsText, error_of}
 use Rattle.urlpattern_create.specs.FromString.{IsInitOfText, IsPatternOfText}
 use Rattle.urlpattern_create.specs.PatternViews.{PatternView}
 use Rattle.urlpattern_init.specs.declared.init.UrlPatternInit.{UrlPatternInit}
@@ -84,6 +84,15 @@ shows_fault bytes pattern point prefix error diagnosis fault same text e (inr h)
   inr (subst (λ (x : Error). IsPartOfRefused pattern x fault) (sym same) h),
   subst (λ (x : List ℕ). IsFaultMoved x pattern fault diagnosis.fault) (sym text) moved,
 )
+
+-- the whole text is shown
+pub shows_all : (bytes : List ℕ) (diagnosis : Diagnosis) → string_bytes diagnosis.text ≡ bytes → IsUrlFault bytes diagnosis.fault → ShowsAll diagnosis
+shows_all bytes diagnosis text fault = subst (λ (x : List ℕ). IsUrlFault x diagnosis.fault) (sym text) fault
+
+-- no text stands for none
+pub text-or_nothing : (base : Option (Bor (List ℕ))) (found nothing : Bor (List ℕ)) → found ≡ unwrap_or base nothing → nothing.now ≡ [] → found.now ≡ unwrap_or (option_copied base) []
+text-or_nothing None found nothing e is = ap (λ (b : Bor (List ℕ)). b.now) e ∙ is
+text-or_nothing (Some text) found nothing e is = ap (λ (b : Bor (List ℕ)). b.now) e
 
 -- a list is cut at an element
 pub cut_at : {A : Type 0} (xs : List A) (i : ℕ) (d : A) → i < length xs → take i xs ++ get_or xs i d ∷ drop (i + 1) xs ≡ xs

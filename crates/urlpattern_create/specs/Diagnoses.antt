@@ -2,7 +2,7 @@
 use Rattle.std.specs.Prelude.{◌≡◌, ◌⊎◌, ℕ, Bool, List, [], Option, None, Some, Ok, unwrap_or, string_bytes}
 use Rattle.std.specs.Str.{chars}
 use Rattle.urlpattern_core.specs.declared.regexp.RegExp.{Ghosts as Engine}
-use Rattle.urlpattern_faults.specs.Faults.{IsFaultIn, IsFaultOf, IsWholeFault}
+use Rattle.urlpattern_faults.specs.Faults.{IsFaultIn, IsFaultOf, IsUrlFault}
 use Rattle.urlpattern_faults.specs.Places.{IsFaultMoved}
 use Rattle.urlpattern_diagnosis.specs.declared.diagnosis.{Diagnosis.Diagnosis, Subject.Subject}
 use Rattle.urlpattern_diagnosis.specs.declared.diagnosis.Subject.TheVariants as subjects
@@ -49,9 +49,9 @@ ShowsFault pattern point diagnosis =
     (fault : Fault) × (IsFaultOf pattern point diagnosis.error fault ⊎ IsPartOfRefused pattern diagnosis.error fault)
     × IsFaultMoved (string_bytes diagnosis.text) pattern fault diagnosis.fault
 
--- the whole text is at fault
+-- the whole text is at fault, or the place where the colon after its scheme is missing
 abbrev pub ShowsAll : Diagnosis → Type 0
-ShowsAll diagnosis = IsWholeFault (string_bytes diagnosis.text) diagnosis.fault
+ShowsAll diagnosis = IsUrlFault (string_bytes diagnosis.text) diagnosis.fault
 
 -- its text shows where a pattern that is read in this manner is at fault
 abbrev pub ShowsPattern : Manner → Diagnosis → Type 0

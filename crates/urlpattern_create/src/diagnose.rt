@@ -6,7 +6,7 @@ ghost use Rattle.urlpattern_diagnosis.specs.declared.diagnosis.Subject.TheVarian
 ghost use Rattle.urlpattern_init.specs.Inheritance.{values_view};
 ghost use Rattle.urlpattern_create.specs.Compiled.{AreCompiled, IsPatternOfInit, RefusesInit, RefusesValues};
 ghost use Rattle.urlpattern_create.specs.CompilerSteps.{compiled_values, manner_by};
-ghost use Rattle.urlpattern_faults.specs.Spans.{IsSpanIn};
+ghost use Rattle.urlpattern_faults.specs.Faults.{IsFaultIn};
 ghost use Rattle.urlpattern_create.specs.Diagnoses.{IsOf, IsPartOfRefused, IsWithinText, ShowsInit, ShowsPattern, ShowsProtocol, ShowsRefusal, ShowsText};
 ghost use Rattle.urlpattern_create.specs.FromString.{IsPatternOfText, RefusesPatternOfText};
 ghost use Rattle.urlpattern_create.specs.PatternViews.{PatternView};
@@ -22,8 +22,8 @@ use urlpattern_core::error::{OutOfMemory, RegExpError};
 use urlpattern_core::regexp::RegExp;
 use urlpattern_core::tokenizer::{TokenizePolicy, tokenize};
 use urlpattern_diagnosis::{
-    Diagnosis, Fault, Place, Span, Subject, component_start, fault_of, refused_expression,
-    refused_row,
+    Diagnosis, Fault, Place, Subject, component_start, fault_of, fault_of_expression,
+    fault_of_host, refused_expression, refused_row,
 };
 use urlpattern_eight::{ComponentName, Eight};
 use urlpattern_init::{UrlPatternInit, protocol_of};
@@ -242,8 +242,9 @@ impl Compiler<'_> {
         };
         let pattern = pattern_of(self.values, component).unwrap_or("*");
         let point = options.prefix_code_point.as_str();
-        let fault = match self.refused_part::<R>(component, hierarchical, pattern, &error)? {
-            Some(span) => Fault::of_span(span),
+        let refused = self.refused_part::<R>(component, hierarchical, pattern, &error)?;
+        let fault = match refused {
+            Some(fault) => fault,
             None => fault_of(self.alloc, pattern, point, &error)?,
         };
         let value = given.value(component).unwrap_or(pattern);
@@ -263,9 +264,9 @@ impl Compiler<'_> {
         hierarchical: bool,
         pattern: &str,
         error: &Error,
-    ) -> Result<Option<Span>, OutOfMemory>
-        ensures part { IfOk result (λ found. IfSome found (λ span. IsPartOfRefused pattern.now error.now (record { span = span; earlier = None }))) }
-        ensures within { IfOk result (λ found. IfSome found (IsSpanIn pattern.now)) }
+    ) -> Result<Option<Fault>, OutOfMemory>
+        ensures part { IfOk result (λ found. IfSome found (IsPartOfRefused pattern.now error.now)) }
+        ensures within { IfOk result (λ found. IfSome found (IsFaultIn pattern.now)) }
     {
         match error {
             Error::RegExp(()) => self.refused_expression::<R>(pattern),
@@ -274,11 +275,11 @@ impl Compiler<'_> {
         }
     }
 
-    /// The first custom expression of a pattern that the engine refuses by itself.
+    /// The first custom expression of a pattern that the engine refuses by itself, and what is at fault in it.
     ///
     /// The error is that memory ran out.
-    fn refused_expression<R: RegExp>(&self, pattern: &str) -> Result<Option<Span>, OutOfMemory>
-        ensures { IfOk result (λ found. IfSome found (IsSpanIn pattern.now)) }
+    fn refused_expression<R: RegExp>(&self, pattern: &str) -> Result<Option<Fault>, OutOfMemory>
+        ensures { IfOk result (λ found. IfSome found (IsFaultIn pattern.now)) }
     {
         let Ok(tokens) = tokenize(self.alloc, pattern, TokenizePolicy::Strict) else {
             return Err(OutOfMemory);
@@ -290,10 +291,13 @@ impl Compiler<'_> {
                 Err(RegExpError::OutOfMemory) => Err(OutOfMemory),
             }
         };
-        refused_expression(pattern, &tokens, refuses)
+        match refused_expression(pattern, &tokens, refuses)? {
+            Some(body) => Ok(Some(fault_of_expression(self.alloc, pattern, body)?)),
+            None => Ok(None),
+        }
     }
 
-    /// The first row of characters of a pattern that `url` refuses by itself.
+    /// The first row of characters of a pattern that `url` refuses by itself, and what is at fault in it.
     ///
     /// The error is that memory ran out.
     fn refused_row(
@@ -301,8 +305,8 @@ impl Compiler<'_> {
         component: ComponentName,
         hierarchical: bool,
         pattern: &str,
-    ) -> Result<Option<Span>, OutOfMemory>
-        ensures { IfOk result (λ found. IfSome found (IsSpanIn pattern.now)) }
+    ) -> Result<Option<Fault>, OutOfMemory>
+        ensures { IfOk result (λ found. IfSome found (IsFaultIn pattern.now)) }
     {
         let Ok(tokens) = tokenize(self.alloc, pattern, TokenizePolicy::Strict) else {
             return Err(OutOfMemory);
@@ -314,6 +318,12 @@ impl Compiler<'_> {
                 Err(_) => Ok(true),
             }
         };
-        refused_row(self.alloc, pattern, &tokens, refuses)
+        match refused_row(self.alloc, pattern, &tokens, refuses)? {
+            Some(row) if component == ComponentName::Hostname => {
+                Ok(Some(fault_of_host(pattern, row)))
+            }
+            Some(row) => Ok(Some(Fault::of_span(row))),
+            None => Ok(None),
+        }
     }
 }

@@ -1,21 +1,26 @@
 //! What is wrong with a pattern that is refused.
 
 ghost use Rattle.std.specs.Prelude.{◌≡◌, string_bytes, IfOk, IfSome};
-ghost use Rattle.urlpattern_faults.specs.Faults.{IsFaultIn, IsWholeFault};
+ghost use Rattle.urlpattern_faults.specs.Faults.{IsFaultIn, IsUrlFault};
 ghost use Rattle.urlpattern_faults.specs.Places.{IsFaultMoved, IsPlaceOf};
 
-use crate::reason::{OPEN_BRACKET, reason_before_search, reason_of};
+use crate::hint::Hint;
+use crate::reason::{Faulty, reason_of};
 use std::alloc::{AllocError, Global};
-use std::fmt;
 use urlpattern_eight::ComponentName;
-use urlpattern_faults::{Fault, Place, Span};
+use urlpattern_faults::{Fault, Place};
 use urlpattern_syntax::Error;
-use urlpattern_syntax::error::TokenizerError;
-
-/// How many characters of a text are printed at most.
-const WIDTH: usize = 80;
 
 /// What is at fault.
+///
+/// In a list, the number of the pattern is printed unless the base URL is at fault:
+///
+/// ```rust subject
+/// match diagnosis.subject {
+///     Subject::Base => Ok(format!(in alloc; "{diagnosis}\n")?),
+///     _ => Ok(format!(in alloc; "pattern {index}: {diagnosis}\n")?),
+/// }
+/// ```
 #[derive(Debug, Clone, Copy, PartialEq, Eq)]
 pub enum Subject {
     /// The pattern as a whole.
@@ -27,6 +32,19 @@ pub enum Subject {
 }
 
 /// What is wrong with a pattern that is refused: the error, and which part of which text is at fault.
+///
+/// Here `diagnosed` calls `UrlPattern::diagnose`:
+///
+/// ```rust diagnosis
+/// match diagnosed(alloc, pattern, base)? {
+///     Some(diagnosis) => {
+///         let text = format!(in alloc; "{diagnosis}\n");
+///         drop(diagnosis);
+///         Ok(Some(text?))
+///     }
+///     None => Ok(None),
+/// }
+/// ```
 #[derive(Debug, Drop)]
 pub struct Diagnosis {
     /// The error with which the pattern is refused.
@@ -53,7 +71,7 @@ impl Subject {
 }
 
 impl Diagnosis {
-    /// A whole text is at fault.
+    /// A whole text is at fault, or the place where the colon after its scheme is missing.
     ///
     /// The error is that memory ran out.
     pub fn whole(
@@ -65,11 +83,11 @@ impl Diagnosis {
         ensures error { IfOk result (λ diagnosis. diagnosis.error ≡ error) }
         ensures subject { IfOk result (λ diagnosis. diagnosis.subject ≡ subject) }
         ensures text { IfOk result (λ diagnosis. string_bytes diagnosis.text ≡ text.now) }
-        ensures fault { IfOk result (λ diagnosis. IsWholeFault text.now diagnosis.fault) }
+        ensures fault { IfOk result (λ diagnosis. IsUrlFault text.now diagnosis.fault) }
         ensures within { IfOk result (λ diagnosis. IsFaultIn text.now diagnosis.fault) }
     {
-        let fault = Fault::whole(text);
-        Self::of_fault(alloc, error, subject, text, fault, Around::Nothing)
+        let fault = Fault::of_url(text);
+        Self::of_fault(alloc, error, subject, text, fault, Hint::of_url(text))
     }
 
     /// A part of a text has a fault, or the whole text is at fault if it does not have the part.
@@ -96,24 +114,18 @@ impl Diagnosis {
             Some(place) => place.moved(text, part, fault),
             None => Fault::whole(text),
         };
-        let around = if is_in_bracket(&error, subject, part, fault) {
-            Around::Bracket
-        } else if is_before_search(text, part, place) {
-            Around::Search
-        } else {
-            Around::Nothing
-        };
-        Self::of_fault(alloc, error, subject, text, moved, around)
+        let hint = Hint::of_part(&error, subject, text, part, fault, place);
+        Self::of_fault(alloc, error, subject, text, moved, hint)
     }
 
-    /// A text has a fault, which what is around it may explain.
+    /// A text has a fault.
     fn of_fault(
         alloc: Global,
         error: Error,
         subject: Subject,
         text: &str,
         fault: Fault,
-        around: Around,
+        hint: Hint,
     ) -> Result<Self, AllocError>
         requires { IsFaultIn text.now fault }
         ensures error { IfOk result (λ diagnosis. diagnosis.error ≡ error) }
@@ -122,7 +134,17 @@ impl Diagnosis {
         ensures fault { IfOk result (λ diagnosis. diagnosis.fault ≡ fault) }
     {
         let part = &text[fault.span.start..fault.span.end];
-        let reason = full_reason(alloc, &error, part, subject, around)?;
+        let earlier = match fault.earlier {
+            Some(span) => &text[span.start..span.end],
+            None => part,
+        };
+        let faulty = Faulty {
+            subject,
+            part,
+            earlier,
+            hint,
+        };
+        let reason = reason_of(alloc, &error, &faulty)?;
         Ok(Diagnosis {
             error,
             subject,
@@ -131,120 +153,4 @@ impl Diagnosis {
             reason,
         })
     }
-}
-
-/// What explains a fault besides the part at fault.
-#[derive(Clone, Copy)]
-enum Around {
-    /// Nothing does.
-    Nothing,
-    /// A `?` after the pattern begins the search.
-    Search,
-    /// A `[` before a colon is not closed in the pattern of a hostname, so that the colon begins no port.
-    Bracket,
-}
-
-/// Why a part of a text is refused with this error.
-fn full_reason(
-    alloc: Global,
-    error: &Error,
-    part: &str,
-    subject: Subject,
-    around: Around,
-) -> Result<String, AllocError> {
-    match around {
-        Around::Nothing => reason_of(alloc, error, part, subject.name()),
-        Around::Search => {
-            let reason = reason_of(alloc, error, part, subject.name())?;
-            reason_before_search(alloc, error, reason)
-        }
-        Around::Bracket => String::from_str(alloc, OPEN_BRACKET),
-    }
-}
-
-/// Whether a colon gives no name in the pattern of a hostname, after a `[` that is not closed.
-fn is_in_bracket(error: &Error, subject: Subject, part: &str, fault: Fault) -> bool {
-    matches!(error, Error::Tokenizer(TokenizerError::InvalidName, _))
-        && subject == Subject::Component(ComponentName::Hostname)
-        && is_open_at(part, fault.span.start)
-}
-
-/// Whether a `[` before a place is not closed: no `]` follows it.
-fn is_open_at(part: &str, place: usize) -> bool {
-    let mut is_open = false;
-    for (index, byte) in part.as_bytes().iter().enumerate() {
-        match byte {
-            b'[' if index < place => is_open = true,
-            b']' => is_open = false,
-            _ => {}
-        }
-    }
-    is_open
-}
-
-/// Whether a `?` follows a part of a text.
-fn is_before_search(text: &str, part: &str, place: Option<Place>) -> bool {
-    let Some(Place { start, lead }) = place else {
-        return false;
-    };
-    let end = start.saturating_add(part.len().saturating_sub(lead));
-    text.as_bytes().get(end) == Some(&b'?')
-}
-
-/// Prints three lines: the reason, the text, and a line that marks the part at fault by `^` and the one before it that
-/// it is at odds with by `-`.
-///
-/// Of a long text 80 characters are printed. Tabs and line ends are printed as spaces.
-impl fmt::Display for Diagnosis {
-    fn fmt<W: fmt::Write>(&self, f: &mut fmt::Formatter<W>) -> fmt::Result {
-        writeln!(f, "{}", self.reason)?;
-        let skipped = self.skipped();
-        for c in self.text.chars().skip(skipped).take(WIDTH) {
-            let shown = if c.is_control() { ' ' } else { c };
-            write!(f, "{shown}")?;
-        }
-        f.write_str("\n")?;
-        let last = self.fault.span.end.max(self.fault.span.start);
-        for (index, _) in self.text.char_indices().skip(skipped).take(WIDTH) {
-            if index >= last {
-                break;
-            }
-            f.write_str(self.mark(index))?;
-        }
-        if self.fault.span.start >= self.fault.span.end {
-            f.write_str("^")?;
-        }
-        Ok(())
-    }
-}
-
-impl Diagnosis {
-    /// The mark under the character that begins at a byte.
-    fn mark(&self, index: usize) -> &'static str {
-        if has(self.fault.span, index) {
-            return "^";
-        }
-        match self.fault.earlier {
-            Some(earlier) if has(earlier, index) => "-",
-            _ => " ",
-        }
-    }
-
-    /// How many characters are left out at the front of the text, so that the fault is among those that are printed.
-    fn skipped(&self) -> usize {
-        let before = self
-            .text
-            .char_indices()
-            .filter(|(index, _)| *index < self.fault.span.start)
-            .count();
-        if before < WIDTH - WIDTH / 4 {
-            return 0;
-        }
-        before - WIDTH / 2
-    }
-}
-
-/// Whether a span has the byte at an index.
-fn has(span: Span, index: usize) -> bool {
-    span.start <= index && index < span.end
 }

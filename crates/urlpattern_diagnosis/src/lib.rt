@@ -2,10 +2,15 @@
 #![tactic(auto)]
 
 mod diagnosis;
+mod expression;
+mod hint;
+mod host;
+mod printing;
 mod reason;
 mod walk;
 
 pub use diagnosis::{Diagnosis, Subject};
-pub use reason::reason_of;
+pub use expression::fault_of_expression;
+pub use host::fault_of_host;
 pub use urlpattern_faults::{Fault, Place, Span, fault_of, refused_expression, refused_row};
 pub use walk::component_start;

@@ -45,6 +45,13 @@ macro_rules! with_fields {
 }
 
 /// A component of a URL, by the name that it has in the standard. Components are ordered as the standard lists them.
+///
+/// ```rust names
+/// for component in ComponentName::all() {
+///     let name = component.to_string(rt.alloc())?;
+///     assert_eq!(rt; ComponentName::from_name(&name), Some(component));
+/// }
+/// ```
 #[derive(Debug, Clone, Copy, PartialEq, Eq, PartialOrd, Ord, Hash)]
 pub enum ComponentName {
     /// The scheme, without its colon.
@@ -124,6 +131,15 @@ impl fmt::Display for ComponentName {
 }
 
 /// A value for each component.
+///
+/// Here `text_of` finds the text of a component:
+///
+/// ```rust init_of
+/// pub fn init_of(alloc: Global, fields: Fields<'_>) -> Result<UrlPatternInit, Error> {
+///     let texts = Eight::try_from_fn(|name| text_of(alloc, fields, name))?;
+///     Ok(UrlPatternInit::from_eight(texts, None))
+/// }
+/// ```
 #[derive(Debug, Clone, PartialEq, Eq, Drop)]
 pub struct Eight<T> {
     /// The value of the scheme.

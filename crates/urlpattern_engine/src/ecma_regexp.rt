@@ -10,6 +10,16 @@ use urlpattern_core::regexp::RegExp;
 ///
 /// The crate `regex` reads the text once, and what it made of it is kept. The value matches by that, and matches nothing
 /// if `regex` refused the text.
+///
+/// Here `path_of` compiles the component of a path. The engine rejects its regular expression:
+///
+/// ```rust plain
+/// let component: Component<EcmaRegexp> = path_of(alloc, "/(a[)")?;
+/// let plain = UrlPatternComponent::from_component(alloc, component)?;
+/// assert_eq!(rt; plain.pattern_string.as_str(), "/(a[)");
+/// assert_eq!(rt; plain.regexp_string.as_str(), "");
+/// assert_eq!(rt; plain.matcher.inner, middle);
+/// ```
 #[derive(Drop)]
 pub struct EcmaRegexp(String, String, Option<Regex>);
 

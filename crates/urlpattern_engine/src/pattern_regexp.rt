@@ -28,6 +28,17 @@ use urlpattern_walk::walk_by_table;
 ///
 /// It matches by itself each expression of texts and groups as patterns have them, and by an automaton every other that matches
 /// only at the start of a text, as those of patterns do. What is left is matched by a `regex::Regex`.
+///
+/// A type alias names the engine once:
+///
+/// ```rust own_engine
+/// type Pattern = UrlPattern<PatternRegexp>;
+///
+/// /// The pattern of a constructor string.
+/// fn pattern(alloc: Global, text: &str) -> Result<Pattern, Error> {
+///     Pattern::from_constructor_string(alloc, text, None, UrlPatternOptions::default())
+/// }
+/// ```
 #[derive(Drop)]
 pub struct PatternRegexp {
     expression: Expression,

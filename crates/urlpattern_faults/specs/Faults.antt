@@ -1,5 +1,6 @@
 -- Where the pattern text of a component is at fault. Texts are their bytes.
-use Rattle.std.specs.Prelude.{◌≡◌, ℕ, ◌+◌, ◌⊎◌, ◌&&◌, ◌==◌, Bool, true, false, List, [], ◌∷◌, length, map, filter, bytes_eq, Option, Some, None, IsSomeAnd, IfSome, MatchBool, string_bytes}
+use Rattle.std.specs.Prelude.{◌≡◌, ℕ, ◌+◌, ◌⊎◌, ◌&&◌, ◌==◌, Bool, true, false, List, [], ◌∷◌, length, map, filter, bytes_eq, Option, Some, None, IsSomeAnd, IfSome, MatchBool, string_bytes, ◌++◌, ◌≤◌, ◌||◌, MatchOption, codes, if◌then◌else◌, nat_eq}
+use Rattle.std.specs.List.{starts_with}
 use Rattle.std.specs.Str.{chars}
 use Rattle.urlpattern_faults.specs.Spans.{IsSpanAt, IsSpanIn, whole_span}
 use Rattle.urlpattern_faults.specs.declared.fault.Fault.{Fault}
@@ -12,7 +13,8 @@ use Rattle.urlpattern_syntax.specs.declared.parser.stop.Stop.{Stop}
 use Rattle.urlpattern_syntax.specs.declared.tokenizer.TokenType.TheVariants.{EscapedChar, Name, Regexp}
 use Rattle.urlpattern_syntax.specs.Stops.{IsStopOf}
 use Rattle.urlpattern_syntax.specs.declared.tokenizer.{Token.Token, TokenType.TokenType}
-use Rattle.urlpattern_syntax.specs.Tokens.{AreTokens, FaultView, IsFault, TokenView, token_view}
+use Rattle.urlpattern_syntax.specs.Text.{BeginsAt, BeginsWith, byte_len, is_among}
+use Rattle.urlpattern_syntax.specs.Tokens.{AreTokens, FaultView, IncompleteEscapeCode, InvalidName, InvalidRegex, IsFault, IsRegexpFront, TokenView, is_question_mark, token_view}
 
 -- ---- tokens
 
@@ -44,6 +46,63 @@ IsAlone Is fault = Is fault.span × (fault.earlier ≡ None)
 -- the whole text is at fault
 abbrev pub IsWholeFault : (bytes : List ℕ) → Fault → Type 0
 IsWholeFault bytes fault = IsAlone (λ span. span ≡ whole_span bytes) fault
+
+-- ---- where a URL is expected
+
+abbrev pub begins : (bytes front : List ℕ) → Bool
+begins bytes front = starts_with nat_eq bytes front
+
+-- how long the special scheme at the front of a text is, if two slashes follow it: the place where its colon is missing
+abbrev pub missing_colon : (bytes : List ℕ) → Option ℕ
+missing_colon bytes =
+    if begins bytes (codes "https//") then Some 5
+    else if begins bytes (codes "http//") || begins bytes (codes "file//") then Some 4
+    else if begins bytes (codes "wss//") || begins bytes (codes "ftp//") then Some 3
+    else if begins bytes (codes "ws//") then Some 2
+    else None
+
+-- the place where the colon after a scheme is missing is at fault, or else the whole text
+abbrev pub IsUrlFault : (bytes : List ℕ) → Fault → Type 0
+IsUrlFault bytes fault =
+    MatchOption (missing_colon bytes) (IsWholeFault bytes fault) (λ place. IsAlone (IsSpanAt bytes place 0) fault)
+
+-- ---- where no token begins
+
+-- this is left of what follows a `(`, after a front that may be there before a fault
+abbrev pub IsAfterFront : (rest left : List ℕ) → Type 0
+IsAfterFront rest left = (front : List ℕ) × IsRegexpFront front × (rest ≡ front ++ left)
+
+-- A custom expression does not go on with so many bytes at the front of this: a character that is not ASCII, that after a backslash,
+-- or a `(` that no `?` follows.
+abbrev pub IsRefusedFront : (left : List ℕ) → (len : ℕ) → Type 0
+IsRefusedFront left len =
+    ((c : ℕ) × (more : List ℕ) × (left ≡ c ∷ more) × (128 ≤ c) × (len ≡ byte_len (c ∷ [])))
+    ⊎ ((c : ℕ) × (more : List ℕ) × (left ≡ codes "\\" ++ c ∷ more) × (128 ≤ c) × (len ≡ 1 + byte_len (c ∷ [])))
+    ⊎ ((more : List ℕ) × (left ≡ codes "(" ++ more) × ¬ BeginsWith is_question_mark more × (len ≡ 1))
+
+-- What follows a `(` at this place is no custom expression: it is empty, or begins with `?`; or it does not end, and the `(` is
+-- at fault; or else a part of it is at fault, and at odds with the `(`.
+abbrev pub IsBodyFault : (bytes : List ℕ) → (place : ℕ) → (rest : List ℕ) → Fault → Type 0
+IsBodyFault bytes place rest fault =
+    (BeginsWith (is_among (codes "?)")) rest × IsAlone (IsSpanAt bytes place 2) fault)
+    ⊎ (IsRegexpFront rest × IsAlone (IsSpanAt bytes place 1) fault)
+    ⊎ ((left : List ℕ) × (start len : ℕ) × IsAfterFront rest left × IsRefusedFront left len × BeginsAt (chars bytes) left start
+    × IsSpanAt bytes start len fault.span × IsSomeAnd fault.earlier (IsSpanAt bytes place 1))
+
+-- At this place, where `left` begins, no token begins for this reason: a backslash at the end is at fault, a colon, or a custom expression.
+abbrev pub IsTokenFault : (bytes : List ℕ) → (place : ℕ) → (left : List ℕ) → FaultView → Fault → Type 0
+IsTokenFault bytes place left IncompleteEscapeCode fault =
+    (start : ℕ) × BeginsAt (chars bytes) (codes "\\") start × IsAlone (IsSpanAt bytes start 1) fault
+IsTokenFault bytes place left InvalidName fault = IsAlone (IsSpanAt bytes place 1) fault
+IsTokenFault bytes place left (InvalidRegex reported) fault =
+    (rest : List ℕ) × (left ≡ codes "(" ++ rest) × IsBodyFault bytes place rest fault
+
+-- this is the first fault of the text, and what is at fault there
+abbrev pub HasTokenFault : (bytes : List ℕ) → FaultView → (place : ℕ) → Fault → Type 0
+HasTokenFault bytes reported place fault =
+    (is : IsFault (chars bytes) reported place) × IsTokenFault bytes place is.left reported fault
+
+-- ---- where the tokens are no pattern
 
 -- the token at which the pieces end is at fault, and before it the brace of a group that lacks its end
 abbrev pub IsStopFault : (bytes : List ℕ) → Stop → Fault → Type 0
@@ -78,8 +137,8 @@ IsFaultOfError bytes point (errors.Parser error) fault =
     (stop : Stop) × IsStopOf (chars bytes) point (token_view stop.first) (token_view stop.found) × IsParserFault bytes stop error fault
 IsFaultOfError bytes point other fault = IsWholeFault bytes fault
 
--- The first character that begins no token is at fault. If each begins one, the error decides.
+-- Where the first character begins no token is the fault. If each begins one, the error decides.
 abbrev pub IsFaultOf : (bytes point : List ℕ) → Error → Fault → Type 0
 IsFaultOf bytes point error fault =
-    ((reported : FaultView) × (place : ℕ) × IsFault (chars bytes) reported place × IsAlone (IsSpanAt bytes place 1) fault)
+    ((reported : FaultView) × (place : ℕ) × HasTokenFault bytes reported place fault)
     ⊎ (((tokens : List TokenView) × AreTokens (chars bytes) tokens) × IsFaultOfError bytes point error fault)

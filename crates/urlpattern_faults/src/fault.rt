@@ -1,22 +1,35 @@
 //! Where the pattern text of a component is at fault.
 ghost use Rattle.std.specs.Prelude.{◌≡◌, ℕ, IfOk, IfSome, None, filter, map};
 ghost use Rattle.std.specs.Str.{chars};
-ghost use Rattle.urlpattern_faults.specs.Faults.{IsFaultIn, IsFaultOf, IsParserFault, IsSecondFault, IsSpanOfToken, IsStopFault, IsWholeFault, gives_name, marks_len};
+ghost use Rattle.urlpattern_faults.specs.Faults.{IsFaultIn, IsFaultOf, IsParserFault, IsSecondFault, IsSpanOfToken, IsStopFault, IsUrlFault, IsWholeFault, gives_name, marks_len, missing_colon};
 ghost use Rattle.urlpattern_faults.specs.Spans.{IsSpanIn};
 ghost use Rattle.urlpattern_syntax.specs.Tokens.{AreTokens, token_view};
 
 use crate::span::Span;
+use crate::token::token_fault;
 use std::alloc::Global;
 use urlpattern_syntax::error::{Error, OutOfMemory, ParserError};
 use urlpattern_syntax::parser::Stop;
 use urlpattern_syntax::tokenizer::{Token, TokenType, TokenizePolicy, tokenize};
 
 /// Where a text is at fault.
+///
+/// A test compares the spans of a diagnosis with recorded ones:
+///
+/// ```rust fault
+/// Ok(
+///     are_lines
+///         && has_text(recorded, "subject", diagnosis.subject.name())
+///         && is_span(recorded, "span", Some(diagnosis.fault.span))
+///         && is_span(recorded, "earlier", diagnosis.fault.earlier),
+/// )
+/// ```
 #[derive(Debug, Clone, Copy, PartialEq, Eq)]
 pub struct Fault {
     /// The part at fault.
     pub span: Span,
-    /// The part before it that it is at odds with: the first of two equal names, or the brace of a group that lacks its end.
+    /// The part before it that it is at odds with: the first of two equal names, the brace of a group that lacks its end, or the
+    /// parenthesis of a custom expression.
     pub earlier: Option<Span>,
 }
 
@@ -30,6 +43,37 @@ impl Fault {
             span: Span::whole(text),
             earlier: None,
         }
+    }
+}
+
+impl Fault {
+    /// The place in a text where the colon after a special scheme is missing, or else the whole text, which is no URL.
+    pub fn of_url(text: &str) -> Self
+        ensures fault { IsUrlFault text.now result }
+        ensures within { IsFaultIn text.now result }
+    {
+        match missing_colon(text) {
+            Some(place) => Fault::of_span(Span::at(text, place, 0)),
+            None => Fault::whole(text),
+        }
+    }
+}
+
+/// How long the special scheme at the front of a text is, if two slashes follow it, and so its colon is missing.
+pub fn missing_colon(text: &str) -> Option<usize>
+    ensures { result ≡ missing_colon text.now }
+{
+    let bytes = text.as_bytes();
+    if bytes.starts_with(b"https//") {
+        Some(5)
+    } else if bytes.starts_with(b"http//") || bytes.starts_with(b"file//") {
+        Some(4)
+    } else if bytes.starts_with(b"wss//") || bytes.starts_with(b"ftp//") {
+        Some(3)
+    } else if bytes.starts_with(b"ws//") {
+        Some(2)
+    } else {
+        None
     }
 }
 
@@ -59,11 +103,10 @@ pub fn fault_of(
 {
     let stop = match Stop::of(alloc, text, prefix_code_point) {
         Ok(stop) => stop,
-        Err(Error::Tokenizer(_, place)) => {
-            return Ok(Fault {
-                span: Span::at(text, place, 1),
-                earlier: None,
-            });
+        Err(Error::Tokenizer(fault, place)) => {
+            let found = token_fault(text, place, &fault);
+            drop(fault);
+            return Ok(found);
         }
         Err(_) => return Err(OutOfMemory),
     };

@@ -5,8 +5,9 @@ mod fault;
 mod parts;
 mod place;
 mod span;
+mod token;
 
-pub use fault::{Fault, fault_of};
+pub use fault::{Fault, fault_of, missing_colon};
 pub use parts::{refused_expression, refused_row};
 pub use place::Place;
 pub use span::Span;

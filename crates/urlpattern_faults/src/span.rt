@@ -3,6 +3,18 @@ ghost use Rattle.std.specs.Prelude.{◌≡◌, length};
 ghost use Rattle.urlpattern_faults.specs.Spans.{IsSpanAt, IsSpanIn, whole_span};
 
 /// A part of a text, by the byte indices of its first character and of what follows its last.
+///
+/// A test compares a span, if there is one, with a recorded list of two numbers:
+///
+/// ```rust span
+/// match (list(recorded, name), span) {
+///     (Ok([start, end]), Some(span)) => {
+///         start.as_u64() == Some(span.start as u64) && end.as_u64() == Some(span.end as u64)
+///     }
+///     (Err(_), None) => true,
+///     _ => false,
+/// }
+/// ```
 #[derive(Debug, Clone, Copy, PartialEq, Eq)]
 pub struct Span {
     /// Where it begins.

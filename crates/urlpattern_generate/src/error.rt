@@ -7,6 +7,18 @@ use std::alloc::AllocError;
 use urlpattern_eight::ComponentName;
 
 /// Why a pattern has no text with the groups that are given.
+///
+/// A test compares an error with the recorded one:
+///
+/// ```rust generate_error
+/// GenerateError::NotCaptured(component, name) => Ok(
+///     is_refused(recorded, "not captured", *component) && has_text(recorded, "group", name),
+/// ),
+/// GenerateError::ReadOtherwise(component) => {
+///     Ok(is_refused(recorded, "read otherwise", *component))
+/// }
+/// GenerateError::OutOfMemory => Err(Fault::OutOfMemory),
+/// ```
 #[derive(Debug, PartialEq, Eq, Drop)]
 pub enum GenerateError {
     /// The group of this name is not given, and may not be left out.

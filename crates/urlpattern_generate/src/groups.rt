@@ -8,6 +8,18 @@ ghost use Rattle.urlpattern_syntax.specs.Text.{option_text};
 use urlpattern_eight::ComponentName;
 
 /// The text that is given for a group: the component, the name of the group, and the text.
+///
+/// The text for the group `id` of the path:
+///
+/// ```rust user_link
+/// let url = match self
+///     .pattern
+///     .link(alloc, &[(ComponentName::Pathname, "id", id)])
+/// {
+///     Ok(url) => url,
+///     Err(error) => return Err(error),
+/// };
+/// ```
 pub type GivenGroup<'g> = (ComponentName, &'g str, &'g str);
 
 /// The first text that is given for the group of a name. `None`: there is none.

@@ -14,6 +14,14 @@ use urlpattern_eight::{ComponentName, Eight, field_of, with_fields};
 
 /// The components of a URL pattern, each with its own pattern, or those of a URL to be matched.
 ///
+/// Here `Pattern` is `UrlPattern<PatternRegexp>`:
+///
+/// ```rust init
+/// let mut init = UrlPatternInit::default();
+/// init.pathname = Some(String::from_str(alloc, "/users/:id")?);
+/// let users = Pattern::parse(alloc, init, UrlPatternOptions::default())?;
+/// ```
+///
 /// <https://urlpattern.spec.whatwg.org/#dictdef-urlpatterninit>
 #[derive(Debug, Default, Clone, PartialEq, Eq, Drop)]
 pub struct UrlPatternInit {
@@ -55,6 +63,14 @@ impl UrlPatternInit {
 }
 
 /// What a pattern is matched against.
+///
+/// Here `url_of` parses a URL:
+///
+/// ```rust url_input
+/// pub fn url_input(alloc: Global, text: &str) -> Result<UrlPatternMatchInput, Error> {
+///     Ok(UrlPatternMatchInput::Url(url_of(alloc, text)?))
+/// }
+/// ```
 ///
 /// <https://urlpattern.spec.whatwg.org/#typedefdef-urlpatterninput>
 #[derive(Debug, Clone, PartialEq, Eq, Drop)]

@@ -19,6 +19,16 @@ use urlpattern_syntax::Error;
 
 /// The patterns of a URL's components, or its texts, and the text of a base URL. What is not given is `None`.
 ///
+/// Here `fields` is JSON with a string or an init:
+///
+/// ```rust given
+/// if let Some(text) = optional_text(fields, "string") {
+///     return Ok(StringOrInit::String(CowStr::Borrowed(text)));
+/// }
+/// let init = read(UrlPatternInit::from_json_value(alloc, field(fields, "init")?))?;
+/// Ok(StringOrInit::Init(init))
+/// ```
+///
 /// <https://urlpattern.spec.whatwg.org/#dictdef-urlpatterninit>
 #[derive(Debug, Default, Clone, PartialEq, Eq, Drop, Serialize, Deserialize)]
 pub struct UrlPatternInit {

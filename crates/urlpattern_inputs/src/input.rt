@@ -15,6 +15,16 @@ use urlpattern_syntax::Error;
 
 /// What a pattern, or what is matched against one, is given as.
 ///
+/// Here `fields` is JSON with a string or an init:
+///
+/// ```rust given
+/// if let Some(text) = optional_text(fields, "string") {
+///     return Ok(StringOrInit::String(CowStr::Borrowed(text)));
+/// }
+/// let init = read(UrlPatternInit::from_json_value(alloc, field(fields, "init")?))?;
+/// Ok(StringOrInit::Init(init))
+/// ```
+///
 /// <https://urlpattern.spec.whatwg.org/#typedefdef-urlpatterninput>
 #[derive(Debug, Clone, PartialEq, Eq, Drop)]
 pub enum StringOrInit<'a> {

@@ -16,6 +16,15 @@ use urlpattern_eight::{ComponentName, Eight, field_of, with_fields};
 use urlpattern_syntax::Error;
 
 /// The texts of the components that a pattern is matched against.
+///
+/// The JSON of eight empty texts:
+///
+/// ```rust texts
+/// let texts = MatchInput::default(alloc);
+/// let tree = texts.to_json_value(alloc);
+/// drop(texts);
+/// tree
+/// ```
 #[derive(Debug, Clone, PartialEq, Eq, Drop, Serialize, Deserialize)]
 pub struct MatchInput {
     /// The scheme, without a colon.

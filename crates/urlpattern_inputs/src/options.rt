@@ -12,6 +12,12 @@ use urlpattern_syntax::{Error, RegexSyntax};
 
 /// How a whole pattern is built. The default is the syntax of Rust's `regex`, with case kept.
 ///
+/// ```rust new_users
+/// let options = UrlPatternOptions::default();
+/// let pattern = UrlPattern::from_constructor_string(alloc, router::USERS, None, options)?;
+/// Ok(Self { pattern })
+/// ```
+///
 /// <https://urlpattern.spec.whatwg.org/#dictdef-urlpatternoptions>
 #[derive(Debug, Default, Clone, PartialEq, Eq, Drop, Serialize, Deserialize)]
 #[serde(rename_all = "camelCase")]

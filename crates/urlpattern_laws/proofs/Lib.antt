@@ -6,3 +6,5 @@ pub mod FoldedMatchers
 pub mod FoldedWays
 pub mod EcmaMatchers
 pub mod RegexGroups
+pub mod AskedCaptures
+pub mod LinkedTexts

@@ -1,3 +1,4 @@
 pub mod Folded
+pub mod LinkLaws
 pub mod Outcomes
 pub mod PatternLaws

@@ -7,6 +7,7 @@ ghost use Rattle.urlpattern_pattern.specs.ByText.{MakesFirstWays};
 ghost use Rattle.urlpattern_engine.specs.EcmaRegexps.{KeepsRegex, ecma_engine};
 ghost use Rattle.urlpattern_laws.specs.PatternLaws.{AnswersMeanTheParts, FirstResultsAreOne, MatchesAreOne, RegexMeetsPremises, RegexResultsAreFirst, TestsAgree, TestsAreOne};
 ghost use Rattle.urlpattern_laws.specs.Folded.{FoldedFirstsAreAnswered, FoldedWaysAreAnswered};
+ghost use Rattle.urlpattern_laws.specs.LinkLaws.{LinksAreOne, LinksDiffer, LinksOfCapturesAreTheTexts};
 ghost use Rattle.urlpattern_laws.specs.Outcomes.{DecidesGenerated, FirstWaysDecide, InitRefusalsAreOne, InitsHaveOutcomes, InitsHaveValues, PatternsExcludeRefusals};
 ghost use Rattle.urlpattern_pattern.specs.ByTextLaws.{CompiledHaveMeaning, FindingsAreByText, FindingsAreOne, InputFindingsAreByText, PatternsAnswerAlike, PatternsAnswerByText, ReadingsAsAreOne, TakenPatternsAnswerByText};
 ghost use Rattle.urlpattern_core.specs.FirstWays.{EachAnswersFirst};
@@ -135,4 +136,21 @@ pub fn folded_ways_are_answered<R: RegExp>()
 /// and folded they are those of the first way in which they do.
 pub fn first_ways_are_answered_where_case_is_ignored()
     ensures { FoldedFirstsAreAnswered pattern_engine }
+{}
+
+/// There is one link with given groups, and links whose groups are to capture different texts of a component have different texts
+/// there.
+///
+/// What groups are to capture are canonical forms: `é` and `%C3%A9` are the same text of a path.
+pub fn links_differ_by_their_groups<R: RegExp>()
+    ensures one { LinksAreOne R.answer }
+    ensures differ { LinksDiffer R.answer }
+{}
+
+/// A link whose groups are given what they captured of eight texts has these texts.
+///
+/// It is asked of each component that the parts of its pattern text mean its text, with these captures; that no fixed text has a
+/// modifier, since its copies are not captured; and that each text that was captured is its own canonical form.
+pub fn links_of_captures_are_the_texts<R: RegExp>()
+    ensures { LinksOfCapturesAreTheTexts R.answer }
 {}

@@ -2,3 +2,4 @@ pub mod MatchInputLemmas
 pub mod GroupLemmas
 pub mod NameOrder
 pub mod ResultJsonLemmas
+pub mod TakenLemmas

@@ -1,6 +1,6 @@
 -- A match that is borrowed from the pattern and from what it matches, as a result.
-use Rattle.std.specs.Prelude.{ℕ, List, ◌++◌, map, zip, IfOk, IfSome, Option, Result}
-use Rattle.std.specs.{Borrow.Bor, List.flat_map, Slice.Iter.iter_rest, Str.chars}
+use Rattle.std.specs.Prelude.{ℕ, List, ◌++◌, map, zip, IfOk, IfSome, Option, Result, option_map}
+use Rattle.std.specs.{Borrow.Bor, List.filter_map, List.flat_map, Slice.Iter.iter_rest, Str.chars}
 use Rattle.urlpattern_eight.specs.declared.eight.ComponentName.{ComponentName}
 use Rattle.urlpattern_matches.specs.declared.captures.UrlPatternCaptures.{UrlPatternCaptures}
 use Rattle.urlpattern_matches.specs.declared.captures.groups.UrlPatternCapturesIter.{UrlPatternCapturesIter}
@@ -46,6 +46,22 @@ all_groups_view found components = flat_map (λ component. named_groups componen
 abbrev pub all_groups_left : UrlPatternCapturesIter → List NamedGroup
 all_groups_left groups =
     named_groups groups.component (groups_left groups.groups) ++ all_groups_view groups.captures.now (iter_rest groups.components)
+
+-- ---- the groups that took part
+
+-- a group that took part, with what it captured
+abbrev pub GroupText : Type 0
+GroupText = ComponentName × List ℕ × List ℕ
+
+abbrev pub text_captured : NamedGroup → Option GroupText
+text_captured group = option_map (λ text. (group.0, group.1, text)) group.2
+
+-- of these groups those that took part
+abbrev pub texts_captured : List NamedGroup → List GroupText
+texts_captured groups = filter_map text_captured groups
+
+abbrev pub lent_group : ComponentName × Bor (List ℕ) × Bor (List ℕ) → GroupText
+lent_group group = (group.0, chars group.1.now, chars group.2.now)
 
 -- ---- results
 

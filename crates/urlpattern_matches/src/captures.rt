@@ -3,7 +3,7 @@ ghost use Rattle.std.specs.Prelude.{◌≡◌, map, option_map, IfOk};
 ghost use Rattle.std.specs.Str.{chars};
 ghost use Rattle.urlpattern_eight.specs.declared.eight.ComponentName.{ComponentName as Name};
 ghost use Rattle.urlpattern_matches.specs.declared.captures.Missed.TheVariants as all_missed;
-ghost use Rattle.urlpattern_matches.specs.BorrowedMatches.{all_groups_left, all_groups_view, groups_left, groups_view, pattern_captures_view};
+ghost use Rattle.urlpattern_matches.specs.BorrowedMatches.{all_groups_left, all_groups_view, groups_left, groups_view, lent_group, pattern_captures_view, texts_captured};
 ghost use Rattle.urlpattern_matches.specs.GroupTexts.{IsCapturedOf, captures_of, texts_of, HasNoGroups, IsWithoutGroups};
 ghost use Rattle.urlpattern_matches.specs.ResultViews.{captured_text, component_result_view, group_of, result_view, took_part, IsSameResult};
 ghost use Rattle.urlpattern_syntax.specs.Text.{option_text};
@@ -25,6 +25,15 @@ use urlpattern_eight::{ComponentName, Eight};
 /// A match whose names are borrowed from the pattern, and whose texts and captures from what it matches.
 ///
 /// `UrlPattern::captures` returns it.
+///
+/// The groups of the path `/a/b`, which `/a/:x{/:y}?` matches:
+///
+/// ```rust groups
+/// let mut groups = found.groups(ComponentName::Pathname);
+/// assert_eq!(rt; groups.next(), Some(("x", Some("b"))));
+/// assert_eq!(rt; groups.next(), Some(("y", None)));
+/// assert_eq!(rt; groups.next(), None);
+/// ```
 #[derive(Debug, Clone)]
 pub struct UrlPatternCaptures<'p, 'u> {
     /// The names of the groups.
@@ -73,6 +82,15 @@ impl<'p, 'u> UrlPatternCaptures<'p, 'u> {
 
     /// What the group of a name captured, a slice of the component's text. `None`: there is no such group, or it took no part.
     /// Of equal names the last counts.
+    ///
+    /// Here `users` is compiled from `https://example.com/users/:id`, and `ID` is the text `id`:
+    ///
+    /// ```rust user
+    /// let Some(found) = users.captures(alloc, url)? else {
+    ///     return Ok(None);
+    /// };
+    /// Ok(found.get(ComponentName::Pathname, ID))
+    /// ```
     pub fn get(&self, component: ComponentName, name: &str) -> Option<&'u str>
         ensures { option_text result ≡ captured_text (pattern_captures_view self.now component) (chars name.now) }
     {
@@ -112,6 +130,25 @@ impl<'p, 'u> UrlPatternCaptures<'p, 'u> {
         ensures { all_groups_left result ≡ all_groups_view self.now components }
     {
         UrlPatternCapturesIter::new(self)
+    }
+
+    /// The groups that took part, in the order of `iter`: each component and name, with what the group captured, as
+    /// `UrlPattern::link` and `generate` take them.
+    ///
+    /// The error is that memory ran out.
+    pub fn to_groups(&self, alloc: Global) -> Result<Vec<(ComponentName, &'p str, &'u str)>, Error>
+        ensures all { IfOk result (λ groups. map lent_group groups.items ≡ texts_captured (all_groups_view self.now components)) }
+        ensures memory { OnlyOutOfMemory result }
+    {
+        let mut groups = Vec::new(alloc);
+        for (component, name, capture) in self.iter() {
+            if let Some(text) = capture {
+                if groups.push((component, name, text)).is_err() {
+                    return Err(Error::OutOfMemory);
+                }
+            }
+        }
+        Ok(groups)
     }
 
     /// The match with copies of its texts, names and captures, as `UrlPattern::exec` returns it.

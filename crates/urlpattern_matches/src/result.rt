@@ -19,6 +19,13 @@ use urlpattern_eight::{ComponentName, Eight, field_of, with_fields};
 
 /// The result of a match, for each component.
 ///
+/// The path `/1/2`, which `/:b/:a{/:c}?` matches:
+///
+/// ```rust result
+/// assert_eq!(rt; found.get(ComponentName::Pathname, "a"), Some("2"));
+/// assert_eq!(rt; found.get(ComponentName::Search, "a"), None);
+/// ```
+///
 /// <https://urlpattern.spec.whatwg.org/#dictdef-urlpatternresult>
 #[derive(Debug, Clone, PartialEq, Eq, Drop)]
 pub struct UrlPatternResult {
@@ -41,6 +48,17 @@ pub struct UrlPatternResult {
 }
 
 /// The result of a match for one component.
+///
+/// Here `groups` lists the names in order, each with its capture:
+///
+/// ```rust sorted_names
+/// let names = found.sorted_names(alloc)?;
+/// assert_eq!(rt; names.len(), groups.len());
+/// for (name, (expected, captured)) in names.iter().zip(groups) {
+///     assert_eq!(rt; name, expected);
+///     assert_eq!(rt; found.get(name), *captured, "of {name:?}");
+/// }
+/// ```
 ///
 /// <https://urlpattern.spec.whatwg.org/#dictdef-urlpatterncomponentresult>
 #[derive(Debug, Clone, PartialEq, Eq, Drop)]

@@ -22,6 +22,17 @@ use urlpattern_eight::{ComponentName, Eight, field_of, with_fields};
 ///
 /// Its components may also be put together by hand. It has a `Drop` of its own, so they are moved out together, by `into_eight`.
 ///
+/// A type alias names the engine once:
+///
+/// ```rust own_engine
+/// type Pattern = UrlPattern<PatternRegexp>;
+///
+/// /// The pattern of a constructor string.
+/// fn pattern(alloc: Global, text: &str) -> Result<Pattern, Error> {
+///     Pattern::from_constructor_string(alloc, text, None, UrlPatternOptions::default())
+/// }
+/// ```
+///
 /// <https://urlpattern.spec.whatwg.org/#url-pattern>
 #[derive(Debug)]
 pub struct UrlPattern<R: RegExp = regex::Regex> {

@@ -13,6 +13,18 @@ use urlpattern_covers::{Covering, Overlap, Reason};
 use urlpattern_eight::{ComponentName, Eight};
 
 /// The parts of a pattern's eight components.
+///
+/// Here `pattern` compiles a constructor string:
+///
+/// ```rust parts
+/// let init = UrlPatternInit::parse_constructor_string::<PatternRegexp>(alloc, text, None)?;
+/// let options = UrlPatternOptions::default();
+/// let pattern = pattern(alloc, text)?;
+/// let parts = parts_of(alloc, &pattern, &init, &options);
+/// drop(pattern);
+/// drop(init);
+/// parts
+/// ```
 #[derive(Debug, Drop)]
 pub struct PatternParts {
     /// Those of each component.
@@ -20,6 +32,19 @@ pub struct PatternParts {
 }
 
 /// Eight texts in which two patterns part.
+///
+/// The component, and the length of its text:
+///
+/// ```rust parting
+/// PatternCovering::NotCovered(parting) => {
+///     let name = parting.component;
+///     let length = parting.texts.get(name).chars().count();
+///     Ok(
+///         has_text(recorded, "component", name.as_str())
+///             && recorded.get("length").and_then(Value::as_u64) == Some(length as u64),
+///     )
+/// }
+/// ```
 #[derive(Debug, Drop)]
 pub struct Parting {
     /// A component whose text the one pattern does not mean.
@@ -29,6 +54,19 @@ pub struct Parting {
 }
 
 /// Whether a pattern covers another one.
+///
+/// A test compares the length of a text that is not covered with the recorded one:
+///
+/// ```rust parting
+/// PatternCovering::NotCovered(parting) => {
+///     let name = parting.component;
+///     let length = parting.texts.get(name).chars().count();
+///     Ok(
+///         has_text(recorded, "component", name.as_str())
+///             && recorded.get("length").and_then(Value::as_u64) == Some(length as u64),
+///     )
+/// }
+/// ```
 #[derive(Debug, Drop)]
 pub enum PatternCovering {
     /// It means whatever the asked one means.
@@ -40,6 +78,17 @@ pub enum PatternCovering {
 }
 
 /// Whether two patterns overlap.
+///
+/// ```rust overlap
+/// match overlap {
+///     PatternOverlap::Apart => Ok(recorded.as_str() == Some("apart")),
+///     PatternOverlap::Common(texts) => {
+///         let length = texts.pathname.chars().count();
+///         Ok(recorded.as_u64() == Some(length as u64))
+///     }
+///     PatternOverlap::Unknown(name, reason) => is_unknown(name, reason, recorded),
+/// }
+/// ```
 #[derive(Debug, Drop)]
 pub enum PatternOverlap {
     /// No eight texts are meant by both.

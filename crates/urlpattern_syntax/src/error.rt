@@ -13,6 +13,17 @@ use std::alloc::{AllocError, AllocFailed};
 use std::{error, fmt};
 
 /// Why a pattern could not be built or matched.
+///
+/// An error is printed by its `Display`:
+///
+/// ```rust write_line
+/// fn write_line<W: Write>(out: &mut W, line: Result<String, Error>) -> io::Result<()> {
+///     match line {
+///         Ok(line) => writeln!(out, "{line}"),
+///         Err(error) => writeln!(out, "{error}"),
+///     }
+/// }
+/// ```
 #[derive(Debug, PartialEq, Eq, Drop)]
 pub enum Error {
     /// A relative input was given with no base URL.

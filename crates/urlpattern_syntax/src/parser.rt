@@ -33,6 +33,18 @@ pub use stop::Stop;
 pub const FULL_WILDCARD_REGEXP_VALUE: &str = ".*";
 
 /// The syntax of generated regular expressions.
+///
+/// In JSON a syntax is its name:
+///
+/// ```rust syntax
+/// for (syntax, json) in [
+///     (RegexSyntax::Rust, "\"Rust\""),
+///     (RegexSyntax::EcmaScript, "\"EcmaScript\""),
+/// ] {
+///     assert_eq!(rt; serde_json::to_string(alloc, &syntax)?.as_str(), json);
+///     assert_eq!(rt; serde_json::from_str::<RegexSyntax>(alloc, json)?, syntax);
+/// }
+/// ```
 #[derive(Clone, Copy, Debug, Default, PartialEq, Eq, Deserialize, Serialize)]
 pub enum RegexSyntax {
     /// That of Rust's crate `regex`, which takes no escaped slash. The default.
@@ -43,6 +55,14 @@ pub enum RegexSyntax {
 }
 
 /// How one component's pattern text is read.
+///
+/// ```rust options
+/// let options = Options {
+///     regex_syntax: RegexSyntax::EcmaScript,
+///     ignore_case: true,
+///     ..Options::pathname(alloc)?
+/// };
+/// ```
 ///
 /// <https://urlpattern.spec.whatwg.org/#options-header>
 #[derive(Debug, Clone, Drop)]
@@ -115,6 +135,16 @@ impl fmt::Display for PartModifier {
 }
 
 /// A part of a pattern.
+///
+/// Here `printed_and_read` prints parts and parses the text again:
+///
+/// ```rust printed
+/// let options = Options::pathname(alloc)?;
+/// let copied = |text: &str| -> Result<String, Error> { Ok(String::from_str(alloc, text)?) };
+/// let parts = parse_pattern_string(alloc, "/users/:id([^/]+?)/edit", &options, copied)?;
+/// let again = printed::printed_and_read(alloc, &parts, &options)?;
+/// generate_pattern_string(alloc, &again, &options)
+/// ```
 ///
 /// <https://urlpattern.spec.whatwg.org/#part>
 #[derive(Debug, Drop)]

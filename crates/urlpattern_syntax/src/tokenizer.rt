@@ -66,6 +66,16 @@ impl TokenType {
 
 /// A token: what it is, where it stands, and its value.
 ///
+/// ```rust tokens
+/// let tokens = tokenize(rt.alloc(), "/users/:id", TokenizePolicy::Strict)?;
+/// for token in &tokens {
+///     let copy = token.clone()?;
+///     assert_eq!(rt; copy.kind, token.kind);
+///     assert_eq!(rt; copy.index, token.index);
+///     assert_eq!(rt; copy.value, token.value);
+/// }
+/// ```
+///
 /// <https://urlpattern.spec.whatwg.org/#token>
 #[derive(Debug, Clone, Copy)]
 pub struct Token<'a> {

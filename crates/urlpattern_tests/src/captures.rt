@@ -37,15 +37,19 @@ fn expect_borrowed(rt: &impl Abort, found: &UrlPatternCaptures<'_, '_>) {
 
 /// Compares the groups of a component, and those of all, in their order.
 fn expect_groups(rt: &impl Abort, found: &UrlPatternCaptures<'_, '_>) {
+    // docs: groups
     let mut groups = found.groups(ComponentName::Pathname);
     assert_eq!(rt; groups.next(), Some(("x", Some("b"))));
     assert_eq!(rt; groups.next(), Some(("y", None)));
     assert_eq!(rt; groups.next(), None);
+    // docs: end
+    // docs: all_groups
     let mut groups = found.iter();
     for group in EACH {
         assert_eq!(rt; groups.next(), Some(*group));
     }
     assert_eq!(rt; groups.next(), None);
+    // docs: end
 }
 
 /// Compares a match and its copy.
@@ -64,6 +68,23 @@ fn expect_copied(
     Ok(())
 }
 
+/// Compares the link of the groups that took part with the URL.
+fn expect_linked(
+    rt: &impl Abort,
+    alloc: Global,
+    pattern: &UrlPattern,
+    url: &Url,
+    found: &UrlPatternCaptures<'_, '_>,
+) -> Result<(), Error> {
+    let groups = found.to_groups(alloc)?;
+    assert!(rt; groups.len() < EACH.len());
+    match pattern.link(alloc, &groups) {
+        Ok(link) => assert_eq!(rt; link.as_str(), url.as_str()),
+        Err(_) => panic!(rt; "no link"),
+    }
+    Ok(())
+}
+
 /// Compares the match of a URL by a pattern.
 fn expect_match(
     rt: &impl Abort,
@@ -73,7 +94,10 @@ fn expect_match(
 ) -> Result<(), Error> {
     let found = pattern.captures(alloc, url)?;
     let outcome = match &found {
-        Some(found) => expect_copied(rt, alloc, found),
+        Some(found) => match expect_copied(rt, alloc, found) {
+            Ok(()) => expect_linked(rt, alloc, pattern, url, found),
+            Err(error) => Err(error),
+        },
         None => panic!(rt; "no match"),
     };
     drop(found);
@@ -93,31 +117,4 @@ fn a_match_is_borrowed(rt: HostRuntime) -> Result<(), Fail> {
     drop(url);
     outcome?;
     Ok(())
-}
-
-/// Whether a pattern matches a URL. A request for memory that is refused is no match.
-fn has_match(alloc: Global, pattern: &UrlPattern, url: &Url) -> bool {
-    let found = pattern.captures(alloc, url);
-    let has_match = matches!(&found, Ok(Some(_)));
-    drop(found);
-    has_match
-}
-
-/// Whether a URL is matched without an engine. The error is that there was no memory for the pattern or for the URL.
-fn is_found(alloc: Global) -> Result<bool, Error> {
-    let url = url_of(alloc, "https://example.com/users/123")?;
-    let pattern = pattern_of(alloc, &[("pathname", "/users/:id")])?;
-    let is_found = has_match(alloc, &pattern, &url);
-    drop(pattern);
-    drop(url);
-    Ok(is_found)
-}
-
-/// Holds whichever request for memory is refused. Those are of the pattern and of the URL, and none is of the match.
-#[test]
-fn a_match_without_an_engine_asks_for_no_memory(rt: HostRuntime) {
-    match is_found(rt.alloc()) {
-        Ok(is_found) => assert!(rt; is_found),
-        Err(error) => assert!(rt; matches!(error, Error::OutOfMemory)),
-    }
 }

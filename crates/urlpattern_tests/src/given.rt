@@ -3,7 +3,7 @@
 use std::alloc::{AllocError, Global};
 use url::{ParseError, Url};
 use urlpattern::component::Component;
-use urlpattern::parser::Options;
+use urlpattern::parser::{Options, Part, parse_pattern_string};
 use urlpattern::regexp::RegExp;
 use urlpattern::{
     ComponentName, Eight, Error, UrlPattern, UrlPatternInit, UrlPatternMatchInput,
@@ -23,15 +23,19 @@ pub fn url_of(alloc: Global, text: &str) -> Result<Url, Error> {
 }
 
 /// The URL of a text as an input.
+// docs: url_input
 pub fn url_input(alloc: Global, text: &str) -> Result<UrlPatternMatchInput, Error> {
     Ok(UrlPatternMatchInput::Url(url_of(alloc, text)?))
 }
+// docs: end
 
 /// An init with these texts.
+// docs: init_of
 pub fn init_of(alloc: Global, fields: Fields<'_>) -> Result<UrlPatternInit, Error> {
     let texts = Eight::try_from_fn(|name| text_of(alloc, fields, name))?;
     Ok(UrlPatternInit::from_eight(texts, None))
 }
+// docs: end
 
 /// The text that is given for a component.
 fn text_of(
@@ -53,7 +57,15 @@ pub fn pattern_of<R: RegExp>(alloc: Global, fields: Fields<'_>) -> Result<UrlPat
 }
 
 /// The component of a path, whose texts stay as they are.
+// docs: path_of
 pub fn path_of<R: RegExp>(alloc: Global, pattern: &str) -> Result<Component<R>, Error> {
     let unchanged = |text: &str| -> Result<String, Error> { Ok(String::from_str(alloc, text)?) };
     Component::compile(alloc, Some(pattern), unchanged, Options::pathname(alloc)?)
+}
+// docs: end
+
+/// The parts of a pattern whose texts stay as they are.
+pub fn parts_of(alloc: Global, pattern: &str, options: &Options) -> Result<Vec<Part>, Error> {
+    let unchanged = |text: &str| -> Result<String, Error> { Ok(String::from_str(alloc, text)?) };
+    parse_pattern_string(alloc, pattern, options, unchanged)
 }

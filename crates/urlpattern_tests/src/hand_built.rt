@@ -1,7 +1,7 @@
 //! Patterns with components put together by hand, and engines of regular expressions that answer what no engine should, or refuse
 //! each text.
 
-use crate::given::{pattern_of, url_input};
+use crate::given::{parts_of, pattern_of, url_input};
 use crate::stubborn::{Captures, KeptText, Refusing, Starved, Stubborn, Wanting};
 use regex::Regex;
 use std::alloc::Global;
@@ -9,7 +9,7 @@ use std::process::Abort;
 use std::test::Fail;
 use urlpattern::component::{Component, generate_matcher};
 use urlpattern::matcher::{InnerMatcher, Matcher};
-use urlpattern::parser::{Options, parse_pattern_string};
+use urlpattern::parser::Options;
 use urlpattern::regexp::RegExp;
 use urlpattern::{Error, UrlPattern, UrlPatternComponentResult, UrlPatternResult};
 
@@ -136,21 +136,24 @@ fn captures_that_are_too_many_too_few_or_foreign(rt: HostRuntime) -> Result<(), 
 #[test]
 fn an_error_in_place_of_an_engine_matches_nothing(rt: HostRuntime) -> Result<(), Fail> {
     let alloc = rt.alloc();
+    // docs: test
     let input = url_input(alloc, URL)?;
     let pathname: Component<Regex> = by_hand(alloc, Vec::new(alloc), Err(Error::RegExp(())));
     let pattern = with_pathname(alloc, pathname)?;
     let is_matched = pattern.test(alloc, input);
     drop(pattern);
     assert!(rt; !is_matched?);
+    // docs: end
     Ok(())
 }
 
 /// A matcher that asks an engine about what is before `b`.
 fn matcher_of<R: RegExp>(alloc: Global) -> Result<Matcher<R>, Error> {
+    // docs: matcher_of
     let options = Options::default(alloc);
-    let unchanged = |text: &str| -> Result<String, Error> { Ok(String::from_str(alloc, text)?) };
-    let parts = parse_pattern_string(alloc, "{a}?b", &options, unchanged)?;
+    let parts = parts_of(alloc, "{a}?b", &options)?;
     generate_matcher(alloc, &parts, &options, "u")
+    // docs: end
 }
 
 /// Whether the pattern of an empty init is refused because its regular expressions are.
@@ -171,6 +174,7 @@ fn expect_refused(
     alloc: Global,
     matcher: &Matcher<Refusing>,
 ) -> Result<(), Error> {
+    // docs: refused_matcher
     assert!(rt;
         matches!(
             &matcher.inner,
@@ -180,6 +184,7 @@ fn expect_refused(
         )
     );
     assert!(rt; matcher.matches(alloc, "b")?.is_none());
+    // docs: end
     assert!(rt; !matcher.accepts(alloc, "ab")?);
     Ok(())
 }

@@ -5,17 +5,11 @@
 #[cfg(test)]
 mod captures;
 #[cfg(test)]
-mod covers;
-#[cfg(test)]
-mod generate;
-#[cfg(test)]
 mod given;
 #[cfg(test)]
 mod hand_built;
 #[cfg(test)]
 mod lines;
-#[cfg(test)]
-mod links;
 #[cfg(test)]
 mod lists;
 #[cfg(test)]
@@ -32,8 +26,6 @@ mod plain;
 mod requests;
 #[cfg(test)]
 mod results;
-#[cfg(test)]
-mod rules;
 #[cfg(test)]
 mod stubborn;
 #[cfg(test)]

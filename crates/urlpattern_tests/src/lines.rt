@@ -27,32 +27,6 @@ impl Rule for Short {
 }
 
 #[test]
-fn lines_are_answered_in_order(rt: HostRuntime) -> Result<(), Fail> {
-    let alloc = rt.alloc();
-    let cases: [(&[u8], &[u8], u64, u64); 6] = [
-        (b"", b"", 0, 0),
-        (b"a\nlong\nb\n", b"a\nb\n", 2, 0),
-        (b"a\r\n\r\nabc\r\n", b"a\r\n\r\nabc\r\n", 3, 0),
-        (b"a\nb", b"a\nb", 2, 0),
-        (b"a\n\xFF\nb\n", b"a\nb\n", 2, 1),
-        (b"\n\n", b"\n\n", 2, 0),
-    ];
-    for (text, wanted, selected, refused) in cases {
-        let mut input = text;
-        let mut out = Vec::new(alloc);
-        // What is reported finds room without a request for memory.
-        let mut err = Vec::with_capacity(alloc, 1024)?;
-        let Ok(tally) = answer_lines(alloc, &Short, &mut input, &mut out, &mut err) else {
-            return Err(Fail::from(AllocError));
-        };
-        assert!(rt; out.as_slice() == wanted);
-        assert!(rt; tally.selected == selected && tally.refused == refused);
-        assert!(rt; err.is_empty() == (refused == 0));
-    }
-    Ok(())
-}
-
-#[test]
 fn a_line_that_is_too_long_is_refused(rt: HostRuntime) -> Result<(), Fail> {
     let alloc = rt.alloc();
     let mut text = vec![in alloc; b'a'; LONGEST + 1]?;

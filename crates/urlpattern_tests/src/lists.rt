@@ -173,12 +173,14 @@ fn expect_matches(
 ) -> Result<(), Error> {
     let url = url_of(alloc, "https://example.com/a/b")?;
     let mut found = Vec::new(alloc);
+    // docs: matches
     for item in list.matches(alloc, &url) {
         let (index, captures) = item?;
         assert_eq!(rt; captures.input(ComponentName::Pathname), "/a/b");
         drop(captures);
         found.push(index)?;
     }
+    // docs: end
     drop(url);
     assert_eq!(rt; found.as_slice(), indices);
     Ok(())

@@ -60,12 +60,14 @@ fn expect_mismatch(
     url: &str,
     expected: Option<ComponentName>,
 ) -> Result<(), Error> {
+    // docs: mismatch
     let parsed = url_of(alloc, url)?;
     let found = pattern.mismatch(alloc, &parsed);
     let of_texts = pattern.mismatch_of_texts(alloc, &url_texts(&parsed));
     drop(parsed);
     assert_eq!(rt; found?, expected, "of {url}");
     assert_eq!(rt; of_texts?, expected, "of the texts of {url}");
+    // docs: end
     Ok(())
 }
 

@@ -1,15 +1,8 @@
-//! Patterns that are read and printed with no request for memory.
+//! Patterns that are read with no request for memory.
 
+use crate::given::parts_of;
 use std::alloc::{AllocError, Global};
-use urlpattern_core::Error;
-use urlpattern_core::component::generate_pattern_string;
-use urlpattern_core::parser::{Options, Part, parse_pattern_string};
-
-/// The parts of a pattern whose texts stay as they are.
-fn parts_of(alloc: Global, pattern: &str, options: &Options) -> Result<Vec<Part>, Error> {
-    let unchanged = |text: &str| -> Result<String, Error> { Ok(String::from_str(alloc, text)?) };
-    parse_pattern_string(alloc, pattern, options, unchanged)
-}
+use urlpattern::parser::Options;
 
 /// Appends copies of a piece.
 fn push_copies(text: &mut String, piece: &str, count: usize) -> Result<(), AllocError> {
@@ -17,17 +10,6 @@ fn push_copies(text: &mut String, piece: &str, count: usize) -> Result<(), Alloc
         text.push_str(piece)?;
     }
     Ok(())
-}
-
-/// The empty pattern is printed with no request for memory, so that refusing one changes nothing.
-#[test]
-fn the_empty_pattern_is_printed_without_memory(rt: HostRuntime) {
-    let alloc = rt.alloc();
-    let printed = generate_pattern_string(alloc, &[], &Options::default(alloc));
-    assert!(rt;
-        matches!(&printed, Ok(text) if text.is_empty()),
-        "{printed:?}"
-    );
 }
 
 /// Groups without a text are read with no request for memory, so that refusing one changes nothing once the pattern is there.

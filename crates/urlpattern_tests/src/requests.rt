@@ -3,19 +3,16 @@
 //! Of each pattern one test makes the parts alone, and each other one makes the parts and then one call. The difference of both
 //! numbers of requests is what the call makes; `.ci/refuse` counts it and has the bounds.
 
+use crate::given::parts_of;
 use std::alloc::Global;
 use std::process::Abort;
 use std::test::Fail;
-use urlpattern_core::Error;
-use urlpattern_core::component::{
-    generate_pattern_string, generate_regular_expression_and_name_list,
-};
-use urlpattern_core::parser::{Options, Part, parse_pattern_string};
+use urlpattern::Error;
+use urlpattern::component::{generate_pattern_string, generate_regular_expression_and_name_list};
+use urlpattern::parser::{Options, Part};
 
 /// A pathname pattern, its regular expression, and the bytes of that.
 type Case = (&'static str, &'static str, usize);
-
-const USERS: Case = ("/users/:id", "^/users(?:/([^/]+?))$", 21);
 
 const REPEATED: Case = ("{a/:x/b}+", "^(?:a/((?:[^/]+?)(?:/ba/(?:[^/]+?))*)/b)$", 41);
 
@@ -26,8 +23,7 @@ const EMPTY: Case = ("", "^$", 2);
 /// The options of a pathname, and the parts of a pattern.
 fn made(alloc: Global, (pattern, _, _): Case) -> Result<(Options, Vec<Part>), Error> {
     let options = Options::pathname(alloc)?;
-    let unchanged = |text: &str| -> Result<String, Error> { Ok(String::from_str(alloc, text)?) };
-    let parts = parse_pattern_string(alloc, pattern, &options, unchanged)?;
+    let parts = parts_of(alloc, pattern, &options)?;
     Ok((options, parts))
 }
 
@@ -51,21 +47,6 @@ fn print(rt: &impl Abort, alloc: Global, case: Case) -> Result<(), Fail> {
     let text = generate_pattern_string(alloc, &parts, &options)?;
     assert_eq!(rt; text.as_str(), case.0);
     Ok(())
-}
-
-#[test]
-fn the_parts_of_users(rt: HostRuntime) -> Result<(), Fail> {
-    make(rt.alloc(), USERS)
-}
-
-#[test]
-fn the_expression_of_users(rt: HostRuntime) -> Result<(), Fail> {
-    express(&rt, rt.alloc(), USERS)
-}
-
-#[test]
-fn the_printed_users(rt: HostRuntime) -> Result<(), Fail> {
-    print(&rt, rt.alloc(), USERS)
 }
 
 #[test]

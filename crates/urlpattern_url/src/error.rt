@@ -9,6 +9,14 @@ use urlpattern_eight::ComponentName;
 use urlpattern_generate::GenerateError;
 
 /// Why a pattern has no URL with the groups that are given.
+///
+/// ```rust no_link
+/// match url {
+///     Ok(url) => Ok(format!(in alloc; "user {id}: {url}")?),
+///     Err(NoLink::OutOfMemory) => Err(Error::OutOfMemory),
+///     Err(_) => Ok(format!(in alloc; "user {id}: no URL")?),
+/// }
+/// ```
 #[derive(Debug, PartialEq, Eq, Drop)]
 pub enum NoLink {
     /// A component has no text with its groups.

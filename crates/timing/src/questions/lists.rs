@@ -79,8 +79,8 @@ fn ask_over<E: RegExp>(maker: &mut Maker) -> Result<Outcome, Error> {
         drop(list);
         return outcome;
     }
-    for _ in 0..maker.below(size + 1) {
-        let index = maker.below(list.len() + 1);
+    for _ in 0..maker.below(size.saturating_add(1)) {
+        let index = maker.below(list.len().saturating_add(1));
         drop(list.remove(index));
     }
     let outcome = asked(maker, &list);

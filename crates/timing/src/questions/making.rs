@@ -103,7 +103,7 @@ impl Maker {
     }
 
     /// Keeps a text among those that were made.
-    fn keep(&mut self, text: &str) -> Result<(), AllocError> {
+    pub fn keep(&mut self, text: &str) -> Result<(), AllocError> {
         write!(self.made, " {text:?}")
     }
 }

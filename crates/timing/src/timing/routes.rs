@@ -82,13 +82,11 @@ struct Lookups<'t> {
 impl<'t> Timed for Lookups<'t> {
     #[inline(never)]
     fn call(&self, alloc: Global) -> Result<bool, Error> {
-        let mut count = 0;
+        let mut is_found = false;
         for (index, url) in self.urls.iter().enumerate() {
-            if self.is_found(alloc, index, url)? {
-                count += 1;
-            }
+            is_found |= self.is_found(alloc, index, url)?;
         }
-        Ok(count > 0)
+        Ok(is_found)
     }
 }
 
@@ -145,31 +143,58 @@ fn url_of(alloc: Global, path: &str) -> Result<Url, Error> {
 
 /// The table of some routes.
 fn table_of(alloc: Global, routes: &[String]) -> Result<Table, Error> {
-    let mut list = List::new(alloc);
-    let mut router = Router::new(alloc);
-    let mut hits = Vec::new(alloc);
-    for (index, route) in routes.iter().enumerate() {
-        let given = StringOrInit::String(CowStr::Borrowed(route));
-        let pattern = make_pattern(alloc, &given, Some(BASE), false)?;
-        if list.push(pattern).is_err() {
-            return Err(Error::OutOfMemory);
-        }
-        let path = with_segments(alloc, route, ("{", "}"), "{*rest}")?;
-        // A router rejects routes that differ only in names.
-        let _ = router.insert(&path, index);
-        let path = with_segments(alloc, route, ("the-", ""), "a/b.txt")?;
-        hits.push(url_of(alloc, &path)?)?;
-    }
-    let mut misses = Vec::new(alloc);
-    for path in MISSES {
-        misses.push(url_of(alloc, path)?)?;
-    }
+    let hits = hits_of(alloc, routes)?;
+    let misses = misses_of(alloc)?;
+    let router = router_of(alloc, routes)?;
+    let list = list_of(alloc, routes)?;
     Ok(Table {
         list,
         router,
         hits,
         misses,
     })
+}
+
+/// The list of some routes.
+fn list_of(alloc: Global, routes: &[String]) -> Result<List, Error> {
+    let mut list = List::new(alloc);
+    for route in routes {
+        let given = StringOrInit::String(CowStr::Borrowed(route));
+        let pattern = make_pattern(alloc, &given, Some(BASE), false)?;
+        if list.push(pattern).is_err() {
+            return Err(Error::OutOfMemory);
+        }
+    }
+    Ok(list)
+}
+
+/// The router of the paths of some routes. It rejects routes that differ only in names.
+fn router_of(alloc: Global, routes: &[String]) -> Result<Router<usize>, Error> {
+    let mut router = Router::new(alloc);
+    for (index, route) in routes.iter().enumerate() {
+        let path = with_segments(alloc, route, ("{", "}"), "{*rest}")?;
+        let _ = router.insert(&path, index);
+    }
+    Ok(router)
+}
+
+/// For each route a URL that it matches.
+fn hits_of(alloc: Global, routes: &[String]) -> Result<Vec<Url>, Error> {
+    let mut urls = Vec::new(alloc);
+    for route in routes {
+        let path = with_segments(alloc, route, ("the-", ""), "a/b.txt")?;
+        urls.push(url_of(alloc, &path)?)?;
+    }
+    Ok(urls)
+}
+
+/// URLs that no route matches.
+fn misses_of(alloc: Global) -> Result<Vec<Url>, Error> {
+    let mut urls = Vec::new(alloc);
+    for path in MISSES {
+        urls.push(url_of(alloc, path)?)?;
+    }
+    Ok(urls)
 }
 
 /// The routes of a made table.

@@ -10,6 +10,15 @@ use urlpattern_matches::UrlPatternCaptures;
 /// The matches of a URL that are left, in the order of the patterns, each with its pattern's index.
 ///
 /// `UrlPatternList::matches` returns it.
+///
+/// ```rust matches
+/// for item in list.matches(alloc, &url) {
+///     let (index, captures) = item?;
+///     assert_eq!(rt; captures.input(ComponentName::Pathname), "/a/b");
+///     drop(captures);
+///     found.push(index)?;
+/// }
+/// ```
 #[derive(Drop)]
 pub struct UrlPatternMatches<'p, 'u, R: RegExp> {
     list: &'p UrlPatternList<R>,

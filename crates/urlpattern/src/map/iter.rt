@@ -10,6 +10,15 @@ use urlpattern_core::regexp::RegExp;
 use urlpattern_pattern::UrlPattern;
 
 /// The patterns of a `UrlPatternMap` that are left, in their order, each with its value.
+///
+/// Here `ROUTES` lists the paths of the patterns, each with its value:
+///
+/// ```rust map_entries
+/// for ((pattern, value), (pathname, expected)) in map.iter().zip(&ROUTES) {
+///     assert_eq!(rt; pattern.pathname(), *pathname);
+///     assert_eq!(rt; value, expected);
+/// }
+/// ```
 #[derive(Drop)]
 pub struct UrlPatternMapIter<'a, T, R: RegExp> {
     patterns: slice::Iter<'a, UrlPattern<R>>,

@@ -6,14 +6,15 @@ ghost use Rattle.urlpattern_core.specs.Components.{AnswersByItsParts, FailsToRea
 ghost use Rattle.urlpattern_core.specs.Matchers.{engine_view};
 ghost use Rattle.urlpattern_syntax.specs.{Errors.OnlyOutOfMemory, Options.options_view, Parts.parts_view, Reading.encoding_by};
 
+use super::Component;
 use super::matchers::generate_matcher_knowing;
-use super::printed::generate_pattern_string;
-use super::regexp_text::generate_regular_expression;
-use super::{Component, generate_name_list};
 use crate::error::{Error, RegExpError};
 use crate::parser::{Options, Part, PartType, RegexSyntax, parse_pattern_string};
 use crate::regexp::RegExp;
 use std::alloc::{AllocError, Global};
+use urlpattern_printing::{
+    generate_name_list, generate_pattern_string, generate_regular_expression,
+};
 
 impl<R: RegExp> Component<R> {
     /// The component of a pattern text, or of an asterisk where there is none.

@@ -9,12 +9,12 @@ ghost use Rattle.urlpattern_syntax.specs.{Errors.OnlyOutOfMemory, Options.option
 ghost use Rattle.urlpattern_syntax.specs.Parts.{part_view, parts_view};
 ghost use Rattle.urlpattern_syntax.specs.RegexpText.{is_plain, regexp_text};
 
-use super::regexp_text::generate_regular_expression;
 use crate::error::{Error, RegExpError};
 use crate::matcher::{InnerMatcher, Matcher};
 use crate::parser::{Options, Part, PartModifier, PartType};
 use crate::regexp::RegExp;
 use std::alloc::{AllocError, Global};
+use urlpattern_printing::generate_regular_expression;
 use urlpattern_syntax::writing::written;
 
 /// The matcher of a list of parts. Plain fixed texts at the ends of the list become its prefix and its suffix.

@@ -8,6 +8,15 @@ use urlpattern_eight::{COMPONENTS, ComponentName};
 /// part.
 ///
 /// `UrlPatternCaptures::groups` returns it.
+///
+/// The groups of the path `/a/b`, which `/a/:x{/:y}?` matches:
+///
+/// ```rust groups
+/// let mut groups = found.groups(ComponentName::Pathname);
+/// assert_eq!(rt; groups.next(), Some(("x", Some("b"))));
+/// assert_eq!(rt; groups.next(), Some(("y", None)));
+/// assert_eq!(rt; groups.next(), None);
+/// ```
 #[derive(Drop)]
 pub struct UrlPatternGroups<'c, 'p, 'u> {
     names: slice::Iter<'p, String>,
@@ -51,6 +60,16 @@ impl<'c, 'p, 'u> Iterator for UrlPatternGroups<'c, 'p, 'u> {
 /// The groups of all components that are left, in the order of the standard, each beside the name of its component.
 ///
 /// `UrlPatternCaptures::iter` returns it.
+///
+/// Here `EACH` lists each group by its component and its name, with its capture:
+///
+/// ```rust all_groups
+/// let mut groups = found.iter();
+/// for group in EACH {
+///     assert_eq!(rt; groups.next(), Some(*group));
+/// }
+/// assert_eq!(rt; groups.next(), None);
+/// ```
 #[derive(Drop)]
 pub struct UrlPatternCapturesIter<'c, 'p, 'u> {
     captures: &'c UrlPatternCaptures<'p, 'u>,

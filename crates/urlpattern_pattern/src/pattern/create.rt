@@ -26,6 +26,14 @@ impl<R: RegExp> UrlPattern<R> {
     /// The pattern answers by its texts, with an engine whose matchers answer the first way of what they are made of, as
     /// `PatternRegexp`'s do.
     ///
+    /// Here `Pattern` is `UrlPattern<PatternRegexp>`, and the init has a pattern for the path alone:
+    ///
+    /// ```rust init
+    /// let mut init = UrlPatternInit::default();
+    /// init.pathname = Some(String::from_str(alloc, "/users/:id")?);
+    /// let users = Pattern::parse(alloc, init, UrlPatternOptions::default())?;
+    /// ```
+    ///
     /// <https://urlpattern.spec.whatwg.org/#url-pattern-create>
     pub fn parse(
         alloc: Global,
@@ -46,6 +54,14 @@ impl<R: RegExp> UrlPattern<R> {
     ///
     /// The error is that `url` refuses the base URL, that the string is refused, that of compiling the pattern, or that memory
     /// ran out.
+    ///
+    /// Here `USERS` is the text `https://example.com/users/:id`:
+    ///
+    /// ```rust new_users
+    /// let options = UrlPatternOptions::default();
+    /// let pattern = UrlPattern::from_constructor_string(alloc, router::USERS, None, options)?;
+    /// Ok(Self { pattern })
+    /// ```
     ///
     /// <https://urlpattern.spec.whatwg.org/#url-pattern-create>
     pub fn from_constructor_string(

@@ -21,6 +21,19 @@ impl<R: RegExp> UrlPattern<R> {
     /// What is wrong with a constructor string, or with its base URL. `None`: it is accepted.
     ///
     /// A string that is refused is read a second time. The error is that memory ran out.
+    ///
+    /// The program `urlpat` calls it with the default options:
+    ///
+    /// ```rust diagnose
+    /// fn diagnosed(
+    ///     alloc: Global,
+    ///     pattern: &str,
+    ///     base: Option<&str>,
+    /// ) -> Result<Option<Diagnosis>, OutOfMemory> {
+    ///     let options = UrlPatternOptions::default();
+    ///     UrlPattern::<PatternRegexp>::diagnose(alloc, pattern, base, options)
+    /// }
+    /// ```
     pub fn diagnose(
         alloc: Global,
         pattern: &str,

@@ -27,6 +27,16 @@ impl<R: RegExp> UrlPattern<R> {
     ///
     /// The error is that a group is missing, that one may not capture what it is given, that the text would be read with other groups
     /// or is not canonical, or that memory ran out.
+    ///
+    /// A test compares the text, or the error, with the recorded one:
+    ///
+    /// ```rust generate
+    /// Ok(pattern) => {
+    ///     let found = pattern.generate(case.alloc, component, &groups);
+    ///     drop(pattern);
+    ///     is_recorded(found, recorded)
+    /// }
+    /// ```
     pub fn generate(
         &self,
         alloc: Global,

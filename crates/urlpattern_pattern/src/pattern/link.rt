@@ -22,6 +22,18 @@ impl<R: RegExp> UrlPattern<R> {
     ///
     /// The error is that of the first component that has no text with its groups, that no URL has the texts of the components, or
     /// that memory ran out.
+    ///
+    /// Here the pattern is compiled from `https://example.com/users/:id`:
+    ///
+    /// ```rust user_link
+    /// let url = match self
+    ///     .pattern
+    ///     .link(alloc, &[(ComponentName::Pathname, "id", id)])
+    /// {
+    ///     Ok(url) => url,
+    ///     Err(error) => return Err(error),
+    /// };
+    /// ```
     pub fn link(&self, alloc: Global, groups: &[GivenGroup<'_>]) -> Result<Url, NoLink>
         ensures generated { IfOk result (IsLink R.answer (pattern_view self.now) (given_groups groups.now)) }
         ensures matched { IfOk result (λ url. HasMatch R.answer (pattern_view self.now) (inputs.Url url)) }

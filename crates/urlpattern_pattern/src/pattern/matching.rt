@@ -37,6 +37,17 @@ impl<R: RegExp> UrlPattern<R> {
     ///
     /// The error is that memory ran out. For the texts of a URL only an engine allocates.
     ///
+    /// Here `by_hand` makes a component with an error in place of an engine, so the pattern matches nothing:
+    ///
+    /// ```rust test
+    /// let input = url_input(alloc, URL)?;
+    /// let pathname: Component<Regex> = by_hand(alloc, Vec::new(alloc), Err(Error::RegExp(())));
+    /// let pattern = with_pathname(alloc, pathname)?;
+    /// let is_matched = pattern.test(alloc, input);
+    /// drop(pattern);
+    /// assert!(rt; !is_matched?);
+    /// ```
+    ///
     /// <https://urlpattern.spec.whatwg.org/#url-pattern-match>
     pub fn test(&self, alloc: Global, input: UrlPatternMatchInput) -> Result<bool, Error>
         ensures matched { IfOk result (TestsInput R.answer (pattern_view self.now) input) }
@@ -56,6 +67,19 @@ impl<R: RegExp> UrlPattern<R> {
     /// matched, of an init those that it results in, with what it inherits. An input that `url` refuses is not matched.
     ///
     /// The error is that memory ran out. Of a URL an engine allocates, and the copy of a match.
+    ///
+    /// Here `url_input` parses a URL and `pattern_of` compiles a pattern, which is dropped before its match is used:
+    ///
+    /// ```rust exec
+    /// let input = url_input(alloc, url)?;
+    /// let pattern: UrlPattern = pattern_of(alloc, fields)?;
+    /// let found = pattern.exec(alloc, input);
+    /// drop(pattern);
+    /// match found? {
+    ///     Some(found) => Ok(found),
+    ///     None => Err(Fail::from("no match")),
+    /// }
+    /// ```
     ///
     /// <https://urlpattern.spec.whatwg.org/#url-pattern-match>
     pub fn exec(
@@ -101,6 +125,15 @@ impl<R: RegExp> UrlPattern<R> {
     /// The match of a URL, borrowed from the pattern and the URL. `None`: the pattern does not match the URL.
     ///
     /// The error is that memory ran out. Only an engine allocates.
+    ///
+    /// Here `users` is compiled from `https://example.com/users/:id`, and `ID` is the text `id`:
+    ///
+    /// ```rust user
+    /// let Some(found) = users.captures(alloc, url)? else {
+    ///     return Ok(None);
+    /// };
+    /// Ok(found.get(ComponentName::Pathname, ID))
+    /// ```
     ///
     /// <https://urlpattern.spec.whatwg.org/#url-pattern-match>
     pub fn captures<'p, 'u>(
@@ -151,6 +184,15 @@ impl<R: RegExp> UrlPattern<R> {
     /// match them. `url_texts` borrows those of a URL, and `pathname_texts` those of a path alone.
     ///
     /// The error is that memory ran out. Only an engine allocates.
+    ///
+    /// Here `users` has a pattern for the path alone, and there is no URL:
+    ///
+    /// ```rust path
+    /// let Some(found) = users.captures_of_texts(alloc, &pathname_texts(path))? else {
+    ///     return Ok(None);
+    /// };
+    /// Ok(found.get(ComponentName::Pathname, ID))
+    /// ```
     pub fn captures_of_texts<'p, 'u>(
         &'p self,
         alloc: Global,

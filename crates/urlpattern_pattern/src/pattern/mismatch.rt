@@ -20,6 +20,17 @@ impl<R: RegExp> UrlPattern<R> {
     ///
     /// The error is that memory ran out. Only an engine allocates, and none is asked after the component that is returned.
     ///
+    /// Here `url_of` parses a URL. Its eight texts have the same mismatch:
+    ///
+    /// ```rust mismatch
+    /// let parsed = url_of(alloc, url)?;
+    /// let found = pattern.mismatch(alloc, &parsed);
+    /// let of_texts = pattern.mismatch_of_texts(alloc, &url_texts(&parsed));
+    /// drop(parsed);
+    /// assert_eq!(rt; found?, expected, "of {url}");
+    /// assert_eq!(rt; of_texts?, expected, "of the texts of {url}");
+    /// ```
+    ///
     /// <https://urlpattern.spec.whatwg.org/#url-pattern-match>
     pub fn mismatch(&self, alloc: Global, url: &Url) -> Result<Option<ComponentName>, Error>
         ensures first { IfOk result (FindsMismatch R.answer (pattern_view self.now) (texts_of_url url.now)) }

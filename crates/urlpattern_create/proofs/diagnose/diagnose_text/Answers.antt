@@ -1,9 +1,11 @@
-use Rattle.std.proofs.Common.{◌≡◌, Ok, sym, subst, inl, inr}
-use Rattle.std.specs.Prelude.{option_copied}
+use Rattle.std.proofs.Common.{◌≡◌, [], Ok, sym, ◌∙◌, refl, subst, inl, inr}
+use Rattle.std.specs.Prelude.{option_copied, string_bytes, unwrap_or}
 use Rattle.std.specs.Str.{chars}
 use Rattle.urlpattern_init.specs.ConstructorString.{RefusesString}
+use Rattle.urlpattern_create.specs.Diagnoses.{ShowsText}
+use Rattle.urlpattern_diagnosis.specs.declared.diagnosis.Subject.{Subject}
 use Rattle.urlpattern_create.specs.FromString.{IsInitOfText, RefusesPatternOfText, parsed_base}
-use Rattle.urlpattern_create.proofs.DiagnosisLemmas.{init_accepted, init_shown, is_other, protocol_shown}
+use Rattle.urlpattern_create.proofs.DiagnosisLemmas.{init_accepted, init_shown, is_other, protocol_shown, shows_all, text-or_nothing}
 use Rattle.urlpattern_syntax.specs.declared.error.Error.{Error}
 use Rattle.urlpattern_syntax.specs.Errors.{error_view}
 use Rattle.urlpattern_create.proofs.diagnose.diagnose_text.Goals as goal
@@ -45,3 +47,12 @@ returns-clause-shows g c =
       is_complete = of.complete;
     } in
     init_shown g.R.RegExp c.args.pattern.now base c.args.options init is c.init_diagnosis-found.result c.init_diagnosis-found.ensures.shows c.init_diagnosis-found.ensures.text
+
+pub returns-in-Err-clause-shows : goal.returns-in-Err-clause-shows
+returns-in-Err-clause-shows g c =
+    let base = option_copied c.args.base_url in
+    let made = c.in_ok-whole-in-Err.field-0 in
+    let is = c.in_ok-whole-in-Err.ensures in
+    let text : string_bytes made.text ≡ unwrap_or base [] = is.text ∙ text-or_nothing c.args.base_url c.unwrap_or-text.result _ c.unwrap_or-text.ensures refl in
+    subst (λ (what : Subject). ShowsText g.R.RegExp c.args.pattern.now base c.args.options what made) (sym is.subject)
+    (text, shows_all c.unwrap_or-text.result.now made is.text is.fault)

@@ -5,7 +5,7 @@ use Rattle.std.specs.Str.{chars}
 use Rattle.urlpattern_diagnosis.specs.declared.diagnosis.Subject.{Subject}
 use Rattle.urlpattern_init.specs.Split.{HasProtocol}
 use Rattle.urlpattern_create.specs.Diagnoses.{ShowsProtocol}
-use Rattle.urlpattern_create.proofs.DiagnosisLemmas.{shows_fault}
+use Rattle.urlpattern_create.proofs.DiagnosisLemmas.{shows_all, shows_fault}
 use Rattle.urlpattern_create.proofs.diagnose.protocol_diagnosis.Goals as goal
 
 pub returns-in_ok-of_part-in-Some-default-clause-shows : goal.returns-in_ok-of_part-in-Some-default-clause-shows
@@ -19,3 +19,10 @@ returns-in_ok-of_part-in-Some-default-clause-shows c =
     subst (λ found. IfSome found (λ (part : Bor (List ℕ)). HasProtocol (chars text) (λ (other : List ℕ). other ≡ chars part.now))) c.in-Some-default.is-0 c.in-Ok.ensures.protocol in
     subst (λ (what : Subject). ShowsProtocol (chars text) what made) (sym is.subject)
     (protocol.now, has, shows_fault text protocol.now (chars []) [] c.args.error made fault is.error is.text chars-nil (inl c.in_ok-fault-in-Some-default.ensures.fault) is.fault)
+
+pub returns-in_ok-whole-in-None-default-clause-shows : goal.returns-in_ok-whole-in-None-default-clause-shows
+returns-in_ok-whole-in-None-default-clause-shows c =
+    let text = c.args.text.now in
+    let made = c.in_ok-whole-in-None-default.field-0 in
+    let is = c.in_ok-whole-in-None-default.ensures in
+    subst (λ (what : Subject). ShowsProtocol (chars text) what made) (sym is.subject) (shows_all text made is.text is.fault)

@@ -1,7 +1,7 @@
 use Rattle.std.proofs.Common.{false, map, refl, subst}
 use Rattle.std.proofs.lemmas.Result.{err_from_is_err_and}
 use Rattle.urlpattern_core.proofs.CompileLemmas.{text-or_asterisk}
-use Rattle.urlpattern_core.proofs.Peeling.{if_ok-map}
+use Rattle.urlpattern_printing.proofs.OutcomeLemmas.{if_ok-map}
 use Rattle.urlpattern_core.specs.Components.{IsComponentOf, IsEngineOf, component_view, engine_flags}
 use Rattle.urlpattern_core.specs.Matchers.{matcher_view}
 use Rattle.urlpattern_meaning.proofs.MatcherMeaning.{matcher_means}

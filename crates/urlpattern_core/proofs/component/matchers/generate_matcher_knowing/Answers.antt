@@ -3,7 +3,8 @@ use Rattle.std.proofs.lemmas.List.{length-map}
 use Rattle.std.specs.Str.{chars}
 use Rattle.urlpattern_core.specs.Components.{IsEngineOf}
 use Rattle.urlpattern_core.specs.Matchers.{matcher_view}
-use Rattle.urlpattern_core.proofs.Peeling.{if_ok-map, made-of, many-by_engine}
+use Rattle.urlpattern_core.proofs.Peeling.{made-of, many-by_engine}
+use Rattle.urlpattern_printing.proofs.OutcomeLemmas.{if_ok-map}
 use Rattle.urlpattern_syntax.specs.Options.{options_view}
 use Rattle.urlpattern_syntax.specs.Parts.{part_view}
 use Rattle.urlpattern_core.proofs.component.matchers.generate_matcher_knowing.Goals as goal

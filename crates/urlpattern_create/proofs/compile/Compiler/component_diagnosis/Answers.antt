@@ -1,9 +1,8 @@
-use Rattle.std.proofs.Common.{◌≡◌, ◌⊎◌, ◌∙◌, None, refl, sym, ap, subst, inl, inr}
+use Rattle.std.proofs.Common.{◌≡◌, ◌⊎◌, ◌∙◌, refl, sym, ap, subst, inl, inr}
 use Rattle.std.specs.Prelude.{IfSome}
 use Rattle.std.specs.Str.{chars}
 use Rattle.urlpattern_core.proofs.CompileLemmas.{text-or_asterisk}
 use Rattle.urlpattern_faults.specs.Faults.{IsFaultOf}
-use Rattle.urlpattern_faults.specs.declared.span.Span.{Span}
 use Rattle.urlpattern_create.specs.CompilerSteps.{manner_by}
 use Rattle.urlpattern_create.specs.Diagnoses.{IsPartOfRefused}
 use Rattle.urlpattern_create.proofs.DiagnosisLemmas.{shows_fault}
@@ -20,9 +19,9 @@ returns-clause-shows g c =
     let is = c.in_ok-of_part.ensures in
     let same : point ≡ manner.options.prefix = ap chars c.as_str-point.ensures.value ∙ ap (λ (options : OptionsView). options.prefix) c.in-Ok.ensures.ok in
     let text : chars pattern ≡ manner.text = text-or_asterisk c.pattern_of.result _ _ c.unwrap_or-pattern.ensures refl ∙ c.pattern_of.ensures in
-    let faulty : IsFaultOf pattern point error c.match-branch-2.fault ⊎ IsPartOfRefused pattern error c.match-branch-2.fault = elim c.match-branch-2.branch [
-      | in-Some w ↦ inr (subst (IsPartOfRefused pattern error) (sym (w.fault-is ∙ w.of_span-fault.ensures))
-          (subst (λ found. IfSome found (λ (span : Span). IsPartOfRefused pattern error (record { span = span; earlier = None }))) w.in-Some.is c.in_ok-span.ensures.part))
+    let faulty : IsFaultOf pattern point error c.match-refused.fault ⊎ IsPartOfRefused pattern error c.match-refused.fault = elim c.match-refused.branch [
+      | in-Some w ↦ inr (subst (IsPartOfRefused pattern error) (sym w.fault-is)
+          (subst (λ found. IfSome found (IsPartOfRefused pattern error)) w.in-Some.is c.in_ok-refused.ensures.part))
       | in-None+in_ok-fault-in-None w ↦ inl (subst (IsFaultOf pattern point error) (sym w.fault-is) w.in_ok-fault-in-None.ensures.fault)
     ] in
-    (pattern, text, shows_fault c.unwrap_or-text.result.now pattern point manner.options.prefix error c.in_ok-of_part.field-0 c.match-branch-2.fault is.error is.text same faulty is.fault)
+    (pattern, text, shows_fault c.unwrap_or-text.result.now pattern point manner.options.prefix error c.in_ok-of_part.field-0 c.match-refused.fault is.error is.text same faulty is.fault)

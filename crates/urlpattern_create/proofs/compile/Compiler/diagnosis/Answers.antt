@@ -2,8 +2,9 @@ use Rattle.std.proofs.Common.{sym, subst}
 use Rattle.std.specs.Prelude.{IfSome}
 use Rattle.urlpattern_create.specs.Compiled.{RefusesValues}
 use Rattle.urlpattern_create.specs.CompilerSteps.{compiled_values}
-use Rattle.urlpattern_create.specs.Diagnoses.{IsRefusalOf}
-use Rattle.urlpattern_create.proofs.DiagnosisLemmas.{refused_so, shown_so}
+use Rattle.urlpattern_create.specs.Diagnoses.{IsRefusalOf, ShowsRefusal}
+use Rattle.urlpattern_create.proofs.DiagnosisLemmas.{refused_so, shown_so, shows_all}
+use Rattle.urlpattern_diagnosis.specs.declared.diagnosis.Subject.{Subject}
 use Rattle.urlpattern_syntax.specs.declared.error.Error.{Error}
 use Rattle.urlpattern_syntax.specs.Errors.{error_view}
 use Rattle.urlpattern_create.proofs.compile.Compiler.diagnosis.Goals as goal
@@ -25,3 +26,10 @@ returns-in-Some-clause-shows g c =
 pub returns-in_ok-whole-in-None-clause-refused : goal.returns-in_ok-whole-in-None-clause-refused
 returns-in_ok-whole-in-None-clause-refused g c =
     subst (λ (error : Error). RefusesValues g.R.RegExp c.args.self.now.options.now (compiled_values c.args.self.now) (error_view error)) (sym c.in_ok-whole-in-None.ensures.error) c.requires
+
+pub returns-in_ok-whole-in-None-clause-shows : goal.returns-in_ok-whole-in-None-clause-shows
+returns-in_ok-whole-in-None-clause-shows g c =
+    let made = c.in_ok-whole-in-None.field-0 in
+    let is = c.in_ok-whole-in-None.ensures in
+    subst (λ (what : Subject). ShowsRefusal g.R.RegExp c.args.self.now.options.now (compiled_values c.args.self.now) what made) (sym is.subject)
+    (shows_all c.unwrap_or-text.result.now made is.text is.fault)

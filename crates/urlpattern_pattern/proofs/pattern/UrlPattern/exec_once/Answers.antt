@@ -1,5 +1,5 @@
 use Rattle.std.specs.Prelude.{option_map}
-use Rattle.urlpattern_core.proofs.Peeling.{if_ok-map}
+use Rattle.urlpattern_printing.proofs.OutcomeLemmas.{if_ok-map}
 use Rattle.urlpattern_pattern.proofs.ByTextLemmas.{executed_by_text}
 use Rattle.urlpattern_pattern.proofs.MeaningLemmas.{executed_of}
 use Rattle.urlpattern_matches.specs.ResultViews.{result_view}

@@ -1,0 +1,166 @@
+//! Whether what is said of two patterns holds for texts: that the one covers the other, and that they overlap.
+
+use super::Outcome;
+use super::making::Maker;
+use std::alloc::{AllocError, Global};
+use urlpattern::regexp::PatternRegexp;
+use urlpattern::rules::{PatternCovering, PatternOverlap, PatternParts, parts_of};
+use urlpattern::{
+    ComponentName, Eight, Error, GivenGroup, UrlPattern, UrlPatternInit, UrlPatternOptions,
+    pathname_texts,
+};
+
+/// What the patterns of paths are made of.
+const PIECES: [&str; 20] = [
+    "/a", "/b", "/:x", "/:y", "/*", "{/:z}?", "{a}*", "{b:w/}+", "{/a}+", "*", ".", "-", "b", "é", "/:u?", "/:v*",
+    "/:t+", "{ab}*", "{/*}?", "/:s.a",
+];
+
+/// What texts are made of.
+const LETTERS: [&str; 10] = ["a", "b", "ab", "/", "/a", "/b", ".", "-", "é", "c"];
+
+/// The names in patterns. A wildcard's is a number.
+const NAMES: [&str; 12] = ["x", "y", "z", "w", "u", "v", "t", "s", "0", "1", "2", "3"];
+
+/// How many texts are tried on a pair.
+const TEXTS: usize = 100;
+
+/// A pattern for paths, compiled, and its parts.
+#[derive(Drop)]
+struct Made {
+    pattern: UrlPattern<PatternRegexp>,
+    parts: PatternParts,
+}
+
+/// The init of a path.
+fn init_of(alloc: Global, pathname: &str) -> Result<UrlPatternInit, AllocError> {
+    let name = ComponentName::Pathname;
+    let text = |other: ComponentName| -> Result<Option<String>, AllocError> {
+        if other == name {
+            return Ok(Some(String::from_str(alloc, pathname)?));
+        }
+        Ok(None)
+    };
+    Ok(UrlPatternInit::from_eight(Eight::try_from_fn(text)?, None))
+}
+
+/// A pattern that is made, or why it is refused.
+fn make_pattern(maker: &mut Maker) -> Result<Made, Error> {
+    let alloc = maker.alloc;
+    let text = maker.text(&PIECES, 6)?;
+    let options = UrlPatternOptions::default();
+    let pattern = UrlPattern::parse(alloc, init_of(alloc, &text)?, options)?;
+    let init = init_of(alloc, &text)?;
+    let parts = parts_of(alloc, &pattern, &init, &UrlPatternOptions::default());
+    drop(init);
+    Ok(Made {
+        pattern,
+        parts: parts?,
+    })
+}
+
+/// Asks whether a pattern covers another, and whether they overlap, and tries texts on the answers.
+pub fn ask(maker: &mut Maker) -> Result<Outcome, Error> {
+    match make_pattern(maker) {
+        Ok(covering) => {
+            let outcome = ask_about(maker, &covering);
+            drop(covering);
+            outcome
+        }
+        Err(error) => Outcome::of_error(&error),
+    }
+}
+
+/// Asks of this pattern whether it covers one that is made.
+fn ask_about(maker: &mut Maker, covering: &Made) -> Result<Outcome, Error> {
+    match make_pattern(maker) {
+        Ok(asked) => {
+            let outcome = try_texts(maker, covering, &asked);
+            drop(asked);
+            outcome
+        }
+        Err(error) => Outcome::of_error(&error),
+    }
+}
+
+/// Tries texts on what is said of two patterns.
+fn try_texts(maker: &mut Maker, covering: &Made, asked: &Made) -> Result<Outcome, Error> {
+    let (covers, is_parting) = covering_of(maker.alloc, covering, asked)?;
+    let (apart, is_common) = overlap_of(maker.alloc, covering, asked)?;
+    if !is_parting || !is_common {
+        return Ok(Outcome::Differs);
+    }
+    for _ in 0..TEXTS {
+        let text = text_for(maker, asked)?;
+        let (by_covering, by_asked) = matches_of(maker.alloc, covering, asked, &text)?;
+        if by_asked && (covers && !by_covering || apart && by_covering) {
+            return Ok(Outcome::Differs);
+        }
+    }
+    Ok(Outcome::Same)
+}
+
+/// Whether the one covers the other, and whether the texts that tell otherwise, if there are any, do so.
+fn covering_of(alloc: Global, covering: &Made, asked: &Made) -> Result<(bool, bool), Error> {
+    let found = covering.parts.covers(alloc, &asked.parts)?;
+    let answer = match &found {
+        PatternCovering::Covered => Ok((true, true)),
+        PatternCovering::Unknown(_, _) => Ok((false, true)),
+        PatternCovering::NotCovered(parting) => {
+            let path = parting.texts.get(ComponentName::Pathname);
+            match matches_of(alloc, covering, asked, path) {
+                Ok(found) => Ok((false, found == (false, true))),
+                Err(error) => Err(error),
+            }
+        }
+    };
+    drop(found);
+    answer
+}
+
+/// Whether no text is matched by both, and whether the texts that tell otherwise, if there are any, do so.
+fn overlap_of(alloc: Global, covering: &Made, asked: &Made) -> Result<(bool, bool), Error> {
+    let found = covering.parts.overlaps(alloc, &asked.parts)?;
+    let answer = match &found {
+        PatternOverlap::Apart => Ok((true, true)),
+        PatternOverlap::Unknown(_, _) => Ok((false, true)),
+        PatternOverlap::Common(texts) => {
+            match matches_of(alloc, covering, asked, texts.get(ComponentName::Pathname)) {
+                Ok(found) => Ok((false, found == (true, true))),
+                Err(error) => Err(error),
+            }
+        }
+    };
+    drop(found);
+    answer
+}
+
+/// Whether each of two patterns matches a path.
+fn matches_of(
+    alloc: Global,
+    covering: &Made,
+    asked: &Made,
+    path: &str,
+) -> Result<(bool, bool), Error> {
+    let texts = pathname_texts(path);
+    let by_covering = covering.pattern.test_texts(alloc, &texts)?;
+    Ok((by_covering, asked.pattern.test_texts(alloc, &texts)?))
+}
+
+/// A path that the asked pattern matches, where groups are drawn that it captures, or else any.
+fn text_for(maker: &mut Maker, asked: &Made) -> Result<String, Error> {
+    let alloc = maker.alloc;
+    let mut values = Vec::new(alloc);
+    for _ in NAMES {
+        values.push(maker.text(&LETTERS, 3)?)?;
+    }
+    let mut groups = Vec::new(alloc);
+    for (name, value) in NAMES.iter().zip(&values) {
+        let group: GivenGroup<'_> = (ComponentName::Pathname, *name, value.as_str());
+        groups.push(group)?;
+    }
+    match asked.pattern.generate(alloc, ComponentName::Pathname, &groups) {
+        Ok(text) => Ok(text),
+        Err(_) => Ok(maker.text(&LETTERS, 7)?),
+    }
+}

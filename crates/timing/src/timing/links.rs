@@ -1,0 +1,101 @@
+//! Times the links of what patterns capture, beside `Url::parse` of their texts, in nanoseconds for each call.
+
+use super::Subject;
+use super::rounds::{Timed, least};
+use crate::calls::optional_text;
+use serde_json::Value;
+use std::alloc::Global;
+use std::io;
+use std::io::Write;
+use std::time::Clock;
+use url::Url;
+use urlpattern::regexp::PatternRegexp;
+use urlpattern::{Error, GivenGroup, NoLink, UrlPattern};
+
+/// A pattern, and what is given for its groups.
+#[derive(Drop)]
+struct Link<'a> {
+    pattern: &'a UrlPattern<PatternRegexp>,
+    groups: &'a [GivenGroup<'a>],
+}
+
+impl<'a> Timed for Link<'a> {
+    #[inline(never)]
+    fn call(&self, alloc: Global) -> Result<bool, Error> {
+        Ok(self.pattern.link(alloc, self.groups).is_ok())
+    }
+}
+
+/// The text of a URL.
+#[derive(Drop)]
+struct Text<'a> {
+    text: &'a str,
+}
+
+impl<'a> Timed for Text<'a> {
+    #[inline(never)]
+    fn call(&self, alloc: Global) -> Result<bool, Error> {
+        Ok(Url::parse(alloc, self.text).is_ok())
+    }
+}
+
+/// Prints what the link of the pair of a line takes: its name, the link, and the parse of its text.
+pub fn time_line<R: AllocGlobal + Clock, O: Write>(
+    rt: &R,
+    line: &str,
+    out: &mut O,
+) -> io::Result<()> {
+    let Ok(pair) = serde_json::from_str::<Value>(rt.alloc(), line) else {
+        return writeln!(out, "no pair: {line}");
+    };
+    let name = optional_text(&pair, "name").unwrap_or("");
+    write!(out, "{name}")?;
+    let Some(given) = pair.get("pattern") else {
+        return writeln!(out, "\tno pattern");
+    };
+    match Subject::<PatternRegexp>::new(rt.alloc(), given, &pair) {
+        Ok(subject) => {
+            let timed = time_subject(rt, &subject, out);
+            drop(subject);
+            timed
+        }
+        Err(error) => writeln!(out, "\t{error}"),
+    }
+}
+
+/// Prints what the link of a subject takes.
+fn time_subject<R: AllocGlobal + Clock, O: Write>(
+    rt: &R,
+    subject: &Subject<'_, PatternRegexp>,
+    out: &mut O,
+) -> io::Result<()> {
+    let found = match subject.pattern.captures(rt.alloc(), &subject.url) {
+        Ok(Some(found)) => found,
+        Ok(None) => return writeln!(out, "\tno match"),
+        Err(error) => return writeln!(out, "\t{error}"),
+    };
+    let timed = match found.to_groups(rt.alloc()) {
+        Ok(groups) => time_groups(rt, &subject.pattern, &groups, out),
+        Err(error) => writeln!(out, "\t{error}"),
+    };
+    drop(found);
+    timed
+}
+
+/// Prints what the link of these groups takes, or why there is none.
+fn time_groups<R: AllocGlobal + Clock, O: Write>(
+    rt: &R,
+    pattern: &UrlPattern<PatternRegexp>,
+    groups: &[GivenGroup<'_>],
+    out: &mut O,
+) -> io::Result<()> {
+    match pattern.link(rt.alloc(), groups) {
+        Ok(url) => {
+            let link = least(rt, rt.alloc(), &Link { pattern, groups })?;
+            let text = least(rt, rt.alloc(), &Text { text: url.as_str() })?;
+            writeln!(out, "\t{link}\t{text}")
+        }
+        Err(NoLink::OutOfMemory) => writeln!(out, "\tout of memory"),
+        Err(error) => writeln!(out, "\t{error:?}"),
+    }
+}

@@ -1,0 +1,110 @@
+//! Times comparisons of routes with each other: whether each covers each, whether they overlap, and which are never reached.
+
+use std::alloc::Global;
+use std::borrow::CowStr;
+use std::io;
+use std::io::Write;
+use std::time::{Clock, Instant};
+use urlpattern::quirks::{StringOrInit, process_construct_pattern_input};
+use urlpattern::regexp::PatternRegexp;
+use urlpattern::rules::{PatternCovering, PatternOverlap, PatternParts, parts_of, unreachable};
+use urlpattern::{Error, UrlPattern, UrlPatternOptions};
+
+/// Where all routes are.
+const BASE: &str = "https://api.example.com";
+
+/// What comparisons of all pairs take, and how many there are.
+#[derive(Default, Drop)]
+struct Compared {
+    pairs: u128,
+    found: u128,
+    sum: u128,
+    slowest: u128,
+}
+
+impl Compared {
+    /// Counts a comparison.
+    fn count(&mut self, nanoseconds: u128, is_found: bool) {
+        self.pairs = self.pairs.saturating_add(1);
+        if is_found {
+            self.found = self.found.saturating_add(1);
+        }
+        self.sum = self.sum.saturating_add(nanoseconds);
+        self.slowest = self.slowest.max(nanoseconds);
+    }
+
+    /// Prints the counts, the mean and the slowest in nanoseconds.
+    fn print<O: Write>(&self, out: &mut O, name: &str) -> io::Result<()> {
+        let mean = self.sum / self.pairs.max(1);
+        writeln!(
+            out,
+            "{name}\t{}\t{}\t{mean}\t{}",
+            self.pairs, self.found, self.slowest
+        )
+    }
+}
+
+/// The parts of a route.
+fn parts(alloc: Global, route: &str) -> Result<PatternParts, Error> {
+    let given = |text| StringOrInit::String(CowStr::Borrowed(text));
+    let init = process_construct_pattern_input(alloc, given(route), Some(BASE))?;
+    let options = UrlPatternOptions::default();
+    let pattern = UrlPattern::<PatternRegexp>::parse(alloc, init, options)?;
+    let init = process_construct_pattern_input(alloc, given(route), Some(BASE));
+    let parts = match &init {
+        Ok(init) => parts_of(alloc, &pattern, init, &UrlPatternOptions::default()),
+        Err(_) => Err(Error::OutOfMemory),
+    };
+    drop(init);
+    drop(pattern);
+    parts
+}
+
+/// The parts of the routes that the lines of a text are.
+fn parts_of_lines(alloc: Global, text: &str) -> Result<Vec<PatternParts>, Error> {
+    let mut all = Vec::new(alloc);
+    for line in text.lines() {
+        all.push(parts(alloc, line)?)?;
+    }
+    Ok(all)
+}
+
+/// Prints what comparisons of the routes in the lines of a text take: what is asked, of how many pairs, of how many it holds, and the
+/// mean and the slowest in nanoseconds; and what it takes to find which routes are never reached.
+pub fn run<R: AllocGlobal + Clock, O: Write>(rt: &R, text: &str, out: &mut O) -> io::Result<()> {
+    writeln!(out, "comparison\tpairs\tfound\tmean\tslowest")?;
+    match parts_of_lines(rt.alloc(), text) {
+        Ok(all) => {
+            let compared = compare(rt, &all, out);
+            drop(all);
+            compared
+        }
+        Err(error) => writeln!(out, "{error}"),
+    }
+}
+
+/// Compares all with each other.
+fn compare<R: AllocGlobal + Clock, O: Write>(
+    rt: &R,
+    all: &[PatternParts],
+    out: &mut O,
+) -> io::Result<()> {
+    let mut covers = Compared::default();
+    let mut overlaps = Compared::default();
+    for left in all {
+        for right in all {
+            let start = Instant::now(rt)?;
+            let is_covered = matches!(left.covers(rt.alloc(), right)?, PatternCovering::Covered);
+            covers.count(start.elapsed(rt)?.as_nanos(), is_covered);
+            let start = Instant::now(rt)?;
+            let is_common = matches!(left.overlaps(rt.alloc(), right)?, PatternOverlap::Common(_));
+            overlaps.count(start.elapsed(rt)?.as_nanos(), is_common);
+        }
+    }
+    covers.print(out, "covers")?;
+    overlaps.print(out, "overlaps")?;
+    let start = Instant::now(rt)?;
+    let found = unreachable(rt.alloc(), all)?;
+    let taken = start.elapsed(rt)?.as_nanos();
+    writeln!(out, "unreachable\t1\t{}\t{taken}\t{taken}", found.len())
+}

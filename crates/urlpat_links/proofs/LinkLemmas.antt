@@ -1,0 +1,28 @@
+-- Lemmas on what `link` answers.
+use Rattle.std.proofs.Common.{◌≡◌, ◌≢◌, ℕ, List, ◌∷◌, ◌++◌, codes, subst, sym, String, string_bytes}
+use Rattle.std.specs.Io.KnownBytes.{Appends}
+use Rattle.std.specs.Prelude.{Option}
+use Rattle.std.specs.declared.alloc.Global.{Global}
+use Rattle.url.specs.Parts.{Parts, serialize}
+use Rattle.urlpat_commands.specs.Answers.{IsPatternOf, base_of}
+use Rattle.urlpat_links.specs.LinkAnswers.{HasNoLink, IsLinkBy, IsUnlinked, OfPattern, WritesLink}
+use Rattle.urlpat_links.specs.declared.linking.Unlinked.{Unlinked}
+use Rattle.urlpat_links.specs.declared.linking.Unlinked.TheVariants as unlinked
+use Rattle.urlpat_words.specs.Words.{words_view}
+use Rattle.urlpattern_engine.specs.declared.pattern_regexp.PatternRegexp.{PatternRegexp}
+use Rattle.urlpattern_pattern.specs.Patterns.{PatternView}
+
+module _ (words : List (String Global)) (pattern base : String Global) (given : List (String Global)) (view : PatternView PatternRegexp) (text : List ℕ) (base_text : Option (List ℕ))
+    (are : words ≡ pattern ∷ base ∷ given) (is_text : text ≡ string_bytes pattern) (is_base : base_text ≡ base_of (string_bytes base)) (is : IsPatternOf text base_text view) where
+  -- what is said of the pattern among the words
+  said : (Is : PatternView PatternRegexp → List (List ℕ) → Type 0) → Is view (words_view given) → OfPattern Is (words_view words)
+  said Is holds =
+      subst (λ (ws : List (String Global)). OfPattern Is (words_view ws)) (sym are)
+      (view, subst (λ (b : Option (List ℕ)). IsPatternOf (string_bytes pattern) b view) is_base (subst (λ (t : List ℕ). IsPatternOf t base_text view) is_text is), holds)
+
+  pub writes : (url : Parts) (old new : Option (List ℕ)) → IsLinkBy view (words_view given) url → Appends old new (serialize url ++ codes "\n") → WritesLink (words_view words) old new
+  writes url old new linked appends =
+      said (λ compiled others. (u : Parts) × IsLinkBy compiled others u × Appends old new (serialize u ++ codes "\n")) (url, linked, appends)
+
+  pub has_none : (reason : Unlinked) → reason ≢ unlinked.OutOfMemory → IsUnlinked view (words_view given) reason → HasNoLink (words_view words)
+  has_none reason other is_none = said (λ compiled others. (r : Unlinked) × (r ≢ unlinked.OutOfMemory) × IsUnlinked compiled others r) (reason, other, is_none)

@@ -1,0 +1,48 @@
+-- What `link` answers to its words. Words and texts are bytes.
+use Rattle.std.specs.Prelude.{◌≡◌, ◌≢◌, ◌++◌, ℕ, Any, List, ◌∷◌, codes, Option}
+use Rattle.std.specs.Io.KnownBytes.{Appends}
+use Rattle.url.specs.Parts.{Parts, serialize}
+use Rattle.urlpat_commands.specs.Answers.{IsPatternOf, base_of}
+use Rattle.urlpat_links.specs.Given.{AreGiven, Given, GivesNothing}
+use Rattle.urlpat_links.specs.declared.linking.Unlinked.{Unlinked}
+use Rattle.urlpat_links.specs.declared.linking.Unlinked.TheVariants as unlinked
+use Rattle.urlpattern_engine.specs.PatternRegexps.{pattern_answer}
+use Rattle.urlpattern_engine.specs.declared.pattern_regexp.PatternRegexp.{PatternRegexp}
+use Rattle.urlpattern_generate.specs.Manners.{given_groups}
+use Rattle.urlpattern_pattern.specs.LinkedUrls.{IsLink, RefusesLink}
+use Rattle.urlpattern_pattern.specs.Patterns.{PatternView}
+use Rattle.urlpattern_url.specs.declared.error.NoLink.{NoLink}
+use Rattle.urlpattern_url.specs.declared.error.NoLink.TheVariants as no_link
+
+-- the URL is that of the pattern with the groups that the words give
+abbrev pub IsLinkBy : PatternView PatternRegexp → (words : List (List ℕ)) → Parts → Type 0
+IsLinkBy pattern words url = (groups : List Given) × AreGiven pattern words groups × IsLink pattern_answer pattern (given_groups groups) url
+
+-- the pattern has no URL with these groups, for this reason
+abbrev pub RefusesLinkBy : PatternView PatternRegexp → (words : List (List ℕ)) → NoLink → Type 0
+RefusesLinkBy pattern words error = (groups : List Given) × AreGiven pattern words groups × RefusesLink pattern_answer pattern (given_groups groups) error
+
+-- why there is no URL: a word gives nothing, the pattern has none, or memory ran out
+abbrev pub IsUnlinked : PatternView PatternRegexp → (words : List (List ℕ)) → Unlinked → Type 0
+IsUnlinked pattern words (unlinked.Word word) = Any (GivesNothing pattern) words
+IsUnlinked pattern words (unlinked.NoLink error) = (error ≢ no_link.OutOfMemory) × RefusesLinkBy pattern words error
+IsUnlinked pattern words unlinked.OutOfMemory = Unit {0}
+
+-- ---- what is printed
+
+-- this is said of the pattern among the words after `link`, and of the words after its base
+abbrev pub OfPattern : (Is : PatternView PatternRegexp → List (List ℕ) → Type 0) → (words : List (List ℕ)) → Type 0
+OfPattern Is (pattern ∷ base ∷ words) = (compiled : PatternView PatternRegexp) × IsPatternOf pattern (base_of base) compiled × Is compiled words
+OfPattern Is words = ⊥
+
+-- the URL is written, and a line end
+abbrev pub WritesLink : (words : List (List ℕ)) → (old new : Option (List ℕ)) → Type 0
+WritesLink words old new = OfPattern (λ pattern given. (url : Parts) × IsLinkBy pattern given url × Appends old new (serialize url ++ codes "\n")) words
+
+-- there is no URL
+abbrev pub HasNoLink : (words : List (List ℕ)) → Type 0
+HasNoLink words = OfPattern (λ pattern given. (reason : Unlinked) × (reason ≢ unlinked.OutOfMemory) × IsUnlinked pattern given reason) words
+
+-- the words are `link` and these
+abbrev pub AreLinkWords : (words rest : List (List ℕ)) → Type 0
+AreLinkWords words rest = words ≡ codes "link" ∷ rest

@@ -1,0 +1,112 @@
+//! What the words of `link` give for the groups of a pattern.
+
+ghost use Rattle.std.specs.Prelude.{◌≡◌, IfErr, IfNone, IfOk, IfSome, bytes_eq, string_bytes};
+ghost use Rattle.std.specs.List.{list_any};
+ghost use Rattle.std.specs.Str.{chars};
+ghost use Rattle.urlpat_links.specs.Given.{AreGiven, GivesNothing, IsOnlyOwner, GivesGroup, IsNobodys, IsGroupNamed, NamesNone, RefusesWords};
+ghost use Rattle.urlpat_links.specs.declared.given.Misgiven.TheVariants as all_misgiven;
+ghost use Rattle.urlpat_words.specs.Words.{words_view};
+ghost use Rattle.urlpattern_core.specs.Components.{component_view};
+ghost use Rattle.urlpattern_pattern.specs.Patterns.{pattern_view};
+
+use std::alloc::{AllocError, Global};
+use urlpattern::component::Component;
+use urlpattern::regexp::PatternRegexp;
+use urlpattern::{ComponentName, GivenGroup, UrlPattern};
+
+/// Why words give nothing for the groups of a pattern.
+#[derive(Drop)]
+pub enum Misgiven<'w> {
+    /// This word is not the name of a group, `=` and a text.
+    Word(&'w str),
+    /// The allocator had no memory.
+    OutOfMemory,
+}
+
+impl From<AllocError> for Misgiven<'_> {
+    ghost from_gives = { λ _ error. error ≡ all_misgiven.OutOfMemory };
+
+    fn from(_error: AllocError) -> Self {
+        Misgiven::OutOfMemory
+    }
+}
+
+/// What the words give, each for one group.
+///
+/// The error is a word that gives nothing, or that memory ran out.
+pub fn given_by<'w>(
+    alloc: Global,
+    pattern: &UrlPattern<PatternRegexp>,
+    words: &'w [String],
+) -> Result<Vec<GivenGroup<'w>>, Misgiven<'w>>
+    ensures given { IfOk result (λ groups. AreGiven (pattern_view pattern.now) (words_view words.now) groups.items) }
+    ensures refused { IfErr result (RefusesWords (pattern_view pattern.now) (words_view words.now)) }
+{
+    let mut groups = Vec::with_capacity(alloc, words.len())?;
+    for word in words {
+        match group_of(pattern, word) {
+            Some(group) => {
+                if groups.push(group).is_err() {
+                    return Err(Misgiven::OutOfMemory);
+                }
+            }
+            None => return Err(Misgiven::Word(word)),
+        }
+    }
+    Ok(groups)
+}
+
+/// What a word gives for a group: its name, `=`, and the text. `None`: it has no `=`, or no group has this name.
+fn group_of<'w>(pattern: &UrlPattern<PatternRegexp>, word: &'w str) -> Option<GivenGroup<'w>>
+    ensures given { IfSome result (GivesGroup (pattern_view pattern.now) word.now) }
+    ensures nothing { IfNone result (GivesNothing (pattern_view pattern.now) word.now) }
+{
+    let (name, text) = word.split_once('=')?;
+    let (component, group) = named_group(pattern, name)?;
+    Some((component, group, text))
+}
+
+/// The group of a name: after that of its component and a dot, or alone where one component alone has such a group.
+fn named_group<'w>(
+    pattern: &UrlPattern<PatternRegexp>,
+    name: &'w str,
+) -> Option<(ComponentName, &'w str)>
+    ensures named { IfSome result (λ group. IsGroupNamed (pattern_view pattern.now) name.now group.0 group.1.now) }
+    ensures nothing { IfNone result (NamesNone (pattern_view pattern.now) name.now) }
+{
+    match name.split_once('.') {
+        Some((component, group)) => Some((ComponentName::from_name(component)?, group)),
+        None => Some((owner(pattern, name)?, name)),
+    }
+}
+
+/// The component that alone has a group of this name.
+fn owner(pattern: &UrlPattern<PatternRegexp>, name: &str) -> Option<ComponentName>
+    ensures alone { IfSome result (IsOnlyOwner (pattern_view pattern.now) (chars name.now)) }
+    ensures none { IfNone result (IsNobodys (pattern_view pattern.now) (chars name.now)) }
+{
+    let mut found = None;
+    for component in ComponentName::all() {
+        if has_group(pattern.get(component), name) {
+            if found.is_some() {
+                return None;
+            }
+            found = Some(component);
+        }
+    }
+    found
+}
+
+/// Whether a component has a group of this name.
+fn has_group(component: &Component<PatternRegexp>, name: &str) -> bool
+    ensures { result ≡ list_any (bytes_eq (chars name.now)) (component_view component.now).group_name_list }
+{
+    is_among(&component.group_name_list, name)
+}
+
+/// Whether a name is among these.
+fn is_among(names: &[String], name: &str) -> bool
+    ensures { result ≡ list_any (λ other. bytes_eq name.now (string_bytes other)) names.now }
+{
+    names.iter().any(|other| name == other.as_str())
+}

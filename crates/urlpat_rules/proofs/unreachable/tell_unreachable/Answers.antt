@@ -1,0 +1,13 @@
+use Rattle.std.proofs.Common.{◌∙◌, ap, length, nat_lt, subst, string_bytes}
+use Rattle.std.specs.Prelude.{option_copied}
+use Rattle.urlpat_commands.specs.FilterLines.{status_of}
+use Rattle.std.specs.Io.KnownBytes.{Appends}
+use Rattle.urlpat_rules.proofs.ListLemmas.{lists-of}
+use Rattle.urlpat_rules.proofs.unreachable.tell_unreachable.Goals as goal
+
+pub returns-in-Ok-print-clause-answers : goal.returns-in-Ok-print-clause-answers
+returns-in-Ok-print-clause-answers g c = λ answered.
+    lists-of c.args.table.now (option_copied c.args.base) c.in-Some.entries.items c.deref.result.now c.deref-2.result.now c.in-Some-parts_of_each.patterns.items c.deref-3.result.now
+    (string_bytes c.in-Ok.text) _ _ _ c.in-Some.ensures c.deref.ensures.value c.deref-2.ensures.value c.deref-3.ensures.value c.in-Some-parts_of_each.ensures c.in-Ok.ensures
+    (c.status_of.ensures.is ∙ ap (λ lines. status_of (nat_lt 0 (length lines))) c.deref-in-Ok-print.ensures)
+    (subst (Appends (g.Out.Write.contents c.args.out.now) (g.Out.Write.contents c.print.new.out)) c.as_bytes.ensures.value c.in-Ok-print.ensures)

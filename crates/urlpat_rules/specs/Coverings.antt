@@ -1,0 +1,59 @@
+-- Whether a pattern covers another, and what is printed of it. Words and texts are bytes.
+use Rattle.std.specs.Prelude.{◌≡◌, ℕ, List, [], ◌∷◌, ◌++◌, codes, Option, None, String, string_bytes}
+use Rattle.std.specs.List.{flat_map}
+use Rattle.std.specs.Io.KnownBytes.{Appends}
+use Rattle.std.specs.declared.alloc.Global.{Global}
+use Rattle.urlpat_commands.specs.Answers.{IsPatternOf, default_pattern_options}
+use Rattle.urlpattern_create.specs.Compiled.{IsPatternOfInit}
+use Rattle.urlpattern_eight.specs.Eight.{at, components, name_text}
+use Rattle.urlpattern_eight.specs.declared.eight.ComponentName.{ComponentName}
+use Rattle.urlpattern_eight.specs.declared.eight.Eight.{Eight}
+use Rattle.urlpattern_engine.specs.PatternRegexps.{pattern_answer, pattern_engine}
+use Rattle.urlpattern_engine.specs.declared.pattern_regexp.PatternRegexp.{PatternRegexp}
+use Rattle.urlpattern_init.specs.declared.init.UrlPatternInit.{UrlPatternInit}
+use Rattle.urlpattern_pattern.specs.Patterns.{PatternView}
+use Rattle.urlpattern_readings.specs.Readings.{AreItsParts}
+use Rattle.urlpattern_rules.specs.Comparing.{IsPatternCovering}
+use Rattle.urlpattern_rules.specs.declared.pattern.{Parting.Parting, PatternCovering.PatternCovering, PatternParts.PatternParts}
+use Rattle.urlpattern_rules.specs.declared.pattern.PatternCovering.TheVariants.{Covered, NotCovered, Unknown}
+
+-- ---- parts
+
+-- the parts are those of the pattern that the constructor string with this base URL is compiled to
+abbrev pub ArePartsOf : (text : List ℕ) → (base : Option (List ℕ)) → PatternParts → Type 0
+ArePartsOf text base parts = (compiled : PatternView PatternRegexp) × IsPatternOf text base compiled × AreItsParts pattern_answer compiled parts
+
+-- the same of an init
+abbrev pub ArePartsOfInit : UrlPatternInit → PatternParts → Type 0
+ArePartsOfInit init parts =
+    (compiled : PatternView PatternRegexp) × IsPatternOfInit pattern_engine init default_pattern_options compiled × AreItsParts pattern_answer compiled parts
+
+-- whether the pattern of the first constructor string covers that of the asked one
+abbrev pub ComparesWith : (pattern asked : List ℕ) → PatternCovering → Type 0
+ComparesWith pattern asked covering =
+    (parts asked_parts : PatternParts) × ArePartsOf pattern None parts × ArePartsOf asked None asked_parts × IsPatternCovering parts asked_parts covering
+
+-- ---- what is printed
+
+-- a line with the text of a component, and those of all
+abbrev pub text_line : Eight (String Global) → ComponentName → List ℕ
+text_line texts name = name_text name ++ codes "=" ++ string_bytes (at texts name) ++ codes "\n"
+
+abbrev pub text_lines : Eight (String Global) → List ℕ
+text_lines texts = flat_map (text_line texts) components
+
+-- a line with the component in which patterns part, and the texts by which they do
+abbrev pub parting_lines : Parting → List ℕ
+parting_lines parting = codes "not covered: " ++ name_text parting.component ++ codes "\n" ++ text_lines parting.texts
+
+-- what is printed of it, with this status; if it is not known, nothing is
+abbrev pub TellsCovering : PatternCovering → (status : ℕ) → (old new : Option (List ℕ)) → Type 0
+TellsCovering Covered status old new = (status ≡ 0) × Appends old new (codes "covered\n")
+TellsCovering (NotCovered parting) status old new = (status ≡ 1) × Appends old new (parting_lines parting)
+TellsCovering (Unknown component reason) status old new = ⊥
+
+-- what is printed for the words after `covers`
+abbrev pub TellsWhether : (words : List (List ℕ)) → (status : ℕ) → (old new : Option (List ℕ)) → Type 0
+TellsWhether (pattern ∷ asked ∷ []) status old new =
+    (covering : PatternCovering) × ComparesWith pattern asked covering × TellsCovering covering status old new
+TellsWhether words status old new = ⊥

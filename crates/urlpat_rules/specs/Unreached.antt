@@ -1,0 +1,49 @@
+-- Which patterns of a table one before them covers, and what is printed of them. Words and texts are bytes.
+use Rattle.std.specs.Prelude.{◌≡◌, ℕ, All, List, [], ◌∷◌, ◌++◌, codes, decimal, length, nat_lt, Option, None, Some, option_map, slice_get, unwrap_or}
+use Rattle.std.specs.List.{AllZip, flat_map}
+use Rattle.std.specs.Io.KnownBytes.{Appends}
+use Rattle.urlpat_commands.specs.Answers.{base_of}
+use Rattle.urlpat_commands.specs.FilterLines.{status_of}
+use Rattle.urlpat_rules.specs.Coverings.{ArePartsOf}
+use Rattle.urlpat_tables.specs.Tables.{EntryView, table_entries}
+use Rattle.urlpattern_rules.specs.Comparing.{IsListed, IsShadowed}
+use Rattle.urlpattern_rules.specs.declared.list.Shadowed.{Shadowed}
+use Rattle.urlpattern_rules.specs.declared.pattern.PatternParts.{PatternParts}
+
+-- the words name a file, and the base URL that a second word stands for
+abbrev pub NameTable : (words : List (List ℕ)) → (name : List ℕ) → (base : Option (List ℕ)) → Type 0
+NameTable (file ∷ []) name base = (name ≡ file) × (base ≡ None)
+NameTable (file ∷ word ∷ []) name base = (name ≡ file) × (base ≡ base_of word)
+NameTable words name base = ⊥
+
+-- the parts are those of the pattern of each entry
+abbrev pub ArePartsOfEach : (base : Option (List ℕ)) → List EntryView → List PatternParts → Type 0
+ArePartsOfEach base entries patterns = AllZip (λ entry parts. ArePartsOf entry.pattern base parts) entries patterns
+
+-- the number of the line of an entry
+abbrev pub number_at : List EntryView → (index : ℕ) → ℕ
+number_at entries index = unwrap_or (option_map (λ entry. entry.number) (slice_get entries index)) 0
+
+-- a line with the number of a pattern's line, and that of the pattern that covers it
+abbrev pub unreached_line : List EntryView → Shadowed → List ℕ
+unreached_line entries shadowed =
+    decimal (number_at entries shadowed.pattern) ++ codes "\t" ++ decimal (number_at entries shadowed.by) ++ codes "\n"
+
+-- a line for each pattern that one before it is known to cover, by the first such one, and for no other
+abbrev pub AreUnreached : List PatternParts → List EntryView → (text : List ℕ) → Type 0
+AreUnreached patterns entries text =
+    (found : List Shadowed) × All (IsShadowed patterns) found
+    × ((index : ℕ) (asked : PatternParts) → slice_get patterns index ≡ Some asked → IsListed patterns found index asked)
+    × (text ≡ flat_map (unreached_line entries) found)
+
+-- what is printed of a table: these lines, with the status 1 if there are none
+abbrev pub ListsOf : (table : List ℕ) → (base : Option (List ℕ)) → (status : ℕ) → (old new : Option (List ℕ)) → Type 0
+ListsOf table base status old new =
+    (patterns : List PatternParts) × ArePartsOfEach base (table_entries table) patterns
+    × (text : List ℕ) × AreUnreached patterns (table_entries table) text × (status ≡ status_of (nat_lt 0 (length text))) × Appends old new text
+
+-- what is printed for the words after `unreachable`, where files have these tables
+abbrev pub Lists : (Has : (name table : List ℕ) → Type 0) → (words : List (List ℕ)) → (status : ℕ) → (old new : Option (List ℕ)) → Type 0
+Lists Has words status old new =
+    (name : List ℕ) × (base : Option (List ℕ)) × NameTable words name base
+    × (table : List ℕ) × Has name table × ListsOf table base status old new

@@ -1,0 +1,53 @@
+//! All commands of the program.
+
+ghost use Rattle.std.specs.Prelude.{◌≡◌, ◌≢◌, ◌⊎◌, ◌∷◌, IfSome};
+ghost use Rattle.urlpat_commands.specs.Answers.{words_view};
+ghost use Rattle.urlpat_rules.specs.Commands.{DoesAny, FailsAny, MayReport};
+
+use crate::covering::covers;
+use crate::tables::Tables;
+use crate::unreachable::list_unreachable;
+use std::alloc::Global;
+use std::io::{BufRead, Write};
+use urlpat_commands::{DONE, FAILED, NO_MATCH};
+use urlpat_words::asks_for_help;
+
+/// Does what the words ask for, and gives the status to end with.
+///
+/// `filter` reads lines from `input`, and `unreachable` a file from `tables`. What is printed goes to `out`, and why there is no
+/// answer to `err`.
+pub fn run<T: Tables, In: BufRead, Out: Write, Err: Write>(
+    alloc: Global,
+    tables: &T,
+    words: &[String],
+    input: &mut In,
+    out: &mut Out,
+    err: &mut Err,
+) -> u8
+    ensures status { (result ≡ DONE) ⊎ (result ≡ NO_MATCH) ⊎ (result ≡ FAILED) }
+    ensures answers { result ≢ FAILED → DoesAny (T.Has tables.now) (words_view words.now) result (In.remaining input.old) (Out.contents out.old) (Out.contents out.new) }
+    ensures quiet { result ≢ FAILED → (err.new ≡ err.old) ⊎ MayReport (words_view words.now) }
+    ensures fails { result ≡ FAILED → FailsAny (words_view words.now) (out.new ≡ out.old) }
+{
+    if let Some(rest) = words_after(words, "covers") {
+        return covers(alloc, rest, out, err);
+    }
+    if let Some(rest) = words_after(words, "unreachable") {
+        return list_unreachable(alloc, tables, rest, out, err);
+    }
+    urlpat_commands::run(alloc, words, input, out, err)
+}
+
+/// The words after a command of this name. `None`: the first word is another, or they ask for help.
+fn words_after<'w>(words: &'w [String], name: &str) -> Option<&'w [String]>
+    ensures { IfSome result (λ rest. words_view words.now ≡ name.now ∷ words_view rest.now) }
+{
+    let [command, rest @ ..] = words else {
+        return None;
+    };
+    if command.as_str() == name && !asks_for_help(rest) {
+        Some(rest)
+    } else {
+        None
+    }
+}

@@ -1,0 +1,56 @@
+//! Tables of patterns, read from files.
+
+ghost use Rattle.std.specs.Prelude.{◌≡◌, ℕ, List, IfOk, IfSome};
+ghost use Rattle.urlpat_tables.specs.Tables.{entries_view, table_entries};
+
+use std::alloc::Global;
+use std::io;
+use std::io::Write;
+use urlpat_tables::{Entry, NoTable, entries_of};
+
+/// What has the files of tables.
+pub trait Tables {
+    ghost Has: { Self → (name table : List ℕ) → Type 0 };
+
+    /// The bytes of the file of this name.
+    fn read(&self, name: &str) -> io::Result<Vec<u8>>
+        ensures { IfOk result (λ table. Has self.now name.now table.items) };
+}
+
+/// The table of this name. `None`: it cannot be read, which is reported.
+pub fn read_table<T: Tables, Err: Write>(tables: &T, name: &str, err: &mut Err) -> Option<Vec<u8>>
+    ensures { IfSome result (λ table. T.Has tables.now name.now table.items) }
+{
+    match tables.read(name) {
+        Ok(table) => Some(table),
+        Err(error) => {
+            let _ = if error.kind() == io::ErrorKind::OutOfMemory {
+                err.write_all(b"out of memory\n")
+            } else {
+                writeln!(err, "the file `{name}` cannot be read")
+            };
+            None
+        }
+    }
+}
+
+/// The entries of a table. `None`: it has none, which is reported.
+pub fn read_entries<'t, Err: Write>(
+    alloc: Global,
+    table: &'t [u8],
+    err: &mut Err,
+) -> Option<Vec<Entry<'t>>>
+    ensures { IfSome result (λ entries. entries_view entries.items ≡ table_entries table.now) }
+{
+    match entries_of(alloc, table) {
+        Ok(entries) => Some(entries),
+        Err(NoTable::NotUtf8(number)) => {
+            let _ = writeln!(err, "line {number} is not UTF-8");
+            None
+        }
+        Err(NoTable::OutOfMemory) => {
+            let _ = err.write_all(b"out of memory\n");
+            None
+        }
+    }
+}

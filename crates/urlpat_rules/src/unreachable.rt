@@ -1,0 +1,175 @@
+//! The command `unreachable`: the patterns of a table that one before them covers.
+
+ghost use Rattle.std.specs.Io.KnownBytes.{Appends};
+ghost use Rattle.std.specs.Prelude.{◌≡◌, ◌≢◌, ◌⊎◌, ◌++◌, length, nat_lt, string_bytes, option_copied, IfOk, IfSome, OnOk};
+ghost use Rattle.urlpat_commands.specs.Answers.{words_view};
+ghost use Rattle.urlpat_commands.specs.FilterLines.{status_of};
+ghost use Rattle.urlpat_rules.specs.Unreached.{ArePartsOfEach, AreUnreached, NameTable, Lists, ListsOf, number_at, unreached_line};
+ghost use Rattle.urlpat_tables.specs.Tables.{entries_view};
+
+use crate::parts::parts_of_text;
+use crate::tables::{Tables, read_entries, read_table};
+use std::alloc::{AllocError, Global};
+use std::io::Write;
+use urlpat_commands::{DONE, FAILED, NO_MATCH, base_of, print, write_refusal};
+use urlpat_tables::Entry;
+use urlpattern::Error;
+use urlpattern::rules::{PatternParts, Shadowed, unreachable};
+
+/// The usage of `unreachable`.
+const UNREACHABLE_USAGE: &str = "usage: urlpat unreachable FILE [BASE]\n";
+
+/// Does what the words after `unreachable` ask for, and gives the status to end with.
+pub fn list_unreachable<T: Tables, Out: Write, Err: Write>(
+    alloc: Global,
+    tables: &T,
+    words: &[String],
+    out: &mut Out,
+    err: &mut Err,
+) -> u8
+    ensures status { (result ≡ DONE) ⊎ (result ≡ NO_MATCH) ⊎ (result ≡ FAILED) }
+    ensures answers { result ≢ FAILED → Lists (T.Has tables.now) (words_view words.now) result (Out.contents out.old) (Out.contents out.new) }
+{
+    let Some((name, base)) = table_words(words) else {
+        let _ = err.write_all(UNREACHABLE_USAGE.as_bytes());
+        return FAILED;
+    };
+    let Some(table) = read_table(tables, name, err) else {
+        return FAILED;
+    };
+    let status = tell_unreachable(alloc, &table, base, out, err);
+    drop(table);
+    status
+}
+
+/// The file that words name, and the base URL, if there is one. `None`: they are other words.
+fn table_words(words: &[String]) -> Option<(&str, Option<&str>)>
+    ensures { IfSome result (λ asked. NameTable (words_view words.now) asked.0.now (option_copied asked.1)) }
+{
+    match words {
+        [name] => Some((name.as_str(), None)),
+        [name, base] => Some((name.as_str(), base_of(base))),
+        _ => None,
+    }
+}
+
+/// Writes which patterns of a table one before them covers, and gives the status to end with.
+fn tell_unreachable<Out: Write, Err: Write>(
+    alloc: Global,
+    table: &[u8],
+    base: Option<&str>,
+    out: &mut Out,
+    err: &mut Err,
+) -> u8
+    ensures status { (result ≡ DONE) ⊎ (result ≡ NO_MATCH) ⊎ (result ≡ FAILED) }
+    ensures answers { result ≢ FAILED → ListsOf table.now (option_copied base.entry) result (Out.contents out.old) (Out.contents out.new) }
+{
+    let Some(entries) = read_entries(alloc, table, err) else {
+        return FAILED;
+    };
+    let Some(patterns) = parts_of_each(alloc, &entries, base, err) else {
+        return FAILED;
+    };
+    let text = unreached_text(alloc, &entries, &patterns);
+    drop(patterns);
+    let Ok(text) = text else {
+        let _ = err.write_all(b"out of memory\n");
+        return FAILED;
+    };
+    match print(text.as_bytes(), out) {
+        Ok(()) => status_of(&text),
+        Err(_) => FAILED,
+    }
+}
+
+/// The status of a run that printed these lines, or none.
+fn status_of(text: &str) -> u8
+    ensures either { (result ≡ DONE) ⊎ (result ≡ NO_MATCH) }
+    ensures is { result ≡ status_of (nat_lt 0 (length text.now)) }
+{
+    if text.is_empty() { NO_MATCH } else { DONE }
+}
+
+/// The parts of the pattern of each entry. `None`: one is refused, or memory ran out, which is reported.
+fn parts_of_each<Err: Write>(
+    alloc: Global,
+    entries: &[Entry<'_>],
+    base: Option<&str>,
+    err: &mut Err,
+) -> Option<Vec<PatternParts>>
+    ensures { IfSome result (λ parts. ArePartsOfEach (option_copied base.entry) (entries_view entries.now) parts.items) }
+{
+    let mut patterns = Vec::new(alloc);
+    for entry in entries {
+        let parts = match parts_of_text(alloc, entry.pattern, base) {
+            Ok(parts) => parts,
+            Err(error) => {
+                report_refused(alloc, entry, base, error, err);
+                return None;
+            }
+        };
+        let Ok(()) = patterns.push(parts) else {
+            let _ = err.write_all(b"out of memory\n");
+            return None;
+        };
+    }
+    Some(patterns)
+}
+
+/// Reports why the pattern of an entry or its base is refused, with the number of its line, or that memory ran out.
+fn report_refused<Err: Write>(
+    alloc: Global,
+    entry: &Entry<'_>,
+    base: Option<&str>,
+    error: Error,
+    err: &mut Err,
+) {
+    match &error {
+        Error::OutOfMemory => {}
+        _ => {
+            let _ = write!(err, "line {}: ", entry.number);
+        }
+    }
+    write_refusal(alloc, entry.pattern, base, error, err);
+}
+
+/// A line for each pattern that one before it covers.
+fn unreached_text(
+    alloc: Global,
+    entries: &[Entry<'_>],
+    patterns: &[PatternParts],
+) -> Result<String, AllocError>
+    ensures { IfOk result (λ text. AreUnreached patterns.now (entries_view entries.now) (string_bytes text)) }
+{
+    let found = unreachable(alloc, patterns)?;
+    let mut text = String::new(alloc);
+    for shadowed in &found {
+        push_shadowed(alloc, &mut text, entries, *shadowed)?;
+    }
+    Ok(text)
+}
+
+/// Appends a line with the number of the line of a pattern, and that of the one that covers it.
+fn push_shadowed(
+    alloc: Global,
+    text: &mut String,
+    entries: &[Entry<'_>],
+    shadowed: Shadowed,
+) -> Result<(), AllocError>
+    ensures { OnOk result (string_bytes text.new ≡ string_bytes text.old ++ unreached_line (entries_view entries.now) shadowed) }
+{
+    let pattern = number_at(entries, shadowed.pattern);
+    let by = number_at(entries, shadowed.by);
+    let line = format!(in alloc; "{pattern}\t{by}\n")?;
+    text.push_str(&line)
+}
+
+/// The number of the line of an entry.
+fn number_at(entries: &[Entry<'_>], index: usize) -> u64
+    ensures { result ≡ number_at (entries_view entries.now) index }
+{
+    match entries.get(index) {
+        Some(entry) => entry.number,
+        None => 0,
+    }
+}

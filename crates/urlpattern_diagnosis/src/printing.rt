@@ -1,0 +1,201 @@
+//! How a diagnosis is printed.
+
+use crate::diagnosis::Diagnosis;
+use std::fmt;
+use unicode_width::UnicodeWidthChar;
+use urlpattern_faults::Span;
+
+/// How many columns of a text are printed at most.
+const WIDTH: usize = 80;
+
+/// How many columns of a longer text are printed, beside the dots where it is cut.
+const CUT_WIDTH: usize = 74;
+
+/// How many columns up to the end of the marks are printed of a longer text, if it has as many.
+const WIDTH_TO_MARKS: usize = 54;
+
+/// What is printed where a text is cut.
+const DOTS: &str = "...";
+
+/// Prints three lines: the reason, the text, and a line that marks the part at fault by `^` and the one that it is at odds with by
+/// `-`.
+///
+/// The marks are as wide as the characters above them in a terminal. Of a text wider than 80 columns a part is printed, with dots
+/// where it is cut, and a mark that is not in this part is named after the others, with the number of its first character. Tabs and
+/// line ends are printed as spaces.
+impl fmt::Display for Diagnosis {
+    fn fmt<W: fmt::Write>(&self, f: &mut fmt::Formatter<W>) -> fmt::Result {
+        writeln!(f, "{}", self.reason)?;
+        let shown = self.shown();
+        self.write_text(shown, f)?;
+        f.write_str("\n")?;
+        self.write_marks(shown, f)?;
+        match self.fault.earlier {
+            Some(earlier) if !meets(earlier, shown) => self.write_left_out(earlier, f),
+            _ => Ok(()),
+        }
+    }
+}
+
+impl Diagnosis {
+    /// The part of the text that is printed.
+    fn shown(&self) -> Span {
+        let text = self.text.as_str();
+        if width_between(text, 0, text.len()) <= WIDTH {
+            return Span::whole(text);
+        }
+        let marks = self.marks_to_show();
+        let start = self.shown_from(marks);
+        let mut end = start;
+        let mut width = 0usize;
+        for (index, c) in text.char_indices().skip_while(|(index, _)| *index < start) {
+            width = width.saturating_add(width_of(c));
+            if width > CUT_WIDTH {
+                break;
+            }
+            end = index.saturating_add(c.len_utf8());
+        }
+        Span { start, end }
+    }
+
+    /// From where the text is printed so that the marks are in it.
+    fn shown_from(&self, marks: Span) -> usize {
+        let room = width_between(&self.text, marks.start, marks.end).max(WIDTH_TO_MARKS);
+        let mut left = width_between(&self.text, 0, marks.end);
+        for (index, c) in self.text.char_indices() {
+            if left <= room || index >= marks.start {
+                return index;
+            }
+            left = left.saturating_sub(width_of(c));
+        }
+        self.text.len()
+    }
+
+    /// From the first mark to the last, if there is room for both, or else the part at fault.
+    fn marks_to_show(&self) -> Span {
+        let span = self.fault.span;
+        let Some(earlier) = self.fault.earlier else {
+            return span;
+        };
+        let both = Span {
+            start: earlier.start.min(span.start),
+            end: earlier.end.max(span.end),
+        };
+        if width_between(&self.text, both.start, both.end) < CUT_WIDTH {
+            both
+        } else {
+            span
+        }
+    }
+
+    /// Writes a part of the text.
+    fn write_text<W: fmt::Write>(&self, shown: Span, f: &mut fmt::Formatter<W>) -> fmt::Result {
+        if shown.start > 0 {
+            f.write_str(DOTS)?;
+        }
+        for (index, c) in self.text.char_indices() {
+            if has(shown, index) {
+                let printed = if c.is_control() { ' ' } else { c };
+                write!(f, "{printed}")?;
+            }
+        }
+        if shown.end < self.text.len() {
+            f.write_str(DOTS)?;
+        }
+        Ok(())
+    }
+
+    /// Writes the marks under a part of the text, up to the last one.
+    fn write_marks<W: fmt::Write>(&self, shown: Span, f: &mut fmt::Formatter<W>) -> fmt::Result {
+        if shown.start > 0 {
+            f.write_str("   ")?;
+        }
+        let last = self.last_marked();
+        let mut is_marked = false;
+        for (index, c) in self.text.char_indices() {
+            if index >= last {
+                break;
+            }
+            if has(shown, index) {
+                for _ in 0..width_of(c) {
+                    f.write_str(self.mark(index))?;
+                    is_marked = is_marked || self.is_at_fault(index);
+                }
+            }
+        }
+        if !is_marked {
+            f.write_str("^")?;
+        }
+        Ok(())
+    }
+
+    /// Writes where a part is that is not printed.
+    fn write_left_out<W: fmt::Write>(&self, part: Span, f: &mut fmt::Formatter<W>) -> fmt::Result {
+        let before = self
+            .text
+            .char_indices()
+            .take_while(|(index, _)| *index < part.start);
+        let number = before.count().saturating_add(1);
+        f.write_str(" and `")?;
+        for (index, c) in self.text.char_indices() {
+            if has(part, index) {
+                write!(f, "{c}")?;
+            }
+        }
+        write!(f, "` at character {number}")
+    }
+
+    /// What follows the last character that is marked.
+    fn last_marked(&self) -> usize {
+        let end = match self.fault.earlier {
+            Some(earlier) => earlier.end.max(self.fault.span.end),
+            None => self.fault.span.end,
+        };
+        end.max(self.fault.span.start.saturating_add(1))
+    }
+
+    /// The mark under the character that begins at a byte.
+    fn mark(&self, index: usize) -> &'static str {
+        if self.is_at_fault(index) {
+            return "^";
+        }
+        match self.fault.earlier {
+            Some(earlier) if has(earlier, index) => "-",
+            _ => " ",
+        }
+    }
+
+    /// Whether the character that begins at a byte is at fault, or the fault is just before it.
+    fn is_at_fault(&self, index: usize) -> bool {
+        has(self.fault.span, index) || index == self.fault.span.start
+    }
+}
+
+/// Whether a span has the byte at an index.
+fn has(span: Span, index: usize) -> bool {
+    span.start <= index && index < span.end
+}
+
+/// Whether two spans have a byte in common.
+fn meets(span: Span, other: Span) -> bool {
+    span.start < other.end && other.start < span.end
+}
+
+/// How many columns the characters take that begin from one byte on up to another.
+fn width_between(text: &str, start: usize, end: usize) -> usize {
+    let mut width = 0usize;
+    for (index, c) in text.char_indices() {
+        if start <= index && index < end {
+            width = width.saturating_add(width_of(c));
+        }
+    }
+    width
+}
+
+/// How many columns a character takes as it is printed.
+fn width_of(c: char) -> usize {
+    if c.is_control() {
+        return 1;
+    }
+    c.width().unwrap_or(1)
+}

@@ -1,0 +1,89 @@
+//! What is at fault where a text has no token.
+ghost use Rattle.std.specs.Prelude.{◌≡◌, ◌≤◌, ◌++◌, codes, length, List, ℕ, IfNone, IfSome};
+ghost use Rattle.std.specs.Str.{chars};
+ghost use Rattle.urlpattern_faults.specs.Faults.{IsBodyFault, IsFaultIn, IsAfterFront, IsRefusedFront, HasTokenFault};
+ghost use Rattle.urlpattern_syntax.specs.Text.{BeginsAt, BeginsWith, is_among};
+ghost use Rattle.urlpattern_syntax.specs.Tokens.{IsFault, IsFaultAt, InvalidRegex, IsRegexpFront, fault_view};
+
+use crate::fault::Fault;
+use crate::span::Span;
+use urlpattern_syntax::error::TokenizerError;
+use urlpattern_syntax::tokenizer::split_first;
+
+/// The fault of a text whose first fault is this one, at this place.
+pub(crate) fn token_fault(text: &str, place: usize, fault: &TokenizerError) -> Fault
+    requires { IsFault (chars text.now) (fault_view fault.now) place }
+    ensures fault { HasTokenFault text.now (fault_view fault.now) place result }
+    ensures within { IsFaultIn text.now result }
+{
+    match fault {
+        TokenizerError::IncompleteEscapeCode => {
+            Fault::of_span(Span::at(text, text.len().saturating_sub(1), 1))
+        }
+        TokenizerError::InvalidName => Fault::of_span(Span::at(text, place, 1)),
+        TokenizerError::InvalidRegex(_) => match split_first(&text[place..]) {
+            Some((_, body)) => body_fault(text, place, body),
+            None => Fault::whole(text),
+        },
+    }
+}
+
+/// The fault of a text that has no custom expression where this body follows a `(`, which is at this place.
+fn body_fault(text: &str, place: usize, body: &str) -> Fault
+    requires faulty { (reported : List ℕ) × IsFaultAt (codes "(" ++ chars body.now) (InvalidRegex reported) }
+    requires within { length body.now ≤ length text.now }
+    ensures fault { IsBodyFault text.now place (chars body.now) result }
+    ensures within { IsFaultIn text.now result }
+{
+    if let Some(('?' | ')', _)) = split_first(body) {
+        return Fault::of_span(Span::at(text, place, 2));
+    }
+    let open = Span::at(text, place, 1);
+    match refused_in(body) {
+        Some((left, len)) => Fault {
+            span: Span::at(text, text.len() - left.len(), len),
+            earlier: Some(open),
+        },
+        None => Fault::of_span(open),
+    }
+}
+
+/// What is left of a body from where it may not go on, and how many bytes of that may not be there. `None`: the text ends before
+/// the body does.
+fn refused_in(body: &str) -> Option<(&str, usize)>
+    requires faulty { (reported : List ℕ) × IsFaultAt (codes "(" ++ chars body.now) (InvalidRegex reported) }
+    requires unmarked { ¬ BeginsWith (is_among (codes "?)")) (chars body.now) }
+    ensures end { IfNone result (IsRegexpFront (chars body.now)) }
+    ensures left { IfSome result (λ found. IsAfterFront (chars body.now) (chars found.0.now)) }
+    ensures refused { IfSome result (λ found. IsRefusedFront (chars found.0.now) found.1) }
+    ensures len { IfSome result (λ found. length found.0.now ≤ length body.now) }
+{
+    let mut rest = body;
+    let mut depth = 0usize;
+    while let Some((first, after)) = split_first(rest) {
+        match first {
+            '\\' => match split_first(after) {
+                Some((escaped, next)) if escaped.is_ascii() => rest = next,
+                Some((escaped, _)) => return Some((rest, 1 + escaped.len_utf8())),
+                None => return None,
+            },
+            '(' => match split_first(after) {
+                Some(('?', next)) => {
+                    rest = next;
+                    depth += 1;
+                }
+                _ => return Some((rest, 1)),
+            },
+            ')' => {
+                if depth == 0 {
+                    return None;
+                }
+                rest = after;
+                depth -= 1;
+            }
+            _ if first.is_ascii() => rest = after,
+            _ => return Some((rest, first.len_utf8())),
+        }
+    }
+    None
+}

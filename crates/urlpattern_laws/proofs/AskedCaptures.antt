@@ -1,0 +1,113 @@
+-- What the groups of parts are to capture is one list, and what they captured, given again.
+use Rattle.std.proofs.Common.{◌≡◌, ℕ, Bool, true, false, List, [], ◌∷◌, ap, arith, inl, inr, refl, sym, subst, ◌∙◌, Option, Some, None, map}
+use Rattle.std.proofs.lemmas.List.Elements.{All-head, All-tail}
+use Rattle.std.specs.Prelude.{filter, not, if◌then◌else◌}
+use Rattle.url.specs.Parser.{Parsed}
+use Rattle.urlpattern_generate.specs.Asked.{AreAsked, IsAsked, IsAskedBy, capture_by_modifier}
+use Rattle.urlpattern_generate.specs.Manners.{WritingManner}
+use Rattle.urlpattern_laws.specs.LinkLaws.{AreCanonical, IsCanonicalCapture}
+use Rattle.urlpattern_links.specs.Links.{MayCapture, MayCaptureAll, OfFirst, captures_after}
+use Rattle.urlpattern_meaning.specs.PartMeaning.{Allows, Captures, capture_of_no_copies}
+use Rattle.urlpattern_syntax.specs.declared.parser.PartModifier.{PartModifier}
+use Rattle.urlpattern_syntax.specs.declared.parser.PartModifier.TheVariants as modifiers
+use Rattle.urlpattern_syntax.specs.declared.parser.PartType.{PartType}
+use Rattle.urlpattern_syntax.specs.declared.parser.PartType.TheVariants.{FixedText, FullWildcard, Regexp, SegmentWildcard}
+use Rattle.urlpattern_syntax.specs.Options.{OptionsView}
+use Rattle.urlpattern_syntax.specs.Parts.{PartView}
+use Rattle.urlpattern_syntax.specs.RegexpText.{group_names, is_fixed_text}
+
+-- ---- one list
+
+asked_once : (canonical : List ℕ → Parsed (List ℕ)) (given : Option (List ℕ)) (part : PartView) (capture other : Option (List ℕ)) →
+    IsAskedBy canonical given part capture → IsAskedBy canonical given part other → capture ≡ other
+asked_once canonical None part capture other is also = is ∙ sym also
+asked_once canonical (Some text) part capture other (value, is, e) (another, also, f) = cc (is, e, also, f)
+
+first_once : (manner : WritingManner) (kind : PartType) (part : PartView) (captures others : Captures) → OfFirst (IsAsked manner) kind part captures → OfFirst (IsAsked manner) kind part others →
+    captures_after kind captures ≡ captures_after kind others → captures ≡ others
+first_once manner FixedText part captures others is also e = e
+first_once manner Regexp part [] others is also e = absurd is
+first_once manner Regexp part (capture ∷ captures) [] is also e = absurd also
+first_once manner Regexp part (capture ∷ captures) (other ∷ others) is also e = λ i. asked_once manner.canonical (manner.given part.name) part capture other is also i ∷ e i
+first_once manner SegmentWildcard part [] others is also e = absurd is
+first_once manner SegmentWildcard part (capture ∷ captures) [] is also e = absurd also
+first_once manner SegmentWildcard part (capture ∷ captures) (other ∷ others) is also e = λ i. asked_once manner.canonical (manner.given part.name) part capture other is also i ∷ e i
+first_once manner FullWildcard part [] others is also e = absurd is
+first_once manner FullWildcard part (capture ∷ captures) [] is also e = absurd also
+first_once manner FullWildcard part (capture ∷ captures) (other ∷ others) is also e = λ i. asked_once manner.canonical (manner.given part.name) part capture other is also i ∷ e i
+
+-- the groups of parts are to capture one list of texts
+pub asked_one : (manner : WritingManner) (parts : List PartView) (captures others : Captures) → AreAsked manner parts captures → AreAsked manner parts others → captures ≡ others
+asked_one manner [] captures others are also = are ∙ sym also
+asked_one manner (part ∷ parts) captures others are also =
+    first_once manner part.kind part captures others are.0 also.0
+    (asked_one manner parts (captures_after part.kind captures) (captures_after part.kind others) are.1 also.1)
+
+-- ---- what was captured, given again
+
+none_again : (modifier : PartModifier) (part : PartView) → Allows modifier 0 → None ≡ capture_of_no_copies part → None ≡ capture_by_modifier modifier part
+none_again modifiers.None part allowed e = absurd (omega (arith, allowed))
+none_again modifiers.Optional part allowed e = refl
+none_again modifiers.ZeroOrMore part allowed e = e
+none_again modifiers.OneOrMore part allowed e = absurd (omega (arith, allowed))
+
+capture_again : (canonical : List ℕ → Parsed (List ℕ)) (options : OptionsView) (part : PartView) (capture : Option (List ℕ)) → MayCapture options part capture →
+    IsCanonicalCapture canonical capture → IsAskedBy canonical capture part capture
+capture_again canonical options part None (inl (allowed, e)) is = none_again part.modifier part allowed e
+capture_again canonical options part None (inr never) is = absurd never
+capture_again canonical options part (Some text) may is = (text, is, refl)
+
+-- What is known of the first part and of those after it.
+record AreAgain (manner : WritingManner) (kind : PartType) (part : PartView) (names : List (List ℕ)) (found : Captures) : Type 0 where
+  first : OfFirst (IsAsked manner) kind part found
+  given : map manner.given names ≡ captures_after kind found
+  canonical : AreCanonical manner.canonical (captures_after kind found)
+
+group_again : (manner : WritingManner) (options : OptionsView) (part : PartView) (capture given : Option (List ℕ)) → given ≡ capture → MayCapture options part capture →
+    IsCanonicalCapture manner.canonical capture → IsAskedBy manner.canonical given part capture
+group_again manner options part capture given e may is =
+    subst (λ g. IsAskedBy manner.canonical g part capture) (sym e) (capture_again manner.canonical options part capture may is)
+
+head_of : (given capture : Option (List ℕ)) (others captures : Captures) → given ∷ others ≡ capture ∷ captures → given ≡ capture
+head_of given capture others captures e = cc e
+
+tail_of : (given capture : Option (List ℕ)) (others captures : Captures) → given ∷ others ≡ capture ∷ captures → others ≡ captures
+tail_of given capture others captures e = cc e
+
+-- the same where the part is a group
+first_again : (manner : WritingManner) (options : OptionsView) (kind : PartType) (part : PartView) (names : List (List ℕ)) (found : Captures) →
+    map manner.given (if not (is_fixed_text kind) then part.name ∷ names else names) ≡ found → OfFirst (MayCapture options) kind part found → AreCanonical manner.canonical found →
+    AreAgain manner kind part names found
+first_again manner options FixedText part names found e may are = record { first = tt; given = e; canonical = are }
+first_again manner options Regexp part names [] e may are = absurd may
+first_again manner options Regexp part names (capture ∷ captures) e may are = record {
+  first = group_again manner options part capture (manner.given part.name) (head_of (manner.given part.name) capture (map manner.given names) captures e) may (All-head (IsCanonicalCapture manner.canonical) capture captures are);
+  given = tail_of (manner.given part.name) capture (map manner.given names) captures e;
+  canonical = All-tail (IsCanonicalCapture manner.canonical) capture captures are;
+}
+first_again manner options SegmentWildcard part names [] e may are = absurd may
+first_again manner options SegmentWildcard part names (capture ∷ captures) e may are = record {
+  first = group_again manner options part capture (manner.given part.name) (head_of (manner.given part.name) capture (map manner.given names) captures e) may (All-head (IsCanonicalCapture manner.canonical) capture captures are);
+  given = tail_of (manner.given part.name) capture (map manner.given names) captures e;
+  canonical = All-tail (IsCanonicalCapture manner.canonical) capture captures are;
+}
+first_again manner options FullWildcard part names [] e may are = absurd may
+first_again manner options FullWildcard part names (capture ∷ captures) e may are = record {
+  first = group_again manner options part capture (manner.given part.name) (head_of (manner.given part.name) capture (map manner.given names) captures e) may (All-head (IsCanonicalCapture manner.canonical) capture captures are);
+  given = tail_of (manner.given part.name) capture (map manner.given names) captures e;
+  canonical = All-tail (IsCanonicalCapture manner.canonical) capture captures are;
+}
+
+-- the names of a part, if it is a group, and of those after it
+names_first : (group : Bool) (part : PartView) (parts : List PartView) → map (λ (p : PartView). p.name) (if group then part ∷ parts else parts) ≡ (if group then part.name ∷ map (λ (p : PartView). p.name) parts else map (λ (p : PartView). p.name) parts)
+names_first true part parts = refl
+names_first false part parts = refl
+
+-- what groups may capture is what they are to capture, where it is given for them
+pub given_again : (manner : WritingManner) (options : OptionsView) (parts : List PartView) (found : Captures) → map manner.given (group_names parts) ≡ found →
+    MayCaptureAll options parts found → AreCanonical manner.canonical found → AreAsked manner parts found
+given_again manner options [] found e may are = may
+given_again manner options (part ∷ parts) found e may are =
+    let again = first_again manner options part.kind part (group_names parts) found
+    (ap (map manner.given) (sym (names_first (not (is_fixed_text part.kind)) part (filter (λ (p : PartView). not (is_fixed_text p.kind)) parts))) ∙ e) may.0 are in
+    (again.first, given_again manner options parts (captures_after part.kind found) again.given may.1 again.canonical)

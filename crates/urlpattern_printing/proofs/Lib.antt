@@ -1,0 +1,4 @@
+pub mod NameLists
+pub mod OutcomeLemmas
+pub mod PrintedTexts
+pub mod RegexpTexts

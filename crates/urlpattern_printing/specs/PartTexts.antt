@@ -1,0 +1,40 @@
+-- What is written of one part: what a clause sees of the structs that write it.
+use Rattle.std.specs.Prelude.{ℕ, Bool, List}
+use Rattle.urlpattern_printing.specs.declared.printed.PrintedPart.{PrintedPart}
+use Rattle.urlpattern_printing.specs.declared.regexp_text.PartRegexp.{PartRegexp}
+use Rattle.urlpattern_printing.specs.Neighbours.{neighbour}
+use Rattle.urlpattern_meaning.specs.Printing.{printed_group}
+use Rattle.urlpattern_syntax.specs.{Options.options_view, Parts.part_view, Text.text_of}
+use Rattle.urlpattern_syntax.specs.RegexpText.{affixed_regexp, bare_regexp, escaped_regexp, fixed_regexp, matched_by}
+
+-- ---- in the regular expression
+
+-- the value, the prefix and the suffix, each with backslashes before the characters that mean more than themselves
+abbrev pub escaped_value : PartRegexp → List ℕ
+escaped_value regexp = escaped_regexp (options_view regexp.options.now) (text_of regexp.part.now.value)
+
+abbrev pub escaped_prefix : PartRegexp → List ℕ
+escaped_prefix regexp = escaped_regexp (options_view regexp.options.now) (text_of regexp.part.now.prefix)
+
+abbrev pub escaped_suffix : PartRegexp → List ℕ
+escaped_suffix regexp = escaped_regexp (options_view regexp.options.now) (text_of regexp.part.now.suffix)
+
+-- what one copy of the part matches, without prefix and suffix
+abbrev pub matched_text : PartRegexp → List ℕ
+matched_text regexp = matched_by (options_view regexp.options.now) regexp.part.now.kind (text_of regexp.part.now.value)
+
+-- all of a fixed text, of a group with neither prefix nor suffix, and of a group with one of them
+abbrev pub fixed_part : PartRegexp → List ℕ
+fixed_part regexp = fixed_regexp regexp.part.now.modifier (escaped_value regexp)
+
+abbrev pub bare_part : PartRegexp → List ℕ
+bare_part regexp = bare_regexp regexp.part.now.modifier (matched_text regexp)
+
+abbrev pub affixed_part : PartRegexp → List ℕ
+affixed_part regexp = affixed_regexp regexp.part.now.modifier (escaped_prefix regexp) (matched_text regexp) (escaped_suffix regexp)
+
+-- ---- in the pattern text
+
+-- all of a part that is no fixed text, between its neighbours
+abbrev pub group_part : PrintedPart → (braces : Bool) → List ℕ
+group_part printed braces = printed_group (options_view printed.options.now) (neighbour printed.previous) (part_view printed.part.now) braces

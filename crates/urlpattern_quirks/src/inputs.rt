@@ -1,0 +1,176 @@
+//! What a pattern is constructed from, and what it is matched against.
+ghost use Rattle.std.specs.Prelude.{◌≡◌, None, Ok, Some, max, option_copied, option_map, IfErr, IfOk};
+ghost use Rattle.url.specs.Parser as url_spec;
+ghost use Rattle.urlpattern_init.specs.Inheritance.{values_view};
+ghost use Rattle.urlpattern_quirks.specs.Inputs.{IsCopyOfText, FindsInput, IsConstructedFrom, IsInitOf, RefusesInput, RefusesSecondBase, longer_bytes, parsed_base, parsed_text, plain_base, plain_values, text_bytes};
+ghost use Rattle.urlpattern_canonical.specs.Canonical.{Reports};
+ghost use Rattle.urlpattern_inputs.specs.declared.input.StringOrInit.TheVariants as plain_inputs;
+ghost use Rattle.urlpattern_eight.specs.Eight.{at};
+ghost use Rattle.urlpattern_syntax.specs.Errors.{MemoryOr, OnlyOutOfMemory};
+ghost use Rattle.urlpattern_syntax.specs.Text.{text_of, option_text};
+
+use regex::Regex;
+use std::alloc::{AllocError, Global};
+use std::borrow::CowStr;
+use url::Url;
+use urlpattern_canonical::canonicalize_and_process::reported;
+use urlpattern_core::Error;
+use urlpattern_create::{init_of_text, parse_base, parse_url};
+use urlpattern_eight::{ComponentName, Eight};
+use urlpattern_init as init;
+use urlpattern_init::UrlPatternMatchInput;
+use urlpattern_inputs::{Inputs, StringOrInit, UrlPatternInit};
+
+/// The init of a pattern: of a constructor string, with a base URL if there is one, or of components one by one.
+///
+/// The error is that `url` refuses the base URL, that a constructor string is refused, that a base URL is given beside
+/// components, or that memory ran out.
+///
+/// <https://urlpattern.spec.whatwg.org/#url-pattern-create>
+pub fn process_construct_pattern_input(
+    alloc: Global,
+    input: StringOrInit<'_>,
+    base_url: Option<&str>,
+) -> Result<init::UrlPatternInit, Error>
+    ensures constructed { IfOk result (IsConstructedFrom input.entry (option_copied base_url.entry)) }
+    ensures refused { IfErr result (MemoryOr (RefusesInput input.entry (option_copied base_url.entry))) }
+{
+    match input {
+        StringOrInit::String(text) => init_of_text::<Regex>(alloc, text.as_str(), base_url),
+        StringOrInit::Init(init) => match base_url {
+            Some(_) => Err(Error::BaseUrlWithInit),
+            None => init_of(alloc, init),
+        },
+    }
+}
+
+/// The init of components one by one, with their base URL.
+fn init_of(alloc: Global, init: UrlPatternInit) -> Result<init::UrlPatternInit, Error>
+    ensures init { IfOk result (IsInitOf init) }
+    ensures refused { IfErr result (MemoryOr (Reports (parsed_base (plain_base init)) (text_bytes (plain_base init)))) }
+{
+    let base_url = parse_base(alloc, init.base_url.as_deref())?;
+    Ok(init::UrlPatternInit::from_eight(init.into_eight(), base_url))
+}
+
+/// What a pattern is matched against, and the input again with the text of the base URL beside it. `None`: `url` refuses
+/// the text or a base URL.
+///
+/// The error is that a base URL is given beside an init, or that memory ran out.
+///
+/// <https://urlpattern.spec.whatwg.org/#url-pattern-match>
+pub fn process_match_input<'a>(
+    alloc: Global,
+    input: StringOrInit<'a>,
+    base_url: Option<&str>,
+) -> Result<Option<(UrlPatternMatchInput, Inputs<'a>)>, Error>
+    ensures found { IfOk result (FindsInput input.entry (option_copied base_url.entry)) }
+    ensures refused { IfErr result (MemoryOr (RefusesSecondBase input.entry (option_copied base_url.entry))) }
+{
+    match input {
+        StringOrInit::String(text) => match_text(alloc, text, base_url),
+        StringOrInit::Init(init) => match base_url {
+            Some(_) => Err(Error::BaseUrlWithInit),
+            None => match_init(alloc, init),
+        },
+    }
+}
+
+/// The URL of a text, and the text again with that of its base URL. `None`: `url` refuses one of them.
+///
+/// The error is that memory ran out.
+fn match_text<'a>(
+    alloc: Global,
+    text: CowStr<'a>,
+    base_url: Option<&str>,
+) -> Result<Option<(UrlPatternMatchInput, Inputs<'a>)>, Error>
+    ensures found { IfOk result (FindsInput (plain_inputs.String text.entry) (option_copied base_url.entry)) }
+    ensures memory { OnlyOutOfMemory result }
+{
+    match parse_text(alloc, text.as_str(), base_url) {
+        Ok(url) => {
+            let base_url = owned(alloc, base_url)?;
+            let inputs = (StringOrInit::String(text), base_url);
+            Ok(Some((UrlPatternMatchInput::Url(url), inputs)))
+        }
+        Err(Error::Url(_)) => Ok(None),
+        Err(_) => Err(Error::OutOfMemory),
+    }
+}
+
+/// An init with its base URL, and the init again. `None`: `url` refuses the base URL.
+///
+/// The error is that memory ran out.
+fn match_init<'a>(
+    alloc: Global,
+    init: UrlPatternInit,
+) -> Result<Option<(UrlPatternMatchInput, Inputs<'a>)>, Error>
+    ensures found { IfOk result (FindsInput (plain_inputs.Init init) None) }
+    ensures memory { OnlyOutOfMemory result }
+{
+    match parse_base(alloc, init.base_url.as_deref()) {
+        Ok(base_url) => {
+            let copy = copied_init(alloc, &init, base_url)?;
+            let inputs = (StringOrInit::Init(init), None);
+            Ok(Some((UrlPatternMatchInput::Init(copy), inputs)))
+        }
+        Err(Error::Url(_)) => Ok(None),
+        Err(_) => Err(Error::OutOfMemory),
+    }
+}
+
+/// A copy of an init, with this base URL.
+///
+/// The error is that memory ran out.
+fn copied_init(
+    alloc: Global,
+    init: &UrlPatternInit,
+    base_url: Option<Url>,
+) -> Result<init::UrlPatternInit, Error>
+    ensures texts { IfOk result (λ copy. values_view copy ≡ plain_values init.now) }
+    ensures base { IfOk result (λ copy. copy.base_url ≡ base_url) }
+    ensures memory { OnlyOutOfMemory result }
+{
+    let text = |name: ComponentName| -> Result<Option<String>, AllocError>
+        ensures { IsCopyOfText (at (plain_values init.entry.now) name) result }
+    { owned(alloc, init.get(name)) };
+    let texts = Eight::try_from_fn(text)?;
+    Ok(init::UrlPatternInit::from_eight(texts, base_url))
+}
+
+/// A copy of a text, if there is one.
+fn owned(alloc: Global, text: Option<&str>) -> Result<Option<String>, AllocError>
+    ensures { IsCopyOfText (option_text text.entry) result }
+{
+    match text {
+        Some(text) => Ok(Some(String::from_str(alloc, text)?)),
+        None => Ok(None),
+    }
+}
+
+/// The URL of a text, under a base URL if there is one.
+///
+/// The error is the refusal of `url`, or that memory ran out.
+fn parse_text(alloc: Global, text: &str, base_url: Option<&str>) -> Result<Url, Error>
+    ensures ok { IfOk result (λ url. parsed_text (option_copied base_url.entry) text.now ≡ Ok url) }
+    ensures err { IfErr result (MemoryOr (Reports (parsed_text (option_copied base_url.entry) text.now)
+        (longer_bytes (option_copied base_url.entry) text.now))) }
+{
+    match base_url {
+        Some(base) => {
+            let url = parse_url(alloc, base)?;
+            join(&url, text, text.len().max(base.len()))
+        }
+        None => parse_url(alloc, text),
+    }
+}
+
+/// The URL of a text under a base URL, where neither text has more than so many bytes.
+///
+/// The error is the refusal of `url`, or that memory ran out.
+fn join(base: &Url, text: &str, bytes: usize) -> Result<Url, Error>
+    ensures ok { IfOk result (λ url. url_spec.parse_url (Some base.now) text.now ≡ Ok url) }
+    ensures err { IfErr result (MemoryOr (Reports (url_spec.parse_url (Some base.now) text.now) bytes)) }
+{
+    reported(base.join(text), bytes)
+}

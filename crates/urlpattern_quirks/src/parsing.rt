@@ -1,0 +1,62 @@
+//! Patterns for browsers: compiled, and as plain data.
+ghost use Rattle.std.specs.Prelude.{◌≡◌, IfErr, IfOk};
+ghost use Rattle.urlpattern_create.specs.Compiled.{IsPatternOfInit, RefusesInit};
+ghost use Rattle.urlpattern_pattern.specs.Patterns.{pattern_view, IfPattern};
+ghost use Rattle.urlpattern_quirks.specs.Quirks.{IsPlainOf, plain_pattern, IsPlainOfInit};
+ghost use Rattle.urlpattern_compiled.specs.Values.{pattern_by};
+ghost use Rattle.urlpattern_syntax.specs.Errors.{MemoryOr, OnlyOutOfMemory};
+ghost use Rattle.urlpattern_syntax.specs.Text.{text_of};
+
+use std::alloc::Global;
+use urlpattern_compiled::{UrlPattern, UrlPatternComponent};
+use urlpattern_core::Error;
+use urlpattern_core::component::Component;
+use urlpattern_core::regexp::RegExp;
+use urlpattern_init::UrlPatternInit;
+use urlpattern_inputs::UrlPatternOptions;
+use urlpattern_pattern as pattern;
+
+/// Compiles a pattern from an init, and returns it as plain data.
+///
+/// The error is that of compiling the pattern.
+pub fn parse_pattern<R: RegExp>(
+    alloc: Global,
+    init: UrlPatternInit,
+    options: UrlPatternOptions,
+) -> Result<UrlPattern, Error>
+    ensures parsed { IfOk result (IsPlainOfInit R.RegExp init options) }
+    ensures refused { IfErr result (MemoryOr (RefusesInit R.RegExp init options)) }
+{
+    let pattern = pattern::UrlPattern::<R>::parse(alloc, init, options)?;
+    plain_pattern(alloc, pattern)
+}
+
+/// Compiles a pattern from an init.
+///
+/// The error is that of compiling the pattern.
+pub fn parse_pattern_as_lib<R: RegExp>(
+    alloc: Global,
+    init: UrlPatternInit,
+    options: UrlPatternOptions,
+) -> Result<pattern::UrlPattern<R>, Error>
+    ensures compiled { IfPattern result (IsPatternOfInit R.RegExp init options) }
+    ensures refused { IfErr result (MemoryOr (RefusesInit R.RegExp init options)) }
+{
+    pattern::UrlPattern::parse(alloc, init, options)
+}
+
+/// The plain value of a pattern.
+fn plain_pattern<R: RegExp>(
+    alloc: Global,
+    pattern: pattern::UrlPattern<R>,
+) -> Result<UrlPattern, Error>
+    ensures plain { IfOk result (λ plain. pattern_by text_of plain ≡ plain_pattern R.text_made_of (pattern_view pattern)) }
+    ensures memory { OnlyOutOfMemory result }
+{
+    let has_regexp_groups = pattern.has_regexp_groups();
+    let plain = |component: Component<R>| -> Result<UrlPatternComponent, Error>
+        ensures { IsPlainOf R.text_made_of component result }
+    { UrlPatternComponent::from_component(alloc, component) };
+    let components = pattern.into_eight().try_map(plain)?;
+    Ok(UrlPattern::from_eight(components, has_regexp_groups))
+}
