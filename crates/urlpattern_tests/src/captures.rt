@@ -5,7 +5,7 @@ use std::alloc::Global;
 use std::process::Abort;
 use std::test::Fail;
 use url::Url;
-use urlpattern::{ComponentName, Error, UrlPattern, UrlPatternCaptures};
+use urlpattern::{ComponentName, Error, NoLink, UrlPattern, UrlPatternCaptures};
 
 /// The groups of all components. Of a component that is left out it is a wildcard, whose name is a number.
 const EACH: &[(ComponentName, &str, Option<&str>)] = &[
@@ -80,6 +80,7 @@ fn expect_linked(
     assert!(rt; groups.len() < EACH.len());
     match pattern.link(alloc, &groups) {
         Ok(link) => assert_eq!(rt; link.as_str(), url.as_str()),
+        Err(NoLink::OutOfMemory) => return Err(Error::OutOfMemory),
         Err(_) => panic!(rt; "no link"),
     }
     Ok(())
