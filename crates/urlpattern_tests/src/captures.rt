@@ -5,7 +5,7 @@ use std::alloc::Global;
 use std::process::Abort;
 use std::test::Fail;
 use url::Url;
-use urlpattern::{ComponentName, Error, NoLink, UrlPattern, UrlPatternCaptures};
+use urlpattern::{ComponentName, Error, UrlPattern, UrlPatternCaptures};
 
 /// The groups of all components. Of a component that is left out it is a wildcard, whose name is a number.
 const EACH: &[(ComponentName, &str, Option<&str>)] = &[
@@ -65,24 +65,8 @@ fn expect_copied(
     let copy = found.clone()?;
     expect_groups(rt, &copy);
     drop(copy);
-    Ok(())
-}
-
-/// Compares the link of the groups that took part with the URL.
-fn expect_linked(
-    rt: &impl Abort,
-    alloc: Global,
-    pattern: &UrlPattern,
-    url: &Url,
-    found: &UrlPatternCaptures<'_, '_>,
-) -> Result<(), Error> {
     let groups = found.to_groups(alloc)?;
     assert!(rt; groups.len() < EACH.len());
-    match pattern.link(alloc, &groups) {
-        Ok(link) => assert_eq!(rt; link.as_str(), url.as_str()),
-        Err(NoLink::OutOfMemory) => return Err(Error::OutOfMemory),
-        Err(_) => panic!(rt; "no link"),
-    }
     Ok(())
 }
 
@@ -95,10 +79,7 @@ fn expect_match(
 ) -> Result<(), Error> {
     let found = pattern.captures(alloc, url)?;
     let outcome = match &found {
-        Some(found) => match expect_copied(rt, alloc, found) {
-            Ok(()) => expect_linked(rt, alloc, pattern, url, found),
-            Err(error) => Err(error),
-        },
+        Some(found) => expect_copied(rt, alloc, found),
         None => panic!(rt; "no match"),
     };
     drop(found);
