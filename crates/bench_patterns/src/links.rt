@@ -1,10 +1,11 @@
-//! Asks for URLs of patterns whose groups capture what is given.
+//! Asks for URLs of patterns whose groups capture what is given, or what they captured of a URL.
 
 use crate::generated::{groups_of, is_reason, is_refused};
-use crate::patterns;
+use crate::{given, patterns};
 use bench_rows::Case;
-use bench_rows::recorded::{Answer, Fault, has_text, list};
+use bench_rows::recorded::{Answer, Fault, has_text, list, optional_text};
 use serde_json::Value;
+use std::alloc::Global;
 use url::Url;
 use urlpattern_core::Error;
 use urlpattern_core::regexp::RegExp;
@@ -16,14 +17,72 @@ pub fn is_same<R: RegExp>(case: &Case<'_>) -> Result<bool, Fault> {
     let Answer::Ok(recorded) = case.answer else {
         return Ok(false);
     };
-    let groups = groups_of(case.alloc, list(case.question, "groups")?)?;
     let built: Result<UrlPattern<R>, Error> = patterns::built(case.alloc, case.question)?;
     match built {
         Ok(pattern) => {
-            let found = pattern.link(case.alloc, &groups);
+            let found = linked(case, &pattern);
             drop(pattern);
-            is_recorded(found, recorded)
+            is_recorded(found?, recorded)
         }
+        Err(Error::OutOfMemory) => Err(Fault::OutOfMemory),
+        Err(_) => Err(Fault::NoCase),
+    }
+}
+
+/// The URL with the groups of a question: those that it gives, or those of the match of a URL, which is borrowed or owned.
+fn linked<R: RegExp>(
+    case: &Case<'_>,
+    pattern: &UrlPattern<R>,
+) -> Result<Result<Url, NoLink>, Fault> {
+    if let Some(text) = optional_text(case.question, "of") {
+        let url = made(given::url(case.alloc, text))?;
+        let found = linked_of_captures(case.alloc, pattern, &url);
+        drop(url);
+        return found;
+    }
+    if let Some(text) = optional_text(case.question, "of_result") {
+        let url = made(given::url(case.alloc, text))?;
+        let found = linked_of_result(case.alloc, pattern, &url);
+        drop(url);
+        return found;
+    }
+    let groups = groups_of(case.alloc, list(case.question, "groups")?)?;
+    Ok(pattern.link(case.alloc, &groups))
+}
+
+/// The URL with what a pattern captures of a URL.
+fn linked_of_captures<R: RegExp>(
+    alloc: Global,
+    pattern: &UrlPattern<R>,
+    url: &Url,
+) -> Result<Result<Url, NoLink>, Fault> {
+    let Some(found) = made(pattern.captures(alloc, url))? else {
+        return Err(Fault::NoCase);
+    };
+    let groups = made(found.to_groups(alloc))?;
+    Ok(pattern.link(alloc, &groups))
+}
+
+/// The URL with the groups of the result of a URL.
+fn linked_of_result<R: RegExp>(
+    alloc: Global,
+    pattern: &UrlPattern<R>,
+    url: &Url,
+) -> Result<Result<Url, NoLink>, Fault> {
+    let Some(found) = made(pattern.exec_url(alloc, url))? else {
+        return Err(Fault::NoCase);
+    };
+    let groups = made(found.to_groups(alloc))?;
+    let link = pattern.link(alloc, &groups);
+    drop(groups);
+    drop(found);
+    Ok(link)
+}
+
+/// What was made. The URLs of a question are accepted.
+fn made<T: Drop>(found: Result<T, Error>) -> Result<T, Fault> {
+    match found {
+        Ok(value) => Ok(value),
         Err(Error::OutOfMemory) => Err(Fault::OutOfMemory),
         Err(_) => Err(Fault::NoCase),
     }

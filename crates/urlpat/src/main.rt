@@ -1,5 +1,5 @@
-//! Matches URLs against patterns: one URL, the first of some patterns, or the lines of standard input; prints the URL that a pattern
-//! matches with given groups; compares patterns; and shows what the pattern of one component is compiled to.
+//! Matches URLs against patterns: one URL, the first of some patterns, or the lines of standard input; explains a pattern; prints the
+//! URL that a pattern matches with given groups; compares patterns; and shows what the pattern of one component is compiled to.
 #![tactic(auto)]
 
 ghost use Rattle.std.specs.Prelude.{⊤};
@@ -9,6 +9,7 @@ use std::io::{BufReader, BufWriter};
 use std::process::ExitCode;
 use std::{env, fs, io};
 use urlpat_commands::{Failure, fail};
+use urlpat_explain::{explain, explain_words};
 use urlpat_links::{link, link_words};
 use urlpat_rules::{Tables, run};
 
@@ -44,6 +45,9 @@ fn run_buffered(rt: &HostRuntime, words: &[String]) -> io::Result<u8> {
     let mut out = BufWriter::new(alloc, rt.stdout())?;
     if let Some(rest) = link_words(words) {
         return Ok(link(alloc, rest, &mut out, &mut rt.stderr()));
+    }
+    if let Some(rest) = explain_words(words) {
+        return Ok(explain(alloc, rest, &mut out, &mut rt.stderr()));
     }
     let files = HostFiles { rt };
     Ok(run(alloc, &files, words, &mut input, &mut out, &mut rt.stderr()))

@@ -9,5 +9,5 @@ mod matching;
 mod notes;
 
 pub use command::{DONE, FAILED, Failure, NO_MATCH, fail, print, run};
-pub use matching::{base_of, compiled};
-pub use notes::write_refusal;
+pub use matching::{base_of, compiled, push_match, url_of};
+pub use notes::{note_of, write_refusal};

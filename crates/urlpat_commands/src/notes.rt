@@ -12,7 +12,7 @@ use url::{ParseError, Url};
 use urlpattern::error::OutOfMemory;
 use urlpattern::parser::parse_pattern_string;
 use urlpattern::regexp::PatternRegexp;
-use urlpattern::{Diagnosis, Error, Subject, UrlPattern, UrlPatternOptions};
+use urlpattern::{ComponentName, Diagnosis, Error, Subject, UrlPattern, UrlPatternOptions};
 use urlpattern_diagnosis::{Place, fault_of};
 
 /// Says that the input among the words is no URL. `None`: it is one, or there is none.
@@ -62,8 +62,10 @@ fn first_note(alloc: Global, words: &[String]) -> Result<Option<String>, Error>
     note_of(alloc, base_of(base), input)
 }
 
-/// Says that an input is no URL.
-fn note_of(alloc: Global, base: Option<&str>, input: &str) -> Result<Option<String>, Error>
+/// Says that an input is no URL. `None`: it is one.
+///
+/// The error is that memory ran out.
+pub fn note_of(alloc: Global, base: Option<&str>, input: &str) -> Result<Option<String>, Error>
     ensures { IfOk result (λ note. IfSome note (λ text. IsRefusedText input.now (option_copied base.entry))) }
 {
     match url_of(alloc, base, input)? {
@@ -230,7 +232,14 @@ fn component_diagnosis(
         Err(Error::OutOfMemory) => return Err(OutOfMemory),
         Err(error) => error,
     };
-    let fault = fault_of(alloc, pattern, &options.prefix_code_point, &error)?;
+    let component = ComponentName::from_name(kind);
+    let fault = fault_of(
+        alloc,
+        component,
+        pattern,
+        &options.prefix_code_point,
+        &error,
+    )?;
     let place = Place::of(pattern, pattern, 0, 0);
     let diagnosis = Diagnosis::of_part(
         alloc,

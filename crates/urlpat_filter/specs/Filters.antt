@@ -1,5 +1,5 @@
 -- What `filter` answers to the lines that it reads. Texts are bytes.
-use Rattle.std.specs.Prelude.{◌≡◌, ◌⊎◌, ℕ, Bool, true, false, List, [], ◌++◌, codes, decimal, nat_lt, Option, None, Some}
+use Rattle.std.specs.Prelude.{◌≡◌, ◌⊎◌, ℕ, Bool, true, false, List, [], ◌++◌, codes, decimal, nat_lt, IfSome, Option, None, Some}
 use Rattle.std.specs.Io.KnownBytes.{Appends}
 use Rattle.urlpat_filter.specs.declared.filter.Outcome.{Outcome}
 use Rattle.urlpat_filter.specs.declared.filter.Outcome.TheVariants as outcomes
@@ -80,3 +80,7 @@ abbrev pub FiltersText : (Answers : (text line : List ℕ) → Verdict → (writ
 FiltersText Answers shape text any old new =
     (selected : ℕ) × (written : List ℕ) × AreAnswersTo Answers (lines_of text) selected written
     × Appends old new (written ++ count_line shape selected) × (any ≡ nat_lt 0 selected)
+
+-- what a reader has, if that is known, has such answers
+abbrev pub FiltersInput : (Answers : (text line : List ℕ) → Verdict → (written : List ℕ) → Type 0) → Shape → (input : Option (List ℕ)) → (any : Bool) → (old new : Option (List ℕ)) → Type 0
+FiltersInput Answers shape input any old new = IfSome input (λ text. FiltersText Answers shape text any old new)

@@ -1,7 +1,7 @@
 //! The command `filter`, over anything that matches lines.
 ghost use Rattle.std.specs.Prelude.{◌≡◌, ℕ, List, Option, IfOk, IfSome, OnOk, None, nat_lt};
 ghost use Rattle.std.specs.Io.KnownBytes.{Appends};
-ghost use Rattle.urlpat_filter.specs.Filters.{AnswersMatched, AnswersUnmatched, FilterAnswers, FiltersText, GetsPiece, IsOutcome, asked_shape, count_line};
+ghost use Rattle.urlpat_filter.specs.Filters.{AnswersMatched, AnswersUnmatched, FilterAnswers, FiltersInput, FiltersText, GetsPiece, IsOutcome, asked_shape, count_line};
 ghost use Rattle.urlpat_lines.specs.Answers.{selected_by};
 ghost use Rattle.urlpattern_eight.specs.declared.eight.ComponentName.{ComponentName};
 
@@ -65,8 +65,23 @@ pub fn filter_lines<In: BufRead, Out: Write, Err: Write, M: LineMatcher>(
         inverted: query.inverted,
         shape: query.shape,
     };
-    match answer_lines(alloc, &rule, input, out, err) {
-        Ok(tally) => finish(query.shape, tally, out, err),
+    write_answers(alloc, &rule, query.shape, input, out, err)
+}
+
+/// Writes the answers of a rule to the lines of a reader, and how many lines are selected, if the shape has that. Returns whether one
+/// is. `None`: there is a failure, which is reported to `err`, unless the output failed.
+pub fn write_answers<In: BufRead, Out: Write, Err: Write, R: Rule>(
+    alloc: Global,
+    rule: &R,
+    shape: Shape<'_>,
+    input: &mut In,
+    out: &mut Out,
+    err: &mut Err,
+) -> Option<bool>
+    ensures { IfSome result (λ any. FiltersInput (R.Answers rule.now) shape.entry (In.remaining input.old) any (Out.contents out.old) (Out.contents out.new)) }
+{
+    match answer_lines(alloc, rule, input, out, err) {
+        Ok(tally) => finish(shape, tally, out, err),
         Err(fault) => report_fault(&fault, err),
     }
 }

@@ -17,7 +17,7 @@ use Rattle.urlpattern_engine.specs.declared.pattern_regexp.PatternRegexp.{Patter
 use Rattle.urlpattern_init.specs.declared.init.UrlPatternInit.{UrlPatternInit}
 use Rattle.urlpattern_pattern.specs.ByText.{AnswersByItsText}
 use Rattle.urlpattern_pattern.specs.Patterns.{PatternView}
-use Rattle.urlpattern_readings.specs.Readings.{AreItsParts}
+use Rattle.urlpattern_readings.specs.Readings.{AreItsParts, AreMadeOf}
 use Rattle.urlpattern_rules.specs.declared.pattern.PatternParts.{PatternParts}
 use Rattle.urlpattern_syntax.specs.declared.error.Error.{Error}
 
@@ -48,10 +48,12 @@ same-answers init copy compiled same by = record {
 pub parts-of-init : (init copy : UrlPatternInit) (compiled : PatternView PatternRegexp) (parts : Result PatternParts Error) → pattern_values copy ≡ pattern_values init
     → IsPatternOfInit pattern_engine copy default_pattern_options compiled → AnswersByItsText pattern_answer copy default_pattern_options compiled
     → (AnswersByItsText pattern_answer init default_pattern_options compiled → IfOk parts (AreItsParts pattern_answer compiled))
+    → (IsPatternOfInit pattern_engine init default_pattern_options compiled → IfOk parts (AreMadeOf pattern_engine compiled))
     → IfOk parts (ArePartsOfInit init)
-parts-of-init init copy compiled (Err error) same is by read = read (same-answers init copy compiled same by)
-parts-of-init init copy compiled (Ok parts) same is by read =
-    (compiled, same-pattern init copy compiled same is, read (same-answers init copy compiled same by))
+parts-of-init init copy compiled (Err error) same is by read made = tt
+parts-of-init init copy compiled (Ok parts) same is by read made =
+    let of_init = same-pattern init copy compiled same is in
+    (compiled, of_init, record { are_its_parts = read (same-answers init copy compiled same by); are_made = made of_init })
 
 -- ---- copies
 

@@ -1,6 +1,7 @@
 -- Worked examples of tables of patterns, as the program reads them.
 use Rattle.std.proofs.Common.{◌≡◌, [], ◌∷◌, Some, None, codes, refl}
-use Rattle.urlpat_rules.specs.Unreached.{NameTable, number_at}
+use Rattle.urlpat_rules.specs.TableWords.{NameTable}
+use Rattle.urlpat_rules.specs.Unreached.{number_at}
 use Rattle.urlpat_tables.specs.Tables.{entries_from}
 
 -- lines are numbered from 1 on, also those without a pattern

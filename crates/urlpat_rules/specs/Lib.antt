@@ -1,3 +1,5 @@
 pub mod Commands
 pub mod Coverings
+pub mod Routes
+pub mod TableWords
 pub mod Unreached

@@ -2,19 +2,13 @@
 use Rattle.std.specs.Prelude.{◌≡◌, ℕ, All, List, [], ◌∷◌, ◌++◌, codes, decimal, length, nat_lt, Option, None, Some, option_map, slice_get, unwrap_or}
 use Rattle.std.specs.List.{AllZip, flat_map}
 use Rattle.std.specs.Io.KnownBytes.{Appends}
-use Rattle.urlpat_commands.specs.Answers.{base_of}
 use Rattle.urlpat_commands.specs.FilterLines.{status_of}
 use Rattle.urlpat_rules.specs.Coverings.{ArePartsOf}
+use Rattle.urlpat_rules.specs.TableWords.{NameTable}
 use Rattle.urlpat_tables.specs.Tables.{EntryView, table_entries}
 use Rattle.urlpattern_rules.specs.Comparing.{IsListed, IsShadowed}
 use Rattle.urlpattern_rules.specs.declared.list.Shadowed.{Shadowed}
 use Rattle.urlpattern_rules.specs.declared.pattern.PatternParts.{PatternParts}
-
--- the words name a file, and the base URL that a second word stands for
-abbrev pub NameTable : (words : List (List ℕ)) → (name : List ℕ) → (base : Option (List ℕ)) → Type 0
-NameTable (file ∷ []) name base = (name ≡ file) × (base ≡ None)
-NameTable (file ∷ word ∷ []) name base = (name ≡ file) × (base ≡ base_of word)
-NameTable words name base = ⊥
 
 -- the parts are those of the pattern of each entry
 abbrev pub ArePartsOfEach : (base : Option (List ℕ)) → List EntryView → List PatternParts → Type 0

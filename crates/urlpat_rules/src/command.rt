@@ -2,9 +2,10 @@
 
 ghost use Rattle.std.specs.Prelude.{◌≡◌, ◌≢◌, ◌⊎◌, ◌∷◌, IfSome};
 ghost use Rattle.urlpat_commands.specs.Answers.{words_view};
-ghost use Rattle.urlpat_rules.specs.Commands.{DoesAny, FailsAny, MayReport};
+ghost use Rattle.urlpat_rules.specs.Commands.{AnswersWords, FailsAny, MayReport};
 
 use crate::covering::covers;
+use crate::route::route;
 use crate::tables::Tables;
 use crate::unreachable::list_unreachable;
 use std::alloc::Global;
@@ -14,8 +15,8 @@ use urlpat_words::asks_for_help;
 
 /// Does what the words ask for, and gives the status to end with.
 ///
-/// `filter` reads lines from `input`, and `unreachable` a file from `tables`. What is printed goes to `out`, and why there is no
-/// answer to `err`.
+/// `filter` and `route` read lines from `input`, `route` and `unreachable` a file from `tables`. What is printed goes to `out`, and
+/// why there is no answer to `err`.
 pub fn run<T: Tables, In: BufRead, Out: Write, Err: Write>(
     alloc: Global,
     tables: &T,
@@ -25,7 +26,7 @@ pub fn run<T: Tables, In: BufRead, Out: Write, Err: Write>(
     err: &mut Err,
 ) -> u8
     ensures status { (result ≡ DONE) ⊎ (result ≡ NO_MATCH) ⊎ (result ≡ FAILED) }
-    ensures answers { result ≢ FAILED → DoesAny (T.Has tables.now) (words_view words.now) result (In.remaining input.old) (Out.contents out.old) (Out.contents out.new) }
+    ensures answers { AnswersWords (T.Has tables.now) words.now result (In.remaining input.old) (Out.contents out.old) (Out.contents out.new) }
     ensures quiet { result ≢ FAILED → (err.new ≡ err.old) ⊎ MayReport (words_view words.now) }
     ensures fails { result ≡ FAILED → FailsAny (words_view words.now) (out.new ≡ out.old) }
 {
@@ -34,6 +35,9 @@ pub fn run<T: Tables, In: BufRead, Out: Write, Err: Write>(
     }
     if let Some(rest) = words_after(words, "unreachable") {
         return list_unreachable(alloc, tables, rest, out, err);
+    }
+    if let Some(rest) = words_after(words, "route") {
+        return route(alloc, tables, rest, input, out, err);
     }
     urlpat_commands::run(alloc, words, input, out, err)
 }

@@ -4,6 +4,8 @@
 mod command;
 mod covering;
 mod parts;
+mod route;
+mod row;
 mod tables;
 mod unreachable;
 

@@ -1,12 +1,16 @@
 //! Tables of patterns, read from files.
 
-ghost use Rattle.std.specs.Prelude.{◌≡◌, ℕ, List, IfOk, IfSome};
+ghost use Rattle.std.specs.Prelude.{◌≡◌, ℕ, List, option_copied, IfOk, IfSome};
+ghost use Rattle.urlpat_commands.specs.Answers.{words_view};
+ghost use Rattle.urlpat_rules.specs.TableWords.{NameTable};
 ghost use Rattle.urlpat_tables.specs.Tables.{entries_view, table_entries};
 
 use std::alloc::Global;
 use std::io;
 use std::io::Write;
+use urlpat_commands::{base_of, write_refusal};
 use urlpat_tables::{Entry, NoTable, entries_of};
+use urlpattern::Error;
 
 /// What has the files of tables.
 pub trait Tables {
@@ -15,6 +19,17 @@ pub trait Tables {
     /// The bytes of the file of this name.
     fn read(&self, name: &str) -> io::Result<Vec<u8>>
         ensures { IfOk result (λ table. Has self.now name.now table.items) };
+}
+
+/// The file that words name, and the base URL, if there is one. `None`: they are other words.
+pub fn table_words(words: &[String]) -> Option<(&str, Option<&str>)>
+    ensures { IfSome result (λ asked. NameTable (words_view words.now) asked.0.now (option_copied asked.1)) }
+{
+    match words {
+        [name] => Some((name.as_str(), None)),
+        [name, base] => Some((name.as_str(), base_of(base))),
+        _ => None,
+    }
 }
 
 /// The table of this name. `None`: it cannot be read, which is reported.
@@ -53,4 +68,21 @@ pub fn read_entries<'t, Err: Write>(
             None
         }
     }
+}
+
+/// Reports why the pattern of an entry or its base is refused, with the number of its line, or that memory ran out.
+pub fn report_refused<Err: Write>(
+    alloc: Global,
+    entry: &Entry<'_>,
+    base: Option<&str>,
+    error: Error,
+    err: &mut Err,
+) {
+    match &error {
+        Error::OutOfMemory => {}
+        _ => {
+            let _ = write!(err, "line {}: ", entry.number);
+        }
+    }
+    write_refusal(alloc, entry.pattern, base, error, err);
 }

@@ -4,16 +4,15 @@ ghost use Rattle.std.specs.Io.KnownBytes.{Appends};
 ghost use Rattle.std.specs.Prelude.{◌≡◌, ◌≢◌, ◌⊎◌, ◌++◌, length, nat_lt, string_bytes, option_copied, IfOk, IfSome, OnOk};
 ghost use Rattle.urlpat_commands.specs.Answers.{words_view};
 ghost use Rattle.urlpat_commands.specs.FilterLines.{status_of};
-ghost use Rattle.urlpat_rules.specs.Unreached.{ArePartsOfEach, AreUnreached, NameTable, Lists, ListsOf, number_at, unreached_line};
+ghost use Rattle.urlpat_rules.specs.Unreached.{ArePartsOfEach, AreUnreached, Lists, ListsOf, number_at, unreached_line};
 ghost use Rattle.urlpat_tables.specs.Tables.{entries_view};
 
 use crate::parts::parts_of_text;
-use crate::tables::{Tables, read_entries, read_table};
+use crate::tables::{Tables, read_entries, read_table, report_refused, table_words};
 use std::alloc::{AllocError, Global};
 use std::io::Write;
-use urlpat_commands::{DONE, FAILED, NO_MATCH, base_of, print, write_refusal};
+use urlpat_commands::{DONE, FAILED, NO_MATCH, print};
 use urlpat_tables::Entry;
-use urlpattern::Error;
 use urlpattern::rules::{PatternParts, Shadowed, unreachable};
 
 /// The usage of `unreachable`.
@@ -40,17 +39,6 @@ pub fn list_unreachable<T: Tables, Out: Write, Err: Write>(
     let status = tell_unreachable(alloc, &table, base, out, err);
     drop(table);
     status
-}
-
-/// The file that words name, and the base URL, if there is one. `None`: they are other words.
-fn table_words(words: &[String]) -> Option<(&str, Option<&str>)>
-    ensures { IfSome result (λ asked. NameTable (words_view words.now) asked.0.now (option_copied asked.1)) }
-{
-    match words {
-        [name] => Some((name.as_str(), None)),
-        [name, base] => Some((name.as_str(), base_of(base))),
-        _ => None,
-    }
 }
 
 /// Writes which patterns of a table one before them covers, and gives the status to end with.
@@ -114,23 +102,6 @@ fn parts_of_each<Err: Write>(
         };
     }
     Some(patterns)
-}
-
-/// Reports why the pattern of an entry or its base is refused, with the number of its line, or that memory ran out.
-fn report_refused<Err: Write>(
-    alloc: Global,
-    entry: &Entry<'_>,
-    base: Option<&str>,
-    error: Error,
-    err: &mut Err,
-) {
-    match &error {
-        Error::OutOfMemory => {}
-        _ => {
-            let _ = write!(err, "line {}: ", entry.number);
-        }
-    }
-    write_refusal(alloc, entry.pattern, base, error, err);
 }
 
 /// A line for each pattern that one before it covers.

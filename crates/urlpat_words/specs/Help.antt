@@ -1,6 +1,6 @@
 -- The help that the program prints.
 use Rattle.std.specs.Prelude.{◌≡◌, ◌⊎◌, ℕ, List, [], ◌∷◌, codes}
-use Rattle.urlpat_words.specs.declared.help.TheConstants.{HELP, VERSION, COMPONENT_HELP, MATCH_HELP, FIRST_HELP, FILTER_HELP, LINK_HELP, COVERS_HELP, UNREACHABLE_HELP}
+use Rattle.urlpat_words.specs.declared.help.TheConstants.{HELP, VERSION, COMPONENT_HELP, MATCH_HELP, FIRST_HELP, FILTER_HELP, ROUTE_HELP, EXPLAIN_HELP, LINK_HELP, COVERS_HELP, UNREACHABLE_HELP}
 
 -- the text is what a single word asks for
 abbrev pub IsProgramHelp : (word text : List ℕ) → Type 0
@@ -11,6 +11,7 @@ abbrev pub IsHelpOn : (command text : List ℕ) → Type 0
 IsHelpOn command text =
     ((command ≡ codes "component") × (text ≡ COMPONENT_HELP.now)) ⊎ ((command ≡ codes "match") × (text ≡ MATCH_HELP.now))
     ⊎ ((command ≡ codes "first") × (text ≡ FIRST_HELP.now)) ⊎ ((command ≡ codes "filter") × (text ≡ FILTER_HELP.now))
+    ⊎ ((command ≡ codes "route") × (text ≡ ROUTE_HELP.now)) ⊎ ((command ≡ codes "explain") × (text ≡ EXPLAIN_HELP.now))
     ⊎ ((command ≡ codes "link") × (text ≡ LINK_HELP.now))
     ⊎ ((command ≡ codes "covers") × (text ≡ COVERS_HELP.now)) ⊎ ((command ≡ codes "unreachable") × (text ≡ UNREACHABLE_HELP.now))
 

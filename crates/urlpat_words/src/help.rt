@@ -12,6 +12,8 @@ usage: urlpat PATTERN URL
        urlpat match PATTERN BASE INPUT
        urlpat first BASE INPUT PATTERN..
        urlpat filter PATTERN BASE
+       urlpat route FILE [BASE]
+       urlpat explain PATTERN BASE [INPUT]
        urlpat link PATTERN BASE NAME=VALUE..
        urlpat covers PATTERN ASKED
        urlpat unreachable FILE [BASE]
@@ -21,6 +23,8 @@ usage: urlpat PATTERN URL
   match        prints what the groups of a pattern capture of a URL
   first        finds the first of some patterns that matches a URL
   filter       prints the lines of standard input whose URLs match
+  route        finds the pattern of a table that matches the URL of each line
+  explain      shows the components of a pattern, and whether each matches
   link         prints the URL that a pattern matches with given groups
   covers       says whether a pattern matches whatever another one does
   unreachable  finds the patterns of a table that one before them covers
@@ -88,6 +92,33 @@ usage: urlpat filter PATTERN BASE
 BASE is a URL for the pattern and the lines, or - for none. A line that is no URL does not match.
 
 example: urlpat filter 'https://example.com/users/:id' - --group pathname.id <urls.txt
+";
+
+/// The help on `route`.
+const ROUTE_HELP: &str = "\
+Finds the first pattern of a table that matches the URL of each line of standard input. Prints, with tabs between, the number of the
+line that has the pattern, its name, and for each group its component, its name, and after = what it captured. Prints `-` if no pattern
+matches. Ends with status 1 if none matches any line.
+
+usage: urlpat route FILE [BASE]
+
+The file has a pattern a line, and its name after a tab, if it has one. A line that is empty or begins with # is skipped. BASE is a
+URL for the patterns and the lines, or - for none. A line that is no URL is matched by no pattern.
+
+example: urlpat route routes.txt https://example.com/ <urls.txt
+";
+
+/// The help on `explain`.
+const EXPLAIN_HELP: &str = "\
+Prints a line for each component of a pattern: its name and its pattern, and with an input its text, `matches` or `differs`, and what
+its groups capture. Empty texts are shown as two quotation marks. Lines after that say what is inherited from the base URL, what is left
+out, and what an empty port means. Ends with status 1 if the pattern does not match the input.
+
+usage: urlpat explain PATTERN BASE [INPUT]
+
+BASE is a URL for the pattern and the input, or - for none.
+
+example: urlpat explain /users/:id https://example.com/ /users/7
 ";
 
 /// The help on `link`.
@@ -183,6 +214,8 @@ fn help_on(command: &str) -> Option<&'static str>
         "match" => Some(MATCH_HELP),
         "first" => Some(FIRST_HELP),
         "filter" => Some(FILTER_HELP),
+        "route" => Some(ROUTE_HELP),
+        "explain" => Some(EXPLAIN_HELP),
         "link" => Some(LINK_HELP),
         "covers" => Some(COVERS_HELP),
         "unreachable" => Some(UNREACHABLE_HELP),

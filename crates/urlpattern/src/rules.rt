@@ -2,7 +2,9 @@
 //!
 //! [`parts_of`] gives the parts of a compiled pattern. No URL is needed.
 
-pub use urlpattern_readings::laws::{covered_patterns_match, overlapping_patterns_match};
+pub use urlpattern_readings::laws::{
+    covered_patterns_by_these_engines_match, covered_patterns_match, overlapping_patterns_match,
+};
 pub use urlpattern_readings::parts_of;
 pub use urlpattern_rules::laws::parts_are_in_order;
 pub use urlpattern_rules::{

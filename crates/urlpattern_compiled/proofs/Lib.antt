@@ -2,3 +2,4 @@ pub mod JsonExamples
 pub mod ItemLemmas
 pub mod PatternLemmas
 pub mod RoundTrip
+pub mod CopyLemmas

@@ -36,7 +36,7 @@ use urlpattern_inputs::writing::put_text;
 /// drop(pattern);
 /// tree
 /// ```
-#[derive(Debug, Clone, PartialEq, Eq, Drop, Serialize, Deserialize)]
+#[derive(Debug, PartialEq, Eq, Drop, Serialize, Deserialize)]
 #[serde(rename_all = "camelCase")]
 pub struct UrlPattern {
     /// The scheme.
@@ -70,7 +70,7 @@ pub struct UrlPattern {
 /// assert_eq!(rt; plain.regexp_string.as_str(), "");
 /// assert_eq!(rt; plain.matcher.inner, middle);
 /// ```
-#[derive(Debug, Clone, PartialEq, Eq, Drop, Serialize, Deserialize)]
+#[derive(Debug, PartialEq, Eq, Drop, Serialize, Deserialize)]
 #[serde(rename_all = "camelCase")]
 pub struct UrlPatternComponent {
     /// The pattern's text, as it is printed.
@@ -81,6 +81,16 @@ pub struct UrlPatternComponent {
     pub matcher: Matcher,
     /// The names of the groups, in the order of their captures.
     pub group_name_list: Vec<String>,
+}
+
+/// A copy has the same components.
+impl Clone for UrlPattern {
+    ghost is_clone = { λ pattern copy. plain_pattern_view copy ≡ plain_pattern_view pattern };
+
+    fn clone(&self) -> Result<Self, AllocError> {
+        let components = Eight::try_from_fn(|name| self.get(name).clone())?;
+        Ok(Self::from_eight(components, self.has_regexp_groups))
+    }
 }
 
 impl UrlPattern {
@@ -139,6 +149,20 @@ impl UrlPattern {
         ensures { result.now ≡ at (component_patterns self.now) name }
     {
         field_of!(self, name)
+    }
+}
+
+/// A copy has the same texts.
+impl Clone for UrlPatternComponent {
+    ghost is_clone = { λ component copy. plain_component_view copy ≡ plain_component_view component };
+
+    fn clone(&self) -> Result<Self, AllocError> {
+        Ok(Self {
+            pattern_string: self.pattern_string.clone()?,
+            regexp_string: self.regexp_string.clone()?,
+            matcher: self.matcher.clone()?,
+            group_name_list: self.group_name_list.clone()?,
+        })
     }
 }
 

@@ -62,7 +62,7 @@ module _ {E : Type 0} (engine : Engine E) (asked : UrlPatternOptions) (values : 
 -- the component is shown
 pub shown_so : {E : Type 0} (engine : Engine E) (asked : UrlPatternOptions) (values : Values) (refusal : Refusal) (result : Result Diagnosis OutOfMemory) → IsRefusalOf engine asked values refusal →
     IfOk result (λ (diagnosis : Diagnosis). diagnosis.error ≡ refusal.error) → IfOk result (λ (diagnosis : Diagnosis). diagnosis.subject ≡ subjects.Component refusal.component) →
-    IfOk result (ShowsPattern (manner_of asked values refusal.hierarchical refusal.component)) → IfOk result (λ (diagnosis : Diagnosis). ShowsRefusal engine asked values diagnosis.subject diagnosis)
+    IfOk result (ShowsPattern refusal.component (manner_of asked values refusal.hierarchical refusal.component)) → IfOk result (λ (diagnosis : Diagnosis). ShowsRefusal engine asked values diagnosis.subject diagnosis)
 shown_so engine asked values refusal (Err memory) is same subject shows = tt
 shown_so engine asked values refusal (Ok diagnosis) is same subject shows =
     subst (λ (what : Subject). ShowsRefusal engine asked values what diagnosis) (sym subject) (record {
@@ -72,14 +72,14 @@ shown_so engine asked values refusal (Ok diagnosis) is same subject shows =
     })
 
 -- the fault of a pattern is shown, or a part that is refused
-pub shows_fault : (bytes pattern point prefix : List ℕ) (error : Error) (diagnosis : Diagnosis) (fault : Fault) → diagnosis.error ≡ error → string_bytes diagnosis.text ≡ bytes → point ≡ prefix →
-    IsFaultOf pattern point error fault ⊎ IsPartOfRefused pattern error fault → IsFaultMoved bytes pattern fault diagnosis.fault → ShowsFault pattern prefix diagnosis
-shows_fault bytes pattern point prefix error diagnosis fault same text e (inl h) moved = (
+pub shows_fault : (component : ComponentName) (bytes pattern point prefix : List ℕ) (error : Error) (diagnosis : Diagnosis) (fault : Fault) → diagnosis.error ≡ error → string_bytes diagnosis.text ≡ bytes → point ≡ prefix →
+    IsFaultOf (Some component) pattern point error fault ⊎ IsPartOfRefused pattern error fault → IsFaultMoved bytes pattern fault diagnosis.fault → ShowsFault component pattern prefix diagnosis
+shows_fault component bytes pattern point prefix error diagnosis fault same text e (inl h) moved = (
   fault,
-  inl (subst (λ (x : List ℕ). IsFaultOf pattern x diagnosis.error fault) e (subst (λ (x : Error). IsFaultOf pattern point x fault) (sym same) h)),
+  inl (subst (λ (x : List ℕ). IsFaultOf (Some component) pattern x diagnosis.error fault) e (subst (λ (x : Error). IsFaultOf (Some component) pattern point x fault) (sym same) h)),
   subst (λ (x : List ℕ). IsFaultMoved x pattern fault diagnosis.fault) (sym text) moved,
 )
-shows_fault bytes pattern point prefix error diagnosis fault same text e (inr h) moved = (
+shows_fault component bytes pattern point prefix error diagnosis fault same text e (inr h) moved = (
   fault,
   inr (subst (λ (x : Error). IsPartOfRefused pattern x fault) (sym same) h),
   subst (λ (x : List ℕ). IsFaultMoved x pattern fault diagnosis.fault) (sym text) moved,

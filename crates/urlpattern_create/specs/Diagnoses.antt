@@ -14,6 +14,7 @@ use Rattle.urlpattern_create.specs.Compiled.{IsComponentRefused, Manner, Refuses
 use Rattle.urlpattern_create.specs.FromString.{IsInitOfText}
 use Rattle.urlpattern_create.specs.declared.refusal.Refusal.{Refusal}
 use Rattle.urlpattern_eight.specs.declared.eight.ComponentName.{ComponentName}
+use Rattle.urlpattern_eight.specs.declared.eight.ComponentName.TheVariants.{Protocol}
 use Rattle.urlpattern_syntax.specs.declared.error.Error.{Error}
 use Rattle.urlpattern_syntax.specs.declared.error.Error.TheVariants as errors
 use Rattle.urlpattern_eight.specs.Eight.{Values}
@@ -43,26 +44,26 @@ IsPartOfRefused pattern (errors.Url reason) fault = IsFaultIn pattern fault
 IsPartOfRefused pattern (errors.RegExp reason) fault = IsFaultIn pattern fault
 IsPartOfRefused pattern other fault = ⊥
 
--- its text shows the fault of this pattern, which is read with this prefix code point
-abbrev pub ShowsFault : (pattern point : List ℕ) → Diagnosis → Type 0
-ShowsFault pattern point diagnosis =
-    (fault : Fault) × (IsFaultOf pattern point diagnosis.error fault ⊎ IsPartOfRefused pattern diagnosis.error fault)
+-- its text shows the fault of this pattern of a component, which is read with this prefix code point
+abbrev pub ShowsFault : ComponentName → (pattern point : List ℕ) → Diagnosis → Type 0
+ShowsFault component pattern point diagnosis =
+    (fault : Fault) × (IsFaultOf (Some component) pattern point diagnosis.error fault ⊎ IsPartOfRefused pattern diagnosis.error fault)
     × IsFaultMoved (string_bytes diagnosis.text) pattern fault diagnosis.fault
 
 -- the whole text is at fault, or the place where the colon after its scheme is missing
 abbrev pub ShowsAll : Diagnosis → Type 0
 ShowsAll diagnosis = IsUrlFault (string_bytes diagnosis.text) diagnosis.fault
 
--- its text shows where a pattern that is read in this manner is at fault
-abbrev pub ShowsPattern : Manner → Diagnosis → Type 0
-ShowsPattern manner diagnosis =
-    (pattern : List ℕ) × (chars pattern ≡ manner.text) × ShowsFault pattern manner.options.prefix diagnosis
+-- its text shows where the pattern of a component that is read in this manner is at fault
+abbrev pub ShowsPattern : ComponentName → Manner → Diagnosis → Type 0
+ShowsPattern component manner diagnosis =
+    (pattern : List ℕ) × (chars pattern ≡ manner.text) × ShowsFault component pattern manner.options.prefix diagnosis
 
 -- The component is refused with the error, and the text shows where its pattern is at fault.
 pub record ShowsComponent {E : Type 0} (engine : Engine E) (asked : UrlPatternOptions) (values : Values) (component : ComponentName) (diagnosis : Diagnosis) : Type 0 where
   pub hierarchical : Bool
   pub is_refused : IsComponentRefused engine (manner_of asked values hierarchical component) (error_view diagnosis.error)
-  pub shows_pattern : ShowsPattern (manner_of asked values hierarchical component) diagnosis
+  pub shows_pattern : ShowsPattern component (manner_of asked values hierarchical component) diagnosis
 
 -- what is shown of the values that are refused
 abbrev pub ShowsRefusal : {E : Type 0} → Engine E → UrlPatternOptions → Values → Subject → Diagnosis → Type 0
@@ -78,7 +79,7 @@ ShowsInit engine init asked diagnosis =
 -- what is shown of a constructor string that is refused when it is split: the pattern of its protocol, or all
 abbrev pub ShowsProtocol : (text : List ℕ) → Subject → Diagnosis → Type 0
 ShowsProtocol text (subjects.Component component) diagnosis =
-    (pattern : List ℕ) × HasProtocol text (λ protocol. protocol ≡ chars pattern) × ShowsFault pattern [] diagnosis
+    (pattern : List ℕ) × HasProtocol text (λ protocol. protocol ≡ chars pattern) × ShowsFault Protocol pattern [] diagnosis
 ShowsProtocol text subjects.Whole diagnosis = ShowsAll diagnosis
 ShowsProtocol text subjects.Base diagnosis = ⊥
 

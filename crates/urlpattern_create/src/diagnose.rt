@@ -97,8 +97,8 @@ fn protocol_diagnosis(alloc: Global, error: Error, text: &str) -> Result<Diagnos
             Ok(Diagnosis::whole(alloc, error, Subject::Whole, text)?)
         }
         (Some(protocol), _) => {
-            let fault = fault_of(alloc, protocol, "", &error)?;
             let name = ComponentName::Protocol;
+            let fault = fault_of(alloc, Some(name), protocol, "", &error)?;
             let place = Place::of_component(text, protocol, name, 0, protocol.len());
             let subject = Subject::Component(name);
             Ok(Diagnosis::of_part(alloc, error, subject, text, protocol, fault, place)?)
@@ -228,7 +228,7 @@ impl Compiler<'_> {
     ) -> Result<Diagnosis, OutOfMemory>
         ensures error { IfOk result (λ diagnosis. diagnosis.error ≡ refusal.error) }
         ensures subject { IfOk result (λ diagnosis. diagnosis.subject ≡ subjects.Component refusal.component) }
-        ensures shows { IfOk result (ShowsPattern (manner_by self.now refusal.hierarchical refusal.component)) }
+        ensures shows { IfOk result (ShowsPattern refusal.component (manner_by self.now refusal.hierarchical refusal.component)) }
         ensures text { IfOk result (IsOf (option_copied given.entry.string)) }
         ensures within { IfOk result IsWithinText }
     {
@@ -245,7 +245,7 @@ impl Compiler<'_> {
         let refused = self.refused_part::<R>(component, hierarchical, pattern, &error)?;
         let fault = match refused {
             Some(fault) => fault,
-            None => fault_of(self.alloc, pattern, point, &error)?,
+            None => fault_of(self.alloc, Some(component), pattern, point, &error)?,
         };
         let value = given.value(component).unwrap_or(pattern);
         let text = given.string.unwrap_or(value);

@@ -114,7 +114,7 @@ impl Diagnosis {
             Some(place) => place.moved(text, part, fault),
             None => Fault::whole(text),
         };
-        let hint = Hint::of_part(&error, subject, text, part, fault, place);
+        let hint = Hint::of_part(&error, text, part, fault, place);
         Self::of_fault(alloc, error, subject, text, moved, hint)
     }
 
@@ -135,8 +135,8 @@ impl Diagnosis {
     {
         let part = &text[fault.span.start..fault.span.end];
         let earlier = match fault.earlier {
-            Some(span) => &text[span.start..span.end],
-            None => part,
+            Some(span) => Some(&text[span.start..span.end]),
+            None => None,
         };
         let faulty = Faulty {
             subject,

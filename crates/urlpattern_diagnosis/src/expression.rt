@@ -29,13 +29,35 @@ pub fn fault_of_expression(alloc: Global, text: &str, body: Span) -> Result<Faul
     })
 }
 
-/// Why `regex` refuses an expression, in its own words. `None`: it accepts it.
+/// Why `regex` refuses an expression, in its own words, and what to do. `None`: it accepts it.
 ///
 /// The error is that memory ran out.
-pub(crate) fn message(alloc: Global, expression: &str) -> Result<Option<&'static str>, AllocError> {
+pub(crate) fn message(
+    alloc: Global,
+    expression: &str,
+) -> Result<Option<(&'static str, &'static str)>, AllocError> {
     match refusal(alloc, expression)? {
-        Some(error) => Ok(Some(error.kind.message())),
+        Some(error) => {
+            let kind = error.kind;
+            Ok(Some((kind.message(), advice(kind, expression))))
+        }
         None => Ok(None),
+    }
+}
+
+/// What to do about a refusal that its message leaves open, after a semicolon, or nothing.
+fn advice(kind: ErrorKind, expression: &str) -> &'static str {
+    match kind {
+        ErrorKind::ClassRangeInvalid | ErrorKind::ClassRangeLiteral => {
+            "; `-` in a class is between the ends of a range: write `\\-` for the character itself"
+        }
+        ErrorKind::ClassUnclosed if expression.contains(']') => {
+            "; at the front of a class `^` excludes and `]` is one of its characters, and a `[` in it begins another: write `\\^`, `\\]` or `\\[` for the character itself"
+        }
+        ErrorKind::RepetitionMissing => {
+            "; `*`, `+`, `?` and `{` repeat what is before them: write `.*` for any text"
+        }
+        _ => "",
     }
 }
 

@@ -1,9 +1,9 @@
 //! What explains a fault besides the part at fault.
 
 use crate::diagnosis::Subject;
-use urlpattern_eight::ComponentName;
 use urlpattern_faults::{Fault, Place, missing_colon};
 use urlpattern_syntax::error::{Error, ParserError, RegexFault, TokenizerError};
+use urlpattern_syntax::tokenizer::TokenType;
 
 /// What explains a fault besides the part at fault.
 #[derive(Clone, Copy, PartialEq, Eq)]
@@ -14,18 +14,22 @@ pub(crate) enum Hint {
     Search,
     /// A `?` after the `(` at the end of the pattern begins the search.
     QuestionMark,
-    /// A `[` before a colon is not closed in the pattern of a hostname, so that the colon begins no port.
-    Bracket,
-    /// A colon is in the brackets of a hostname, as those of an IPv6 address.
-    Address,
+    /// The fault is in square brackets: those of an IPv6 address, or of a class.
+    Brackets,
     /// The colon after a scheme is missing.
     Colon,
     /// A custom expression is not closed before the `(` at fault.
     Open,
+    /// A custom expression is not closed before this bracket, which closes nothing.
+    ClosedBy(char),
     /// A `)` after a custom expression's `(` is escaped.
     Escaped,
-    /// A `-` follows a name, which ends there.
-    Hyphen,
+    /// This character, which no name has, follows a colon.
+    NameBegins(char),
+    /// This character, which no name has, follows a name.
+    NameEnds(char),
+    /// A regular expression is not in parentheses.
+    Expression,
 }
 
 impl Hint {
@@ -40,57 +44,49 @@ impl Hint {
     /// What explains the fault of a pattern that is at a place in a text.
     pub(crate) fn of_part(
         error: &Error,
-        subject: Subject,
         text: &str,
         part: &str,
         fault: Fault,
         place: Option<Place>,
     ) -> Self {
         match error {
-            Error::Tokenizer(TokenizerError::InvalidName, _) => bracket_hint(subject, part, fault),
+            Error::Tokenizer(TokenizerError::InvalidName, _) => colon_hint(part, fault.span.end),
             Error::Tokenizer(TokenizerError::InvalidRegex(reason), _) => {
                 expression_hint(*reason, part, fault, is_before_search(text, part, place))
             }
             Error::Parser(ParserError::DuplicateName(_)) => name_hint(part, fault),
+            Error::Parser(ParserError::ExpectedToken(_, TokenType::OtherModifier, _)) => {
+                modifier_hint(part, fault.span.start)
+            }
             _ if is_before_search(text, part, place) => Hint::Search,
             _ => Hint::Nothing,
         }
     }
 }
 
-/// What explains that a colon gives no name.
-fn bracket_hint(subject: Subject, part: &str, fault: Fault) -> Hint {
-    if subject != Subject::Component(ComponentName::Hostname) {
-        return Hint::Nothing;
+/// What explains that no name follows a colon, which is before this place.
+fn colon_hint(part: &str, place: usize) -> Hint {
+    match part.as_bytes().get(place) {
+        _ if has_bracket_before(part, place) => Hint::Brackets,
+        Some(byte) if is_none_of_names(*byte) => Hint::NameBegins(char::from(*byte)),
+        _ => Hint::Nothing,
     }
-    if is_open_at(part, fault.span.start) {
-        Hint::Bracket
-    } else if has_bracket_before(part, fault.span.start) {
-        Hint::Address
-    } else {
-        Hint::Nothing
-    }
+}
+
+/// Whether a character begins no name, and is not used in patterns.
+fn is_none_of_names(byte: u8) -> bool {
+    matches!(
+        byte,
+        b'0'..=b'9' | b'-' | b'^' | b'.' | b'~' | b'@' | b'&' | b'='
+    )
 }
 
 /// Whether the last bracket before a place is a `[`.
 fn has_bracket_before(part: &str, place: usize) -> bool {
     let mut is_open = false;
-    for (index, byte) in part.as_bytes().iter().enumerate() {
+    for byte in part.as_bytes().iter().take(place) {
         match byte {
-            b'[' if index < place => is_open = true,
-            b']' if index < place => is_open = false,
-            _ => {}
-        }
-    }
-    is_open
-}
-
-/// Whether a `[` before a place is not closed: no `]` follows it.
-fn is_open_at(part: &str, place: usize) -> bool {
-    let mut is_open = false;
-    for (index, byte) in part.as_bytes().iter().enumerate() {
-        match byte {
-            b'[' if index < place => is_open = true,
+            b'[' => is_open = true,
             b']' => is_open = false,
             _ => {}
         }
@@ -101,15 +97,16 @@ fn is_open_at(part: &str, place: usize) -> bool {
 /// What explains that a parenthesis begins no custom expression.
 fn expression_hint(reason: RegexFault, part: &str, fault: Fault, before_search: bool) -> Hint {
     match (reason, fault.earlier) {
-        (RegexFault::MissingClose, _) if before_search => {
-            if fault.span.end == part.len() {
-                return Hint::QuestionMark;
-            }
-            Hint::Search
-        }
-        (RegexFault::MissingClose, _) if has_escaped_close(part, fault.span.end) => Hint::Escaped,
+        (RegexFault::MissingClose, _) => match close_hint(part, fault.span.end) {
+            Hint::ClosedBy(bracket) => Hint::ClosedBy(bracket),
+            _ if before_search && fault.span.end == part.len() => Hint::QuestionMark,
+            _ if before_search => Hint::Search,
+            hint => hint,
+        },
         (RegexFault::NestedGroupCaptures | RegexFault::NestedGroupNotClosed, Some(open))
             if !is_closed(part, open.start) => { Hint::Open }
+        (RegexFault::BadCharacter | RegexFault::BadEscape, Some(_))
+            if has_bracket_before(part, fault.span.start) => { Hint::Brackets }
         _ => Hint::Nothing,
     }
 }
@@ -135,31 +132,83 @@ fn is_closed(part: &str, place: usize) -> bool {
     false
 }
 
-/// Whether a closing parenthesis is escaped from a place on.
-fn has_escaped_close(part: &str, place: usize) -> bool {
+/// What is there from a place on for the `)` of a custom expression: another bracket, which closes neither a class nor a count,
+/// or a `)` that is escaped.
+fn close_hint(part: &str, place: usize) -> Hint {
+    let mut hint = Hint::Nothing;
     let mut is_escaped = false;
+    let mut awaited = None;
     for byte in part.as_bytes().iter().skip(place) {
-        match byte {
-            b')' if is_escaped => return true,
+        match *byte {
+            b')' if is_escaped => {
+                is_escaped = false;
+                hint = Hint::Escaped;
+            }
             _ if is_escaped => is_escaped = false,
             b'\\' => is_escaped = true,
+            b'[' if awaited.is_none() => awaited = Some(b']'),
+            b'{' if awaited.is_none() => awaited = Some(b'}'),
+            _ if awaited == Some(*byte) => awaited = None,
+            b']' | b'}' if awaited.is_none() => return Hint::ClosedBy(char::from(*byte)),
             _ => {}
         }
     }
-    false
+    hint
 }
 
 /// What explains that a name occurs twice.
 fn name_hint(part: &str, fault: Fault) -> Hint {
-    let bytes = part.as_bytes();
-    let is_first_cut = match fault.earlier {
-        Some(first) => bytes.get(first.end) == Some(&b'-'),
-        None => false,
-    };
-    if is_first_cut || bytes.get(fault.span.end) == Some(&b'-') {
-        return Hint::Hyphen;
+    let first = fault.earlier.unwrap_or(fault.span);
+    match sign_at(part, first.end).or(sign_at(part, fault.span.end)) {
+        Some(sign) => Hint::NameEnds(sign),
+        None => Hint::Nothing,
     }
-    Hint::Nothing
+}
+
+/// The `-` or `^` at a place.
+fn sign_at(part: &str, place: usize) -> Option<char> {
+    match part.as_bytes().get(place) {
+        Some(b'-') => Some('-'),
+        Some(b'^') => Some('^'),
+        _ => None,
+    }
+}
+
+/// What explains that a modifier at a place follows nothing that it could repeat.
+fn modifier_hint(part: &str, place: usize) -> Hint {
+    let mut sign = None;
+    let mut is_after_name = false;
+    for (index, byte) in part.as_bytes().iter().take(place).enumerate() {
+        match *byte {
+            b':' => {
+                is_after_name = true;
+                sign = None;
+            }
+            b'-' | b'^' if is_after_name => sign = sign_at(part, index),
+            b'a'..=b'z' | b'A'..=b'Z' | b'0'..=b'9' | b'_' | b'$' => {}
+            _ => {
+                is_after_name = false;
+                sign = None;
+            }
+        }
+    }
+    match sign {
+        Some(sign) => Hint::NameEnds(sign),
+        None if is_after_expression(part, place) => Hint::Expression,
+        None => Hint::Nothing,
+    }
+}
+
+/// Whether a class, `.` or a backslash and a letter is before a place.
+fn is_after_expression(part: &str, place: usize) -> bool {
+    let bytes = part.as_bytes();
+    match bytes.get(place.saturating_sub(1)) {
+        Some(b']' | b'.') => true,
+        Some(byte) if byte.is_ascii_alphabetic() => {
+            bytes.get(place.saturating_sub(2)) == Some(&b'\\')
+        }
+        _ => false,
+    }
 }
 
 /// Whether a `?` follows a part of a text.

@@ -4,6 +4,7 @@ use crate::diagnosis::Subject;
 use crate::expression::message;
 use crate::hint::Hint;
 use crate::host::{ends_in_number, is_one_forbidden};
+use percent_encoding::{CONTROLS, utf8_percent_encode};
 use std::alloc::{AllocError, Global};
 use url::ParseError;
 use urlpattern_eight::ComponentName;
@@ -17,8 +18,8 @@ pub(crate) struct Faulty<'a> {
     pub(crate) subject: Subject,
     /// The part at fault.
     pub(crate) part: &'a str,
-    /// The part that this is at odds with, or the same.
-    pub(crate) earlier: &'a str,
+    /// The part that this is at odds with, or an earlier token that is at fault too.
+    pub(crate) earlier: Option<&'a str>,
     /// What explains the fault besides.
     pub(crate) hint: Hint,
 }
@@ -32,29 +33,75 @@ pub(crate) fn reason_of(
     faulty: &Faulty<'_>,
 ) -> Result<String, AllocError> {
     match error {
-        Error::BaseUrlRequired => String::from_str(alloc, base_reason(faulty.hint)),
+        Error::BaseUrlRequired => base_reason(alloc, faulty),
         Error::BaseUrlWithInit => String::from_str(
             alloc,
             "components have their own base URL: leave out the one beside them",
         ),
-        Error::Tokenizer(fault, _) => token_reason(alloc, fault, faulty),
+        Error::Tokenizer(fault, _) => {
+            let mut reason = token_reason(alloc, fault, faulty)?;
+            add_earlier(&mut reason, faulty.earlier)?;
+            Ok(reason)
+        }
         Error::Parser(ParserError::ExpectedToken(expected, found, value)) => {
             stop_reason(alloc, *expected, *found, value, faulty.hint)
         }
         Error::Parser(ParserError::DuplicateName(name)) => name_reason(alloc, name, faulty.hint),
         Error::Url(reason) => url_reason(alloc, *reason, faulty),
-        Error::RegExp(()) => engine_reason(alloc, faulty.earlier),
+        Error::RegExp(()) => engine_reason(alloc, faulty.earlier.unwrap_or(faulty.part)),
         Error::OutOfMemory => String::from_str(alloc, "out of memory"),
     }
 }
 
-/// Why a pattern needs a base URL.
-fn base_reason(hint: Hint) -> &'static str {
-    match hint {
-        Hint::Colon => "`:` is missing before `//`: a protocol ends with it, as in `https://`",
-        _ => {
-            "a pattern without a protocol needs a base URL: begin it with `https://`, or give a base"
+/// What is said of a scheme without its colon.
+const COLON_MISSING: &str = "`:` is missing before `//`: a protocol ends with it, as in `https://`";
+
+/// Why a pattern needs a base URL, and what to write: a pattern begins with no `^`, as a regular expression may.
+fn base_reason(alloc: Global, faulty: &Faulty<'_>) -> Result<String, AllocError> {
+    let part = faulty.part;
+    if faulty.hint == Hint::Colon {
+        return String::from_str(alloc, COLON_MISSING);
+    }
+    if part.contains(['\t', '\n', '\r']) {
+        return String::from_str(
+            alloc,
+            "a pattern without a protocol needs a base URL: begin it with `https://`, or give a base",
+        );
+    }
+    let relative = part.trim_start_matches('^');
+    let front = front_of_url(relative);
+    format!(in alloc;
+        "a pattern without a protocol needs a base URL: write `{front}{relative}`, or give a base"
+    )
+}
+
+/// What a URL has before a text that is relative to it: also a hostname, unless the text may begin with one, as it has a dot there.
+fn front_of_url(text: &str) -> &'static str {
+    if text.starts_with("//") {
+        return "https:";
+    }
+    if text.starts_with('/') {
+        return "https://HOST";
+    }
+    for (index, byte) in text.as_bytes().iter().enumerate() {
+        match byte {
+            b'.' if index > 0 => return "https://",
+            b'.' | b'/' | b'?' | b'#' => return "https://HOST/",
+            _ => {}
         }
+    }
+    "https://HOST/"
+}
+
+/// Adds that an earlier token is at fault too, other than the parenthesis of a custom expression.
+fn add_earlier(reason: &mut String, earlier: Option<&str>) -> Result<(), AllocError> {
+    match earlier {
+        Some(token) if token != "(" => {
+            reason.push_str("; `")?;
+            reason.push_str(token)?;
+            reason.push_str("` is at fault too")
+        }
+        _ => Ok(()),
     }
 }
 
@@ -64,45 +111,83 @@ fn token_reason(
     fault: &TokenizerError,
     faulty: &Faulty<'_>,
 ) -> Result<String, AllocError> {
-    match fault {
-        TokenizerError::IncompleteEscapeCode => String::from_str(
+    match (fault, faulty.hint) {
+        (TokenizerError::IncompleteEscapeCode, _) => String::from_str(
             alloc,
             "`\\` at the end escapes nothing: write `\\\\` for the character itself",
         ),
-        TokenizerError::InvalidName => String::from_str(
-            alloc,
-            match faulty.hint {
-                Hint::Bracket => {
-                    "`[` is not closed: an IPv6 address ends with `]`, and each `:` in it is written `\\:`"
-                }
-                Hint::Address => {
-                    "no name follows `:`: in an IPv6 address each `:` is written `\\:`"
-                }
-                _ => {
-                    "no name follows `:`: a name begins with a letter, `$` or `_`; write `\\:` for the character itself"
-                }
-            },
-        ),
-        TokenizerError::InvalidRegex(RegexFault::BadCharacter | RegexFault::BadEscape)
+        (TokenizerError::InvalidName, Hint::NameBegins(sign)) if is_of_names(faulty.subject) => {
+            format!(in alloc;
+                "no name follows `:`: a name begins with a letter, `$` or `_`, and not with `{sign}`; write `\\:` for the colon itself"
+            )
+        }
+        (TokenizerError::InvalidName, _) => String::from_str(alloc, colon_reason(faulty)),
+        (TokenizerError::InvalidRegex(_), Hint::ClosedBy(bracket)) => {
+            format!(in alloc;
+                "`(` is not closed: a custom expression ends with `)`, and here `{bracket}` is in its place"
+            )
+        }
+        (TokenizerError::InvalidRegex(RegexFault::BadCharacter | RegexFault::BadEscape), _)
             if !faulty.part.is_ascii() => { ascii_reason(alloc, faulty) }
-        TokenizerError::InvalidRegex(fault) => {
-            String::from_str(alloc, expression_reason(*fault, faulty.hint))
+        (TokenizerError::InvalidRegex(fault), hint) => {
+            String::from_str(alloc, expression_reason(*fault, hint))
         }
     }
 }
 
-/// Why a custom expression does not have a character that is not ASCII.
+/// Whether patterns of the subject have colons for names alone.
+fn is_of_names(subject: Subject) -> bool {
+    !matches!(
+        subject,
+        Subject::Component(ComponentName::Protocol | ComponentName::Hostname | ComponentName::Port)
+    )
+}
+
+/// Why no name follows a colon.
+fn colon_reason(faulty: &Faulty<'_>) -> &'static str {
+    match (faulty.subject, faulty.hint) {
+        _ if faulty.part == "[" => {
+            "`[` is not closed: an IPv6 address ends with `]`, and each `:` in it is written `\\:`"
+        }
+        (Subject::Component(ComponentName::Hostname), Hint::Brackets) => {
+            "no name follows `:`: in an IPv6 address each `:` is written `\\:`"
+        }
+        (Subject::Component(ComponentName::Hostname), _) => {
+            "no name follows `:`: a hostname is written without its port, which is a component of its own"
+        }
+        (Subject::Component(ComponentName::Port), _) => {
+            "no name follows `:`: a port is a number up to 65535, without a colon"
+        }
+        (Subject::Component(ComponentName::Protocol), _) => {
+            "no name follows `:`: a protocol is written without `://`"
+        }
+        _ => {
+            "no name follows `:`: a name begins with a letter, `$` or `_`; write `\\:` for the character itself"
+        }
+    }
+}
+
+/// Why a custom expression does not have a character that is not ASCII, and how URLs have it.
 fn ascii_reason(alloc: Global, faulty: &Faulty<'_>) -> Result<String, AllocError> {
     let part = faulty.part;
-    match faulty.subject {
-        Subject::Component(
-            ComponentName::Protocol | ComponentName::Hostname | ComponentName::Port,
-        ) => {
+    let encoded = utf8_percent_encode(part.trim_start_matches('\\'), CONTROLS);
+    match (faulty.subject, faulty.hint) {
+        (Subject::Component(ComponentName::Hostname), _) => {
+            format!(in alloc;
+                "a custom expression has only ASCII characters, and `{part}` is none: URLs have such a label in Punycode, which begins with `xn--`"
+            )
+        }
+        (Subject::Component(ComponentName::Protocol | ComponentName::Port), _) => {
             format!(in alloc; "a custom expression has only ASCII characters, and `{part}` is none")
+        }
+        (_, Hint::Brackets) => {
+            format!(in alloc;
+                "a custom expression has only ASCII characters: URLs have `{encoded}` for `{part}`, so write `(?:{encoded}|e)` for the class `[{part}e]`"
+            )
         }
         _ => {
             format!(in alloc;
-                "a custom expression has only ASCII characters: write `{part}` percent-encoded, as URLs have it"
+                "a custom expression has only ASCII characters: write `{encoded}` for `{part}`, as URLs have it"
             )
         }
     }
@@ -141,9 +226,9 @@ fn expression_reason(fault: RegexFault, hint: Hint) -> &'static str {
 /// Why a name may not occur again.
 fn name_reason(alloc: Global, name: &str, hint: Hint) -> Result<String, AllocError> {
     match hint {
-        Hint::Hyphen => {
+        Hint::NameEnds(sign) => {
             format!(in alloc;
-                "the name `{name}` occurs twice: first here, and here; a name ends before `-`: rename one of them"
+                "the name `{name}` occurs twice: first here, and here; a name ends before `{sign}`: write `_` in its place, or rename one of them"
             )
         }
         _ => {
@@ -178,6 +263,9 @@ fn stop_reason(
             alloc,
             "groups do not nest: close the first one before this `{`, or write `\\{` for the character itself",
         ),
+        (_, TokenType::OtherModifier) if hint != Hint::Nothing => {
+            modifier_reason(alloc, value, hint)
+        }
         (TokenType::Close, TokenType::OtherModifier) => {
             format!(in alloc;
                 "`{value}` is within a group: a modifier follows the `}}`, or write `\\{value}` for the character itself"
@@ -200,6 +288,22 @@ fn stop_reason(
     }
 }
 
+/// Why a modifier follows nothing that it could repeat, where a hint explains it.
+fn modifier_reason(alloc: Global, value: &str, hint: Hint) -> Result<String, AllocError> {
+    match hint {
+        Hint::NameEnds(sign) => {
+            format!(in alloc;
+                "`{value}` follows nothing that it could repeat: a name ends before `{sign}`; write `_` in its place, or `\\{value}` for the character itself"
+            )
+        }
+        _ => {
+            format!(in alloc;
+                "`{value}` repeats a regular expression only within `(` and `)`: write it as in `(\\d+)`, or `\\{value}` for the character itself"
+            )
+        }
+    }
+}
+
 /// Why a part is no such component or no URL, by the reason of `url`.
 fn url_reason(
     alloc: Global,
@@ -212,6 +316,9 @@ fn url_reason(
         (_, ParseError::InvalidPort) => {
             format!(in alloc; "`{part}` is no {what}: a port is a number up to 65535")
         }
+        (Subject::Component(ComponentName::Protocol), _) if part.starts_with('^') => {
+            format!(in alloc; "`{part}` is no {what}: a pattern matches a whole URL, without `^`")
+        }
         (Subject::Component(ComponentName::Protocol), _) => {
             format!(in alloc;
                 "`{part}` is no {what}: it begins with a letter, and has letters, digits, `+`, `-` and `.`"
@@ -219,7 +326,7 @@ fn url_reason(
         }
         (Subject::Component(ComponentName::Hostname), _) => host_reason(alloc, reason, part),
         (_, ParseError::RelativeUrlWithoutBase) if faulty.hint == Hint::Colon => {
-            String::from_str(alloc, base_reason(faulty.hint))
+            String::from_str(alloc, COLON_MISSING)
         }
         (_, ParseError::RelativeUrlWithoutBase) => {
             format!(in alloc; "`{part}` is no {what}: begin it with a protocol, as `https://`")
@@ -234,6 +341,11 @@ fn host_reason(alloc: Global, reason: ParseError, part: &str) -> Result<String, 
         String::from_str(alloc, "a hostname has no space")
     } else if part == "\\\\" {
         String::from_str(alloc, "a hostname has no `\\`")
+    } else if part == "^" {
+        String::from_str(
+            alloc,
+            "a hostname has no `^`: a pattern matches a whole hostname, without `^` and `$`",
+        )
     } else if is_one_forbidden(part) {
         format!(in alloc; "a hostname has no `{part}`")
     } else if ends_in_number(part) {
@@ -249,8 +361,8 @@ fn host_reason(alloc: Global, reason: ParseError, part: &str) -> Result<String, 
 /// Why an engine refuses an expression, in the words of the crate `regex`.
 fn engine_reason(alloc: Global, expression: &str) -> Result<String, AllocError> {
     match message(alloc, expression)? {
-        Some(message) => {
-            format!(in alloc; "the engine refuses the expression `{expression}`: {message}")
+        Some((message, advice)) => {
+            format!(in alloc; "the engine refuses the expression `{expression}`: {message}{advice}")
         }
         None => {
             format!(in alloc;

@@ -45,7 +45,7 @@ steps_first ignore_case regexp tree steps text is of =
 by_default : (ignore_case : Bool) (regexp : List ℕ) (regex : Regex) → ignore_case ≡ false → IsRegexReadAs ignore_case regexp regex → IsRegexOf regexp regex
 by_default ignore_case regexp regex kept made = default_read regexp regex (subst (λ (b : Bool). IsRegexReadAs b regexp regex) kept made)
 
-expression_first : (ignore_case : Bool) (regexp : List ℕ) (tree : Items) (expression : Expression) (text : List ℕ) → ignore_case ≡ false → IsTreeOf regexp tree → IsExpressionOf ignore_case regexp expression
+pub expression_first : (ignore_case : Bool) (regexp : List ℕ) (tree : Items) (expression : Expression) (text : List ℕ) → ignore_case ≡ false → IsTreeOf regexp tree → IsExpressionOf ignore_case regexp expression
     → IsTrue (all_scalars text) → expression_answer ignore_case expression text ≡ first_way tree text
 expression_first ignore_case regexp tree (Own own) text kept is made fine =
     steps_first ignore_case regexp tree own.steps.items text is made.1 ∙ ap (λ b. first_way_by b tree text) kept

@@ -2,3 +2,4 @@ pub mod TwoReadings
 pub mod TextParts
 pub mod AutomatonLemmas
 pub mod EngineLaws
+pub mod AlikeLaws

@@ -1,14 +1,16 @@
 -- What an engine answers of what the grammar of the crate `regex` reads in the text that a value was made of.
-use Rattle.std.specs.Prelude.{◌≡◌, ℕ, ◌-◌, List, length, IsTrue, IfSome, Option, option_map, encode_utf8_all}
+use Rattle.std.specs.Prelude.{◌≡◌, ◌⊎◌, ℕ, ◌-◌, false, List, length, IsTrue, IfSome, Option, option_map, encode_utf8_all}
 use Rattle.std.specs.Str.{all_scalars}
 use Rattle.regex.specs.Writes.{group_of}
 use Rattle.regex_hir.specs.Find.{find_str}
 use Rattle.regex_hir.specs.Re.{Re}
 use Rattle.regex_syntax.specs.Grammar.{read}
 use Rattle.regex_syntax.specs.Verdict.{default_config}
+use Rattle.urlpattern_core.specs.Components.{engine_flags}
 use Rattle.urlpattern_core.specs.Regexes.{group_texts}
 use Rattle.urlpattern_core.specs.declared.regexp.RegExp.{Ghosts as Engine}
-use Rattle.urlpattern_meaning.specs.PartMeaning.{Captures}
+use Rattle.urlpattern_meaning.specs.PartMeaning.{AreGenerated, Captures}
+use Rattle.urlpattern_syntax.specs.{Options.OptionsView, Parts.PartView, RegexpText.regexp_text}
 
 -- what the groups of the first match of the pattern span, of so many with the match itself; None without a match
 abbrev pub re_answer : Re → (groups : ℕ) → (text : List ℕ) → Option Captures
@@ -22,3 +24,11 @@ ValuesAnswerAsRead {E} engine AreSuch =
     (regexp flags : List ℕ) (value : E) → AreSuch flags → engine.IsMade value regexp flags
     → IfSome (read default_config regexp) (λ (pattern, names).
     (text : List ℕ) → IsTrue (all_scalars text) → engine.answer value text ≡ re_answer pattern.value (length names) text)
+
+-- Two values of the engine that were made of the regular expression of the same parts answer alike to each text of characters, if case
+-- is kept or none of the parts is custom.
+abbrev pub ExpressionsAnswerAlike : {E : Type 0} → Engine E → Type 0
+ExpressionsAnswerAlike {E} engine =
+    (options : OptionsView) (parts : List PartView) (value other : E) (text : List ℕ) → (options.ignore_case ≡ false) ⊎ AreGenerated parts →
+    engine.IsMade value (regexp_text options parts) (engine_flags options) → engine.IsMade other (regexp_text options parts) (engine_flags options) →
+    IsTrue (all_scalars text) → engine.answer value text ≡ engine.answer other text

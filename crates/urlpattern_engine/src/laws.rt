@@ -7,7 +7,7 @@ ghost use Rattle.urlpattern_core.specs.Components.{FlagsAgree};
 ghost use Rattle.urlpattern_core.specs.Regexes.{regex_engine};
 ghost use Rattle.urlpattern_core.specs.FirstWays.{AllAnswerAlike, ComponentsTakeGenerated, EachAnswersFirst, KeepsCase, MatchersTakeGenerated, ValuesAnswerAlike, ValuesAnswerByFlags, ValuesAnswerFirst, ValuesFollowParts, ValuesFollowTexts};
 ghost use Rattle.urlpattern_engine.specs.PatternRegexps.{pattern_engine};
-ghost use Rattle.urlpattern_engine.specs.Readings.{ValuesAnswerAsRead};
+ghost use Rattle.urlpattern_engine.specs.Readings.{ExpressionsAnswerAlike, ValuesAnswerAsRead};
 ghost use Rattle.urlpattern_syntax.specs.declared.parser.RegexSyntax.{RegexSyntax};
 
 /// A value of the engine that was made without the flag `i` answers the first way of the tree of the text it was made of, to each
@@ -32,6 +32,13 @@ pub fn pattern_regexps_answer_as_regex_does()
 pub fn pattern_regexps_answer_what_the_grammar_reads()
     ensures own { ValuesAnswerAsRead pattern_engine KeepsCase }
     ensures regex { ValuesAnswerAsRead regex_engine (λ flags. ⊤) }
+{}
+
+/// Two values of the engine that were made of the regular expression of the same parts answer alike to each text of characters, custom
+/// parts or not, if case is kept. Where case is ignored they do if none of the parts is custom. Two values of `regex::Regex` do always.
+pub fn values_of_one_expression_answer_alike()
+    ensures own { ExpressionsAnswerAlike pattern_engine }
+    ensures regex { ExpressionsAnswerAlike regex_engine }
 {}
 
 /// The engine takes each text that is generated of parts, none of them custom: a matcher of such parts has a value where it needs

@@ -1,2 +1,3 @@
+mod BracketLemmas
 pub mod NameLemmas
 mod TokenFaultLemmas

@@ -1,20 +1,21 @@
 -- Lemmas on the text that follows the place of a fault.
-use Rattle.std.proofs.Common.{◌≡◌, ℕ, ◌+◌, ◌-◌, ◌≤◌, List, [], ◌∷◌, ◌++◌, length, drop, true, refl, sym, ap, ◌∙◌, subst, arith, append_assoc, length-append}
-use Rattle.std.proofs.lemmas.Bool.{and_from, and_parts}
+use Rattle.std.proofs.Common.{◌≡◌, ℕ, ◌+◌, ◌-◌, ◌≤◌, List, [], ◌∷◌, ◌++◌, length, drop, true, Option, Some, None, refl, sym, ap, ◌∙◌, subst, arith, append_assoc, length-append}
+use Rattle.std.proofs.lemmas.Bool.{and_parts}
 use Rattle.std.proofs.lemmas.List.{append-nil}
 use Rattle.std.proofs.lemmas.Str.{encodes-append, encodes-chars, encodes_same, scalars-chars, IsCharBoundary-at_seam}
 use Rattle.std.specs.Prelude.{codes, encode_utf8_all}
 use Rattle.std.specs.Str.{chars, IsCharBoundary, IsUtf8}
 use lib.Utf8.{scalars}
+use Rattle.urlpattern_eight.specs.declared.eight.ComponentName.{ComponentName}
 use Rattle.urlpattern_faults.specs.Faults.{HasTokenFault, IsAfterFront, IsAlone, IsBodyFault, IsTokenFault}
 use Rattle.urlpattern_faults.specs.Spans.{IsSpanAt}
 use Rattle.urlpattern_faults.specs.declared.fault.Fault.{Fault}
 use Rattle.urlpattern_meaning.proofs.FrontTokens.{fault_at_one, lexed_or_fault, no_fault}
-use Rattle.urlpattern_syntax.specs.Text.{BeginsAt, BeginsWith, byte_len, is_among}
+use Rattle.urlpattern_syntax.specs.Text.{BeginsWith, byte_len, is_among}
 use Rattle.urlpattern_syntax.specs.Tokens.{FaultView, IncompleteEscapeCode, InvalidRegex, IsCut, IsFault, IsFaultAt, IsRegexpFront, IsTokenOf, TokenView}
 use Rattle.urlpattern_syntax.specs.declared.tokenizer.TokenType.TheVariants.{Regexp}
 use Rattle.urlpattern_syntax.proofs.BodyLemmas.{HasRead, body_lexed, fault_escape, front_read}
-use Rattle.urlpattern_syntax.proofs.TextLemmas.{byte_len-append, byte_len-chars, length-le-byte_len}
+use Rattle.urlpattern_syntax.proofs.TextLemmas.{byte_len-chars, length-le-byte_len}
 
 -- ---- what is left of a text
 
@@ -69,25 +70,29 @@ ends_from bytes fault place is u =
 
 -- ---- what is at fault
 
+pub is_none : {A : Type 0} (found : Option A) → ((x : A) → found ≡ Some x → ⊥) → found ≡ None
+is_none None not_some = refl
+is_none (Some x) not_some = absurd (not_some x refl)
+
 -- a backslash at the end
-pub escape_found : (bytes : List ℕ) (place : ℕ) (reported : FaultView) (is : IsFault (chars bytes) reported place) (fault : Fault) → IsUtf8 bytes →
-    reported ≡ IncompleteEscapeCode → IsAlone (IsSpanAt bytes (length bytes - 1) 1) fault → HasTokenFault bytes reported place fault
+pub escape_found : (component : Option ComponentName) (bytes : List ℕ) (place : ℕ) (reported : FaultView) (is : IsFault (chars bytes) reported place) (fault : Fault) → IsUtf8 bytes →
+    reported ≡ IncompleteEscapeCode → IsAlone (IsSpanAt bytes (length bytes - 1) 1) fault → HasTokenFault component bytes reported place fault
 unfolding byte_len lib.Utf8.encode
-escape_found bytes place reported is fault u e alone =
+escape_found component bytes place reported is fault u e alone =
     let ends = ends_from bytes reported place is u in
     let all : byte_len (chars bytes) ≡ length bytes = byte_len-chars bytes u in
     let within = ends.within in
     let begins : (length bytes - 1) + 1 ≡ byte_len (chars bytes) = omega arith in
-    (is, subst (λ (x : FaultView). IsTokenFault bytes place is.left x fault) (sym e) (length bytes - 1, begins, alone))
+    (is, subst (λ (x : FaultView). IsTokenFault component bytes place is.left x fault) (sym e) (length bytes - 1, begins, alone))
 
 -- no custom expression
-pub body_found : (bytes rest : List ℕ) (place first : ℕ) (reported : FaultView) (words : List ℕ) (is : IsFault (chars bytes) reported place) (fault : Fault) →
-    reported ≡ InvalidRegex words → is.left ≡ first ∷ rest → IsBodyFault bytes place rest fault → HasTokenFault bytes reported place fault
-body_found bytes rest place first reported words is fault e cut body =
+pub body_found : (component : Option ComponentName) (bytes rest : List ℕ) (place first : ℕ) (reported : FaultView) (words : List ℕ) (is : IsFault (chars bytes) reported place) (fault : Fault) →
+    reported ≡ InvalidRegex words → is.left ≡ first ∷ rest → IsBodyFault bytes place rest fault → HasTokenFault component bytes reported place fault
+body_found component bytes rest place first reported words is fault e cut body =
     let at = subst (IsFaultAt is.left) e is.fault in
     let same : first ∷ rest ≡ codes "(" ++ at.0 = sym cut ∙ at.2 in
     let first_same : first ≡ 40 = cc same in
-    (is, subst (λ (x : FaultView). IsTokenFault bytes place is.left x fault) (sym e) (rest, cut ∙ ap (λ c. c ∷ rest) first_same, body))
+    (is, subst (λ (x : FaultView). IsTokenFault component bytes place is.left x fault) (sym e) (rest, cut ∙ ap (λ c. c ∷ rest) first_same, body))
 
 -- this is no custom expression
 pub body_faulty : (left rest : List ℕ) (first : ℕ) (reported : FaultView) (words : List ℕ) → IsFaultAt left reported →

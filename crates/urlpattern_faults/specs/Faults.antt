@@ -1,8 +1,10 @@
 -- Where the pattern text of a component is at fault. Texts are their bytes.
-use Rattle.std.specs.Prelude.{◌≡◌, ℕ, ◌+◌, ◌⊎◌, ◌&&◌, ◌==◌, Bool, true, false, List, [], ◌∷◌, length, map, filter, bytes_eq, Option, Some, None, IsSomeAnd, IfSome, MatchBool, string_bytes, ◌++◌, ◌≤◌, ◌||◌, MatchOption, codes, if◌then◌else◌, nat_eq}
-use Rattle.std.specs.List.{starts_with}
+use Rattle.std.specs.Prelude.{◌≡◌, ℕ, ◌+◌, ◌⊎◌, ◌&&◌, ◌==◌, Bool, true, false, List, [], ◌∷◌, length, map, filter, take, drop, min, bytes_eq, Option, Some, None, IsSomeAnd, IfSome, MatchBool, string_bytes, ◌++◌, ◌≤◌, ◌||◌, MatchOption, codes, if◌then◌else◌, nat_eq}
+use Rattle.std.specs.List.{list_any, starts_with}
 use Rattle.std.specs.Str.{chars}
 use Rattle.urlpattern_faults.specs.Spans.{IsSpanAt, IsSpanIn, whole_span}
+use Rattle.urlpattern_eight.specs.declared.eight.ComponentName.{ComponentName}
+use Rattle.urlpattern_eight.specs.declared.eight.ComponentName.TheVariants.{Hostname}
 use Rattle.urlpattern_faults.specs.declared.fault.Fault.{Fault}
 use Rattle.urlpattern_faults.specs.declared.span.Span.{Span}
 use Rattle.urlpattern_syntax.specs.declared.error.Error.{Error}
@@ -10,7 +12,7 @@ use Rattle.urlpattern_syntax.specs.declared.error.Error.TheVariants as errors
 use Rattle.urlpattern_syntax.specs.declared.error.ParserError.{ParserError}
 use Rattle.urlpattern_syntax.specs.declared.error.ParserError.TheVariants as parser_errors
 use Rattle.urlpattern_syntax.specs.declared.parser.stop.Stop.{Stop}
-use Rattle.urlpattern_syntax.specs.declared.tokenizer.TokenType.TheVariants.{EscapedChar, Name, Regexp}
+use Rattle.urlpattern_syntax.specs.declared.tokenizer.TokenType.TheVariants.{End, EscapedChar, Name, Regexp}
 use Rattle.urlpattern_syntax.specs.Stops.{IsStopOf}
 use Rattle.urlpattern_syntax.specs.declared.tokenizer.{Token.Token, TokenType.TokenType}
 use Rattle.urlpattern_syntax.specs.Text.{BeginsAt, BeginsWith, byte_len, is_among}
@@ -89,18 +91,69 @@ IsBodyFault bytes place rest fault =
     ⊎ ((left : List ℕ) × (start len : ℕ) × IsAfterFront rest left × IsRefusedFront left len × BeginsAt (chars bytes) left start
     × IsSpanAt bytes start len fault.span × IsSomeAnd fault.earlier (IsSpanAt bytes place 1))
 
--- At this place, where `left` begins, no token begins for this reason: a backslash at the end is at fault, a colon, or a custom expression.
-abbrev pub IsTokenFault : (bytes : List ℕ) → (place : ℕ) → (left : List ℕ) → FaultView → Fault → Type 0
-IsTokenFault bytes place left IncompleteEscapeCode fault =
+abbrev pub is_bracket : ℕ → Bool
+is_bracket c = is_among (codes "[]") c
+
+-- the text has this bracket at the place, and none after it
+abbrev pub IsLastBracket : (bracket bytes : List ℕ) → (place : ℕ) → Type 0
+IsLastBracket bracket bytes place =
+    (rest : List ℕ) × (drop place bytes ≡ bracket ++ rest) × (list_any is_bracket rest ≡ false)
+
+-- the last bracket of the text is a `[` at this place; or it is a `]`, or there is none
+abbrev pub IsOpenBracket : (bytes : List ℕ) → Option ℕ → Type 0
+IsOpenBracket bytes (Some place) = IsLastBracket (codes "[") bytes place
+IsOpenBracket bytes None = (list_any is_bracket bytes ≡ false) ⊎ ((place : ℕ) × IsLastBracket (codes "]") bytes place)
+
+abbrev pub is_hostname : Option ComponentName → Bool
+is_hostname None = false
+is_hostname (Some Hostname) = true
+is_hostname (Some component) = false
+
+-- the first of two places, or the one that there is
+abbrev pub first_place : Option ℕ → ℕ → ℕ
+first_place None place = place
+first_place (Some other) place = min other place
+
+-- No name follows the colon at this place. The colon is at fault, or in a hostname a `[` before it that is not closed.
+abbrev pub IsNameFault : Option ComponentName → (bytes : List ℕ) → (place : ℕ) → Fault → Type 0
+IsNameFault component bytes place fault =
+    MatchBool (is_hostname component)
+    ((bracket : Option ℕ) × IsOpenBracket bytes bracket × IsAlone (IsSpanAt bytes (first_place bracket place) 1) fault)
+    (IsAlone (IsSpanAt bytes place 1) fault)
+
+-- At this place, where `left` begins, no token begins for this reason: a backslash at the end is at fault, a name, or a custom expression.
+abbrev pub IsTokenFault : Option ComponentName → (bytes : List ℕ) → (place : ℕ) → (left : List ℕ) → FaultView → Fault → Type 0
+IsTokenFault component bytes place left IncompleteEscapeCode fault =
     (start : ℕ) × BeginsAt (chars bytes) (codes "\\") start × IsAlone (IsSpanAt bytes start 1) fault
-IsTokenFault bytes place left InvalidName fault = IsAlone (IsSpanAt bytes place 1) fault
-IsTokenFault bytes place left (InvalidRegex reported) fault =
+IsTokenFault component bytes place left InvalidName fault = IsNameFault component bytes place fault
+IsTokenFault component bytes place left (InvalidRegex reported) fault =
     (rest : List ℕ) × (left ≡ codes "(" ++ rest) × IsBodyFault bytes place rest fault
 
 -- this is the first fault of the text, and what is at fault there
-abbrev pub HasTokenFault : (bytes : List ℕ) → FaultView → (place : ℕ) → Fault → Type 0
-HasTokenFault bytes reported place fault =
-    (is : IsFault (chars bytes) reported place) × IsTokenFault bytes place is.left reported fault
+abbrev pub HasTokenFault : Option ComponentName → (bytes : List ℕ) → FaultView → (place : ℕ) → Fault → Type 0
+HasTokenFault component bytes reported place fault =
+    (is : IsFault (chars bytes) reported place) × IsTokenFault component bytes place is.left reported fault
+
+abbrev pub is_end : TokenType → Bool
+is_end End = true
+is_end kind = false
+
+-- the token at which the pieces of the text before the place end, unless they are all of it
+abbrev pub IsStopBefore : (bytes point : List ℕ) → (place : ℕ) → Option Span → Type 0
+IsStopBefore bytes point place earlier =
+    (stop : Stop) × IsStopOf (chars (take place bytes)) point (token_view stop.first) (token_view stop.found)
+    × MatchBool (is_end stop.found.kind) (earlier ≡ None) (IsSomeAnd earlier (IsSpanOfToken bytes stop.found))
+
+-- the same fault; if it is at odds with nothing, the token at which the pieces end before it is at fault too
+abbrev pub IsWithStop : (bytes point : List ℕ) → (place : ℕ) → (alone fault : Fault) → Type 0
+IsWithStop bytes point place alone fault =
+    (fault.span ≡ alone.span)
+    × MatchOption alone.earlier (IsStopBefore bytes point place fault.earlier) (λ span. fault.earlier ≡ Some span)
+
+-- the first fault of the text, with an earlier token that is at fault too
+abbrev pub IsFirstFault : Option ComponentName → (bytes point : List ℕ) → FaultView → (place : ℕ) → Fault → Type 0
+IsFirstFault component bytes point reported place fault =
+    (alone : Fault) × HasTokenFault component bytes reported place alone × IsWithStop bytes point place alone fault
 
 -- ---- where the tokens are no pattern
 
@@ -138,7 +191,7 @@ IsFaultOfError bytes point (errors.Parser error) fault =
 IsFaultOfError bytes point other fault = IsWholeFault bytes fault
 
 -- Where the first character begins no token is the fault. If each begins one, the error decides.
-abbrev pub IsFaultOf : (bytes point : List ℕ) → Error → Fault → Type 0
-IsFaultOf bytes point error fault =
-    ((reported : FaultView) × (place : ℕ) × HasTokenFault bytes reported place fault)
+abbrev pub IsFaultOf : Option ComponentName → (bytes point : List ℕ) → Error → Fault → Type 0
+IsFaultOf component bytes point error fault =
+    ((reported : FaultView) × (place : ℕ) × IsFirstFault component bytes point reported place fault)
     ⊎ (((tokens : List TokenView) × AreTokens (chars bytes) tokens) × IsFaultOfError bytes point error fault)

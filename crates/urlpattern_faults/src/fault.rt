@@ -6,8 +6,9 @@ ghost use Rattle.urlpattern_faults.specs.Spans.{IsSpanIn};
 ghost use Rattle.urlpattern_syntax.specs.Tokens.{AreTokens, token_view};
 
 use crate::span::Span;
-use crate::token::token_fault;
+use crate::token::first_fault;
 use std::alloc::Global;
+use urlpattern_eight::ComponentName;
 use urlpattern_syntax::error::{Error, OutOfMemory, ParserError};
 use urlpattern_syntax::parser::Stop;
 use urlpattern_syntax::tokenizer::{Token, TokenType, TokenizePolicy, tokenize};
@@ -28,8 +29,8 @@ use urlpattern_syntax::tokenizer::{Token, TokenType, TokenizePolicy, tokenize};
 pub struct Fault {
     /// The part at fault.
     pub span: Span,
-    /// The part before it that it is at odds with: the first of two equal names, the brace of a group that lacks its end, or the
-    /// parenthesis of a custom expression.
+    /// The part that it is at odds with: the first of two equal names, the brace of a group that lacks its end, or the
+    /// parenthesis of a custom expression. Or else an earlier token that is at fault too.
     pub earlier: Option<Span>,
 }
 
@@ -90,23 +91,25 @@ impl Fault {
 }
 
 /// Where the pattern text of a component is at fault, by the error with which it is refused under this prefix code point.
+/// Without a component the text is no pattern of a hostname.
 ///
 /// The error is that memory ran out.
 pub fn fault_of(
     alloc: Global,
+    component: Option<ComponentName>,
     text: &str,
     prefix_code_point: &str,
     error: &Error,
 ) -> Result<Fault, OutOfMemory>
-    ensures fault { IfOk result (IsFaultOf text.now (chars prefix_code_point.now) error.now) }
+    ensures fault { IfOk result (IsFaultOf component text.now (chars prefix_code_point.now) error.now) }
     ensures within { IfOk result (IsFaultIn text.now) }
 {
     let stop = match Stop::of(alloc, text, prefix_code_point) {
         Ok(stop) => stop,
         Err(Error::Tokenizer(fault, place)) => {
-            let found = token_fault(text, place, &fault);
+            let found = first_fault(alloc, component, text, prefix_code_point, place, &fault);
             drop(fault);
-            return Ok(found);
+            return found;
         }
         Err(_) => return Err(OutOfMemory),
     };
@@ -186,7 +189,7 @@ fn gives_name(token: &Token<'_>, name: &str) -> bool
 }
 
 /// The span of a token's spelling.
-fn span_of(text: &str, token: Token<'_>) -> Span
+pub(crate) fn span_of(text: &str, token: Token<'_>) -> Span
     ensures span { IsSpanOfToken text.now token.entry result }
     ensures within { IsSpanIn text.now result }
 {

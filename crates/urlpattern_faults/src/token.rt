@@ -1,31 +1,116 @@
 //! What is at fault where a text has no token.
-ghost use Rattle.std.specs.Prelude.{◌≡◌, ◌≤◌, ◌++◌, codes, length, List, ℕ, IfNone, IfSome};
+ghost use Rattle.std.specs.Prelude.{◌≡◌, ◌≤◌, ◌++◌, codes, length, List, ℕ, IfNone, IfOk, IfSome};
 ghost use Rattle.std.specs.Str.{chars};
-ghost use Rattle.urlpattern_faults.specs.Faults.{IsBodyFault, IsFaultIn, IsAfterFront, IsRefusedFront, HasTokenFault};
+ghost use Rattle.urlpattern_faults.specs.Faults.{IsBodyFault, IsFaultIn, IsAfterFront, IsFirstFault, IsNameFault, IsOpenBracket, IsRefusedFront, HasTokenFault, is_end, is_hostname};
 ghost use Rattle.urlpattern_syntax.specs.Text.{BeginsAt, BeginsWith, is_among};
 ghost use Rattle.urlpattern_syntax.specs.Tokens.{IsFault, IsFaultAt, InvalidRegex, IsRegexpFront, fault_view};
 
-use crate::fault::Fault;
+use crate::fault::{Fault, span_of};
 use crate::span::Span;
-use urlpattern_syntax::error::TokenizerError;
-use urlpattern_syntax::tokenizer::split_first;
+use std::alloc::Global;
+use urlpattern_eight::ComponentName;
+use urlpattern_syntax::error::{OutOfMemory, TokenizerError};
+use urlpattern_syntax::parser::Stop;
+use urlpattern_syntax::tokenizer::{TokenType, split_first};
 
-/// The fault of a text whose first fault is this one, at this place.
-pub(crate) fn token_fault(text: &str, place: usize, fault: &TokenizerError) -> Fault
+/// The fault of a text whose first fault is this one, at this place, with an earlier token that is at fault too.
+///
+/// The error is that memory ran out.
+pub(crate) fn first_fault(
+    alloc: Global,
+    component: Option<ComponentName>,
+    text: &str,
+    prefix_code_point: &str,
+    place: usize,
+    fault: &TokenizerError,
+) -> Result<Fault, OutOfMemory>
     requires { IsFault (chars text.now) (fault_view fault.now) place }
-    ensures fault { HasTokenFault text.now (fault_view fault.now) place result }
+    ensures fault { IfOk result (IsFirstFault component text.now (chars prefix_code_point.now) (fault_view fault.now) place) }
+    ensures within { IfOk result (IsFaultIn text.now) }
+{
+    let alone = token_fault(component, text, place, fault);
+    if let Some(_) = alone.earlier {
+        return Ok(alone);
+    }
+    let Ok(stop) = Stop::of(alloc, &text[..place], prefix_code_point) else {
+        return Err(OutOfMemory);
+    };
+    if is_end(stop.found.kind) {
+        return Ok(alone);
+    }
+    Ok(Fault {
+        span: alone.span,
+        earlier: Some(span_of(text, stop.found)),
+    })
+}
+
+/// Whether a token is the end of a text.
+fn is_end(kind: TokenType) -> bool
+    ensures { result ≡ is_end kind }
+{
+    matches!(kind, TokenType::End)
+}
+
+/// The fault of a text whose first fault is this one, at this place, in the pattern of this component.
+fn token_fault(
+    component: Option<ComponentName>,
+    text: &str,
+    place: usize,
+    fault: &TokenizerError,
+) -> Fault
+    requires { IsFault (chars text.now) (fault_view fault.now) place }
+    ensures fault { HasTokenFault component text.now (fault_view fault.now) place result }
     ensures within { IsFaultIn text.now result }
 {
     match fault {
         TokenizerError::IncompleteEscapeCode => {
             Fault::of_span(Span::at(text, text.len().saturating_sub(1), 1))
         }
-        TokenizerError::InvalidName => Fault::of_span(Span::at(text, place, 1)),
+        TokenizerError::InvalidName => name_fault(component, text, place),
         TokenizerError::InvalidRegex(_) => match split_first(&text[place..]) {
             Some((_, body)) => body_fault(text, place, body),
             None => Fault::whole(text),
         },
     }
+}
+
+/// The fault of a text where no name follows the colon at this place: the colon, or in a hostname a `[` before it that is not
+/// closed.
+fn name_fault(component: Option<ComponentName>, text: &str, place: usize) -> Fault
+    ensures fault { IsNameFault component text.now place result }
+    ensures within { IsFaultIn text.now result }
+{
+    if !is_hostname(component) {
+        return Fault::of_span(Span::at(text, place, 1));
+    }
+    match open_bracket(text) {
+        Some(open) => Fault::of_span(Span::at(text, open.min(place), 1)),
+        None => Fault::of_span(Span::at(text, place, 1)),
+    }
+}
+
+/// Whether a component is the hostname.
+fn is_hostname(component: Option<ComponentName>) -> bool
+    ensures { result ≡ is_hostname component }
+{
+    matches!(component, Some(ComponentName::Hostname))
+}
+
+/// Where the last bracket of a text is, if it is a `[`.
+fn open_bracket(text: &str) -> Option<usize>
+    ensures { IsOpenBracket text.now result }
+{
+    let bytes = text.as_bytes();
+    let mut place = bytes.len();
+    while place > 0 {
+        place -= 1;
+        match bytes[place] {
+            b'[' => return Some(place),
+            b']' => return None,
+            _ => {}
+        }
+    }
+    None
 }
 
 /// The fault of a text that has no custom expression where this body follows a `(`, which is at this place.

@@ -4,6 +4,7 @@ ghost use Rattle.std.specs.Prelude.{◌≡◌};
 ghost use Rattle.urlpattern_generate.specs.declared.error.GenerateError.TheVariants as errors;
 
 use std::alloc::AllocError;
+use std::{error, fmt};
 use urlpattern_eight::ComponentName;
 
 /// Why a pattern has no text with the groups that are given.
@@ -30,6 +31,28 @@ pub enum GenerateError {
     /// The allocator had no memory.
     OutOfMemory,
 }
+
+/// Prints the component, the group and what is wrong with it.
+impl fmt::Display for GenerateError {
+    fn fmt<W: fmt::Write>(&self, f: &mut fmt::Formatter<W>) -> fmt::Result {
+        match self {
+            Self::Missing(component, name) => {
+                write!(f, "the group `{component}.{name}` is missing")
+            }
+            Self::NotCaptured(component, name) => write!(
+                f,
+                "the group `{component}.{name}` cannot capture what is given for it"
+            ),
+            Self::ReadOtherwise(component) => write!(
+                f,
+                "the {component} would be read with other groups, or no URL has it"
+            ),
+            Self::OutOfMemory => f.write_str("out of memory"),
+        }
+    }
+}
+
+impl error::Error for GenerateError {}
 
 impl From<AllocError> for GenerateError {
     ghost from_gives = { λ _ error. error ≡ errors.OutOfMemory };

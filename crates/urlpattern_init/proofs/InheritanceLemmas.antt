@@ -305,3 +305,13 @@ pub text-or_empty : (found : Option (String Global)) (empty result : String Glob
     → text_of result ≡ unwrap_or (option_map text_of found) []
 text-or_empty None empty result is_empty is_result = ap text_of is_result ∙ text-nil empty is_empty
 text-or_empty (Some text) empty result is_empty is_result = ap text_of is_result
+
+-- ---- copies
+
+-- of equal bytes the texts are equal
+pub same_texts : (first second : Option (String Global)) → option_map string_bytes first ≡ option_map string_bytes second
+    → option_map text_of first ≡ option_map text_of second
+same_texts None None same = ap (option_map chars) same
+same_texts None (Some text) same = ap (option_map chars) same
+same_texts (Some text) None same = ap (option_map chars) same
+same_texts (Some text) (Some other) same = ap (option_map chars) same

@@ -3,12 +3,13 @@
 //! <https://urlpattern.spec.whatwg.org/#process-a-urlpatterninit>
 mod processing;
 
-ghost use Rattle.std.specs.Prelude.{◌≡◌};
+ghost use Rattle.std.specs.Prelude.{◌≡◌, IfOk, option_map};
 ghost use Rattle.urlpattern_init.specs.Inheritance.{values_of, values_view};
 ghost use Rattle.urlpattern_eight.specs.Eight.{at};
-ghost use Rattle.urlpattern_syntax.specs.Text.{option_text};
+ghost use Rattle.urlpattern_syntax.specs.Text.{option_text, text_of};
 
 pub use processing::{process, process_values, url_text};
+use std::alloc::AllocError;
 use url::Url;
 use urlpattern_eight::{ComponentName, Eight, field_of, with_fields};
 
@@ -23,7 +24,7 @@ use urlpattern_eight::{ComponentName, Eight, field_of, with_fields};
 /// ```
 ///
 /// <https://urlpattern.spec.whatwg.org/#dictdef-urlpatterninit>
-#[derive(Debug, Default, Clone, PartialEq, Eq, Drop)]
+#[derive(Debug, Default, PartialEq, Eq, Drop)]
 pub struct UrlPatternInit {
     /// The scheme, without a colon.
     pub protocol: Option<String>,
@@ -45,12 +46,31 @@ pub struct UrlPatternInit {
     pub base_url: Option<Url>,
 }
 
+/// A copy has the same texts and the same base URL.
+impl Clone for UrlPatternInit {
+    ghost is_clone = { λ init copy. (values_view copy ≡ values_view init) × (copy.base_url ≡ init.base_url) };
+
+    fn clone(&self) -> Result<Self, AllocError> {
+        let texts = Eight::try_from_fn(|name| self.copied(name))?;
+        let base_url = self.base_url.clone()?;
+        Ok(Self::from_eight(texts, base_url))
+    }
+}
+
 impl UrlPatternInit {
     /// The text of a component, if it is given.
     pub fn get(&self, name: ComponentName) -> Option<&str>
         ensures { option_text result ≡ at (values_view self.now) name }
     {
         field_of!(self, name).as_deref()
+    }
+
+    /// A copy of the text of a component, if it is given.
+    #[tactic(auto, using(crate::proofs::InheritanceLemmas::same_texts))]
+    fn copied(&self, name: ComponentName) -> Result<Option<String>, AllocError>
+        ensures { IfOk result (λ copy. option_map text_of copy ≡ at (values_view self.now) name) }
+    {
+        field_of!(self, name).clone()
     }
 
     /// The init of these texts, with this base URL.

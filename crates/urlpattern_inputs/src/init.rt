@@ -30,7 +30,7 @@ use urlpattern_syntax::Error;
 /// ```
 ///
 /// <https://urlpattern.spec.whatwg.org/#dictdef-urlpatterninit>
-#[derive(Debug, Default, Clone, PartialEq, Eq, Drop, Serialize, Deserialize)]
+#[derive(Debug, Default, PartialEq, Eq, Drop, Serialize, Deserialize)]
 pub struct UrlPatternInit {
     /// The scheme.
     #[serde(skip_serializing_if = "Option::is_none")]
@@ -59,6 +59,17 @@ pub struct UrlPatternInit {
     /// The base URL, which is `baseURL` in JSON.
     #[serde(skip_serializing_if = "Option::is_none", rename = "baseURL")]
     pub base_url: Option<String>,
+}
+
+/// A copy has the same texts.
+impl Clone for UrlPatternInit {
+    ghost is_clone = { λ init copy. init_view copy ≡ init_view init };
+
+    fn clone(&self) -> Result<Self, AllocError> {
+        let texts = Eight::try_from_fn(|name| field_of!(self, name).clone())?;
+        let base_url = self.base_url.clone()?;
+        Ok(Self::from_eight(texts, base_url))
+    }
 }
 
 impl UrlPatternInit {

@@ -25,7 +25,7 @@ use urlpattern_syntax::Error;
 /// drop(texts);
 /// tree
 /// ```
-#[derive(Debug, Clone, PartialEq, Eq, Drop, Serialize, Deserialize)]
+#[derive(Debug, PartialEq, Eq, Drop, Serialize, Deserialize)]
 pub struct MatchInput {
     /// The scheme, without a colon.
     pub protocol: String,
@@ -43,6 +43,16 @@ pub struct MatchInput {
     pub search: String,
     /// The fragment, without a number sign.
     pub hash: String,
+}
+
+/// A copy has the same texts.
+impl Clone for MatchInput {
+    ghost is_clone = { λ input copy. match_input_view copy ≡ match_input_view input };
+
+    fn clone(&self) -> Result<Self, AllocError> {
+        let texts = Eight::try_from_fn(|name| field_of!(self, name).clone())?;
+        Ok(Self::from_eight(texts))
+    }
 }
 
 impl MatchInput {

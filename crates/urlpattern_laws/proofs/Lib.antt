@@ -8,3 +8,5 @@ pub mod EcmaMatchers
 pub mod RegexGroups
 pub mod AskedCaptures
 pub mod LinkedTexts
+pub mod GivenGroups
+pub mod MatchedTexts

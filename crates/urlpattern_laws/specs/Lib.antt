@@ -1,4 +1,5 @@
 pub mod Folded
 pub mod LinkLaws
+pub mod MatchLinks
 pub mod Outcomes
 pub mod PatternLaws

@@ -8,6 +8,7 @@ ghost use Rattle.urlpattern_engine.specs.EcmaRegexps.{KeepsRegex, ecma_engine};
 ghost use Rattle.urlpattern_laws.specs.PatternLaws.{AnswersMeanTheParts, FirstResultsAreOne, MatchesAreOne, RegexMeetsPremises, RegexResultsAreFirst, TestsAgree, TestsAreOne};
 ghost use Rattle.urlpattern_laws.specs.Folded.{FoldedFirstsAreAnswered, FoldedWaysAreAnswered};
 ghost use Rattle.urlpattern_laws.specs.LinkLaws.{LinksAreOne, LinksDiffer, LinksOfCapturesAreTheTexts};
+ghost use Rattle.urlpattern_laws.specs.MatchLinks.{GroupsOfCapturesAreGiven, GroupsOfMatchesDiffer, GroupsOfResultsAreGiven, LinksOfMatchesAreTheTexts};
 ghost use Rattle.urlpattern_laws.specs.Outcomes.{DecidesGenerated, FirstWaysDecide, InitRefusalsAreOne, InitsHaveOutcomes, InitsHaveValues, PatternsExcludeRefusals};
 ghost use Rattle.urlpattern_pattern.specs.ByTextLaws.{CompiledHaveMeaning, FindingsAreByText, FindingsAreOne, InputFindingsAreByText, PatternsAnswerAlike, PatternsAnswerByText, ReadingsAsAreOne, TakenPatternsAnswerByText};
 ghost use Rattle.urlpattern_core.specs.FirstWays.{EachAnswersFirst};
@@ -21,6 +22,7 @@ use urlpattern_core::regexp::RegExp;
 pub use urlpattern_engine::laws::{
     matchers_by_pattern_regexp_answer_the_first_way, pattern_regexps_answer_as_regex_does,
     pattern_regexps_answer_the_first_way, pattern_regexps_take_each_generated_text,
+    values_of_one_expression_answer_alike,
 };
 pub use urlpattern_init::laws::{splits_are_one, texts_are_lines, texts_of_urls_are_lines};
 pub use urlpattern_matches::laws::results_are_read_back;
@@ -153,4 +155,21 @@ pub fn links_differ_by_their_groups<R: RegExp>()
 /// modifier, since its copies are not captured; and that each text that was captured is its own canonical form.
 pub fn links_of_captures_are_the_texts<R: RegExp>()
     ensures { LinksOfCapturesAreTheTexts R.answer }
+{}
+
+/// What `to_groups` returns, of captures or of a result, gives each group what it captured, and nothing to one that took no part.
+///
+/// Of captures it is asked that no two groups of a component have one name, as of a match by a pattern that was compiled.
+pub fn groups_of_matches_are_given<R: RegExp>()
+    ensures captures { GroupsOfCapturesAreGiven }
+    ensures result { GroupsOfResultsAreGiven }
+    ensures differ { GroupsOfMatchesDiffer R.RegExp }
+{}
+
+/// A link whose groups are given what a match captured has the texts that were matched.
+///
+/// It is asked of each component that its names are those of the parts of its pattern text, and that these mean its text, with what was
+/// captured; that no fixed text has a modifier; and that each text that was captured is its own canonical form.
+pub fn links_of_matches_are_the_texts<R: RegExp>()
+    ensures { LinksOfMatchesAreTheTexts R.answer }
 {}

@@ -26,7 +26,7 @@ bytes-same : (x y : String Global) → text_of x ≡ text_of y → string_bytes 
 bytes-same x y e = sym (text_bytes x) ∙ ap encode_utf8_all e ∙ text_bytes y
 
 -- the characters of two keys are the same where the keys are
-text-eq : (x y : String Global) → bytes_eq (text_of x) (text_of y) ≡ string_eq x y
+pub text-eq : (x y : String Global) → bytes_eq (text_of x) (text_of y) ≡ string_eq x y
 text-eq x y =
     ⊎_elim
     (λ same. (bytes_decides (text_of x) (text_of y)).1 (text-same x y ((bytes_decides (string_bytes x) (string_bytes y)).0 same)) ∙ sym same)
@@ -73,7 +73,7 @@ cond-or : {X : Type 0} (b : Bool) (x : X) (y z : Option X) → cond b (Some x) (
 cond-or true x y z = refl
 cond-or false x y z = refl
 
-lookup-append : {K X : Type 0} (test : K → Bool) (entries others : List (K × X)) → lookup test (entries ++ others) ≡ option_or (lookup test entries) (lookup test others)
+pub lookup-append : {K X : Type 0} (test : K → Bool) (entries others : List (K × X)) → lookup test (entries ++ others) ≡ option_or (lookup test entries) (lookup test others)
 lookup-append test [] others = refl
 lookup-append test (entry ∷ entries) others =
     ap (λ found. cond (test entry.0) (Some entry.1) found) (lookup-append test entries others)

@@ -3,3 +3,4 @@ pub mod GroupLemmas
 pub mod NameOrder
 pub mod ResultJsonLemmas
 pub mod TakenLemmas
+pub mod CopyLemmas

@@ -1,9 +1,17 @@
 -- Lemmas on the groups that took part.
-use Rattle.std.proofs.Common.{◌≡◌, ℕ, List, [], ◌∷◌, ◌++◌, append_assoc, map, ap, sym, ◌∙◌, Bor}
-use Rattle.std.proofs.lemmas.List.{append-nil, map-append}
-use Rattle.std.specs.Prelude.{Option, None, Some}
+use Rattle.std.proofs.Common.{◌≡◌, ℕ, ◌+◌, ◌<◌, List, [], ◌∷◌, ◌++◌, append_assoc, get_or, length, map, take, ap, sym, ◌∙◌, Bor}
+use Rattle.std.proofs.lemmas.Grind.{flat_map-append}
+use Rattle.std.proofs.lemmas.List.{append-nil, map-append, take_more}
+use Rattle.std.proofs.lemmas.List.Elements.{filter_map-append}
+use Rattle.std.specs.List.{flat_map}
+use Rattle.std.specs.Prelude.{Option, None, Some, String, string_bytes}
+use Rattle.std.specs.declared.alloc.Global.{Global}
+use Rattle.urlpattern_eight.specs.Eight.{at}
+use Rattle.urlpattern_matches.specs.ResultViews.{results_of}
+use Rattle.urlpattern_syntax.specs.Text.{text_of}
+use Rattle.urlpattern_matches.specs.declared.result.UrlPatternResult.{UrlPatternResult}
 use Rattle.urlpattern_eight.specs.declared.eight.ComponentName.{ComponentName}
-use Rattle.urlpattern_matches.specs.BorrowedMatches.{GroupText, NamedGroup, lent_group, named_group_text, texts_captured}
+use Rattle.urlpattern_matches.specs.BorrowedMatches.{GroupText, NamedGroup, all_listed_groups, lent_group, listed_entries, listed_groups, named_group_text, named_groups, text_captured, texts_captured}
 
 -- a group as it is yielded
 abbrev pub Yielded : Type 0
@@ -31,3 +39,52 @@ taken-same before left component name old all is_first was = ap (λ groups. map 
 pub taken-end : (left : List NamedGroup) (gathered : List Lent) (all : List GroupText) → left ≡ [] → map lent_group gathered ++ texts_captured left ≡ all → map lent_group gathered ≡ all
 taken-end left gathered all ends was =
     sym (append-nil (map lent_group gathered)) ∙ ap (λ groups. map lent_group gathered ++ texts_captured groups) (sym ends) ∙ was
+
+-- ---- the groups of a map
+
+abbrev pub Entries : Type 0
+Entries = List (String Global × Option (String Global))
+
+-- one more entry that took part, and one that took none
+pub entry-more : (component : ComponentName) (before left : Entries) (name text : String Global) (lent : Lent) (old new : List Lent) (all : List GroupText) →
+    before ≡ (name, Some text) ∷ left → lent_group lent ≡ (component, text_of name, text_of text) → new ≡ old ++ lent ∷ [] →
+    map lent_group old ++ texts_captured (named_groups component (listed_entries before)) ≡ all →
+    map lent_group new ++ texts_captured (named_groups component (listed_entries left)) ≡ all
+entry-more component before left name text lent old new all is_first is_lent is_new was =
+    let later = texts_captured (named_groups component (listed_entries left)) in
+    ap (λ gathered. map lent_group gathered ++ later) is_new
+    ∙ ap (λ gathered. gathered ++ later) (map-append lent_group old (lent ∷ []))
+    ∙ append_assoc (map lent_group old) (lent_group lent ∷ []) later
+    ∙ ap (λ (one : GroupText). map lent_group old ++ one ∷ later) is_lent
+    ∙ ap (λ entries. map lent_group old ++ texts_captured (named_groups component (listed_entries entries))) (sym is_first)
+    ∙ was
+
+pub entry-same : (component : ComponentName) (before left : Entries) (name : String Global) (old : List Lent) (all : List GroupText) →
+    before ≡ (name, None) ∷ left →
+    map lent_group old ++ texts_captured (named_groups component (listed_entries before)) ≡ all →
+    map lent_group old ++ texts_captured (named_groups component (listed_entries left)) ≡ all
+entry-same component before left name old all is_first was =
+    ap (λ entries. map lent_group old ++ texts_captured (named_groups component (listed_entries entries))) (sym is_first) ∙ was
+
+pub entry-end : (component : ComponentName) (left : Entries) (gathered : List Lent) (all : List GroupText) → left ≡ [] →
+    map lent_group gathered ++ texts_captured (named_groups component (listed_entries left)) ≡ all → map lent_group gathered ≡ all
+entry-end component left gathered all ends was =
+    sym (append-nil (map lent_group gathered))
+    ∙ ap (λ entries. map lent_group gathered ++ texts_captured (named_groups component (listed_entries entries))) (sym ends) ∙ was
+
+-- ---- the groups of one component more
+
+pub component-more : (result : UrlPatternResult) (names : List ComponentName) (i : ℕ) (d : ComponentName) (old new : List Lent) → i < length names →
+    map lent_group old ≡ texts_captured (all_listed_groups result (take i names)) →
+    map lent_group new ≡ map lent_group old ++ texts_captured (named_groups (get_or names i d) (listed_groups (at (results_of result) (get_or names i d)).groups)) →
+    map lent_group new ≡ texts_captured (all_listed_groups result (take (i + 1) names))
+component-more result names i d old new within was added =
+    let groups_of = λ (component : ComponentName). named_groups component (listed_groups (at (results_of result) component).groups) in
+    let before = flat_map groups_of (take i names) in
+    let component = get_or names i d in
+    let one : flat_map groups_of (take (i + 1) names) ≡ before ++ groups_of component =
+    ap (flat_map groups_of) (take_more names i d within) ∙ flat_map-append groups_of (take i names) (component ∷ [])
+    ∙ ap (λ groups. before ++ groups) (append-nil (groups_of component)) in
+    added ∙ ap (λ groups. groups ++ texts_captured (groups_of component)) was
+    ∙ sym (filter_map-append text_captured before (groups_of component))
+    ∙ ap texts_captured (sym one)

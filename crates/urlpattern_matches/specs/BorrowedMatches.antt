@@ -1,12 +1,14 @@
 -- A match that is borrowed from the pattern and from what it matches, as a result.
-use Rattle.std.specs.Prelude.{ℕ, List, ◌++◌, map, zip, IfOk, IfSome, Option, Result, option_map}
-use Rattle.std.specs.{Borrow.Bor, List.filter_map, List.flat_map, Slice.Iter.iter_rest, Str.chars}
+use Rattle.std.specs.Prelude.{ℕ, List, ◌++◌, map, zip, IfOk, IfSome, Option, Result, String, option_map, string_eq}
+use Rattle.std.specs.{Borrow.Bor, HashMap.HashMap, HashMap.IsUnique, List.filter_map, List.flat_map, Slice.Iter.iter_rest, Str.chars}
+use Rattle.std.specs.declared.alloc.Global.{Global}
 use Rattle.urlpattern_eight.specs.declared.eight.ComponentName.{ComponentName}
 use Rattle.urlpattern_matches.specs.declared.captures.UrlPatternCaptures.{UrlPatternCaptures}
 use Rattle.urlpattern_matches.specs.declared.captures.groups.UrlPatternCapturesIter.{UrlPatternCapturesIter}
 use Rattle.urlpattern_matches.specs.declared.captures.groups.UrlPatternGroups.{UrlPatternGroups}
 use Rattle.urlpattern_matches.specs.GroupTexts.{captures_of, texts_of}
-use Rattle.urlpattern_matches.specs.ResultViews.{ResultView, group_of}
+use Rattle.urlpattern_matches.specs.ResultViews.{ResultView, group_of, results_of}
+use Rattle.urlpattern_matches.specs.declared.result.UrlPatternResult.{UrlPatternResult}
 use Rattle.urlpattern_syntax.specs.Text.{option_text, text_of}
 use Rattle.urlpattern_eight.specs.Eight.{at}
 
@@ -62,6 +64,24 @@ texts_captured groups = filter_map text_captured groups
 
 abbrev pub lent_group : ComponentName × Bor (List ℕ) × Bor (List ℕ) → GroupText
 lent_group group = (group.0, chars group.1.now, chars group.2.now)
+
+-- ---- the groups of a result
+
+-- groups as a map lists them, in any order: each name beside what its group captured
+abbrev pub listed_entries : List (String Global × Option (String Global)) → List (List ℕ × Option (List ℕ))
+listed_entries entries = map (λ group. (text_of group.0, option_map text_of group.1)) entries
+
+abbrev pub listed_groups : {S : Type 0} → HashMap (String Global) (Option (String Global)) S → List (List ℕ × Option (List ℕ))
+listed_groups groups = listed_entries groups.entries
+
+-- the groups of these components, one component after the other
+abbrev pub all_listed_groups : UrlPatternResult → List ComponentName → List NamedGroup
+all_listed_groups result components =
+    flat_map (λ component. named_groups component (listed_groups (at (results_of result) component).groups)) components
+
+-- no two groups of the component have one name
+abbrev pub HasDistinctGroups : UrlPatternResult → ComponentName → Type 0
+HasDistinctGroups result component = IsUnique string_eq (at (results_of result) component).groups
 
 -- ---- results
 

@@ -1,5 +1,6 @@
 -- Results of a match, as they are seen: the texts that were matched, and what the groups have at a name.
-use Rattle.std.specs.Prelude.{◌≡◌, ℕ, Bool, List, reverse, zip, bytes_eq, Option, is_some, option_map, String}
+use Rattle.std.specs.List.{AllZip}
+use Rattle.std.specs.Prelude.{◌≡◌, ℕ, Bool, List, reverse, zip, bytes_eq, Option, is_some, option_map, String, string_bytes}
 use Rattle.std.specs.Option.{option_flatten}
 use Rattle.std.specs.{HashMap.HashMap, HashMap.get_by, Map.lookup}
 use Rattle.std.specs.declared.alloc.Global.{Global}
@@ -52,6 +53,15 @@ took_part result name = option_map is_some (result.group name)
 pub record IsResultOf (names : List (List ℕ)) (captures : Captures) (text : List ℕ) (result : ResultView) : Type 0 where
   pub has_input : result.input ≡ text
   pub has_groups : (name : List ℕ) → result.group name ≡ group_of names captures name
+
+-- a copy of an entry has the same name and the same capture
+abbrev pub IsSameEntry : (entry copy : String Global × Option (String Global)) → Type 0
+IsSameEntry entry copy = (string_bytes copy.0 ≡ string_bytes entry.0) × (option_map string_bytes copy.1 ≡ option_map string_bytes entry.1)
+
+-- A copy of a result has the same text, and its groups have the same entries in the same order.
+pub record IsCopy (given copy : UrlPatternComponentResult) : Type 0 where
+  pub input : string_bytes copy.input ≡ string_bytes given.input
+  pub groups : AllZip IsSameEntry given.groups.entries copy.groups.entries
 
 -- two results are seen alike
 abbrev pub IsSameResult : (result other : ResultView) → Type 0

@@ -2,11 +2,13 @@
 ghost use Rattle.std.specs.Cmp.Lexicographic.{slice_cmp};
 ghost use Rattle.std.specs.HashMap.{IsUnique, get_by_text, keys};
 ghost use Rattle.std.specs.Ordering.{nat_cmp};
-ghost use Rattle.std.specs.Prelude.{◌≡◌, map, option_copied, string_bytes, string_eq, IfOk, IsPermutation, IsSorted};
+ghost use Rattle.std.specs.Prelude.{◌≡◌, ◌++◌, map, option_copied, string_bytes, string_eq, IfOk, IsPermutation, IsSorted, OnOk};
 ghost use Rattle.std.specs.Str.{chars};
+ghost use Rattle.urlpattern_matches.specs.BorrowedMatches.{all_listed_groups, lent_group, listed_groups, named_groups, texts_captured, HasDistinctGroups};
 ghost use Rattle.urlpattern_matches.specs.GroupTexts.{captured_bytes, lent_bytes, texts_of, AreGroups, HasNoGroups, IsWithoutGroups};
-ghost use Rattle.urlpattern_matches.specs.ResultViews.{captured_text, component_result_view, result_view, results_of};
-ghost use Rattle.urlpattern_eight.specs.Eight.{at};
+ghost use Rattle.urlpattern_matches.specs.ResultViews.{captured_text, component_result_view, result_view, results_of, IsCopy};
+ghost use Rattle.urlpattern_eight.specs.Eight.{at, components};
+ghost use Rattle.urlpattern_eight.specs.declared.eight.ComponentName.{ComponentName as Name};
 ghost use Rattle.urlpattern_syntax.specs.Errors.{OnlyOutOfMemory};
 ghost use Rattle.urlpattern_syntax.specs.Text.{text_of, option_text};
 
@@ -27,7 +29,7 @@ use urlpattern_eight::{ComponentName, Eight, field_of, with_fields};
 /// ```
 ///
 /// <https://urlpattern.spec.whatwg.org/#dictdef-urlpatternresult>
-#[derive(Debug, Clone, PartialEq, Eq, Drop)]
+#[derive(Debug, PartialEq, Eq, Drop)]
 pub struct UrlPatternResult {
     /// The result of the scheme.
     pub protocol: UrlPatternComponentResult,
@@ -61,7 +63,7 @@ pub struct UrlPatternResult {
 /// ```
 ///
 /// <https://urlpattern.spec.whatwg.org/#dictdef-urlpatterncomponentresult>
-#[derive(Debug, Clone, PartialEq, Eq, Drop)]
+#[derive(Debug, PartialEq, Eq, Drop)]
 pub struct UrlPatternComponentResult {
     /// The component's text, which was matched.
     pub input: String,
@@ -82,6 +84,16 @@ pub(crate) fn empty_result(alloc: Global) -> UrlPatternResult
         pathname: UrlPatternComponentResult::empty(alloc),
         search: UrlPatternComponentResult::empty(alloc),
         hash: UrlPatternComponentResult::empty(alloc),
+    }
+}
+
+/// A copy has the same texts and the same groups.
+impl Clone for UrlPatternResult {
+    ghost is_clone = { λ result copy. (name : Name) → IsCopy (at (results_of result) name) (at (results_of copy) name) };
+
+    fn clone(&self) -> Result<Self, AllocError> {
+        let components = Eight::try_from_fn(|name| self.component(name).clone())?;
+        Ok(Self::from_eight(components))
     }
 }
 
@@ -112,6 +124,32 @@ impl UrlPatternResult {
         ensures { option_text result ≡ captured_text (result_view self.now component) (chars name.now) }
     {
         self.component(component).get(name)
+    }
+
+    /// The groups that took part, as `UrlPattern::link` and `generate` take them: each component and name, with what the group captured.
+    ///
+    /// Components are in the order of the standard, and the groups of each in any order. The error is that memory ran out.
+    pub fn to_groups(&self, alloc: Global) -> Result<Vec<(ComponentName, &str, &str)>, Error>
+        ensures all { IfOk result (λ groups. map lent_group groups.items ≡ texts_captured (all_listed_groups self.now components)) }
+        ensures differ { IfOk result (λ groups. (component : Name) → HasDistinctGroups self.now component) }
+        ensures memory { OnlyOutOfMemory result }
+    {
+        let mut taken = Vec::new(alloc);
+        for component in ComponentName::all() {
+            add_taken(&mut taken, component, &self.component(component).groups)?;
+        }
+        Ok(taken)
+    }
+}
+
+/// A copy has the same text and the same groups.
+impl Clone for UrlPatternComponentResult {
+    ghost is_clone = { IsCopy };
+
+    fn clone(&self) -> Result<Self, AllocError> {
+        let input = self.input.clone()?;
+        let groups = self.groups.clone()?;
+        Ok(Self { input, groups })
     }
 }
 
@@ -162,6 +200,23 @@ impl UrlPatternComponentResult {
         self.input = String::from_str(alloc, text)?;
         add_groups(alloc, &mut self.groups, names, captures)
     }
+}
+
+/// Adds the groups of a component that took part.
+fn add_taken<'r>(
+    taken: &mut Vec<(ComponentName, &'r str, &'r str)>,
+    component: ComponentName,
+    groups: &'r Groups,
+) -> Result<(), AllocError>
+    ensures added { OnOk result (map lent_group taken.new.items ≡ map lent_group taken.old.items ++ texts_captured (named_groups component (listed_groups groups.now))) }
+    ensures differ { OnOk result (IsUnique string_eq groups.now) }
+{
+    for (name, capture) in groups {
+        if let Some(text) = capture {
+            taken.push((component, name.as_str(), text.as_str()))?;
+        }
+    }
+    Ok(())
 }
 
 /// The names of groups.

@@ -1,1 +1,2 @@
+pub mod SameMatchers
 pub mod MatchingLemmas

@@ -6,19 +6,21 @@ use Rattle.urlpattern_syntax.specs.declared.error.Error.{Error}
 use Rattle.std.specs.Str.{all_scalars}
 use Rattle.std.specs.declared.alloc.Global.{Global}
 use Rattle.urlpattern_covers.specs.Meaning.{MeansText}
-use Rattle.urlpattern_core.specs.Components.{ComponentView}
+use Rattle.urlpattern_core.specs.Components.{ComponentView, IsEngineOf, engine_flags}
+use Rattle.urlpattern_core.specs.declared.regexp.RegExp.{Ghosts as Engine}
 use Rattle.urlpattern_init.specs.UrlTexts.{EachIsLine, IsLine}
 use Rattle.urlpattern_inputs.specs.declared.options.UrlPatternOptions.{UrlPatternOptions}
 use Rattle.urlpattern_init.specs.declared.init.UrlPatternInit.{UrlPatternInit}
-use Rattle.urlpattern_meaning.specs.Matching.{Agrees, Answers, IsMatched, MatcherView}
+use Rattle.urlpattern_meaning.specs.Matching.{Agrees, Answers, IsMadeOf, IsMatched, MatcherView}
 use Rattle.urlpattern_meaning.specs.PartMeaning.{AreGenerated, Captures}
 use Rattle.urlpattern_pattern.proofs.MatchersDecide.{answered}
 use Rattle.urlpattern_pattern.proofs.MeaningLemmas.{read_once}
 use Rattle.urlpattern_pattern.specs.ByText.{AnswersByItsText, AnswersByText, HasMeaning}
-use Rattle.urlpattern_create.specs.Compiled.{IsPathKind, Manner, manner_of, pattern_values}
+use Rattle.urlpattern_create.specs.Compiled.{IsPathKind, IsPatternOfInit, Manner, manner_of, pattern_values}
 use Rattle.urlpattern_pattern.specs.Patterns.{PatternView}
 use Rattle.urlpattern_pattern.specs.{Match.AreMatched, Meaning.ReadsAs}
-use Rattle.urlpattern_readings.specs.Readings.{ApartMatchNothing, AreItsParts, AreReadByValues, CommonAreMatched, CoveredAreMatched, IsReadAs, PartingsAreMatched, texts_of}
+use Rattle.urlpattern_readings.specs.Readings.{ApartMatchNothing, AreItsParts, AreMadeOf, AreReadByValues, CommonAreMatched, CoveredAreMatched, CoveredByEngineAreMatched, IsReadAs, IsReadBeside, PartingsAreMatched, SameAreMatched, texts_of}
+use Rattle.urlpattern_rules.proofs.SameParts.{known_or_not, same_within}
 use Rattle.urlpattern_rules.specs.Comparing.{AreApart, IsComponentCovered, IsCovered, IsKnown, IsMeantBy, IsParting, IsWithin, MeansEach, MeansIn, TakesEachLine, TakesNoLine}
 use Rattle.urlpattern_rules.specs.declared.component.ComponentParts.{ComponentParts}
 use Rattle.urlpattern_rules.specs.declared.pattern.{Parting.Parting, PatternParts.PatternParts}
@@ -67,34 +69,69 @@ same_truth P false true h k = h.1 (k.0 refl)
 same_truth P false false h k = refl
 
 pub its_parts : {E : Type 0} (answer : E → List ℕ → Option Captures) (init : UrlPatternInit) (asked : UrlPatternOptions) (pattern : PatternView E) (values : Values) (parts : PatternParts) →
-    AnswersByItsText answer init asked pattern → pattern_values init ≡ Ok values → AreReadByValues answer asked values (pattern Protocol).matcher parts → AreItsParts answer pattern parts
+    AnswersByItsText answer init asked pattern → pattern_values init ≡ Ok values → AreReadByValues answer asked values pattern parts → AreItsParts answer pattern parts
 its_parts answer init asked pattern values parts by are read name known text line =
     let component = at parts.components name in
     let one : values ≡ by.values = cc (sym are ∙ by.are_values) in
-    let again = subst (λ (v : Values). AreReadByValues answer asked v (pattern Protocol).matcher parts) one read in
+    let again = subst (λ (v : Values). AreReadByValues answer asked v pattern parts) one read in
     let path : again.hierarchical ≡ by.hierarchical = same_truth _ again.hierarchical by.hierarchical again.path_kind by.by_protocol in
     let is : IsReadAs (manner_of asked by.values by.hierarchical name) component =
-    subst (λ (h : Bool). IsReadAs (manner_of asked by.values h name) component) path (again.reads name) in
+    subst (λ (h : Bool). IsReadAs (manner_of asked by.values h name) component) path (again.reads name).is_read in
     let manner = manner_of asked by.values by.hierarchical name in
     subst (λ (o : OptionsView). IsMatched answer (pattern name).matcher text ↔ MeansText o (parts_view component.parts.items) text) (sym is.options)
     (matched_means answer manner (pattern name) (parts_view component.parts.items) text (by.answers name (has_meaning manner component is known)) is.reads line)
 
+-- the parts are those that the pattern was made of
+pub made_of : {E : Type 0} (engine : Engine E) (init : UrlPatternInit) (asked : UrlPatternOptions) (pattern : PatternView E) (values : Values) (parts : PatternParts) →
+    IsPatternOfInit engine init asked pattern → pattern_values init ≡ Ok values → AreReadByValues engine.answer asked values pattern parts → AreMadeOf engine pattern parts
+made_of {E} engine init asked pattern values parts (own, are_values, compiled) are read name =
+    let component = at parts.components name in
+    let one : values ≡ own = cc (sym are ∙ are_values) in
+    let again = subst (λ (v : Values). AreReadByValues engine.answer asked v pattern parts) one read in
+    let path : again.hierarchical ≡ compiled.hierarchical = same_truth _ again.hierarchical compiled.hierarchical again.path_kind compiled.path_kind in
+    let manner = manner_of asked own compiled.hierarchical name in
+    let is : IsReadAs manner component =
+    subst (λ (h : Bool). IsReadAs (manner_of asked own h name) component) path (again.reads name).is_read in
+    let (made_parts, reads, of_parts) = (compiled.are_compiled name).0 in
+    let same : made_parts ≡ parts_view component.parts.items = read_once manner made_parts (parts_view component.parts.items) reads is.reads in
+    record {
+      is_made =
+          subst (λ (o : OptionsView). IsMadeOf (IsEngineOf engine false (engine_flags o)) o (parts_view component.parts.items) (pattern name).matcher) (sym is.options)
+          (subst (λ (ps : List PartView). IsMadeOf (IsEngineOf engine false (engine_flags manner.options)) manner.options ps (pattern name).matcher) same of_parts.has_matcher);
+      accepted = (again.reads name).accepted.0;
+    }
+
 -- ---- laws
 
 covered_component : {E : Type 0} (answer : E → List ℕ → Option Captures) (pattern asked : PatternView E) (parts asked_parts : PatternParts) (name : ComponentName) (text : List ℕ) →
-    AreItsParts answer pattern parts → AreItsParts answer asked asked_parts → IsComponentCovered (at parts.components name) (at asked_parts.components name) → IsLine text →
+    AreItsParts answer pattern parts → AreItsParts answer asked asked_parts → SameAreMatched answer pattern asked parts asked_parts →
+    IsComponentCovered (at parts.components name) (at asked_parts.components name) → IsLine text →
     IsMatched answer (asked name).matcher text → IsMatched answer (pattern name).matcher text
-covered_component answer pattern asked parts asked_parts name text are asked_are (inl each_line) line matched =
+covered_component answer pattern asked parts asked_parts name text are asked_are alike (inl each_line) line matched =
     (are name each_line.known text line).1 (each_line.takes text line.characters line.no_line_feed)
-covered_component answer pattern asked parts asked_parts name text are asked_are (inr within) line matched =
+covered_component answer pattern asked parts asked_parts name text are asked_are alike (inr (inl within)) line matched =
     (are name within.known text line).1 (within.within text line.characters line.no_line_feed ((asked_are name within.asked_known text line).0 matched))
+covered_component answer pattern asked parts asked_parts name text are asked_are alike (inr (inr same)) line matched = by (known_or_not (at parts.components name))
+  where
+    by : IsKnown (at parts.components name) ⊎ ¬ IsKnown (at parts.components name) → IsMatched answer (pattern name).matcher text
+    by (inl known) =
+        let within = same_within (at parts.components name) (at asked_parts.components name) same known in
+        (are name within.known text line).1 (within.within text line.characters line.no_line_feed ((asked_are name within.asked_known text line).0 matched))
+    by (inr unknown) = alike name unknown same text line matched
 
 pub covered_matched : {E : Type 0} (answer : E → List ℕ → Option Captures) → CoveredAreMatched answer
-covered_matched answer pattern asked parts asked_parts are asked_are (inl (name, nothing)) texts lines matched =
+covered_matched answer pattern asked parts asked_parts are asked_are alike (inl (name, nothing)) texts lines matched =
     let line = lines name in
     absurd (nothing.takes_none (at texts name) line.characters line.no_line_feed ((asked_are name nothing.known (at texts name) line).0 (matched name)))
-covered_matched answer pattern asked parts asked_parts are asked_are (inr each_is) texts lines matched =
-    λ name. covered_component answer pattern asked parts asked_parts name (at texts name) are asked_are (each_is name) (lines name) (matched name)
+covered_matched answer pattern asked parts asked_parts are asked_are alike (inr each_is) texts lines matched =
+    λ name. covered_component answer pattern asked parts asked_parts name (at texts name) are asked_are alike (each_is name) (lines name) (matched name)
+
+pub covered_by_engine : {E : Type 0} (engine : Engine E) →
+    ((pattern asked : PatternView E) (parts asked_parts : PatternParts) → AreMadeOf engine pattern parts → AreMadeOf engine asked asked_parts → SameAreMatched engine.answer pattern asked parts asked_parts) →
+    CoveredByEngineAreMatched engine
+covered_by_engine engine made pattern asked parts asked_parts by also covered =
+    covered_matched engine.answer pattern asked parts asked_parts by.are_its_parts also.are_its_parts
+    (made pattern asked parts asked_parts by.are_made also.are_made) covered
 
 meant_line : (component : ComponentParts) (text : String Global) → IsMeantBy component (text_of text) → IsLine (text_of text)
 meant_line component text meant = record { characters = scalars-chars (string_bytes text) (IsUtf8-string_bytes text); no_line_feed = meant.line }
@@ -124,12 +161,17 @@ apart_matched answer pattern other parts other_parts name are other_are apart te
 -- ---- results
 
 pub parts_result : {E : Type 0} (answer : E → List ℕ → Option Captures) (init : UrlPatternInit) (asked : UrlPatternOptions) (pattern : PatternView E) (values : Values) (result : Result PatternParts Error) →
-    AnswersByItsText answer init asked pattern → pattern_values init ≡ Ok values → IfOk result (AreReadByValues answer asked values (pattern Protocol).matcher) → IfOk result (AreItsParts answer pattern)
+    AnswersByItsText answer init asked pattern → pattern_values init ≡ Ok values → IfOk result (AreReadByValues answer asked values pattern) → IfOk result (AreItsParts answer pattern)
 parts_result answer init asked pattern values (Ok parts) by are read = its_parts answer init asked pattern values parts by are read
 parts_result answer init asked pattern values (Err error) by are read = read
 
-pub read_values : {E : Type 0} (answer : E → List ℕ → Option Captures) (asked : UrlPatternOptions) (values : Values) (protocol : MatcherView E) (hierarchical : Bool) (result : Result PatternParts Error) →
-    IsPathKind answer values protocol hierarchical → IfOk result (λ parts. (name : ComponentName) → IsReadAs (manner_of asked values hierarchical name) (at parts.components name)) →
-    IfOk result (AreReadByValues answer asked values protocol)
-read_values answer asked values protocol hierarchical (Ok parts) kind reads = record { hierarchical = hierarchical; path_kind = kind; reads = reads }
-read_values answer asked values protocol hierarchical (Err error) kind reads = tt
+pub made_result : {E : Type 0} (engine : Engine E) (init : UrlPatternInit) (asked : UrlPatternOptions) (pattern : PatternView E) (values : Values) (result : Result PatternParts Error) →
+    IsPatternOfInit engine init asked pattern → pattern_values init ≡ Ok values → IfOk result (AreReadByValues engine.answer asked values pattern) → IfOk result (AreMadeOf engine pattern)
+made_result engine init asked pattern values (Ok parts) of_init are read = made_of engine init asked pattern values parts of_init are read
+made_result engine init asked pattern values (Err error) of_init are read = tt
+
+pub read_values : {E : Type 0} (answer : E → List ℕ → Option Captures) (asked : UrlPatternOptions) (values : Values) (pattern : PatternView E) (hierarchical : Bool) (result : Result PatternParts Error) →
+    IsPathKind answer values (pattern Protocol).matcher hierarchical → IfOk result (λ parts. (name : ComponentName) → IsReadBeside (manner_of asked values hierarchical name) (pattern name) (at parts.components name)) →
+    IfOk result (AreReadByValues answer asked values pattern)
+read_values answer asked values pattern hierarchical (Ok parts) kind reads = record { hierarchical = hierarchical; path_kind = kind; reads = reads }
+read_values answer asked values pattern hierarchical (Err error) kind reads = tt

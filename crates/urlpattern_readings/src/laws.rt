@@ -2,15 +2,29 @@
 //!
 //! Each function here does nothing; what it promises is a theorem.
 
-ghost use Rattle.urlpattern_readings.specs.Readings.{ApartMatchNothing, CommonAreMatched, CoveredAreMatched, PartingsAreMatched};
+ghost use Rattle.urlpattern_core.specs.Regexes.{regex_engine};
+ghost use Rattle.urlpattern_engine.specs.PatternRegexps.{pattern_engine};
+ghost use Rattle.urlpattern_readings.specs.Readings.{ApartMatchNothing, CommonAreMatched, CoveredAreMatched, CoveredByEngineAreMatched, MadeAreMatched, PartingsAreMatched};
 
 use urlpattern_core::regexp::RegExp;
 
 /// If a pattern covers another by their parts, then of any eight texts without line feed that the other matches it matches each. If
 /// they part, then the other matches the texts, and the pattern does not match that of the component.
+///
+/// Of components of which it is not known what their parts mean, as of custom regular expressions, it is asked that the pattern matches
+/// what the other one matches, if their parts are the same. It does if both were made of their parts by an engine that answers alike by
+/// two values that it made of one expression.
 pub fn covered_patterns_match<R: RegExp>()
     ensures covered { CoveredAreMatched R.answer }
+    ensures made { MadeAreMatched R.RegExp }
     ensures parted { PartingsAreMatched R.answer }
+{}
+
+/// Of patterns over `PatternRegexp`, or over `regex::Regex`, that are made of their parts, a pattern that covers another matches what the
+/// other matches, with custom regular expressions or not.
+pub fn covered_patterns_by_these_engines_match()
+    ensures pattern_regexp { CoveredByEngineAreMatched pattern_engine }
+    ensures regex { CoveredByEngineAreMatched regex_engine }
 {}
 
 /// If two patterns overlap by their parts, then both match the texts. If they are apart, then no eight texts without line feed are matched

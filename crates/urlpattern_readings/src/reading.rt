@@ -1,14 +1,16 @@
 //! The parts of a pattern's components are read.
 
-ghost use Rattle.std.specs.Prelude.{◌≡◌, IfOk, length};
+ghost use Rattle.std.specs.Prelude.{◌≡◌, ◌↔◌, IfOk, IsTrue, length};
 ghost use Rattle.std.specs.Str.{chars};
 ghost use Rattle.urlpattern_canonical.specs.Canonical.{IsAnswer};
 ghost use Rattle.urlpattern_core.specs.Components.{component_view};
+ghost use Rattle.urlpattern_core.specs.Matchers.{matcher_view};
+ghost use Rattle.urlpattern_create.specs.Compiled.{IsPatternOfInit};
 ghost use Rattle.urlpattern_init.specs.Inheritance.{values_view};
 ghost use Rattle.urlpattern_pattern.specs.ByText.{AnswersByItsText};
 ghost use Rattle.urlpattern_create.specs.CompilerSteps.{manner_by};
 ghost use Rattle.urlpattern_pattern.specs.Patterns.{pattern_view};
-ghost use Rattle.urlpattern_readings.specs.Readings.{AreItsParts, AreReadByValues, IsReadAs, IsReadFor};
+ghost use Rattle.urlpattern_readings.specs.Readings.{AreItsParts, AreMadeOf, AreReadByValues, IsAccepted, IsReadBeside, IsReadFor};
 ghost use Rattle.urlpattern_eight.specs.Eight.{at};
 ghost use Rattle.urlpattern_eight.specs.declared.eight.ComponentName.{ComponentName};
 
@@ -16,6 +18,7 @@ use std::alloc::Global;
 use urlpattern_canonical::canonicalize_and_process::Canonicalizer;
 use urlpattern_core::Error;
 use urlpattern_core::component::Component;
+use urlpattern_core::matcher::{InnerMatcher, Matcher};
 use urlpattern_core::parser::parse_pattern_string;
 use urlpattern_core::regexp::RegExp;
 use urlpattern_create::{Compiler, pattern_of, pattern_values};
@@ -28,7 +31,7 @@ use urlpattern_rules::{ComponentParts, PatternParts};
 /// Reads the parts of a pattern that was compiled from this init and these options.
 ///
 /// If it answers by the texts of the init, as a pattern over `PatternRegexp` does, then each component of which it is known what its
-/// parts mean matches what they mean.
+/// parts mean matches what they mean. Each component was made of its parts, custom regular expressions or not.
 ///
 /// The error is that of a text that is refused, which was not when the pattern was compiled, or that memory ran out.
 pub fn parts_of<R: RegExp>(
@@ -37,22 +40,23 @@ pub fn parts_of<R: RegExp>(
     init: &UrlPatternInit,
     options: &UrlPatternOptions,
 ) -> Result<PatternParts, Error>
-    ensures { AnswersByItsText R.answer init.now options.now (pattern_view pattern.now) → IfOk result (AreItsParts R.answer (pattern_view pattern.now)) }
+    ensures meaning { AnswersByItsText R.answer init.now options.now (pattern_view pattern.now) → IfOk result (AreItsParts R.answer (pattern_view pattern.now)) }
+    ensures made { IsPatternOfInit R.RegExp init.now options.now (pattern_view pattern.now) → IfOk result (AreMadeOf R.RegExp (pattern_view pattern.now)) }
 {
     let values = pattern_values(alloc, init)?;
-    let parts = parts_of_values(alloc, &pattern.protocol, &values, options);
+    let parts = parts_of_values(alloc, pattern, &values, options);
     drop(values);
     parts
 }
 
-/// Reads the parts of values, under the protocol that they were compiled to.
+/// Reads the parts of values that were compiled to this pattern.
 fn parts_of_values<R: RegExp>(
     alloc: Global,
-    protocol: &Component<R>,
+    pattern: &UrlPattern<R>,
     values: &UrlPatternInit,
     options: &UrlPatternOptions,
 ) -> Result<PatternParts, Error>
-    ensures { IfOk result (AreReadByValues R.answer options.now (values_view values.now) (component_view protocol.now).matcher) }
+    ensures { IfOk result (AreReadByValues R.answer options.now (values_view values.now) (pattern_view pattern.now)) }
 {
     let canonicalizer = Canonicalizer::shared(alloc)?;
     let compiler = Compiler {
@@ -61,28 +65,33 @@ fn parts_of_values<R: RegExp>(
         values,
         options,
     };
-    let hierarchical = compiler.is_hierarchical(protocol)?;
-    read_each(&compiler, hierarchical)
+    let hierarchical = compiler.is_hierarchical(&pattern.protocol)?;
+    read_each(&compiler, pattern, hierarchical)
 }
 
 /// Reads the parts of each component.
-fn read_each(compiler: &Compiler<'_>, hierarchical: bool) -> Result<PatternParts, Error>
-    ensures { IfOk result (λ parts. (name : ComponentName) → IsReadAs (manner_by compiler.now hierarchical name) (at parts.components name)) }
+fn read_each<R: RegExp>(
+    compiler: &Compiler<'_>,
+    pattern: &UrlPattern<R>,
+    hierarchical: bool,
+) -> Result<PatternParts, Error>
+    ensures { IfOk result (λ parts. (name : ComponentName) → IsReadBeside (manner_by compiler.now hierarchical name) (pattern_view pattern.now name) (at parts.components name)) }
 {
     let value = |name: ComponentName| -> Result<ComponentParts, Error>
-        ensures { IsReadFor (manner_by compiler.entry.now hierarchical name) result }
-    { read(compiler, name, hierarchical) };
+        ensures { IsReadFor (manner_by compiler.entry.now hierarchical name) (pattern_view pattern.entry.now name) result }
+    { read(compiler, pattern.get(name), name, hierarchical) };
     let components = Eight::try_from_fn(value)?;
     Ok(PatternParts { components })
 }
 
-/// Reads the parts of a component.
-fn read(
+/// Reads the parts of a component that was compiled to this.
+fn read<R: RegExp>(
     compiler: &Compiler<'_>,
+    compiled: &Component<R>,
     component: ComponentName,
     hierarchical: bool,
 ) -> Result<ComponentParts, Error>
-    ensures { IsReadFor (manner_by compiler.now hierarchical component) result }
+    ensures { IsReadFor (manner_by compiler.now hierarchical component) (component_view compiled.now) result }
 {
     let options = compiler.options_of(component, hierarchical)?;
     let canonicalize = |text: &str| -> Result<String, Error>
@@ -90,5 +99,19 @@ fn read(
     { compiler.canonical(component, hierarchical, text) };
     let pattern = pattern_of(compiler.values, component).unwrap_or("*");
     let parts = parse_pattern_string(compiler.alloc, pattern, &options, canonicalize)?;
-    Ok(ComponentParts { options, parts })
+    Ok(ComponentParts {
+        options,
+        parts,
+        is_accepted: is_accepted(&compiled.matcher),
+    })
+}
+
+/// Whether the engine accepted what a matcher needs it for, if it needs it.
+fn is_accepted<R: RegExp>(matcher: &Matcher<R>) -> bool
+    ensures { IsTrue result ↔ IsAccepted (matcher_view matcher.now) }
+{
+    match &matcher.inner {
+        InnerMatcher::RegExp { regexp } => regexp.is_ok(),
+        _ => true,
+    }
 }

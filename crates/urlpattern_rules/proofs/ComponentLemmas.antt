@@ -14,7 +14,7 @@ use Rattle.urlpattern_covers.specs.declared.parts.Overlap.TheVariants as overlap
 use Rattle.urlpattern_covers.specs.declared.parts.Reason.{Reason}
 use Rattle.urlpattern_covers.specs.declared.parts.Reason.TheVariants as reasons
 use Rattle.urlpattern_meaning.specs.PartMeaning.{AreGenerated}
-use Rattle.urlpattern_rules.specs.Comparing.{AreApart, IsComponentCovering, IsComponentOverlap, IsExample, IsKnown, IsMeantBy, IsOnlyIn, IsReasonAlone, IsReasonFor, IsUnknownBy, IsWithin, MeansIn, TakesEachLine, TakesNoLine, full_wildcard}
+use Rattle.urlpattern_rules.specs.Comparing.{AreApart, AreSame, IsComponentCovering, IsComponentOverlap, IsExample, IsKnown, IsMeantBy, IsOnlyIn, IsReasonAlone, IsReasonFor, IsUnknownBy, IsWithin, MeansIn, TakesEachLine, TakesNoLine, full_wildcard}
 use Rattle.urlpattern_rules.specs.declared.component.ComponentParts.{ComponentParts}
 use Rattle.urlpattern_syntax.specs.declared.parser.{Part.Part, PartType.PartType}
 use Rattle.urlpattern_syntax.specs.{Options.OptionsView, Options.default_options, Options.options_view, Parts.PartView, Parts.part_view, Parts.parts_view, Text.lacks, Text.line_feed}
@@ -88,13 +88,18 @@ wildcard_means options text line =
 
 -- ---- answers of lists of parts
 
-pub covering_known : (component asked : ComponentParts) (covering : Covering) → IsKnown component → IsKnown asked →
+pub covering_known : (component asked : ComponentParts) (covering : Covering) → IsKnown component → IsKnown asked → ¬ AreSame component asked →
     IsCovering (options_view component.options) (parts_view component.parts.items) (options_view asked.options) (parts_view asked.parts.items) covering →
     IsComponentCovering component asked covering
-covering_known component asked coverings.Covered known asked_known is = inr (record { known = known; asked_known = asked_known; within = is })
-covering_known component asked (coverings.NotCovered text) known asked_known is =
+covering_known component asked coverings.Covered known asked_known apart is = inr (inl (record { known = known; asked_known = asked_known; within = is }))
+covering_known component asked (coverings.NotCovered text) known asked_known apart is =
     record { known = known; meant = record { known = asked_known; means = is.0; line = is.2 }; not_meant = is.1 }
-covering_known component asked (coverings.Unknown reason) known asked_known is = is
+covering_known component asked (coverings.Unknown reason) known asked_known apart is = (is, apart)
+
+pub covering_result : (component asked : ComponentParts) (result : Result Covering AllocError) → IsKnown component → IsKnown asked → ¬ AreSame component asked →
+    IfOk result (IsCovering (options_view component.options) (parts_view component.parts.items) (options_view asked.options) (parts_view asked.parts.items)) → IfOk result (IsComponentCovering component asked)
+covering_result component asked (Ok covering) known asked_known apart is = covering_known component asked covering known asked_known apart is
+covering_result component asked (Err error) known asked_known apart is = tt
 
 too_much_flips : (options : OptionsView) (parts : List PartView) (other_options : OptionsView) (others : List PartView) →
     IsTooMuch options parts other_options others → IsTooMuch other_options others options parts

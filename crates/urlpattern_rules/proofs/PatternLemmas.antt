@@ -4,7 +4,7 @@ use Rattle.std.proofs.lemmas.List.Elements.{All-more, All-nil}
 use Rattle.std.specs.List.{All}
 use Rattle.urlpattern_covers.specs.declared.parts.Covering.{Covering}
 use Rattle.urlpattern_covers.specs.declared.parts.Covering.TheVariants as coverings
-use Rattle.urlpattern_rules.specs.Comparing.{IsComponentCovered, IsComponentCovering, IsFirst, IsOnlyIn, IsReasonFor, first_or}
+use Rattle.urlpattern_rules.specs.Comparing.{IsComponentCovered, IsComponentCovering, IsFirst, IsOnlyIn, IsReasonToDoubt, first_or}
 use Rattle.urlpattern_rules.specs.declared.pattern.First.{First}
 use Rattle.urlpattern_rules.specs.declared.pattern.First.TheVariants as firsts
 use Rattle.urlpattern_rules.specs.declared.pattern.PatternParts.{PatternParts}
@@ -19,7 +19,7 @@ IsCoveredIn pattern asked name = IsComponentCovered (at pattern.components name)
 abbrev pub IsSoFar : (pattern asked : PatternParts) → List ComponentName → First → Type 0
 IsSoFar pattern asked names firsts.Nowhere = All (IsCoveredIn pattern asked) names
 IsSoFar pattern asked names (firsts.At name text) = IsOnlyIn (at pattern.components name) (at asked.components name) text.items
-IsSoFar pattern asked names (firsts.Unknown name reason) = IsReasonFor (at pattern.components name) (at asked.components name) reason
+IsSoFar pattern asked names (firsts.Unknown name reason) = IsReasonToDoubt (at pattern.components name) (at asked.components name) reason
 
 -- one component more
 pub so_far_more : (pattern asked : PatternParts) (names : List ComponentName) (i : ℕ) (d : ComponentName) (first : First) (covering : Covering) → i < length names →

@@ -1,5 +1,5 @@
 -- What patterns mean, by their parts, and how that is compared.
-use Rattle.std.specs.Prelude.{◌≡◌, ◌<◌, ◌⊎◌, ◌++◌, ℕ, All, Bool, true, Option, None, Contains, List, [], ◌∷◌, IsTrue, false, take, Result, Ok, Err, Some, String}
+use Rattle.std.specs.Prelude.{◌≡◌, ◌<◌, ◌⊎◌, ◌++◌, ℕ, All, Bool, true, Option, None, Contains, List, [], ◌∷◌, IsTrue, false, map, take, Result, Ok, Err, Some, String}
 use Rattle.std.specs.declared.alloc.Global.{Global}
 use Rattle.std.specs.List.{slice_get}
 use Rattle.std.specs.Str.{all_scalars}
@@ -28,9 +28,9 @@ use Rattle.urlpattern_eight.specs.declared.eight.ComponentName.{ComponentName}
 use Rattle.urlpattern_eight.specs.declared.eight.Eight.{Eight}
 use Rattle.urlpattern_eight.specs.Eight.{at}
 use Rattle.urlpattern_syntax.specs.Options.{default_options, options_view}
-use Rattle.urlpattern_syntax.specs.Parts.{PartView, parts_view}
+use Rattle.urlpattern_syntax.specs.Parts.{PartView, part_view, parts_view}
 use Rattle.urlpattern_syntax.specs.Text.{lacks, line_feed, text_of}
-use Rattle.urlpattern_syntax.specs.declared.parser.{PartModifier.PartModifier, PartType.PartType}
+use Rattle.urlpattern_syntax.specs.declared.parser.{Part.Part, PartModifier.PartModifier, PartType.PartType}
 
 -- ---- one component
 
@@ -49,7 +49,7 @@ IsUnknownBy component reasons.CustomExpression = ¬ AreGenerated (parts_view com
 IsUnknownBy component reasons.IgnoredCase = component.options.ignore_case ≡ true
 IsUnknownBy component reasons.TooMany = ⊥
 
--- why it is not known whether the first covers the second, or whether they overlap
+-- why it is not known how the two compare
 abbrev pub IsReasonFor : (component other : ComponentParts) → Reason → Type 0
 IsReasonFor component other =
     IsReason (options_view other.options) (parts_view other.parts.items) (options_view component.options) (parts_view component.parts.items)
@@ -96,15 +96,39 @@ pub record AreApart (component other : ComponentParts) : Type 0 where
   pub other_known : IsKnown other
   pub apart : (text : List ℕ) → IsTrue (all_scalars text) → IsTrue (lacks line_feed text) → MeansIn component text → ¬ MeansIn other text
 
--- the component covers the asked one: it takes each line, whatever is asked, or the asked texts are within its own
+-- a part without its name, and so each of these
+abbrev pub unnamed_view : Part → PartView
+unnamed_view part = record (part_view part) { name = [] }
+
+abbrev pub unnamed : List Part → List PartView
+unnamed parts = map unnamed_view parts
+
+-- case is kept, or no part is a custom regular expression
+abbrev pub IsSettled : ComponentParts → Type 0
+IsSettled component = (component.options.ignore_case ≡ false) ⊎ AreGenerated (parts_view component.parts.items)
+
+-- The parts are the same but for names, under the same options, and the engine accepted the expression of the first. Case is kept, or
+-- no part is custom: then an engine answers alike by two values that it made of one expression.
+pub record AreSame (component other : ComponentParts) : Type 0 where
+  pub options : options_view component.options ≡ options_view other.options
+  pub parts : unnamed component.parts.items ≡ unnamed other.parts.items
+  pub settled : IsSettled component
+  pub accepted : IsTrue component.is_accepted
+
+-- the component covers the asked one: it takes each line, whatever is asked, or the asked texts are within its own, or both are the same,
+-- with custom regular expressions or not
 abbrev pub IsComponentCovered : (component asked : ComponentParts) → Type 0
-IsComponentCovered component asked = TakesEachLine component ⊎ IsWithin component asked
+IsComponentCovered component asked = TakesEachLine component ⊎ (IsWithin component asked ⊎ AreSame component asked)
+
+-- why it is not known whether it does; never of two that are the same
+abbrev pub IsReasonToDoubt : (component asked : ComponentParts) → Reason → Type 0
+IsReasonToDoubt component asked reason = IsReasonFor component asked reason × ¬ AreSame component asked
 
 -- whether it does
 abbrev pub IsComponentCovering : (component asked : ComponentParts) → Covering → Type 0
 IsComponentCovering component asked coverings.Covered = IsComponentCovered component asked
 IsComponentCovering component asked (coverings.NotCovered text) = IsOnlyIn component asked text.items
-IsComponentCovering component asked (coverings.Unknown reason) = IsReasonFor component asked reason
+IsComponentCovering component asked (coverings.Unknown reason) = IsReasonToDoubt component asked reason
 
 -- whether both mean a text
 abbrev pub IsComponentOverlap : (component other : ComponentParts) → Overlap → Type 0
@@ -139,7 +163,7 @@ pub record IsParting (pattern asked : PatternParts) (parting : Parting) : Type 0
 -- why it is not known: of this component nothing is known, or no text of the asked one's
 abbrev pub IsReasonIn : (pattern asked : PatternParts) → ComponentName → Reason → Type 0
 IsReasonIn pattern asked name reason =
-    IsReasonFor (at pattern.components name) (at asked.components name) reason ⊎ IsReasonAlone (at asked.components name) reason
+    IsReasonToDoubt (at pattern.components name) (at asked.components name) reason ⊎ IsReasonAlone (at asked.components name) reason
 
 -- whether the pattern covers the asked one
 abbrev pub IsPatternCovering : (pattern asked : PatternParts) → PatternCovering → Type 0
@@ -159,7 +183,7 @@ IsPatternOverlap pattern other (commons.Unknown name reason) = IsReasonFor (at p
 abbrev pub IsFirst : (pattern asked : PatternParts) → First → Type 0
 IsFirst pattern asked firsts.Nowhere = (name : ComponentName) → IsComponentCovered (at pattern.components name) (at asked.components name)
 IsFirst pattern asked (firsts.At name text) = IsOnlyIn (at pattern.components name) (at asked.components name) text.items
-IsFirst pattern asked (firsts.Unknown name reason) = IsReasonFor (at pattern.components name) (at asked.components name) reason
+IsFirst pattern asked (firsts.Unknown name reason) = IsReasonToDoubt (at pattern.components name) (at asked.components name) reason
 
 -- why a component has no text
 abbrev pub IsLack : (Empty : ComponentName → Type 0) → (IsReasonAt : ComponentName → Reason → Type 0) → Lack → Type 0

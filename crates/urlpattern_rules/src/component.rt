@@ -1,8 +1,9 @@
 //! The parts of one component.
 
-ghost use Rattle.std.specs.Prelude.{◌≡◌, [], ◌∷◌, IfNone, IfOk, IfSome, IsTrue, false};
+ghost use Rattle.std.specs.Prelude.{◌≡◌, ◌↔◌, [], ◌∷◌, IfNone, IfOk, IfSome, IsTrue, false};
 ghost use Rattle.std.specs.List.{list_any};
 ghost use Rattle.urlpattern_covers.specs.Answers.{is_custom_part};
+ghost use Rattle.urlpattern_rules.specs.Comparing.{unnamed, unnamed_view};
 ghost use Rattle.urlpattern_syntax.specs.Options.{default_options, options_view};
 ghost use Rattle.urlpattern_syntax.specs.Parts.{parts_view};
 
@@ -17,10 +18,12 @@ pub struct ComponentParts {
     pub options: Options,
     /// The parts.
     pub parts: Vec<Part>,
+    /// Whether the engine accepted the regular expression that the component's matcher needs, if it needs one.
+    pub is_accepted: bool,
 }
 
 impl ComponentParts {
-    ghost use Rattle.urlpattern_rules.specs.Comparing.{IsComponentCovering, IsComponentOverlap, IsExample, IsKnown, IsReasonFor, IsUnknownBy, TakesEachLine, full_wildcard};
+    ghost use Rattle.urlpattern_rules.specs.Comparing.{AreSame, IsComponentCovering, IsComponentOverlap, IsExample, IsKnown, IsReasonFor, IsSettled, IsUnknownBy, TakesEachLine, full_wildcard};
 
     /// A full wildcard alone, which means each text without line feed.
     fn anything(alloc: Global) -> Result<Self, AllocError>
@@ -39,6 +42,7 @@ impl ComponentParts {
         Ok(Self {
             options: Options::default(alloc),
             parts,
+            is_accepted: true,
         })
     }
 
@@ -96,10 +100,30 @@ impl ComponentParts {
         }
     }
 
-    /// Returns whether each text without line feed that the asked parts mean is meant by these.
+    /// Whether the parts are the same but for names, under the same options, so that they match alike.
+    fn is_same(&self, other: &Self) -> bool
+        ensures { IsTrue result ↔ AreSame self.now other.now }
+    {
+        self.is_accepted
+            && self.is_settled()
+            && are_same_options(&self.options, &other.options)
+            && are_same_parts(&self.parts, &other.parts)
+    }
+
+    /// Whether case is kept, or no part is a custom regular expression.
+    fn is_settled(&self) -> bool
+        ensures { IsTrue result ↔ IsSettled self.now }
+    {
+        !self.options.ignore_case || !has_custom(&self.parts)
+    }
+
+    /// Returns whether each text without line feed that the asked parts mean is meant by these, or the parts are the same.
     pub(crate) fn covers(&self, alloc: Global, asked: &Self) -> Result<Covering, AllocError>
         ensures { IfOk result (IsComponentCovering self.now asked.now) }
     {
+        if self.is_same(asked) {
+            return Ok(Covering::Covered);
+        }
         match self.unknown_with(asked) {
             None => covers(
                 alloc,
@@ -157,6 +181,56 @@ impl ComponentParts {
             &anything.parts,
         )
     }
+}
+
+/// Whether both options are the same.
+fn are_same_options(options: &Options, others: &Options) -> bool
+    ensures { IsTrue result ↔ options_view options.now ≡ options_view others.now }
+{
+    if options.delimiter_code_point != others.delimiter_code_point {
+        return false;
+    }
+    if options.prefix_code_point != others.prefix_code_point {
+        return false;
+    }
+    if options.regex_syntax != others.regex_syntax {
+        return false;
+    }
+    options.ignore_case == others.ignore_case
+}
+
+/// Whether the parts are the same but for the names of their groups.
+fn are_same_parts(parts: &[Part], others: &[Part]) -> bool
+    ensures { IsTrue result ↔ unnamed parts.now ≡ unnamed others.now }
+{
+    if parts.len() != others.len() {
+        return false;
+    }
+    for index in 0..parts.len() {
+        if !is_same_part(&parts[index], &others[index]) {
+            return false;
+        }
+    }
+    true
+}
+
+/// Whether both parts are the same but for the names of their groups.
+fn is_same_part(part: &Part, other: &Part) -> bool
+    ensures { IsTrue result ↔ unnamed_view part.now ≡ unnamed_view other.now }
+{
+    if part.kind != other.kind {
+        return false;
+    }
+    if part.modifier != other.modifier {
+        return false;
+    }
+    if part.value != other.value {
+        return false;
+    }
+    if part.prefix != other.prefix {
+        return false;
+    }
+    part.suffix == other.suffix
 }
 
 /// Whether one of the parts is a custom regular expression.

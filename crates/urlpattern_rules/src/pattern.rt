@@ -153,9 +153,10 @@ impl PatternParts {
 
     /// Returns whether this pattern means all that the asked one means: eight texts without line feed.
     ///
-    /// Components are compared one by one. One that takes each text covers any other. Of other components with a custom regular
-    /// expression, and where case is ignored, nothing is known; and nothing where the work would be too much, which has a bound.
-    /// The texts of `NotCovered` are among the shortest.
+    /// Components are compared one by one. One that takes each text covers any other, and one covers the same parts under the same options,
+    /// whatever the names, also with custom regular expressions or where case is ignored, but not with both. Of other components with a
+    /// custom regular expression, and where case is ignored, nothing is known; and nothing where the work would be too much, which has a
+    /// bound. The texts of `NotCovered` are among the shortest.
     pub fn covers(&self, alloc: Global, asked: &Self) -> Result<PatternCovering, AllocError>
         ensures { IfOk result (IsPatternCovering self.now asked.now) }
     {
@@ -168,7 +169,7 @@ impl PatternParts {
 
     /// Returns whether both patterns mean some eight texts without line feed, and such texts.
     ///
-    /// What is not known is as for [`PatternParts::covers`].
+    /// Nothing is known of a component with a custom regular expression, where case is ignored, and where the work would be too much.
     pub fn overlaps(&self, alloc: Global, other: &Self) -> Result<PatternOverlap, AllocError>
         ensures { IfOk result (IsPatternOverlap self.now other.now) }
     {

@@ -4,6 +4,7 @@ ghost use Rattle.std.specs.Prelude.{◌≡◌};
 ghost use Rattle.urlpattern_url.specs.declared.error.NoLink.TheVariants as errors;
 
 use std::alloc::AllocError;
+use std::{error, fmt};
 use url::ParseError;
 use urlpattern_eight::ComponentName;
 use urlpattern_generate::GenerateError;
@@ -28,6 +29,22 @@ pub enum NoLink {
     /// The allocator had no memory.
     OutOfMemory,
 }
+
+/// Prints why there is no URL, in a line.
+impl fmt::Display for NoLink {
+    fn fmt<W: fmt::Write>(&self, f: &mut fmt::Formatter<W>) -> fmt::Result {
+        match self {
+            Self::Component(error) => fmt::Display::fmt(error, f),
+            Self::Url(reason) => write!(f, "no URL has these texts: {reason}"),
+            Self::OtherText(component) => {
+                write!(f, "a URL with these texts has another {component}")
+            }
+            Self::OutOfMemory => f.write_str("out of memory"),
+        }
+    }
+}
+
+impl error::Error for NoLink {}
 
 impl From<AllocError> for NoLink {
     ghost from_gives = { λ _ error. error ≡ errors.OutOfMemory };

@@ -161,7 +161,8 @@ fn made(maker: &mut Maker) -> Result<(String, String), Error> {
     let mut text = String::new(maker.alloc);
     let mut near = String::new(maker.alloc);
     push_one(maker, FRONTS, &mut text, &mut near)?;
-    for _ in 0..1 + maker.below(STEPS_AT_MOST) {
+    push_one(maker, STEPS, &mut text, &mut near)?;
+    for _ in 0..maker.below(STEPS_AT_MOST) {
         push_one(maker, STEPS, &mut text, &mut near)?;
     }
     push_one(maker, ENDS, &mut text, &mut near)?;

@@ -3,6 +3,7 @@ use Rattle.std.proofs.lemmas.Str.{chars-nil}
 use Rattle.std.specs.Prelude.{IfSome}
 use Rattle.std.specs.Str.{chars}
 use Rattle.urlpattern_diagnosis.specs.declared.diagnosis.Subject.{Subject}
+use Rattle.urlpattern_eight.specs.declared.eight.ComponentName.TheVariants.{Protocol}
 use Rattle.urlpattern_init.specs.Split.{HasProtocol}
 use Rattle.urlpattern_create.specs.Diagnoses.{ShowsProtocol}
 use Rattle.urlpattern_create.proofs.DiagnosisLemmas.{shows_all, shows_fault}
@@ -18,7 +19,7 @@ returns-in_ok-of_part-in-Some-default-clause-shows c =
     let has : HasProtocol (chars text) (λ (other : List ℕ). other ≡ chars protocol.now) =
     subst (λ found. IfSome found (λ (part : Bor (List ℕ)). HasProtocol (chars text) (λ (other : List ℕ). other ≡ chars part.now))) c.in-Some-default.is-0 c.in-Ok.ensures.protocol in
     subst (λ (what : Subject). ShowsProtocol (chars text) what made) (sym is.subject)
-    (protocol.now, has, shows_fault text protocol.now (chars []) [] c.args.error made fault is.error is.text chars-nil (inl c.in_ok-fault-in-Some-default.ensures.fault) is.fault)
+    (protocol.now, has, shows_fault Protocol text protocol.now (chars []) [] c.args.error made fault is.error is.text chars-nil (inl c.in_ok-fault-in-Some-default.ensures.fault) is.fault)
 
 pub returns-in_ok-whole-in-None-default-clause-shows : goal.returns-in_ok-whole-in-None-default-clause-shows
 returns-in_ok-whole-in-None-default-clause-shows c =

@@ -1,4 +1,4 @@
-use Rattle.std.proofs.Common.{◌≡◌, ◌+◌, Some, get_or, take, refl, sym, ◌∙◌, subst}
+use Rattle.std.proofs.Common.{◌+◌, Some, get_or, take, refl, sym, ◌∙◌, subst}
 use Rattle.urlpattern_faults.proofs.NameLemmas.{HasFirst, first_found, first_kept, no_token, read_again, second_found}
 use Rattle.urlpattern_faults.proofs.fault.second_fault.Goals as goal
 use Rattle.urlpattern_faults.proofs.fault.second_fault.Goals.{then-gives_name+in-None, else-gives_name}

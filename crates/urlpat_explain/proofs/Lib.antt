@@ -1,0 +1,3 @@
+pub mod NoteLemmas
+pub mod RowLemmas
+mod RowExamples

@@ -1,0 +1,28 @@
+use Rattle.std.proofs.Common.{◌++◌, ◌∙◌, ap, string_bytes}
+use Rattle.std.proofs.lemmas.Slice.Zip.{Zip-more, either_empty_from_Zip}
+use Rattle.std.specs.Iterator.Adapters.{zip_first, zip_second}
+use Rattle.std.specs.Prelude.{List, ℕ}
+use Rattle.std.specs.Slice.Iter.{iter_rest}
+use Rattle.std.specs.Str.{chars}
+use Rattle.urlpat_explain.proofs.RowLemmas.{groups-end, groups-more}
+use Rattle.urlpat_explain.specs.Rows.{group_cell}
+use Rattle.urlpattern_syntax.specs.Text.{option_text}
+use Rattle.urlpat_explain.proofs.table.push_groups.Goals as goal
+
+pub loop-name-preserved : goal.loop-name-preserved
+loop-name-preserved c =
+    let before = c.loop-name.name-iterator in
+    let behind = c.next.new.self in
+    let name = c.in-Some.name.now in
+    let capture = c.in-Some.capture.now in
+    let first = Zip-more before behind c.next.result (c.in-Some.name, c.in-Some.capture) c.in-Some.is c.next.ensures.steps in
+    groups-more (iter_rest (zip_first before)) (iter_rest (zip_first behind)) (iter_rest (zip_second before)) (iter_rest (zip_second behind)) name capture
+    (string_bytes c.loop-name.row) _ _ first.0 first.1
+    (c.in_ok-push_group.ensures ∙ ap (λ (bytes : List ℕ). string_bytes c.loop-name.row ++ group_cell (chars bytes, option_text capture)) c.deref.ensures)
+    c.loop-name.invariant
+
+pub returns : goal.returns
+returns c =
+    let left = c.loop-name.name-iterator in
+    groups-end (iter_rest (zip_first left)) (iter_rest (zip_second left)) (string_bytes c.loop-name.row) _
+    (either_empty_from_Zip left c.next.new.self c.next.result c.in-None.is c.next.ensures.steps) c.loop-name.invariant

@@ -1,0 +1,51 @@
+-- What `explain` answers to its words. Words and texts are bytes.
+use Rattle.std.specs.Prelude.{◌≡◌, ◌⊎◌, ℕ, Bool, List, [], ◌∷◌, ◌++◌, codes, Option, None, Some}
+use Rattle.std.specs.Io.KnownBytes.{Appends}
+use Rattle.url.specs.Parts.{Parts}
+use Rattle.urlpat_commands.specs.Answers.{IsPatternOf, IsRefusedText, IsUrlOf, base_of}
+use Rattle.urlpat_commands.specs.FilterLines.{status_of}
+use Rattle.urlpat_explain.specs.Notes.{AreNotesOf}
+use Rattle.urlpat_explain.specs.Rows.{IsMatchTable, pattern_table}
+use Rattle.urlpattern_engine.specs.PatternRegexps.{pattern_answer}
+use Rattle.urlpattern_engine.specs.declared.pattern_regexp.PatternRegexp.{PatternRegexp}
+use Rattle.urlpattern_init.specs.Inheritance.{texts_of_url}
+use Rattle.urlpattern_init.specs.declared.init.UrlPatternMatchInput.TheVariants as match_inputs
+use Rattle.urlpattern_pattern.specs.Match.{TestsInput}
+use Rattle.urlpattern_pattern.specs.Patterns.{PatternView}
+
+-- ---- words
+
+-- the words are `explain` and these
+abbrev pub AreExplainWords : (words rest : List (List ℕ)) → Type 0
+AreExplainWords words rest = words ≡ codes "explain" ∷ rest
+
+-- the words after `explain` ask for this pattern, with the base URL that a word stands for, and this input, if there is one
+abbrev pub AskFor : (words : List (List ℕ)) → (pattern : List ℕ) → (base input : Option (List ℕ)) → Type 0
+AskFor (first ∷ word ∷ []) pattern base input = (pattern ≡ first) × (base ≡ base_of word) × (input ≡ None)
+AskFor (first ∷ word ∷ last ∷ []) pattern base input = (pattern ≡ first) × (base ≡ base_of word) × (input ≡ Some last)
+AskFor words pattern base input = ⊥
+
+-- ---- explanations
+
+-- whether the pattern matches the URL, as a status
+abbrev pub IsMatchStatus : PatternView PatternRegexp → Parts → (status : ℕ) → Type 0
+IsMatchStatus pattern url status = (matched : Bool) × TestsInput pattern_answer pattern (match_inputs.Url url) matched × (status ≡ status_of matched)
+
+-- the lines for the components of a pattern: with the texts of the input, if it is a URL
+abbrev pub IsTable : PatternView PatternRegexp → (base input : Option (List ℕ)) → (table : List ℕ) → (status : ℕ) → Type 0
+IsTable pattern base None table status = (table ≡ pattern_table pattern) × (status ≡ 0)
+IsTable pattern base (Some input) table status =
+    (IsRefusedText input base × (table ≡ pattern_table pattern) × (status ≡ 1))
+    ⊎ ((url : Parts) × IsUrlOf input base url × IsMatchTable pattern (texts_of_url url) table × IsMatchStatus pattern url status)
+
+-- the lines for the components of the pattern that the constructor string is compiled to, and after them the notes on it
+abbrev pub IsExplained : (pattern : List ℕ) → (base input : Option (List ℕ)) → (text : List ℕ) → (status : ℕ) → Type 0
+IsExplained pattern base input text status =
+    (compiled : PatternView PatternRegexp) × IsPatternOf pattern base compiled
+    × (table notes : List ℕ) × IsTable compiled base input table status × AreNotesOf pattern base notes × (text ≡ table ++ notes)
+
+-- what is printed for the words after `explain`, with this status
+abbrev pub Explains : (words : List (List ℕ)) → (status : ℕ) → (old new : Option (List ℕ)) → Type 0
+Explains words status old new =
+    (pattern : List ℕ) × (base input : Option (List ℕ)) × AskFor words pattern base input
+    × (text : List ℕ) × IsExplained pattern base input text status × Appends old new text

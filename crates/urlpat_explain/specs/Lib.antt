@@ -1,0 +1,3 @@
+pub mod Explanations
+pub mod Notes
+pub mod Rows

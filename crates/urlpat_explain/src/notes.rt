@@ -1,0 +1,145 @@
+//! Notes on a pattern: what it inherits from the base URL, what it leaves out, and what its port is.
+
+ghost use Rattle.std.specs.Prelude.{◌≡◌, ◌++◌, option_copied, string_bytes, IfOk, OnOk};
+ghost use Rattle.urlpat_commands.specs.Answers.{GetsLines};
+ghost use Rattle.urlpat_explain.specs.Notes.{AreNotesOf, AreNotesOfInit, inherited_name, left_out_name, names_line, notes_text, port_note};
+ghost use Rattle.urlpattern_init.specs.Inheritance.{values_view};
+ghost use Rattle.urlpattern_syntax.specs.Text.{option_text};
+
+use std::alloc::{AllocError, Global};
+use urlpattern::regexp::PatternRegexp;
+use urlpattern::{ComponentName, Error, UrlPatternInit};
+use urlpattern_create::{init_of_text, pattern_values};
+
+/// What is said of components that are inherited.
+const INHERITED: &str = "inherited from the base URL:";
+
+/// What is said of components that are neither given nor inherited.
+const LEFT_OUT: &str = "left out, so that any text matches:";
+
+/// What is said of a port that is empty.
+const EMPTY_PORT: &str = "the port is empty: only the default port of the protocol matches\n";
+
+/// What is said of a port that is emptied.
+const DEFAULT_PORT: &str = "the port is the default port of the protocol, which a URL leaves out\n";
+
+/// Appends the notes on the pattern of a constructor string.
+///
+/// The error is why the string or its base is refused, or that memory ran out.
+pub fn push_notes(
+    alloc: Global,
+    text: &mut String,
+    pattern: &str,
+    base: Option<&str>,
+) -> Result<(), Error>
+    ensures { OnOk result (GetsLines (AreNotesOf pattern.now (option_copied base.entry)) text.old text.new) }
+{
+    let init = init_of_text::<PatternRegexp>(alloc, pattern, base)?;
+    let notes = notes_of(alloc, &init);
+    drop(init);
+    let notes = notes?;
+    text.push_str(&notes)?;
+    Ok(())
+}
+
+/// The notes on the pattern of an init.
+///
+/// The error is that memory ran out.
+fn notes_of(alloc: Global, init: &UrlPatternInit) -> Result<String, Error>
+    ensures { IfOk result (λ notes. AreNotesOfInit init.now (string_bytes notes)) }
+{
+    let values = pattern_values(alloc, init)?;
+    let notes = notes_text(alloc, init, &values);
+    drop(values);
+    Ok(notes?)
+}
+
+/// The notes on the pattern of an init that results in these values.
+fn notes_text(
+    alloc: Global,
+    init: &UrlPatternInit,
+    values: &UrlPatternInit,
+) -> Result<String, AllocError>
+    ensures { IfOk result (λ notes. string_bytes notes ≡ notes_text (values_view init.now) (values_view values.now)) }
+{
+    let mut inherited = String::new(alloc);
+    let mut left_out = String::new(alloc);
+    for name in ComponentName::all() {
+        push_inherited(&mut inherited, name, init.get(name), values.get(name))?;
+        push_left_out(&mut left_out, name, values.get(name))?;
+    }
+    let mut notes = String::new(alloc);
+    push_names(&mut notes, INHERITED, &inherited)?;
+    push_names(&mut notes, LEFT_OUT, &left_out)?;
+    push_port_note(
+        &mut notes,
+        init.get(ComponentName::Port),
+        values.get(ComponentName::Port),
+    )?;
+    Ok(notes)
+}
+
+/// Appends the name of a component, if it is inherited.
+fn push_inherited(
+    names: &mut String,
+    name: ComponentName,
+    given: Option<&str>,
+    value: Option<&str>,
+) -> Result<(), AllocError>
+    ensures { OnOk result (string_bytes names.new ≡ string_bytes names.old ++ inherited_name name (option_text given.entry) (option_text value.entry)) }
+{
+    if given.is_none() && value.is_some() {
+        names.push(' ')?;
+        names.push_str(name.as_str())?;
+    }
+    Ok(())
+}
+
+/// Appends the name of a component, if it is neither given nor inherited.
+fn push_left_out(
+    names: &mut String,
+    name: ComponentName,
+    value: Option<&str>,
+) -> Result<(), AllocError>
+    ensures { OnOk result (string_bytes names.new ≡ string_bytes names.old ++ left_out_name name (option_text value.entry)) }
+{
+    if value.is_none() {
+        names.push(' ')?;
+        names.push_str(name.as_str())?;
+    }
+    Ok(())
+}
+
+/// Appends a line with names, if there are some.
+fn push_names(notes: &mut String, lead: &str, names: &str) -> Result<(), AllocError>
+    ensures { OnOk result (string_bytes notes.new ≡ string_bytes notes.old ++ names_line lead.now names.now) }
+{
+    if names.is_empty() {
+        return Ok(());
+    }
+    notes.push_str(lead)?;
+    notes.push_str(names)?;
+    notes.push('\n')
+}
+
+/// Appends what is said of the port, if it is given and has to be empty.
+fn push_port_note(
+    notes: &mut String,
+    given: Option<&str>,
+    value: Option<&str>,
+) -> Result<(), AllocError>
+    ensures { OnOk result (string_bytes notes.new ≡ string_bytes notes.old ++ port_note (option_text given.entry) (option_text value.entry)) }
+{
+    let (Some(given), Some(value)) = (given, value) else {
+        return Ok(());
+    };
+    if !value.is_empty() {
+        return Ok(());
+    }
+    if given.is_empty() {
+        notes.push_str(EMPTY_PORT)?;
+        return Ok(());
+    }
+    notes.push_str(DEFAULT_PORT)?;
+    Ok(())
+}

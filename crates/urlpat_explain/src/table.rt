@@ -1,0 +1,172 @@
+//! A line for each component of a pattern, in columns.
+
+ghost use Rattle.std.specs.List.{flat_map};
+ghost use Rattle.std.specs.Prelude.{◌≡◌, ◌++◌, length, map, option_copied, string_bytes, zip, IfOk, OnOk};
+ghost use Rattle.std.specs.Str.{chars};
+ghost use Rattle.urlpat_commands.specs.Answers.{GetsLines};
+ghost use Rattle.urlpat_explain.specs.Rows.{IsMatchTable, IsVerdict, column, group_cell, pattern_cell, pattern_table, shown, text_cell, widest};
+ghost use Rattle.urlpattern_core.specs.Components.{component_view};
+ghost use Rattle.urlpattern_matches.specs.GroupTexts.{borrowed_texts, texts_of};
+ghost use Rattle.urlpattern_pattern.specs.Patterns.{pattern_view};
+ghost use Rattle.urlpattern_syntax.specs.Text.{option_text};
+
+use std::alloc::{AllocError, Global};
+use urlpattern::component::Component;
+use urlpattern::regexp::PatternRegexp;
+use urlpattern::{ComponentName, Eight, Error, UrlPattern};
+
+/// How many characters the longest name of a component has.
+const NAME_WIDTH: usize = 8;
+
+/// A line for each component: its name, and its pattern as it is printed.
+pub fn pattern_table(
+    alloc: Global,
+    pattern: &UrlPattern<PatternRegexp>,
+) -> Result<String, AllocError>
+    ensures { IfOk result (λ table. string_bytes table ≡ pattern_table (pattern_view pattern.now)) }
+{
+    let mut table = String::new(alloc);
+    for name in ComponentName::all() {
+        push_column(alloc, &mut table, name.as_str(), NAME_WIDTH)?;
+        table.push_str(pattern_cell(pattern, name))?;
+        table.push('\n')?;
+    }
+    Ok(table)
+}
+
+/// A line for each component: its name, its pattern as it is printed, its text, whether it matches, and what its groups capture.
+///
+/// The error is that memory ran out.
+pub fn match_table(
+    alloc: Global,
+    pattern: &UrlPattern<PatternRegexp>,
+    texts: &Eight<&str>,
+) -> Result<String, Error>
+    ensures { IfOk result (λ table. IsMatchTable (pattern_view pattern.now) (borrowed_texts texts.now) (string_bytes table)) }
+{
+    let longest_pattern = pattern_width(pattern);
+    let longest_text = text_width(texts);
+    let mut table = String::new(alloc);
+    for name in ComponentName::all() {
+        push_column(alloc, &mut table, name.as_str(), NAME_WIDTH)?;
+        push_column(
+            alloc,
+            &mut table,
+            pattern_cell(pattern, name),
+            longest_pattern,
+        )?;
+        push_column(alloc, &mut table, text_cell(texts, name), longest_text)?;
+        push_verdict(alloc, &mut table, pattern.get(name), texts.get(name))?;
+        table.push('\n')?;
+    }
+    Ok(table)
+}
+
+/// How many characters the longest pattern has, as it is shown.
+fn pattern_width(pattern: &UrlPattern<PatternRegexp>) -> usize
+    ensures { result ≡ widest (pattern_cell (pattern_view pattern.now)) }
+{
+    let mut width = 0;
+    for name in ComponentName::all() {
+        width = width.max(length_of(pattern_cell(pattern, name)));
+    }
+    width
+}
+
+/// How many characters the longest text has, as it is shown.
+fn text_width(texts: &Eight<&str>) -> usize
+    ensures { result ≡ widest (text_cell (borrowed_texts texts.now)) }
+{
+    let mut width = 0;
+    for name in ComponentName::all() {
+        width = width.max(length_of(text_cell(texts, name)));
+    }
+    width
+}
+
+/// The pattern of a component, as it is shown.
+fn pattern_cell(pattern: &UrlPattern<PatternRegexp>, name: ComponentName) -> &str
+    ensures { result.now ≡ pattern_cell (pattern_view pattern.now) name }
+{
+    shown(&pattern.get(name).pattern_string)
+}
+
+/// The text of a component, as it is shown.
+fn text_cell<'u>(texts: &Eight<&'u str>, name: ComponentName) -> &'u str
+    ensures { result.now ≡ text_cell (borrowed_texts texts.now) name }
+{
+    shown(texts.get(name))
+}
+
+/// A text as it is shown: an empty one as two quotation marks.
+fn shown(text: &str) -> &str
+    ensures { result.now ≡ shown text.now }
+{
+    if text.is_empty() { "\"\"" } else { text }
+}
+
+/// How many characters a text has.
+fn length_of(text: &str) -> usize
+    ensures { result ≡ length (chars text.now) }
+{
+    text.chars().count()
+}
+
+/// Appends a text, spaces up to a width, and two more.
+fn push_column(alloc: Global, row: &mut String, text: &str, width: usize) -> Result<(), AllocError>
+    ensures { OnOk result (string_bytes row.new ≡ string_bytes row.old ++ column width text.now) }
+{
+    let missing = width.saturating_sub(length_of(text));
+    let spaces = " ".repeat(alloc, missing)?;
+    row.push_str(text)?;
+    row.push_str(&spaces)?;
+    row.push_str("  ")
+}
+
+/// Appends whether a component matches a text, and what its groups capture.
+///
+/// The error is that memory ran out.
+fn push_verdict(
+    alloc: Global,
+    row: &mut String,
+    component: &Component<PatternRegexp>,
+    text: &str,
+) -> Result<(), Error>
+    ensures { OnOk result (GetsLines (IsVerdict (component_view component.now) (chars text.now)) row.old row.new) }
+{
+    let Some(captures) = component.matcher.matches(alloc, text)? else {
+        row.push_str("differs")?;
+        return Ok(());
+    };
+    row.push_str("matches")?;
+    push_groups(row, &component.group_name_list, &captures)?;
+    Ok(())
+}
+
+/// Appends each group: its name, and what it captured, if it took part.
+fn push_groups(
+    row: &mut String,
+    names: &[String],
+    captures: &[Option<&str>],
+) -> Result<(), AllocError>
+    ensures { OnOk result (string_bytes row.new ≡ string_bytes row.old ++ flat_map group_cell (zip (texts_of names.now) (map option_text captures.now))) }
+{
+    for (name, capture) in names.iter().zip(captures) {
+        push_group(row, name, *capture)?;
+    }
+    Ok(())
+}
+
+/// Appends a group: its name, and what it captured, if it took part.
+fn push_group(row: &mut String, name: &str, capture: Option<&str>) -> Result<(), AllocError>
+    ensures { OnOk result (string_bytes row.new ≡ string_bytes row.old ++ group_cell (chars name.now, option_text capture.entry)) }
+{
+    row.push_str("  ")?;
+    row.push_str(name)?;
+    let Some(capture) = capture else {
+        return Ok(());
+    };
+    row.push('=')?;
+    row.push_str(capture)?;
+    Ok(())
+}

@@ -1,0 +1,77 @@
+-- Lemmas on the patterns of a table, and on the rows that are printed of it.
+use Rattle.std.proofs.Common.{◌≡◌, ◌<◌, ◌+◌, ◌∙◌, ℕ, Bool, All, List, [], ◌∷◌, ◌++◌, ap, append_assoc, append-nil, arith, codes, decimal, get_or, length, refl, subst, sym, take}
+use Rattle.std.proofs.lemmas.Grind.{flat_map-append, take_at_read}
+use Rattle.std.proofs.lemmas.List.{map-append}
+use Rattle.std.proofs.lemmas.List.Elements.{All-push}
+use Rattle.std.specs.List.{flat_map}
+use Rattle.std.specs.Map.{values_of}
+use Rattle.std.specs.Prelude.{IfSome, Option, None, Some}
+use Rattle.urlpat_commands.specs.Answers.{IsPatternOf}
+use Rattle.urlpat_commands.specs.FilterLines.{status_of}
+use Rattle.urlpat_filter.specs.Filters.{FiltersText}
+use Rattle.urlpat_rules.specs.Routes.{AreRoutesOf, IsAnswered, Routes, RoutesBy, bare_lines, cell_text, row_text}
+use Rattle.urlpat_tables.specs.Tables.{EntryView, entries_view, entry_view, table_entries}
+use Rattle.urlpat_tables.specs.declared.table.Entry.{Entry}
+use Rattle.urlpat_words.specs.declared.query.Shape.TheVariants.{Line}
+use Rattle.urlpattern.specs.Patterns.{pattern_view}
+use Rattle.urlpattern.specs.UrlPattern.{UrlPattern}
+use Rattle.urlpattern_engine.specs.declared.pattern_regexp.PatternRegexp.{PatternRegexp}
+
+-- ---- patterns one after the other
+
+pub routes-none : (base : Option (List ℕ)) (routes : Routes) → routes ≡ [] → AreRoutesOf base [] routes
+routes-none base routes are =
+    subst (λ (rs : Routes). AreRoutesOf base [] rs) (sym are) (refl, λ k d less. absurd (omega (arith, less)))
+
+-- the next entry with its pattern goes after those before it
+pub routes-more : (base : Option (List ℕ)) (entries : List Entry) (index : ℕ) (none : Entry) (routes next : Routes) (pattern : UrlPattern PatternRegexp)
+    → index < length entries → next ≡ routes ++ (pattern, get_or entries index none) ∷ [] → AreRoutesOf base (entries_view (take index entries)) routes
+    → IsPatternOf (get_or entries index none).pattern.now base (pattern_view pattern) → AreRoutesOf base (entries_view (take (index + 1) entries)) next
+routes-more base entries index none routes next pattern within is_next (same, are) is =
+    let entry = get_or entries index none in
+    let last : UrlPattern PatternRegexp × Entry = (pattern, entry) in
+    let taken : take (index + 1) entries ≡ take index entries ++ entry ∷ [] = (take_at_read entries index none within).1 in
+    let views : entries_view (take (index + 1) entries) ≡ entries_view (take index entries) ++ entry_view entry ∷ [] = ap entries_view taken ∙ map-append entry_view (take index entries) (entry ∷ []) in
+    let values : entries_view (values_of (routes ++ last ∷ [])) ≡ entries_view (values_of routes) ++ entry_view entry ∷ [] =
+    ap entries_view (map-append (λ (route : UrlPattern PatternRegexp × Entry). route.1) routes (last ∷ [])) ∙ map-append entry_view (values_of routes) (entry ∷ []) in
+    let more : AreRoutesOf base (entries_view (take (index + 1) entries)) (routes ++ last ∷ []) = (
+      values ∙ ap (λ (es : List EntryView). es ++ entry_view entry ∷ []) same ∙ sym views,
+      All-push (λ (route : UrlPattern PatternRegexp × Entry). IsPatternOf route.1.pattern.now base (pattern_view route.0)) routes last are is,
+    ) in
+    subst (λ (rs : Routes). AreRoutesOf base (entries_view (take (index + 1) entries)) rs) (sym is_next) more
+
+-- ---- rows
+
+-- one more line goes after a tab
+pub cells-more : (old row tabbed next : List ℕ) (before : List (List ℕ)) (line : List ℕ)
+    → row ≡ old ++ flat_map cell_text before → tabbed ≡ row ++ codes "\t" → next ≡ tabbed ++ line
+    → next ≡ old ++ flat_map cell_text (before ++ line ∷ [])
+cells-more old row tabbed next before line was tab goes =
+    goes
+    ∙ ap (λ (text : List ℕ). text ++ line) (tab ∙ ap (λ (text : List ℕ). text ++ codes "\t") was)
+    ∙ append_assoc (old ++ flat_map cell_text before) (codes "\t") line
+    ∙ append_assoc old (flat_map cell_text before) (cell_text line)
+    ∙ ap (λ (cells : List ℕ). old ++ (flat_map cell_text before ++ cells)) (sym (append-nil (cell_text line)))
+    ∙ ap (λ (cells : List ℕ). old ++ cells) (sym (flat_map-append cell_text before (line ∷ [])))
+
+-- the pieces of a row make it up
+pub row-of : (entry : EntryView) (text old headed celled new : List ℕ)
+    → headed ≡ old ++ (decimal entry.number ++ codes "\t" ++ entry.name) → celled ≡ headed ++ flat_map cell_text (bare_lines text) → new ≡ celled ++ codes "\n"
+    → new ≡ old ++ row_text entry text
+row-of entry text old headed celled new head cells end =
+    let front = decimal entry.number ++ codes "\t" ++ entry.name in
+    let middle = flat_map cell_text (bare_lines text) in
+    end
+    ∙ ap (λ (row : List ℕ). row ++ codes "\n") (cells ∙ ap (λ (row : List ℕ). row ++ middle) head ∙ append_assoc old front middle)
+    ∙ append_assoc old (front ++ middle) (codes "\n")
+
+-- ---- what is printed
+
+-- what is answered by the entries of a table is answered by the table
+pub routes-by : (table : List ℕ) (base : Option (List ℕ)) (items shown : List Entry) (routes : Routes) (input old new : Option (List ℕ)) (any : Bool) (status : ℕ)
+    → entries_view items ≡ table_entries table → shown ≡ items → AreRoutesOf base (entries_view shown) routes → status ≡ status_of any
+    → IfSome input (λ text. FiltersText (IsAnswered routes base) Line text any old new) → RoutesBy table base status input old new
+routes-by table base items shown routes None old new any status are same is ends found =
+    (routes, subst (λ (es : List EntryView). AreRoutesOf base es routes) (ap entries_view same ∙ are) is, tt)
+routes-by table base items shown routes (Some text) old new any status are same is ends found =
+    (routes, subst (λ (es : List EntryView). AreRoutesOf base es routes) (ap entries_view same ∙ are) is, (any, ends, found))

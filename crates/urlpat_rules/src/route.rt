@@ -1,0 +1,145 @@
+//! The command `route`: the first pattern of a table that matches the URL of each line.
+
+ghost use Rattle.std.specs.Prelude.{◌≡◌, ◌⊎◌, option_copied, IfSome};
+ghost use Rattle.urlpat_rules.specs.Routes.{AreRoutesOf, IsAnswered, RoutesFile, RoutesTable};
+ghost use Rattle.urlpat_tables.specs.Tables.{entries_view};
+
+use crate::row::push_row;
+use crate::tables::{Tables, read_entries, read_table, report_refused, table_words};
+use std::alloc::{AllocError, Global};
+use std::io::{BufRead, Write};
+use urlpat_commands::{DONE, FAILED, NO_MATCH, compiled, url_of};
+use urlpat_filter::write_answers;
+use urlpat_lines::{Rule, Verdict};
+use urlpat_tables::Entry;
+use urlpat_words::Shape;
+use urlpattern::UrlPatternMap;
+use urlpattern::regexp::PatternRegexp;
+
+/// The usage of `route`.
+const ROUTE_USAGE: &str = "usage: urlpat route FILE [BASE]\n";
+
+/// The answer to a line that no pattern matches.
+const UNMATCHED: &str = "-\n";
+
+/// The entries of a table with their patterns, which match the URLs of lines under a base URL.
+#[derive(Drop)]
+struct Router<'a, 't> {
+    alloc: Global,
+    routes: &'a UrlPatternMap<Entry<'t>, PatternRegexp>,
+    base: Option<&'a str>,
+}
+
+/// Does what the words after `route` ask for, and gives the status to end with.
+pub fn route<T: Tables, In: BufRead, Out: Write, Err: Write>(
+    alloc: Global,
+    tables: &T,
+    words: &[String],
+    input: &mut In,
+    out: &mut Out,
+    err: &mut Err,
+) -> u8
+    ensures status { (result ≡ DONE) ⊎ (result ≡ NO_MATCH) ⊎ (result ≡ FAILED) }
+    ensures answers { RoutesFile (T.Has tables.now) words.now result (In.remaining input.old) (Out.contents out.old) (Out.contents out.new) }
+{
+    let Some((name, base)) = table_words(words) else {
+        let _ = err.write_all(ROUTE_USAGE.as_bytes());
+        return FAILED;
+    };
+    let Some(table) = read_table(tables, name, err) else {
+        return FAILED;
+    };
+    let status = route_by(alloc, &table, base, input, out, err);
+    drop(table);
+    status
+}
+
+/// Answers each line by the patterns of a table, and gives the status to end with.
+fn route_by<In: BufRead, Out: Write, Err: Write>(
+    alloc: Global,
+    table: &[u8],
+    base: Option<&str>,
+    input: &mut In,
+    out: &mut Out,
+    err: &mut Err,
+) -> u8
+    ensures status { (result ≡ DONE) ⊎ (result ≡ NO_MATCH) ⊎ (result ≡ FAILED) }
+    ensures answers { RoutesTable table.now base.entry result (In.remaining input.old) (Out.contents out.old) (Out.contents out.new) }
+{
+    let Some(entries) = read_entries(alloc, table, err) else {
+        return FAILED;
+    };
+    let Some(routes) = routes_of(alloc, &entries, base, err) else {
+        return FAILED;
+    };
+    let router = Router {
+        alloc,
+        routes: &routes,
+        base,
+    };
+    let found = write_answers(alloc, &router, Shape::Line, input, out, err);
+    drop(routes);
+    match found {
+        Some(true) => DONE,
+        Some(false) => NO_MATCH,
+        None => FAILED,
+    }
+}
+
+/// The entries with their patterns. `None`: one is refused, or memory ran out, which is reported.
+fn routes_of<'t, Err: Write>(
+    alloc: Global,
+    entries: &[Entry<'t>],
+    base: Option<&str>,
+    err: &mut Err,
+) -> Option<UrlPatternMap<Entry<'t>, PatternRegexp>>
+    ensures { IfSome result (AreRoutesOf (option_copied base.entry) (entries_view entries.now)) }
+{
+    let mut routes = UrlPatternMap::new(alloc);
+    for entry in entries {
+        let pattern = match compiled(alloc, entry.pattern, base) {
+            Ok(pattern) => pattern,
+            Err(error) => {
+                report_refused(alloc, entry, base, error, err);
+                return None;
+            }
+        };
+        let Ok(()) = routes.try_insert(pattern, *entry) else {
+            let _ = err.write_all(b"out of memory\n");
+            return None;
+        };
+    }
+    Some(routes)
+}
+
+impl Rule for Router<'_, '_> {
+    ghost Answers = { λ router. IsAnswered router.routes.now (option_copied router.base) };
+
+    fn answer(
+        &self,
+        text: &str,
+        _line: &[u8],
+        written: &mut Vec<u8>,
+    ) -> Result<Verdict, AllocError> {
+        let Ok(found) = url_of(self.alloc, self.base, text) else {
+            return Err(AllocError);
+        };
+        let Some(url) = found else {
+            written.extend_from_slice(UNMATCHED.as_bytes())?;
+            return Ok(Verdict::NoUrl);
+        };
+        match self.routes.first_captures(self.alloc, &url) {
+            Ok(Some((_, entry, found))) => {
+                let pushed = push_row(self.alloc, entry, &found, written);
+                drop(found);
+                pushed?;
+                Ok(Verdict::Selected)
+            }
+            Ok(None) => {
+                written.extend_from_slice(UNMATCHED.as_bytes())?;
+                Ok(Verdict::Passed)
+            }
+            Err(_) => Err(AllocError),
+        }
+    }
+}

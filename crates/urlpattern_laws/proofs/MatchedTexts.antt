@@ -1,0 +1,109 @@
+-- A link of a match has the texts that were matched.
+use Rattle.std.proofs.Common.{◌≡◌, ◌≢◌, ◌∙◌, ℕ, Bool, false, List, [], ◌∷◌, ap, bytes_eq, cond, length, map, refl, subst, sym, true, zip, Option, Some, None}
+use Rattle.std.proofs.Math.Path.{fun_ext}
+use Rattle.std.proofs.lemmas.Map.Made.{AllPairs-from_IsDistinct, IsDistinct-from_AllPairs}
+use Rattle.std.proofs.lemmas.Slice.Eq.{bytes_eq-Decides}
+use Rattle.std.specs.List.{AllByRecursion, IsDistinct}
+use Rattle.std.specs.Map.{keys_of, lookup}
+use Rattle.std.specs.Option.{option_flatten}
+use Rattle.std.specs.Prelude.{AllPairs, String, option_map}
+use Rattle.std.specs.String.{string_eq}
+use Rattle.std.specs.declared.alloc.Global.{Global}
+use Rattle.urlpattern_core.specs.declared.regexp.RegExp.{Ghosts as Engine}
+use Rattle.urlpattern_eight.specs.declared.eight.ComponentName.{ComponentName}
+use Rattle.urlpattern_eight.specs.Eight.{at}
+use Rattle.urlpattern_generate.specs.Manners.{GivenView, manner_for, text_given, unchanged}
+use Rattle.urlpattern_laws.proofs.GivenGroups.{Distinct, Groups, captured_again, first_found, found_reversed, given_first, keys_of_zip, zip_distinct}
+use Rattle.urlpattern_laws.proofs.LinkedTexts.{links_of_captures}
+use Rattle.urlpattern_laws.specs.LinkLaws.{IsWrittenBack}
+use Rattle.urlpattern_laws.specs.MatchLinks.{AreGroupsOf, GroupsOfCapturesAreGiven, GroupsOfMatchesDiffer, GroupsOfResultsAreGiven, IsReadBack, LinksOfMatchesAreTheTexts, NamesDiffer}
+use Rattle.urlpattern_matches.proofs.GroupLemmas.{text-eq}
+use Rattle.urlpattern_matches.specs.BorrowedMatches.{groups_view, listed_entries, listed_groups}
+use Rattle.urlpattern_matches.specs.ResultViews.{ResultView, group_of, results_of}
+use Rattle.urlpattern_meaning.proofs.CaptureCount.{captures_counted}
+use Rattle.urlpattern_meaning.proofs.NameLaws.{names_distinct}
+use Rattle.urlpattern_meaning.specs.PartMeaning.{Captures}
+use Rattle.urlpattern_create.specs.Compiled.{canonical_encoding, manner_of}
+use Rattle.urlpattern_pattern.specs.Match.{IsMatchOf}
+use Rattle.urlpattern_pattern.specs.Patterns.{PatternView}
+use Rattle.urlpattern_syntax.specs.{Parts.PartView, RegexpText.group_names, Text.text_of}
+
+-- ---- what groups are given
+
+distinct_names : (names : List (List ℕ)) → NamesDiffer names → IsDistinct bytes_eq names
+distinct_names names differ = IsDistinct-from_AllPairs bytes_eq-Decides names differ
+
+pub captures_given : GroupsOfCapturesAreGiven
+captures_given found groups are differ component name =
+    let own = groups_view found component in
+    let distinct : Distinct own = distinct_names (keys_of own) (differ component) in
+    given_first (groups_view found) groups are component name ∙ first_found own name distinct ∙ ap option_flatten (sym (found_reversed own name distinct))
+
+-- entries of a map have the names of their keys
+listed_found : (entries : List (String Global × Option (String Global))) (name : List ℕ) →
+    lookup (bytes_eq name) (listed_entries entries) ≡ option_map (option_map text_of) (lookup (λ key. bytes_eq name (text_of key)) entries)
+listed_found [] name = refl
+listed_found (entry ∷ entries) name = by (bytes_eq name (text_of entry.0)) (listed_found entries name)
+  where
+    by : (here : Bool) → lookup (bytes_eq name) (listed_entries entries) ≡ option_map (option_map text_of) (lookup (λ key. bytes_eq name (text_of key)) entries)
+        → cond here (Some (option_map text_of entry.1)) (lookup (bytes_eq name) (listed_entries entries))
+        ≡ option_map (option_map text_of) (cond here (Some entry.1) (lookup (λ key. bytes_eq name (text_of key)) entries))
+    by true later = refl
+    by false later = later
+
+listed_apart : (key : String Global) (entries : List (String Global × Option (String Global))) → AllByRecursion (λ other. string_eq key other ≡ false) (keys_of entries)
+    → AllByRecursion (λ other. bytes_eq (text_of key) other ≡ false) (keys_of (listed_entries entries))
+listed_apart key [] apart = tt
+listed_apart key (entry ∷ entries) apart = (text-eq key entry.0 ∙ apart.0, listed_apart key entries apart.1)
+
+listed_distinct : (entries : List (String Global × Option (String Global))) → IsDistinct string_eq (keys_of entries) → Distinct (listed_entries entries)
+unfolding IsDistinct
+listed_distinct [] distinct = tt
+listed_distinct (entry ∷ entries) distinct = (listed_apart entry.0 entries distinct.0, listed_distinct entries distinct.1)
+
+pub results_given : GroupsOfResultsAreGiven
+results_given result groups are differ component name =
+    let groups_of = λ (other : ComponentName). listed_groups (at (results_of result) other).groups in
+    let entries = (at (results_of result) component).groups.entries in
+    given_first groups_of groups are component name
+    ∙ first_found (listed_entries entries) name (listed_distinct entries (differ component))
+    ∙ ap option_flatten (listed_found entries name)
+
+-- ---- names of a pattern
+
+pub groups_differ : {E : Type 0} (engine : Engine E) → GroupsOfMatchesDiffer engine
+groups_differ engine asked values pattern texts found compiled in_order component =
+    let (captures, answers, are) = in_order component in
+    let manner = manner_of asked values compiled.hierarchical component in
+    let (parts, reads, of_parts) = (compiled.are_compiled component).0 in
+    let names = (pattern component).group_name_list in
+    let differ : NamesDiffer names = subst NamesDiffer (sym of_parts.has_names) (names_distinct manner.text manner.options (canonical_encoding manner.canonical) parts reads) in
+    subst (λ (groups : Groups). NamesDiffer (keys_of groups)) (sym are)
+    (AllPairs-from_IsDistinct bytes_eq-Decides (keys_of (zip names captures)) (zip_distinct names captures (distinct_names names differ)))
+
+-- ---- links
+
+given_back : (result : ResultView) (given : List ℕ → Option (List ℕ)) (names others : List (List ℕ)) (captures : Captures) → length captures ≡ length names → NamesDiffer names → others ≡ names →
+    ((name : List ℕ) → result.group name ≡ group_of others captures name) → ((name : List ℕ) → given name ≡ option_flatten (result.group name)) → map given names ≡ captures
+given_back result given names others captures many differ same groups are =
+    let distinct = distinct_names names differ in
+    let each : (name : List ℕ) → given name ≡ option_flatten (lookup (bytes_eq name) (zip names captures)) = λ name.
+    are name ∙ ap option_flatten (groups name) ∙ ap (λ (list : List (List ℕ)). option_flatten (group_of list captures name)) same
+    ∙ ap option_flatten (found_reversed (zip names captures) name (zip_distinct names captures distinct)) in
+    ap (λ (f : List ℕ → Option (List ℕ)). map f names) (fun_ext each) ∙ captured_again names captures many distinct
+
+pub links_of_matches : {E : Type 0} (answer : E → List ℕ → Option Captures) → LinksOfMatchesAreTheTexts answer
+links_of_matches {E} answer pattern groups url texts result link found are back =
+    links_of_captures answer pattern groups url texts found.captures link found.are_answers (λ component hierarchical parts reads.
+    let it = back component hierarchical parts reads in
+    let manner = manner_for component hierarchical (pattern component).pattern_string groups in
+    let captures = found.captures component in
+    let means = it.means (found.are_answers component) in
+    record {
+      plain = it.plain;
+      means = it.means;
+      are_given = given_back (result component) (text_given groups component) (group_names parts) (pattern component).group_name_list captures
+          (captures_counted manner.options parts (at texts component) captures means) (names_distinct (pattern component).pattern_string manner.options unchanged parts reads.1)
+          it.has_names (found.are_results component).has_groups (are component);
+      are_canonical = it.are_canonical;
+    })

@@ -1,0 +1,84 @@
+-- The sentences of the laws of links of a match: what its groups are given, and that the link has the matched texts.
+use Rattle.std.specs.Prelude.{◌≡◌, ◌≢◌, ℕ, AllPairs, Bool, List, Option, Some, map}
+use Rattle.std.specs.{Borrow.Bor, Map.keys_of}
+use Rattle.url.specs.Parts.{Parts}
+use Rattle.urlpattern_core.specs.Components.{ComponentView}
+use Rattle.urlpattern_create.specs.Compiled.{AreCompiled}
+use Rattle.urlpattern_core.specs.declared.regexp.RegExp.{Ghosts as Engine}
+use Rattle.urlpattern_generate.specs.Manners.{GivenView, WritingManner, given_groups, manner_for, text_given, unchanged}
+use Rattle.urlpattern_init.specs.Inheritance.{texts_of_url}
+use Rattle.urlpattern_inputs.specs.declared.options.UrlPatternOptions.{UrlPatternOptions}
+use Rattle.urlpattern_laws.specs.LinkLaws.{AreCanonical, InItsManner}
+use Rattle.urlpattern_links.specs.LawsOfLinks.{HavePlainTexts}
+use Rattle.urlpattern_matches.specs.BorrowedMatches.{HasDistinctGroups, all_groups_view, all_listed_groups, groups_view, lent_group, pattern_captures_view, texts_captured}
+use Rattle.urlpattern_matches.specs.ResultViews.{ResultView, captured_text, result_view}
+use Rattle.urlpattern_matches.specs.declared.captures.UrlPatternCaptures.{UrlPatternCaptures}
+use Rattle.urlpattern_matches.specs.declared.result.UrlPatternResult.{UrlPatternResult}
+use Rattle.urlpattern_meaning.specs.Matching.{Answers}
+use Rattle.urlpattern_meaning.specs.PartMeaning.{Captures, PartsMean}
+use Rattle.urlpattern_pattern.specs.LinkedUrls.{IsLink}
+use Rattle.urlpattern_pattern.specs.Match.{AreGroupsInOrder, IsMatchOf}
+use Rattle.urlpattern_pattern.specs.Patterns.{PatternView}
+use Rattle.urlpattern_eight.specs.declared.eight.ComponentName.{ComponentName}
+use Rattle.urlpattern_eight.specs.Eight.{Texts, Values, at, components}
+use Rattle.urlpattern_syntax.specs.{Parts.PartView, Reading.Reads, RegexpText.group_names}
+
+-- ---- what the groups of a match are given
+
+-- a group that is passed to a link: its component, its name and its text
+abbrev pub Lent : Type 0
+Lent = ComponentName × Bor (List ℕ) × Bor (List ℕ)
+
+-- each group of the result is given what it captured, and none is given a text that took no part or is not there
+abbrev pub AreGroupsOf : (result : ComponentName → ResultView) → List GivenView → Type 0
+AreGroupsOf result groups =
+    (component : ComponentName) (name : List ℕ) → text_given groups component name ≡ captured_text (result component) name
+
+-- no two names are equal
+abbrev pub NamesDiffer : List (List ℕ) → Type 0
+NamesDiffer names = AllPairs (λ name other. name ≢ other) names
+
+-- `to_groups` of captures returns such groups, if no two groups of a component have one name
+abbrev pub GroupsOfCapturesAreGiven : Type 0
+GroupsOfCapturesAreGiven = (found : UrlPatternCaptures) (groups : List Lent) →
+    map lent_group groups ≡ texts_captured (all_groups_view found components) →
+    ((component : ComponentName) → NamesDiffer (keys_of (groups_view found component))) →
+    AreGroupsOf (pattern_captures_view found) (given_groups groups)
+
+-- so does that of a result
+abbrev pub GroupsOfResultsAreGiven : Type 0
+GroupsOfResultsAreGiven = (result : UrlPatternResult) (groups : List Lent) →
+    map lent_group groups ≡ texts_captured (all_listed_groups result components) →
+    ((component : ComponentName) → HasDistinctGroups result component) →
+    AreGroupsOf (result_view result) (given_groups groups)
+
+-- of a match by a pattern that was compiled no two groups of a component have one name
+abbrev pub GroupsOfMatchesDiffer : {E : Type 0} → Engine E → Type 0
+GroupsOfMatchesDiffer {E} engine =
+    (asked : UrlPatternOptions) (values : Values) (pattern : PatternView E) (texts : Texts) (found : UrlPatternCaptures) →
+    AreCompiled engine asked values pattern → AreGroupsInOrder engine.answer pattern texts (groups_view found) →
+    (component : ComponentName) → NamesDiffer (keys_of (groups_view found component))
+
+-- ---- links
+
+-- What is asked of parts, of the text that a component's matcher answers by these captures, and of the component: no fixed text has a
+-- modifier, the answer is what the parts mean, the names are those of the parts, and the captures are canonical.
+pub record IsReadBack {E : Type 0} (answer : E → List ℕ → Option Captures) (compiled : ComponentView E) (manner : WritingManner) (parts : List PartView) (text : List ℕ) (captures : Captures) : Type 0 where
+  pub plain : HavePlainTexts parts
+  pub means : Answers answer compiled.matcher text (Some captures) → PartsMean manner.options parts text captures
+  pub has_names : compiled.group_name_list ≡ group_names parts
+  pub are_canonical : AreCanonical manner.canonical captures
+
+-- this holds of the parts as which the pattern text of a component reads
+abbrev pub TextIsReadBack : {E : Type 0} → (answer : E → List ℕ → Option Captures) → PatternView E → List GivenView → ComponentName → (text : List ℕ) → Captures → Type 0
+TextIsReadBack answer pattern groups component text captures = (hierarchical : Bool) (parts : List PartView) →
+    InItsManner answer pattern groups component (λ manner pattern_text. Reads pattern_text manner.options unchanged parts) hierarchical →
+    IsReadBack answer (pattern component) (manner_for component hierarchical (pattern component).pattern_string groups) parts text captures
+
+-- A link with the groups of a match of eight texts has these texts.
+abbrev pub LinksOfMatchesAreTheTexts : {E : Type 0} → (answer : E → List ℕ → Option Captures) → Type 0
+LinksOfMatchesAreTheTexts {E} answer =
+    (pattern : PatternView E) (groups : List GivenView) (url : Parts) (texts : Texts) (result : ComponentName → ResultView) →
+    IsLink answer pattern groups url → (found : IsMatchOf answer pattern texts result) → AreGroupsOf result groups →
+    ((component : ComponentName) → TextIsReadBack answer pattern groups component (at texts component) (found.captures component)) →
+    texts_of_url url ≡ texts
