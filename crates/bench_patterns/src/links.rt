@@ -9,6 +9,7 @@ use std::alloc::Global;
 use url::Url;
 use urlpattern_core::Error;
 use urlpattern_core::regexp::RegExp;
+use urlpattern_matches::UrlPatternResult;
 use urlpattern_pattern::UrlPattern;
 use urlpattern_url::NoLink;
 
@@ -72,11 +73,19 @@ fn linked_of_result<R: RegExp>(
     let Some(found) = made(pattern.exec_url(alloc, url))? else {
         return Err(Fault::NoCase);
     };
-    let groups = made(found.to_groups(alloc))?;
-    let link = pattern.link(alloc, &groups);
-    drop(groups);
+    let link = linked_of_groups(alloc, pattern, &found);
     drop(found);
-    Ok(link)
+    link
+}
+
+/// The URL with the groups of a result.
+fn linked_of_groups<R: RegExp>(
+    alloc: Global,
+    pattern: &UrlPattern<R>,
+    found: &UrlPatternResult,
+) -> Result<Result<Url, NoLink>, Fault> {
+    let groups = made(found.to_groups(alloc))?;
+    Ok(pattern.link(alloc, &groups))
 }
 
 /// What was made. The URLs of a question are accepted.

@@ -10,6 +10,7 @@ use urlpattern_core::Error;
 use urlpattern_eight::ComponentName;
 use urlpattern_engine::PatternRegexp;
 use urlpattern_init::UrlPatternInit;
+use urlpattern_inputs::UrlPatternOptions;
 use urlpattern_pattern::UrlPattern;
 use urlpattern_quirks::process_construct_pattern_input;
 use urlpattern_readings::parts_of;
@@ -143,12 +144,23 @@ fn is_unknown(name: ComponentName, reason: Reason, recorded: &Value) -> Result<b
 /// The parts of a pattern.
 fn parts(alloc: Global, fields: &Value) -> Result<PatternParts, Fault> {
     let options = given::options(alloc, fields)?;
-    let pattern = made(UrlPattern::<PatternRegexp>::parse(alloc, init(alloc, fields)?, options))?;
     let init = init(alloc, fields)?;
-    let options = given::options(alloc, fields)?;
-    let parts = parts_of(alloc, &pattern, &init, &options);
-    drop(pattern);
+    let parts = parts_under(alloc, fields, &init, &options);
     drop(init);
+    parts
+}
+
+/// The parts of the pattern that is compiled of an init.
+fn parts_under(
+    alloc: Global,
+    fields: &Value,
+    values: &UrlPatternInit,
+    options: &UrlPatternOptions,
+) -> Result<PatternParts, Fault> {
+    let same = given::options(alloc, fields)?;
+    let pattern = made(UrlPattern::<PatternRegexp>::parse(alloc, init(alloc, fields)?, same))?;
+    let parts = parts_of(alloc, &pattern, values, options);
+    drop(pattern);
     made(parts)
 }
 

@@ -9,9 +9,13 @@ use std::io::{BufReader, BufWriter};
 use std::process::ExitCode;
 use std::{env, fs, io};
 use urlpat_commands::{Failure, fail};
-use urlpat_explain::{explain, explain_words};
-use urlpat_links::{link, link_words};
+use urlpat_explain::explain;
+use urlpat_links::link;
 use urlpat_rules::{Tables, run};
+use urlpat_words::{take_word, words_after};
+
+/// The word for patterns that ignore case. It may stand anywhere.
+const IGNORE_CASE: &str = "--ignore-case";
 
 /// The files of the host.
 #[derive(Drop)]
@@ -30,27 +34,50 @@ impl Tables for HostFiles<'_> {
 
 fn main(rt: HostRuntime) -> ExitCode {
     ExitCode::from(match words(&rt) {
-        Ok(words) => match run_buffered(&rt, &words) {
-            Ok(status) => status,
-            Err(_) => fail(&Failure::from(AllocError), &mut rt.stderr()),
-        },
+        Ok(mut words) => {
+            let ignore_case = may_ignore_case(&words) && take_word(&mut words, IGNORE_CASE);
+            match run_buffered(&rt, &words, ignore_case) {
+                Ok(status) => status,
+                Err(_) => fail(&Failure::from(AllocError), &mut rt.stderr()),
+            }
+        }
         Err(failure) => fail(&failure, &mut rt.stderr()),
     })
 }
 
+/// Whether the patterns of the command may ignore case.
+fn may_ignore_case(words: &[String]) -> bool {
+    match words.iter().find(|word| word.as_str() != IGNORE_CASE) {
+        Some(command) => !matches!(
+            command.as_str(),
+            "component" | "covers" | "link" | "unreachable"
+        ),
+        None => false,
+    }
+}
+
 /// Does what the arguments ask for, over buffers, and gives the status to end with. The error is that memory ran out.
-fn run_buffered(rt: &HostRuntime, words: &[String]) -> io::Result<u8> {
+fn run_buffered(rt: &HostRuntime, words: &[String], ignore_case: bool) -> io::Result<u8> {
     let alloc = rt.alloc();
     let mut input = BufReader::new(alloc, rt.stdin())?;
     let mut out = BufWriter::new(alloc, rt.stdout())?;
-    if let Some(rest) = link_words(words) {
-        return Ok(link(alloc, rest, &mut out, &mut rt.stderr()));
+    let mut err = rt.stderr();
+    if let Some(rest) = words_after(words, "link") {
+        return Ok(link(alloc, rest, &mut out, &mut err));
     }
-    if let Some(rest) = explain_words(words) {
-        return Ok(explain(alloc, rest, &mut out, &mut rt.stderr()));
+    if let Some(rest) = words_after(words, "explain") {
+        return Ok(explain(alloc, rest, ignore_case, &mut out, &mut err));
     }
     let files = HostFiles { rt };
-    Ok(run(alloc, &files, words, &mut input, &mut out, &mut rt.stderr()))
+    Ok(run(
+        alloc,
+        &files,
+        words,
+        ignore_case,
+        &mut input,
+        &mut out,
+        &mut err,
+    ))
 }
 
 /// The arguments after the program's own name. The error is that one of them is not UTF-8, or that memory ran out.

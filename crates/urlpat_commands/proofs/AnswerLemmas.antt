@@ -75,11 +75,11 @@ is_default options syntax ignores = ap₂ options_with syntax ignores
 -- ---- matches
 
 -- what a pattern answers is an answer of the text that it is compiled from
-pub found_by : (pattern input : List ℕ) (base : Option (List ℕ)) (compiled : PatternView PatternRegexp) (found : Option (String Global)) → IsPatternOf pattern base compiled
+pub found_by : (ignores : Bool) (pattern input : List ℕ) (base : Option (List ℕ)) (compiled : PatternView PatternRegexp) (found : Option (String Global)) → IsPatternOf ignores pattern base compiled
     → MatchOption found (IsUnmatchedBy compiled input base) (λ text. IsMatchTextBy compiled input base (string_bytes text))
-    → MatchOption found (IsUnmatched pattern input base) (λ text. IsMatchText pattern input base (string_bytes text))
-found_by pattern input base compiled None is answer = (compiled, is, answer)
-found_by pattern input base compiled (Some text) is answer = (compiled, is, answer)
+    → MatchOption found (IsUnmatched ignores pattern input base) (λ text. IsMatchText ignores pattern input base (string_bytes text))
+found_by ignores pattern input base compiled None is answer = (compiled, is, answer)
+found_by ignores pattern input base compiled (Some text) is answer = (compiled, is, answer)
 
 -- an answer that tells of lines, or that there are none, tells of a match
 pub answers_match : (Matched : List ℕ → Type 0) (Unmatched : Type 0) (lines : Option (String Global)) (answer : Printed)
@@ -105,17 +105,17 @@ two_words_and_more [] a b rest least is_a is_b is_rest = absurd (omega (arith, l
 two_words_and_more (x ∷ []) a b rest least is_a is_b is_rest = absurd (omega (arith, least))
 two_words_and_more (x ∷ y ∷ others) a b rest least is_a is_b is_rest = rw (is_a, is_b, is_rest) refl
 
-module _ (words : List (String Global)) (pattern base input : String Global) (are : words ≡ pattern ∷ base ∷ input ∷ []) where
+module _ (ignores : Bool) (words : List (String Global)) (pattern base input : String Global) (are : words ≡ pattern ∷ base ∷ input ∷ []) where
   pub match_answers : (text : List ℕ) (status : ℕ)
-      → AnswersMatch (IsMatchText (string_bytes pattern) (string_bytes input) (base_of (string_bytes base)) text) (IsUnmatched (string_bytes pattern) (string_bytes input) (base_of (string_bytes base))) text status
-      → IsMatchAnswer (words_view words) text status
+      → AnswersMatch (IsMatchText ignores (string_bytes pattern) (string_bytes input) (base_of (string_bytes base)) text) (IsUnmatched ignores (string_bytes pattern) (string_bytes input) (base_of (string_bytes base))) text status
+      → IsMatchAnswer ignores (words_view words) text status
   match_answers text status reported = rw are reported
 
-  pub match_fails : (error : Error) → MemoryOr (RefusesPatternOf (string_bytes pattern) (base_of (string_bytes base))) error → IsMatchFailure (words_view words) (failures.Refused error)
+  pub match_fails : (error : Error) → MemoryOr (RefusesPatternOf ignores (string_bytes pattern) (base_of (string_bytes base))) error → IsMatchFailure ignores (words_view words) (failures.Refused error)
   match_fails error reported = rw are reported
 
-pub first_answers : (words : List (String Global)) (base input : String Global) (patterns : List (String Global)) → words ≡ base ∷ input ∷ patterns → 0 < length patterns → (text : List ℕ) (status : ℕ)
-    → AnswersMatch (IsFirstText (words_view patterns) (string_bytes input) (base_of (string_bytes base)) text) (IsUnmatchedByEach (words_view patterns) (string_bytes input) (base_of (string_bytes base))) text status
-    → IsFirstAnswer (words_view words) text status
-first_answers words base input [] are some text status reported = absurd (omega (arith, some))
-first_answers words base input (pattern ∷ patterns) are some text status reported = rw are reported
+pub first_answers : (ignores : Bool) (words : List (String Global)) (base input : String Global) (patterns : List (String Global)) → words ≡ base ∷ input ∷ patterns → 0 < length patterns → (text : List ℕ) (status : ℕ)
+    → AnswersMatch (IsFirstText ignores (words_view patterns) (string_bytes input) (base_of (string_bytes base)) text) (IsUnmatchedByEach ignores (words_view patterns) (string_bytes input) (base_of (string_bytes base))) text status
+    → IsFirstAnswer ignores (words_view words) text status
+first_answers ignores words base input [] are some text status reported = absurd (omega (arith, some))
+first_answers ignores words base input (pattern ∷ patterns) are some text status reported = rw are reported

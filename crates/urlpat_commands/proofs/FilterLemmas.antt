@@ -1,25 +1,25 @@
 -- A lemma on what `filter` answers.
-use Rattle.std.proofs.Common.{◌≡◌, ℕ, Bool, List, subst}
+use Rattle.std.proofs.Common.{◌≡◌, ◌∙◌, ℕ, Bool, List, ap, subst}
 use Rattle.std.specs.Prelude.{Option, None, Some, IfSome}
-use Rattle.urlpat_commands.specs.Answers.{IsPatternOf, IsUnmatchedBy, base_of}
-use Rattle.urlpat_commands.specs.FilterLines.{FiltersLines, IsCapturedBy, status_of}
-use Rattle.urlpat_filter.specs.Filters.{FilterAnswers, FiltersText}
+use Rattle.urlpat_commands.specs.Answers.{BaseView, IsPatternOf, base_of, base_view}
+use Rattle.urlpat_commands.specs.FilterLines.{FiltersLines, IsFiltered, status_of}
+use Rattle.urlpat_filter.specs.Filters.{FiltersText}
 use Rattle.urlpat_words.specs.Queries.{IsQueryOf}
 use Rattle.urlpat_words.specs.declared.query.Query.{Query}
 use Rattle.urlpattern.specs.Patterns.{PatternView}
 use Rattle.urlpattern_engine.specs.declared.pattern_regexp.PatternRegexp.{PatternRegexp}
 
 -- the lines are filtered under the base URL that the words have
-pub filters : (words : List (List ℕ)) (query : Query) (compiled : PatternView PatternRegexp) (base input old new : Option (List ℕ)) (any : Bool) (status : ℕ)
-    → IsQueryOf words query → IsPatternOf query.pattern.now base compiled → base ≡ base_of query.base.now → status ≡ status_of any
-    → IfSome input (λ text. FiltersText (FilterAnswers (IsCapturedBy compiled base) (λ line. IsUnmatchedBy compiled line base) query.inverted query.shape) query.shape text any old new)
-    → FiltersLines words status input old new
-filters words query compiled base None old new any status asks is same ends found =
-    (query, asks, compiled, subst (λ b. IsPatternOf query.pattern.now b compiled) same is, tt)
-filters words query compiled base (Some text) old new any status asks is same ends found = (
+pub filters : (ignores : Bool) (words : List (List ℕ)) (query : Query) (compiled : PatternView PatternRegexp) (base : Option (List ℕ)) (kept : BaseView) (input old new : Option (List ℕ)) (any : Bool) (status : ℕ)
+    → IsQueryOf words query → IsPatternOf ignores query.pattern.now base compiled → base ≡ base_of query.base.now
+    → kept ≡ base_view base → status ≡ status_of any → IfSome input (λ text. FiltersText (IsFiltered compiled kept query) query.shape text any old new)
+    → FiltersLines ignores words status input old new
+filters ignores words query compiled base kept None old new any status asks is same read ends found =
+    (query, asks, compiled, subst (λ b. IsPatternOf ignores query.pattern.now b compiled) same is, tt)
+filters ignores words query compiled base kept (Some text) old new any status asks is same read ends found = (
   query,
   asks,
   compiled,
-  subst (λ b. IsPatternOf query.pattern.now b compiled) same is,
-  (any, ends, subst (λ b. FiltersText (FilterAnswers (IsCapturedBy compiled b) (λ line. IsUnmatchedBy compiled line b) query.inverted query.shape) query.shape text any old new) same found),
+  subst (λ b. IsPatternOf ignores query.pattern.now b compiled) same is,
+  (any, ends, subst (λ b. FiltersText (IsFiltered compiled b query) query.shape text any old new) (read ∙ ap base_view same) found),
 )

@@ -1,5 +1,5 @@
 -- Lemmas on the patterns of the command `first`.
-use Rattle.std.proofs.Common.{◌≡◌, ℕ, ◌<◌, ◌+◌, List, [], ◌∷◌, ◌++◌, map, length, take, get_or, refl, ap, ◌∙◌, sym, subst, inl, inr}
+use Rattle.std.proofs.Common.{◌≡◌, ℕ, Bool, ◌<◌, ◌+◌, List, [], ◌∷◌, ◌++◌, map, length, take, get_or, refl, ap, ◌∙◌, sym, subst, inl, inr}
 use Rattle.std.proofs.lemmas.Grind.{take_at_read}
 use Rattle.std.proofs.lemmas.List.{take-map}
 use Rattle.std.proofs.lemmas.Option.{slice_get-map, slice_get_read}
@@ -29,36 +29,36 @@ map-push f (y ∷ xs) x = ap (λ rest. f y ∷ rest) (map-push f xs x)
 take-more : {X : Type 0} (xs : List X) (i : ℕ) (x : X) → i < length xs → x ≡ get_or xs i x → take (i + 1) xs ≡ take i xs ++ x ∷ []
 take-more xs i x within is = (take_at_read xs i x within).1 ∙ ap (λ y. take i xs ++ y ∷ []) (sym is)
 
-module _ (base : Option (List ℕ)) (words : List (String Global)) (index : ℕ) (word : String Global) (within : index < length words) (is_word : word ≡ get_or words index word) where
+module _ (ignores : Bool) (base : Option (List ℕ)) (words : List (String Global)) (index : ℕ) (word : String Global) (within : index < length words) (is_word : word ≡ get_or words index word) where
   -- the next word is compiled
   pub patterns-more : (list next : List (UrlPattern PatternRegexp)) (pattern : UrlPattern PatternRegexp) → next ≡ list ++ pattern ∷ []
-      → ArePatternsOf (map (λ w. string_bytes w) (take index words)) base (patterns_view list) → IsPatternOf (string_bytes word) base (pattern_view pattern)
-      → ArePatternsOf (map (λ w. string_bytes w) (take (index + 1) words)) base (patterns_view next)
+      → ArePatternsOf ignores (map (λ w. string_bytes w) (take index words)) base (patterns_view list) → IsPatternOf ignores (string_bytes word) base (pattern_view pattern)
+      → ArePatternsOf ignores (map (λ w. string_bytes w) (take (index + 1) words)) base (patterns_view next)
   patterns-more list next pattern is_next are is =
       let texts = ap (map (λ w. string_bytes w)) (take-more words index word within is_word) ∙ map-push (λ w. string_bytes w) (take index words) word in
       let views = ap (λ patterns. patterns_view patterns) is_next ∙ map-push (λ p. pattern_view p) list pattern in
-      subst (λ (ts : List (List ℕ)). ArePatternsOf ts base (patterns_view next)) (sym texts)
-      (subst (λ (vs : List (PatternView PatternRegexp)). ArePatternsOf (map (λ w. string_bytes w) (take index words) ++ string_bytes word ∷ []) base vs) (sym views)
-      (all_zip-push (λ text view. IsPatternOf text base view) (map (λ w. string_bytes w) (take index words)) (patterns_view list) (string_bytes word) (pattern_view pattern) are is))
+      subst (λ (ts : List (List ℕ)). ArePatternsOf ignores ts base (patterns_view next)) (sym texts)
+      (subst (λ (vs : List (PatternView PatternRegexp)). ArePatternsOf ignores (map (λ w. string_bytes w) (take index words) ++ string_bytes word ∷ []) base vs) (sym views)
+      (all_zip-push (λ text view. IsPatternOf ignores text base view) (map (λ w. string_bytes w) (take index words)) (patterns_view list) (string_bytes word) (pattern_view pattern) are is))
 
   -- the next word is refused
-  pub refuses-one : (list : List (UrlPattern PatternRegexp)) (error : Error) → ArePatternsOf (map (λ w. string_bytes w) (take index words)) base (patterns_view list)
-      → MemoryOr (RefusesPatternOf (string_bytes word) base) error → MemoryOr (RefusesOneOf (map (λ w. string_bytes w) words) base) error
+  pub refuses-one : (list : List (UrlPattern PatternRegexp)) (error : Error) → ArePatternsOf ignores (map (λ w. string_bytes w) (take index words)) base (patterns_view list)
+      → MemoryOr (RefusesPatternOf ignores (string_bytes word) base) error → MemoryOr (RefusesOneOf ignores (map (λ w. string_bytes w) words) base) error
   refuses-one list error are (inl memory) = inl memory
   refuses-one list error are (inr refused) = inr (record {
     index = index;
     text = string_bytes word;
     earlier = patterns_view list;
     is_there = slice_get-map (λ w. string_bytes w) words index ∙ ap (option_map (λ w. string_bytes w)) (slice_get_read words (length words) index word refl within is_word);
-    are_compiled = subst (λ (ts : List (List ℕ)). ArePatternsOf ts base (patterns_view list)) (sym (take-map (λ w. string_bytes w) index words)) are;
+    are_compiled = subst (λ (ts : List (List ℕ)). ArePatternsOf ignores ts base (patterns_view list)) (sym (take-map (λ w. string_bytes w) index words)) are;
     refuses = refused;
   })
 
 -- ---- the first match
 
 -- what a list answers is an answer of the texts that it is compiled from
-pub first_found_by : (patterns : List (List ℕ)) (input : List ℕ) (base : Option (List ℕ)) (compiled : List (PatternView PatternRegexp)) (found : Option (String Global)) → ArePatternsOf patterns base compiled
+pub first_found_by : (ignores : Bool) (patterns : List (List ℕ)) (input : List ℕ) (base : Option (List ℕ)) (compiled : List (PatternView PatternRegexp)) (found : Option (String Global)) → ArePatternsOf ignores patterns base compiled
     → MatchOption found (IsUnmatchedByAll compiled input base) (λ text. IsFirstTextBy compiled input base (string_bytes text))
-    → MatchOption found (IsUnmatchedByEach patterns input base) (λ text. IsFirstText patterns input base (string_bytes text))
-first_found_by patterns input base compiled None are answer = (compiled, are, answer)
-first_found_by patterns input base compiled (Some text) are answer = (compiled, are, answer)
+    → MatchOption found (IsUnmatchedByEach ignores patterns input base) (λ text. IsFirstText ignores patterns input base (string_bytes text))
+first_found_by ignores patterns input base compiled None are answer = (compiled, are, answer)
+first_found_by ignores patterns input base compiled (Some text) are answer = (compiled, are, answer)

@@ -4,16 +4,17 @@ use Rattle.std.proofs.lemmas.List.{get_or-map, length-map}
 use Rattle.std.proofs.lemmas.List.Kept.{Any-dedup, Contains-from_dedup, IsStrictlySortedBy-dedup}
 use Rattle.std.proofs.lemmas.List.Sorted.{Contains-permutation, IsPermutation-map, IsPermutation-reverse, IsPermutation-sym}
 use Rattle.std.proofs.lemmas.Map.Views.{Contains-keys_from_lookup, IsSome-lookup_from_Contains}
+use Rattle.std.proofs.lemmas.Str.{encodes-chars}
 use Rattle.std.specs.Cmp.Lexicographic.{bytes_decides, nat_list_eq_equiv, on_texts, on_texts_equal, slice_cmp, texts_ties}
 use Rattle.std.specs.List.{AllByRecursion, Contains, dedup, flat_map}
 use Rattle.std.specs.List.Sorted.{IsPermutation, IsSorted, IsStrictlySortedBy}
 use Rattle.std.specs.Map.{keys_of}
 use Rattle.std.specs.Ordering.{nat_cmp, on}
 use Rattle.std.specs.Prelude.{IsSome, Option, String, encode_utf8_all, string_bytes}
-use Rattle.std.specs.Str.{chars}
+use Rattle.std.specs.Str.{IsUtf8, chars}
 use Rattle.std.specs.declared.alloc.Global.{Global}
 use Rattle.urlpat_commands.proofs.AnswerLemmas.{bytes_of_text}
-use Rattle.urlpat_commands.specs.Answers.{AreNames, group_bytes, line_of}
+use Rattle.urlpat_commands.specs.Answers.{AreNames, group_bytes, named_group_line}
 use Rattle.urlpat_commands.specs.Report.{group_line}
 use Rattle.urlpattern.specs.BorrowedMatches.{pattern_captures_view, groups_view}
 use Rattle.urlpattern.specs.ResultViews.{ResultView}
@@ -111,11 +112,27 @@ names-in_order found component gathered sorted are_all permuted in_order =
           (IsStrictlySortedBy-dedup (on_texts bytes_at) (λ x y. texts_ties (bytes_at x) (bytes_at y)) sorted in_order);
     }
 
+-- a name that is alone is in order
+pub only-name : (found : UrlPatternCaptures) (component : ComponentName) (name : List ℕ) → keys_of (groups_view found component) ≡ name ∷ [] →
+    AreNames (pattern_captures_view found component) (name ∷ [])
+unfolding IsStrictlySortedBy
+only-name found component name alone = record {
+  are_all = λ other. subst (λ names. Contains names other ↔ IsSome ((pattern_captures_view found component).group other)) alone (named-group found component other);
+  in_order = (tt, tt);
+}
+
 -- ---- lines
+
+-- the line of a name that is alone
+pub only-line : (component : List ℕ) (found : ResultView) (name : List ℕ) → IsUtf8 name →
+    flat_map (named_group_line component found) (chars name ∷ []) ≡ group_line component name (group_bytes (found.group (chars name)))
+only-line component found name utf8 =
+    append-nil (named_group_line component found (chars name))
+    ∙ ap (λ bytes. group_line component bytes (group_bytes (found.group (chars name)))) (encodes-chars name utf8)
 
 -- the lines by the bytes of names are those by their characters
 pub lines-of_texts : (component : List ℕ) (found : ResultView) (names : List (String Global)) →
-    flat_map (λ name. group_line component name (group_bytes (found.group (chars name)))) (map bytes_at names) ≡ flat_map (line_of component found) (texts names)
+    flat_map (λ name. group_line component name (group_bytes (found.group (chars name)))) (map bytes_at names) ≡ flat_map (named_group_line component found) (texts names)
 lines-of_texts component found [] = refl
 lines-of_texts component found (name ∷ names) =
     ap₂ (λ first rest. first ++ rest)

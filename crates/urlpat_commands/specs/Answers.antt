@@ -1,5 +1,5 @@
 -- What the program answers to its words, and what it refuses. Words and texts are bytes.
-use Rattle.std.specs.Prelude.{◌≡◌, ◌≢◌, ◌↔◌, ◌⊎◌, All, ◌++◌, ℕ, false, if◌then◌else◌, List, [], ◌∷◌, length, map, max, codes, bytes_eq, Option, None, Some, Result, Ok, Err, String, string_bytes, encode_utf8_all, slice_get, take, IsSome, MatchOption}
+use Rattle.std.specs.Prelude.{◌≡◌, ◌≢◌, ◌↔◌, ◌⊎◌, All, ◌++◌, ℕ, Bool, false, if◌then◌else◌, List, [], ◌∷◌, length, map, max, codes, bytes_eq, Option, None, Some, Result, Ok, Err, String, string_bytes, encode_utf8_all, slice_get, take, IsSome, MatchOption}
 use Rattle.std.specs.Ordering.{on, nat_cmp}
 use Rattle.std.specs.Cmp.Lexicographic.{slice_cmp}
 use Rattle.std.specs.List.{AllZip, Contains, flat_map}
@@ -8,7 +8,9 @@ use Rattle.std.specs.Str.{chars}
 use Rattle.std.specs.declared.alloc.Global.{Global}
 use Rattle.std.specs.Io.KnownBytes.{Appends}
 use Rattle.url.specs.declared.Url.{Url}
+use Rattle.url.specs.Parser.{Parsed, and_then, parse_url}
 use Rattle.url.specs.Parts.{Parts}
+use Rattle.urlpat_commands.specs.declared.base.BaseUrl.{BaseUrl}
 use Rattle.urlpat_commands.specs.declared.command.Failure.{Failure}
 use Rattle.urlpat_commands.specs.declared.command.Failure.TheVariants as failures
 use Rattle.urlpat_commands.specs.declared.command.Printed.{Printed}
@@ -23,7 +25,7 @@ use Rattle.urlpattern.specs.Errors.{ErrorView, MemoryOr}
 use Rattle.urlpattern.specs.Canonical.{IsRefusedByUrl}
 use Rattle.urlpattern.specs.FirstMatch.{IsFirstMatch}
 use Rattle.urlpattern.specs.FromString.{IsPatternOfText, RefusesPatternOfText}
-use Rattle.urlpattern.specs.Inputs.{parsed_text, text_bytes}
+use Rattle.urlpattern.specs.Inputs.{parsed_base, text_bytes}
 use Rattle.urlpattern.specs.Laws.{Answered, listed}
 use Rattle.urlpattern.specs.Match.{HasNoMatch, IsMatch}
 use Rattle.urlpattern.specs.ResultViews.{ResultView}
@@ -47,12 +49,12 @@ use Rattle.urlpattern_syntax.specs.declared.parser.RegexSyntax.TheVariants.{Rust
 -- ---- what a component is compiled to
 
 -- each text is answered by a copy of it, or memory runs out
-abbrev pub IsCopy : (bytes : List ℕ) → Result (String Global) Error → Type 0
-IsCopy bytes (Ok copy) = string_bytes copy ≡ bytes
-IsCopy bytes (Err error) = error ≡ errors.OutOfMemory
+abbrev pub CopiesBytes : (bytes : List ℕ) → Result (String Global) Error → Type 0
+CopiesBytes bytes (Ok copy) = string_bytes copy ≡ bytes
+CopiesBytes bytes (Err error) = error ≡ errors.OutOfMemory
 
 abbrev pub kept : Encoding
-kept = encoding_of IsCopy
+kept = encoding_of CopiesBytes
 
 -- The text is what the pattern is compiled to under the options of that name, its fixed texts kept as they are: the names
 -- of the parts that it reads as, a regular expression that means what these parts mean, and a pattern that reads back.
@@ -83,17 +85,20 @@ FailsComponent kind pattern (failures.Refused error) = MemoryOr (RefusesComponen
 abbrev pub base_of : List ℕ → Option (List ℕ)
 base_of word = if bytes_eq word (codes "-") then None else Some word
 
--- whole patterns are compiled under the default options
-abbrev pub default_pattern_options : UrlPatternOptions
-default_pattern_options = record { regex_syntax = Rust; ignore_case = false }
+-- the options that whole patterns are compiled under, where they ignore case or not; and the default ones
+abbrev pub pattern_options : (ignores : Bool) → UrlPatternOptions
+pattern_options ignores = record { regex_syntax = Rust; ignore_case = ignores }
 
--- the constructor string with this base URL is compiled to the pattern, by the engine `PatternRegexp`
-abbrev pub IsPatternOf : (text : List ℕ) → (base : Option (List ℕ)) → PatternView PatternRegexp → Type 0
-IsPatternOf text base pattern = IsPatternOfText pattern_engine (chars text) base default_pattern_options pattern
+abbrev pub default_pattern_options : UrlPatternOptions
+default_pattern_options = pattern_options false
+
+-- the constructor string with this base URL is compiled to the pattern, which ignores case or not, by the engine `PatternRegexp`
+abbrev pub IsPatternOf : (ignores : Bool) → (text : List ℕ) → (base : Option (List ℕ)) → PatternView PatternRegexp → Type 0
+IsPatternOf ignores text base pattern = IsPatternOfText pattern_engine (chars text) base (pattern_options ignores) pattern
 
 -- it is refused with this error, as a constructor string or when it is compiled
-abbrev pub RefusesPatternOf : (text : List ℕ) → (base : Option (List ℕ)) → ErrorView → Type 0
-RefusesPatternOf text base error = RefusesPatternOfText pattern_engine (chars text) base default_pattern_options error
+abbrev pub RefusesPatternOf : (ignores : Bool) → (text : List ℕ) → (base : Option (List ℕ)) → ErrorView → Type 0
+RefusesPatternOf ignores text base error = RefusesPatternOfText pattern_engine (chars text) base (pattern_options ignores) error
 
 -- the bytes that a group captured, if it took part
 abbrev pub group_bytes : Option (Option (List ℕ)) → Option (List ℕ)
@@ -106,12 +111,12 @@ pub record AreNames (found : ResultView) (names : List (List ℕ)) : Type 0 wher
   pub in_order : IsStrictlySortedBy (on encode_utf8_all (slice_cmp nat_cmp)) names
 
 -- the line of the component's group of this name
-abbrev pub line_of : (component : List ℕ) → ResultView → (name : List ℕ) → List ℕ
-line_of component found name = group_line component (encode_utf8_all name) (group_bytes (found.group name))
+abbrev pub named_group_line : (component : List ℕ) → ResultView → (name : List ℕ) → List ℕ
+named_group_line component found name = group_line component (encode_utf8_all name) (group_bytes (found.group name))
 
 -- the text has a line for each group of the component
 abbrev pub AreGroupLines : (component : List ℕ) → ResultView → (text : List ℕ) → Type 0
-AreGroupLines component found text = (names : List (List ℕ)) × AreNames found names × (text ≡ flat_map (line_of component found) names)
+AreGroupLines component found text = (names : List (List ℕ)) × AreNames found names × (text ≡ flat_map (named_group_line component found) names)
 
 -- the text has the lines of these components, one after the other
 abbrev pub AreLines : List (List ℕ × ResultView) → (text : List ℕ) → Type 0
@@ -130,17 +135,41 @@ named_results result names = map (λ name. (name_text name, result name)) names
 abbrev pub all_named_results : (ComponentName → ResultView) → List (List ℕ × ResultView)
 all_named_results result = named_results result components
 
+-- A base URL that is read: what `url` makes of its text, and how many bytes that has.
+pub record BaseView : Type 0 where
+  pub url : Parsed (Option Parts)
+  pub bytes : ℕ
+
+abbrev pub base_view : (text : Option (List ℕ)) → BaseView
+base_view text = record { url = parsed_base text; bytes = text_bytes text }
+
+abbrev pub kept_base : BaseUrl → BaseView
+kept_base base = record { url = Ok base.url; bytes = base.bytes }
+
+-- what `url` makes of an input under a base URL
+abbrev pub read_under : BaseView → (input : List ℕ) → Parsed Parts
+read_under base input = and_then base.url (λ url. parse_url url input)
+
 -- the input is this URL, under the base URL
+abbrev pub IsUrlUnder : (input : List ℕ) → BaseView → (url : Parts) → Type 0
+IsUrlUnder input base url = read_under base input ≡ Ok url
+
 abbrev pub IsUrlOf : (input : List ℕ) → (base : Option (List ℕ)) → (url : Parts) → Type 0
-IsUrlOf input base url = parsed_text base input ≡ Ok url
+IsUrlOf input base url = IsUrlUnder input (base_view base) url
 
 -- `url` refuses the input or the base URL, or they are too long
+abbrev pub IsRefusedUnder : (input : List ℕ) → BaseView → Type 0
+IsRefusedUnder input base = IsRefusedByUrl (read_under base input) (max (length input) base.bytes)
+
 abbrev pub IsRefusedText : (input : List ℕ) → (base : Option (List ℕ)) → Type 0
-IsRefusedText input base = IsRefusedByUrl (parsed_text base input) (max (length input) (text_bytes base))
+IsRefusedText input base = IsRefusedUnder input (base_view base)
 
 -- what is found is the URL of the input; None where it has none
+abbrev pub FindsUrlUnder : (input : List ℕ) → BaseView → Option Url → Type 0
+FindsUrlUnder input base found = MatchOption found (IsRefusedUnder input base) (IsUrlUnder input base)
+
 abbrev pub FindsUrl : (input : List ℕ) → (base : Option (List ℕ)) → Option Url → Type 0
-FindsUrl input base found = MatchOption found (IsRefusedText input base) (IsUrlOf input base)
+FindsUrl input base found = FindsUrlUnder input (base_view base) found
 
 -- The pattern matches the input, a URL under this base URL, and the text has what the groups capture.
 pub record IsMatchTextBy (compiled : PatternView PatternRegexp) (input : List ℕ) (base : Option (List ℕ)) (text : List ℕ) : Type 0 where
@@ -150,23 +179,26 @@ pub record IsMatchTextBy (compiled : PatternView PatternRegexp) (input : List �
   pub is_match : IsMatch pattern_answer compiled (match_inputs.Url url) result
   pub are_lines : AreLines (all_named_results result) text
 
-abbrev pub IsMatchText : (pattern input : List ℕ) → (base : Option (List ℕ)) → (text : List ℕ) → Type 0
-IsMatchText pattern input base text =
-    (compiled : PatternView PatternRegexp) × IsPatternOf pattern base compiled × IsMatchTextBy compiled input base text
+abbrev pub IsMatchText : (ignores : Bool) → (pattern input : List ℕ) → (base : Option (List ℕ)) → (text : List ℕ) → Type 0
+IsMatchText ignores pattern input base text =
+    (compiled : PatternView PatternRegexp) × IsPatternOf ignores pattern base compiled × IsMatchTextBy compiled input base text
 
 -- the pattern does not match the input: `url` refuses it, or the pattern has no match on it
-abbrev pub IsUnmatchedBy : (compiled : PatternView PatternRegexp) → (input : List ℕ) → (base : Option (List ℕ)) → Type 0
-IsUnmatchedBy compiled input base =
-    IsRefusedText input base ⊎ ((url : Parts) × IsUrlOf input base url × HasNoMatch pattern_answer compiled (match_inputs.Url url))
+abbrev pub IsUnmatchedUnder : (compiled : PatternView PatternRegexp) → (input : List ℕ) → BaseView → Type 0
+IsUnmatchedUnder compiled input base =
+    IsRefusedUnder input base ⊎ ((url : Parts) × IsUrlUnder input base url × HasNoMatch pattern_answer compiled (match_inputs.Url url))
 
-abbrev pub IsUnmatched : (pattern input : List ℕ) → (base : Option (List ℕ)) → Type 0
-IsUnmatched pattern input base =
-    (compiled : PatternView PatternRegexp) × IsPatternOf pattern base compiled × IsUnmatchedBy compiled input base
+abbrev pub IsUnmatchedBy : (compiled : PatternView PatternRegexp) → (input : List ℕ) → (base : Option (List ℕ)) → Type 0
+IsUnmatchedBy compiled input base = IsUnmatchedUnder compiled input (base_view base)
+
+abbrev pub IsUnmatched : (ignores : Bool) → (pattern input : List ℕ) → (base : Option (List ℕ)) → Type 0
+IsUnmatched ignores pattern input base =
+    (compiled : PatternView PatternRegexp) × IsPatternOf ignores pattern base compiled × IsUnmatchedBy compiled input base
 
 -- what is found are the lines of a match; None where there is none
-abbrev pub FindsMatch : (pattern input : List ℕ) → (base : Option (List ℕ)) → Option (String Global) → Type 0
-FindsMatch pattern input base found =
-    MatchOption found (IsUnmatched pattern input base) (λ text. IsMatchText pattern input base (string_bytes text))
+abbrev pub FindsMatch : (ignores : Bool) → (pattern input : List ℕ) → (base : Option (List ℕ)) → Option (String Global) → Type 0
+FindsMatch ignores pattern input base found =
+    MatchOption found (IsUnmatched ignores pattern input base) (λ text. IsMatchText ignores pattern input base (string_bytes text))
 
 abbrev pub FindsMatchBy : PatternView PatternRegexp → (input : List ℕ) → (base : Option (List ℕ)) → Option (String Global) → Type 0
 FindsMatchBy compiled input base found =
@@ -175,17 +207,17 @@ FindsMatchBy compiled input base found =
 -- ---- what the first match captures
 
 -- the constructor strings with this base URL are compiled to the patterns, one to each
-abbrev pub ArePatternsOf : (texts : List (List ℕ)) → (base : Option (List ℕ)) → List (PatternView PatternRegexp) → Type 0
-ArePatternsOf texts base patterns = AllZip (λ text pattern. IsPatternOf text base pattern) texts patterns
+abbrev pub ArePatternsOf : (ignores : Bool) → (texts : List (List ℕ)) → (base : Option (List ℕ)) → List (PatternView PatternRegexp) → Type 0
+ArePatternsOf ignores texts base patterns = AllZip (λ text pattern. IsPatternOf ignores text base pattern) texts patterns
 
 -- One of the constructor strings is refused with this error, and those before it are compiled.
-pub record RefusesOneOf (texts : List (List ℕ)) (base : Option (List ℕ)) (error : ErrorView) : Type 0 where
+pub record RefusesOneOf (ignores : Bool) (texts : List (List ℕ)) (base : Option (List ℕ)) (error : ErrorView) : Type 0 where
   pub index : ℕ
   pub text : List ℕ
   pub earlier : List (PatternView PatternRegexp)
   pub is_there : slice_get texts index ≡ Some text
-  pub are_compiled : ArePatternsOf (take index texts) base earlier
-  pub refuses : RefusesPatternOf text base error
+  pub are_compiled : ArePatternsOf ignores (take index texts) base earlier
+  pub refuses : RefusesPatternOf ignores text base error
 
 -- A pattern of the list is the first that matches the input, a URL under this base URL, and the text has its index and
 -- what its groups capture.
@@ -199,23 +231,26 @@ pub record IsFirstTextBy (compiled : List (PatternView PatternRegexp)) (input : 
   pub are_lines : AreLines (all_named_results result) lines
   pub is_text : text ≡ first_line index ++ lines
 
-abbrev pub IsFirstText : (patterns : List (List ℕ)) → (input : List ℕ) → (base : Option (List ℕ)) → (text : List ℕ) → Type 0
-IsFirstText patterns input base text =
-    (compiled : List (PatternView PatternRegexp)) × ArePatternsOf patterns base compiled × IsFirstTextBy compiled input base text
+abbrev pub IsFirstText : (ignores : Bool) → (patterns : List (List ℕ)) → (input : List ℕ) → (base : Option (List ℕ)) → (text : List ℕ) → Type 0
+IsFirstText ignores patterns input base text =
+    (compiled : List (PatternView PatternRegexp)) × ArePatternsOf ignores patterns base compiled × IsFirstTextBy compiled input base text
 
 -- no pattern of the list matches the input: `url` refuses it, or none has a match on it
-abbrev pub IsUnmatchedByAll : (compiled : List (PatternView PatternRegexp)) → (input : List ℕ) → (base : Option (List ℕ)) → Type 0
-IsUnmatchedByAll compiled input base =
-    IsRefusedText input base ⊎ ((url : Parts) × IsUrlOf input base url × IsFirstMatch pattern_answer compiled (match_inputs.Url url) None)
+abbrev pub IsUnmatchedByAllUnder : (compiled : List (PatternView PatternRegexp)) → (input : List ℕ) → BaseView → Type 0
+IsUnmatchedByAllUnder compiled input base =
+    IsRefusedUnder input base ⊎ ((url : Parts) × IsUrlUnder input base url × IsFirstMatch pattern_answer compiled (match_inputs.Url url) None)
 
-abbrev pub IsUnmatchedByEach : (patterns : List (List ℕ)) → (input : List ℕ) → (base : Option (List ℕ)) → Type 0
-IsUnmatchedByEach patterns input base =
-    (compiled : List (PatternView PatternRegexp)) × ArePatternsOf patterns base compiled × IsUnmatchedByAll compiled input base
+abbrev pub IsUnmatchedByAll : (compiled : List (PatternView PatternRegexp)) → (input : List ℕ) → (base : Option (List ℕ)) → Type 0
+IsUnmatchedByAll compiled input base = IsUnmatchedByAllUnder compiled input (base_view base)
+
+abbrev pub IsUnmatchedByEach : (ignores : Bool) → (patterns : List (List ℕ)) → (input : List ℕ) → (base : Option (List ℕ)) → Type 0
+IsUnmatchedByEach ignores patterns input base =
+    (compiled : List (PatternView PatternRegexp)) × ArePatternsOf ignores patterns base compiled × IsUnmatchedByAll compiled input base
 
 -- what is found are the lines of the first match; None where there is none
-abbrev pub FindsFirst : (patterns : List (List ℕ)) → (input : List ℕ) → (base : Option (List ℕ)) → Option (String Global) → Type 0
-FindsFirst patterns input base found =
-    MatchOption found (IsUnmatchedByEach patterns input base) (λ text. IsFirstText patterns input base (string_bytes text))
+abbrev pub FindsFirst : (ignores : Bool) → (patterns : List (List ℕ)) → (input : List ℕ) → (base : Option (List ℕ)) → Option (String Global) → Type 0
+FindsFirst ignores patterns input base found =
+    MatchOption found (IsUnmatchedByEach ignores patterns input base) (λ text. IsFirstText ignores patterns input base (string_bytes text))
 
 abbrev pub FindsFirstBy : List (PatternView PatternRegexp) → (input : List ℕ) → (base : Option (List ℕ)) → Option (String Global) → Type 0
 FindsFirstBy compiled input base found =
@@ -242,35 +277,35 @@ abbrev pub IsRefusal : (Refuses : ErrorView → Type 0) → Failure → Type 0
 IsRefusal Refuses failures.Usage = ⊥
 IsRefusal Refuses (failures.Refused error) = MemoryOr Refuses error
 
-abbrev pub IsMatchAnswer : (words : List (List ℕ)) → (text : List ℕ) → (status : ℕ) → Type 0
-IsMatchAnswer (pattern ∷ base ∷ input ∷ []) text status =
-    AnswersMatch (IsMatchText pattern input (base_of base) text) (IsUnmatched pattern input (base_of base)) text status
-IsMatchAnswer words text status = ⊥
+abbrev pub IsMatchAnswer : (ignores : Bool) → (words : List (List ℕ)) → (text : List ℕ) → (status : ℕ) → Type 0
+IsMatchAnswer ignores (pattern ∷ base ∷ input ∷ []) text status =
+    AnswersMatch (IsMatchText ignores pattern input (base_of base) text) (IsUnmatched ignores pattern input (base_of base)) text status
+IsMatchAnswer ignores words text status = ⊥
 
-abbrev pub IsMatchFailure : (words : List (List ℕ)) → Failure → Type 0
-IsMatchFailure (pattern ∷ base ∷ input ∷ []) failure = IsRefusal (RefusesPatternOf pattern (base_of base)) failure
-IsMatchFailure words failure = failure ≡ failures.Usage
+abbrev pub IsMatchFailure : (ignores : Bool) → (words : List (List ℕ)) → Failure → Type 0
+IsMatchFailure ignores (pattern ∷ base ∷ input ∷ []) failure = IsRefusal (RefusesPatternOf ignores pattern (base_of base)) failure
+IsMatchFailure ignores words failure = failure ≡ failures.Usage
 
 -- ---- the words after `first`
 
-abbrev pub IsFirstAnswer : (words : List (List ℕ)) → (text : List ℕ) → (status : ℕ) → Type 0
-IsFirstAnswer (base ∷ input ∷ pattern ∷ patterns) text status =
-    AnswersMatch (IsFirstText (pattern ∷ patterns) input (base_of base) text) (IsUnmatchedByEach (pattern ∷ patterns) input (base_of base)) text status
-IsFirstAnswer words text status = ⊥
+abbrev pub IsFirstAnswer : (ignores : Bool) → (words : List (List ℕ)) → (text : List ℕ) → (status : ℕ) → Type 0
+IsFirstAnswer ignores (base ∷ input ∷ pattern ∷ patterns) text status =
+    AnswersMatch (IsFirstText ignores (pattern ∷ patterns) input (base_of base) text) (IsUnmatchedByEach ignores (pattern ∷ patterns) input (base_of base)) text status
+IsFirstAnswer ignores words text status = ⊥
 
-abbrev pub IsFirstFailure : (words : List (List ℕ)) → Failure → Type 0
-IsFirstFailure (base ∷ input ∷ pattern ∷ patterns) failure = IsRefusal (RefusesOneOf (pattern ∷ patterns) (base_of base)) failure
-IsFirstFailure words failure = failure ≡ failures.Usage
+abbrev pub IsFirstFailure : (ignores : Bool) → (words : List (List ℕ)) → Failure → Type 0
+IsFirstFailure ignores (base ∷ input ∷ pattern ∷ patterns) failure = IsRefusal (RefusesOneOf ignores (pattern ∷ patterns) (base_of base)) failure
+IsFirstFailure ignores words failure = failure ≡ failures.Usage
 
 -- ---- the short form: a pattern and an input, without a base URL
 
-abbrev pub IsShortAnswer : (pattern : List ℕ) → (words : List (List ℕ)) → (text : List ℕ) → (status : ℕ) → Type 0
-IsShortAnswer pattern (input ∷ []) text status = AnswersMatch (IsMatchText pattern input None text) (IsUnmatched pattern input None) text status
-IsShortAnswer pattern words text status = ⊥
+abbrev pub IsShortAnswer : (ignores : Bool) → (pattern : List ℕ) → (words : List (List ℕ)) → (text : List ℕ) → (status : ℕ) → Type 0
+IsShortAnswer ignores pattern (input ∷ []) text status = AnswersMatch (IsMatchText ignores pattern input None text) (IsUnmatched ignores pattern input None) text status
+IsShortAnswer ignores pattern words text status = ⊥
 
-abbrev pub IsShortFailure : (pattern : List ℕ) → (words : List (List ℕ)) → Failure → Type 0
-IsShortFailure pattern (input ∷ []) failure = IsRefusal (RefusesPatternOf pattern None) failure
-IsShortFailure pattern words failure = failure ≡ failures.Usage
+abbrev pub IsShortFailure : (ignores : Bool) → (pattern : List ℕ) → (words : List (List ℕ)) → Failure → Type 0
+IsShortFailure ignores pattern (input ∷ []) failure = IsRefusal (RefusesPatternOf ignores pattern None) failure
+IsShortFailure ignores pattern words failure = failure ≡ failures.Usage
 
 -- ---- commands
 
@@ -278,40 +313,40 @@ abbrev pub IsCommand : List ℕ → Type 0
 IsCommand word = (word ≡ codes "component") ⊎ (word ≡ codes "match") ⊎ (word ≡ codes "first")
 
 -- the answer to the words, and the status of the run: 0, or 1 where an input is not matched
-abbrev pub IsCommandAnswer : (words : List (List ℕ)) → (text : List ℕ) → (status : ℕ) → Type 0
-IsCommandAnswer [] text status = ⊥
-IsCommandAnswer (command ∷ words) text status =
+abbrev pub IsCommandAnswer : (ignores : Bool) → (words : List (List ℕ)) → (text : List ℕ) → (status : ℕ) → Type 0
+IsCommandAnswer ignores [] text status = ⊥
+IsCommandAnswer ignores (command ∷ words) text status =
     ((command ≡ codes "component") × IsComponentAnswer words text status)
-    ⊎ ((command ≡ codes "match") × IsMatchAnswer words text status)
-    ⊎ ((command ≡ codes "first") × IsFirstAnswer words text status)
-    ⊎ ((¬ IsCommand command) × IsShortAnswer command words text status)
+    ⊎ ((command ≡ codes "match") × IsMatchAnswer ignores words text status)
+    ⊎ ((command ≡ codes "first") × IsFirstAnswer ignores words text status)
+    ⊎ ((¬ IsCommand command) × IsShortAnswer ignores command words text status)
 
 -- why there is none: the words are no command, something is refused, or memory ran out
-abbrev pub IsFailure : (words : List (List ℕ)) → Failure → Type 0
-IsFailure [] failure = failure ≡ failures.Usage
-IsFailure (command ∷ words) failure =
+abbrev pub IsFailure : (ignores : Bool) → (words : List (List ℕ)) → Failure → Type 0
+IsFailure ignores [] failure = failure ≡ failures.Usage
+IsFailure ignores (command ∷ words) failure =
     ((command ≡ codes "component") × IsComponentFailure words failure)
-    ⊎ ((command ≡ codes "match") × IsMatchFailure words failure)
-    ⊎ ((command ≡ codes "first") × IsFirstFailure words failure)
-    ⊎ ((¬ IsCommand command) × IsShortFailure command words failure)
+    ⊎ ((command ≡ codes "match") × IsMatchFailure ignores words failure)
+    ⊎ ((command ≡ codes "first") × IsFirstFailure ignores words failure)
+    ⊎ ((¬ IsCommand command) × IsShortFailure ignores command words failure)
 
 -- ---- what the program does
 
 -- the text answers the words with this status: it is the help that they ask for, or the answer to a command
-abbrev pub Answers : (words : List (List ℕ)) → (text : List ℕ) → (status : ℕ) → Type 0
-Answers words text status = (IsHelp words text × (status ≡ 0)) ⊎ IsCommandAnswer words text status
+abbrev pub IsProgramAnswer : (ignores : Bool) → (words : List (List ℕ)) → (text : List ℕ) → (status : ℕ) → Type 0
+IsProgramAnswer ignores words text status = (IsHelp words text × (status ≡ 0)) ⊎ IsCommandAnswer ignores words text status
 
 -- what is printed answers the words, with this status
-abbrev pub Prints : (words : List (List ℕ)) → (status : ℕ) → (old new : Option (List ℕ)) → Type 0
-Prints words status old new = (text : List ℕ) × Answers words text status × Appends old new text
+abbrev pub Prints : (ignores : Bool) → (words : List (List ℕ)) → (status : ℕ) → (old new : Option (List ℕ)) → Type 0
+Prints ignores words status old new = (text : List ℕ) × IsProgramAnswer ignores words text status × Appends old new text
 
 -- the words have an answer, which is not printed or only in part
-abbrev pub AreAnswered : (words : List (List ℕ)) → Type 0
-AreAnswered words = (text : List ℕ) × (status : ℕ) × Answers words text status
+abbrev pub AreAnswered : (ignores : Bool) → (words : List (List ℕ)) → Type 0
+AreAnswered ignores words = (text : List ℕ) × (status : ℕ) × IsProgramAnswer ignores words text status
 
 -- the words have none, and this is so
-abbrev pub FailsWhere : (words : List (List ℕ)) → (IsSo : Type 0) → Type 0
-FailsWhere words IsSo = (failure : Failure) × IsFailure words failure × IsSo
+abbrev pub FailsWhere : (ignores : Bool) → (words : List (List ℕ)) → (IsSo : Type 0) → Type 0
+FailsWhere ignores words IsSo = (failure : Failure) × IsFailure ignores words failure × IsSo
 
 -- what is printed are the lines that were found, or that there are none
 abbrev pub IsPrintedOf : Option (String Global) → Printed → Type 0

@@ -2,7 +2,7 @@
 
 ghost use Rattle.std.specs.Io.KnownBytes.{Appends};
 ghost use Rattle.std.specs.Prelude.{◌≡◌, ◌≢◌, ◌⊎◌, map, string_bytes, IfErr, IfOk, IfSome, OnOk, Ok, None};
-ghost use Rattle.urlpat_commands.specs.Answers.{FailsComponent, FailsWhere, AreAnswered, IsCommandAnswer, IsComponentAnswer, IsComponentFailure, IsComponentText, IsCopy, IsFailure, IsPrintedOf, Prints, IsFirstAnswer, IsFirstFailure, IsShortAnswer, IsShortFailure, IsMatchAnswer, IsMatchFailure, words_view};
+ghost use Rattle.urlpat_commands.specs.Answers.{FailsComponent, FailsWhere, AreAnswered, IsCommandAnswer, IsComponentAnswer, IsComponentFailure, IsComponentText, CopiesBytes, IsFailure, IsPrintedOf, Prints, IsFirstAnswer, IsFirstFailure, IsShortAnswer, IsShortFailure, IsMatchAnswer, IsMatchFailure, words_view};
 ghost use Rattle.urlpat_commands.specs.Kinds.{IsKind, NamesOptions};
 ghost use Rattle.urlpat_commands.specs.FilterLines.{AskToFilter, Does};
 ghost use Rattle.urlpat_commands.specs.Notes.{HasRefusedInput};
@@ -20,7 +20,7 @@ use crate::notes::{diagnosis_note, input_note};
 use std::alloc::{AllocError, Global};
 use std::io;
 use std::io::{BufRead, Write};
-use urlpat_words::{filter_words, help_of};
+use urlpat_words::{help_of, words_after};
 use urlpattern::Error;
 use urlpattern::component::{generate_pattern_string, generate_regular_expression_and_name_list};
 use urlpattern::parser::{Options, parse_pattern_string};
@@ -75,25 +75,26 @@ impl From<AllocError> for Failure {
     }
 }
 
-/// Does what the words ask for, and gives the status to end with.
+/// Does what the words ask for, with patterns that ignore case or not, and gives the status to end with.
 ///
 /// `filter` reads lines from `input`. What is printed goes to `out`, the answer of each other command in one piece. Why there is no
 /// answer goes to `err`, and that an input or a line is no URL.
 pub fn run<In: BufRead, Out: Write, Err: Write>(
     alloc: Global,
     words: &[String],
+    ignore_case: bool,
     input: &mut In,
     out: &mut Out,
     err: &mut Err,
 ) -> u8
     ensures status { (result ≡ DONE) ⊎ (result ≡ NO_MATCH) ⊎ (result ≡ FAILED) }
-    ensures answers { result ≢ FAILED → Does (words_view words.now) result (In.remaining input.old) (Out.contents out.old) (Out.contents out.new) }
+    ensures answers { result ≢ FAILED → Does ignore_case (words_view words.now) result (In.remaining input.old) (Out.contents out.old) (Out.contents out.new) }
     ensures quiet { result ≢ FAILED → (err.new ≡ err.old) ⊎ HasRefusedInput (words_view words.now) ⊎ AskToFilter (words_view words.now) }
-    ensures fails { result ≡ FAILED → FailsWhere (words_view words.now) (out.new ≡ out.old) ⊎ AreAnswered (words_view words.now) ⊎ AskToFilter (words_view words.now) }
+    ensures fails { result ≡ FAILED → FailsWhere ignore_case (words_view words.now) (out.new ≡ out.old) ⊎ AreAnswered ignore_case (words_view words.now) ⊎ AskToFilter (words_view words.now) }
 {
-    match filter_words(words) {
-        Some(rest) => filter(alloc, rest, input, out, err),
-        None => run_once(alloc, words, out, err),
+    match words_after(words, "filter") {
+        Some(rest) => filter(alloc, rest, ignore_case, input, out, err),
+        None => run_once(alloc, words, ignore_case, out, err),
     }
 }
 
@@ -101,13 +102,14 @@ pub fn run<In: BufRead, Out: Write, Err: Write>(
 fn run_once<Out: Write, Err: Write>(
     alloc: Global,
     words: &[String],
+    ignore_case: bool,
     out: &mut Out,
     err: &mut Err,
 ) -> u8
     ensures status { (result ≡ DONE) ⊎ (result ≡ NO_MATCH) ⊎ (result ≡ FAILED) }
-    ensures answers { result ≢ FAILED → Prints (words_view words.now) result (Out.contents out.old) (Out.contents out.new) }
+    ensures answers { result ≢ FAILED → Prints ignore_case (words_view words.now) result (Out.contents out.old) (Out.contents out.new) }
     ensures quiet { result ≢ FAILED → (err.new ≡ err.old) ⊎ HasRefusedInput (words_view words.now) }
-    ensures fails { result ≡ FAILED → FailsWhere (words_view words.now) (out.new ≡ out.old) ⊎ AreAnswered (words_view words.now) }
+    ensures fails { result ≡ FAILED → FailsWhere ignore_case (words_view words.now) (out.new ≡ out.old) ⊎ AreAnswered ignore_case (words_view words.now) }
 {
     if let Some(text) = help_of(words) {
         return match print(text.as_bytes(), out) {
@@ -115,7 +117,7 @@ fn run_once<Out: Write, Err: Write>(
             Err(_) => FAILED,
         };
     }
-    match answer(alloc, words) {
+    match answer(alloc, words, ignore_case) {
         Ok(answer) => match note_beside(alloc, words, answer.status) {
             Ok(note) => match print(answer.text.as_bytes(), out) {
                 Ok(()) => {
@@ -197,30 +199,35 @@ fn report<Err: Write>(failure: &Failure, err: &mut Err) -> io::Result<()>
 }
 
 /// What the words ask for.
-fn answer(alloc: Global, words: &[String]) -> Result<Printed, Failure>
-    ensures answers { IfOk result (λ answer. IsCommandAnswer (words_view words.now) (string_bytes answer.text) answer.status) }
-    ensures fails { IfErr result (IsFailure (words_view words.now)) }
+fn answer(alloc: Global, words: &[String], ignore_case: bool) -> Result<Printed, Failure>
+    ensures answers { IfOk result (λ answer. IsCommandAnswer ignore_case (words_view words.now) (string_bytes answer.text) answer.status) }
+    ensures fails { IfErr result (IsFailure ignore_case (words_view words.now)) }
 {
     let [command, rest @ ..] = words else {
         return Err(Failure::Usage);
     };
     match command.as_str() {
         "component" => component_answer(alloc, rest),
-        "match" => match_answer(alloc, rest),
-        "first" => first_answer(alloc, rest),
-        pattern => short_answer(alloc, pattern, rest),
+        "match" => match_answer(alloc, rest, ignore_case),
+        "first" => first_answer(alloc, rest, ignore_case),
+        pattern => short_answer(alloc, pattern, rest, ignore_case),
     }
 }
 
 /// What a pattern and the words after it ask for.
-fn short_answer(alloc: Global, pattern: &str, words: &[String]) -> Result<Printed, Failure>
-    ensures answers { IfOk result (λ answer. IsShortAnswer pattern.now (words_view words.now) (string_bytes answer.text) answer.status) }
-    ensures fails { IfErr result (IsShortFailure pattern.now (words_view words.now)) }
+fn short_answer(
+    alloc: Global,
+    pattern: &str,
+    words: &[String],
+    ignore_case: bool,
+) -> Result<Printed, Failure>
+    ensures answers { IfOk result (λ answer. IsShortAnswer ignore_case pattern.now (words_view words.now) (string_bytes answer.text) answer.status) }
+    ensures fails { IfErr result (IsShortFailure ignore_case pattern.now (words_view words.now)) }
 {
     let [input] = words else {
         return Err(Failure::Usage);
     };
-    let lines = matched_groups(alloc, pattern, NO_BASE, input)?;
+    let lines = matched_groups(alloc, pattern, NO_BASE, ignore_case, input)?;
     Ok(answer_of(alloc, lines)?)
 }
 
@@ -239,21 +246,21 @@ fn component_answer(alloc: Global, words: &[String]) -> Result<Printed, Failure>
 }
 
 /// What the words after `match` ask for.
-fn match_answer(alloc: Global, words: &[String]) -> Result<Printed, Failure>
-    ensures answers { IfOk result (λ answer. IsMatchAnswer (words_view words.now) (string_bytes answer.text) answer.status) }
-    ensures fails { IfErr result (IsMatchFailure (words_view words.now)) }
+fn match_answer(alloc: Global, words: &[String], ignore_case: bool) -> Result<Printed, Failure>
+    ensures answers { IfOk result (λ answer. IsMatchAnswer ignore_case (words_view words.now) (string_bytes answer.text) answer.status) }
+    ensures fails { IfErr result (IsMatchFailure ignore_case (words_view words.now)) }
 {
     let [pattern, base, input] = words else {
         return Err(Failure::Usage);
     };
-    let lines = matched_groups(alloc, pattern, base, input)?;
+    let lines = matched_groups(alloc, pattern, base, ignore_case, input)?;
     Ok(answer_of(alloc, lines)?)
 }
 
 /// What the words after `first` ask for.
-fn first_answer(alloc: Global, words: &[String]) -> Result<Printed, Failure>
-    ensures answers { IfOk result (λ answer. IsFirstAnswer (words_view words.now) (string_bytes answer.text) answer.status) }
-    ensures fails { IfErr result (IsFirstFailure (words_view words.now)) }
+fn first_answer(alloc: Global, words: &[String], ignore_case: bool) -> Result<Printed, Failure>
+    ensures answers { IfOk result (λ answer. IsFirstAnswer ignore_case (words_view words.now) (string_bytes answer.text) answer.status) }
+    ensures fails { IfErr result (IsFirstFailure ignore_case (words_view words.now)) }
 {
     let [base, input, patterns @ ..] = words else {
         return Err(Failure::Usage);
@@ -261,7 +268,7 @@ fn first_answer(alloc: Global, words: &[String]) -> Result<Printed, Failure>
     if patterns.is_empty() {
         return Err(Failure::Usage);
     }
-    let lines = first_groups(alloc, base, input, patterns)?;
+    let lines = first_groups(alloc, base, ignore_case, input, patterns)?;
     Ok(answer_of(alloc, lines)?)
 }
 
@@ -287,7 +294,7 @@ fn component(alloc: Global, kind: &str, pattern: &str) -> Result<String, Failure
         return Err(Failure::Usage);
     };
     let unchanged = |text: &str| -> Result<String, Error>
-        ensures { IsCopy text.now result }
+        ensures { CopiesBytes text.now result }
     { Ok(String::from_str(alloc, text)?) };
     let parts = parse_pattern_string(alloc, pattern, &options, unchanged)?;
     let (regexp, names) = generate_regular_expression_and_name_list(alloc, &parts, &options)?;

@@ -1,14 +1,15 @@
 //! The command `filter`: the lines of a reader whose URLs match a pattern.
 
-ghost use Rattle.std.specs.Prelude.{◌≡◌, ◌≢◌, ◌⊎◌, ◌++◌, option_copied, OnOk};
-ghost use Rattle.urlpat_commands.specs.Answers.{IsUnmatchedBy, words_view};
-ghost use Rattle.urlpat_commands.specs.FilterLines.{FiltersLines, IsCapturedBy, captures_of};
-ghost use Rattle.urlpat_filter.specs.Filters.{group_text};
+ghost use Rattle.std.specs.Prelude.{◌≡◌, ◌≢◌, ◌⊎◌, ◌++◌, OnOk};
+ghost use Rattle.urlpat_commands.specs.Answers.{IsUnmatchedUnder, kept_base, words_view};
+ghost use Rattle.urlpat_commands.specs.FilterLines.{FiltersLines, IsCapturedBy, bytes_captured};
+ghost use Rattle.urlpat_filter.specs.Filters.{shape_text};
 ghost use Rattle.urlpattern.specs.BorrowedMatches.{pattern_captures_view};
 ghost use Rattle.urlpattern.specs.Patterns.{pattern_view};
 
+use crate::base::{BaseUrl, base_url, url_under};
 use crate::command::{DONE, FAILED, NO_MATCH};
-use crate::matching::{base_of, capture_of, compiled, url_of};
+use crate::matching::{base_of, capture_of, compiled};
 use crate::notes::write_refusal;
 use std::alloc::{AllocError, Global};
 use std::io::{BufRead, Write};
@@ -18,41 +19,48 @@ use urlpattern::regexp::PatternRegexp;
 use urlpattern::{UrlPattern, UrlPatternCaptures};
 
 /// The usage of `filter`.
-const FILTER_USAGE: &str =
-    "usage: urlpat filter PATTERN BASE [--not] [--count] [--group COMPONENT.NAME]\n";
+const FILTER_USAGE: &str = "\
+usage: urlpat filter PATTERN BASE [--not] [--count] [--group COMPONENT.NAME]
+       add --ignore-case for patterns that ignore case
+";
 
 /// A pattern that matches the URLs of lines, under a base URL.
 #[derive(Drop)]
 struct UrlLines<'a> {
     alloc: Global,
     pattern: &'a UrlPattern<PatternRegexp>,
-    base: Option<&'a str>,
+    base: &'a BaseUrl,
 }
 
 /// Does what the words after `filter` ask for, and gives the status to end with.
 pub fn filter<In: BufRead, Out: Write, Err: Write>(
     alloc: Global,
     words: &[String],
+    ignore_case: bool,
     input: &mut In,
     out: &mut Out,
     err: &mut Err,
 ) -> u8
     ensures status { (result ≡ DONE) ⊎ (result ≡ NO_MATCH) ⊎ (result ≡ FAILED) }
-    ensures answers { result ≢ FAILED → FiltersLines (words_view words.now) result (In.remaining input.old) (Out.contents out.old) (Out.contents out.new) }
+    ensures answers { result ≢ FAILED → FiltersLines ignore_case (words_view words.now) result (In.remaining input.old) (Out.contents out.old) (Out.contents out.new) }
 {
     let Some(query) = query_of(words) else {
         let _ = err.write_all(FILTER_USAGE.as_bytes());
         return FAILED;
     };
     let base = base_of(query.base);
-    let pattern = match compiled(alloc, query.pattern, base) {
+    let pattern = match compiled(alloc, query.pattern, base, ignore_case) {
         Ok(pattern) => pattern,
+        Err(error) => return write_refusal(alloc, query.pattern, base, error, err),
+    };
+    let kept = match base_url(alloc, base) {
+        Ok(kept) => kept,
         Err(error) => return write_refusal(alloc, query.pattern, base, error, err),
     };
     let matcher = UrlLines {
         alloc,
         pattern: &pattern,
-        base,
+        base: &kept,
     };
     let found = filter_lines(alloc, query, &matcher, input, out, err);
     drop(pattern);
@@ -64,9 +72,9 @@ pub fn filter<In: BufRead, Out: Write, Err: Write>(
 }
 
 impl LineMatcher for UrlLines<'_> {
-    ghost Matches = { λ lines text capture. IsCapturedBy (pattern_view lines.pattern.now) (option_copied lines.base) text capture };
+    ghost Matches = { λ lines text capture. IsCapturedBy (pattern_view lines.pattern.now) (kept_base lines.base.now) text capture };
 
-    ghost Differs = { λ lines text. IsUnmatchedBy (pattern_view lines.pattern.now) text (option_copied lines.base) };
+    ghost Differs = { λ lines text. IsUnmatchedUnder (pattern_view lines.pattern.now) text (kept_base lines.base.now) };
 
     fn outcome(
         &self,
@@ -74,7 +82,7 @@ impl LineMatcher for UrlLines<'_> {
         shape: Shape<'_>,
         written: &mut Vec<u8>,
     ) -> Result<Outcome, AllocError> {
-        let Ok(found) = url_of(self.alloc, self.base, text) else {
+        let Ok(found) = url_under(self.alloc, self.base, text) else {
             return Err(AllocError);
         };
         let Some(url) = found else {
@@ -99,7 +107,7 @@ fn push_capture(
     shape: Shape<'_>,
     written: &mut Vec<u8>,
 ) -> Result<(), AllocError>
-    ensures { OnOk result (written.new.items ≡ written.old.items ++ group_text shape.entry (captures_of (pattern_captures_view found.now))) }
+    ensures { OnOk result (written.new.items ≡ written.old.items ++ shape_text shape.entry (bytes_captured (pattern_captures_view found.now))) }
 {
     match shape {
         Shape::Group(component, name) => match capture_of(found, component, name) {

@@ -17,14 +17,15 @@ use urlpattern::{Error, UrlPatternList};
 pub fn first_groups(
     alloc: Global,
     base: &str,
+    ignore_case: bool,
     input: &str,
     patterns: &[String],
 ) -> Result<Option<String>, Error>
-    ensures found { IfOk result (FindsFirst (words_view patterns.now) input.now (base_of base.now)) }
-    ensures refused { IfErr result (MemoryOr (RefusesOneOf (words_view patterns.now) (base_of base.now))) }
+    ensures found { IfOk result (FindsFirst ignore_case (words_view patterns.now) input.now (base_of base.now)) }
+    ensures refused { IfErr result (MemoryOr (RefusesOneOf ignore_case (words_view patterns.now) (base_of base.now))) }
 {
     let base = base_of(base);
-    let list = compiled_list(alloc, patterns, base)?;
+    let list = compiled_list(alloc, patterns, base, ignore_case)?;
     let answer = groups_of_first(alloc, &list, base, input);
     drop(list);
     Ok(answer?)
@@ -37,13 +38,14 @@ fn compiled_list(
     alloc: Global,
     patterns: &[String],
     base: Option<&str>,
+    ignore_case: bool,
 ) -> Result<UrlPatternList<PatternRegexp>, Error>
-    ensures compiled { IfOk result (λ list. ArePatternsOf (words_view patterns.now) (option_copied base.entry) (patterns_view list)) }
-    ensures refused { IfErr result (MemoryOr (RefusesOneOf (words_view patterns.now) (option_copied base.entry))) }
+    ensures compiled { IfOk result (λ list. ArePatternsOf ignore_case (words_view patterns.now) (option_copied base.entry) (patterns_view list)) }
+    ensures refused { IfErr result (MemoryOr (RefusesOneOf ignore_case (words_view patterns.now) (option_copied base.entry))) }
 {
     let mut list = UrlPatternList::new(alloc);
     for pattern in patterns {
-        let pattern = compiled(alloc, pattern, base)?;
+        let pattern = compiled(alloc, pattern, base, ignore_case)?;
         if let Err(refused) = list.push(pattern) {
             drop(refused);
             return Err(Error::OutOfMemory);

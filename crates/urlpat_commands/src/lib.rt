@@ -2,12 +2,14 @@
 //! it, and prints what the groups capture, or it shows what the pattern of one component is compiled to.
 #![tactic(auto)]
 
+mod base;
 mod command;
 mod filter;
 mod first;
 mod matching;
 mod notes;
 
+pub use base::{BaseUrl, base_url, url_under};
 pub use command::{DONE, FAILED, Failure, NO_MATCH, fail, print, run};
 pub use matching::{base_of, compiled, push_match, url_of};
 pub use notes::{note_of, write_refusal};

@@ -1,7 +1,7 @@
 //! The command `match`: what the groups of a pattern capture of a URL.
 
 ghost use Rattle.std.specs.Map.{keys_of};
-ghost use Rattle.std.specs.Prelude.{◌≡◌, ◌++◌, ℕ, List, map, option_copied, string_bytes, IfErr, IfOk, OnOk};
+ghost use Rattle.std.specs.Prelude.{◌≡◌, ◌++◌, ◌∷◌, [], ℕ, List, map, option_copied, string_bytes, IfErr, IfOk, IfSome, OnOk};
 ghost use Rattle.std.specs.Str.{chars};
 ghost use Rattle.urlpat_commands.specs.Answers.{AreGroupLines, AreLines, AreNames, FindsMatch, FindsMatchBy, FindsUrl, GetsLines, IsPatternOf, RefusesPatternOf, base_of, group_bytes, all_named_results};
 ghost use Rattle.urlpat_commands.specs.Report.{group_line};
@@ -14,6 +14,7 @@ ghost use Rattle.urlpattern.specs.Text.{text_of};
 use std::alloc::{AllocError, Global};
 use std::borrow::CowStr;
 use url::Url;
+use urlpattern::parser::RegexSyntax;
 use urlpattern::quirks::{StringOrInit, process_match_input};
 use urlpattern::regexp::PatternRegexp;
 use urlpattern::{
@@ -30,13 +31,14 @@ pub fn matched_groups(
     alloc: Global,
     pattern: &str,
     base: &str,
+    ignore_case: bool,
     input: &str,
 ) -> Result<Option<String>, Error>
-    ensures found { IfOk result (FindsMatch pattern.now input.now (base_of base.now)) }
-    ensures refused { IfErr result (MemoryOr (RefusesPatternOf pattern.now (base_of base.now))) }
+    ensures found { IfOk result (FindsMatch ignore_case pattern.now input.now (base_of base.now)) }
+    ensures refused { IfErr result (MemoryOr (RefusesPatternOf ignore_case pattern.now (base_of base.now))) }
 {
     let base = base_of(base);
-    let pattern = compiled(alloc, pattern, base)?;
+    let pattern = compiled(alloc, pattern, base, ignore_case)?;
     let answer = groups_of_match(alloc, &pattern, base, input);
     drop(pattern);
     Ok(answer?)
@@ -49,18 +51,23 @@ pub fn base_of(word: &str) -> Option<&str>
     if word == NO_BASE { None } else { Some(word) }
 }
 
-/// The pattern of a constructor string, over an engine that is made for patterns.
+/// The pattern of a constructor string, which ignores case or not, over an engine that is made for patterns.
 ///
 /// The error is why the pattern or its base is refused, or that memory ran out.
 pub fn compiled(
     alloc: Global,
     pattern: &str,
     base: Option<&str>,
+    ignore_case: bool,
 ) -> Result<UrlPattern<PatternRegexp>, Error>
-    ensures compiled { IfOk result (λ compiled. IsPatternOf pattern.now (option_copied base.entry) (pattern_view compiled)) }
-    ensures refused { IfErr result (MemoryOr (RefusesPatternOf pattern.now (option_copied base.entry))) }
+    ensures compiled { IfOk result (λ compiled. IsPatternOf ignore_case pattern.now (option_copied base.entry) (pattern_view compiled)) }
+    ensures refused { IfErr result (MemoryOr (RefusesPatternOf ignore_case pattern.now (option_copied base.entry))) }
 {
-    UrlPattern::from_constructor_string(alloc, pattern, base, UrlPatternOptions::default())
+    let options = UrlPatternOptions {
+        regex_syntax: RegexSyntax::Rust,
+        ignore_case,
+    };
+    UrlPattern::from_constructor_string(alloc, pattern, base, options)
 }
 
 /// A line for each group of the match of an input. `None`: the input is not matched.
@@ -124,6 +131,36 @@ pub fn push_match(
 
 /// Appends a line for each group of a component, in the order of the bytes of their names.
 fn push_groups(
+    alloc: Global,
+    text: &mut String,
+    found: &UrlPatternCaptures<'_, '_>,
+    name: ComponentName,
+) -> Result<(), AllocError>
+    ensures { OnOk result (GetsLines (AreGroupLines (name_text name) (pattern_captures_view found.now name)) text.old text.new) }
+{
+    match only_group(found, name) {
+        Some(group) => {
+            push_group(text, name.as_str(), group, capture_of(found, name, group))?;
+            Ok(())
+        }
+        None => push_sorted_groups(alloc, text, found, name),
+    }
+}
+
+/// The name of the group of a component that has one alone.
+fn only_group<'p>(found: &UrlPatternCaptures<'p, '_>, name: ComponentName) -> Option<&'p str>
+    ensures { IfSome result (λ group. keys_of (groups_view found.now name) ≡ chars group.now ∷ []) }
+{
+    let mut groups = found.groups(name);
+    let (group, _) = groups.next()?;
+    match groups.next() {
+        Some(_) => None,
+        None => Some(group),
+    }
+}
+
+/// Appends a line for each group of a component, in the order of the bytes of their names, which are sorted.
+fn push_sorted_groups(
     alloc: Global,
     text: &mut String,
     found: &UrlPatternCaptures<'_, '_>,

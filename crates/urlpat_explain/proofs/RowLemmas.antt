@@ -7,7 +7,7 @@ use Rattle.std.specs.List.{flat_map}
 use Rattle.std.specs.Prelude.{Option, None, Some, String}
 use Rattle.std.specs.Str.{IsUtf8, chars}
 use Rattle.std.specs.declared.alloc.Global.{Global}
-use Rattle.urlpat_explain.specs.Rows.{ArePieces, group_cell}
+use Rattle.urlpat_explain.specs.Rows.{HasPieceForEach, group_cell}
 use Rattle.urlpattern_eight.specs.declared.eight.ComponentName.{ComponentName}
 use Rattle.urlpattern_eight.specs.declared.eight.ComponentName.TheVariants.{Protocol}
 use Rattle.urlpattern_matches.specs.GroupTexts.{texts_of}
@@ -16,7 +16,7 @@ use Rattle.urlpattern_syntax.specs.Text.{option_text, text_of}
 -- ---- pieces for components
 
 pieces-last : (IsPiece : ComponentName → List ℕ → Type 0) (names : List ComponentName) (name : ComponentName) (text piece : List ℕ)
-    → ArePieces IsPiece names text → IsPiece name piece → ArePieces IsPiece (names ++ name ∷ []) (text ++ piece)
+    → HasPieceForEach IsPiece names text → IsPiece name piece → HasPieceForEach IsPiece (names ++ name ∷ []) (text ++ piece)
 pieces-last IsPiece [] name text piece none is = (piece, [], ap (λ before. before ++ piece) none ∙ sym (append-nil piece), is, refl)
 pieces-last IsPiece (first ∷ names) name text piece (own, others, split, is_first, rest) is = (
   own,
@@ -28,13 +28,13 @@ pieces-last IsPiece (first ∷ names) name text piece (own, others, split, is_fi
 
 -- the piece for the next component goes after those for the components before it
 pub pieces-more : (IsPiece : ComponentName → List ℕ → Type 0) (names : List ComponentName) (n : ℕ) (text next piece : List ℕ) → n < length names
-    → ArePieces IsPiece (take n names) text → next ≡ text ++ piece → IsPiece (get_or names n Protocol) piece → ArePieces IsPiece (take (n + 1) names) next
+    → HasPieceForEach IsPiece (take n names) text → next ≡ text ++ piece → IsPiece (get_or names n Protocol) piece → HasPieceForEach IsPiece (take (n + 1) names) next
 pieces-more IsPiece names n text next piece within are goes is =
     let name = get_or names n Protocol in
     let more : n + 1 ≡ suc n = omega arith in
     let taken : take (n + 1) names ≡ take n names ++ name ∷ [] = ap (λ count. take count names) more ∙ take-suc names n Protocol within in
-    subst (λ (ns : List ComponentName). ArePieces IsPiece ns next) (sym taken)
-    (subst (λ (t : List ℕ). ArePieces IsPiece (take n names ++ name ∷ []) t) (sym goes) (pieces-last IsPiece (take n names) name text piece are is))
+    subst (λ (ns : List ComponentName). HasPieceForEach IsPiece ns next) (sym taken)
+    (subst (λ (t : List ℕ). HasPieceForEach IsPiece (take n names ++ name ∷ []) t) (sym goes) (pieces-last IsPiece (take n names) name text piece are is))
 
 joined : (old name pattern text verdict end : List ℕ) → ((((old ++ name) ++ pattern) ++ text) ++ verdict) ++ end ≡ old ++ ((((name ++ pattern) ++ text) ++ verdict) ++ end)
 joined old name pattern text verdict end = simp append_assoc

@@ -1,5 +1,5 @@
 -- What `explain` answers to its words. Words and texts are bytes.
-use Rattle.std.specs.Prelude.{◌≡◌, ◌⊎◌, ℕ, Bool, List, [], ◌∷◌, ◌++◌, codes, Option, None, Some}
+use Rattle.std.specs.Prelude.{◌≡◌, ◌⊎◌, ℕ, Bool, List, [], ◌∷◌, ◌++◌, Option, None, Some}
 use Rattle.std.specs.Io.KnownBytes.{Appends}
 use Rattle.url.specs.Parts.{Parts}
 use Rattle.urlpat_commands.specs.Answers.{IsPatternOf, IsRefusedText, IsUrlOf, base_of}
@@ -15,15 +15,11 @@ use Rattle.urlpattern_pattern.specs.Patterns.{PatternView}
 
 -- ---- words
 
--- the words are `explain` and these
-abbrev pub AreExplainWords : (words rest : List (List ℕ)) → Type 0
-AreExplainWords words rest = words ≡ codes "explain" ∷ rest
-
 -- the words after `explain` ask for this pattern, with the base URL that a word stands for, and this input, if there is one
-abbrev pub AskFor : (words : List (List ℕ)) → (pattern : List ℕ) → (base input : Option (List ℕ)) → Type 0
-AskFor (first ∷ word ∷ []) pattern base input = (pattern ≡ first) × (base ≡ base_of word) × (input ≡ None)
-AskFor (first ∷ word ∷ last ∷ []) pattern base input = (pattern ≡ first) × (base ≡ base_of word) × (input ≡ Some last)
-AskFor words pattern base input = ⊥
+abbrev pub AskToExplain : (words : List (List ℕ)) → (pattern : List ℕ) → (base input : Option (List ℕ)) → Type 0
+AskToExplain (first ∷ word ∷ []) pattern base input = (pattern ≡ first) × (base ≡ base_of word) × (input ≡ None)
+AskToExplain (first ∷ word ∷ last ∷ []) pattern base input = (pattern ≡ first) × (base ≡ base_of word) × (input ≡ Some last)
+AskToExplain words pattern base input = ⊥
 
 -- ---- explanations
 
@@ -39,13 +35,13 @@ IsTable pattern base (Some input) table status =
     ⊎ ((url : Parts) × IsUrlOf input base url × IsMatchTable pattern (texts_of_url url) table × IsMatchStatus pattern url status)
 
 -- the lines for the components of the pattern that the constructor string is compiled to, and after them the notes on it
-abbrev pub IsExplained : (pattern : List ℕ) → (base input : Option (List ℕ)) → (text : List ℕ) → (status : ℕ) → Type 0
-IsExplained pattern base input text status =
-    (compiled : PatternView PatternRegexp) × IsPatternOf pattern base compiled
+abbrev pub IsExplained : (ignores : Bool) → (pattern : List ℕ) → (base input : Option (List ℕ)) → (text : List ℕ) → (status : ℕ) → Type 0
+IsExplained ignores pattern base input text status =
+    (compiled : PatternView PatternRegexp) × IsPatternOf ignores pattern base compiled
     × (table notes : List ℕ) × IsTable compiled base input table status × AreNotesOf pattern base notes × (text ≡ table ++ notes)
 
 -- what is printed for the words after `explain`, with this status
-abbrev pub Explains : (words : List (List ℕ)) → (status : ℕ) → (old new : Option (List ℕ)) → Type 0
-Explains words status old new =
-    (pattern : List ℕ) × (base input : Option (List ℕ)) × AskFor words pattern base input
-    × (text : List ℕ) × IsExplained pattern base input text status × Appends old new text
+abbrev pub Explains : (ignores : Bool) → (words : List (List ℕ)) → (status : ℕ) → (old new : Option (List ℕ)) → Type 0
+Explains ignores words status old new =
+    (pattern : List ℕ) × (base input : Option (List ℕ)) × AskToExplain words pattern base input
+    × (text : List ℕ) × IsExplained ignores pattern base input text status × Appends old new text

@@ -71,10 +71,10 @@ IsMatchRow pattern texts name row =
     (verdict : List ℕ) × IsVerdict (pattern name) (at texts name) verdict × (row ≡ front_cells pattern texts name ++ verdict ++ codes "\n")
 
 -- the text has a piece for each component, one after the other
-abbrev pub ArePieces : (IsPiece : ComponentName → List ℕ → Type 0) → List ComponentName → (text : List ℕ) → Type 0
-ArePieces IsPiece [] text = text ≡ []
-ArePieces IsPiece (name ∷ names) text =
-    (first others : List ℕ) × (text ≡ first ++ others) × IsPiece name first × ArePieces IsPiece names others
+abbrev pub HasPieceForEach : (IsPiece : ComponentName → List ℕ → Type 0) → List ComponentName → (text : List ℕ) → Type 0
+HasPieceForEach IsPiece [] text = text ≡ []
+HasPieceForEach IsPiece (name ∷ names) text =
+    (first others : List ℕ) × (text ≡ first ++ others) × IsPiece name first × HasPieceForEach IsPiece names others
 
 abbrev pub IsMatchTable : PatternView PatternRegexp → Texts → (table : List ℕ) → Type 0
-IsMatchTable pattern texts table = ArePieces (IsMatchRow pattern texts) components table
+IsMatchTable pattern texts table = HasPieceForEach (IsMatchRow pattern texts) components table

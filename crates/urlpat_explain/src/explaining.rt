@@ -1,8 +1,8 @@
 //! The command `explain`: a line for each component of a pattern, and notes on what the pattern leaves out.
 
-ghost use Rattle.std.specs.Prelude.{◌≡◌, ◌≢◌, ◌⊎◌, option_copied, string_bytes, IfOk, IfSome};
+ghost use Rattle.std.specs.Prelude.{◌≡◌, ◌≢◌, ◌⊎◌, length, option_copied, string_bytes, IfNone, IfOk, IfSome};
 ghost use Rattle.urlpat_commands.specs.FilterLines.{status_of};
-ghost use Rattle.urlpat_explain.specs.Explanations.{AreExplainWords, AskFor, Explains, IsExplained, IsTable};
+ghost use Rattle.urlpat_explain.specs.Explanations.{AskToExplain, Explains, IsExplained, IsTable};
 ghost use Rattle.urlpat_words.specs.Words.{words_view};
 ghost use Rattle.urlpattern_pattern.specs.Patterns.{pattern_view};
 
@@ -13,12 +13,14 @@ use std::io::Write;
 use urlpat_commands::{
     DONE, FAILED, Failure, NO_MATCH, base_of, compiled, fail, note_of, print, url_of, write_refusal,
 };
-use urlpat_words::asks_for_help;
 use urlpattern::regexp::PatternRegexp;
 use urlpattern::{Error, UrlPattern, url_texts};
 
 /// The usage of `explain`.
-const EXPLAIN_USAGE: &str = "usage: urlpat explain PATTERN BASE [INPUT]\n";
+const EXPLAIN_USAGE: &str = "\
+usage: urlpat explain PATTERN BASE [INPUT]
+       add --ignore-case for patterns that ignore case
+";
 
 /// An explanation, and the status to end with: whether the pattern matches the input, if there is one.
 #[derive(Drop)]
@@ -27,36 +29,23 @@ struct Explanation {
     status: u8,
 }
 
-/// The words after `explain`. `None`: the first word is another, or they ask for help.
-pub fn explain_words(words: &[String]) -> Option<&[String]>
-    ensures { IfSome result (λ rest. AreExplainWords (words_view words.now) (words_view rest.now)) }
-{
-    let [command, rest @ ..] = words else {
-        return None;
-    };
-    if command.as_str() == "explain" && !asks_for_help(rest) {
-        Some(rest)
-    } else {
-        None
-    }
-}
-
 /// Prints what the words after `explain` ask for, and gives the status to end with: 1 if the pattern does not match the input. That the
 /// input is no URL is reported to `err`.
 pub fn explain<Out: Write, Err: Write>(
     alloc: Global,
     words: &[String],
+    ignore_case: bool,
     out: &mut Out,
     err: &mut Err,
 ) -> u8
     ensures status { (result ≡ DONE) ⊎ (result ≡ NO_MATCH) ⊎ (result ≡ FAILED) }
-    ensures answers { result ≢ FAILED → Explains (words_view words.now) result (Out.contents out.old) (Out.contents out.new) }
+    ensures answers { result ≢ FAILED → Explains ignore_case (words_view words.now) result (Out.contents out.old) (Out.contents out.new) }
 {
     let Some((pattern, base, input)) = asked_by(words) else {
         let _ = err.write_all(EXPLAIN_USAGE.as_bytes());
         return FAILED;
     };
-    let found = match explained(alloc, pattern, base, input) {
+    let found = match explained(alloc, pattern, base, ignore_case, input) {
         Ok(found) => found,
         Err(error) => return write_refusal(alloc, pattern, base, error, err),
     };
@@ -77,7 +66,8 @@ pub fn explain<Out: Write, Err: Write>(
 
 /// The pattern, the base URL and the input that words ask for. `None`: they are other words.
 fn asked_by(words: &[String]) -> Option<(&str, Option<&str>, Option<&str>)>
-    ensures { IfSome result (λ asked. AskFor (words_view words.now) asked.0.now (option_copied asked.1) (option_copied asked.2)) }
+    ensures asked { IfSome result (λ asked. AskToExplain (words_view words.now) asked.0.now (option_copied asked.1) (option_copied asked.2)) }
+    ensures other { IfNone result ((length words.now ≢ 2) × (length words.now ≢ 3)) }
 {
     match words {
         [pattern, base] => Some((pattern.as_str(), base_of(base), None)),
@@ -107,12 +97,13 @@ fn explained(
     alloc: Global,
     pattern: &str,
     base: Option<&str>,
+    ignore_case: bool,
     input: Option<&str>,
 ) -> Result<Explanation, Error>
-    ensures text { IfOk result (λ found. IsExplained pattern.now (option_copied base.entry) (option_copied input.entry) (string_bytes found.text) found.status) }
+    ensures text { IfOk result (λ found. IsExplained ignore_case pattern.now (option_copied base.entry) (option_copied input.entry) (string_bytes found.text) found.status) }
     ensures status { IfOk result (λ found. (found.status ≡ DONE) ⊎ (found.status ≡ NO_MATCH)) }
 {
-    let whole = compiled(alloc, pattern, base)?;
+    let whole = compiled(alloc, pattern, base, ignore_case)?;
     let table = table_of(alloc, &whole, base, input);
     drop(whole);
     let mut found = table?;

@@ -5,4 +5,4 @@ mod explaining;
 mod notes;
 mod table;
 
-pub use explaining::{explain, explain_words};
+pub use explaining::explain;

@@ -15,15 +15,15 @@ abbrev pub Captured : Type 0
 Captured = ComponentName → (name : List ℕ) → Option (List ℕ)
 
 -- what is printed of a group: what it captured, or nothing
-abbrev pub captured_text : Option (List ℕ) → List ℕ
-captured_text None = []
-captured_text (Some capture) = capture
+abbrev pub capture_or_nothing : Option (List ℕ) → List ℕ
+capture_or_nothing None = []
+capture_or_nothing (Some capture) = capture
 
 -- what a group captured, if the shape has one
-abbrev pub group_text : Shape → Captured → List ℕ
-group_text shapes.Line capture = []
-group_text shapes.Count capture = []
-group_text (shapes.Group component name) capture = captured_text (capture component name.now)
+abbrev pub shape_text : Shape → Captured → List ℕ
+shape_text shapes.Line capture = []
+shape_text shapes.Count capture = []
+shape_text (shapes.Group component name) capture = capture_or_nothing (capture component name.now)
 
 -- what goes after it
 abbrev pub rest_text : Shape → (line : List ℕ) → List ℕ
@@ -44,7 +44,7 @@ asked_shape false shape = shape
 
 -- what a text is, and what is appended of it
 abbrev pub IsOutcome : (Matches : Captured → Type 0) → (Differs : Type 0) → Shape → (old new : List ℕ) → Outcome → Type 0
-IsOutcome Matches Differs shape old new outcomes.Match = (capture : Captured) × Matches capture × (new ≡ old ++ group_text shape capture)
+IsOutcome Matches Differs shape old new outcomes.Match = (capture : Captured) × Matches capture × (new ≡ old ++ shape_text shape capture)
 IsOutcome Matches Differs shape old new outcomes.NoMatch = Differs × (new ≡ old)
 IsOutcome Matches Differs shape old new outcomes.NoUrl = Differs × (new ≡ old)
 
@@ -62,7 +62,7 @@ AnswersUnmatched false shape line verdict written = (selected_by verdict ≡ 0) 
 abbrev pub FilterAnswers : (Matches : (text : List ℕ) → Captured → Type 0) → (Differs : (text : List ℕ) → Type 0) → (inverted : Bool) → Shape
     → (text line : List ℕ) → Verdict → (written : List ℕ) → Type 0
 FilterAnswers Matches Differs inverted shape text line verdict written =
-    ((capture : Captured) × Matches text capture × (rest : List ℕ) × (written ≡ group_text (asked_shape inverted shape) capture ++ rest) × AnswersMatched inverted shape line verdict rest)
+    ((capture : Captured) × Matches text capture × (rest : List ℕ) × (written ≡ shape_text (asked_shape inverted shape) capture ++ rest) × AnswersMatched inverted shape line verdict rest)
     ⊎ (Differs text × AnswersUnmatched inverted shape line verdict written)
 
 -- a piece of which this holds goes after what is there

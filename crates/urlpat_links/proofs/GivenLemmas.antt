@@ -7,7 +7,7 @@ use Rattle.std.specs.List.{AllZip, before_first, list_any}
 use Rattle.std.specs.Prelude.{◌||◌, Any}
 use Rattle.std.specs.Str.{IsUtf8, chars}
 use Rattle.std.specs.declared.alloc.Global.{Global}
-use Rattle.urlpat_links.specs.Given.{AreGiven, Given, GivesGroup, GivesNothing, IsGroupNamed, NamesNone, is_equals_sign}
+use Rattle.urlpat_links.specs.Given.{AreGiven, Given, GivesGroup, GivesNothing, IsGroupNamed, NamesNoGroup, is_equals_sign}
 use Rattle.urlpat_words.specs.Words.{words_view}
 use Rattle.urlpattern_matches.proofs.GroupLemmas.{chars-test}
 use Rattle.urlpattern_pattern.specs.Patterns.{PatternView}
@@ -53,5 +53,5 @@ module _ {E : Type 0} (pattern : PatternView E) where
   )
 
   -- a word whose name names nothing gives nothing
-  pub unnamed : (word name : List ℕ) → name ≡ before_first is_equals_sign word → NamesNone pattern name → GivesNothing pattern word
+  pub unnamed : (word name : List ℕ) → name ≡ before_first is_equals_sign word → NamesNoGroup pattern name → GivesNothing pattern word
   unnamed word name is none = λ given gives. none given.0 given.1.now (subst (λ (n : List ℕ). IsGroupNamed pattern n given.0 given.1.now) (sym is) gives.1)

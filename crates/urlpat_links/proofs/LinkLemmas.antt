@@ -1,5 +1,5 @@
 -- Lemmas on what `link` answers.
-use Rattle.std.proofs.Common.{◌≡◌, ◌≢◌, ℕ, List, ◌∷◌, ◌++◌, codes, subst, sym, String, string_bytes}
+use Rattle.std.proofs.Common.{◌≡◌, ◌≢◌, ℕ, false, List, ◌∷◌, ◌++◌, codes, subst, sym, String, string_bytes}
 use Rattle.std.specs.Io.KnownBytes.{Appends}
 use Rattle.std.specs.Prelude.{Option}
 use Rattle.std.specs.declared.alloc.Global.{Global}
@@ -13,12 +13,12 @@ use Rattle.urlpattern_engine.specs.declared.pattern_regexp.PatternRegexp.{Patter
 use Rattle.urlpattern_pattern.specs.Patterns.{PatternView}
 
 module _ (words : List (String Global)) (pattern base : String Global) (given : List (String Global)) (view : PatternView PatternRegexp) (text : List ℕ) (base_text : Option (List ℕ))
-    (are : words ≡ pattern ∷ base ∷ given) (is_text : text ≡ string_bytes pattern) (is_base : base_text ≡ base_of (string_bytes base)) (is : IsPatternOf text base_text view) where
+    (are : words ≡ pattern ∷ base ∷ given) (is_text : text ≡ string_bytes pattern) (is_base : base_text ≡ base_of (string_bytes base)) (is : IsPatternOf false text base_text view) where
   -- what is said of the pattern among the words
   said : (Is : PatternView PatternRegexp → List (List ℕ) → Type 0) → Is view (words_view given) → OfPattern Is (words_view words)
   said Is holds =
       subst (λ (ws : List (String Global)). OfPattern Is (words_view ws)) (sym are)
-      (view, subst (λ (b : Option (List ℕ)). IsPatternOf (string_bytes pattern) b view) is_base (subst (λ (t : List ℕ). IsPatternOf t base_text view) is_text is), holds)
+      (view, subst (λ (b : Option (List ℕ)). IsPatternOf false (string_bytes pattern) b view) is_base (subst (λ (t : List ℕ). IsPatternOf false t base_text view) is_text is), holds)
 
   pub writes : (url : Parts) (old new : Option (List ℕ)) → IsLinkBy view (words_view given) url → Appends old new (serialize url ++ codes "\n") → WritesLink (words_view words) old new
   writes url old new linked appends =

@@ -47,8 +47,8 @@ IsGroupNamed pattern word component name =
     (HasSuch is_dot word × (before_first is_dot word ≡ name_text component) × (name ≡ after_first is_dot word))
     ⊎ (LacksSuch is_dot word × IsOnlyOwner pattern (chars word) component × (name ≡ word))
 
-abbrev pub NamesNone : {E : Type 0} → PatternView E → (word : List ℕ) → Type 0
-NamesNone pattern word = (component : ComponentName) (name : List ℕ) → ¬ IsGroupNamed pattern word component name
+abbrev pub NamesNoGroup : {E : Type 0} → PatternView E → (word : List ℕ) → Type 0
+NamesNoGroup pattern word = (component : ComponentName) (name : List ℕ) → ¬ IsGroupNamed pattern word component name
 
 -- ---- words
 

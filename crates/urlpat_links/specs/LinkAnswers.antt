@@ -1,5 +1,5 @@
 -- What `link` answers to its words. Words and texts are bytes.
-use Rattle.std.specs.Prelude.{◌≡◌, ◌≢◌, ◌++◌, ℕ, Any, List, ◌∷◌, codes, Option}
+use Rattle.std.specs.Prelude.{◌≢◌, ◌++◌, ℕ, false, Any, List, ◌∷◌, codes, Option}
 use Rattle.std.specs.Io.KnownBytes.{Appends}
 use Rattle.url.specs.Parts.{Parts, serialize}
 use Rattle.urlpat_commands.specs.Answers.{IsPatternOf, base_of}
@@ -32,7 +32,7 @@ IsUnlinked pattern words unlinked.OutOfMemory = Unit {0}
 
 -- this is said of the pattern among the words after `link`, and of the words after its base
 abbrev pub OfPattern : (Is : PatternView PatternRegexp → List (List ℕ) → Type 0) → (words : List (List ℕ)) → Type 0
-OfPattern Is (pattern ∷ base ∷ words) = (compiled : PatternView PatternRegexp) × IsPatternOf pattern (base_of base) compiled × Is compiled words
+OfPattern Is (pattern ∷ base ∷ words) = (compiled : PatternView PatternRegexp) × IsPatternOf false pattern (base_of base) compiled × Is compiled words
 OfPattern Is words = ⊥
 
 -- the URL is written, and a line end
@@ -42,7 +42,3 @@ WritesLink words old new = OfPattern (λ pattern given. (url : Parts) × IsLinkB
 -- there is no URL
 abbrev pub HasNoLink : (words : List (List ℕ)) → Type 0
 HasNoLink words = OfPattern (λ pattern given. (reason : Unlinked) × (reason ≢ unlinked.OutOfMemory) × IsUnlinked pattern given reason) words
-
--- the words are `link` and these
-abbrev pub AreLinkWords : (words rest : List (List ℕ)) → Type 0
-AreLinkWords words rest = words ≡ codes "link" ∷ rest

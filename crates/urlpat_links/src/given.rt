@@ -3,7 +3,7 @@
 ghost use Rattle.std.specs.Prelude.{◌≡◌, IfErr, IfNone, IfOk, IfSome, bytes_eq, string_bytes};
 ghost use Rattle.std.specs.List.{list_any};
 ghost use Rattle.std.specs.Str.{chars};
-ghost use Rattle.urlpat_links.specs.Given.{AreGiven, GivesNothing, IsOnlyOwner, GivesGroup, IsNobodys, IsGroupNamed, NamesNone, RefusesWords};
+ghost use Rattle.urlpat_links.specs.Given.{AreGiven, GivesNothing, IsOnlyOwner, GivesGroup, IsNobodys, IsGroupNamed, NamesNoGroup, RefusesWords};
 ghost use Rattle.urlpat_links.specs.declared.given.Misgiven.TheVariants as all_misgiven;
 ghost use Rattle.urlpat_words.specs.Words.{words_view};
 ghost use Rattle.urlpattern_core.specs.Components.{component_view};
@@ -72,7 +72,7 @@ fn named_group<'w>(
     name: &'w str,
 ) -> Option<(ComponentName, &'w str)>
     ensures named { IfSome result (λ group. IsGroupNamed (pattern_view pattern.now) name.now group.0 group.1.now) }
-    ensures nothing { IfNone result (NamesNone (pattern_view pattern.now) name.now) }
+    ensures nothing { IfNone result (NamesNoGroup (pattern_view pattern.now) name.now) }
 {
     match name.split_once('.') {
         Some((component, group)) => Some((ComponentName::from_name(component)?, group)),

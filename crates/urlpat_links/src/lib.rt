@@ -5,4 +5,4 @@ mod given;
 mod linking;
 mod reason;
 
-pub use linking::{link, link_words};
+pub use linking::link;

@@ -1,9 +1,9 @@
 //! The command `link`: the URL of a pattern whose groups capture what the words give.
 
-ghost use Rattle.std.specs.Prelude.{◌≡◌, ◌≢◌, ◌⊎◌, ◌++◌, codes, IfErr, IfOk, IfSome, OnOk};
+ghost use Rattle.std.specs.Prelude.{◌≡◌, ◌≢◌, ◌⊎◌, ◌++◌, codes, IfErr, IfOk, OnOk};
 ghost use Rattle.std.specs.Io.KnownBytes.{Appends};
 ghost use Rattle.url.specs.Parts.{serialize};
-ghost use Rattle.urlpat_links.specs.LinkAnswers.{AreLinkWords, HasNoLink, IsLinkBy, IsUnlinked, WritesLink};
+ghost use Rattle.urlpat_links.specs.LinkAnswers.{HasNoLink, IsLinkBy, IsUnlinked, WritesLink};
 ghost use Rattle.urlpat_links.specs.declared.linking.Unlinked.TheVariants as all_unlinked;
 ghost use Rattle.urlpat_words.specs.Words.{words_view};
 ghost use Rattle.urlpattern_pattern.specs.Patterns.{pattern_view};
@@ -15,7 +15,6 @@ use std::io;
 use std::io::Write;
 use url::Url;
 use urlpat_commands::{DONE, FAILED, NO_MATCH, base_of, compiled, write_refusal};
-use urlpat_words::asks_for_help;
 use urlpattern::regexp::PatternRegexp;
 use urlpattern::{NoLink, UrlPattern};
 
@@ -31,20 +30,6 @@ pub enum Unlinked<'w> {
     NoLink(NoLink),
     /// The allocator had no memory.
     OutOfMemory,
-}
-
-/// The words after `link`. `None`: the first word is another, or they ask for help.
-pub fn link_words(words: &[String]) -> Option<&[String]>
-    ensures { IfSome result (λ rest. AreLinkWords (words_view words.now) (words_view rest.now)) }
-{
-    let [command, rest @ ..] = words else {
-        return None;
-    };
-    if command.as_str() == "link" && !asks_for_help(rest) {
-        Some(rest)
-    } else {
-        None
-    }
 }
 
 /// Prints the URL that the words after `link` ask for, and gives the status to end with: 1 if there is none, which is reported to
@@ -64,7 +49,7 @@ pub fn link<Out: Write, Err: Write>(
         return FAILED;
     };
     let base = base_of(base_word);
-    let pattern = match compiled(alloc, pattern_word, base) {
+    let pattern = match compiled(alloc, pattern_word, base, false) {
         Ok(pattern) => pattern,
         Err(error) => return write_refusal(alloc, pattern_word, base, error, err),
     };

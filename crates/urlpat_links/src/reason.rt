@@ -12,11 +12,17 @@ pub(crate) fn write_reason<Err: Write>(reason: &Unlinked<'_>, err: &mut Err) -> 
             err,
             "`{word}` gives nothing: write COMPONENT.NAME=VALUE, or NAME=VALUE where one component alone has that group"
         ),
-        Unlinked::NoLink(NoLink::Component(GenerateError::Missing(component, name))) => writeln!(
-            err,
-            "the group `{component}.{name}` is missing: give {component}.{name}=VALUE"
-        ),
-        Unlinked::NoLink(error) => writeln!(err, "{error}"),
+        Unlinked::NoLink(error) => write_refusal(error, err),
         Unlinked::OutOfMemory => err.write_all(b"out of memory\n"),
+    }
+}
+
+/// Writes why there is no URL, and what to give for a group that is missing.
+fn write_refusal<Err: Write>(refusal: &NoLink, err: &mut Err) -> io::Result<()> {
+    match refusal {
+        NoLink::Component(GenerateError::Missing(component, name)) => {
+            writeln!(err, "{refusal}: give {component}.{name}=VALUE")
+        }
+        _ => writeln!(err, "{refusal}"),
     }
 }

@@ -6,7 +6,7 @@ use Rattle.std.proofs.lemmas.List.Elements.{All-push}
 use Rattle.std.specs.List.{flat_map}
 use Rattle.std.specs.Map.{values_of}
 use Rattle.std.specs.Prelude.{IfSome, Option, None, Some}
-use Rattle.urlpat_commands.specs.Answers.{IsPatternOf}
+use Rattle.urlpat_commands.specs.Answers.{BaseView, IsPatternOf, base_view}
 use Rattle.urlpat_commands.specs.FilterLines.{status_of}
 use Rattle.urlpat_filter.specs.Filters.{FiltersText}
 use Rattle.urlpat_rules.specs.Routes.{AreRoutesOf, IsAnswered, Routes, RoutesBy, bare_lines, cell_text, row_text}
@@ -19,26 +19,26 @@ use Rattle.urlpattern_engine.specs.declared.pattern_regexp.PatternRegexp.{Patter
 
 -- ---- patterns one after the other
 
-pub routes-none : (base : Option (List ℕ)) (routes : Routes) → routes ≡ [] → AreRoutesOf base [] routes
-routes-none base routes are =
-    subst (λ (rs : Routes). AreRoutesOf base [] rs) (sym are) (refl, λ k d less. absurd (omega (arith, less)))
+pub routes-none : (ignores : Bool) (base : Option (List ℕ)) (routes : Routes) → routes ≡ [] → AreRoutesOf ignores base [] routes
+routes-none ignores base routes are =
+    subst (λ (rs : Routes). AreRoutesOf ignores base [] rs) (sym are) (refl, λ k d less. absurd (omega (arith, less)))
 
 -- the next entry with its pattern goes after those before it
-pub routes-more : (base : Option (List ℕ)) (entries : List Entry) (index : ℕ) (none : Entry) (routes next : Routes) (pattern : UrlPattern PatternRegexp)
-    → index < length entries → next ≡ routes ++ (pattern, get_or entries index none) ∷ [] → AreRoutesOf base (entries_view (take index entries)) routes
-    → IsPatternOf (get_or entries index none).pattern.now base (pattern_view pattern) → AreRoutesOf base (entries_view (take (index + 1) entries)) next
-routes-more base entries index none routes next pattern within is_next (same, are) is =
+pub routes-more : (ignores : Bool) (base : Option (List ℕ)) (entries : List Entry) (index : ℕ) (none : Entry) (routes next : Routes) (pattern : UrlPattern PatternRegexp)
+    → index < length entries → next ≡ routes ++ (pattern, get_or entries index none) ∷ [] → AreRoutesOf ignores base (entries_view (take index entries)) routes
+    → IsPatternOf ignores (get_or entries index none).pattern.now base (pattern_view pattern) → AreRoutesOf ignores base (entries_view (take (index + 1) entries)) next
+routes-more ignores base entries index none routes next pattern within is_next (same, are) is =
     let entry = get_or entries index none in
     let last : UrlPattern PatternRegexp × Entry = (pattern, entry) in
     let taken : take (index + 1) entries ≡ take index entries ++ entry ∷ [] = (take_at_read entries index none within).1 in
     let views : entries_view (take (index + 1) entries) ≡ entries_view (take index entries) ++ entry_view entry ∷ [] = ap entries_view taken ∙ map-append entry_view (take index entries) (entry ∷ []) in
     let values : entries_view (values_of (routes ++ last ∷ [])) ≡ entries_view (values_of routes) ++ entry_view entry ∷ [] =
     ap entries_view (map-append (λ (route : UrlPattern PatternRegexp × Entry). route.1) routes (last ∷ [])) ∙ map-append entry_view (values_of routes) (entry ∷ []) in
-    let more : AreRoutesOf base (entries_view (take (index + 1) entries)) (routes ++ last ∷ []) = (
+    let more : AreRoutesOf ignores base (entries_view (take (index + 1) entries)) (routes ++ last ∷ []) = (
       values ∙ ap (λ (es : List EntryView). es ++ entry_view entry ∷ []) same ∙ sym views,
-      All-push (λ (route : UrlPattern PatternRegexp × Entry). IsPatternOf route.1.pattern.now base (pattern_view route.0)) routes last are is,
+      All-push (λ (route : UrlPattern PatternRegexp × Entry). IsPatternOf ignores route.1.pattern.now base (pattern_view route.0)) routes last are is,
     ) in
-    subst (λ (rs : Routes). AreRoutesOf base (entries_view (take (index + 1) entries)) rs) (sym is_next) more
+    subst (λ (rs : Routes). AreRoutesOf ignores base (entries_view (take (index + 1) entries)) rs) (sym is_next) more
 
 -- ---- rows
 
@@ -68,10 +68,10 @@ row-of entry text old headed celled new head cells end =
 -- ---- what is printed
 
 -- what is answered by the entries of a table is answered by the table
-pub routes-by : (table : List ℕ) (base : Option (List ℕ)) (items shown : List Entry) (routes : Routes) (input old new : Option (List ℕ)) (any : Bool) (status : ℕ)
-    → entries_view items ≡ table_entries table → shown ≡ items → AreRoutesOf base (entries_view shown) routes → status ≡ status_of any
-    → IfSome input (λ text. FiltersText (IsAnswered routes base) Line text any old new) → RoutesBy table base status input old new
-routes-by table base items shown routes None old new any status are same is ends found =
-    (routes, subst (λ (es : List EntryView). AreRoutesOf base es routes) (ap entries_view same ∙ are) is, tt)
-routes-by table base items shown routes (Some text) old new any status are same is ends found =
-    (routes, subst (λ (es : List EntryView). AreRoutesOf base es routes) (ap entries_view same ∙ are) is, (any, ends, found))
+pub routes-by : (ignores : Bool) (table : List ℕ) (base : Option (List ℕ)) (kept : BaseView) (items shown : List Entry) (routes : Routes) (input old new : Option (List ℕ)) (any : Bool) (status : ℕ)
+    → entries_view items ≡ table_entries table → shown ≡ items → AreRoutesOf ignores base (entries_view shown) routes → kept ≡ base_view base → status ≡ status_of any
+    → IfSome input (λ text. FiltersText (IsAnswered routes kept) Line text any old new) → RoutesBy ignores table base status input old new
+routes-by ignores table base kept items shown routes None old new any status are same is read ends found =
+    (routes, subst (λ (es : List EntryView). AreRoutesOf ignores base es routes) (ap entries_view same ∙ are) is, tt)
+routes-by ignores table base kept items shown routes (Some text) old new any status are same is read ends found =
+    (routes, subst (λ (es : List EntryView). AreRoutesOf ignores base es routes) (ap entries_view same ∙ are) is, (any, ends, subst (λ b. FiltersText (IsAnswered routes b) Line text any old new) read found))

@@ -1,5 +1,5 @@
 -- Whether a pattern covers another, and what is printed of it. Words and texts are bytes.
-use Rattle.std.specs.Prelude.{◌≡◌, ℕ, List, [], ◌∷◌, ◌++◌, codes, Option, None, String, string_bytes}
+use Rattle.std.specs.Prelude.{◌≡◌, ℕ, false, List, [], ◌∷◌, ◌++◌, codes, Option, None, String, string_bytes}
 use Rattle.std.specs.List.{flat_map}
 use Rattle.std.specs.Io.KnownBytes.{Appends}
 use Rattle.std.specs.declared.alloc.Global.{Global}
@@ -21,7 +21,7 @@ use Rattle.urlpattern_rules.specs.declared.pattern.PatternCovering.TheVariants.{
 
 -- the parts are those of the pattern that the constructor string with this base URL is compiled to
 abbrev pub ArePartsOf : (text : List ℕ) → (base : Option (List ℕ)) → PatternParts → Type 0
-ArePartsOf text base parts = (compiled : PatternView PatternRegexp) × IsPatternOf text base compiled × ArePartsBy pattern_engine compiled parts
+ArePartsOf text base parts = (compiled : PatternView PatternRegexp) × IsPatternOf false text base compiled × ArePartsBy pattern_engine compiled parts
 
 -- the same of an init
 abbrev pub ArePartsOfInit : UrlPatternInit → PatternParts → Type 0

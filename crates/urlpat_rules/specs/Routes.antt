@@ -6,7 +6,7 @@ use Rattle.std.specs.Map.{values_of}
 use Rattle.std.specs.declared.alloc.Global.{Global}
 use Rattle.bstr.specs.Text.{lines_of, without_terminator}
 use Rattle.url.specs.Parts.{Parts}
-use Rattle.urlpat_commands.specs.Answers.{AreLines, IsPatternOf, IsUnmatchedByAll, IsUrlOf, all_named_results, words_view}
+use Rattle.urlpat_commands.specs.Answers.{AreLines, BaseView, IsPatternOf, IsUnmatchedByAllUnder, IsUrlUnder, all_named_results, base_view, words_view}
 use Rattle.urlpat_commands.specs.FilterLines.{status_of}
 use Rattle.urlpat_commands.specs.declared.command.TheConstants.{FAILED}
 use Rattle.urlpat_filter.specs.Filters.{FiltersText}
@@ -32,9 +32,9 @@ abbrev pub Routes : Type 0
 Routes = List (UrlPattern PatternRegexp × Entry)
 
 -- they have these entries, and each is what the text of its entry is compiled to under the base URL
-abbrev pub AreRoutesOf : (base : Option (List ℕ)) → List EntryView → Routes → Type 0
-AreRoutesOf base entries routes =
-    (entries_view (values_of routes) ≡ entries) × All (λ route. IsPatternOf route.1.pattern.now base (pattern_view route.0)) routes
+abbrev pub AreRoutesOf : (ignores : Bool) → (base : Option (List ℕ)) → List EntryView → Routes → Type 0
+AreRoutesOf ignores base entries routes =
+    (entries_view (values_of routes) ≡ entries) × All (λ route. IsPatternOf ignores route.1.pattern.now base (pattern_view route.0)) routes
 
 -- ---- what is printed
 
@@ -51,48 +51,48 @@ abbrev pub row_text : EntryView → (text : List ℕ) → List ℕ
 row_text entry text = decimal entry.number ++ codes "\t" ++ entry.name ++ flat_map cell_text (bare_lines text) ++ codes "\n"
 
 -- the row of an entry has what `match` prints for each group
-abbrev pub IsRow : EntryView → (ComponentName → ResultView) → (row : List ℕ) → Type 0
-IsRow entry result row = (text : List ℕ) × AreLines (all_named_results result) text × (row ≡ row_text entry text)
+abbrev pub IsRouteRow : EntryView → (ComponentName → ResultView) → (row : List ℕ) → Type 0
+IsRouteRow entry result row = (text : List ℕ) × AreLines (all_named_results result) text × (row ≡ row_text entry text)
 
 -- ---- answers
 
 -- A pattern is the first that matches the text, a URL under this base URL, and the row is that of its entry.
-pub record IsRouted (routes : Routes) (base : Option (List ℕ)) (text row : List ℕ) : Type 0 where
+pub record IsRouted (routes : Routes) (base : BaseView) (text row : List ℕ) : Type 0 where
   pub url : Parts
   pub index : ℕ
   pub result : ComponentName → ResultView
   pub entry : Entry
-  pub is_url : IsUrlOf text base url
+  pub is_url : IsUrlUnder text base url
   pub is_first : IsFirstMatch pattern_answer (entry_patterns routes) (match_inputs.Url url) (Some (index, result))
   pub is_there : slice_get (values_of routes) index ≡ Some entry
-  pub is_row : IsRow (entry_view entry) result row
+  pub is_row : IsRouteRow (entry_view entry) result row
 
 -- a line is answered by such a row, or by a mark where no pattern matches it
-abbrev pub IsAnswered : Routes → (base : Option (List ℕ)) → (text line : List ℕ) → Verdict → (written : List ℕ) → Type 0
+abbrev pub IsAnswered : Routes → BaseView → (text line : List ℕ) → Verdict → (written : List ℕ) → Type 0
 IsAnswered routes base text line verdict written =
     (IsRouted routes base text written × (verdict ≡ Selected))
-    ⊎ (IsUnmatchedByAll (entry_patterns routes) text base × (written ≡ codes "-\n") × (selected_by verdict ≡ 0))
+    ⊎ (IsUnmatchedByAllUnder (entry_patterns routes) text base × (written ≡ codes "-\n") × (selected_by verdict ≡ 0))
 
 -- the lines of a text have such answers, which are written, and the status is 1 if no pattern matches one
-abbrev pub RoutesText : Routes → (base : Option (List ℕ)) → (text : List ℕ) → (status : ℕ) → (old new : Option (List ℕ)) → Type 0
+abbrev pub RoutesText : Routes → BaseView → (text : List ℕ) → (status : ℕ) → (old new : Option (List ℕ)) → Type 0
 RoutesText routes base text status old new =
     (any : Bool) × (status ≡ status_of any) × FiltersText (IsAnswered routes base) Line text any old new
 
 -- what the reader has, if that is known, is answered by the patterns of a table
-abbrev pub RoutesBy : (table : List ℕ) → (base : Option (List ℕ)) → (status : ℕ) → (input old new : Option (List ℕ)) → Type 0
-RoutesBy table base status input old new =
-    (routes : Routes) × AreRoutesOf base (table_entries table) routes × IfSome input (λ text. RoutesText routes base text status old new)
+abbrev pub RoutesBy : (ignores : Bool) → (table : List ℕ) → (base : Option (List ℕ)) → (status : ℕ) → (input old new : Option (List ℕ)) → Type 0
+RoutesBy ignores table base status input old new =
+    (routes : Routes) × AreRoutesOf ignores base (table_entries table) routes × IfSome input (λ text. RoutesText routes (base_view base) text status old new)
 
 -- the words after `route` are answered, where files have these tables
-abbrev pub RoutesLines : (Has : (name table : List ℕ) → Type 0) → (words : List (List ℕ)) → (status : ℕ) → (input old new : Option (List ℕ)) → Type 0
-RoutesLines Has words status input old new =
+abbrev pub RoutesLines : (ignores : Bool) → (Has : (name table : List ℕ) → Type 0) → (words : List (List ℕ)) → (status : ℕ) → (input old new : Option (List ℕ)) → Type 0
+RoutesLines ignores Has words status input old new =
     (name : List ℕ) × (base : Option (List ℕ)) × NameTable words name base
-    × (table : List ℕ) × Has name table × RoutesBy table base status input old new
+    × (table : List ℕ) × Has name table × RoutesBy ignores table base status input old new
 
 -- ---- unless the run failed
 
-abbrev pub RoutesTable : (table : List ℕ) → (base : Option (Bor (List ℕ))) → (status : ℕ) → (input old new : Option (List ℕ)) → Type 0
-RoutesTable table base status input old new = status ≢ FAILED → RoutesBy table (option_copied base) status input old new
+abbrev pub RoutesTable : (ignores : Bool) → (table : List ℕ) → (base : Option (Bor (List ℕ))) → (status : ℕ) → (input old new : Option (List ℕ)) → Type 0
+RoutesTable ignores table base status input old new = status ≢ FAILED → RoutesBy ignores table (option_copied base) status input old new
 
-abbrev pub RoutesFile : (Has : (name table : List ℕ) → Type 0) → (words : List (String Global)) → (status : ℕ) → (input old new : Option (List ℕ)) → Type 0
-RoutesFile Has words status input old new = status ≢ FAILED → RoutesLines Has (words_view words) status input old new
+abbrev pub RoutesFile : (ignores : Bool) → (Has : (name table : List ℕ) → Type 0) → (words : List (String Global)) → (status : ℕ) → (input old new : Option (List ℕ)) → Type 0
+RoutesFile ignores Has words status input old new = status ≢ FAILED → RoutesLines ignores Has (words_view words) status input old new

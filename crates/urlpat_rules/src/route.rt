@@ -1,6 +1,7 @@
 //! The command `route`: the first pattern of a table that matches the URL of each line.
 
 ghost use Rattle.std.specs.Prelude.{◌≡◌, ◌⊎◌, option_copied, IfSome};
+ghost use Rattle.urlpat_commands.specs.Answers.{kept_base};
 ghost use Rattle.urlpat_rules.specs.Routes.{AreRoutesOf, IsAnswered, RoutesFile, RoutesTable};
 ghost use Rattle.urlpat_tables.specs.Tables.{entries_view};
 
@@ -8,7 +9,9 @@ use crate::row::push_row;
 use crate::tables::{Tables, read_entries, read_table, report_refused, table_words};
 use std::alloc::{AllocError, Global};
 use std::io::{BufRead, Write};
-use urlpat_commands::{DONE, FAILED, NO_MATCH, compiled, url_of};
+use urlpat_commands::{
+    BaseUrl, DONE, FAILED, Failure, NO_MATCH, base_url, compiled, fail, url_under,
+};
 use urlpat_filter::write_answers;
 use urlpat_lines::{Rule, Verdict};
 use urlpat_tables::Entry;
@@ -17,7 +20,10 @@ use urlpattern::UrlPatternMap;
 use urlpattern::regexp::PatternRegexp;
 
 /// The usage of `route`.
-const ROUTE_USAGE: &str = "usage: urlpat route FILE [BASE]\n";
+const ROUTE_USAGE: &str = "\
+usage: urlpat route FILE [BASE]
+       add --ignore-case for patterns that ignore case
+";
 
 /// The answer to a line that no pattern matches.
 const UNMATCHED: &str = "-\n";
@@ -27,7 +33,7 @@ const UNMATCHED: &str = "-\n";
 struct Router<'a, 't> {
     alloc: Global,
     routes: &'a UrlPatternMap<Entry<'t>, PatternRegexp>,
-    base: Option<&'a str>,
+    base: &'a BaseUrl,
 }
 
 /// Does what the words after `route` ask for, and gives the status to end with.
@@ -35,12 +41,13 @@ pub fn route<T: Tables, In: BufRead, Out: Write, Err: Write>(
     alloc: Global,
     tables: &T,
     words: &[String],
+    ignore_case: bool,
     input: &mut In,
     out: &mut Out,
     err: &mut Err,
 ) -> u8
     ensures status { (result ≡ DONE) ⊎ (result ≡ NO_MATCH) ⊎ (result ≡ FAILED) }
-    ensures answers { RoutesFile (T.Has tables.now) words.now result (In.remaining input.old) (Out.contents out.old) (Out.contents out.new) }
+    ensures answers { RoutesFile ignore_case (T.Has tables.now) words.now result (In.remaining input.old) (Out.contents out.old) (Out.contents out.new) }
 {
     let Some((name, base)) = table_words(words) else {
         let _ = err.write_all(ROUTE_USAGE.as_bytes());
@@ -49,7 +56,7 @@ pub fn route<T: Tables, In: BufRead, Out: Write, Err: Write>(
     let Some(table) = read_table(tables, name, err) else {
         return FAILED;
     };
-    let status = route_by(alloc, &table, base, input, out, err);
+    let status = route_by(alloc, &table, base, ignore_case, input, out, err);
     drop(table);
     status
 }
@@ -59,23 +66,28 @@ fn route_by<In: BufRead, Out: Write, Err: Write>(
     alloc: Global,
     table: &[u8],
     base: Option<&str>,
+    ignore_case: bool,
     input: &mut In,
     out: &mut Out,
     err: &mut Err,
 ) -> u8
     ensures status { (result ≡ DONE) ⊎ (result ≡ NO_MATCH) ⊎ (result ≡ FAILED) }
-    ensures answers { RoutesTable table.now base.entry result (In.remaining input.old) (Out.contents out.old) (Out.contents out.new) }
+    ensures answers { RoutesTable ignore_case table.now base.entry result (In.remaining input.old) (Out.contents out.old) (Out.contents out.new) }
 {
     let Some(entries) = read_entries(alloc, table, err) else {
         return FAILED;
     };
-    let Some(routes) = routes_of(alloc, &entries, base, err) else {
+    let Some(routes) = routes_of(alloc, &entries, base, ignore_case, err) else {
         return FAILED;
+    };
+    let kept = match base_url(alloc, base) {
+        Ok(kept) => kept,
+        Err(error) => return fail(&Failure::from(error), err),
     };
     let router = Router {
         alloc,
         routes: &routes,
-        base,
+        base: &kept,
     };
     let found = write_answers(alloc, &router, Shape::Line, input, out, err);
     drop(routes);
@@ -91,13 +103,14 @@ fn routes_of<'t, Err: Write>(
     alloc: Global,
     entries: &[Entry<'t>],
     base: Option<&str>,
+    ignore_case: bool,
     err: &mut Err,
 ) -> Option<UrlPatternMap<Entry<'t>, PatternRegexp>>
-    ensures { IfSome result (AreRoutesOf (option_copied base.entry) (entries_view entries.now)) }
+    ensures { IfSome result (AreRoutesOf ignore_case (option_copied base.entry) (entries_view entries.now)) }
 {
     let mut routes = UrlPatternMap::new(alloc);
     for entry in entries {
-        let pattern = match compiled(alloc, entry.pattern, base) {
+        let pattern = match compiled(alloc, entry.pattern, base, ignore_case) {
             Ok(pattern) => pattern,
             Err(error) => {
                 report_refused(alloc, entry, base, error, err);
@@ -113,7 +126,7 @@ fn routes_of<'t, Err: Write>(
 }
 
 impl Rule for Router<'_, '_> {
-    ghost Answers = { λ router. IsAnswered router.routes.now (option_copied router.base) };
+    ghost Answers = { λ router. IsAnswered router.routes.now (kept_base router.base.now) };
 
     fn answer(
         &self,
@@ -121,7 +134,7 @@ impl Rule for Router<'_, '_> {
         _line: &[u8],
         written: &mut Vec<u8>,
     ) -> Result<Verdict, AllocError> {
-        let Ok(found) = url_of(self.alloc, self.base, text) else {
+        let Ok(found) = url_under(self.alloc, self.base, text) else {
             return Err(AllocError);
         };
         let Some(url) = found else {

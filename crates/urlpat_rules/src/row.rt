@@ -3,7 +3,7 @@
 ghost use Rattle.std.specs.List.{flat_map};
 ghost use Rattle.std.specs.Prelude.{◌≡◌, ◌++◌, OnOk};
 ghost use Rattle.urlpat_filter.specs.Filters.{GetsPiece};
-ghost use Rattle.urlpat_rules.specs.Routes.{IsRow, bare_lines, cell_text};
+ghost use Rattle.urlpat_rules.specs.Routes.{IsRouteRow, bare_lines, cell_text};
 ghost use Rattle.urlpat_tables.specs.Tables.{entry_view};
 ghost use Rattle.urlpattern.specs.BorrowedMatches.{pattern_captures_view};
 
@@ -13,6 +13,9 @@ use urlpat_commands::push_match;
 use urlpat_tables::Entry;
 use urlpattern::UrlPatternCaptures;
 
+/// How many bytes the groups of a row usually have at most.
+const USUAL: usize = 256;
+
 /// Appends the row of an entry whose pattern matches: its number, its name and each group, with tabs between.
 pub fn push_row(
     alloc: Global,
@@ -20,9 +23,9 @@ pub fn push_row(
     found: &UrlPatternCaptures<'_, '_>,
     row: &mut Vec<u8>,
 ) -> Result<(), AllocError>
-    ensures { OnOk result (GetsPiece (IsRow (entry_view entry.now) (pattern_captures_view found.now)) row.old.items row.new.items) }
+    ensures { OnOk result (GetsPiece (IsRouteRow (entry_view entry.now) (pattern_captures_view found.now)) row.old.items row.new.items) }
 {
-    let mut groups = String::new(alloc);
+    let mut groups = String::with_capacity(alloc, USUAL)?;
     push_match(alloc, &mut groups, found)?;
     let number = entry.number;
     let name = entry.name;

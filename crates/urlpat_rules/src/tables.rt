@@ -1,6 +1,6 @@
 //! Tables of patterns, read from files.
 
-ghost use Rattle.std.specs.Prelude.{◌≡◌, ℕ, List, option_copied, IfOk, IfSome};
+ghost use Rattle.std.specs.Prelude.{◌≡◌, ◌≢◌, ℕ, List, length, option_copied, IfNone, IfOk, IfSome};
 ghost use Rattle.urlpat_commands.specs.Answers.{words_view};
 ghost use Rattle.urlpat_rules.specs.TableWords.{NameTable};
 ghost use Rattle.urlpat_tables.specs.Tables.{entries_view, table_entries};
@@ -23,7 +23,8 @@ pub trait Tables {
 
 /// The file that words name, and the base URL, if there is one. `None`: they are other words.
 pub fn table_words(words: &[String]) -> Option<(&str, Option<&str>)>
-    ensures { IfSome result (λ asked. NameTable (words_view words.now) asked.0.now (option_copied asked.1)) }
+    ensures asked { IfSome result (λ asked. NameTable (words_view words.now) asked.0.now (option_copied asked.1)) }
+    ensures other { IfNone result ((length words.now ≢ 1) × (length words.now ≢ 2)) }
 {
     match words {
         [name] => Some((name.as_str(), None)),

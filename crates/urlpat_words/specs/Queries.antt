@@ -23,18 +23,14 @@ IsAskedByTwo first second asked =
     ⊎ ((first ≡ codes "--group") × NamesGroup second asked)
 
 -- the words after the base ask whether lines that do not match are looked for, and for what is printed of a line
-abbrev pub IsAskedBy : (words : List (List ℕ)) → Bool × Shape → Type 0
-IsAskedBy [] asked = asked ≡ (false, shapes.Line)
-IsAskedBy (flag ∷ []) asked = IsAskedByOne flag asked
-IsAskedBy (first ∷ second ∷ []) asked = IsAskedByTwo first second asked
-IsAskedBy (first ∷ second ∷ third ∷ words) asked = ⊥
+abbrev pub IsAskedByFlags : (words : List (List ℕ)) → Bool × Shape → Type 0
+IsAskedByFlags [] asked = asked ≡ (false, shapes.Line)
+IsAskedByFlags (flag ∷ []) asked = IsAskedByOne flag asked
+IsAskedByFlags (first ∷ second ∷ []) asked = IsAskedByTwo first second asked
+IsAskedByFlags (first ∷ second ∷ third ∷ words) asked = ⊥
 
 -- the words after `filter` ask for this
 abbrev pub IsQueryOf : (words : List (List ℕ)) → Query → Type 0
 IsQueryOf (pattern ∷ base ∷ flags) query =
-    (query.pattern.now ≡ pattern) × (query.base.now ≡ base) × IsAskedBy flags (query.inverted, query.shape)
+    (query.pattern.now ≡ pattern) × (query.base.now ≡ base) × IsAskedByFlags flags (query.inverted, query.shape)
 IsQueryOf words query = ⊥
-
--- the words are `filter` and these
-abbrev pub AreFilterWords : (words rest : List (List ℕ)) → Type 0
-AreFilterWords words rest = words ≡ codes "filter" ∷ rest

@@ -1,8 +1,8 @@
 //! What `--help` and `--version` print.
 
-ghost use Rattle.std.specs.Prelude.{IfSome, IsTrue};
+ghost use Rattle.std.specs.Prelude.{IfSome, IsFalse, IsTrue};
+ghost use Rattle.urlpat_words.specs.Help.{AskForHelp, IsCommandHelp, IsHelp, IsHelpBy, IsHelpOn, IsHelpWord};
 ghost use Rattle.urlpat_words.specs.Words.{words_view};
-ghost use Rattle.urlpat_words.specs.Help.{AskForHelp, IsCommandHelp, IsHelp, IsHelpOn, IsProgramHelp};
 
 /// The help on the program.
 const HELP: &str = "\
@@ -30,8 +30,8 @@ usage: urlpat PATTERN URL
   unreachable  finds the patterns of a table that one before them covers
   component    shows what the pattern of one component is compiled to
 
-BASE is a URL for the pattern and the input, or - for none.
-`urlpat COMMAND --help` says more of a command.
+BASE is a URL for the pattern and the input, or - for none. With --ignore-case, which may stand anywhere, the patterns of match, first,
+filter, route and explain ignore case. `urlpat COMMAND --help` says more of a command.
 
 example: urlpat 'https://example.com/users/:id' https://example.com/users/7
 ";
@@ -58,7 +58,7 @@ match, prints `no match` and ends with status 1.
 
 usage: urlpat match PATTERN BASE INPUT
 
-BASE is a URL for the pattern and the input, or - for none.
+BASE is a URL for the pattern and the input, or - for none. With --ignore-case the pattern ignores case.
 
 example: urlpat match /users/:id https://example.com/ /users/7
 ";
@@ -70,7 +70,7 @@ Prints `match` and the index of the first pattern that matches a URL, from 0 on,
 
 usage: urlpat first BASE INPUT PATTERN..
 
-BASE is a URL for the patterns and the input, or - for none.
+BASE is a URL for the patterns and the input, or - for none. With --ignore-case the patterns ignore case.
 
 example: urlpat first https://example.com/ /users/7 /about /users/:id
 ";
@@ -85,9 +85,10 @@ usage: urlpat filter PATTERN BASE
        urlpat filter PATTERN BASE --not --count
        urlpat filter PATTERN BASE --group COMPONENT.NAME
 
-  --not    prints the lines that do not match
-  --count  prints how many there are, and no line
-  --group  prints what a group captured, in place of the line
+  --not          prints the lines that do not match
+  --count        prints how many there are, and no line
+  --group        prints what a group captured, in place of the line
+  --ignore-case  may be added to each: the pattern ignores case
 
 BASE is a URL for the pattern and the lines, or - for none. A line that is no URL does not match.
 
@@ -103,7 +104,8 @@ matches. Ends with status 1 if none matches any line.
 usage: urlpat route FILE [BASE]
 
 The file has a pattern a line, and its name after a tab, if it has one. A line that is empty or begins with # is skipped. BASE is a
-URL for the patterns and the lines, or - for none. A line that is no URL is matched by no pattern.
+URL for the patterns and the lines, or - for none. A line that is no URL is matched by no pattern. With --ignore-case the patterns
+ignore case.
 
 example: urlpat route routes.txt https://example.com/ <urls.txt
 ";
@@ -116,7 +118,7 @@ out, and what an empty port means. Ends with status 1 if the pattern does not ma
 
 usage: urlpat explain PATTERN BASE [INPUT]
 
-BASE is a URL for the pattern and the input, or - for none.
+BASE is a URL for the pattern and the input, or - for none. With --ignore-case the pattern ignores case.
 
 example: urlpat explain /users/:id https://example.com/ /users/7
 ";
@@ -154,7 +156,7 @@ of its line, a tab, and that of the pattern that covers it. Ends with status 1 i
 usage: urlpat unreachable FILE [BASE]
 
 The file has a pattern a line, and its name after a tab, if it has one. A line that is empty or begins with # is skipped. BASE is a
-URL for the patterns.
+URL for the patterns, or - for none.
 
 example: urlpat unreachable routes.txt https://example.com/
 ";
@@ -167,20 +169,9 @@ pub fn help_of(words: &[String]) -> Option<&'static str>
         return None;
     };
     if rest.is_empty() {
-        program_help(command)
+        help_by(HELP, command)
     } else {
         command_help(command, rest)
-    }
-}
-
-/// The help that a single word asks for.
-fn program_help(word: &str) -> Option<&'static str>
-    ensures { IfSome result (λ text. IsProgramHelp word.now text.now) }
-{
-    match word {
-        "--help" => Some(HELP),
-        "--version" => Some(VERSION),
-        _ => None,
     }
 }
 
@@ -188,21 +179,43 @@ fn program_help(word: &str) -> Option<&'static str>
 fn command_help(command: &str, words: &[String]) -> Option<&'static str>
     ensures { IfSome result (λ text. IsCommandHelp command.now (words_view words.now) text.now) }
 {
-    if asks_for_help(words) {
-        help_on(command)
-    } else {
-        None
+    let [word] = words else {
+        return None;
+    };
+    help_by(help_on(command)?, word)
+}
+
+/// What a word asks for: this help, or the version.
+fn help_by(help: &'static str, word: &str) -> Option<&'static str>
+    ensures { IfSome result (λ text. IsHelpBy help.now word.now text.now) }
+{
+    match word {
+        "--help" => Some(help),
+        "--version" => Some(VERSION),
+        _ => None,
     }
 }
 
-/// Whether the words after a command ask for the help on it.
+/// Whether the words after a command ask for the help on it, or for the version.
 pub fn asks_for_help(words: &[String]) -> bool
-    ensures { IsTrue result → AskForHelp (words_view words.now) }
+    ensures asked { IsTrue result → AskForHelp (words_view words.now) }
+    ensures other { IsFalse result → ¬ AskForHelp (words_view words.now) }
 {
     let [word] = words else {
         return false;
     };
-    word.as_str() == "--help"
+    is_help_word(word)
+}
+
+/// Whether a word asks for help, or for the version.
+fn is_help_word(word: &str) -> bool
+    ensures asked { IsTrue result → IsHelpWord word.now }
+    ensures other { IsFalse result → ¬ IsHelpWord word.now }
+{
+    match word {
+        "--help" | "--version" => true,
+        _ => false,
+    }
 }
 
 /// The help on a command.

@@ -1,10 +1,9 @@
 //! What the words after `filter` ask for.
 
 ghost use Rattle.std.specs.Prelude.{◌≡◌, ◌∷◌, ◌++◌, IfSome};
-ghost use Rattle.urlpat_words.specs.Queries.{AreFilterWords, IsAskedBy, IsAskedByOne, IsAskedByTwo, IsQueryOf, NamesGroup};
+ghost use Rattle.urlpat_words.specs.Queries.{IsAskedByFlags, IsAskedByOne, IsAskedByTwo, IsQueryOf, NamesGroup};
 ghost use Rattle.urlpat_words.specs.Words.{words_view};
 
-use crate::help::asks_for_help;
 use urlpattern_eight::ComponentName;
 
 /// What is printed of a line that is looked for.
@@ -31,20 +30,6 @@ pub struct Query<'a> {
     pub shape: Shape<'a>,
 }
 
-/// The words after `filter`. `None`: the first word is another, or they ask for help.
-pub fn filter_words(words: &[String]) -> Option<&[String]>
-    ensures { IfSome result (λ rest. AreFilterWords (words_view words.now) (words_view rest.now)) }
-{
-    let [command, rest @ ..] = words else {
-        return None;
-    };
-    if command.as_str() == "filter" && !asks_for_help(rest) {
-        Some(rest)
-    } else {
-        None
-    }
-}
-
 /// What the words after `filter` ask for. `None`: they are not such words.
 pub fn query_of(words: &[String]) -> Option<Query<'_>>
     ensures { IfSome result (IsQueryOf (words_view words.now)) }
@@ -63,7 +48,7 @@ pub fn query_of(words: &[String]) -> Option<Query<'_>>
 
 /// What the words after the base ask for: whether lines that do not match are looked for, and what is printed of a line.
 fn asked_by(flags: &[String]) -> Option<(bool, Shape<'_>)>
-    ensures { IfSome result (IsAskedBy (words_view flags.now)) }
+    ensures { IfSome result (IsAskedByFlags (words_view flags.now)) }
 {
     match flags {
         [] => Some((false, Shape::Line)),

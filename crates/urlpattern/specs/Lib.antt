@@ -69,6 +69,8 @@ pub use Rattle.urlpattern_syntax.specs.RegexpText
 pub use Rattle.urlpattern_syntax.specs.Stops
 pub use Rattle.urlpattern_syntax.specs.Text
 pub use Rattle.urlpattern_syntax.specs.Tokens
+pub use Rattle.urlpattern_generate.specs.GenerateErrorText
+pub use Rattle.urlpattern_url.specs.NoLinkText
 pub use Rattle.urlpattern_engine.specs.EcmaRegexps
 pub use Rattle.urlpattern_engine.specs.PatternRegexps
 pub use Rattle.urlpattern_engine.specs.declared.pattern_regexp.PatternRegexp

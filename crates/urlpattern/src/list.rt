@@ -50,11 +50,21 @@ use urlpattern_pattern::{UrlPattern, captures_of_texts};
 /// )?;
 /// add(&mut patterns, pattern(alloc, "https://example.com/*")?)?;
 /// ```
-#[derive(Debug, Drop)]
+#[derive(Debug)]
 pub struct UrlPatternList<R: RegExp = regex::Regex> {
     patterns: Vec<UrlPattern<R>>,
     /// Where the URLs lie that each pattern can match.
     index: Index,
+}
+
+impl<R: RegExp> Drop for UrlPatternList<R> {
+    /// Drops the patterns. Where a list goes out of scope, the prover handles one call.
+    fn drop(self) {
+        let Self {
+            patterns: _patterns,
+            index: _index,
+        } = self;
+    }
 }
 
 impl<R: RegExp> Model for UrlPatternList<R> {

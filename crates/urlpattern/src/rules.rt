@@ -4,6 +4,7 @@
 
 pub use urlpattern_readings::laws::{
     covered_patterns_by_these_engines_match, covered_patterns_match, overlapping_patterns_match,
+    patterns_covered_by_meaning_match,
 };
 pub use urlpattern_readings::parts_of;
 pub use urlpattern_rules::laws::parts_are_in_order;

@@ -1,7 +1,7 @@
 -- What is answered of the texts that two lists of parts mean.
-use Rattle.std.specs.Prelude.{◌≡◌, ℕ, Bool, true, false, not, ◌⊎◌, List, IsTrue}
+use Rattle.std.specs.Prelude.{◌≡◌, ◌↔◌, ℕ, Bool, true, false, not, ◌⊎◌, IfOk, IfSome, List, IsTrue, Option, Result}
 use Rattle.std.specs.Str.{all_scalars}
-use Rattle.urlpattern_covers.specs.Automata.{IsWhether}
+use Rattle.urlpattern_covers.specs.Automata.{AcceptsText, IsWhether}
 use Rattle.urlpattern_covers.specs.Making.{HasManyStates, made, made_view}
 use Rattle.urlpattern_covers.specs.Meaning.{MeansText}
 use Rattle.urlpattern_covers.specs.Searching.{HasManyPairs}
@@ -17,7 +17,8 @@ use Rattle.urlpattern_covers.specs.declared.parts.Reason.TheVariants as reasons
 use Rattle.urlpattern_covers.specs.declared.search.Found.{Found}
 use Rattle.urlpattern_covers.specs.declared.search.Found.TheVariants as founds
 use Rattle.urlpattern_meaning.specs.PartMeaning.{AreGenerated}
-use Rattle.urlpattern_syntax.specs.{Options.OptionsView, Parts.PartView}
+use Rattle.urlpattern_syntax.specs.{Options.OptionsView, Options.options_view, Parts.PartView, Parts.parts_view}
+use Rattle.urlpattern_syntax.specs.declared.parser.Options.{Options}
 use Rattle.urlpattern_syntax.specs.declared.parser.Part.{Part}
 use Rattle.urlpattern_syntax.specs.declared.parser.PartType.{PartType}
 use Rattle.urlpattern_syntax.specs.Text.{lacks, line_feed}
@@ -55,7 +56,23 @@ IsOverlap options parts other_options others (overlaps.Common text) =
     MeansText options parts text.items × MeansText other_options others text.items × IsTrue (lacks line_feed text.items)
 IsOverlap options parts other_options others (overlaps.Unknown reason) = IsReason options parts other_options others reason
 
+-- the same of options and parts as they are passed in
+abbrev pub IsCoveringOf : Options → List Part → (asked_options : Options) → (asked : List Part) → Covering → Type 0
+IsCoveringOf options parts asked_options asked =
+    IsCovering (options_view options) (parts_view parts) (options_view asked_options) (parts_view asked)
+
+abbrev pub IsOverlapOf : Options → List Part → Options → List Part → Overlap → Type 0
+IsOverlapOf options parts other_options others = IsOverlap (options_view options) (parts_view parts) (options_view other_options) (parts_view others)
+
 -- ---- steps
+
+-- what is made, where memory does not run out and it has not too many states
+abbrev pub IfMade : {E : Type 0} → Result (Option Automaton) E → (Automaton → Type 0) → Type 0
+IfMade result Is = IfOk result (λ found. IfSome found Is)
+
+-- the automaton accepts the texts that the parts mean
+abbrev pub AcceptsMeaning : OptionsView → List PartView → Automaton → Type 0
+AcceptsMeaning options parts automaton = (text : List ℕ) → AcceptsText automaton text ↔ MeansText options parts text
 
 -- a text without line feed that the parts mean, and the others as wanted
 abbrev pub IsSought : OptionsView → List PartView → OptionsView → List PartView → (is_meant : Bool) → Answer → Type 0
@@ -64,6 +81,10 @@ IsSought options parts other_options others is_meant (answers.Text text) =
 IsSought options parts other_options others is_meant answers.Nothing =
     (text : List ℕ) → IsTrue (all_scalars text) → IsTrue (lacks line_feed text) → MeansText options parts text → IsWhether (not is_meant) (MeansText other_options others text)
 IsSought options parts other_options others is_meant (answers.Unknown reason) = IsReason options parts other_options others reason
+
+-- the same of options and parts as they are passed in
+abbrev pub IsSoughtOf : Options → List Part → Options → List Part → (is_meant : Bool) → Answer → Type 0
+IsSoughtOf options parts other_options others = IsSought (options_view options) (parts_view parts) (options_view other_options) (parts_view others)
 
 -- the answer by what a search found
 abbrev pub answer_of : Found → Answer

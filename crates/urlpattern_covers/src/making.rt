@@ -1,7 +1,7 @@
 //! An automaton is made of parts, from the last to the first.
 
-ghost use Rattle.std.specs.Prelude.{◌≡◌, ◌↔◌, ◌≤◌, ◌<◌, ◌+◌, ◌++◌, ℕ, List, [], IfNone, IfOk, IfSome, OnOk, length};
-ghost use Rattle.urlpattern_covers.specs.{Automata.AcceptsText, Automata.IsWithin, Meaning.MeansText};
+ghost use Rattle.std.specs.Prelude.{◌≡◌, ◌≤◌, ◌<◌, ◌+◌, ◌++◌, ℕ, [], IfNone, IfOk, OnOk, length};
+ghost use Rattle.urlpattern_covers.specs.{Answers.AcceptsMeaning, Answers.IfMade, Automata.IsWithin};
 ghost use Rattle.urlpattern_covers.specs.Making.{HasManyStates, edges_to, heads, made, made_view, may_miss, repeats, with_again, with_cell, with_cells, with_copies};
 ghost use Rattle.urlpattern_meaning.specs.PartMeaning.{AreGenerated};
 ghost use Rattle.urlpattern_syntax.specs.{Options.options_view, Parts.parts_view};
@@ -20,8 +20,7 @@ pub(crate) fn make(
     options: &Options,
     parts: &[Part],
 ) -> Result<Option<Automaton>, AllocError>
-    ensures made { IfOk result (λ found. IfSome found
-        (λ automaton. made_view automaton ≡ made (options_view options.now) (parts_view parts.now))) }
+    ensures made { IfMade result (λ automaton. made_view automaton ≡ made (options_view options.now) (parts_view parts.now)) }
     ensures many { IfOk result (λ found. IfNone found (HasManyStates (options_view options.now) (parts_view parts.now))) }
 {
     let mut automaton = Automaton {
@@ -51,10 +50,9 @@ impl Automaton {
         options: &Options,
         parts: &[Part],
     ) -> Result<Option<Self>, AllocError>
-        ensures within { IfOk result (λ found. IfSome found IsWithin) }
+        ensures within { IfMade result IsWithin }
         ensures many { IfOk result (λ found. IfNone found (HasManyStates (options_view options.now) (parts_view parts.now))) }
-        ensures accepts { AreGenerated (parts_view parts.now) → IfOk result (λ found. IfSome found (λ automaton.
-            (text : List ℕ) → AcceptsText automaton text ↔ MeansText (options_view options.now) (parts_view parts.now) text)) }
+        ensures accepts { AreGenerated (parts_view parts.now) → IfMade result (AcceptsMeaning (options_view options.now) (parts_view parts.now)) }
     {
         make(alloc, options, parts)
     }

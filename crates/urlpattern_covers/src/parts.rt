@@ -2,8 +2,7 @@
 
 ghost use Rattle.std.specs.Prelude.{◌≡◌, IfOk, false, true};
 ghost use Rattle.std.specs.List.{list_any};
-ghost use Rattle.urlpattern_covers.specs.Answers.{IsSought, IsCovering, IsOverlap, answer_of, is_custom_part};
-ghost use Rattle.urlpattern_syntax.specs.{Options.options_view, Parts.parts_view};
+ghost use Rattle.urlpattern_covers.specs.Answers.{IsCoveringOf, IsOverlapOf, IsSoughtOf, answer_of, is_custom_part};
 
 use crate::making::make;
 use crate::search::Found;
@@ -65,8 +64,7 @@ pub fn covers(
     asked_options: &Options,
     asked: &[Part],
 ) -> Result<Covering, AllocError>
-    ensures { IfOk result
-        (IsCovering (options_view options.now) (parts_view parts.now) (options_view asked_options.now) (parts_view asked.now)) }
+    ensures { IfOk result (IsCoveringOf options.now parts.now asked_options.now asked.now) }
 {
     let answer = find_meant(alloc, asked_options, asked, options, parts, false)?;
     match answer {
@@ -86,8 +84,7 @@ pub fn overlaps(
     other_options: &Options,
     others: &[Part],
 ) -> Result<Overlap, AllocError>
-    ensures { IfOk result
-        (IsOverlap (options_view options.now) (parts_view parts.now) (options_view other_options.now) (parts_view others.now)) }
+    ensures { IfOk result (IsOverlapOf options.now parts.now other_options.now others.now) }
 {
     let answer = find_meant(alloc, options, parts, other_options, others, true)?;
     match answer {
@@ -106,8 +103,7 @@ fn find_meant(
     others: &[Part],
     is_meant: bool,
 ) -> Result<Answer, AllocError>
-    ensures { IfOk result
-        (IsSought (options_view options.now) (parts_view parts.now) (options_view other_options.now) (parts_view others.now) is_meant) }
+    ensures { IfOk result (IsSoughtOf options.now parts.now other_options.now others.now is_meant) }
 {
     if options.ignore_case {
         return Ok(Answer::Unknown(Reason::IgnoredCase));

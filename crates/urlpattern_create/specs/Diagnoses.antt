@@ -1,6 +1,7 @@
 -- What the diagnosis of a refused pattern says: the error, and where a text is at fault. Texts are their bytes.
-use Rattle.std.specs.Prelude.{◌≡◌, ◌⊎◌, ℕ, Bool, List, [], Option, None, Some, Ok, unwrap_or, string_bytes}
+use Rattle.std.specs.Prelude.{◌≡◌, ◌⊎◌, ℕ, Bool, IfNone, IfOk, IfSome, List, [], Option, None, Result, Some, Ok, unwrap_or, string_bytes}
 use Rattle.std.specs.Str.{chars}
+use Rattle.urlpattern_core.specs.Components.{ComponentView}
 use Rattle.urlpattern_core.specs.declared.regexp.RegExp.{Ghosts as Engine}
 use Rattle.urlpattern_faults.specs.Faults.{IsFaultIn, IsFaultOf, IsUrlFault}
 use Rattle.urlpattern_faults.specs.Places.{IsFaultMoved}
@@ -10,8 +11,9 @@ use Rattle.urlpattern_faults.specs.declared.fault.Fault.{Fault}
 use Rattle.urlpattern_init.specs.Split.{HasProtocol}
 use Rattle.urlpattern_init.specs.declared.init.UrlPatternInit.{UrlPatternInit}
 use Rattle.urlpattern_inputs.specs.declared.options.UrlPatternOptions.{UrlPatternOptions}
-use Rattle.urlpattern_create.specs.Compiled.{IsComponentRefused, Manner, RefusesValues, manner_of, pattern_values}
-use Rattle.urlpattern_create.specs.FromString.{IsInitOfText}
+use Rattle.urlpattern_create.specs.Compiled.{AreCompiled, FirstRefused, IsComponentCompiled, IsComponentRefused, IsPatternOfInit, Manner, RefusesValues, manner_of, pattern_values}
+use Rattle.urlpattern_create.specs.FromString.{IsInitOfText, IsPatternOfText}
+use Rattle.urlpattern_create.specs.PatternViews.{PatternView}
 use Rattle.urlpattern_create.specs.declared.refusal.Refusal.{Refusal}
 use Rattle.urlpattern_eight.specs.declared.eight.ComponentName.{ComponentName}
 use Rattle.urlpattern_eight.specs.declared.eight.ComponentName.TheVariants.{Protocol}
@@ -36,7 +38,40 @@ IsRefusalOf engine asked values refusal =
     RefusesValues engine asked values (error_of refusal)
     × RefusesComponent engine (manner_of asked values refusal.hierarchical) refusal.hierarchical refusal
 
+-- the first of these components that is refused is refused with its error
+abbrev pub IsFirstRefusal : {E : Type 0} → Engine E → (manner : ComponentName → Manner) → List ComponentName → Refusal → Type 0
+IsFirstRefusal engine manner names refusal = FirstRefused engine manner names (error_of refusal)
+
+-- ---- what is accepted
+
+-- a component that is read in this manner
+abbrev pub AcceptsComponent : {E : Type 0} → Engine E → Manner → Type 0
+AcceptsComponent {E} engine manner = (compiled : ComponentView E) × IsComponentCompiled engine manner compiled
+
+-- values
+abbrev pub AcceptsValues : {E : Type 0} → Engine E → UrlPatternOptions → Values → Type 0
+AcceptsValues {E} engine asked values = (compiled : PatternView E) × AreCompiled engine asked values compiled
+
+-- an init
+abbrev pub AcceptsInit : {E : Type 0} → Engine E → UrlPatternInit → UrlPatternOptions → Type 0
+AcceptsInit {E} engine init asked = (compiled : PatternView E) × IsPatternOfInit engine init asked compiled
+
+-- a constructor string with this base URL
+abbrev pub AcceptsPatternOfText : {E : Type 0} → Engine E → (text : List ℕ) → (base : Option (List ℕ)) → UrlPatternOptions → Type 0
+AcceptsPatternOfText {E} engine text base asked = (compiled : PatternView E) × IsPatternOfText engine text base asked compiled
+
 -- ---- the diagnosis
+
+-- where memory does not run out: this holds if there is no diagnosis, and that of the one that there is
+abbrev pub IfAccepted : {E : Type 0} → Result (Option Diagnosis) E → Type 0 → Type 0
+IfAccepted result Accepts = IfOk result (λ found. IfNone found Accepts)
+
+abbrev pub IfRefused : {E : Type 0} → Result (Option Diagnosis) E → (Diagnosis → Type 0) → Type 0
+IfRefused result Is = IfOk result (λ found. IfSome found Is)
+
+-- what is given is refused with the error of the diagnosis
+abbrev pub HasErrorOf : (Refuses : ErrorView → Type 0) → Diagnosis → Type 0
+HasErrorOf Refuses diagnosis = Refuses (error_view diagnosis.error)
 
 -- `url` or an engine may refuse a part of the pattern
 abbrev pub IsPartOfRefused : (pattern : List ℕ) → Error → Fault → Type 0
@@ -71,6 +106,10 @@ ShowsRefusal engine asked values (subjects.Component component) diagnosis = Show
 ShowsRefusal engine asked values subjects.Whole diagnosis = ShowsAll diagnosis
 ShowsRefusal engine asked values subjects.Base diagnosis = ⊥
 
+-- the same, of the subject that the diagnosis has
+abbrev pub ShowsValues : {E : Type 0} → Engine E → UrlPatternOptions → Values → Diagnosis → Type 0
+ShowsValues engine asked values diagnosis = ShowsRefusal engine asked values diagnosis.subject diagnosis
+
 -- the same of an init
 abbrev pub ShowsInit : {E : Type 0} → Engine E → UrlPatternInit → UrlPatternOptions → Diagnosis → Type 0
 ShowsInit engine init asked diagnosis =
@@ -95,6 +134,10 @@ ShowsText engine bytes base asked subject diagnosis =
     (string_bytes diagnosis.text ≡ bytes)
     × (ShowsProtocol (chars bytes) subject diagnosis
     ⊎ ((init : UrlPatternInit) × IsInitOfText engine (chars bytes) base init × ShowsInit engine init asked diagnosis))
+
+-- the same, of the subject that the diagnosis has
+abbrev pub ShowsGiven : {E : Type 0} → Engine E → (bytes : List ℕ) → (base : Option (List ℕ)) → UrlPatternOptions → Diagnosis → Type 0
+ShowsGiven engine bytes base asked diagnosis = ShowsText engine bytes base asked diagnosis.subject diagnosis
 
 -- the spans of the diagnosis lie in its text
 abbrev pub IsWithinText : Diagnosis → Type 0

@@ -3,10 +3,10 @@
 ghost use Rattle.std.specs.Prelude.{◌≡◌, ◌↔◌, [], codes, length, option_copied, option_map, unwrap_or, IfErr, IfOk, IfSome, IsAscii, IsTrue, Some};
 ghost use Rattle.std.specs.Str.{chars};
 ghost use Rattle.urlpattern_canonical.specs.Canonical.{IsAnswer};
-ghost use Rattle.urlpattern_core.specs.Components.{IsCompiledFrom, component_view, pattern_text};
+ghost use Rattle.urlpattern_core.specs.Components.{component_view, pattern_text};
 ghost use Rattle.urlpattern_init.specs.Inheritance.{values_view};
-ghost use Rattle.urlpattern_create.specs.Compiled.{AreCompiled, EachIsCompiled, FirstRefused, HasEngine, IsComponentCompiled, IsComponentRefused, IsPathKind, IsPatternOfInit, IsRefusedFrom, RefusesInit, RefusesValues, after_protocol, canonical_in_hostname, has_default_port, is_ipv6_pattern, is_mark, is_same, pattern_of, pattern_values, without_default_port};
-ghost use Rattle.urlpattern_create.specs.CompilerSteps.{manner_by, compiled_values};
+ghost use Rattle.urlpattern_create.specs.Compiled.{AreCompiled, EachIsCompiled, FirstRefused, HasEngine, IsComponentCompiled, IsComponentRefused, IsPathKind, IsPatternOfInit, RefusesInit, RefusesValues, after_protocol, canonical_in_hostname, has_default_port, is_ipv6_pattern, is_mark, is_same, pattern_of, pattern_values, without_default_port};
+ghost use Rattle.urlpattern_create.specs.CompilerSteps.{IsCompiledWith, IsRefusedWith, compiled_values, manner_by};
 ghost use Rattle.urlpattern_create.specs.PatternViews.{IfComponents};
 ghost use Rattle.urlpattern_eight.specs.declared.eight.ComponentName.{ComponentName};
 ghost use Rattle.urlpattern_syntax.specs.Errors.{MemoryOr, OnlyOutOfMemory};
@@ -150,11 +150,9 @@ fn compile_component<R: RegExp, F: Fn(&str) -> Result<String, Error> + Drop>(
     options: Options,
 ) -> Result<Component<R>, Error>
     requires { F.IsAlwaysCallable encoding_callback }
-    ensures compiled { IfOk result (λ compiled. IsCompiledFrom R.RegExp (pattern_text pattern.entry) (options_view options)
-        (encoding_by F.Fn encoding_callback) (component_view compiled)) }
+    ensures compiled { IfOk result (IsCompiledWith R.RegExp pattern.entry options (encoding_by F.Fn encoding_callback)) }
     ensures engine { IfOk result (λ compiled. HasEngine (component_view compiled)) }
-    ensures refused { IfErr result (MemoryOr (IsRefusedFrom R.RegExp (pattern_text pattern.entry) (options_view options)
-        (encoding_by F.Fn encoding_callback))) }
+    ensures refused { IfErr result (MemoryOr (IsRefusedWith R.RegExp pattern.entry options (encoding_by F.Fn encoding_callback))) }
 {
     let compiled = Component::compile(alloc, pattern, encoding_callback, options)?;
     if compiled.regexp.is_err() {

@@ -1,15 +1,14 @@
 //! What is wrong with a pattern that is refused.
 
-ghost use Rattle.std.specs.Prelude.{◌≡◌, option_copied, string_bytes, IfNone, IfOk, IfSome, None};
+ghost use Rattle.std.specs.Prelude.{◌≡◌, option_copied, string_bytes, IfOk, IfSome};
 ghost use Rattle.std.specs.Str.{chars};
 ghost use Rattle.urlpattern_diagnosis.specs.declared.diagnosis.Subject.TheVariants as subjects;
 ghost use Rattle.urlpattern_init.specs.Inheritance.{values_view};
-ghost use Rattle.urlpattern_create.specs.Compiled.{AreCompiled, IsPatternOfInit, RefusesInit, RefusesValues};
+ghost use Rattle.urlpattern_create.specs.Compiled.{RefusesInit, RefusesValues};
 ghost use Rattle.urlpattern_create.specs.CompilerSteps.{compiled_values, manner_by};
 ghost use Rattle.urlpattern_faults.specs.Faults.{IsFaultIn};
-ghost use Rattle.urlpattern_create.specs.Diagnoses.{IsOf, IsPartOfRefused, IsWithinText, ShowsInit, ShowsPattern, ShowsProtocol, ShowsRefusal, ShowsText};
-ghost use Rattle.urlpattern_create.specs.FromString.{IsPatternOfText, RefusesPatternOfText};
-ghost use Rattle.urlpattern_create.specs.PatternViews.{PatternView};
+ghost use Rattle.urlpattern_create.specs.Diagnoses.{AcceptsInit, AcceptsPatternOfText, AcceptsValues, HasErrorOf, IfAccepted, IfRefused, IsOf, IsPartOfRefused, IsWithinText, ShowsGiven, ShowsInit, ShowsPattern, ShowsProtocol, ShowsValues};
+ghost use Rattle.urlpattern_create.specs.FromString.{RefusesPatternOfText};
 ghost use Rattle.urlpattern_syntax.specs.Errors.{error_view};
 
 use crate::compile::{Compiler, pattern_of, pattern_values};
@@ -38,10 +37,10 @@ pub fn diagnose_text<R: RegExp>(
     base_url: Option<&str>,
     options: UrlPatternOptions,
 ) -> Result<Option<Diagnosis>, OutOfMemory>
-    ensures accepted { IfOk result (λ found. IfNone found ((compiled : PatternView R) × IsPatternOfText R.RegExp (chars pattern.now) (option_copied base_url.entry) options compiled)) }
-    ensures refused { IfOk result (λ found. IfSome found (λ diagnosis. RefusesPatternOfText R.RegExp (chars pattern.now) (option_copied base_url.entry) options (error_view diagnosis.error))) }
-    ensures shows { IfOk result (λ found. IfSome found (λ diagnosis. ShowsText R.RegExp pattern.now (option_copied base_url.entry) options diagnosis.subject diagnosis)) }
-    ensures within { IfOk result (λ found. IfSome found IsWithinText) }
+    ensures accepted { IfAccepted result (AcceptsPatternOfText R.RegExp (chars pattern.now) (option_copied base_url.entry) options) }
+    ensures refused { IfRefused result (HasErrorOf (RefusesPatternOfText R.RegExp (chars pattern.now) (option_copied base_url.entry) options)) }
+    ensures shows { IfRefused result (ShowsGiven R.RegExp pattern.now (option_copied base_url.entry) options) }
+    ensures within { IfRefused result IsWithinText }
 {
     let base = match parse_base(alloc, base_url) {
         Ok(base) => base,
@@ -72,10 +71,10 @@ pub fn diagnose_init<R: RegExp>(
     init: &UrlPatternInit,
     options: UrlPatternOptions,
 ) -> Result<Option<Diagnosis>, OutOfMemory>
-    ensures accepted { IfOk result (λ found. IfNone found ((compiled : PatternView R) × IsPatternOfInit R.RegExp init.now options compiled)) }
-    ensures refused { IfOk result (λ found. IfSome found (λ diagnosis. RefusesInit R.RegExp init.now options (error_view diagnosis.error))) }
-    ensures shows { IfOk result (λ found. IfSome found (ShowsInit R.RegExp init.now options)) }
-    ensures within { IfOk result (λ found. IfSome found IsWithinText) }
+    ensures accepted { IfAccepted result (AcceptsInit R.RegExp init.now options) }
+    ensures refused { IfRefused result (HasErrorOf (RefusesInit R.RegExp init.now options)) }
+    ensures shows { IfRefused result (ShowsInit R.RegExp init.now options) }
+    ensures within { IfRefused result IsWithinText }
 {
     init_diagnosis::<R>(alloc, init, &options, None)
 }
@@ -115,11 +114,11 @@ fn init_diagnosis<R: RegExp>(
     options: &UrlPatternOptions,
     string: Option<&str>,
 ) -> Result<Option<Diagnosis>, OutOfMemory>
-    ensures accepted { IfOk result (λ found. IfNone found ((compiled : PatternView R) × IsPatternOfInit R.RegExp init.now options.now compiled)) }
-    ensures refused { IfOk result (λ found. IfSome found (λ diagnosis. RefusesInit R.RegExp init.now options.now (error_view diagnosis.error))) }
-    ensures shows { IfOk result (λ found. IfSome found (ShowsInit R.RegExp init.now options.now)) }
-    ensures text { IfOk result (λ found. IfSome found (IsOf (option_copied string.entry))) }
-    ensures within { IfOk result (λ found. IfSome found IsWithinText) }
+    ensures accepted { IfAccepted result (AcceptsInit R.RegExp init.now options.now) }
+    ensures refused { IfRefused result (HasErrorOf (RefusesInit R.RegExp init.now options.now)) }
+    ensures shows { IfRefused result (ShowsInit R.RegExp init.now options.now) }
+    ensures text { IfRefused result (IsOf (option_copied string.entry)) }
+    ensures within { IfRefused result IsWithinText }
 {
     let Ok(values) = pattern_values(alloc, init) else {
         return Err(OutOfMemory);
@@ -139,11 +138,11 @@ fn values_diagnosis<R: RegExp>(
     options: &UrlPatternOptions,
     given: Given<'_>,
 ) -> Result<Option<Diagnosis>, OutOfMemory>
-    ensures accepted { IfOk result (λ found. IfNone found ((compiled : PatternView R) × AreCompiled R.RegExp options.now (values_view values.now) compiled)) }
-    ensures refused { IfOk result (λ found. IfSome found (λ diagnosis. RefusesValues R.RegExp options.now (values_view values.now) (error_view diagnosis.error))) }
-    ensures shows { IfOk result (λ found. IfSome found (λ diagnosis. ShowsRefusal R.RegExp options.now (values_view values.now) diagnosis.subject diagnosis)) }
-    ensures text { IfOk result (λ found. IfSome found (IsOf (option_copied given.entry.string))) }
-    ensures within { IfOk result (λ found. IfSome found IsWithinText) }
+    ensures accepted { IfAccepted result (AcceptsValues R.RegExp options.now (values_view values.now)) }
+    ensures refused { IfRefused result (HasErrorOf (RefusesValues R.RegExp options.now (values_view values.now))) }
+    ensures shows { IfRefused result (ShowsValues R.RegExp options.now (values_view values.now)) }
+    ensures text { IfRefused result (IsOf (option_copied given.entry.string)) }
+    ensures within { IfRefused result IsWithinText }
 {
     let Ok(canonicalizer) = Canonicalizer::shared(alloc) else {
         return Err(OutOfMemory);
@@ -204,8 +203,8 @@ impl Compiler<'_> {
     /// The error is that memory ran out.
     fn diagnosis<R: RegExp>(&self, error: Error, given: Given<'_>) -> Result<Diagnosis, OutOfMemory>
         requires { RefusesValues R.RegExp self.now.options.now (compiled_values self.now) (error_view error) }
-        ensures refused { IfOk result (λ diagnosis. RefusesValues R.RegExp self.now.options.now (compiled_values self.now) (error_view diagnosis.error)) }
-        ensures shows { IfOk result (λ diagnosis. ShowsRefusal R.RegExp self.now.options.now (compiled_values self.now) diagnosis.subject diagnosis) }
+        ensures refused { IfOk result (HasErrorOf (RefusesValues R.RegExp self.now.options.now (compiled_values self.now))) }
+        ensures shows { IfOk result (ShowsValues R.RegExp self.now.options.now (compiled_values self.now)) }
         ensures text { IfOk result (IsOf (option_copied given.entry.string)) }
         ensures within { IfOk result IsWithinText }
     {

@@ -1,10 +1,10 @@
 //! The component for which a pattern is refused.
 
 ghost use Rattle.std.specs.Prelude.{◌≡◌, ◌≢◌, false, IfNone, IfOk, IfSome};
-ghost use Rattle.urlpattern_core.specs.Components.{ComponentView, component_view};
-ghost use Rattle.urlpattern_create.specs.Compiled.{FirstRefused, IsComponentCompiled};
+ghost use Rattle.urlpattern_core.specs.Components.{component_view};
+ghost use Rattle.urlpattern_create.specs.Compiled.{IsComponentCompiled};
 ghost use Rattle.urlpattern_create.specs.CompilerSteps.{compiled_values, manner_by};
-ghost use Rattle.urlpattern_create.specs.Diagnoses.{IsRefusalOf, RefusesComponent, error_of};
+ghost use Rattle.urlpattern_create.specs.Diagnoses.{AcceptsComponent, IsFirstRefusal, IsRefusalOf, RefusesComponent};
 ghost use Rattle.urlpattern_eight.specs.declared.eight.ComponentName.TheVariants as names;
 ghost use Rattle.urlpattern_syntax.specs.Errors.{ErrorView as views, error_view};
 
@@ -81,7 +81,7 @@ impl Compiler<'_> {
         hierarchical: bool,
         names: &[ComponentName],
     ) -> Result<Option<Refusal>, OutOfMemory>
-        ensures first { IfOk result (λ found. IfSome found (λ refusal. FirstRefused R.RegExp (manner_by self.now hierarchical) names.now (error_of refusal))) }
+        ensures first { IfOk result (λ found. IfSome found (IsFirstRefusal R.RegExp (manner_by self.now hierarchical) names.now)) }
         ensures refused { IfOk result (λ found. IfSome found (RefusesComponent R.RegExp (manner_by self.now hierarchical) hierarchical)) }
     {
         for name in names {
@@ -103,7 +103,7 @@ impl Compiler<'_> {
     ) -> Result<Option<Refusal>, OutOfMemory>
         ensures refused { IfOk result (λ found. IfSome found (RefusesComponent R.RegExp (manner_by self.now hierarchical) hierarchical)) }
         ensures name { IfOk result (λ found. IfSome found (λ refusal. refusal.component ≡ component)) }
-        ensures compiled { IfOk result (λ found. IfNone found ((made : ComponentView R) × IsComponentCompiled R.RegExp (manner_by self.now hierarchical component) made)) }
+        ensures compiled { IfOk result (λ found. IfNone found (AcceptsComponent R.RegExp (manner_by self.now hierarchical component))) }
     {
         match self.component::<R>(component, hierarchical) {
             Ok(compiled) => {

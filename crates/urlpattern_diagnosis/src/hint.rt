@@ -12,8 +12,12 @@ pub(crate) enum Hint {
     Nothing,
     /// A `?` after the pattern begins the search.
     Search,
-    /// A `?` after the `(` at the end of the pattern begins the search.
+    /// A `?` follows the `(` at fault. After one at the end of the pattern it begins the search.
     QuestionMark,
+    /// A `?` follows the `(` at fault, as in look-around.
+    LookAround,
+    /// A `?` follows the `(` at fault, as where case is ignored.
+    Flag,
     /// The fault is in square brackets: those of an IPv6 address, or of a class.
     Brackets,
     /// The colon after a scheme is missing.
@@ -30,6 +34,12 @@ pub(crate) enum Hint {
     NameEnds(char),
     /// A regular expression is not in parentheses.
     Expression,
+    /// The character at fault is repeated.
+    Repeated,
+    /// The modifier at fault follows another one.
+    SecondModifier,
+    /// The pattern is `https?`, as a regular expression may be.
+    Scheme,
 }
 
 impl Hint {
@@ -49,17 +59,20 @@ impl Hint {
         fault: Fault,
         place: Option<Place>,
     ) -> Self {
+        let search = search_after(text, part, place);
         match error {
             Error::Tokenizer(TokenizerError::InvalidName, _) => colon_hint(part, fault.span.end),
             Error::Tokenizer(TokenizerError::InvalidRegex(reason), _) => {
-                expression_hint(*reason, part, fault, is_before_search(text, part, place))
+                expression_hint(*reason, text, part, fault, search)
             }
             Error::Parser(ParserError::DuplicateName(_)) => name_hint(part, fault),
-            Error::Parser(ParserError::ExpectedToken(_, TokenType::OtherModifier, _)) => {
-                modifier_hint(part, fault.span.start)
+            Error::Parser(ParserError::ExpectedToken(expected, TokenType::OtherModifier, _)) => {
+                modifier_hint(part, fault.span.start, *expected == TokenType::Close)
             }
-            _ if is_before_search(text, part, place) => Hint::Search,
-            _ => Hint::Nothing,
+            _ => match search {
+                Some(_) => Hint::Search,
+                None => Hint::Nothing,
+            },
         }
     }
 }
@@ -94,19 +107,46 @@ fn has_bracket_before(part: &str, place: usize) -> bool {
     is_open
 }
 
-/// What explains that a parenthesis begins no custom expression.
-fn expression_hint(reason: RegexFault, part: &str, fault: Fault, before_search: bool) -> Hint {
+/// What explains that a parenthesis begins no custom expression. The `?` after the pattern is at this place in the text.
+fn expression_hint(
+    reason: RegexFault,
+    text: &str,
+    part: &str,
+    fault: Fault,
+    search: Option<usize>,
+) -> Hint {
     match (reason, fault.earlier) {
-        (RegexFault::MissingClose, _) => match close_hint(part, fault.span.end) {
-            Hint::ClosedBy(bracket) => Hint::ClosedBy(bracket),
-            _ if before_search && fault.span.end == part.len() => Hint::QuestionMark,
-            _ if before_search => Hint::Search,
-            hint => hint,
+        (RegexFault::MissingClose, _) => match (close_hint(part, fault.span.end), search) {
+            (Hint::ClosedBy(bracket), _) => Hint::ClosedBy(bracket),
+            (_, Some(sign)) if fault.span.end == part.len() => question_hint(text, sign),
+            (_, Some(_)) => Hint::Search,
+            (hint, None) => hint,
         },
         (RegexFault::NestedGroupCaptures | RegexFault::NestedGroupNotClosed, Some(open))
             if !is_closed(part, open.start) => { Hint::Open }
-        (RegexFault::BadCharacter | RegexFault::BadEscape, Some(_))
-            if has_bracket_before(part, fault.span.start) => { Hint::Brackets }
+        (RegexFault::BadCharacter, None) => question_hint(part, fault.span.end.saturating_sub(1)),
+        (RegexFault::BadCharacter | RegexFault::BadEscape, Some(_)) => letter_hint(part, fault),
+        _ => Hint::Nothing,
+    }
+}
+
+/// What a `?` at a place, after a `(`, is meant for.
+fn question_hint(text: &str, place: usize) -> Hint {
+    let bytes = text.as_bytes();
+    let next = bytes.get(place.saturating_add(1));
+    let after_next = bytes.get(place.saturating_add(2));
+    match (next, after_next) {
+        (Some(b'=' | b'!'), _) | (Some(b'<'), Some(b'=' | b'!')) => Hint::LookAround,
+        (Some(b'i'), _) => Hint::Flag,
+        _ => Hint::QuestionMark,
+    }
+}
+
+/// Where a character stands that is not ASCII: in a class, or before what repeats it.
+fn letter_hint(part: &str, fault: Fault) -> Hint {
+    match part.as_bytes().get(fault.span.end) {
+        _ if has_bracket_before(part, fault.span.start) => Hint::Brackets,
+        Some(b'*' | b'+' | b'?' | b'{') => Hint::Repeated,
         _ => Hint::Nothing,
     }
 }
@@ -174,8 +214,14 @@ fn sign_at(part: &str, place: usize) -> Option<char> {
     }
 }
 
-/// What explains that a modifier at a place follows nothing that it could repeat.
-fn modifier_hint(part: &str, place: usize) -> Hint {
+/// What explains that a modifier at a place, maybe within a group, follows nothing that it could repeat.
+fn modifier_hint(part: &str, place: usize, is_in_group: bool) -> Hint {
+    if !is_in_group && is_after_modifier(part, place) {
+        return Hint::SecondModifier;
+    }
+    if part == "https?" {
+        return Hint::Scheme;
+    }
     let mut sign = None;
     let mut is_after_name = false;
     for (index, byte) in part.as_bytes().iter().take(place).enumerate() {
@@ -185,7 +231,7 @@ fn modifier_hint(part: &str, place: usize) -> Hint {
                 sign = None;
             }
             b'-' | b'^' if is_after_name => sign = sign_at(part, index),
-            b'a'..=b'z' | b'A'..=b'Z' | b'0'..=b'9' | b'_' | b'$' => {}
+            b'a'..=b'z' | b'A'..=b'Z' | b'0'..=b'9' | b'_' | b'$' | 0x80.. => {}
             _ => {
                 is_after_name = false;
                 sign = None;
@@ -196,6 +242,18 @@ fn modifier_hint(part: &str, place: usize) -> Hint {
         Some(sign) => Hint::NameEnds(sign),
         None if is_after_expression(part, place) => Hint::Expression,
         None => Hint::Nothing,
+    }
+}
+
+/// Whether a modifier is before a place, and not the same sign escaped.
+fn is_after_modifier(part: &str, place: usize) -> bool {
+    let bytes = part.as_bytes();
+    match place.checked_sub(1) {
+        Some(last) => {
+            matches!(bytes.get(last), Some(b'*' | b'+' | b'?'))
+                && bytes.get(last.saturating_sub(1)) != Some(&b'\\')
+        }
+        None => false,
     }
 }
 
@@ -211,11 +269,12 @@ fn is_after_expression(part: &str, place: usize) -> bool {
     }
 }
 
-/// Whether a `?` follows a part of a text.
-fn is_before_search(text: &str, part: &str, place: Option<Place>) -> bool {
-    let Some(Place { start, lead }) = place else {
-        return false;
-    };
+/// Where a `?` follows a part of a text.
+fn search_after(text: &str, part: &str, place: Option<Place>) -> Option<usize> {
+    let Place { start, lead } = place?;
     let end = start.saturating_add(part.len().saturating_sub(lead));
-    text.as_bytes().get(end) == Some(&b'?')
+    match text.as_bytes().get(end) {
+        Some(b'?') => Some(end),
+        _ => None,
+    }
 }

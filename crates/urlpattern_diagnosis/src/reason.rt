@@ -180,6 +180,11 @@ fn ascii_reason(alloc: Global, faulty: &Faulty<'_>) -> Result<String, AllocError
         (Subject::Component(ComponentName::Protocol | ComponentName::Port), _) => {
             format!(in alloc; "a custom expression has only ASCII characters, and `{part}` is none")
         }
+        (_, Hint::Repeated) => {
+            format!(in alloc;
+                "a custom expression has only ASCII characters: write `(?:{encoded})` for the repeated `{part}`, as URLs have it"
+            )
+        }
         (_, Hint::Brackets) => {
             format!(in alloc;
                 "a custom expression has only ASCII characters: URLs have `{encoded}` for `{part}`, so write `(?:{encoded}|e)` for the class `[{part}e]`"
@@ -196,6 +201,12 @@ fn ascii_reason(alloc: Global, faulty: &Faulty<'_>) -> Result<String, AllocError
 /// Why no custom expression begins at a parenthesis.
 fn expression_reason(fault: RegexFault, hint: Hint) -> &'static str {
     match (fault, hint) {
+        (_, Hint::LookAround) => {
+            "a custom expression does not begin with `?`, and look-around is not supported: match more, and compare what the group captures"
+        }
+        (_, Hint::Flag) => {
+            "a custom expression does not begin with `?`: write `((?i:a))` to ignore case in an expression, or `\\(` for the character itself"
+        }
         (RegexFault::BadCharacter | RegexFault::BadEscape, _) | (_, Hint::QuestionMark) => {
             "a custom expression does not begin with `?`: write `(a)` for `(?:a)` and `:year(\\d+)` for `(?<year>\\d+)`, or `\\(` for the character itself"
         }
@@ -296,6 +307,15 @@ fn modifier_reason(alloc: Global, value: &str, hint: Hint) -> Result<String, All
                 "`{value}` follows nothing that it could repeat: a name ends before `{sign}`; write `_` in its place, or `\\{value}` for the character itself"
             )
         }
+        Hint::Scheme => String::from_str(
+            alloc,
+            "`?` follows nothing that it could repeat: write `http{s}?` for both protocols",
+        ),
+        Hint::SecondModifier => {
+            format!(in alloc;
+                "`{value}` is a second modifier: a name, an expression, `*` or a group has only one; write `\\{value}` for the character itself"
+            )
+        }
         _ => {
             format!(in alloc;
                 "`{value}` repeats a regular expression only within `(` and `)`: write it as in `(\\d+)`, or `\\{value}` for the character itself"
@@ -318,6 +338,9 @@ fn url_reason(
         }
         (Subject::Component(ComponentName::Protocol), _) if part.starts_with('^') => {
             format!(in alloc; "`{part}` is no {what}: a pattern matches a whole URL, without `^`")
+        }
+        (Subject::Component(ComponentName::Protocol), _) if part == "http[s]" => {
+            format!(in alloc; "`{part}` is no {what}: write `http{{s}}?` for both")
         }
         (Subject::Component(ComponentName::Protocol), _) => {
             format!(in alloc;

@@ -39,11 +39,20 @@ use urlpattern_walk::walk_by_table;
 ///     Pattern::from_constructor_string(alloc, text, None, UrlPatternOptions::default())
 /// }
 /// ```
-#[derive(Drop)]
 pub struct PatternRegexp {
     expression: Expression,
     /// Whether the case of letters is ignored.
     ignore_case: bool,
+}
+
+impl Drop for PatternRegexp {
+    /// Drops the fields. Where an engine goes out of scope, the prover handles one call in place of each kind of expression.
+    fn drop(self) {
+        let Self {
+            expression: _expression,
+            ignore_case: _,
+        } = self;
+    }
 }
 
 /// An expression, by who matches it.

@@ -104,10 +104,10 @@ abbrev pub IsOpenBracket : (bytes : List ℕ) → Option ℕ → Type 0
 IsOpenBracket bytes (Some place) = IsLastBracket (codes "[") bytes place
 IsOpenBracket bytes None = (list_any is_bracket bytes ≡ false) ⊎ ((place : ℕ) × IsLastBracket (codes "]") bytes place)
 
-abbrev pub is_hostname : Option ComponentName → Bool
-is_hostname None = false
-is_hostname (Some Hostname) = true
-is_hostname (Some component) = false
+abbrev pub is_of_hostname : Option ComponentName → Bool
+is_of_hostname None = false
+is_of_hostname (Some Hostname) = true
+is_of_hostname (Some component) = false
 
 -- the first of two places, or the one that there is
 abbrev pub first_place : Option ℕ → ℕ → ℕ
@@ -117,7 +117,7 @@ first_place (Some other) place = min other place
 -- No name follows the colon at this place. The colon is at fault, or in a hostname a `[` before it that is not closed.
 abbrev pub IsNameFault : Option ComponentName → (bytes : List ℕ) → (place : ℕ) → Fault → Type 0
 IsNameFault component bytes place fault =
-    MatchBool (is_hostname component)
+    MatchBool (is_of_hostname component)
     ((bracket : Option ℕ) × IsOpenBracket bytes bracket × IsAlone (IsSpanAt bytes (first_place bracket place) 1) fault)
     (IsAlone (IsSpanAt bytes place 1) fault)
 
@@ -134,15 +134,15 @@ abbrev pub HasTokenFault : Option ComponentName → (bytes : List ℕ) → Fault
 HasTokenFault component bytes reported place fault =
     (is : IsFault (chars bytes) reported place) × IsTokenFault component bytes place is.left reported fault
 
-abbrev pub is_end : TokenType → Bool
-is_end End = true
-is_end kind = false
+abbrev pub is_end_kind : TokenType → Bool
+is_end_kind End = true
+is_end_kind kind = false
 
 -- the token at which the pieces of the text before the place end, unless they are all of it
 abbrev pub IsStopBefore : (bytes point : List ℕ) → (place : ℕ) → Option Span → Type 0
 IsStopBefore bytes point place earlier =
     (stop : Stop) × IsStopOf (chars (take place bytes)) point (token_view stop.first) (token_view stop.found)
-    × MatchBool (is_end stop.found.kind) (earlier ≡ None) (IsSomeAnd earlier (IsSpanOfToken bytes stop.found))
+    × MatchBool (is_end_kind stop.found.kind) (earlier ≡ None) (IsSomeAnd earlier (IsSpanOfToken bytes stop.found))
 
 -- the same fault; if it is at odds with nothing, the token at which the pieces end before it is at fault too
 abbrev pub IsWithStop : (bytes point : List ℕ) → (place : ℕ) → (alone fault : Fault) → Type 0

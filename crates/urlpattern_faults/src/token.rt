@@ -1,7 +1,7 @@
 //! What is at fault where a text has no token.
 ghost use Rattle.std.specs.Prelude.{◌≡◌, ◌≤◌, ◌++◌, codes, length, List, ℕ, IfNone, IfOk, IfSome};
 ghost use Rattle.std.specs.Str.{chars};
-ghost use Rattle.urlpattern_faults.specs.Faults.{IsBodyFault, IsFaultIn, IsAfterFront, IsFirstFault, IsNameFault, IsOpenBracket, IsRefusedFront, HasTokenFault, is_end, is_hostname};
+ghost use Rattle.urlpattern_faults.specs.Faults.{IsBodyFault, IsFaultIn, IsAfterFront, IsFirstFault, IsNameFault, IsOpenBracket, IsRefusedFront, HasTokenFault, is_end_kind, is_of_hostname};
 ghost use Rattle.urlpattern_syntax.specs.Text.{BeginsAt, BeginsWith, is_among};
 ghost use Rattle.urlpattern_syntax.specs.Tokens.{IsFault, IsFaultAt, InvalidRegex, IsRegexpFront, fault_view};
 
@@ -46,7 +46,7 @@ pub(crate) fn first_fault(
 
 /// Whether a token is the end of a text.
 fn is_end(kind: TokenType) -> bool
-    ensures { result ≡ is_end kind }
+    ensures { result ≡ is_end_kind kind }
 {
     matches!(kind, TokenType::End)
 }
@@ -91,7 +91,7 @@ fn name_fault(component: Option<ComponentName>, text: &str, place: usize) -> Fau
 
 /// Whether a component is the hostname.
 fn is_hostname(component: Option<ComponentName>) -> bool
-    ensures { result ≡ is_hostname component }
+    ensures { result ≡ is_of_hostname component }
 {
     matches!(component, Some(ComponentName::Hostname))
 }

@@ -1,6 +1,9 @@
 -- Why a component has no text, by the steps in which it is written.
-use Rattle.std.proofs.Common.{◌≡◌, ℕ, List, inl, inr, refl, subst, Option}
-use Rattle.urlpattern_generate.specs.Generating.{RefusesGroups}
+use Rattle.std.proofs.Common.{◌≡◌, ℕ, Bool, true, false, List, Ok, inl, inr, refl, subst, sym, Option}
+use Rattle.std.proofs.lemmas.Bool.{false≢true}
+use Rattle.std.specs.Str.{chars}
+use Rattle.url.specs.Parser.{Parsed}
+use Rattle.urlpattern_generate.specs.Generating.{IsNotCanonical, IsTextWithGroups, IsWrittenText, RefusesGroups, TellsCanonical}
 use Rattle.urlpattern_generate.specs.Manners.{WritingManner, unchanged}
 use Rattle.urlpattern_generate.specs.Writers.{IsPatternError, ReportsPattern}
 use Rattle.urlpattern_generate.specs.declared.error.GenerateError.{GenerateError}
@@ -49,3 +52,30 @@ pattern_reported component strong weaker options pattern error (NotCaptured of n
 pattern_reported component strong weaker options pattern error (ReadOtherwise of) is h =
     (is.0, (error_view error, refuses_weaker strong unchanged weaker pattern options (error_view error) (is_other (Refuses pattern options strong) error is.1 h)))
 pattern_reported component strong weaker options pattern error OutOfMemory is h = tt
+
+-- ---- whether a text that is written is canonical
+
+pub canonical_written : {E : Type 0} (answer : E → List ℕ → Option Captures) (matcher : MatcherView E) (manner : WritingManner) (pattern text : List ℕ) →
+    IsWrittenText answer matcher manner pattern text → manner.canonical text ≡ Ok text → IsTextWithGroups answer matcher manner pattern text
+canonical_written answer matcher manner pattern text written canonical = record {
+  parts = written.parts;
+  captures = written.captures;
+  is_asked = written.is_asked;
+  may_capture = written.may_capture;
+  is_written = written.is_written;
+  is_read_back = record { is_matched = written.is_matched; is_canonical = canonical };
+}
+
+pub not_canonical : {E : Type 0} (answer : E → List ℕ → Option Captures) (matcher : MatcherView E) (component : ComponentName) (manner : WritingManner) (pattern bytes : List ℕ) →
+    IsWrittenText answer matcher manner pattern (chars bytes) → IsNotCanonical manner.canonical bytes → RefusesGroups answer matcher component manner pattern (ReadOtherwise component)
+not_canonical answer matcher component manner pattern bytes written other =
+    (refl, inr (written.parts, written.captures, bytes, written.is_asked, written.is_written, inr other))
+
+-- by the test of these bytes
+pub told_canonical : (canonical : List ℕ → Parsed (List ℕ)) (is : Bool) (bytes text : List ℕ) → is ≡ true → chars bytes ≡ text → TellsCanonical is canonical bytes → canonical text ≡ Ok text
+told_canonical canonical true bytes text e same told = subst (λ of. canonical of ≡ Ok of) same told
+told_canonical canonical false bytes text e same told = absurd (false≢true e)
+
+pub told_other : (canonical : List ℕ → Parsed (List ℕ)) (is : Bool) (bytes : List ℕ) → is ≡ false → TellsCanonical is canonical bytes → IsNotCanonical canonical bytes
+told_other canonical true bytes e told = absurd (false≢true (sym e))
+told_other canonical false bytes e told = told

@@ -1,5 +1,5 @@
 -- What the groups of parts are to capture.
-use Rattle.std.specs.Prelude.{◌≡◌, ◌⊎◌, ℕ, List, [], ◌∷◌, Option, Some, None, Ok, length, if◌then◌else◌}
+use Rattle.std.specs.Prelude.{◌≡◌, ◌⊎◌, ◌&&◌, ℕ, Bool, List, [], ◌∷◌, Option, Some, None, Ok, length, if◌then◌else◌}
 use Rattle.std.specs.{Char.is_ascii_digit, Str.chars}
 use Rattle.url.specs.Parser.{Parsed}
 use Rattle.urlpattern_canonical.specs.Canonical.{IsRefusedByUrl}
@@ -7,7 +7,11 @@ use Rattle.urlpattern_generate.specs.Manners.{WritingManner}
 use Rattle.urlpattern_links.specs.Links.{OfEachGroup}
 use Rattle.urlpattern_meaning.specs.PartMeaning.{Captures, capture_of_no_copies}
 use Rattle.urlpattern_syntax.specs.declared.parser.{PartModifier.PartModifier, PartType.PartType}
-use Rattle.urlpattern_syntax.specs.{Parts.PartView, Text.begins_with}
+use Rattle.urlpattern_syntax.specs.{Parts.PartView, RegexpText.is_empty, Text.begins_with}
+
+-- the part has neither prefix nor suffix
+abbrev pub is_bare : PartView → Bool
+is_bare part = is_empty part.prefix && is_empty part.suffix
 
 -- a wildcard without name, whose name is a number then, is empty; any other group captures nothing
 abbrev pub empty_or_none : PartType → (name : List ℕ) → Option (List ℕ)

@@ -1,10 +1,12 @@
 -- The text of a component whose groups capture what is given, and why there is none.
-use Rattle.std.specs.Prelude.{◌≡◌, ◌≢◌, ◌⊎◌, ◌≤◌, ℕ, List, length, Option, Some, None, Ok}
+use Rattle.std.specs.Prelude.{◌≡◌, ◌≢◌, ◌⊎◌, ◌≤◌, ℕ, Bool, List, length, MatchBool, Option, Some, None, Ok}
 use Rattle.std.specs.Str.{chars}
 use Rattle.url.specs.Parser.{Parsed}
 use Rattle.urlpattern_canonical.specs.Canonical.{long_text}
+use Rattle.urlpattern_core.specs.Components.{component_view}
+use Rattle.urlpattern_core.specs.declared.component.Component.{Component}
 use Rattle.urlpattern_generate.specs.Asked.{AreAsked, RefusesSomeGiven}
-use Rattle.urlpattern_generate.specs.Manners.{WritingManner, unchanged}
+use Rattle.urlpattern_generate.specs.Manners.{GivenView, WritingManner, manner_for, unchanged}
 use Rattle.urlpattern_generate.specs.declared.error.GenerateError.{GenerateError}
 use Rattle.urlpattern_generate.specs.declared.error.GenerateError.TheVariants.{Missing, NotCaptured, ReadOtherwise, OutOfMemory}
 use Rattle.urlpattern_links.specs.Links.{MayCaptureAll, RefusesCapture, text_of_parts}
@@ -30,10 +32,22 @@ pub record IsReadWith {E : Type 0} (answer : E → List ℕ → Option Captures)
 abbrev pub IsNotCanonical : (List ℕ → Parsed (List ℕ)) → (bytes : List ℕ) → Type 0
 IsNotCanonical canonical bytes = (canonical (chars bytes) ≢ Ok (chars bytes)) ⊎ (long_text ≤ length bytes)
 
+-- the matcher answers the text otherwise
+abbrev pub AnswersOtherwise : {E : Type 0} → (answer : E → List ℕ → Option Captures) → MatcherView E → (text : List ℕ) → Captures → Type 0
+AnswersOtherwise answer matcher text captures = (found : Option Captures) × Answers answer matcher text found × (found ≢ Some captures)
+
 -- the matcher answers the text otherwise, or it is not canonical
 abbrev pub IsReadOtherwise : {E : Type 0} → (answer : E → List ℕ → Option Captures) → MatcherView E → (List ℕ → Parsed (List ℕ)) → (bytes : List ℕ) → Captures → Type 0
-IsReadOtherwise answer matcher canonical bytes captures =
-    ((found : Option Captures) × Answers answer matcher (chars bytes) found × (found ≢ Some captures)) ⊎ IsNotCanonical canonical bytes
+IsReadOtherwise answer matcher canonical bytes captures = AnswersOtherwise answer matcher (chars bytes) captures ⊎ IsNotCanonical canonical bytes
+
+-- whether the matcher finds these captures in the text
+abbrev pub IsAnswered : {E : Type 0} → Bool → (answer : E → List ℕ → Option Captures) → MatcherView E → (text : List ℕ) → Captures → Type 0
+IsAnswered is answer matcher text captures =
+    MatchBool is (Answers answer matcher text (Some captures)) (AnswersOtherwise answer matcher text captures)
+
+-- whether the text of these bytes is canonical
+abbrev pub TellsCanonical : Bool → (List ℕ → Parsed (List ℕ)) → (bytes : List ℕ) → Type 0
+TellsCanonical is canonical bytes = MatchBool is (canonical (chars bytes) ≡ Ok (chars bytes)) (IsNotCanonical canonical bytes)
 
 -- The text is that of the parts of the pattern text, and is read back with what is asked for.
 pub record IsTextWithGroups {E : Type 0} (answer : E → List ℕ → Option Captures) (matcher : MatcherView E) (manner : WritingManner) (pattern text : List ℕ) : Type 0 where
@@ -43,6 +57,15 @@ pub record IsTextWithGroups {E : Type 0} (answer : E → List ℕ → Option Cap
   pub may_capture : MayCaptureAll manner.options parts captures
   pub is_written : text ≡ text_of_parts parts captures
   pub is_read_back : IsReadWith answer matcher manner.canonical text captures
+
+-- The same of a text that need not be canonical.
+pub record IsWrittenText {E : Type 0} (answer : E → List ℕ → Option Captures) (matcher : MatcherView E) (manner : WritingManner) (pattern text : List ℕ) : Type 0 where
+  pub parts : List PartView
+  pub captures : Captures
+  pub is_asked : AsksFor manner pattern parts captures
+  pub may_capture : MayCaptureAll manner.options parts captures
+  pub is_written : text ≡ text_of_parts parts captures
+  pub is_matched : Answers answer matcher text (Some captures)
 
 -- ---- errors
 
@@ -69,3 +92,23 @@ RefusesGroups answer matcher component manner pattern (NotCaptured of name) =
     (of ≡ component) × (GivesRefused manner pattern (text_of name) ⊎ ((text : List ℕ) × RefusesAsked manner pattern (text_of name) (Some text)))
 RefusesGroups answer matcher component manner pattern (ReadOtherwise of) = (of ≡ component) × HasNoText answer matcher manner pattern
 RefusesGroups answer matcher component manner pattern OutOfMemory = Unit {0}
+
+-- ---- components by their names
+
+-- the text is that of a component with these groups
+abbrev pub HasText : {E : Type 0} → (answer : E → List ℕ → Option Captures) → Component E → ComponentName → (hierarchical : Bool) → List GivenView → (text : List ℕ) → Type 0
+HasText answer component name hierarchical groups text =
+    let view = component_view component in
+    IsTextWithGroups answer view.matcher (manner_for name hierarchical view.pattern_string groups) view.pattern_string text
+
+-- the same, where the text need not be canonical
+abbrev pub HasWrittenText : {E : Type 0} → (answer : E → List ℕ → Option Captures) → Component E → ComponentName → (hierarchical : Bool) → List GivenView → (text : List ℕ) → Type 0
+HasWrittenText answer component name hierarchical groups text =
+    let view = component_view component in
+    IsWrittenText answer view.matcher (manner_for name hierarchical view.pattern_string groups) view.pattern_string text
+
+-- why it has none: the error
+abbrev pub LacksText : {E : Type 0} → (answer : E → List ℕ → Option Captures) → Component E → ComponentName → (hierarchical : Bool) → List GivenView → GenerateError → Type 0
+LacksText answer component name hierarchical groups error =
+    let view = component_view component in
+    RefusesGroups answer view.matcher name (manner_for name hierarchical view.pattern_string groups) view.pattern_string error

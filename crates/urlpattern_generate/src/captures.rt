@@ -1,15 +1,15 @@
 //! What the groups of parts are to capture.
 
-ghost use Rattle.std.specs.Prelude.{◌≡◌, ◌∷◌, ◌++◌, ◌&&◌, [], IfErr, IfOk, OnOk, length, option_map};
+ghost use Rattle.std.specs.Prelude.{◌≡◌, ◌∷◌, ◌++◌, [], IfErr, IfOk, OnOk, length, option_map};
 ghost use Rattle.std.specs.Char.{is_ascii_digit};
 ghost use Rattle.std.specs.Str.{chars};
-ghost use Rattle.urlpattern_generate.specs.Asked.{AreAsked, IsAsked, capture_not_given, empty_or_none};
-ghost use Rattle.urlpattern_generate.specs.Writers.{AddsAsked, ReportsGiven, ReportsSomeGiven, ReportsWritten, manner_of_writer};
-ghost use Rattle.urlpattern_links.specs.Links.{MayCaptureAll, RefusesCapture, text_of_parts};
+ghost use Rattle.urlpattern_generate.specs.Asked.{AreAsked, IsAsked, capture_not_given, empty_or_none, is_bare};
+ghost use Rattle.urlpattern_generate.specs.Writers.{AddsCapture, ReportsGiven, ReportsRefused, ReportsSomeGiven, manner_of_writer};
+ghost use Rattle.urlpattern_links.specs.Links.{MayCaptureAll, text_of_parts};
 ghost use Rattle.urlpattern_links.specs.Refused.{given_captures};
 ghost use Rattle.urlpattern_meaning.specs.PartMeaning.{capture_of_none};
 ghost use Rattle.urlpattern_syntax.specs.declared.parser.PartModifier.{PartModifier};
-ghost use Rattle.urlpattern_syntax.specs.{Options.options_view, Parts.part_view, Parts.parts_view, RegexpText.group_names, RegexpText.is_empty, Text.begins_with, Text.text_of};
+ghost use Rattle.urlpattern_syntax.specs.{Options.options_view, Parts.part_view, Parts.parts_view, RegexpText.group_names, Text.begins_with, Text.text_of};
 
 use crate::error::GenerateError;
 use crate::groups::given_text;
@@ -45,7 +45,7 @@ impl Writer<'_> {
         captures: &mut Vec<Option<String>>,
         part: &Part,
     ) -> Result<(), GenerateError>
-        ensures asked { OnOk result (AddsAsked (manner_of_writer self.now) (part_view part.now) (given_captures captures.old.items) (given_captures captures.new.items)) }
+        ensures asked { OnOk result (AddsCapture self.now (part_view part.now) captures.old.items captures.new.items) }
         ensures refused { IfErr result (ReportsSomeGiven self.now.component (manner_of_writer self.now) (part_view part.now ∷ [])) }
     {
         if part.kind == PartType::FixedText {
@@ -86,7 +86,7 @@ impl Writer<'_> {
         requires { length captures.now ≡ length (group_names (parts_view parts.now)) }
         ensures written { IfOk result (λ text. text_of text ≡ text_of_parts (parts_view parts.now) (given_captures captures.now)) }
         ensures may { OnOk result (MayCaptureAll (options_view options.now) (parts_view parts.now) (given_captures captures.now)) }
-        ensures refused { IfErr result (ReportsWritten self.now.component (RefusesCapture (options_view options.now) (parts_view parts.now) (given_captures captures.now))) }
+        ensures refused { IfErr result (ReportsRefused self.now (options_view options.now) (parts_view parts.now) (given_captures captures.now)) }
     {
         match text_of_parts(self.alloc, options, parts, captures) {
             Ok(text) => Ok(text),
@@ -120,7 +120,7 @@ fn capture_not_given(alloc: Global, part: &Part) -> Option<String>
 
 /// What no copies of a part capture that may stand any number of times.
 fn no_copies(alloc: Global, part: &Part) -> Option<String>
-    ensures { option_map text_of result ≡ capture_of_none PartModifier.ZeroOrMore (is_empty (text_of part.now.prefix) && is_empty (text_of part.now.suffix)) }
+    ensures { option_map text_of result ≡ capture_of_none PartModifier.ZeroOrMore (is_bare (part_view part.now)) }
 {
     if is_bare(part) {
         return Some(String::new(alloc));
@@ -130,7 +130,7 @@ fn no_copies(alloc: Global, part: &Part) -> Option<String>
 
 /// Whether a part has neither prefix nor suffix.
 fn is_bare(part: &Part) -> bool
-    ensures { result ≡ (is_empty (text_of part.now.prefix) && is_empty (text_of part.now.suffix)) }
+    ensures { result ≡ is_bare (part_view part.now) }
 {
     part.prefix.is_empty() && part.suffix.is_empty()
 }

@@ -1,18 +1,17 @@
 //! The text of a component.
 
 ghost use Rattle.std.specs.Prelude.{◌≡◌, IfErr, IfOk};
-ghost use Rattle.urlpattern_core.specs.Components.{component_view};
-ghost use Rattle.urlpattern_generate.specs.Generating.{AsksFor, IsTextWithGroups, RefusesGroups};
-ghost use Rattle.urlpattern_generate.specs.Manners.{given_groups, manner_for, unchanged};
-ghost use Rattle.urlpattern_generate.specs.Writers.{manner_of_writer};
+ghost use Rattle.urlpattern_generate.specs.Generating.{HasText, HasWrittenText, LacksText};
+ghost use Rattle.urlpattern_generate.specs.Manners.{given_groups, unchanged};
+ghost use Rattle.urlpattern_generate.specs.Writers.{Asks, CannotWrite, Writes, WritesCanonical, manner_of_writer};
 ghost use Rattle.urlpattern_links.specs.Refused.{given_captures};
 ghost use Rattle.urlpattern_syntax.specs.{Options.options_view, Parts.parts_view, Reading.Reads, Text.text_of};
 
 use crate::error::GenerateError;
 use crate::groups::GivenGroup;
-use crate::writer::{Writer, begins_ipv6};
+use crate::plain::is_plain;
+use crate::writer::Writer;
 use std::alloc::Global;
-use urlpattern_canonical::canonicalize_and_process::Canonicalizer;
 use urlpattern_core::component::Component;
 use urlpattern_core::regexp::RegExp;
 use urlpattern_eight::ComponentName;
@@ -32,29 +31,66 @@ pub fn generate_component<R: RegExp>(
     hierarchical: bool,
     groups: &[GivenGroup<'_>],
 ) -> Result<String, GenerateError>
-    ensures generated { IfOk result (λ text. IsTextWithGroups R.answer (component_view component.now).matcher
-        (manner_for name hierarchical (text_of component.now.pattern_string) (given_groups groups.now)) (text_of component.now.pattern_string) (text_of text)) }
-    ensures refused { IfErr result (RefusesGroups R.answer (component_view component.now).matcher name
-        (manner_for name hierarchical (text_of component.now.pattern_string) (given_groups groups.now)) (text_of component.now.pattern_string)) }
+    ensures generated { IfOk result (λ text. HasText R.answer component.now name hierarchical (given_groups groups.now) (text_of text)) }
+    ensures refused { IfErr result (LacksText R.answer component.now name hierarchical (given_groups groups.now)) }
 {
-    let writer = Writer {
-        alloc,
-        canonicalizer: Canonicalizer::new(alloc),
-        component: name,
-        hierarchical,
-        is_ipv6: begins_ipv6(&component.pattern_string),
-        groups,
-    };
+    let writer = Writer::new(alloc, &component.pattern_string, name, hierarchical, groups);
+    writer.canonical_text(component)
+}
+
+/// The same, where the text need not be canonical.
+///
+/// Of a URL with eight such texts none has to be looked at again, if they are canonical in any URL of its kind.
+pub fn write_component<R: RegExp>(
+    alloc: Global,
+    component: &Component<R>,
+    name: ComponentName,
+    hierarchical: bool,
+    groups: &[GivenGroup<'_>],
+) -> Result<String, GenerateError>
+    ensures written { IfOk result (λ text. HasWrittenText R.answer component.now name hierarchical (given_groups groups.now) (text_of text)) }
+    ensures refused { IfErr result (LacksText R.answer component.now name hierarchical (given_groups groups.now)) }
+{
+    let writer = Writer::new(alloc, &component.pattern_string, name, hierarchical, groups);
     writer.text(component)
 }
 
 impl Writer<'_> {
+    /// The text of a component, which is canonical.
+    fn canonical_text<R: RegExp>(&self, component: &Component<R>) -> Result<String, GenerateError>
+        ensures generated { IfOk result (λ text. WritesCanonical R.answer component.now self.now (text_of text)) }
+        ensures refused { IfErr result (CannotWrite R.answer component.now self.now) }
+    {
+        let text = match self.text(component) {
+            Ok(text) => text,
+            Err(error) => return Err(error),
+        };
+        if self.is_canonical(&text)? {
+            Ok(text)
+        } else {
+            Err(GenerateError::ReadOtherwise(self.component))
+        }
+    }
+
     /// The text of a component.
     fn text<R: RegExp>(&self, component: &Component<R>) -> Result<String, GenerateError>
-        ensures generated { IfOk result (λ text. IsTextWithGroups R.answer (component_view component.now).matcher
-            (manner_of_writer self.now) (text_of component.now.pattern_string) (text_of text)) }
-        ensures refused { IfErr result (RefusesGroups R.answer (component_view component.now).matcher self.now.component
-            (manner_of_writer self.now) (text_of component.now.pattern_string)) }
+        ensures written { IfOk result (λ text. Writes R.answer component.now self.now (text_of text)) }
+        ensures refused { IfErr result (CannotWrite R.answer component.now self.now) }
+    {
+        let pattern = component.pattern_string.as_str();
+        if is_plain(pattern) {
+            return self.plain_text(component);
+        }
+        if self.is_open(pattern) {
+            return self.open_text(component);
+        }
+        self.text_by_parts(component)
+    }
+
+    /// The text of a component whose pattern text has to be parsed.
+    fn text_by_parts<R: RegExp>(&self, component: &Component<R>) -> Result<String, GenerateError>
+        ensures written { IfOk result (λ text. Writes R.answer component.now self.now (text_of text)) }
+        ensures refused { IfErr result (CannotWrite R.answer component.now self.now) }
     {
         let Ok(options) = self.options() else {
             return Err(GenerateError::OutOfMemory);
@@ -74,10 +110,8 @@ impl Writer<'_> {
     ) -> Result<String, GenerateError>
         requires options { options_view options.now ≡ (manner_of_writer self.now).options }
         requires reads { Reads (text_of component.now.pattern_string) (manner_of_writer self.now).options unchanged (parts_view parts.now) }
-        ensures generated { IfOk result (λ text. IsTextWithGroups R.answer (component_view component.now).matcher
-            (manner_of_writer self.now) (text_of component.now.pattern_string) (text_of text)) }
-        ensures refused { IfErr result (RefusesGroups R.answer (component_view component.now).matcher self.now.component
-            (manner_of_writer self.now) (text_of component.now.pattern_string)) }
+        ensures written { IfOk result (λ text. Writes R.answer component.now self.now (text_of text)) }
+        ensures refused { IfErr result (CannotWrite R.answer component.now self.now) }
     {
         match self.captures(parts) {
             Ok(captures) => self.text_with(component, options, parts, &captures),
@@ -94,11 +128,9 @@ impl Writer<'_> {
         captures: &[Option<String>],
     ) -> Result<String, GenerateError>
         requires options { options_view options.now ≡ (manner_of_writer self.now).options }
-        requires asked { AsksFor (manner_of_writer self.now) (text_of component.now.pattern_string) (parts_view parts.now) (given_captures captures.now) }
-        ensures generated { IfOk result (λ text. IsTextWithGroups R.answer (component_view component.now).matcher
-            (manner_of_writer self.now) (text_of component.now.pattern_string) (text_of text)) }
-        ensures refused { IfErr result (RefusesGroups R.answer (component_view component.now).matcher self.now.component
-            (manner_of_writer self.now) (text_of component.now.pattern_string)) }
+        requires asked { Asks self.now (text_of component.now.pattern_string) (parts_view parts.now) (given_captures captures.now) }
+        ensures written { IfOk result (λ text. Writes R.answer component.now self.now (text_of text)) }
+        ensures refused { IfErr result (CannotWrite R.answer component.now self.now) }
     {
         let text = match self.written(options, parts, captures) {
             Ok(text) => text,

@@ -1,6 +1,7 @@
 //! Why a pattern has no text with the groups that are given.
 
-ghost use Rattle.std.specs.Prelude.{◌≡◌};
+ghost use Rattle.std.specs.Prelude.{◌≡◌, Some};
+ghost use Rattle.urlpattern_generate.specs.GenerateErrorText.{generate_error_text};
 ghost use Rattle.urlpattern_generate.specs.declared.error.GenerateError.TheVariants as errors;
 
 use std::alloc::AllocError;
@@ -34,6 +35,8 @@ pub enum GenerateError {
 
 /// Prints the component, the group and what is wrong with it.
 impl fmt::Display for GenerateError {
+    ghost output = { λ error. Some (generate_error_text error) };
+
     fn fmt<W: fmt::Write>(&self, f: &mut fmt::Formatter<W>) -> fmt::Result {
         match self {
             Self::Missing(component, name) => {

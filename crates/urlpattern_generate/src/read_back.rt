@@ -1,10 +1,10 @@
 //! Whether a text is read back as it was meant.
 
-ghost use Rattle.std.specs.Prelude.{◌≡◌, ◌↔◌, Some, IfOk, IsTrue, MatchBool, map};
+ghost use Rattle.std.specs.Prelude.{◌≡◌, ◌↔◌, Some, IfOk, IsTrue, map};
 ghost use Rattle.std.specs.Str.{chars};
 ghost use Rattle.urlpattern_core.specs.Matchers.{matcher_view};
 ghost use Rattle.urlpattern_meaning.specs.CaptureTexts.{captures_view};
-ghost use Rattle.urlpattern_generate.specs.Generating.{IsNotCanonical, IsReadWith, IsReadOtherwise};
+ghost use Rattle.urlpattern_generate.specs.Generating.{IsAnswered, TellsCanonical};
 ghost use Rattle.urlpattern_generate.specs.Writers.{manner_of_writer};
 ghost use Rattle.urlpattern_links.specs.Refused.{given_captures};
 ghost use Rattle.urlpattern_syntax.specs.Text.{option_text};
@@ -17,31 +17,24 @@ use urlpattern_core::regexp::RegExp;
 use urlpattern_syntax::Error;
 
 impl Writer<'_> {
-    /// Whether a matcher takes a text with these captures, and the text is canonical.
+    /// Whether a matcher takes a text with these captures.
     pub(crate) fn is_read_back<R: RegExp>(
         &self,
         matcher: &Matcher<R>,
         text: &str,
         captures: &[Option<String>],
     ) -> Result<bool, AllocError>
-        ensures { IfOk result (λ back. MatchBool back
-            (IsReadWith R.answer (matcher_view matcher.now) (manner_of_writer self.now).canonical (chars text.now) (given_captures captures.now))
-            (IsReadOtherwise R.answer (matcher_view matcher.now) (manner_of_writer self.now).canonical text.now (given_captures captures.now))) }
+        ensures { IfOk result (λ back. IsAnswered back R.answer (matcher_view matcher.now) (chars text.now) (given_captures captures.now)) }
     {
         let Ok(found) = matcher.matches(self.alloc, text) else {
             return Err(AllocError);
         };
-        if !are_captures(&found, captures) {
-            return Ok(false);
-        }
-        self.is_canonical(text)
+        Ok(are_captures(&found, captures))
     }
 
     /// Whether a text is canonical.
-    fn is_canonical(&self, text: &str) -> Result<bool, AllocError>
-        ensures { IfOk result (λ is. MatchBool is
-            ((manner_of_writer self.now).canonical (chars text.now) ≡ Ok (chars text.now))
-            (IsNotCanonical (manner_of_writer self.now).canonical text.now)) }
+    pub(crate) fn is_canonical(&self, text: &str) -> Result<bool, AllocError>
+        ensures { IfOk result (λ is. TellsCanonical is (manner_of_writer self.now).canonical text.now) }
     {
         match self.canonical(text) {
             Ok(value) => Ok(is_same_text(&value, text)),

@@ -3,7 +3,7 @@
 ghost use Rattle.std.specs.Prelude.{◌≡◌, IfErr, IfOk, length, codes};
 ghost use Rattle.std.specs.Str.{chars};
 ghost use Rattle.urlpattern_canonical.specs.Canonical.{IsAnswer};
-ghost use Rattle.urlpattern_generate.specs.Manners.{IsUnchanged, begins_ipv6, unchanged};
+ghost use Rattle.urlpattern_generate.specs.Manners.{IsUnchanged, begins_ipv6, given_groups, manner_for, unchanged};
 ghost use Rattle.urlpattern_generate.specs.Writers.{IsPatternError, ReportsPattern, manner_of_writer};
 ghost use Rattle.urlpattern_syntax.specs.{Errors.OnlyOutOfMemory, Options.options_view, Parts.parts_view};
 ghost use Rattle.urlpattern_syntax.specs.Reading.{IsReadAs};
@@ -27,6 +27,29 @@ pub(crate) struct Writer<'g> {
     pub(crate) groups: &'g [GivenGroup<'g>],
 }
 
+impl<'g> Writer<'g> {
+    /// How the text of a component of this pattern text is written.
+    pub(crate) fn new(
+        alloc: Global,
+        pattern: &str,
+        component: ComponentName,
+        hierarchical: bool,
+        groups: &'g [GivenGroup<'g>],
+    ) -> Self
+        ensures manner { manner_of_writer result ≡ manner_for component hierarchical (chars pattern.now) (given_groups groups.now) }
+        ensures component { result.component ≡ component }
+    {
+        Self {
+            alloc,
+            canonicalizer: Canonicalizer::new(alloc),
+            component,
+            hierarchical,
+            is_ipv6: begins_ipv6(pattern),
+            groups,
+        }
+    }
+}
+
 impl Writer<'_> {
     /// The options that the pattern of the component is read under.
     ///
@@ -48,6 +71,9 @@ impl Writer<'_> {
     pub(crate) fn canonical(&self, text: &str) -> Result<String, Error>
         ensures { IsAnswer ((manner_of_writer self.now).canonical (chars text.now)) (length text.now) result }
     {
+        if self.keeps(text) {
+            return Ok(String::from_str(self.alloc, text)?);
+        }
         let values = &self.canonicalizer;
         match self.component {
             ComponentName::Protocol => values.protocol(text),
@@ -91,7 +117,7 @@ fn pattern_error(component: ComponentName, error: &Error) -> GenerateError
 }
 
 /// Whether a pattern text begins as that of an IPv6 address does.
-pub(crate) fn begins_ipv6(pattern: &str) -> bool
+pub fn begins_ipv6(pattern: &str) -> bool
     ensures { result ≡ begins_ipv6 (chars pattern.now) }
 {
     matches!(pattern.as_bytes(), [b'[', ..])

@@ -1,5 +1,6 @@
 -- The hashes of an address, and the keys that are made of them.
-use Rattle.std.specs.Prelude.{◌≡◌, ◌<◌, ℕ, ◌+◌, ◌*◌, ◌%◌, ◌^◌, ◌==◌, if◌then◌else◌, Bool, true, false, List, [], ◌∷◌, fold, length, take, Option, None, Some}
+use Rattle.std.specs.Prelude.{◌≡◌, ◌<◌, ℕ, ◌+◌, ◌*◌, ◌%◌, ◌^◌, ◌==◌, if◌then◌else◌, Bool, true, false, List, [], ◌∷◌, encode_utf8_all, length, take, Option, None, Some}
+use Rattle.std.specs.Hash.FoldHasher as folding
 use Rattle.urlpattern_index.specs.FixedTexts.{AddressTexts}
 use Rattle.urlpattern_index.specs.declared.address.AddressHashes.{AddressHashes}
 use Rattle.urlpattern_index.specs.declared.form.Form.{Form}
@@ -10,8 +11,9 @@ use Rattle.urlpattern_index.specs.declared.form.Form.{Form}
 unfoldable pub mixed : (hash value : ℕ) → ℕ
 mixed hash value = ((hash * 1099511628211) % 2 ^ 64 + value) % 2 ^ 64
 
+-- that of the bytes of a text
 abbrev pub text_hash : List ℕ → ℕ
-text_hash text = fold mixed 0 text
+text_hash text = folding.finish (folding.write folding.initial (encode_utf8_all text))
 
 -- that of a text, and 0 where there is none
 abbrev pub option_hash : Option (List ℕ) → ℕ

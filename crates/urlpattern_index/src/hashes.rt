@@ -2,6 +2,8 @@
 ghost use Rattle.std.specs.Prelude.{◌≡◌, chars};
 ghost use Rattle.urlpattern_index.specs.Keys.{mixed, text_hash};
 
+use std::hash::{FoldHasher, Hasher};
+
 /// A number to multiply by, as FNV-1a has it.
 const MULTIPLIER: u64 = 0x100_0000_01b3;
 
@@ -16,5 +18,7 @@ pub(crate) fn mixed(hash: u64, value: u64) -> u64
 pub(crate) fn text_hash(text: &str) -> u64
     ensures { result ≡ text_hash (chars text.now) }
 {
-    text.chars().fold(0, |hash, c| mixed(hash, u64::from(c)))
+    let mut hasher = FoldHasher::default();
+    hasher.write(text.as_bytes());
+    hasher.finish()
 }

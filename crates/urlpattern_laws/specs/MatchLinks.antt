@@ -63,7 +63,7 @@ GroupsOfMatchesDiffer {E} engine =
 
 -- What is asked of parts, of the text that a component's matcher answers by these captures, and of the component: no fixed text has a
 -- modifier, the answer is what the parts mean, the names are those of the parts, and the captures are canonical.
-pub record IsReadBack {E : Type 0} (answer : E → List ℕ → Option Captures) (compiled : ComponentView E) (manner : WritingManner) (parts : List PartView) (text : List ℕ) (captures : Captures) : Type 0 where
+pub record IsReadBackFrom {E : Type 0} (answer : E → List ℕ → Option Captures) (compiled : ComponentView E) (manner : WritingManner) (parts : List PartView) (text : List ℕ) (captures : Captures) : Type 0 where
   pub plain : HavePlainTexts parts
   pub means : Answers answer compiled.matcher text (Some captures) → PartsMean manner.options parts text captures
   pub has_names : compiled.group_name_list ≡ group_names parts
@@ -73,7 +73,7 @@ pub record IsReadBack {E : Type 0} (answer : E → List ℕ → Option Captures)
 abbrev pub TextIsReadBack : {E : Type 0} → (answer : E → List ℕ → Option Captures) → PatternView E → List GivenView → ComponentName → (text : List ℕ) → Captures → Type 0
 TextIsReadBack answer pattern groups component text captures = (hierarchical : Bool) (parts : List PartView) →
     InItsManner answer pattern groups component (λ manner pattern_text. Reads pattern_text manner.options unchanged parts) hierarchical →
-    IsReadBack answer (pattern component) (manner_for component hierarchical (pattern component).pattern_string groups) parts text captures
+    IsReadBackFrom answer (pattern component) (manner_for component hierarchical (pattern component).pattern_string groups) parts text captures
 
 -- A link with the groups of a match of eight texts has these texts.
 abbrev pub LinksOfMatchesAreTheTexts : {E : Type 0} → (answer : E → List ℕ → Option Captures) → Type 0

@@ -160,8 +160,13 @@ impl<'p, 'u> UrlPatternCaptures<'p, 'u> {
         ensures memory { OnlyOutOfMemory result }
     {
         let mut result = empty_result(alloc);
-        self.copy_to(alloc, &mut result)?;
-        Ok(result)
+        match self.copy_to(alloc, &mut result) {
+            Ok(()) => Ok(result),
+            Err(OutOfMemory) => {
+                drop(result);
+                Err(Error::OutOfMemory)
+            }
+        }
     }
 
     /// Copies the texts, names and captures to a result that has no groups yet.

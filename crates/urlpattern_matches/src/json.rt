@@ -71,9 +71,12 @@ impl UrlPatternCaptures<'_, '_> {
         ensures memory { OnlyOutOfMemory result }
     {
         let copy = self.to_result(alloc)?;
-        let tree = copy.to_json_value(alloc)?;
+        let tree = copy.to_json_value(alloc);
         drop(copy);
-        Ok(tree)
+        match tree {
+            Ok(tree) => Ok(tree),
+            Err(error) => Err(error),
+        }
     }
 }
 

@@ -53,10 +53,14 @@ pub fn parse_match_input(
 {
     match input {
         UrlPatternMatchInput::Url(url) => Ok(Some(of_url(alloc, &url)?)),
-        UrlPatternMatchInput::Init(init) => match process_values(alloc, &init, &ProcessType::Url) {
-            Ok(values) => Ok(Some(of_values(alloc, values))),
-            Err(Error::Url(_)) => Ok(None),
-            Err(error) => Err(error),
-        },
+        UrlPatternMatchInput::Init(init) => {
+            let values = process_values(alloc, &init, &ProcessType::Url);
+            drop(init);
+            match values {
+                Ok(values) => Ok(Some(of_values(alloc, values))),
+                Err(Error::Url(_)) => Ok(None),
+                Err(error) => Err(error),
+            }
+        }
     }
 }

@@ -58,7 +58,7 @@ pub struct UrlPatternResult {
 /// assert_eq!(rt; names.len(), groups.len());
 /// for (name, (expected, captured)) in names.iter().zip(groups) {
 ///     assert_eq!(rt; name, expected);
-///     assert_eq!(rt; found.get(name), *captured, "of {name:?}");
+///     assert_eq!(rt; found.get(name), *captured);
 /// }
 /// ```
 ///

@@ -1,28 +1,35 @@
 -- The URL of a pattern, by the texts of its components.
-use Rattle.std.proofs.Common.{◌≡◌, ℕ, List, Option, Result, Ok, Err, String, refl, subst, sym}
+use Rattle.std.proofs.Common.{◌≡◌, ◌∙◌, ℕ, true, false, List, Option, None, Some, Result, Ok, Err, String, ap, refl, subst, sym}
 use Rattle.std.proofs.lemmas.List.Elements.{All-weaker}
-use Rattle.std.specs.Prelude.{IfErr, IfOk}
+use Rattle.std.specs.Prelude.{IfErr, IfOk, IfSome}
+use Rattle.std.specs.Result.{result_ok}
 use Rattle.std.specs.declared.alloc.Global.{Global}
 use Rattle.url.specs.Parts.{Parts}
-use Rattle.urlpattern_generate.specs.Manners.{GivenView}
-use Rattle.urlpattern_init.specs.Inheritance.{texts_of_url}
+use Rattle.urlpattern_create.specs.Compiled.{IsPathKind}
+use Rattle.urlpattern_generate.proofs.GeneratingLemmas.{canonical_written}
+use Rattle.urlpattern_generate.specs.Manners.{GivenView, begins_ipv6, canonical_for, manner_for}
+use Rattle.urlpattern_init.specs.Inheritance.{texts_of_url, url_text}
 use Rattle.urlpattern_init.specs.declared.init.UrlPatternMatchInput.TheVariants as inputs
 use Rattle.urlpattern_meaning.specs.PartMeaning.{Captures}
-use Rattle.urlpattern_pattern.specs.LinkedUrls.{GeneratesTexts, IsLink, RefusesLink}
+use Rattle.urlpattern_pattern.specs.GeneratedTexts.{printed_values}
+use Rattle.urlpattern_pattern.specs.LinkedUrls.{GeneratesTexts, IsLink, RefusesLink, WritesText, WritesTexts}
 use Rattle.urlpattern_pattern.specs.Match.{HasMatch}
 use Rattle.urlpattern_pattern.specs.Patterns.{PatternView}
 use Rattle.urlpattern_eight.proofs.EightLemmas.{at-each}
 use Rattle.urlpattern_eight.specs.declared.eight.ComponentName.{ComponentName}
+use Rattle.urlpattern_eight.specs.declared.eight.ComponentName.TheVariants.{Protocol, Username, Password, Hostname, Port, Pathname, Search, Hash}
 use Rattle.urlpattern_eight.specs.declared.eight.Eight.{Eight}
 use Rattle.urlpattern_eight.specs.Eight.{IsFirstError, Texts, at}
 use Rattle.urlpattern_syntax.specs.Text.{text_of}
-use Rattle.urlpattern_url.specs.UrlsOfTexts.{RefusesTexts, texts_view}
+use Rattle.urlpattern_url.proofs.CanonicalTexts.{texts_are_canonical}
+use Rattle.urlpattern_url.specs.UrlsOfTexts.{RefusesTexts, string_texts}
+use Rattle.urlpattern_url.specs.WebUrls.{IsWebUrl}
 use Rattle.urlpattern_url.specs.declared.error.NoLink.{NoLink}
 use Rattle.urlpattern_url.specs.declared.error.NoLink.TheVariants.{Component, OtherText, OutOfMemory, Url}
 
 -- what holds of each text, with something else, holds of those that are seen
 pub texts_seen : {E : Type 0} (P : ComponentName → List ℕ → Type 0) (result : Result (Eight (String Global)) E) →
-    IfOk result (λ texts. (name : ComponentName) → ComponentName × P name (text_of (at texts name))) → IfOk result (λ texts. (name : ComponentName) → P name (at (texts_view texts) name))
+    IfOk result (λ texts. (name : ComponentName) → ComponentName × P name (text_of (at texts name))) → IfOk result (λ texts. (name : ComponentName) → P name (at (string_texts texts) name))
 texts_seen P (Ok texts) h = λ name. subst (P name) (sym (at-each (λ other. text_of (at texts other)) name)) (h name).1
 texts_seen P (Err error) h = tt
 
@@ -39,11 +46,47 @@ first_answered {A} (Err error) Answers (before, after, name, split, earlier, ans
   answers.1,
 )
 
+-- the manner of a pattern whose hostname is no IPv6 address makes a text canonical as that of a URL is
+canonical_under : (texts : ComponentName → List ℕ) → begins_ipv6 (texts Hostname) ≡ false → (component : ComponentName) (text : List ℕ) →
+    canonical_for component true false text ≡ Ok text → canonical_for component true (begins_ipv6 (texts component)) text ≡ Ok text
+canonical_under texts no_address Protocol text is = is
+canonical_under texts no_address Username text is = is
+canonical_under texts no_address Password text is = is
+canonical_under texts no_address Hostname text is = ap (λ is_ipv6. canonical_for Hostname true is_ipv6 text) no_address ∙ is
+canonical_under texts no_address Port text is = is
+canonical_under texts no_address Pathname text is = is
+canonical_under texts no_address Search text is = is
+canonical_under texts no_address Hash text is = is
+
 module _ {E : Type 0} (answer : E → List ℕ → Option Captures) (pattern : PatternView E) (groups : List GivenView) where
   pub linked : (texts : Texts) (result : Result Parts NoLink) → GeneratesTexts answer pattern groups texts → IfOk result (λ url. texts_of_url url ≡ texts) →
       IfOk result (IsLink answer pattern groups)
   linked texts (Ok url) generated has = subst (λ (of : Texts). GeneratesTexts answer pattern groups of) (sym has) generated
   linked texts (Err error) generated has = tt
+
+  -- what is written for each component, where an error is left out
+  pub written_texts : {F : Type 0} (result : Result (Eight (String Global)) F) (found : Option (Eight (String Global))) → found ≡ result_ok result →
+      IsPathKind answer (printed_values pattern) (pattern Protocol).matcher true →
+      IfOk result (λ texts. (name : ComponentName) → WritesText answer pattern groups name (at (string_texts texts) name)) → IfSome found (λ texts. WritesTexts answer pattern groups (string_texts texts))
+  written_texts result None same kind written = tt
+  written_texts (Ok texts) (Some found) same kind written =
+      let e : texts ≡ found = (let other = sym same in cc) in
+      (kind, subst (λ of. (name : ComponentName) → WritesText answer pattern groups name (at (string_texts of) name)) e written)
+  written_texts (Err error) (Some found) same kind written = absurd cc
+
+  -- the texts of a URL of the web, where each is written for its component
+  web_linked : (url : Parts) → IsWebUrl url → begins_ipv6 (pattern Hostname).pattern_string ≡ false → WritesTexts answer pattern groups (texts_of_url url) → IsLink answer pattern groups url
+  web_linked url web no_address written component =
+      let view = pattern component in (
+        true,
+        written.0,
+        canonical_written answer view.matcher (manner_for component true view.pattern_string groups) view.pattern_string (at (texts_of_url url) component) (written.1 component)
+            (canonical_under (λ name. (pattern name).pattern_string) no_address component (at (texts_of_url url) component)
+            (subst (λ text. canonical_for component true false text ≡ Ok text) (sym (at-each (λ name. url_text name url) component)) (texts_are_canonical url web component))),
+      )
+
+  pub web_link : (url : Parts) (texts : Texts) → IsWebUrl url → begins_ipv6 (pattern Hostname).pattern_string ≡ false → WritesTexts answer pattern groups texts → texts_of_url url ≡ texts → IsLink answer pattern groups url
+  web_link url texts web no_address written has = web_linked url web no_address (subst (λ (of : Texts). WritesTexts answer pattern groups of) (sym has) written)
 
   -- what is linked is matched
   matched : (url : Parts) → IsLink answer pattern groups url → HasMatch answer pattern (inputs.Url url)

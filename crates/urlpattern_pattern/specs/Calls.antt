@@ -1,5 +1,5 @@
 -- What groups capture while a match is made: looks at the eight texts, and what is captured of them.
-use Rattle.std.specs.Prelude.{◌≡◌, ℕ, List, Option, Some}
+use Rattle.std.specs.Prelude.{◌≡◌, ℕ, List, Option, Some, zip}
 use Rattle.urlpattern_eight.specs.declared.eight.ComponentName.{ComponentName}
 use Rattle.urlpattern_eight.specs.declared.eight.Eight.{Eight}
 use Rattle.urlpattern_matches.specs.declared.captures.GroupCaptures.{GroupCaptures}
@@ -8,6 +8,7 @@ use Rattle.urlpattern_matches.specs.ResultViews.{IsResultOf, ResultView}
 use Rattle.urlpattern_core.specs.Looks.{look_answer, IsAsking}
 use Rattle.urlpattern_core.specs.declared.matcher.look.Look.{Look}
 use Rattle.urlpattern_meaning.specs.{Matching.Answers, Matching.AsksEngine, PartMeaning.Captures}
+use Rattle.urlpattern_pattern.specs.Match.{AreAnswers}
 use Rattle.urlpattern_pattern.specs.Patterns.{PatternView}
 use Rattle.urlpattern_eight.specs.Eight.{Texts, at}
 
@@ -30,7 +31,15 @@ AreCaptured answer looks captures =
 abbrev pub all_captures : Eight GroupCaptures → ComponentName → Captures
 all_captures captures name = captures_of (at captures name)
 
+-- the captures are those with which the matchers of the pattern answer the texts
+abbrev pub HasAnswers : {E : Type 0} → (answer : E → List ℕ → Option Captures) → PatternView E → Texts → Eight GroupCaptures → Type 0
+HasAnswers answer pattern texts captures = AreAnswers answer pattern texts (all_captures captures)
+
 -- the match has these texts, and what the groups of the pattern capture
 abbrev pub HasCaptures : {E : Type 0} → PatternView E → Texts → Eight GroupCaptures → (result : ComponentName → ResultView) → Type 0
 HasCaptures pattern texts captures result =
     (name : ComponentName) → IsResultOf (pattern name).group_name_list (all_captures captures name) (at texts name) (result name)
+
+-- the groups of each component are its names beside what these captures are
+abbrev pub HasGroups : {E : Type 0} → PatternView E → Eight GroupCaptures → (groups : ComponentName → List (List ℕ × Option (List ℕ))) → Type 0
+HasGroups pattern captures groups = (name : ComponentName) → groups name ≡ zip (pattern name).group_name_list (all_captures captures name)

@@ -19,9 +19,9 @@ use Rattle.urlpattern_pattern.specs.ByText.{AnswersByItsText, AnswersByText, Has
 use Rattle.urlpattern_create.specs.Compiled.{IsPathKind, IsPatternOfInit, Manner, manner_of, pattern_values}
 use Rattle.urlpattern_pattern.specs.Patterns.{PatternView}
 use Rattle.urlpattern_pattern.specs.{Match.AreMatched, Meaning.ReadsAs}
-use Rattle.urlpattern_readings.specs.Readings.{ApartMatchNothing, AreItsParts, AreMadeOf, AreReadByValues, CommonAreMatched, CoveredAreMatched, CoveredByEngineAreMatched, IsReadAs, IsReadBeside, PartingsAreMatched, SameAreMatched, texts_of}
+use Rattle.urlpattern_readings.specs.Readings.{ApartMatchNothing, AreItsParts, AreMadeOf, AreReadByValues, CommonAreMatched, CoveredAreMatched, CoveredByEngineAreMatched, CoveredByMeaningAreMatched, IsCoveredByMeaning, IsReadInManner, IsReadBeside, KnownAreCoveredByMeaning, PartingsAreMatched, SameAreMatched, eight_texts}
 use Rattle.urlpattern_rules.proofs.SameParts.{known_or_not, same_within}
-use Rattle.urlpattern_rules.specs.Comparing.{AreApart, IsComponentCovered, IsCovered, IsKnown, IsMeantBy, IsParting, IsWithin, MeansEach, MeansIn, TakesEachLine, TakesNoLine}
+use Rattle.urlpattern_rules.specs.Comparing.{AreApart, AreSame, IsComponentCovered, IsKnown, IsMeantBy, IsParting, MeansEach, MeansIn, TakesNoLine}
 use Rattle.urlpattern_rules.specs.declared.component.ComponentParts.{ComponentParts}
 use Rattle.urlpattern_rules.specs.declared.pattern.{Parting.Parting, PatternParts.PatternParts}
 use Rattle.urlpattern_eight.proofs.EightLemmas.{at-each}
@@ -54,7 +54,7 @@ matched_means answer manner compiled parts text by reads line =
     )
 
 -- what is known of parts is known of the manner
-has_meaning : (manner : Manner) (component : ComponentParts) → IsReadAs manner component → IsKnown component → HasMeaning manner
+has_meaning : (manner : Manner) (component : ComponentParts) → IsReadInManner manner component → IsKnown component → HasMeaning manner
 has_meaning manner component is known = record {
   generated = λ others reads. subst (λ (ps : List PartView). AreGenerated ps) (read_once manner (parts_view component.parts.items) others is.reads reads) known.generated;
   case_kept = ap (λ (o : OptionsView). o.ignore_case) (sym is.options) ∙ known.case_kept;
@@ -75,8 +75,8 @@ its_parts answer init asked pattern values parts by are read name known text lin
     let one : values ≡ by.values = cc (sym are ∙ by.are_values) in
     let again = subst (λ (v : Values). AreReadByValues answer asked v pattern parts) one read in
     let path : again.hierarchical ≡ by.hierarchical = same_truth _ again.hierarchical by.hierarchical again.path_kind by.by_protocol in
-    let is : IsReadAs (manner_of asked by.values by.hierarchical name) component =
-    subst (λ (h : Bool). IsReadAs (manner_of asked by.values h name) component) path (again.reads name).is_read in
+    let is : IsReadInManner (manner_of asked by.values by.hierarchical name) component =
+    subst (λ (h : Bool). IsReadInManner (manner_of asked by.values h name) component) path (again.reads name).is_read in
     let manner = manner_of asked by.values by.hierarchical name in
     subst (λ (o : OptionsView). IsMatched answer (pattern name).matcher text ↔ MeansText o (parts_view component.parts.items) text) (sym is.options)
     (matched_means answer manner (pattern name) (parts_view component.parts.items) text (by.answers name (has_meaning manner component is known)) is.reads line)
@@ -90,8 +90,8 @@ made_of {E} engine init asked pattern values parts (own, are_values, compiled) a
     let again = subst (λ (v : Values). AreReadByValues engine.answer asked v pattern parts) one read in
     let path : again.hierarchical ≡ compiled.hierarchical = same_truth _ again.hierarchical compiled.hierarchical again.path_kind compiled.path_kind in
     let manner = manner_of asked own compiled.hierarchical name in
-    let is : IsReadAs manner component =
-    subst (λ (h : Bool). IsReadAs (manner_of asked own h name) component) path (again.reads name).is_read in
+    let is : IsReadInManner manner component =
+    subst (λ (h : Bool). IsReadInManner (manner_of asked own h name) component) path (again.reads name).is_read in
     let (made_parts, reads, of_parts) = (compiled.are_compiled name).0 in
     let same : made_parts ≡ parts_view component.parts.items = read_once manner made_parts (parts_view component.parts.items) reads is.reads in
     record {
@@ -103,28 +103,56 @@ made_of {E} engine init asked pattern values parts (own, are_values, compiled) a
 
 -- ---- laws
 
+meant_component : {E : Type 0} (answer : E → List ℕ → Option Captures) (pattern asked : PatternView E) (parts asked_parts : PatternParts) (name : ComponentName) (text : List ℕ) →
+    AreItsParts answer pattern parts → AreItsParts answer asked asked_parts → IsCoveredByMeaning (at parts.components name) (at asked_parts.components name) → IsLine text →
+    IsMatched answer (asked name).matcher text → IsMatched answer (pattern name).matcher text
+meant_component answer pattern asked parts asked_parts name text are asked_are (inl each_line) line matched =
+    (are name each_line.known text line).1 (each_line.takes text line.characters line.no_line_feed)
+meant_component answer pattern asked parts asked_parts name text are asked_are (inr within) line matched =
+    (are name within.known text line).1 (within.within text line.characters line.no_line_feed ((asked_are name within.asked_known text line).0 matched))
+
+-- parts that are the same cover by meaning, where that is known
+meant_or_same : (component asked : ComponentParts) → IsComponentCovered component asked → IsCoveredByMeaning component asked ⊎ (¬ IsKnown component × AreSame component asked)
+meant_or_same component asked (inl each_line) = inl (inl each_line)
+meant_or_same component asked (inr (inl within)) = inl (inr within)
+meant_or_same component asked (inr (inr same)) = elim (known_or_not component) [
+  | inl known ↦ inl (inr (same_within component asked same known))
+  | inr unknown ↦ inr (unknown, same)
+]
+
 covered_component : {E : Type 0} (answer : E → List ℕ → Option Captures) (pattern asked : PatternView E) (parts asked_parts : PatternParts) (name : ComponentName) (text : List ℕ) →
     AreItsParts answer pattern parts → AreItsParts answer asked asked_parts → SameAreMatched answer pattern asked parts asked_parts →
     IsComponentCovered (at parts.components name) (at asked_parts.components name) → IsLine text →
     IsMatched answer (asked name).matcher text → IsMatched answer (pattern name).matcher text
-covered_component answer pattern asked parts asked_parts name text are asked_are alike (inl each_line) line matched =
-    (are name each_line.known text line).1 (each_line.takes text line.characters line.no_line_feed)
-covered_component answer pattern asked parts asked_parts name text are asked_are alike (inr (inl within)) line matched =
-    (are name within.known text line).1 (within.within text line.characters line.no_line_feed ((asked_are name within.asked_known text line).0 matched))
-covered_component answer pattern asked parts asked_parts name text are asked_are alike (inr (inr same)) line matched = by (known_or_not (at parts.components name))
-  where
-    by : IsKnown (at parts.components name) ⊎ ¬ IsKnown (at parts.components name) → IsMatched answer (pattern name).matcher text
-    by (inl known) =
-        let within = same_within (at parts.components name) (at asked_parts.components name) same known in
-        (are name within.known text line).1 (within.within text line.characters line.no_line_feed ((asked_are name within.asked_known text line).0 matched))
-    by (inr unknown) = alike name unknown same text line matched
+covered_component answer pattern asked parts asked_parts name text are asked_are alike covered line matched = elim (meant_or_same (at parts.components name) (at asked_parts.components name) covered) [
+  | inl meant ↦ meant_component answer pattern asked parts asked_parts name text are asked_are meant line matched
+  | inr same ↦ alike name same.0 same.1 text line matched
+]
+
+nothing_matched : {E : Type 0} (answer : E → List ℕ → Option Captures) (asked : PatternView E) (parts : PatternParts) (name : ComponentName) → AreItsParts answer asked parts →
+    TakesNoLine (at parts.components name) → (texts : Texts) → EachIsLine texts → ¬ AreMatched answer asked texts
+nothing_matched answer asked parts name are nothing texts lines matched =
+    let line = lines name in
+    nothing.takes_none (at texts name) line.characters line.no_line_feed ((are name nothing.known (at texts name) line).0 (matched name))
 
 pub covered_matched : {E : Type 0} (answer : E → List ℕ → Option Captures) → CoveredAreMatched answer
 covered_matched answer pattern asked parts asked_parts are asked_are alike (inl (name, nothing)) texts lines matched =
-    let line = lines name in
-    absurd (nothing.takes_none (at texts name) line.characters line.no_line_feed ((asked_are name nothing.known (at texts name) line).0 (matched name)))
+    absurd (nothing_matched answer asked asked_parts name asked_are nothing texts lines matched)
 covered_matched answer pattern asked parts asked_parts are asked_are alike (inr each_is) texts lines matched =
     λ name. covered_component answer pattern asked parts asked_parts name (at texts name) are asked_are alike (each_is name) (lines name) (matched name)
+
+pub meant_matched : {E : Type 0} (answer : E → List ℕ → Option Captures) → CoveredByMeaningAreMatched answer
+meant_matched answer pattern asked parts asked_parts are asked_are (inl (name, nothing)) texts lines matched =
+    absurd (nothing_matched answer asked asked_parts name asked_are nothing texts lines matched)
+meant_matched answer pattern asked parts asked_parts are asked_are (inr each_is) texts lines matched =
+    λ name. meant_component answer pattern asked parts asked_parts name (at texts name) are asked_are (each_is name) (lines name) (matched name)
+
+pub known_meant : KnownAreCoveredByMeaning
+known_meant pattern asked known (inl nothing) = inl nothing
+known_meant pattern asked known (inr each_is) = inr (λ name. elim (meant_or_same (at pattern.components name) (at asked.components name) (each_is name)) [
+  | inl meant ↦ meant
+  | inr same ↦ absurd (same.0 (known name same.1))
+])
 
 pub covered_by_engine : {E : Type 0} (engine : Engine E) →
     ((pattern asked : PatternView E) (parts asked_parts : PatternParts) → AreMadeOf engine pattern parts → AreMadeOf engine asked asked_parts → SameAreMatched engine.answer pattern asked parts asked_parts) →

@@ -1,5 +1,5 @@
 -- The parts of a pattern, and what the pattern matches.
-use Rattle.std.specs.Prelude.{◌≡◌, ◌↔◌, ⊤, ℕ, Bool, IfOk, IsTrue, List, Option, Result, String, false}
+use Rattle.std.specs.Prelude.{◌≡◌, ◌↔◌, ◌⊎◌, ⊤, ℕ, Bool, IfOk, IsTrue, List, Option, Result, String, false}
 use Rattle.std.specs.declared.alloc.Global.{Global}
 use Rattle.urlpattern_core.specs.Components.{ComponentView, IsEngineOf, engine_flags}
 use Rattle.urlpattern_core.specs.declared.regexp.RegExp.{Ghosts as Engine}
@@ -11,7 +11,7 @@ use Rattle.urlpattern_meaning.specs.Matching.{IsMadeOf, IsMatched, MatcherView}
 use Rattle.urlpattern_meaning.specs.PartMeaning.{Captures}
 use Rattle.urlpattern_pattern.specs.{Patterns.PatternView, Match.AreMatched, Meaning.ReadsAs}
 use Rattle.urlpattern_create.specs.{Compiled.IsPathKind, Compiled.Manner, Compiled.manner_of}
-use Rattle.urlpattern_rules.specs.Comparing.{AreApart, AreSame, IsCovered, IsKnown, IsParting, MeansEach, MeansIn}
+use Rattle.urlpattern_rules.specs.Comparing.{AreApart, AreSame, IsCovered, IsKnown, IsParting, MeansAllOf, MeansEach, MeansIn, TakesEachLine, TakesNoLine}
 use Rattle.urlpattern_rules.specs.declared.component.ComponentParts.{ComponentParts}
 use Rattle.urlpattern_rules.specs.declared.pattern.{Parting.Parting, PatternParts.PatternParts}
 use Rattle.urlpattern_eight.specs.declared.eight.ComponentName.{ComponentName}
@@ -26,7 +26,7 @@ use Rattle.urlpattern_syntax.specs.Text.{text_of}
 -- ---- reading
 
 -- The parts are those as which a text is read in this manner, under its options.
-pub record IsReadAs (manner : Manner) (component : ComponentParts) : Type 0 where
+pub record IsReadInManner (manner : Manner) (component : ComponentParts) : Type 0 where
   pub options : options_view component.options ≡ manner.options
   pub reads : ReadsAs manner (parts_view component.parts.items)
 
@@ -36,7 +36,7 @@ IsAccepted matcher = TookText (λ value. ⊤) matcher.inner
 
 -- The parts are read so, and it is known whether the engine accepted what the component's matcher needs.
 pub record IsReadBeside {E : Type 0} (manner : Manner) (compiled : ComponentView E) (component : ComponentParts) : Type 0 where
-  pub is_read : IsReadAs manner component
+  pub is_read : IsReadInManner manner component
   pub accepted : IsTrue component.is_accepted ↔ IsAccepted compiled.matcher
 
 -- so they are, if the text is read
@@ -68,8 +68,8 @@ abbrev pub AreMadeOf : {E : Type 0} → Engine E → PatternView E → PatternPa
 AreMadeOf engine pattern parts = (name : ComponentName) → IsMadeOfParts engine (pattern name).matcher (at parts.components name)
 
 -- the characters of eight texts
-abbrev pub texts_of : Eight (String Global) → Texts
-texts_of texts = each (λ name. text_of (at texts name))
+abbrev pub eight_texts : Eight (String Global) → Texts
+eight_texts texts = each (λ name. text_of (at texts name))
 
 -- ---- laws
 
@@ -89,6 +89,30 @@ CoveredAreMatched {E} answer =
     (pattern asked : PatternView E) (parts asked_parts : PatternParts) → AreItsParts answer pattern parts → AreItsParts answer asked asked_parts →
     SameAreMatched answer pattern asked parts asked_parts →
     IsCovered parts asked_parts → (texts : Texts) → EachIsLine texts → AreMatched answer asked texts → AreMatched answer pattern texts
+
+-- the component covers the asked one by what the parts mean
+abbrev pub IsCoveredByMeaning : (component asked : ComponentParts) → Type 0
+IsCoveredByMeaning component asked = TakesEachLine component ⊎ MeansAllOf component asked
+
+-- each component does, or one of the asked ones means nothing
+abbrev pub AreCoveredByMeaning : (pattern asked : PatternParts) → Type 0
+AreCoveredByMeaning pattern asked =
+    ((name : ComponentName) × TakesNoLine (at asked.components name))
+    ⊎ ((name : ComponentName) → IsCoveredByMeaning (at pattern.components name) (at asked.components name))
+
+-- what is covered by meaning is matched, and nothing is asked of components of the same parts
+abbrev pub CoveredByMeaningAreMatched : {E : Type 0} → (answer : E → List ℕ → Option Captures) → Type 0
+CoveredByMeaningAreMatched {E} answer =
+    (pattern asked : PatternView E) (parts asked_parts : PatternParts) → AreItsParts answer pattern parts → AreItsParts answer asked asked_parts →
+    AreCoveredByMeaning parts asked_parts → (texts : Texts) → EachIsLine texts → AreMatched answer asked texts → AreMatched answer pattern texts
+
+-- of each component that has the same parts it is known what these mean
+abbrev pub SameAreKnown : (pattern asked : PatternParts) → Type 0
+SameAreKnown pattern asked = (name : ComponentName) → AreSame (at pattern.components name) (at asked.components name) → IsKnown (at pattern.components name)
+
+-- what is covered then is covered by meaning
+abbrev pub KnownAreCoveredByMeaning : Type 0
+KnownAreCoveredByMeaning = (pattern asked : PatternParts) → SameAreKnown pattern asked → IsCovered pattern asked → AreCoveredByMeaning pattern asked
 
 -- components that were made of the same parts match so, if the engine's values answer alike
 abbrev pub MadeAreMatched : {E : Type 0} → Engine E → Type 0
@@ -112,14 +136,14 @@ abbrev pub PartingsAreMatched : {E : Type 0} → (answer : E → List ℕ → Op
 PartingsAreMatched {E} answer =
     (pattern asked : PatternView E) (parts asked_parts : PatternParts) (parting : Parting) → AreItsParts answer pattern parts →
     AreItsParts answer asked asked_parts → IsParting parts asked_parts parting →
-    AreMatched answer asked (texts_of parting.texts)
-    × ¬ IsMatched answer (pattern parting.component).matcher (at (texts_of parting.texts) parting.component)
+    AreMatched answer asked (eight_texts parting.texts)
+    × ¬ IsMatched answer (pattern parting.component).matcher (at (eight_texts parting.texts) parting.component)
 
 -- texts that the parts mean are matched
 abbrev pub CommonAreMatched : {E : Type 0} → (answer : E → List ℕ → Option Captures) → Type 0
 CommonAreMatched {E} answer =
     (pattern : PatternView E) (parts : PatternParts) (texts : Eight (String Global)) → AreItsParts answer pattern parts →
-    MeansEach parts texts → AreMatched answer pattern (texts_of texts)
+    MeansEach parts texts → AreMatched answer pattern (eight_texts texts)
 
 -- where a component's parts are apart, no eight lines are matched by both
 abbrev pub ApartMatchNothing : {E : Type 0} → (answer : E → List ℕ → Option Captures) → Type 0

@@ -4,7 +4,7 @@
 
 ghost use Rattle.urlpattern_core.specs.Regexes.{regex_engine};
 ghost use Rattle.urlpattern_engine.specs.PatternRegexps.{pattern_engine};
-ghost use Rattle.urlpattern_readings.specs.Readings.{ApartMatchNothing, CommonAreMatched, CoveredAreMatched, CoveredByEngineAreMatched, MadeAreMatched, PartingsAreMatched};
+ghost use Rattle.urlpattern_readings.specs.Readings.{ApartMatchNothing, CommonAreMatched, CoveredAreMatched, CoveredByEngineAreMatched, CoveredByMeaningAreMatched, KnownAreCoveredByMeaning, MadeAreMatched, PartingsAreMatched};
 
 use urlpattern_core::regexp::RegExp;
 
@@ -18,6 +18,16 @@ pub fn covered_patterns_match<R: RegExp>()
     ensures covered { CoveredAreMatched R.answer }
     ensures made { MadeAreMatched R.RegExp }
     ensures parted { PartingsAreMatched R.answer }
+{}
+
+/// If each component of a pattern covers that of another by what their parts mean, or a component of the other means nothing, then of
+/// any eight texts without line feed that the other matches the pattern matches each, whatever its engine.
+///
+/// A pattern that covers another covers it so, if it is known what the parts mean of each component whose parts are the same: if none of
+/// them has a custom regular expression, and case is kept.
+pub fn patterns_covered_by_meaning_match<R: RegExp>()
+    ensures covered { CoveredByMeaningAreMatched R.answer }
+    ensures known { KnownAreCoveredByMeaning }
 {}
 
 /// Of patterns over `PatternRegexp`, or over `regex::Regex`, that are made of their parts, a pattern that covers another matches what the

@@ -14,7 +14,7 @@ use Rattle.urlpattern_covers.specs.declared.parts.Overlap.TheVariants as overlap
 use Rattle.urlpattern_covers.specs.declared.parts.Reason.{Reason}
 use Rattle.urlpattern_covers.specs.declared.parts.Reason.TheVariants as reasons
 use Rattle.urlpattern_meaning.specs.PartMeaning.{AreGenerated}
-use Rattle.urlpattern_rules.specs.Comparing.{AreApart, AreSame, IsComponentCovering, IsComponentOverlap, IsExample, IsKnown, IsMeantBy, IsOnlyIn, IsReasonAlone, IsReasonFor, IsUnknownBy, IsWithin, MeansIn, TakesEachLine, TakesNoLine, full_wildcard}
+use Rattle.urlpattern_rules.specs.Comparing.{AreApart, AreSame, IsComponentCovering, IsComponentOverlap, IsExample, IsKnown, IsMeantBy, IsOnlyIn, IsReasonAlone, IsReasonFor, IsUnknownBy, MeansAllOf, MeansIn, TakesEachLine, TakesNoLine, anything_part}
 use Rattle.urlpattern_rules.specs.declared.component.ComponentParts.{ComponentParts}
 use Rattle.urlpattern_syntax.specs.declared.parser.{Part.Part, PartType.PartType}
 use Rattle.urlpattern_syntax.specs.{Options.OptionsView, Options.default_options, Options.options_view, Parts.PartView, Parts.part_view, Parts.parts_view, Text.lacks, Text.line_feed}
@@ -65,7 +65,7 @@ reason_alone component reasons.TooMany h = absurd h
 
 -- ---- a full wildcard
 
-pub wildcard_means : (options : OptionsView) (text : List ℕ) → IsTrue (lacks line_feed text) → MeansText options (full_wildcard ∷ []) text
+pub wildcard_means : (options : OptionsView) (text : List ℕ) → IsTrue (lacks line_feed text) → MeansText options (anything_part ∷ []) text
 wildcard_means options text line =
     let whole : text ≡ text ++ [] = sym (append-nil text) in (
       Some text ∷ [],
@@ -125,7 +125,7 @@ overlap_result component other (Ok overlap) known other_known is = overlap_known
 overlap_result component other (Err error) known other_known is = tt
 
 -- what covers a full wildcard takes each line
-pub each_line : (component anything : ComponentParts) → IsKnown component → parts_view anything.parts.items ≡ full_wildcard ∷ [] →
+pub each_line : (component anything : ComponentParts) → IsKnown component → parts_view anything.parts.items ≡ anything_part ∷ [] →
     IsCovering (options_view component.options) (parts_view component.parts.items) (options_view anything.options) (parts_view anything.parts.items) coverings.Covered → TakesEachLine component
 each_line component anything known are is = record {
   known = known;
@@ -134,7 +134,7 @@ each_line component anything known are is = record {
 
 -- what overlaps a full wildcard has an example
 pub example_known : (component anything : ComponentParts) (overlap : Overlap) → IsKnown component →
-    options_view anything.options ≡ default_options → parts_view anything.parts.items ≡ full_wildcard ∷ [] →
+    options_view anything.options ≡ default_options → parts_view anything.parts.items ≡ anything_part ∷ [] →
     IsOverlap (options_view component.options) (parts_view component.parts.items) (options_view anything.options) (parts_view anything.parts.items) overlap → IsExample component overlap
 example_known component anything overlaps.Apart known options are is = record {
   known = known;
@@ -144,11 +144,11 @@ example_known component anything (overlaps.Common text) known options are is = r
 example_known component anything (overlaps.Unknown reason) known options are is =
     let own = options_view component.options in
     let parts = parts_view component.parts.items in
-    subst (λ (o : OptionsView). IsReason own parts o (full_wildcard ∷ []) reason) options
+    subst (λ (o : OptionsView). IsReason own parts o (anything_part ∷ []) reason) options
     (subst (λ (ps : List PartView). IsReason own parts (options_view anything.options) ps reason) are is)
 
 pub example_result : (component anything : ComponentParts) (result : Result Overlap AllocError) → IsKnown component →
-    options_view anything.options ≡ default_options → parts_view anything.parts.items ≡ full_wildcard ∷ [] →
+    options_view anything.options ≡ default_options → parts_view anything.parts.items ≡ anything_part ∷ [] →
     IfOk result (IsOverlap (options_view component.options) (parts_view component.parts.items) (options_view anything.options) (parts_view anything.parts.items)) → IfOk result (IsExample component)
 example_result component anything (Ok overlap) known options are is = example_known component anything overlap known options are is
 example_result component anything (Err error) known options are is = tt

@@ -11,7 +11,7 @@ use Rattle.urlpattern_covers.specs.Answers.{is_custom_part}
 use Rattle.urlpattern_meaning.specs.PartMeaning.{PartsMean}
 use Rattle.urlpattern_rules.proofs.ComponentLemmas.{custom, generated}
 use Rattle.urlpattern_rules.proofs.NamelessParts.{all_nameless, generated_renamed, renamed, unnamed_views}
-use Rattle.urlpattern_rules.specs.Comparing.{AreSame, IsKnown, IsSettled, IsWithin, unnamed, unnamed_view}
+use Rattle.urlpattern_rules.specs.Comparing.{AreSame, IsKnown, IsSettled, MeansAllOf, unnamed, unnamed_view}
 use Rattle.urlpattern_rules.specs.declared.component.ComponentParts.{ComponentParts}
 use Rattle.urlpattern_syntax.proofs.StringTexts.{text_bytes}
 use Rattle.urlpattern_syntax.specs.declared.parser.Part.{Part}
@@ -95,7 +95,7 @@ settled_by component true ignored e = (
 settled_by component false ignored e = (λ is. inr (generated component.parts.items (sym e)), λ settled. refl)
 
 -- the same parts mean the same, where that is known
-pub same_within : (component asked : ComponentParts) → AreSame component asked → IsKnown component → IsWithin component asked
+pub same_within : (component asked : ComponentParts) → AreSame component asked → IsKnown component → MeansAllOf component asked
 same_within component asked same known =
     let parts = parts_view component.parts.items in
     let others = parts_view asked.parts.items in

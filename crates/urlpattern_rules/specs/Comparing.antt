@@ -1,5 +1,5 @@
 -- What patterns mean, by their parts, and how that is compared.
-use Rattle.std.specs.Prelude.{◌≡◌, ◌<◌, ◌⊎◌, ◌++◌, ℕ, All, Bool, true, Option, None, Contains, List, [], ◌∷◌, IsTrue, false, map, take, Result, Ok, Err, Some, String}
+use Rattle.std.specs.Prelude.{◌≡◌, ◌<◌, ◌⊎◌, ◌++◌, ℕ, All, Bool, true, Option, None, Contains, List, [], ◌∷◌, IsTrue, MatchOption, false, map, take, Result, Ok, Err, Some, String}
 use Rattle.std.specs.declared.alloc.Global.{Global}
 use Rattle.std.specs.List.{slice_get}
 use Rattle.std.specs.Str.{all_scalars}
@@ -55,12 +55,12 @@ IsReasonFor component other =
     IsReason (options_view other.options) (parts_view other.parts.items) (options_view component.options) (parts_view component.parts.items)
 
 -- a full wildcard
-abbrev pub full_wildcard : PartView
-full_wildcard = record { kind = PartType.FullWildcard; value = []; modifier = PartModifier.None; name = []; prefix = []; suffix = [] }
+abbrev pub anything_part : PartView
+anything_part = record { kind = PartType.FullWildcard; value = []; modifier = PartModifier.None; name = []; prefix = []; suffix = [] }
 
 -- why no text is known that the parts mean: it is sought beside a full wildcard
 abbrev pub IsReasonAlone : ComponentParts → Reason → Type 0
-IsReasonAlone component = IsReason (options_view component.options) (parts_view component.parts.items) default_options (full_wildcard ∷ [])
+IsReasonAlone component = IsReason (options_view component.options) (parts_view component.parts.items) default_options (anything_part ∷ [])
 
 -- The parts mean each text without line feed.
 pub record TakesEachLine (component : ComponentParts) : Type 0 where
@@ -73,7 +73,7 @@ pub record TakesNoLine (component : ComponentParts) : Type 0 where
   pub takes_none : (text : List ℕ) → IsTrue (all_scalars text) → IsTrue (lacks line_feed text) → ¬ MeansIn component text
 
 -- Each text without line feed that the asked parts mean is meant by the parts of the component.
-pub record IsWithin (component asked : ComponentParts) : Type 0 where
+pub record MeansAllOf (component asked : ComponentParts) : Type 0 where
   pub known : IsKnown component
   pub asked_known : IsKnown asked
   pub within : (text : List ℕ) → IsTrue (all_scalars text) → IsTrue (lacks line_feed text) → MeansIn asked text → MeansIn component text
@@ -118,7 +118,7 @@ pub record AreSame (component other : ComponentParts) : Type 0 where
 -- the component covers the asked one: it takes each line, whatever is asked, or the asked texts are within its own, or both are the same,
 -- with custom regular expressions or not
 abbrev pub IsComponentCovered : (component asked : ComponentParts) → Type 0
-IsComponentCovered component asked = TakesEachLine component ⊎ (IsWithin component asked ⊎ AreSame component asked)
+IsComponentCovered component asked = TakesEachLine component ⊎ (MeansAllOf component asked ⊎ AreSame component asked)
 
 -- why it is not known whether it does; never of two that are the same
 abbrev pub IsReasonToDoubt : (component asked : ComponentParts) → Reason → Type 0
@@ -241,6 +241,11 @@ with_found found pattern (Some by) = found ++ record { pattern = pattern; by = b
 abbrev pub CoversAt : List PatternParts → (asked : PatternParts) → (index : ℕ) → Type 0
 CoversAt patterns asked index = (pattern : PatternParts) × (slice_get patterns index ≡ Some pattern) × IsCovered pattern asked
 
+-- the first of the patterns that is known to cover the asked one
+abbrev pub IsFirstCovering : List PatternParts → (asked : PatternParts) → Option ℕ → Type 0
+IsFirstCovering patterns asked found =
+    MatchOption found (All (IsNotKnownToCover asked) patterns) (λ index. CoversAt patterns asked index × All (IsNotKnownToCover asked) (take index patterns))
+
 -- the pattern of an index is covered by one before it
 abbrev pub IsShadowed : List PatternParts → Shadowed → Type 0
 IsShadowed patterns found =
@@ -250,3 +255,7 @@ IsShadowed patterns found =
 abbrev pub IsListed : List PatternParts → List Shadowed → (index : ℕ) → PatternParts → Type 0
 IsListed patterns found index asked =
     ((by : ℕ) × Contains found (record { pattern = index; by = by })) ⊎ All (IsNotKnownToCover asked) (take index patterns)
+
+-- so it is of each pattern of the list
+abbrev pub ListsEachShadowed : List PatternParts → List Shadowed → Type 0
+ListsEachShadowed patterns found = (index : ℕ) (asked : PatternParts) → slice_get patterns index ≡ Some asked → IsListed patterns found index asked

@@ -12,7 +12,7 @@ use urlpattern_covers::{Covering, Overlap, Reason, covers, overlaps};
 use urlpattern_syntax::parser::{Options, Part, PartModifier, PartType};
 
 /// The parts of one component, and the options under which they were read.
-#[derive(Debug, Drop)]
+#[derive(Debug)]
 pub struct ComponentParts {
     /// The options.
     pub options: Options,
@@ -22,13 +22,24 @@ pub struct ComponentParts {
     pub is_accepted: bool,
 }
 
+impl Drop for ComponentParts {
+    /// Drops the fields. Where parts go out of scope, the prover handles one call in place of each field.
+    fn drop(self) {
+        let Self {
+            options: _options,
+            parts: _parts,
+            is_accepted: _,
+        } = self;
+    }
+}
+
 impl ComponentParts {
-    ghost use Rattle.urlpattern_rules.specs.Comparing.{AreSame, IsComponentCovering, IsComponentOverlap, IsExample, IsKnown, IsReasonFor, IsSettled, IsUnknownBy, TakesEachLine, full_wildcard};
+    ghost use Rattle.urlpattern_rules.specs.Comparing.{AreSame, IsComponentCovering, IsComponentOverlap, IsExample, IsKnown, IsReasonFor, IsSettled, IsUnknownBy, TakesEachLine, anything_part};
 
     /// A full wildcard alone, which means each text without line feed.
     fn anything(alloc: Global) -> Result<Self, AllocError>
         ensures options { IfOk result (λ component. options_view component.options ≡ default_options) }
-        ensures parts { IfOk result (λ component. parts_view component.parts.items ≡ full_wildcard ∷ []) }
+        ensures parts { IfOk result (λ component. parts_view component.parts.items ≡ anything_part ∷ []) }
     {
         let mut parts = Vec::new(alloc);
         parts.push(Part {

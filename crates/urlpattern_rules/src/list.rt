@@ -1,9 +1,7 @@
 //! Lists of patterns: which cover which.
 
-ghost use Rattle.std.specs.Prelude.{◌≡◌, ℕ, All, IfOk, MatchOption, OnOk, Some, take};
-ghost use Rattle.std.specs.List.{slice_get};
-ghost use Rattle.urlpattern_rules.specs.Comparing.{CoversAt, IsListed, IsNotKnownToCover, IsShadowed, Tells, with_found};
-ghost use Rattle.urlpattern_rules.specs.declared.pattern.PatternParts.{PatternParts};
+ghost use Rattle.std.specs.Prelude.{◌≡◌, All, IfOk, OnOk};
+ghost use Rattle.urlpattern_rules.specs.Comparing.{ListsEachShadowed, IsFirstCovering, IsShadowed, Tells, with_found};
 
 use crate::pattern::{PatternCovering, PatternParts};
 use std::alloc::{AllocError, Global};
@@ -25,8 +23,7 @@ pub fn first_covering(
     patterns: &[PatternParts],
     asked: &PatternParts,
 ) -> Result<Option<usize>, AllocError>
-    ensures { IfOk result (λ found. MatchOption found (All (IsNotKnownToCover asked.now) patterns.now)
-        (λ index. CoversAt patterns.now asked.now index × All (IsNotKnownToCover asked.now) (take index patterns.now))) }
+    ensures { IfOk result (IsFirstCovering patterns.now asked.now) }
 {
     for index in 0..patterns.len() {
         let covers = is_known_to_cover(alloc, &patterns[index], asked)?;
@@ -61,7 +58,7 @@ fn is_known_to_cover(
 /// In a list whose first match counts these are never found. A pattern that several others cover only together is not listed.
 pub fn unreachable(alloc: Global, patterns: &[PatternParts]) -> Result<Vec<Shadowed>, AllocError>
     ensures covered { IfOk result (λ found. All (IsShadowed patterns.now) found.items) }
-    ensures others { IfOk result (λ found. (index : ℕ) (asked : PatternParts) → slice_get patterns.now index ≡ Some asked → IsListed patterns.now found.items index asked) }
+    ensures others { IfOk result (λ found. ListsEachShadowed patterns.now found.items) }
 {
     let mut found = Vec::new(alloc);
     for index in 0..patterns.len() {

@@ -25,10 +25,19 @@ use urlpattern_eight::{ComponentName, Eight};
 /// drop(init);
 /// parts
 /// ```
-#[derive(Debug, Drop)]
+#[derive(Debug)]
 pub struct PatternParts {
     /// Those of each component.
     pub components: Eight<ComponentParts>,
+}
+
+impl Drop for PatternParts {
+    /// Drops the components. Where the parts of a pattern go out of scope, the prover handles one call in place of eight.
+    fn drop(self) {
+        let Self {
+            components: _components,
+        } = self;
+    }
 }
 
 /// Eight texts in which two patterns part.

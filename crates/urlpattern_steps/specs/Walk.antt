@@ -1,5 +1,5 @@
 -- What the steps of an expression capture of a text.
-use Rattle.std.specs.Prelude.{◌≡◌, ℕ, zero, suc, Bool, false, ◌==◌, length, List, [], ◌∷◌, ◌++◌, replicate, take, Option, Some, None, option_map, if◌then◌else◌}
+use Rattle.std.specs.Prelude.{◌≡◌, ℕ, zero, suc, Bool, false, ◌==◌, length, List, [], ◌∷◌, ◌++◌, get_or, replicate, take, Option, Some, None, option_map, if◌then◌else◌}
 use Rattle.std.specs.Option.{option_or}
 use Rattle.std.specs.Str.{IsUtf8, chars}
 use Rattle.urlpattern_steps.specs.declared.step.Step.{Step}
@@ -115,6 +115,15 @@ in_turn (last ∷ texts) = in_turn texts ++ last
 abbrev pub AreCopiesOf : (ignore_case : Bool) → (copy : List ℕ) → List (List ℕ) → Type 0
 AreCopiesOf ignore_case copy [] = Unit {0}
 AreCopiesOf ignore_case copy (last ∷ texts) = IsSame ignore_case last copy × AreCopiesOf ignore_case copy texts
+
+-- the text begins with copies of that one, as they are compared, and the rest follows
+abbrev pub BeginsWithCopies : (ignore_case : Bool) → (copy text rest : List ℕ) → Type 0
+BeginsWithCopies ignore_case copy text rest = (copies : List (List ℕ)) × (text ≡ in_turn copies ++ rest) × AreCopiesOf ignore_case copy copies
+
+-- the entry is that for what follows these characters in the text, if the table has one for each shorter end of it
+abbrev pub IsEntryForRest : (ignore_case : Bool) → (characters text : List ℕ) → (table : List (Option ℕ)) → (entry : Option ℕ) → Type 0
+IsEntryForRest ignore_case characters text table entry =
+    (rest : List ℕ) → BeginsAs ignore_case characters text rest → length table ≡ length text → entry ≡ get_or table (length rest) None
 
 -- the text that is made up of these steps
 abbrev pub stretch_text : Stretch → List Step → List ℕ

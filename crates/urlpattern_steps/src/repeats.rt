@@ -1,9 +1,9 @@
 //! Texts that are repeated, by the steps that they are made up of.
 
-ghost use Rattle.std.specs.Prelude.{◌≡◌, ◌++◌, ℕ, suc, ◌<◌, List, length, None, IfNone, IfSome, drop, get_or, take, if◌then◌else◌};
+ghost use Rattle.std.specs.Prelude.{◌≡◌, ℕ, suc, ◌<◌, List, length, None, IfNone, IfSome, drop, take, if◌then◌else◌};
 ghost use Rattle.std.specs.Option.{option_or};
 ghost use Rattle.std.specs.Str.{chars};
-ghost use Rattle.urlpattern_steps.specs.Walk.{AreCopiesOf, BeginsAs, IsWithoutLast, going_on, in_turn, literal_text, literals};
+ghost use Rattle.urlpattern_steps.specs.Walk.{BeginsAs, BeginsWithCopies, IsEntryForRest, IsWithoutLast, going_on, literal_text, literals};
 
 use crate::step::Step;
 use crate::texts::{after_same, is_same, split_first, without_last};
@@ -50,7 +50,7 @@ pub fn after_literals<'t>(
 /// What follows all copies of a text, as it is compared, at the front of another: of the first character and those of the literal
 /// steps.
 pub fn skip_copies<'t>(text: &'t str, first: char, literal: &[Step], ignore_case: bool) -> &'t str
-    ensures front { (copies : List (List ℕ)) × (chars text.now ≡ in_turn copies ++ chars result.now) × AreCopiesOf ignore_case (literal_text first literal.now) copies }
+    ensures front { BeginsWithCopies ignore_case (literal_text first literal.now) (chars text.now) (chars result.now) }
     ensures all { (rest : List ℕ) → ¬ BeginsAs ignore_case (literal_text first literal.now) (chars result.now) rest }
 {
     let mut rest = text;
@@ -106,8 +106,7 @@ pub fn begun_after(
     ignore_case: bool,
     text: &str,
 ) -> Option<usize>
-    ensures there { (rest : List ℕ) → BeginsAs ignore_case (literal_text first literal.now) (chars text.now) rest → length table.now ≡ length (chars text.now)
-        → result ≡ get_or table.now (length rest) None }
+    ensures there { IsEntryForRest ignore_case (literal_text first literal.now) (chars text.now) table.now result }
     ensures other { ((rest : List ℕ) → ¬ BeginsAs ignore_case (literal_text first literal.now) (chars text.now) rest) → result ≡ None }
 {
     after_literals(text, first, literal, ignore_case)?;

@@ -1,6 +1,6 @@
 //! Matches that borrow: their texts and groups. Without an engine they do not allocate.
 
-use crate::given::{pattern_of, url_of};
+use crate::given::{expect_same, pattern_of, url_of};
 use std::alloc::Global;
 use std::process::Abort;
 use std::test::Fail;
@@ -22,7 +22,7 @@ const EACH: &[(ComponentName, &str, Option<&str>)] = &[
 
 /// Compares the path that a match borrows, and its groups.
 fn expect_borrowed(rt: &impl Abort, found: &UrlPatternCaptures<'_, '_>) {
-    assert_eq!(rt; found.input(ComponentName::Pathname), "/a/b");
+    expect_same(rt, found.input(ComponentName::Pathname), "/a/b", "the path");
     let groups = [
         ("x", Some("b"), Some(true)),
         ("y", None, Some(false)),
@@ -30,8 +30,13 @@ fn expect_borrowed(rt: &impl Abort, found: &UrlPatternCaptures<'_, '_>) {
     ];
     for (name, capture, took_part) in groups {
         let group = found.get(ComponentName::Pathname, name);
-        assert_eq!(rt; group, capture, "of {name:?}");
-        assert_eq!(rt; found.took_part(ComponentName::Pathname, name), took_part);
+        expect_same(rt, group, capture, name);
+        expect_same(
+            rt,
+            found.took_part(ComponentName::Pathname, name),
+            took_part,
+            name,
+        );
     }
 }
 

@@ -1,6 +1,8 @@
-//! URLs, inits, components and patterns that tests ask about.
+//! URLs, inits, components and patterns that tests ask about, and a comparison.
 
 use std::alloc::{AllocError, Global};
+use std::fmt::Debug;
+use std::process::Abort;
 use url::{ParseError, Url};
 use urlpattern::component::Component;
 use urlpattern::parser::{Options, Part, parse_pattern_string};
@@ -9,6 +11,11 @@ use urlpattern::{
     ComponentName, Eight, Error, UrlPattern, UrlPatternInit, UrlPatternMatchInput,
     UrlPatternOptions,
 };
+
+/// Compares what was found of something with what is expected.
+pub fn expect_same<T: Debug + PartialEq + Drop>(rt: &impl Abort, found: T, expected: T, of: &str) {
+    assert_eq!(rt; found, expected, "of {of:?}");
+}
 
 /// The texts of an init, by the names of its components.
 pub type Fields<'a> = &'a [(&'a str, &'a str)];

@@ -1,7 +1,7 @@
 //! Patterns with components put together by hand, and engines of regular expressions that answer what no engine should, or refuse
 //! each text.
 
-use crate::given::{parts_of, pattern_of, url_input};
+use crate::given::{expect_same, parts_of, pattern_of, url_input};
 use crate::stubborn::{Captures, KeptText, Refusing, Starved, Stubborn, Wanting};
 use regex::Regex;
 use std::alloc::Global;
@@ -57,10 +57,10 @@ fn with_pathname<R: RegExp>(alloc: Global, pathname: Component<R>) -> Result<Url
 
 /// Compares the groups of a component by name: there are no others.
 fn expect_captured(rt: &impl Abort, found: &UrlPatternComponentResult, groups: Groups<'_>) {
-    assert_eq!(rt; found.groups.len(), groups.len());
+    expect_same(rt, found.groups.len(), groups.len(), "all groups");
     for (name, expected) in groups {
         match found.groups.get(*name) {
-            Some(captured) => assert_eq!(rt; captured.as_deref(), *expected, "of {name:?}"),
+            Some(captured) => expect_same(rt, captured.as_deref(), *expected, name),
             None => panic!(rt; "no group {name:?}"),
         }
     }

@@ -1,6 +1,6 @@
 //! Lists of patterns: what they hold, which patterns are asked, components put together by hand, and a list that finds no room.
 
-use crate::given::{pattern_of, url_input, url_of};
+use crate::given::{expect_same, pattern_of, url_input, url_of};
 use crate::stubborn::Wanting;
 use regex::Regex;
 use std::alloc::Global;
@@ -61,9 +61,9 @@ fn expect_held(
     list: &UrlPatternList,
     pathnames: &[&str],
 ) -> Result<(), Error> {
-    assert_eq!(rt; list.len(), pathnames.len());
+    expect_same(rt, list.len(), pathnames.len(), "the list");
     for (pattern, pathname) in list.iter().zip(pathnames) {
-        assert_eq!(rt; pattern.pathname(), *pathname);
+        expect_same(rt, pattern.pathname(), *pathname, "a pattern");
     }
     assert!(rt; list.get(pathnames.len()).is_none());
     assert!(rt; is_shown(alloc, list)?);
@@ -95,7 +95,12 @@ fn first_unasked(alloc: Global, pathnames: &[&str]) -> Result<Option<usize>, Err
 
 #[test]
 fn patterns_are_asked_up_to_the_first_match(rt: HostRuntime) -> Result<(), Fail> {
-    assert_eq!(rt; first_unasked(rt.alloc(), &[NAME, ASKS])?, Some(0));
+    expect_same(
+        &rt,
+        first_unasked(rt.alloc(), &[NAME, ASKS])?,
+        Some(0),
+        "the list",
+    );
     let found = first_unasked(rt.alloc(), &[ASKS, NAME]);
     assert!(rt; matches!(found, Err(Error::OutOfMemory)));
     Ok(())
@@ -131,7 +136,7 @@ fn a_component_put_together_by_hand_is_found(rt: HostRuntime) -> Result<(), Fail
         ("https://example.com.org/b", Some(1)),
         ("https://example.com/b", None),
     ] {
-        assert_eq!(rt; first_index(rt.alloc(), &list, url)?, expected, "{url}");
+        expect_same(&rt, first_index(rt.alloc(), &list, url)?, expected, url);
     }
     Ok(())
 }
@@ -142,14 +147,16 @@ const SEVERAL: [&str; 4] = [NAME, "/b/:x", "/a/*", "/:x/:y"];
 /// Removes the first pattern and the last of some.
 fn expect_removed(rt: &impl Abort, alloc: Global, list: &mut UrlPatternList) -> Result<(), Error> {
     let url = "https://example.com/a/b";
-    assert_eq!(rt; first_index(alloc, list, url)?, Some(0));
+    expect_same(rt, first_index(alloc, list, url)?, Some(0), url);
     let removed = list.remove(0);
-    assert_eq!(rt;
+    expect_same(
+        rt,
         removed.as_ref().map(|pattern| pattern.pathname()),
-        Some(NAME)
+        Some(NAME),
+        "removed",
     );
     drop(removed);
-    assert_eq!(rt; first_index(alloc, list, url)?, Some(1));
+    expect_same(rt, first_index(alloc, list, url)?, Some(1), url);
     drop(list.remove(2));
     assert!(rt; list.remove(2).is_none());
     expect_held(rt, alloc, list, &SEVERAL[1..3])
@@ -182,7 +189,7 @@ fn expect_matches(
     }
     // docs: end
     drop(url);
-    assert_eq!(rt; found.as_slice(), indices);
+    expect_same(rt, found.as_slice(), indices, "all matches");
     Ok(())
 }
 
@@ -202,9 +209,9 @@ fn expect_back<R: RegExp>(
     pushed: &Result<(), UrlPattern<R>>,
 ) {
     match pushed {
-        Ok(()) => assert_eq!(rt; list.len(), 1),
+        Ok(()) => expect_same(rt, list.len(), 1, "the list"),
         Err(pattern) => {
-            assert_eq!(rt; pattern.pathname(), NAME);
+            expect_same(rt, pattern.pathname(), NAME, "what came back");
             assert!(rt; list.is_empty());
         }
     }

@@ -1,6 +1,6 @@
 //! Maps of patterns: what they hold, and which value the first match has.
 
-use crate::given::{pattern_of, url_of};
+use crate::given::{expect_same, pattern_of, url_of};
 use std::alloc::Global;
 use std::process::Abort;
 use std::test::Fail;
@@ -38,7 +38,7 @@ fn first_value(
 
 /// Compares what a map holds with the routes.
 fn expect_held(rt: &impl Abort, map: &UrlPatternMap<u32>) {
-    assert_eq!(rt; map.len(), ROUTES.len());
+    expect_same(rt, map.len(), ROUTES.len(), "the map");
     // docs: map_entries
     for ((pattern, value), (pathname, expected)) in map.iter().zip(&ROUTES) {
         assert_eq!(rt; pattern.pathname(), *pathname);
@@ -49,9 +49,9 @@ fn expect_held(rt: &impl Abort, map: &UrlPatternMap<u32>) {
     for (_, value) in map {
         sum = sum.wrapping_add(u64::from(*value));
     }
-    assert_eq!(rt; sum, 6);
+    expect_same(rt, sum, 6, "the values");
     let second = map.get(1).map(|(_, value)| *value);
-    assert_eq!(rt; second, Some(2));
+    expect_same(rt, second, Some(2), "the second");
     assert!(rt; map.get(ROUTES.len()).is_none());
 }
 
@@ -63,7 +63,7 @@ fn expect_first(rt: &impl Abort, alloc: Global, map: &UrlPatternMap<u32>) -> Res
         ("https://example.com/users/you/files", Some((2, 3))),
         ("https://example.com/", None),
     ] {
-        assert_eq!(rt; first_value(alloc, map, url)?, expected, "{url}");
+        expect_same(rt, first_value(alloc, map, url)?, expected, url);
     }
     Ok(())
 }
@@ -89,12 +89,12 @@ fn expect_removed(
 ) -> Result<(), Error> {
     assert!(rt; map.remove(ROUTES.len()).is_none());
     let removed = map.remove(1).map(|(_, value)| value);
-    assert_eq!(rt; removed, Some(2));
+    expect_same(rt, removed, Some(2), "removed");
     for (url, expected) in [
         ("https://example.com/users/me", Some((0, 1))),
         ("https://example.com/users/you", Some((1, 3))),
     ] {
-        assert_eq!(rt; first_value(alloc, map, url)?, expected, "{url}");
+        expect_same(rt, first_value(alloc, map, url)?, expected, url);
     }
     Ok(())
 }

@@ -1,6 +1,6 @@
 //! Which component does not match, and texts that are matched without a URL.
 
-use crate::given::{pattern_of, url_of};
+use crate::given::{expect_same, pattern_of, url_of};
 use std::alloc::Global;
 use std::process::Abort;
 use std::test::Fail;
@@ -65,9 +65,9 @@ fn expect_mismatch(
     let found = pattern.mismatch(alloc, &parsed);
     let of_texts = pattern.mismatch_of_texts(alloc, &url_texts(&parsed));
     drop(parsed);
-    assert_eq!(rt; found?, expected, "of {url}");
-    assert_eq!(rt; of_texts?, expected, "of the texts of {url}");
     // docs: end
+    expect_same(rt, found?, expected, url);
+    expect_same(rt, of_texts?, expected, url);
     Ok(())
 }
 
@@ -122,8 +122,8 @@ fn a_path_alone(rt: HostRuntime) -> Result<(), Fail> {
         ("/users/7/", None),
     ];
     for (path, id) in paths {
-        assert_eq!(rt; id_of(rt.alloc(), path)?, id, "of {path}");
-        assert_eq!(rt; is_user(rt.alloc(), path)?, id.is_some(), "of {path}");
+        expect_same(&rt, id_of(rt.alloc(), path)?, id, path);
+        expect_same(&rt, is_user(rt.alloc(), path)?, id.is_some(), path);
     }
     Ok(())
 }

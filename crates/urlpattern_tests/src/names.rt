@@ -1,5 +1,6 @@
 //! Names of components, and errors that are compared.
 
+use crate::given::expect_same;
 use std::test::Fail;
 use urlpattern::{ComponentName, Error};
 
@@ -12,7 +13,7 @@ fn a_component_prints_as_its_name_and_is_read_from_it(rt: HostRuntime) -> Result
     }
     // docs: end
     for name in ["", "Pathname", "path", "host", "href"] {
-        assert_eq!(rt; ComponentName::from_name(name), None, "of {name:?}");
+        expect_same(&rt, ComponentName::from_name(name), None, name);
     }
     Ok(())
 }

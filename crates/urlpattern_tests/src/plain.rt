@@ -1,6 +1,6 @@
 //! Compiled components as plain data, piece by piece, and inputs without JSON.
 
-use crate::given::{init_of, path_of, url_input};
+use crate::given::{expect_same, init_of, path_of, url_input};
 use serde_json::Value;
 use std::alloc::Global;
 use std::process::Abort;
@@ -44,7 +44,7 @@ fn the_default_texts_are_empty(rt: HostRuntime) -> Result<(), Fail> {
     let tree = default_tree(rt.alloc())?;
     for name in ComponentName::all() {
         let text = tree.get(name.as_str()).and_then(Value::as_str);
-        assert_eq!(rt; text, Some(""));
+        expect_same(&rt, text, Some(""), name.as_str());
     }
     Ok(())
 }

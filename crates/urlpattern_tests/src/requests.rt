@@ -3,7 +3,7 @@
 //! Of each pattern one test makes the parts alone, and each other one makes the parts and then one call. The difference of both
 //! numbers of requests is what the call makes; `.ci/refuse` counts it and has the bounds.
 
-use crate::given::parts_of;
+use crate::given::{expect_same, parts_of};
 use std::alloc::Global;
 use std::process::Abort;
 use std::test::Fail;
@@ -37,7 +37,7 @@ fn make(alloc: Global, case: Case) -> Result<(), Fail> {
 fn express(rt: &impl Abort, alloc: Global, case: Case) -> Result<(), Fail> {
     let (options, parts) = made(alloc, case)?;
     let (text, _) = generate_regular_expression_and_name_list(alloc, &parts, &options)?;
-    assert_eq!(rt; (text.as_str(), text.len()), (case.1, case.2));
+    expect_same(rt, (text.as_str(), text.len()), (case.1, case.2), case.0);
     Ok(())
 }
 
@@ -45,7 +45,7 @@ fn express(rt: &impl Abort, alloc: Global, case: Case) -> Result<(), Fail> {
 fn print(rt: &impl Abort, alloc: Global, case: Case) -> Result<(), Fail> {
     let (options, parts) = made(alloc, case)?;
     let text = generate_pattern_string(alloc, &parts, &options)?;
-    assert_eq!(rt; text.as_str(), case.0);
+    expect_same(rt, text.as_str(), case.0, case.0);
     Ok(())
 }
 

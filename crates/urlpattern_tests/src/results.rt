@@ -33,7 +33,7 @@ fn expect_named(
     assert_eq!(rt; names.len(), groups.len());
     for (name, (expected, captured)) in names.iter().zip(groups) {
         assert_eq!(rt; name, expected);
-        assert_eq!(rt; found.get(name), *captured, "of {name:?}");
+        assert_eq!(rt; found.get(name), *captured);
     }
     // docs: end
     Ok(())

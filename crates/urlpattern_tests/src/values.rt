@@ -1,5 +1,6 @@
 //! Copies, comparisons, defaults and written forms of small values, and values that are set on one URL.
 
+use crate::given::expect_same;
 use std::test::Fail;
 use urlpattern_canonical::canonicalize_and_process::{Canonicalizer, ProcessType};
 use urlpattern_core::RegexSyntax;
@@ -17,9 +18,9 @@ fn a_copy_of_options_has_each_field(rt: HostRuntime) -> Result<(), Fail> {
     };
     // docs: end
     let copy = options.clone()?;
-    assert_eq!(rt; copy.delimiter_code_point, Some('/'));
-    assert_eq!(rt; copy.prefix_code_point.as_str(), "/");
-    assert_eq!(rt; copy.regex_syntax, RegexSyntax::EcmaScript);
+    expect_same(&rt, copy.delimiter_code_point, Some('/'), "a copy");
+    expect_same(&rt, copy.prefix_code_point.as_str(), "/", "a copy");
+    expect_same(&rt, copy.regex_syntax, RegexSyntax::EcmaScript, "a copy");
     assert!(rt; copy.ignore_case);
     Ok(())
 }
@@ -56,7 +57,12 @@ fn different_variants_are_not_equal(rt: HostRuntime) {
 #[test]
 fn a_syntax_is_a_name_in_json(rt: HostRuntime) -> Result<(), Fail> {
     let alloc = rt.alloc();
-    assert_eq!(rt; RegexSyntax::default(), RegexSyntax::Rust);
+    expect_same(
+        &rt,
+        RegexSyntax::default(),
+        RegexSyntax::Rust,
+        "the default",
+    );
     // docs: syntax
     for (syntax, json) in [
         (RegexSyntax::Rust, "\"Rust\""),

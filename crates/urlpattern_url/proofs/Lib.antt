@@ -1,1 +1,2 @@
+pub mod CanonicalTexts
 pub mod UrlLemmas

@@ -1,2 +1,4 @@
+pub mod NoLinkText
 pub mod UrlLines
 pub mod UrlsOfTexts
+pub mod WebUrls

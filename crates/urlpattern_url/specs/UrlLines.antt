@@ -8,8 +8,8 @@ use Rattle.urlpattern_eight.specs.declared.eight.Eight.{Eight}
 use Rattle.urlpattern_eight.specs.Eight.{at, each}
 
 -- the bytes of texts
-abbrev pub bytes_of : Eight (String Global) → Eight (List ℕ)
-bytes_of texts = each (λ name. string_bytes (at texts name))
+abbrev pub bytes_of_each : Eight (String Global) → Eight (List ℕ)
+bytes_of_each texts = each (λ name. string_bytes (at texts name))
 
 -- a text after its mark, or nothing where it is empty
 abbrev pub marked : (mark text : List ℕ) → List ℕ

@@ -15,8 +15,8 @@ use Rattle.urlpattern_url.specs.declared.error.NoLink.{NoLink}
 use Rattle.urlpattern_url.specs.declared.error.NoLink.TheVariants.{OtherText, OutOfMemory, Url}
 
 -- the characters of texts
-abbrev pub texts_view : Eight (String Global) → Texts
-texts_view texts = each (λ name. text_of (at texts name))
+abbrev pub string_texts : Eight (String Global) → Texts
+string_texts texts = each (λ name. text_of (at texts name))
 
 -- the bytes of the text of a URL with these texts
 abbrev pub line_of : Texts → List ℕ

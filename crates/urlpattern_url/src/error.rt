@@ -1,6 +1,7 @@
 //! Why there is no URL.
 
 ghost use Rattle.std.specs.Prelude.{◌≡◌};
+ghost use Rattle.urlpattern_url.specs.NoLinkText.{no_link_text};
 ghost use Rattle.urlpattern_url.specs.declared.error.NoLink.TheVariants as errors;
 
 use std::alloc::AllocError;
@@ -32,6 +33,8 @@ pub enum NoLink {
 
 /// Prints why there is no URL, in a line.
 impl fmt::Display for NoLink {
+    ghost output = { no_link_text };
+
     fn fmt<W: fmt::Write>(&self, f: &mut fmt::Formatter<W>) -> fmt::Result {
         match self {
             Self::Component(error) => fmt::Display::fmt(error, f),

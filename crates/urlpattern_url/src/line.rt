@@ -1,7 +1,7 @@
 //! The text of a URL, put together from the texts of its components.
 
 ghost use Rattle.std.specs.Prelude.{◌≡◌, IfOk, string_bytes};
-ghost use Rattle.urlpattern_url.specs.UrlLines.{authority_line, bytes_of, has_authority, marked, url_line, user_line};
+ghost use Rattle.urlpattern_url.specs.UrlLines.{authority_line, bytes_of_each, has_authority, marked, url_line, user_line};
 
 use std::alloc::{AllocError, Global};
 use urlpattern_eight::Eight;
@@ -10,7 +10,7 @@ use urlpattern_eight::Eight;
 ///
 /// The error is that memory ran out.
 pub(crate) fn url_line(alloc: Global, texts: &Eight<String>) -> Result<String, AllocError>
-    ensures { IfOk result (λ line. string_bytes line ≡ url_line (bytes_of texts.now)) }
+    ensures { IfOk result (λ line. string_bytes line ≡ url_line (bytes_of_each texts.now)) }
 {
     let authority = authority_line(alloc, texts)?;
     let search = marked(alloc, "?", &texts.search)?;
@@ -22,7 +22,7 @@ pub(crate) fn url_line(alloc: Global, texts: &Eight<String>) -> Result<String, A
 
 /// The two slashes, the user, the host and the port. It is empty where the URL needs no host.
 fn authority_line(alloc: Global, texts: &Eight<String>) -> Result<String, AllocError>
-    ensures { IfOk result (λ line. string_bytes line ≡ authority_line (bytes_of texts.now)) }
+    ensures { IfOk result (λ line. string_bytes line ≡ authority_line (bytes_of_each texts.now)) }
 {
     if !has_authority(&texts.hostname, &texts.pathname) {
         return Ok(String::new(alloc));

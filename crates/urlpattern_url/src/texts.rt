@@ -4,7 +4,7 @@ ghost use Rattle.std.specs.Prelude.{◌≡◌, ◌↔◌, None, Ok, IfErr, IfNon
 ghost use Rattle.std.specs.Str.{chars};
 ghost use Rattle.url.specs.Parser.{parse_url};
 ghost use Rattle.urlpattern_init.specs.Inheritance.{texts_of_url};
-ghost use Rattle.urlpattern_url.specs.UrlsOfTexts.{HasOtherText, RefusesLine, RefusesTexts, texts_view};
+ghost use Rattle.urlpattern_url.specs.UrlsOfTexts.{HasOtherText, RefusesLine, RefusesTexts, string_texts};
 
 use crate::error::NoLink;
 use crate::line::url_line;
@@ -19,8 +19,8 @@ use urlpattern_syntax::Error;
 ///
 /// The error is that `url` refuses them, put together, or reads a URL with other texts, or that memory ran out.
 pub fn url_of_texts(alloc: Global, texts: &Eight<String>) -> Result<Url, NoLink>
-    ensures has { IfOk result (λ url. texts_of_url url ≡ texts_view texts.now) }
-    ensures refused { IfErr result (RefusesTexts (texts_view texts.now)) }
+    ensures has { IfOk result (λ url. texts_of_url url ≡ string_texts texts.now) }
+    ensures refused { IfErr result (RefusesTexts (string_texts texts.now)) }
 {
     let line = url_line(alloc, texts)?;
     let url = match read(alloc, &line) {
@@ -49,8 +49,8 @@ fn read(alloc: Global, line: &str) -> Result<Url, NoLink>
 
 /// A component for which a URL has another text. `None`: it has these texts.
 fn other_text(url: &Url, texts: &Eight<String>) -> Option<ComponentName>
-    ensures same { IfNone result (texts_of_url url.now ≡ texts_view texts.now) }
-    ensures other { IfSome result (HasOtherText url.now (texts_view texts.now)) }
+    ensures same { IfNone result (texts_of_url url.now ≡ string_texts texts.now) }
+    ensures other { IfSome result (HasOtherText url.now (string_texts texts.now)) }
 {
     for name in ComponentName::all() {
         if !is_same_text(url_text(url, name), texts.get(name)) {

@@ -1,12 +1,10 @@
 //! What is wrong with a pattern that is refused.
 
-ghost use Rattle.std.specs.Prelude.{option_copied, IfNone, IfOk, IfSome};
+ghost use Rattle.std.specs.Prelude.{option_copied};
 ghost use Rattle.std.specs.Str.{chars};
-ghost use Rattle.urlpattern_create.specs.Compiled.{IsPatternOfInit, RefusesInit};
-ghost use Rattle.urlpattern_create.specs.Diagnoses.{IsWithinText, ShowsInit, ShowsText};
-ghost use Rattle.urlpattern_create.specs.FromString.{IsPatternOfText, RefusesPatternOfText};
-ghost use Rattle.urlpattern_pattern.specs.Patterns.{PatternView};
-ghost use Rattle.urlpattern_syntax.specs.Errors.{error_view};
+ghost use Rattle.urlpattern_create.specs.Compiled.{RefusesInit};
+ghost use Rattle.urlpattern_create.specs.Diagnoses.{AcceptsInit, AcceptsPatternOfText, HasErrorOf, IfAccepted, IfRefused, IsWithinText, ShowsGiven, ShowsInit};
+ghost use Rattle.urlpattern_create.specs.FromString.{RefusesPatternOfText};
 
 use super::UrlPattern;
 use std::alloc::Global;
@@ -40,10 +38,10 @@ impl<R: RegExp> UrlPattern<R> {
         base_url: Option<&str>,
         options: UrlPatternOptions,
     ) -> Result<Option<Diagnosis>, OutOfMemory>
-        ensures accepted { IfOk result (λ found. IfNone found ((compiled : PatternView R) × IsPatternOfText R.RegExp (chars pattern.now) (option_copied base_url.entry) options compiled)) }
-        ensures refused { IfOk result (λ found. IfSome found (λ diagnosis. RefusesPatternOfText R.RegExp (chars pattern.now) (option_copied base_url.entry) options (error_view diagnosis.error))) }
-        ensures shows { IfOk result (λ found. IfSome found (λ diagnosis. ShowsText R.RegExp pattern.now (option_copied base_url.entry) options diagnosis.subject diagnosis)) }
-        ensures within { IfOk result (λ found. IfSome found IsWithinText) }
+        ensures accepted { IfAccepted result (AcceptsPatternOfText R.RegExp (chars pattern.now) (option_copied base_url.entry) options) }
+        ensures refused { IfRefused result (HasErrorOf (RefusesPatternOfText R.RegExp (chars pattern.now) (option_copied base_url.entry) options)) }
+        ensures shows { IfRefused result (ShowsGiven R.RegExp pattern.now (option_copied base_url.entry) options) }
+        ensures within { IfRefused result IsWithinText }
     {
         diagnose_text::<R>(alloc, pattern, base_url, options)
     }
@@ -57,10 +55,10 @@ impl<R: RegExp> UrlPattern<R> {
         init: &UrlPatternInit,
         options: UrlPatternOptions,
     ) -> Result<Option<Diagnosis>, OutOfMemory>
-        ensures accepted { IfOk result (λ found. IfNone found ((compiled : PatternView R) × IsPatternOfInit R.RegExp init.now options compiled)) }
-        ensures refused { IfOk result (λ found. IfSome found (λ diagnosis. RefusesInit R.RegExp init.now options (error_view diagnosis.error))) }
-        ensures shows { IfOk result (λ found. IfSome found (ShowsInit R.RegExp init.now options)) }
-        ensures within { IfOk result (λ found. IfSome found IsWithinText) }
+        ensures accepted { IfAccepted result (AcceptsInit R.RegExp init.now options) }
+        ensures refused { IfRefused result (HasErrorOf (RefusesInit R.RegExp init.now options)) }
+        ensures shows { IfRefused result (ShowsInit R.RegExp init.now options) }
+        ensures within { IfRefused result IsWithinText }
     {
         diagnose_init::<R>(alloc, init, options)
     }

@@ -57,7 +57,7 @@ impl<R: RegExp> UrlPattern<R> {
     /// Whether the pathname of the pattern is hierarchical, by its pattern texts and the matcher of its protocol.
     ///
     /// The error is that memory ran out.
-    fn has_hierarchical_path(&self, alloc: Global) -> Result<bool, Error>
+    pub(super) fn has_hierarchical_path(&self, alloc: Global) -> Result<bool, Error>
         ensures path_kind { IfOk result (IsPathKind R.answer (printed_values (pattern_view self.now)) (pattern_view self.now names.Protocol).matcher) }
         ensures memory { OnlyOutOfMemory result }
     {

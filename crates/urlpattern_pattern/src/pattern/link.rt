@@ -1,20 +1,21 @@
 //! The URL of a pattern whose groups capture what is given.
-ghost use Rattle.std.specs.Prelude.{IfErr, IfOk};
+ghost use Rattle.std.specs.Prelude.{IfErr, IfOk, IfSome};
 ghost use Rattle.urlpattern_generate.specs.Manners.{given_groups};
 ghost use Rattle.urlpattern_init.specs.declared.init.UrlPatternMatchInput.TheVariants as inputs;
-ghost use Rattle.urlpattern_pattern.specs.LinkedUrls.{AnswersGroups, GeneratesTexts, IsLink, RefusesLink};
+ghost use Rattle.urlpattern_pattern.specs.LinkedUrls.{AnswersGroups, GeneratesTexts, IsLink, RefusesLink, WritesText, WritesTexts};
 ghost use Rattle.urlpattern_pattern.specs.Match.{HasMatch};
 ghost use Rattle.urlpattern_pattern.specs.Patterns.{pattern_view};
 ghost use Rattle.urlpattern_eight.specs.Eight.{IsFirstError};
-ghost use Rattle.urlpattern_url.specs.UrlsOfTexts.{texts_view};
+ghost use Rattle.urlpattern_syntax.specs.Text.{text_of};
+ghost use Rattle.urlpattern_url.specs.UrlsOfTexts.{string_texts};
 
 use super::UrlPattern;
 use std::alloc::Global;
 use url::Url;
 use urlpattern_core::regexp::RegExp;
 use urlpattern_eight::{ComponentName, Eight};
-use urlpattern_generate::{GenerateError, GivenGroup};
-use urlpattern_url::{NoLink, url_of_texts};
+use urlpattern_generate::{GenerateError, GivenGroup, begins_ipv6, write_component};
+use urlpattern_url::{NoLink, is_web_url, url_of_texts};
 
 impl<R: RegExp> UrlPattern<R> {
     /// The URL that the pattern matches, with these groups: each of its texts is what `generate` returns for the component. So a
@@ -39,6 +40,9 @@ impl<R: RegExp> UrlPattern<R> {
         ensures matched { IfOk result (λ url. HasMatch R.answer (pattern_view self.now) (inputs.Url url)) }
         ensures refused { IfErr result (RefusesLink R.answer (pattern_view self.now) (given_groups groups.now)) }
     {
+        if let Some(url) = self.web_link(alloc, groups) {
+            return Ok(url);
+        }
         let texts = match self.generate_each(alloc, groups) {
             Ok(texts) => texts,
             Err(GenerateError::OutOfMemory) => return Err(NoLink::OutOfMemory),
@@ -55,12 +59,40 @@ impl<R: RegExp> UrlPattern<R> {
         alloc: Global,
         groups: &[GivenGroup<'_>],
     ) -> Result<Eight<String>, GenerateError>
-        ensures generated { IfOk result (λ texts. GeneratesTexts R.answer (pattern_view self.now) (given_groups groups.now) (texts_view texts)) }
+        ensures generated { IfOk result (λ texts. GeneratesTexts R.answer (pattern_view self.now) (given_groups groups.now) (string_texts texts)) }
         ensures refused { IfErr result (IsFirstError (AnswersGroups R.answer (pattern_view self.now) (given_groups groups.now))) }
     {
         let text = |component: ComponentName| -> Result<String, GenerateError>
             ensures { AnswersGroups R.answer (pattern_view self.entry.now) (given_groups groups.entry.now) component result }
         { self.generate(alloc, component, groups) };
         Eight::try_from_fn(text)
+    }
+    /// The URL with these groups, if it is one of the web. The texts of such a URL are canonical, so that none of them is looked at.
+    ///
+    /// `None`: it is another, there is none, or memory ran out.
+    fn web_link(&self, alloc: Global, groups: &[GivenGroup<'_>]) -> Option<Url>
+        ensures { IfSome result (IsLink R.answer (pattern_view self.now) (given_groups groups.now)) }
+    {
+        if begins_ipv6(&self.hostname.pattern_string) {
+            return None;
+        }
+        let texts = self.write_each(alloc, groups)?;
+        let Ok(url) = url_of_texts(alloc, &texts) else {
+            return None;
+        };
+        if is_web_url(&url) { Some(url) } else { None }
+    }
+
+    /// The texts of the components with these groups, where the pathname is hierarchical. They need not be canonical.
+    fn write_each(&self, alloc: Global, groups: &[GivenGroup<'_>]) -> Option<Eight<String>>
+        ensures { IfSome result (λ texts. WritesTexts R.answer (pattern_view self.now) (given_groups groups.now) (string_texts texts)) }
+    {
+        let Ok(true) = self.has_hierarchical_path(alloc) else {
+            return None;
+        };
+        let text = |component: ComponentName| -> Result<String, GenerateError>
+            ensures { IfOk result (λ text. WritesText R.answer (pattern_view self.entry.now) (given_groups groups.entry.now) component (text_of text)) }
+        { write_component(alloc, self.get(component), component, true, groups) };
+        Eight::try_from_fn(text).ok()
     }
 }

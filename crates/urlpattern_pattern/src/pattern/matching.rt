@@ -1,15 +1,15 @@
 //! Matching: what a pattern answers to eight texts, and the groups of the answer.
 //!
 //! All components look at their texts before anything is made. Engines are asked last, and the first refusal ends it.
-ghost use Rattle.std.specs.Prelude.{◌≡◌, None, Some, zip, IfErr, IfNone, IfOk, IfSome};
+ghost use Rattle.std.specs.Prelude.{◌≡◌, None, Some, IfErr, IfNone, IfOk, IfSome};
 ghost use Rattle.urlpattern_core.specs.Looks.{look_answer, IsAsking};
 ghost use Rattle.urlpattern_init.specs.declared.init.UrlPatternMatchInput.TheVariants as inputs;
 ghost use Rattle.urlpattern_init.specs.Inheritance.{texts_of_url};
 ghost use Rattle.urlpattern_matches.specs.BorrowedMatches.{IfMatch, groups_view, pattern_captures_view};
-ghost use Rattle.urlpattern_pattern.specs.Match.{AreAnswers, AreGroupsInOrder, AsksAnEngine, CopiesMatch, FindsInInput, FindsInTexts, IfUrl, IsRefused, TestsInput, TestsTexts};
+ghost use Rattle.urlpattern_pattern.specs.Match.{AreGroupsInOrder, AsksAnEngine, CopiesMatch, FindsInInput, FindsInTexts, IfUrl, IsRefused, TestsInput, TestsTexts};
 ghost use Rattle.urlpattern_matches.specs.ResultViews.{result_view};
 ghost use Rattle.urlpattern_matches.specs.MatchInput.{texts_view};
-ghost use Rattle.urlpattern_pattern.specs.Calls.{AreCaptured, AreLooks, AskWithCause, HasCaptures, all_captures};
+ghost use Rattle.urlpattern_pattern.specs.Calls.{AreCaptured, AreLooks, AskWithCause, HasAnswers, HasCaptures, HasGroups};
 ghost use Rattle.urlpattern_matches.specs.GroupTexts.{borrowed_texts};
 ghost use Rattle.urlpattern_pattern.specs.Patterns.{components_of, pattern_view};
 ghost use Rattle.urlpattern_eight.specs.declared.eight.ComponentName.{ComponentName as Name};
@@ -240,7 +240,7 @@ impl<R: RegExp> UrlPattern<R> {
         captures: Eight<GroupCaptures<'u>>,
     ) -> UrlPatternCaptures<'p, 'u>
         ensures matched { HasCaptures (pattern_view self.now) (borrowed_texts texts.now) captures.entry (pattern_captures_view result) }
-        ensures groups { (name : Name) → groups_view result name ≡ zip (pattern_view self.now name).group_name_list (all_captures captures.entry name) }
+        ensures groups { HasGroups (pattern_view self.now) captures.entry (groups_view result) }
     {
         let names = |name: ComponentName| -> &Vec<String>
             ensures { result.now ≡ (at (components_of self.entry.now) name).group_name_list }
@@ -277,8 +277,7 @@ impl<R: RegExp> UrlPattern<R> {
         texts: &Eight<&'u str>,
     ) -> Result<Option<Eight<GroupCaptures<'u>>>, OutOfMemory>
         ensures refused { IfOk result (λ found. IfNone found (IsRefused R.answer (pattern_view self.now) (borrowed_texts texts.now))) }
-        ensures answers { IfOk result (λ found. IfSome found (λ captures.
-            AreAnswers R.answer (pattern_view self.now) (borrowed_texts texts.now) (all_captures captures))) }
+        ensures answers { IfOk result (λ found. IfSome found (HasAnswers R.answer (pattern_view self.now) (borrowed_texts texts.now))) }
         ensures asked { IfErr result (λ _. AsksAnEngine R.answer (pattern_view self.now) (borrowed_texts texts.now)) }
     {
         let Some(looks) = self.look(texts) else {

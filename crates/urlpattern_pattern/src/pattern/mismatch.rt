@@ -27,8 +27,6 @@ impl<R: RegExp> UrlPattern<R> {
     /// let found = pattern.mismatch(alloc, &parsed);
     /// let of_texts = pattern.mismatch_of_texts(alloc, &url_texts(&parsed));
     /// drop(parsed);
-    /// assert_eq!(rt; found?, expected, "of {url}");
-    /// assert_eq!(rt; of_texts?, expected, "of the texts of {url}");
     /// ```
     ///
     /// <https://urlpattern.spec.whatwg.org/#url-pattern-match>

@@ -6,4 +6,4 @@ use Rattle.urlpat_commands.proofs.first.compiled_list.Given as goal
 
 abbrev pub invariant-loop-pattern : goal.invariant-loop-pattern
 invariant-loop-pattern l =
-    ArePatternsOf (words_view (take l.pattern-index l.patterns)) (option_copied l.base) (patterns_view l.list)
+    ArePatternsOf l.ignore_case (words_view (take l.pattern-index l.patterns)) (option_copied l.base) (patterns_view l.list)

@@ -8,7 +8,7 @@ returns-in-Ok-print-clause-answers g c = λ answered. (
   c.in-Some.pattern.now,
   option_copied c.in-Some.base,
   option_copied c.in-Some.input,
-  c.in-Some.ensures,
+  c.in-Some.ensures.asked,
   string_bytes c.in-Ok.found.text,
   c.in-Ok.ensures.text,
   subst (Appends (g.Out.Write.contents c.args.out.now) (g.Out.Write.contents c.print.new.out)) c.as_bytes-2.ensures.value c.in-Ok-print.ensures,

@@ -3,7 +3,7 @@ use Rattle.std.proofs.lemmas.Str.{encode_ascii}
 use Rattle.std.specs.Borrow.{Bor}
 use Rattle.std.specs.Str.{chars}
 use Rattle.urlpat_explain.proofs.RowLemmas.{pieces-more, row-of}
-use Rattle.urlpat_explain.specs.Rows.{ArePieces, IsMatchRow, IsVerdict, column, front_cells, pattern_cell, text_cell, widest}
+use Rattle.urlpat_explain.specs.Rows.{HasPieceForEach, IsMatchRow, IsVerdict, column, front_cells, pattern_cell, text_cell, widest}
 use Rattle.urlpat_explain.specs.declared.table.TheConstants.{NAME_WIDTH}
 use Rattle.urlpattern_core.specs.Components.{component_view}
 use Rattle.urlpattern_core.specs.declared.component.Component.{Component}
@@ -44,4 +44,4 @@ returns c =
     let names = c.all-name-items.result in
     let eight : length names ≡ 8 = ap length c.all-name-items.ensures in
     let all : take c.loop-name.name-index names ≡ components = take_all c.loop-name.name-index names (omega arith) ∙ c.all-name-items.ensures in
-    subst (λ (them : List ComponentName). ArePieces (IsMatchRow (pattern_view c.args.pattern.now) (borrowed_texts c.args.texts.now)) them (string_bytes c.loop-name.table)) all c.loop-name.invariant
+    subst (λ (them : List ComponentName). HasPieceForEach (IsMatchRow (pattern_view c.args.pattern.now) (borrowed_texts c.args.texts.now)) them (string_bytes c.loop-name.table)) all c.loop-name.invariant

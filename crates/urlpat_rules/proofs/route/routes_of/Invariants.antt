@@ -5,4 +5,4 @@ use Rattle.urlpat_tables.specs.Tables.{entries_view}
 use Rattle.urlpat_rules.proofs.route.routes_of.Given as goal
 
 abbrev pub invariant-loop-entry : goal.invariant-loop-entry
-invariant-loop-entry g l = AreRoutesOf (option_copied l.base) (entries_view (take l.entry-index l.entries)) l.routes
+invariant-loop-entry g l = AreRoutesOf l.ignore_case (option_copied l.base) (entries_view (take l.entry-index l.entries)) l.routes

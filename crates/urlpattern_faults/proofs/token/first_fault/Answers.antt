@@ -1,7 +1,7 @@
 use Rattle.std.proofs.Common.{◌≡◌, ◌-◌, ◌∙◌, Bool, false, Option, Some, None, refl, sym, ap, subst, take, arith}
 use Rattle.std.specs.Prelude.{IsSomeAnd, MatchBool, MatchOption}
 use Rattle.std.specs.Str.{chars}
-use Rattle.urlpattern_faults.specs.Faults.{IsSpanOfToken, IsStopBefore, is_end}
+use Rattle.urlpattern_faults.specs.Faults.{IsSpanOfToken, IsStopBefore, is_end_kind}
 use Rattle.urlpattern_faults.specs.declared.span.Span.{Span}
 use Rattle.urlpattern_faults.proofs.TokenFaultLemmas.{ends_from, is_none}
 use Rattle.urlpattern_syntax.specs.Stops.{IsStopOf}
@@ -22,7 +22,7 @@ returns-clause-fault c =
     let count : c.args.place - 0 ≡ c.args.place = omega arith in
     let stops : IsStopOf (chars (take c.args.place text)) point (token_view stop.first) (token_view stop.found) =
     subst (λ front. IsStopOf (chars front) point (token_view stop.first) (token_view stop.found)) (c.range.ensures.value ∙ ap (λ n. take n text) count) c.in-Ok.ensures.stops in
-    let goes_on : is_end stop.found.kind ≡ false = sym c.is_end.ensures ∙ c.if-is_end.false in
+    let goes_on : is_end_kind stop.found.kind ≡ false = sym c.is_end.ensures ∙ c.if-is_end.false in
     let is : IsStopBefore text point c.args.place earlier =
     (stop, stops, subst (λ (b : Bool). MatchBool b (earlier ≡ None) (IsSomeAnd earlier (IsSpanOfToken text stop.found))) (sym goes_on) c.span_of.ensures.span) in
     (alone, c.token_fault-alone.ensures.fault, (refl, subst (λ (other : Option Span). MatchOption other (IsStopBefore text point c.args.place earlier) (λ span. earlier ≡ Some span)) (sym none) is))

@@ -1,22 +1,21 @@
 use Rattle.std.proofs.Common.{ap, subst, ◌∙◌}
-use Rattle.std.specs.Prelude.{IfErr}
+use Rattle.std.specs.Prelude.{IfErr, IfOk}
 use Rattle.std.specs.Str.{chars}
 use Rattle.urlpattern_core.specs.Matchers.{matcher_view}
-use Rattle.urlpattern_generate.specs.Generating.{RefusesGroups}
-use Rattle.urlpattern_generate.specs.Manners.{begins_ipv6, canonical_for, given_groups, text_given, options_for}
+use Rattle.urlpattern_generate.specs.Generating.{IsTextWithGroups, RefusesGroups}
+use Rattle.urlpattern_generate.specs.Manners.{given_groups, manner_for}
 use Rattle.urlpattern_syntax.specs.Text.{text_of}
 use Rattle.urlpattern_generate.proofs.component.generate_component.Goals as goal
 
+pub returns-clause-generated : goal.returns-clause-generated
+returns-clause-generated g c =
+    let component = c.args.component.now in
+    let made = c.new-writer.ensures.manner ∙ ap (λ bytes. manner_for c.args.name c.args.hierarchical (chars bytes) (given_groups c.args.groups.now)) c.deref.ensures in
+    subst (λ manner. IfOk c.canonical_text.result (λ text. IsTextWithGroups g.R.RegExp.answer (matcher_view component.matcher) manner (text_of component.pattern_string) (text_of text))) made c.canonical_text.ensures.generated
+
 pub returns-clause-refused : goal.returns-clause-refused
 returns-clause-refused g c =
-    let name = c.args.name in
-    let hierarchical = c.args.hierarchical in
-    let pattern = text_of c.args.component.now.pattern_string in
-    subst
-    (λ is_ipv6. IfErr c.text.result (RefusesGroups g.R.RegExp.answer (matcher_view c.args.component.now.matcher) name
-    (record {
-      options = options_for name hierarchical;
-      canonical = canonical_for name hierarchical is_ipv6;
-      given = text_given (given_groups c.args.groups.now) name;
-    }) pattern))
-    (c.begins_ipv6.ensures ∙ ap (λ bytes. begins_ipv6 (chars bytes)) c.deref.ensures) c.text.ensures.refused
+    let component = c.args.component.now in
+    let made = c.new-writer.ensures.manner ∙ ap (λ bytes. manner_for c.args.name c.args.hierarchical (chars bytes) (given_groups c.args.groups.now)) c.deref.ensures in
+    subst (λ name. IfErr c.canonical_text.result (RefusesGroups g.R.RegExp.answer (matcher_view component.matcher) name (manner_for c.args.name c.args.hierarchical (text_of component.pattern_string) (given_groups c.args.groups.now)) (text_of component.pattern_string))) c.new-writer.ensures.component
+    (subst (λ manner. IfErr c.canonical_text.result (RefusesGroups g.R.RegExp.answer (matcher_view component.matcher) c.new-writer.result.component manner (text_of component.pattern_string))) made c.canonical_text.ensures.refused)

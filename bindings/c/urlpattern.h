@@ -1,0 +1,92 @@
+/* URL patterns, as those of browsers: texts such as "https://example.com/users/:id" that say which URLs are meant, and name their
+ * pieces. The functions are those of the library `urlpattern`, whose answers are proved.
+ *
+ * A caller guarantees:
+ *
+ * - Each text is a pointer and a number of bytes that may be read there. The pointer is not null, even if there are no bytes. That the
+ *   bytes are UTF-8 is checked.
+ * - Each other pointer leads to a value of its type that may be written, and that nothing else uses during the call; a buffer to as
+ *   many bytes as its size says. No two arguments overlap, but for texts.
+ * - A handle holds zeros (`URLPATTERN_EMPTY`) before its first call. After that only these functions write it, it is not copied, and one
+ *   call at a time has it. It may go from one thread to another between calls.
+ * - `malloc`, `realloc` and `free` come from one allocator, and align a block to each power of two up to 16 that divides its size.
+ * - No call is made from a signal handler, nor from the forked child of a process with threads.
+ *
+ * No function keeps a pointer that it was given, but for the handle's own memory. None has global state, prints anything or ends the
+ * program.
+ */
+#ifndef URLPATTERN_H
+#define URLPATTERN_H
+
+#include <stdbool.h>
+#include <stddef.h>
+#include <stdint.h>
+
+#ifdef __cplusplus
+extern "C" {
+#endif
+
+/* What a call reports. */
+enum urlpattern_status {
+    URLPATTERN_DONE = 0,          /* it is done; of a match: there is one */
+    URLPATTERN_NO_MATCH = 1,      /* no match, or the text is no URL */
+    URLPATTERN_NOT_UTF8 = 2,      /* a text is not UTF-8 */
+    URLPATTERN_REFUSED = 3,       /* the pattern is refused; `urlpattern_diagnose` says why */
+    URLPATTERN_OUT_OF_MEMORY = 4, /* memory ran out; the handle is as it was */
+    URLPATTERN_NO_PATTERN = 5,    /* the handle has no pattern of this index, or there is no component of this number */
+    URLPATTERN_TOO_SMALL = 6      /* the buffer is too small; it is as it was, and `needed` has the size that is needed */
+};
+
+/* A handle: patterns in their order, as the routes of a router, each named by its index from 0 on. One pattern is a list of one. */
+typedef struct urlpattern_list {
+    bool is_made;
+    void *at;
+} urlpattern_list;
+
+/* What a handle is before its first call, and after it is freed. It has no pattern, and no memory. */
+#define URLPATTERN_EMPTY { false, NULL }
+
+/* Compiles a constructor string, and appends the pattern. The base URL is what the string inherits from; no bytes: there is none.
+ * With `ignore_case` the path, the query and the fragment are matched without regard to the case of ASCII letters.
+ * DONE, NOT_UTF8, REFUSED, or OUT_OF_MEMORY; but for DONE, the patterns are as they were. */
+uint32_t urlpattern_add(urlpattern_list *patterns, const char *text, size_t length, const char *base, size_t base_length,
+                        bool ignore_case);
+
+/* Frees the patterns. The handle is empty again, so that it may be used, or freed once more. */
+void urlpattern_free(urlpattern_list *patterns);
+
+/* Whether the pattern of this index matches a URL, which may be relative to a base URL; no bytes: there is none.
+ * DONE (a match), NO_MATCH, NOT_UTF8, OUT_OF_MEMORY, or NO_PATTERN. */
+uint32_t urlpattern_test(urlpattern_list *patterns, size_t index, const char *url, size_t length, const char *base, size_t base_length);
+
+/* Finds the first pattern that matches a URL, and writes its index.
+ * DONE, NO_MATCH, NOT_UTF8, OUT_OF_MEMORY, or NO_PATTERN (an empty handle); but for DONE, `index` is as it was. */
+uint32_t urlpattern_first(urlpattern_list *patterns, const char *url, size_t length, const char *base, size_t base_length, size_t *index);
+
+/* Writes the match of a URL as JSON, in the shape of a browser's `exec`: an object with `input` and `groups` of each component. A group
+ * that took no part is null.
+ * DONE, NO_MATCH, NOT_UTF8, OUT_OF_MEMORY, NO_PATTERN, or TOO_SMALL. For DONE and TOO_SMALL `needed` is how many bytes the text has. */
+uint32_t urlpattern_exec(urlpattern_list *patterns, size_t index, const char *url, size_t length, const char *base, size_t base_length,
+                         char *buffer, size_t room, size_t *needed);
+
+/* Writes the pattern text of a component: 0 protocol, 1 username, 2 password, 3 hostname, 4 port, 5 pathname, 6 search, 7 hash.
+ * DONE, NO_PATTERN, or TOO_SMALL, with `needed` as above. */
+uint32_t urlpattern_component(urlpattern_list *patterns, size_t index, uint32_t component, char *buffer, size_t room, size_t *needed);
+
+/* The part of a text that is at fault, in bytes. */
+typedef struct urlpattern_place {
+    uint32_t subject; /* 0: the pattern's text, 1: the base URL */
+    size_t start;
+    size_t end;
+} urlpattern_place;
+
+/* Writes why `urlpattern_add` refuses these texts, and the place that is at fault.
+ * DONE, NO_MATCH (they are accepted), NOT_UTF8, OUT_OF_MEMORY, or TOO_SMALL, with `needed` as above. */
+uint32_t urlpattern_diagnose(const char *text, size_t length, const char *base, size_t base_length, bool ignore_case, char *buffer,
+                             size_t room, size_t *needed, urlpattern_place *place);
+
+#ifdef __cplusplus
+}
+#endif
+
+#endif

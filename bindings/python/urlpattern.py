@@ -1,0 +1,182 @@
+"""URL patterns, as those of browsers, over the C interface of the library `urlpattern`.
+
+    >>> pattern = URLPattern("https://example.com/users/:id")
+    >>> pattern.exec("https://example.com/users/7")["pathname"]["groups"]
+    {'id': '7'}
+
+The shared object is the one that the environment variable URLPATTERN_LIBRARY names, or else `liburlpattern.so` beside this file.
+
+An object may be used from several threads: the interpreter's lock is held during each call. Under an interpreter without that lock, give
+each object to one thread at a time.
+"""
+import ctypes
+import json
+import os
+
+__all__ = ["URLPattern", "URLPatternList", "URLPatternError"]
+
+COMPONENTS = ("protocol", "username", "password", "hostname", "port", "pathname", "search", "hash")
+
+DONE, NO_MATCH, NOT_UTF8, REFUSED, OUT_OF_MEMORY, NO_PATTERN, TOO_SMALL = range(7)
+
+# How many bytes a text is first given room for.
+ROOM = 1024
+
+
+class _Handle(ctypes.Structure):
+    _fields_ = [("is_made", ctypes.c_bool), ("at", ctypes.c_void_p)]
+
+
+class _Place(ctypes.Structure):
+    _fields_ = [("subject", ctypes.c_uint32), ("start", ctypes.c_size_t), ("end", ctypes.c_size_t)]
+
+
+def _load():
+    path = os.environ.get("URLPATTERN_LIBRARY") or os.path.join(os.path.dirname(os.path.abspath(__file__)), "liburlpattern.so")
+    library = ctypes.PyDLL(path)
+    handle, text, size, status = ctypes.POINTER(_Handle), ctypes.c_char_p, ctypes.c_size_t, ctypes.c_uint32
+    texts, room = [text, size, text, size], [ctypes.c_char_p, size, ctypes.POINTER(size)]
+    for name, arguments, result in (
+        ("add", [handle, *texts, ctypes.c_bool], status),
+        ("free", [handle], None),
+        ("test", [handle, size, *texts], status),
+        ("first", [handle, *texts, ctypes.POINTER(size)], status),
+        ("exec", [handle, size, *texts, *room], status),
+        ("component", [handle, size, ctypes.c_uint32, *room], status),
+        ("diagnose", [*texts, ctypes.c_bool, *room, ctypes.POINTER(_Place)], status),
+    ):
+        function = getattr(library, f"urlpattern_{name}")
+        function.argtypes, function.restype = arguments, result
+    return library
+
+
+_library = _load()
+_test = _library.urlpattern_test
+
+
+class URLPatternError(ValueError):
+    """A pattern is refused. `place` is the span of bytes of the pattern, or of the base URL if `in_base`, that is at fault."""
+
+    def __init__(self, message, place=None, in_base=False):
+        super().__init__(message)
+        self.place = place
+        self.in_base = in_base
+
+
+def _bytes(text):
+    return b"" if text is None else text.encode()
+
+
+def _written(function, *arguments):
+    """Calls what writes a text, with as much room as it needs. Returns the status and the text."""
+    needed, room = ctypes.c_size_t(), ROOM
+    while True:
+        buffer = ctypes.create_string_buffer(room)
+        status = function(*arguments, buffer, room, ctypes.byref(needed))
+        if status != TOO_SMALL:
+            return status, buffer.raw[: needed.value].decode() if status == DONE else None
+        room = needed.value
+
+
+def _checked(status):
+    """Whether there is a match."""
+    if status == OUT_OF_MEMORY:
+        raise MemoryError("out of memory")
+    if status == NO_PATTERN:
+        raise IndexError("no such pattern")
+    return status == DONE
+
+
+def _refusal(pattern, base, ignore_case):
+    """The error that says why a constructor string is refused."""
+    needed, place, room = ctypes.c_size_t(), _Place(), ROOM
+    while True:
+        buffer = ctypes.create_string_buffer(room)
+        status = _library.urlpattern_diagnose(
+            pattern, len(pattern), base, len(base), ignore_case, buffer, room, ctypes.byref(needed), ctypes.byref(place)
+        )
+        if status != TOO_SMALL:
+            break
+        room = needed.value
+    if status == OUT_OF_MEMORY:
+        return MemoryError("out of memory")
+    return URLPatternError(buffer.raw[: needed.value].decode(), (place.start, place.end), place.subject == 1)
+
+
+class URLPatternList:
+    """Patterns in their order, as the routes of a router."""
+
+    def __init__(self, patterns=()):
+        self._handle = _Handle()
+        self._address = ctypes.byref(self._handle)
+        self._length = 0
+        for pattern in patterns:
+            self.append(pattern)
+
+    def append(self, pattern, base=None, *, ignore_case=False):
+        """Compiles a constructor string, with a base URL if there is one, and appends the pattern."""
+        text, base = pattern.encode(), _bytes(base)
+        status = _library.urlpattern_add(self._address, text, len(text), base, len(base), ignore_case)
+        if status == REFUSED:
+            raise _refusal(text, base, ignore_case)
+        if status == OUT_OF_MEMORY:
+            raise MemoryError("out of memory")
+        self._length += 1
+
+    def __len__(self):
+        return self._length
+
+    def first(self, url, base=None):
+        """The index of the first pattern that matches, or None."""
+        url, base, index = url.encode(), _bytes(base), ctypes.c_size_t()
+        status = _library.urlpattern_first(self._address, url, len(url), base, len(base), ctypes.byref(index))
+        return index.value if status != NO_PATTERN and _checked(status) else None
+
+    def test(self, index, url, base=None):
+        """Whether the pattern of this index matches."""
+        url, base = url.encode(), _bytes(base)
+        return _checked(_test(self._address, index, url, len(url), base, len(base)))
+
+    def exec(self, index, url, base=None):
+        """The match of the pattern of this index, or None: a dict of components, each with `input` and `groups`."""
+        url, base = url.encode(), _bytes(base)
+        status, text = _written(_library.urlpattern_exec, self._address, index, url, len(url), base, len(base))
+        return json.loads(text) if _checked(status) else None
+
+    def component(self, index, name):
+        """The pattern text of a component."""
+        status, text = _written(_library.urlpattern_component, self._address, index, COMPONENTS.index(name))
+        _checked(status)
+        return text
+
+    def __del__(self, free=_library.urlpattern_free):
+        free(self._address)
+
+
+class URLPattern:
+    """A pattern: a constructor string, with a base URL if there is one."""
+
+    __slots__ = ("_list", "_address")
+
+    def __init__(self, pattern, base=None, *, ignore_case=False):
+        self._list = URLPatternList()
+        self._address = self._list._address
+        self._list.append(pattern, base, ignore_case=ignore_case)
+
+    def test(self, url, base=None):
+        """Whether the pattern matches."""
+        url, base = url.encode(), b"" if base is None else base.encode()
+        status = _test(self._address, 0, url, len(url), base, len(base))
+        return status == DONE if status < REFUSED else _checked(status)
+
+    def exec(self, url, base=None):
+        """The match, or None: a dict of components, each with `input` and `groups`."""
+        return self._list.exec(0, url, base)
+
+    def __repr__(self):
+        texts = {name: getattr(self, name) for name in COMPONENTS}
+        return f"URLPattern({ {name: text for name, text in texts.items() if text != '*'} })"
+
+
+for _name in COMPONENTS:
+    setattr(URLPattern, _name, property(lambda self, name=_name: self._list.component(0, name), doc=f"The pattern text of the {_name}."))

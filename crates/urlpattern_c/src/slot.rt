@@ -1,0 +1,54 @@
+//! The pointer that C keeps.
+ghost use Rattle.std.specs.Prelude.{◌≡◌, IsSome, Option, None, Some};
+ghost use Rattle.std.specs.Coded.{coded_option};
+ghost use Rattle.urlpattern_c.specs.contracts.kept.Kept.{the_row as KeptRow};
+ghost use Rattle.urlpattern_c.specs.declared.kept.Kept.{Kept};
+
+use crate::kept::Kept;
+use crate::loose::Loose;
+use std::alloc::Global;
+use std::marker::Model;
+use std::ptr;
+
+/// A pointer to patterns, or to nothing.
+#[repr(C)]
+#[derive(Drop)]
+pub struct Slot {
+    at: *mut u8,
+    pub(crate) ghost held: { Option Kept } by { coded_option KeptRow.coded },
+}
+
+impl Model for Slot {
+    ghost use Rattle.urlpattern_c.specs.Memory.{leads_to};
+
+    ghost also_owns = { λ slot. leads_to slot.at slot.held };
+}
+
+impl Slot {
+    /// It leads to nothing.
+    pub(crate) fn empty() -> Slot
+        ensures { result.held ≡ None }
+    {
+        Slot {
+            at: ptr::null_mut(),
+        }
+    }
+
+    pub(crate) fn of(loose: Loose<Kept, Global>) -> Slot
+        ensures { result.held ≡ Some loose.value }
+    {
+        let Loose { at, alloc: _ } = loose;
+        Slot { at: at as *mut u8 }
+    }
+
+    pub(crate) fn into_loose(self, alloc: Global) -> Loose<Kept, Global>
+        requires { IsSome self.held }
+        ensures { self.held ≡ Some result.value }
+    {
+        let Slot { at } = self;
+        Loose {
+            at: at as *mut Kept,
+            alloc,
+        }
+    }
+}

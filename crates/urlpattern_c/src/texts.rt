@@ -1,0 +1,97 @@
+//! Texts that are written to memory of C's.
+ghost use Rattle.std.specs.Prelude.{◌≡◌, length, slice_get};
+ghost use Rattle.std.specs.Str.{chars};
+ghost use Rattle.urlpattern.specs.Eight.{components};
+ghost use Rattle.urlpattern.specs.Patterns.{pattern_view};
+ghost use Rattle.urlpattern_c.specs.Calls.{ReturnsStatus};
+ghost use Rattle.urlpattern_c.specs.Handles.{patterns_in};
+ghost use Rattle.urlpattern_c.specs.Texts.{IsComponentWritten, IsWritten};
+
+use crate::patterns::Patterns;
+use crate::status::Status;
+use std::alloc::Global;
+use urlpattern::regexp::PatternRegexp;
+use urlpattern::{ComponentName, UrlPattern, UrlPatternList};
+
+/// Writes a text to the start of a buffer, if the buffer has room for it, and says how many bytes it has.
+pub(crate) fn write(text: &str, buffer: &mut [u8], needed: &mut usize) -> Status
+    ensures written { IsWritten text.now buffer.old buffer.new result }
+    ensures needed { needed.new ≡ length text.now }
+{
+    let count = text.len();
+    *needed = count;
+    if buffer.len() < count {
+        return Status::TooSmall;
+    }
+    buffer[..count].copy_from_slice(text.as_bytes());
+    Status::Done
+}
+
+/// Writes the pattern text of a component.
+#[unsafe(no_mangle)]
+pub extern "C" fn urlpattern_component(
+    alloc: Global,
+    patterns: &mut Patterns,
+    index: usize,
+    component: u32,
+    buffer: &mut [u8],
+    needed: &mut usize,
+) -> u32
+    ensures answer { ReturnsStatus (IsComponentWritten (patterns_in patterns.old) index component buffer.old buffer.new needed.new) result }
+    ensures unchanged { patterns_in patterns.new ≡ patterns_in patterns.old }
+{
+    component_in(alloc, patterns, index, component, buffer, needed).number()
+}
+
+/// Writes the pattern text of a component of a pattern of a handle.
+fn component_in(
+    alloc: Global,
+    patterns: &mut Patterns,
+    index: usize,
+    component: u32,
+    buffer: &mut [u8],
+    needed: &mut usize,
+) -> Status
+    ensures answer { IsComponentWritten (patterns_in patterns.old) index component buffer.old buffer.new needed.new result }
+    ensures unchanged { patterns_in patterns.new ≡ patterns_in patterns.old }
+{
+    let Some(kept) = patterns.take(alloc) else {
+        return Status::NoPattern;
+    };
+    let answer = write_component(&kept.list, index, component, buffer, needed);
+    patterns.put(kept);
+    answer
+}
+
+/// Writes the pattern text of a component of the pattern at an index.
+fn write_component(
+    list: &UrlPatternList<PatternRegexp>,
+    index: usize,
+    component: u32,
+    buffer: &mut [u8],
+    needed: &mut usize,
+) -> Status
+    ensures { IsComponentWritten list.now index component buffer.old buffer.new needed.new result }
+{
+    let Some(pattern) = list.get(index) else {
+        return Status::NoPattern;
+    };
+    let Some(name) = component_of(component) else {
+        return Status::NoPattern;
+    };
+    write(pattern_text(pattern, name), buffer, needed)
+}
+
+/// The pattern text of a component.
+fn pattern_text(pattern: &UrlPattern<PatternRegexp>, name: ComponentName) -> &str
+    ensures { chars result.now ≡ (pattern_view pattern.now name).pattern_string }
+{
+    &pattern.get(name).pattern_string
+}
+
+/// The component of a number, in the order of the standard.
+fn component_of(number: u32) -> Option<ComponentName>
+    ensures { result ≡ slice_get components number }
+{
+    ComponentName::all().get(number as usize).copied()
+}

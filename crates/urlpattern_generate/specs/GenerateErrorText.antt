@@ -1,0 +1,15 @@
+-- The text of a `GenerateError`, as the bytes that are printed.
+use Rattle.std.specs.Prelude.{ℕ, List, ◌++◌, codes, string_bytes}
+use Rattle.urlpattern_eight.specs.Eight.{name_text}
+use Rattle.urlpattern_generate.specs.declared.error.GenerateError.{GenerateError}
+use Rattle.urlpattern_generate.specs.declared.error.GenerateError.TheVariants as errors
+
+-- a group has the name of its component before its own
+abbrev pub generate_error_text : GenerateError → List ℕ
+generate_error_text (errors.Missing component name) =
+    codes "the group `" ++ name_text component ++ (codes "." ++ string_bytes name ++ codes "` is missing")
+generate_error_text (errors.NotCaptured component name) =
+    codes "the group `" ++ name_text component ++ (codes "." ++ string_bytes name ++ codes "` cannot capture what is given for it")
+generate_error_text (errors.ReadOtherwise component) =
+    codes "the " ++ name_text component ++ codes " would be read with other groups, or no URL has it"
+generate_error_text errors.OutOfMemory = codes "out of memory"

@@ -1,0 +1,84 @@
+//! Pattern texts that need no parser: plain texts, and an asterisk for which nothing is given.
+
+ghost use Rattle.std.specs.List.{list_all};
+ghost use Rattle.std.specs.Prelude.{◌≡◌, ◌↔◌, codes, IfErr, IfOk, IsTrue};
+ghost use Rattle.std.specs.Str.{chars};
+ghost use Rattle.urlpattern_generate.specs.PlainPatterns.{IsOpen, is_plain_character};
+ghost use Rattle.urlpattern_generate.specs.Writers.{CannotWrite, Writes, manner_of_writer};
+ghost use Rattle.urlpattern_syntax.specs.Text.{text_of};
+
+use crate::error::GenerateError;
+use crate::groups::{given_text, is_same_text};
+use crate::writer::Writer;
+use urlpattern_core::component::Component;
+use urlpattern_core::regexp::RegExp;
+
+impl Writer<'_> {
+    /// The text of a component whose pattern text is plain, and is that text.
+    pub(crate) fn plain_text<R: RegExp>(
+        &self,
+        component: &Component<R>,
+    ) -> Result<String, GenerateError>
+        requires { IsTrue (list_all is_plain_character (text_of component.now.pattern_string)) }
+        ensures written { IfOk result (λ text. Writes R.answer component.now self.now (text_of text)) }
+        ensures refused { IfErr result (CannotWrite R.answer component.now self.now) }
+    {
+        let text = component.pattern_string.clone()?;
+        let captures = Vec::new(self.alloc);
+        if self.is_read_back(&component.matcher, &text, &captures)? {
+            Ok(text)
+        } else {
+            Err(GenerateError::ReadOtherwise(self.component))
+        }
+    }
+
+    /// The text of a component whose pattern text is an asterisk for which nothing is given: the empty text.
+    pub(crate) fn open_text<R: RegExp>(
+        &self,
+        component: &Component<R>,
+    ) -> Result<String, GenerateError>
+        requires { IsOpen (manner_of_writer self.now) (text_of component.now.pattern_string) }
+        ensures written { IfOk result (λ text. Writes R.answer component.now self.now (text_of text)) }
+        ensures refused { IfErr result (CannotWrite R.answer component.now self.now) }
+    {
+        let text = String::new(self.alloc);
+        let captures = [Some(String::new(self.alloc))];
+        if self.is_read_back(&component.matcher, &text, &captures)? {
+            Ok(text)
+        } else {
+            Err(GenerateError::ReadOtherwise(self.component))
+        }
+    }
+
+    /// Whether a pattern text is an asterisk for which nothing is given.
+    pub(crate) fn is_open(&self, pattern: &str) -> bool
+        ensures { IsTrue result ↔ IsOpen (manner_of_writer self.now) (chars pattern.now) }
+    {
+        is_same_text(pattern, "*") && given_text(self.groups, self.component, "0").is_none()
+    }
+}
+
+/// Whether each character of a pattern text is plain.
+pub(crate) fn is_plain(pattern: &str) -> bool
+    ensures { result ≡ list_all is_plain_character (chars pattern.now) }
+{
+    is_plain_text(pattern)
+}
+
+/// The same, byte by byte.
+fn is_plain_text(pattern: &str) -> bool
+    ensures { result ≡ list_all is_plain_character pattern.now }
+{
+    pattern.as_bytes().iter().all(|&b| is_plain_byte(b))
+}
+
+/// Whether a byte is ASCII and stands for itself in a pattern text.
+fn is_plain_byte(b: u8) -> bool
+    ensures { result ≡ is_plain_character b }
+{
+    b < 128
+        && !matches!(
+            b,
+            b'{' | b'}' | b'*' | b'+' | b'?' | b'\\' | b':' | b'(' | b'\t' | b'\n' | b'\r'
+        )
+}
