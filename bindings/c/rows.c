@@ -2,7 +2,8 @@
  *
  * A line has words, of which texts are hexadecimal, and `-` is no text. `add STATUS IGNORES PATTERN BASE` compiles a pattern into
  * a new handle, `more` another into the same, `exec STATUS URL BASE JSON` matches with the first, `text COMPONENT TEXT` reads a
- * component, and `first STATUS URL BASE INDEX` finds the first match. The last line counts the answers that are as they should be.
+ * component, `custom STATUS` asks for a custom regular expression, and `first STATUS URL BASE INDEX` finds the first match. The last
+ * line counts the answers that are as they should be.
  */
 #include "urlpattern.h"
 
@@ -10,7 +11,7 @@
 #include <stdlib.h>
 #include <string.h>
 
-enum { WORDS = 5, ROOM = 1 << 20, EDGE = 8 };
+enum { WORDS = 5, ROOM = 1 << 20, EDGE = 8, COMPONENTS = 8 };
 
 typedef struct {
     char *bytes;
@@ -57,10 +58,13 @@ static void ask_exec(char **words, unsigned number) {
     uint32_t wanted = (uint32_t)atoi(words[1]), status;
     text url = text_of(words[2]), base = text_of(words[3]), json = text_of(words[4]);
     size_t needed = 0;
+    uint32_t component = COMPONENTS + 1;
     memset(buffer, EDGE, json.length + 1);
     status = urlpattern_exec(&patterns, 0, url.bytes, url.length, base.bytes, base.length, buffer, sizeof buffer, &needed);
     bool is_right = wanted == URLPATTERN_DONE ? is_written(status, needed, json) : status == wanted;
     is_right &= urlpattern_test(&patterns, 0, url.bytes, url.length, base.bytes, base.length) == wanted;
+    is_right &= urlpattern_mismatch(&patterns, 0, url.bytes, url.length, base.bytes, base.length, &component) == wanted;
+    is_right &= wanted == URLPATTERN_DONE ? component == COMPONENTS : component <= COMPONENTS;
     if (wanted == URLPATTERN_DONE) {
         buffer[0] = EDGE;
         status = urlpattern_exec(&patterns, 0, url.bytes, url.length, base.bytes, base.length, buffer, json.length - 1, &needed);
@@ -77,6 +81,11 @@ static void ask_text(char **words, unsigned number) {
     compare(is_written(status, needed, wanted), number, status);
 }
 
+static void ask_custom(char **words, unsigned number) {
+    uint32_t status = urlpattern_has_regexp_groups(&patterns, 0);
+    compare(status == (uint32_t)atoi(words[1]), number, status);
+}
+
 static void ask_first(char **words, unsigned number) {
     uint32_t wanted = (uint32_t)atoi(words[1]);
     text url = text_of(words[2]), base = text_of(words[3]);
@@ -90,6 +99,8 @@ static void ask(char **words, unsigned number) {
         ask_exec(words, number);
     } else if (strcmp(words[0], "text") == 0) {
         ask_text(words, number);
+    } else if (strcmp(words[0], "custom") == 0) {
+        ask_custom(words, number);
     } else if (strcmp(words[0], "first") == 0) {
         ask_first(words, number);
     } else {

@@ -63,6 +63,12 @@ uint32_t urlpattern_test(urlpattern_list *patterns, size_t index, const char *ur
  * DONE, NO_MATCH, NOT_UTF8, OUT_OF_MEMORY, or NO_PATTERN (an empty handle); but for DONE, `index` is as it was. */
 uint32_t urlpattern_first(urlpattern_list *patterns, const char *url, size_t length, const char *base, size_t base_length, size_t *index);
 
+/* Whether the pattern of this index matches a URL, and if not, which component is the first that does not: `component` is its number, as
+ * of `urlpattern_component`, or 8 if there is none, as where the text is no URL.
+ * DONE (a match), NO_MATCH, NOT_UTF8, OUT_OF_MEMORY, or NO_PATTERN. */
+uint32_t urlpattern_mismatch(urlpattern_list *patterns, size_t index, const char *url, size_t length, const char *base, size_t base_length,
+                             uint32_t *component);
+
 /* Writes the match of a URL as JSON, in the shape of a browser's `exec`: an object with `input` and `groups` of each component. A group
  * that took no part is null.
  * DONE, NO_MATCH, NOT_UTF8, OUT_OF_MEMORY, NO_PATTERN, or TOO_SMALL. For DONE and TOO_SMALL `needed` is how many bytes the text has. */
@@ -72,6 +78,10 @@ uint32_t urlpattern_exec(urlpattern_list *patterns, size_t index, const char *ur
 /* Writes the pattern text of a component: 0 protocol, 1 username, 2 password, 3 hostname, 4 port, 5 pathname, 6 search, 7 hash.
  * DONE, NO_PATTERN, or TOO_SMALL, with `needed` as above. */
 uint32_t urlpattern_component(urlpattern_list *patterns, size_t index, uint32_t component, char *buffer, size_t room, size_t *needed);
+
+/* Whether the pattern of this index has a custom regular expression, as `hasRegExpGroups` of a browser.
+ * DONE (it has one), NO_MATCH (it has none), or NO_PATTERN. */
+uint32_t urlpattern_has_regexp_groups(urlpattern_list *patterns, size_t index);
 
 /* The part of a text that is at fault, in bytes. */
 typedef struct urlpattern_place {

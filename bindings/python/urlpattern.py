@@ -41,8 +41,10 @@ def _load():
         ("free", [handle], None),
         ("test", [handle, size, *texts], status),
         ("first", [handle, *texts, ctypes.POINTER(size)], status),
+        ("mismatch", [handle, size, *texts, ctypes.POINTER(ctypes.c_uint32)], status),
         ("exec", [handle, size, *texts, *room], status),
         ("component", [handle, size, ctypes.c_uint32, *room], status),
+        ("has_regexp_groups", [handle, size], status),
         ("diagnose", [*texts, ctypes.c_bool, *room, ctypes.POINTER(_Place)], status),
     ):
         function = getattr(library, f"urlpattern_{name}")
@@ -137,6 +139,16 @@ class URLPatternList:
         url, base = url.encode(), _bytes(base)
         return _checked(_test(self._address, index, url, len(url), base, len(base)))
 
+    def mismatch(self, index, url, base=None):
+        """The first component that the pattern of this index does not match, or None if it matches. ValueError: the text is no URL."""
+        url, base, component = url.encode(), _bytes(base), ctypes.c_uint32()
+        status = _library.urlpattern_mismatch(self._address, index, url, len(url), base, len(base), ctypes.byref(component))
+        if _checked(status):
+            return None
+        if component.value == len(COMPONENTS):
+            raise ValueError("not a URL")
+        return COMPONENTS[component.value]
+
     def exec(self, index, url, base=None):
         """The match of the pattern of this index, or None: a dict of components, each with `input` and `groups`."""
         url, base = url.encode(), _bytes(base)
@@ -148,6 +160,10 @@ class URLPatternList:
         status, text = _written(_library.urlpattern_component, self._address, index, COMPONENTS.index(name))
         _checked(status)
         return text
+
+    def has_regexp_groups(self, index):
+        """Whether the pattern of this index has a custom regular expression."""
+        return _checked(_library.urlpattern_has_regexp_groups(self._address, index))
 
     def __del__(self, free=_library.urlpattern_free):
         free(self._address)
@@ -168,6 +184,15 @@ class URLPattern:
         url, base = url.encode(), b"" if base is None else base.encode()
         status = _test(self._address, 0, url, len(url), base, len(base))
         return status == DONE if status < REFUSED else _checked(status)
+
+    def mismatch(self, url, base=None):
+        """The first component that does not match, or None if each does. ValueError: the text is no URL."""
+        return self._list.mismatch(0, url, base)
+
+    @property
+    def has_regexp_groups(self):
+        """Whether the pattern has a custom regular expression."""
+        return self._list.has_regexp_groups(0)
 
     def exec(self, url, base=None):
         """The match, or None: a dict of components, each with `input` and `groups`."""

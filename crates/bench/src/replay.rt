@@ -2,9 +2,8 @@
 
 mod first_match;
 
-use bench_patterns::{
-    constructors, diagnoses, generated, inputs, links, patterns, plain, rules, trees,
-};
+use bench_inputs::{constructors, diagnoses, inputs, plain, trees};
+use bench_patterns::{generated, links, patterns, rules};
 use bench_rows::recorded::{
     Answer, Fault, OPERATIONS, Operation, field, is_set, named, optional_text, text,
 };

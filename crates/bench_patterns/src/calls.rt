@@ -1,8 +1,7 @@
 //! Matches an input by the call that a question names.
 
-use crate::given;
-use bench_rows::Case;
 use bench_rows::recorded::{Fault, named, optional_text};
+use bench_rows::{Case, given};
 use serde_json::Value;
 use std::alloc::Global;
 use url::Url;

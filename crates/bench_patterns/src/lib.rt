@@ -2,13 +2,7 @@
 #![tactic(auto)]
 
 pub mod calls;
-pub mod constructors;
-pub mod diagnoses;
 pub mod generated;
-mod given;
-pub mod inputs;
 pub mod links;
 pub mod patterns;
-pub mod plain;
 pub mod rules;
-pub mod trees;

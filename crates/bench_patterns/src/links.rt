@@ -1,9 +1,9 @@
 //! Asks for URLs of patterns whose groups capture what is given, or what they captured of a URL.
 
 use crate::generated::{groups_of, is_reason, is_refused};
-use crate::{given, patterns};
-use bench_rows::Case;
+use crate::patterns;
 use bench_rows::recorded::{Answer, Fault, has_text, list, optional_text};
+use bench_rows::{Case, given};
 use serde_json::Value;
 use std::alloc::Global;
 use url::Url;

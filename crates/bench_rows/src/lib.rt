@@ -5,6 +5,7 @@ mod case;
 pub mod compiled;
 pub mod components;
 pub mod engines;
+pub mod given;
 pub mod matchers;
 pub mod recorded;
 pub mod tokens;

@@ -12,10 +12,7 @@ use urlpat_commands::{Failure, fail};
 use urlpat_explain::explain;
 use urlpat_links::link;
 use urlpat_rules::{Tables, run};
-use urlpat_words::{take_word, words_after};
-
-/// The word for patterns that ignore case. It may stand anywhere.
-const IGNORE_CASE: &str = "--ignore-case";
+use urlpat_words::{Flags, take_flags, words_after};
 
 /// The files of the host.
 #[derive(Drop)]
@@ -35,8 +32,8 @@ impl Tables for HostFiles<'_> {
 fn main(rt: HostRuntime) -> ExitCode {
     ExitCode::from(match words(&rt) {
         Ok(mut words) => {
-            let ignore_case = may_ignore_case(&words) && take_word(&mut words, IGNORE_CASE);
-            match run_buffered(&rt, &words, ignore_case) {
+            let flags = take_flags(&mut words);
+            match run_buffered(&rt, &words, flags) {
                 Ok(status) => status,
                 Err(_) => fail(&Failure::from(AllocError), &mut rt.stderr()),
             }
@@ -45,19 +42,8 @@ fn main(rt: HostRuntime) -> ExitCode {
     })
 }
 
-/// Whether the patterns of the command may ignore case.
-fn may_ignore_case(words: &[String]) -> bool {
-    match words.iter().find(|word| word.as_str() != IGNORE_CASE) {
-        Some(command) => !matches!(
-            command.as_str(),
-            "component" | "covers" | "link" | "unreachable"
-        ),
-        None => false,
-    }
-}
-
 /// Does what the arguments ask for, over buffers, and gives the status to end with. The error is that memory ran out.
-fn run_buffered(rt: &HostRuntime, words: &[String], ignore_case: bool) -> io::Result<u8> {
+fn run_buffered(rt: &HostRuntime, words: &[String], flags: Flags) -> io::Result<u8> {
     let alloc = rt.alloc();
     let mut input = BufReader::new(alloc, rt.stdin())?;
     let mut out = BufWriter::new(alloc, rt.stdout())?;
@@ -66,18 +52,10 @@ fn run_buffered(rt: &HostRuntime, words: &[String], ignore_case: bool) -> io::Re
         return Ok(link(alloc, rest, &mut out, &mut err));
     }
     if let Some(rest) = words_after(words, "explain") {
-        return Ok(explain(alloc, rest, ignore_case, &mut out, &mut err));
+        return Ok(explain(alloc, rest, flags.ignore_case, &mut out, &mut err));
     }
     let files = HostFiles { rt };
-    Ok(run(
-        alloc,
-        &files,
-        words,
-        ignore_case,
-        &mut input,
-        &mut out,
-        &mut err,
-    ))
+    Ok(run(alloc, &files, words, flags, &mut input, &mut out, &mut err))
 }
 
 /// The arguments after the program's own name. The error is that one of them is not UTF-8, or that memory ran out.

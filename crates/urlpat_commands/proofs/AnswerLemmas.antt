@@ -1,13 +1,14 @@
 -- Lemmas on what the program answers.
-use Rattle.std.proofs.Common.{◌≡◌, ℕ, ◌<◌, ◌≤◌, codes, get_or, inl, inr, Bool, false, List, [], ◌∷◌, ◌++◌, map, length, drop, take, suc, ◌+◌, refl, ap, ap₂, ◌∙◌, sym, subst, arith, append_assoc, append-nil}
+use Rattle.std.proofs.Common.{◌≡◌, ℕ, ◌<◌, ◌≤◌, get_or, inl, inr, Bool, false, List, [], ◌∷◌, ◌++◌, map, length, drop, take, suc, ◌+◌, refl, ap, ap₂, ◌∙◌, sym, subst, arith, append_assoc, append-nil}
 use Rattle.std.proofs.Math.Seq.{take-suc}
 use Rattle.std.proofs.lemmas.List.{map-append}
 use Rattle.std.proofs.lemmas.Str.{encodes-chars, IsUtf8-string_bytes}
 use Rattle.std.specs.Prelude.{MatchOption, Option, None, Some, String, string_bytes, encode_utf8_all}
 use Rattle.std.specs.declared.alloc.Global.{Global}
-use Rattle.urlpat_commands.specs.Answers.{AreGroupLines, AreLines, named_results, IsFirstAnswer, IsFirstText, IsMatchAnswer, IsMatchFailure, IsMatchText, IsMatchTextBy, RefusesPatternOf, AnswersMatch, base_of, IsPatternOf, IsUnmatched, IsUnmatchedBy, IsUnmatchedByEach, default_pattern_options, words_view}
+use Rattle.urlpat_commands.specs.Answers.{AreGroupLines, AreLines, named_results, IsFirstAnswer, IsFirstText, IsMatchAnswer, IsMatchFailure, IsMatchText, IsMatchTextBy, RefusesPatternOf, AnswersMatch, base_of, IsPatternOf, IsUnmatched, IsUnmatchedBy, IsUnmatchedByEach, IsPrintedOf, default_pattern_options, words_view}
 use Rattle.urlpat_commands.specs.declared.command.Failure.TheVariants as failures
 use Rattle.urlpat_commands.specs.declared.command.Printed.{Printed}
+use Rattle.urlpat_words.specs.declared.flags.Flags.{Flags}
 use Rattle.urlpattern.specs.Eight.{name_text}
 use Rattle.urlpattern.specs.Errors.{MemoryOr}
 use Rattle.urlpattern.specs.ResultViews.{ResultView}
@@ -75,19 +76,19 @@ is_default options syntax ignores = ap₂ options_with syntax ignores
 -- ---- matches
 
 -- what a pattern answers is an answer of the text that it is compiled from
-pub found_by : (ignores : Bool) (pattern input : List ℕ) (base : Option (List ℕ)) (compiled : PatternView PatternRegexp) (found : Option (String Global)) → IsPatternOf ignores pattern base compiled
-    → MatchOption found (IsUnmatchedBy compiled input base) (λ text. IsMatchTextBy compiled input base (string_bytes text))
-    → MatchOption found (IsUnmatched ignores pattern input base) (λ text. IsMatchText ignores pattern input base (string_bytes text))
-found_by ignores pattern input base compiled None is answer = (compiled, is, answer)
-found_by ignores pattern input base compiled (Some text) is answer = (compiled, is, answer)
+pub found_by : (flags : Flags) (pattern input : List ℕ) (base : Option (List ℕ)) (compiled : PatternView PatternRegexp) (found : Option (String Global)) → IsPatternOf flags.ignore_case pattern base compiled
+    → MatchOption found (IsUnmatchedBy compiled input base) (λ text. IsMatchTextBy flags.json compiled input base (string_bytes text))
+    → MatchOption found (IsUnmatched flags.ignore_case pattern input base) (λ text. IsMatchText flags pattern input base (string_bytes text))
+found_by flags pattern input base compiled None is answer = (compiled, is, answer)
+found_by flags pattern input base compiled (Some text) is answer = (compiled, is, answer)
 
--- an answer that tells of lines, or that there are none, tells of a match
-pub answers_match : (Matched : List ℕ → Type 0) (Unmatched : Type 0) (lines : Option (String Global)) (answer : Printed)
-    → MatchOption lines ((string_bytes answer.text ≡ codes "no match\n") × (answer.status ≡ 1)) (λ text. (answer.text ≡ text) × (answer.status ≡ 0))
-    → MatchOption lines Unmatched (λ text. Matched (string_bytes text))
-    → AnswersMatch (Matched (string_bytes answer.text)) Unmatched (string_bytes answer.text) answer.status
-answers_match Matched Unmatched None answer is unmatched = inr (unmatched, is.0, is.1)
-answers_match Matched Unmatched (Some text) answer is matched = inl (subst (λ (reported : String Global). Matched (string_bytes reported)) (sym is.0) matched, is.1)
+-- an answer that has the text of a match, or says that there is none, tells of a match
+pub answers_match : (json : Bool) (Matched : List ℕ → Type 0) (Unmatched : Type 0) (found : Option (String Global)) (answer : Printed)
+    → IsPrintedOf json found answer
+    → MatchOption found Unmatched (λ text. Matched (string_bytes text))
+    → AnswersMatch json (Matched (string_bytes answer.text)) Unmatched (string_bytes answer.text) answer.status
+answers_match json Matched Unmatched None answer is unmatched = inr (unmatched, is.0, is.1)
+answers_match json Matched Unmatched (Some text) answer is matched = inl (subst (λ (reported : String Global). Matched (string_bytes reported)) (sym is.0) matched, is.1)
 
 -- ---- words
 
@@ -105,17 +106,17 @@ two_words_and_more [] a b rest least is_a is_b is_rest = absurd (omega (arith, l
 two_words_and_more (x ∷ []) a b rest least is_a is_b is_rest = absurd (omega (arith, least))
 two_words_and_more (x ∷ y ∷ others) a b rest least is_a is_b is_rest = rw (is_a, is_b, is_rest) refl
 
-module _ (ignores : Bool) (words : List (String Global)) (pattern base input : String Global) (are : words ≡ pattern ∷ base ∷ input ∷ []) where
+module _ (flags : Flags) (words : List (String Global)) (pattern base input : String Global) (are : words ≡ pattern ∷ base ∷ input ∷ []) where
   pub match_answers : (text : List ℕ) (status : ℕ)
-      → AnswersMatch (IsMatchText ignores (string_bytes pattern) (string_bytes input) (base_of (string_bytes base)) text) (IsUnmatched ignores (string_bytes pattern) (string_bytes input) (base_of (string_bytes base))) text status
-      → IsMatchAnswer ignores (words_view words) text status
+      → AnswersMatch flags.json (IsMatchText flags (string_bytes pattern) (string_bytes input) (base_of (string_bytes base)) text) (IsUnmatched flags.ignore_case (string_bytes pattern) (string_bytes input) (base_of (string_bytes base))) text status
+      → IsMatchAnswer flags (words_view words) text status
   match_answers text status reported = rw are reported
 
-  pub match_fails : (error : Error) → MemoryOr (RefusesPatternOf ignores (string_bytes pattern) (base_of (string_bytes base))) error → IsMatchFailure ignores (words_view words) (failures.Refused error)
+  pub match_fails : (error : Error) → MemoryOr (RefusesPatternOf flags.ignore_case (string_bytes pattern) (base_of (string_bytes base))) error → IsMatchFailure flags.ignore_case (words_view words) (failures.Refused error)
   match_fails error reported = rw are reported
 
-pub first_answers : (ignores : Bool) (words : List (String Global)) (base input : String Global) (patterns : List (String Global)) → words ≡ base ∷ input ∷ patterns → 0 < length patterns → (text : List ℕ) (status : ℕ)
-    → AnswersMatch (IsFirstText ignores (words_view patterns) (string_bytes input) (base_of (string_bytes base)) text) (IsUnmatchedByEach ignores (words_view patterns) (string_bytes input) (base_of (string_bytes base))) text status
-    → IsFirstAnswer ignores (words_view words) text status
-first_answers ignores words base input [] are some text status reported = absurd (omega (arith, some))
-first_answers ignores words base input (pattern ∷ patterns) are some text status reported = rw are reported
+pub first_answers : (flags : Flags) (words : List (String Global)) (base input : String Global) (patterns : List (String Global)) → words ≡ base ∷ input ∷ patterns → 0 < length patterns → (text : List ℕ) (status : ℕ)
+    → AnswersMatch flags.json (IsFirstText flags (words_view patterns) (string_bytes input) (base_of (string_bytes base)) text) (IsUnmatchedByEach flags.ignore_case (words_view patterns) (string_bytes input) (base_of (string_bytes base))) text status
+    → IsFirstAnswer flags (words_view words) text status
+first_answers flags words base input [] are some text status reported = absurd (omega (arith, some))
+first_answers flags words base input (pattern ∷ patterns) are some text status reported = rw are reported

@@ -5,21 +5,22 @@ use Rattle.urlpat_commands.specs.Answers.{BaseView, IsPatternOf, base_of, base_v
 use Rattle.urlpat_commands.specs.FilterLines.{FiltersLines, IsFiltered, status_of}
 use Rattle.urlpat_filter.specs.Filters.{FiltersText}
 use Rattle.urlpat_words.specs.Queries.{IsQueryOf}
+use Rattle.urlpat_words.specs.declared.flags.Flags.{Flags}
 use Rattle.urlpat_words.specs.declared.query.Query.{Query}
 use Rattle.urlpattern.specs.Patterns.{PatternView}
 use Rattle.urlpattern_engine.specs.declared.pattern_regexp.PatternRegexp.{PatternRegexp}
 
 -- the lines are filtered under the base URL that the words have
-pub filters : (ignores : Bool) (words : List (List ℕ)) (query : Query) (compiled : PatternView PatternRegexp) (base : Option (List ℕ)) (kept : BaseView) (input old new : Option (List ℕ)) (any : Bool) (status : ℕ)
-    → IsQueryOf words query → IsPatternOf ignores query.pattern.now base compiled → base ≡ base_of query.base.now
+pub filters : (flags : Flags) (words : List (List ℕ)) (query : Query) (compiled : PatternView PatternRegexp) (base : Option (List ℕ)) (kept : BaseView) (input old new : Option (List ℕ)) (any : Bool) (status : ℕ)
+    → IsQueryOf flags.json words query → IsPatternOf flags.ignore_case query.pattern.now base compiled → base ≡ base_of query.base.now
     → kept ≡ base_view base → status ≡ status_of any → IfSome input (λ text. FiltersText (IsFiltered compiled kept query) query.shape text any old new)
-    → FiltersLines ignores words status input old new
-filters ignores words query compiled base kept None old new any status asks is same read ends found =
-    (query, asks, compiled, subst (λ b. IsPatternOf ignores query.pattern.now b compiled) same is, tt)
-filters ignores words query compiled base kept (Some text) old new any status asks is same read ends found = (
+    → FiltersLines flags words status input old new
+filters flags words query compiled base kept None old new any status asks is same read ends found =
+    (query, asks, compiled, subst (λ b. IsPatternOf flags.ignore_case query.pattern.now b compiled) same is, tt)
+filters flags words query compiled base kept (Some text) old new any status asks is same read ends found = (
   query,
   asks,
   compiled,
-  subst (λ b. IsPatternOf ignores query.pattern.now b compiled) same is,
+  subst (λ b. IsPatternOf flags.ignore_case query.pattern.now b compiled) same is,
   (any, ends, subst (λ b. FiltersText (IsFiltered compiled b query) query.shape text any old new) (read ∙ ap base_view same) found),
 )

@@ -7,6 +7,7 @@ use Rattle.std.specs.List.{AllZip}
 use Rattle.std.specs.Prelude.{MatchOption, Option, None, Some, String, option_map, string_bytes}
 use Rattle.std.specs.declared.alloc.Global.{Global}
 use Rattle.urlpat_commands.specs.Answers.{ArePatternsOf, IsFirstText, IsFirstTextBy, IsPatternOf, IsUnmatchedByAll, IsUnmatchedByEach, RefusesOneOf, RefusesPatternOf}
+use Rattle.urlpat_words.specs.declared.flags.Flags.{Flags}
 use Rattle.urlpattern.specs.Errors.{MemoryOr}
 use Rattle.urlpattern.specs.Patterns.{PatternView, pattern_view}
 use Rattle.urlpattern.specs.FirstMatch.{patterns_view}
@@ -57,8 +58,8 @@ module _ (ignores : Bool) (base : Option (List ℕ)) (words : List (String Globa
 -- ---- the first match
 
 -- what a list answers is an answer of the texts that it is compiled from
-pub first_found_by : (ignores : Bool) (patterns : List (List ℕ)) (input : List ℕ) (base : Option (List ℕ)) (compiled : List (PatternView PatternRegexp)) (found : Option (String Global)) → ArePatternsOf ignores patterns base compiled
-    → MatchOption found (IsUnmatchedByAll compiled input base) (λ text. IsFirstTextBy compiled input base (string_bytes text))
-    → MatchOption found (IsUnmatchedByEach ignores patterns input base) (λ text. IsFirstText ignores patterns input base (string_bytes text))
-first_found_by ignores patterns input base compiled None are answer = (compiled, are, answer)
-first_found_by ignores patterns input base compiled (Some text) are answer = (compiled, are, answer)
+pub first_found_by : (flags : Flags) (patterns : List (List ℕ)) (input : List ℕ) (base : Option (List ℕ)) (compiled : List (PatternView PatternRegexp)) (found : Option (String Global)) → ArePatternsOf flags.ignore_case patterns base compiled
+    → MatchOption found (IsUnmatchedByAll compiled input base) (λ text. IsFirstTextBy flags.json compiled input base (string_bytes text))
+    → MatchOption found (IsUnmatchedByEach flags.ignore_case patterns input base) (λ text. IsFirstText flags patterns input base (string_bytes text))
+first_found_by flags patterns input base compiled None are answer = (compiled, are, answer)
+first_found_by flags patterns input base compiled (Some text) are answer = (compiled, are, answer)

@@ -1,19 +1,20 @@
 -- Lemmas on the short form, and on what is said beside an answer.
-use Rattle.std.proofs.Common.{◌≡◌, ℕ, Bool, ◌<◌, ◌≤◌, List, [], ◌∷◌, length, get_or, arith, subst, Option, None, Some, Result, Ok, Err, IfOk, IfSome}
+use Rattle.std.proofs.Common.{◌≡◌, ℕ, ◌<◌, ◌≤◌, List, [], ◌∷◌, length, get_or, arith, subst, Option, None, Some, Result, Ok, Err, IfOk, IfSome}
 use Rattle.std.specs.Prelude.{String, string_bytes}
 use Rattle.std.specs.declared.alloc.Global.{Global}
 use Rattle.urlpat_commands.specs.Answers.{AnswersMatch, IsMatchText, IsRefusedText, IsShortAnswer, IsShortFailure, IsUnmatched, RefusesPatternOf, base_of, words_view}
 use Rattle.urlpat_commands.specs.Notes.{HasRefusedFirstInput, HasRefusedMatchInput, HasRefusedShortInput}
 use Rattle.urlpat_commands.specs.declared.command.Failure.TheVariants as failures
+use Rattle.urlpat_words.specs.declared.flags.Flags.{Flags}
 use Rattle.urlpattern.specs.Errors.{MemoryOr}
 use Rattle.urlpattern_syntax.specs.declared.error.Error.{Error}
 
-module _ (ignores : Bool) (words : List (String Global)) (input : String Global) (pattern : List ℕ) (are : words ≡ input ∷ []) where
-  pub short_answers : (text : List ℕ) (status : ℕ) → AnswersMatch (IsMatchText ignores pattern (string_bytes input) None text) (IsUnmatched ignores pattern (string_bytes input) None) text status
-      → IsShortAnswer ignores pattern (words_view words) text status
+module _ (flags : Flags) (words : List (String Global)) (input : String Global) (pattern : List ℕ) (are : words ≡ input ∷ []) where
+  pub short_answers : (text : List ℕ) (status : ℕ) → AnswersMatch flags.json (IsMatchText flags pattern (string_bytes input) None text) (IsUnmatched flags.ignore_case pattern (string_bytes input) None) text status
+      → IsShortAnswer flags pattern (words_view words) text status
   short_answers text status reported = rw are reported
 
-  pub short_fails : (error : Error) → MemoryOr (RefusesPatternOf ignores pattern None) error → IsShortFailure ignores pattern (words_view words) (failures.Refused error)
+  pub short_fails : (error : Error) → MemoryOr (RefusesPatternOf flags.ignore_case pattern None) error → IsShortFailure flags.ignore_case pattern (words_view words) (failures.Refused error)
   short_fails error reported = rw are reported
 
 -- what is said of the second and third of three words

@@ -1,5 +1,5 @@
 -- What the program answers to its words, and what it refuses. Words and texts are bytes.
-use Rattle.std.specs.Prelude.{◌≡◌, ◌≢◌, ◌↔◌, ◌⊎◌, All, ◌++◌, ℕ, Bool, false, if◌then◌else◌, List, [], ◌∷◌, length, map, max, codes, bytes_eq, Option, None, Some, Result, Ok, Err, String, string_bytes, encode_utf8_all, slice_get, take, IsSome, MatchOption}
+use Rattle.std.specs.Prelude.{◌≡◌, ◌≢◌, ◌↔◌, ◌⊎◌, All, ◌++◌, ℕ, Bool, true, false, if◌then◌else◌, List, [], ◌∷◌, length, map, max, codes, bytes_eq, Option, None, Some, Result, Ok, Err, String, string_bytes, encode_utf8_all, slice_get, take, IsSome, MatchOption}
 use Rattle.std.specs.Ordering.{on, nat_cmp}
 use Rattle.std.specs.Cmp.Lexicographic.{slice_cmp}
 use Rattle.std.specs.List.{AllZip, Contains, flat_map}
@@ -16,9 +16,11 @@ use Rattle.urlpat_commands.specs.declared.command.Failure.TheVariants as failure
 use Rattle.urlpat_commands.specs.declared.command.Printed.{Printed}
 use Rattle.urlpat_commands.specs.declared.command.TheConstants.{DONE, NO_MATCH}
 use Rattle.urlpat_words.specs.Help.{IsHelp}
+use Rattle.urlpat_words.specs.declared.flags.Flags.{Flags}
 pub use Rattle.urlpat_words.specs.Words.{words_view}
+use Rattle.urlpat_commands.specs.Json.{IsFirstJson, IsMatchJson}
 use Rattle.urlpat_commands.specs.Kinds.{IsKind, NamesOptions}
-use Rattle.urlpat_commands.specs.Report.{component_lines, first_line, group_line}
+use Rattle.urlpat_commands.specs.Report.{component_lines, first_line, group_line, no_match_text}
 use Rattle.urlpattern.specs.Eight.{components, name_text}
 use Rattle.urlpattern.specs.Dialect.{HasMeaningOf}
 use Rattle.urlpattern.specs.Errors.{ErrorView, MemoryOr}
@@ -135,6 +137,16 @@ named_results result names = map (λ name. (name_text name, result name)) names
 abbrev pub all_named_results : (ComponentName → ResultView) → List (List ℕ × ResultView)
 all_named_results result = named_results result components
 
+-- the text shows what the groups of a match capture: as JSON, or a line for each
+abbrev pub ShowsMatch : (json : Bool) → (ComponentName → ResultView) → (text : List ℕ) → Type 0
+ShowsMatch true result text = IsMatchJson result text
+ShowsMatch false result text = AreLines (all_named_results result) text
+
+-- the text shows which pattern is the first that matches, and what its groups capture
+abbrev pub ShowsFirst : (json : Bool) → (index : ℕ) → (ComponentName → ResultView) → (text : List ℕ) → Type 0
+ShowsFirst true index result text = IsFirstJson index result text
+ShowsFirst false index result text = (lines : List ℕ) × AreLines (all_named_results result) lines × (text ≡ first_line index ++ lines)
+
 -- A base URL that is read: what `url` makes of its text, and how many bytes that has.
 pub record BaseView : Type 0 where
   pub url : Parsed (Option Parts)
@@ -172,16 +184,16 @@ abbrev pub FindsUrl : (input : List ℕ) → (base : Option (List ℕ)) → Opti
 FindsUrl input base found = FindsUrlUnder input (base_view base) found
 
 -- The pattern matches the input, a URL under this base URL, and the text has what the groups capture.
-pub record IsMatchTextBy (compiled : PatternView PatternRegexp) (input : List ℕ) (base : Option (List ℕ)) (text : List ℕ) : Type 0 where
+pub record IsMatchTextBy (json : Bool) (compiled : PatternView PatternRegexp) (input : List ℕ) (base : Option (List ℕ)) (text : List ℕ) : Type 0 where
   pub url : Parts
   pub result : ComponentName → ResultView
   pub is_url : IsUrlOf input base url
   pub is_match : IsMatch pattern_answer compiled (match_inputs.Url url) result
-  pub are_lines : AreLines (all_named_results result) text
+  pub shows : ShowsMatch json result text
 
-abbrev pub IsMatchText : (ignores : Bool) → (pattern input : List ℕ) → (base : Option (List ℕ)) → (text : List ℕ) → Type 0
-IsMatchText ignores pattern input base text =
-    (compiled : PatternView PatternRegexp) × IsPatternOf ignores pattern base compiled × IsMatchTextBy compiled input base text
+abbrev pub IsMatchText : Flags → (pattern input : List ℕ) → (base : Option (List ℕ)) → (text : List ℕ) → Type 0
+IsMatchText flags pattern input base text =
+    (compiled : PatternView PatternRegexp) × IsPatternOf flags.ignore_case pattern base compiled × IsMatchTextBy flags.json compiled input base text
 
 -- the pattern does not match the input: `url` refuses it, or the pattern has no match on it
 abbrev pub IsUnmatchedUnder : (compiled : PatternView PatternRegexp) → (input : List ℕ) → BaseView → Type 0
@@ -195,14 +207,14 @@ abbrev pub IsUnmatched : (ignores : Bool) → (pattern input : List ℕ) → (ba
 IsUnmatched ignores pattern input base =
     (compiled : PatternView PatternRegexp) × IsPatternOf ignores pattern base compiled × IsUnmatchedBy compiled input base
 
--- what is found are the lines of a match; None where there is none
-abbrev pub FindsMatch : (ignores : Bool) → (pattern input : List ℕ) → (base : Option (List ℕ)) → Option (String Global) → Type 0
-FindsMatch ignores pattern input base found =
-    MatchOption found (IsUnmatched ignores pattern input base) (λ text. IsMatchText ignores pattern input base (string_bytes text))
+-- what is found is the text of a match; None where there is none
+abbrev pub FindsMatch : Flags → (pattern input : List ℕ) → (base : Option (List ℕ)) → Option (String Global) → Type 0
+FindsMatch flags pattern input base found =
+    MatchOption found (IsUnmatched flags.ignore_case pattern input base) (λ text. IsMatchText flags pattern input base (string_bytes text))
 
-abbrev pub FindsMatchBy : PatternView PatternRegexp → (input : List ℕ) → (base : Option (List ℕ)) → Option (String Global) → Type 0
-FindsMatchBy compiled input base found =
-    MatchOption found (IsUnmatchedBy compiled input base) (λ text. IsMatchTextBy compiled input base (string_bytes text))
+abbrev pub FindsMatchBy : (json : Bool) → PatternView PatternRegexp → (input : List ℕ) → (base : Option (List ℕ)) → Option (String Global) → Type 0
+FindsMatchBy json compiled input base found =
+    MatchOption found (IsUnmatchedBy compiled input base) (λ text. IsMatchTextBy json compiled input base (string_bytes text))
 
 -- ---- what the first match captures
 
@@ -221,19 +233,17 @@ pub record RefusesOneOf (ignores : Bool) (texts : List (List ℕ)) (base : Optio
 
 -- A pattern of the list is the first that matches the input, a URL under this base URL, and the text has its index and
 -- what its groups capture.
-pub record IsFirstTextBy (compiled : List (PatternView PatternRegexp)) (input : List ℕ) (base : Option (List ℕ)) (text : List ℕ) : Type 0 where
+pub record IsFirstTextBy (json : Bool) (compiled : List (PatternView PatternRegexp)) (input : List ℕ) (base : Option (List ℕ)) (text : List ℕ) : Type 0 where
   pub url : Parts
   pub index : ℕ
   pub result : ComponentName → ResultView
-  pub lines : List ℕ
   pub is_url : IsUrlOf input base url
   pub is_first : IsFirstMatch pattern_answer compiled (match_inputs.Url url) (Some (index, result))
-  pub are_lines : AreLines (all_named_results result) lines
-  pub is_text : text ≡ first_line index ++ lines
+  pub shows : ShowsFirst json index result text
 
-abbrev pub IsFirstText : (ignores : Bool) → (patterns : List (List ℕ)) → (input : List ℕ) → (base : Option (List ℕ)) → (text : List ℕ) → Type 0
-IsFirstText ignores patterns input base text =
-    (compiled : List (PatternView PatternRegexp)) × ArePatternsOf ignores patterns base compiled × IsFirstTextBy compiled input base text
+abbrev pub IsFirstText : Flags → (patterns : List (List ℕ)) → (input : List ℕ) → (base : Option (List ℕ)) → (text : List ℕ) → Type 0
+IsFirstText flags patterns input base text =
+    (compiled : List (PatternView PatternRegexp)) × ArePatternsOf flags.ignore_case patterns base compiled × IsFirstTextBy flags.json compiled input base text
 
 -- no pattern of the list matches the input: `url` refuses it, or none has a match on it
 abbrev pub IsUnmatchedByAllUnder : (compiled : List (PatternView PatternRegexp)) → (input : List ℕ) → BaseView → Type 0
@@ -247,14 +257,14 @@ abbrev pub IsUnmatchedByEach : (ignores : Bool) → (patterns : List (List ℕ))
 IsUnmatchedByEach ignores patterns input base =
     (compiled : List (PatternView PatternRegexp)) × ArePatternsOf ignores patterns base compiled × IsUnmatchedByAll compiled input base
 
--- what is found are the lines of the first match; None where there is none
-abbrev pub FindsFirst : (ignores : Bool) → (patterns : List (List ℕ)) → (input : List ℕ) → (base : Option (List ℕ)) → Option (String Global) → Type 0
-FindsFirst ignores patterns input base found =
-    MatchOption found (IsUnmatchedByEach ignores patterns input base) (λ text. IsFirstText ignores patterns input base (string_bytes text))
+-- what is found is the text of the first match; None where there is none
+abbrev pub FindsFirst : Flags → (patterns : List (List ℕ)) → (input : List ℕ) → (base : Option (List ℕ)) → Option (String Global) → Type 0
+FindsFirst flags patterns input base found =
+    MatchOption found (IsUnmatchedByEach flags.ignore_case patterns input base) (λ text. IsFirstText flags patterns input base (string_bytes text))
 
-abbrev pub FindsFirstBy : List (PatternView PatternRegexp) → (input : List ℕ) → (base : Option (List ℕ)) → Option (String Global) → Type 0
-FindsFirstBy compiled input base found =
-    MatchOption found (IsUnmatchedByAll compiled input base) (λ text. IsFirstTextBy compiled input base (string_bytes text))
+abbrev pub FindsFirstBy : (json : Bool) → List (PatternView PatternRegexp) → (input : List ℕ) → (base : Option (List ℕ)) → Option (String Global) → Type 0
+FindsFirstBy json compiled input base found =
+    MatchOption found (IsUnmatchedByAll compiled input base) (λ text. IsFirstTextBy json compiled input base (string_bytes text))
 
 -- ---- the words after `component`
 
@@ -269,18 +279,19 @@ IsComponentFailure words failure = failure ≡ failures.Usage
 -- ---- the words after `match`
 
 -- the answer is a match, with the status 0, or that there is none, with 1
-abbrev pub AnswersMatch : (Matched Unmatched : Type 0) → (text : List ℕ) → (status : ℕ) → Type 0
-AnswersMatch Matched Unmatched text status = (Matched × (status ≡ 0)) ⊎ (Unmatched × (text ≡ codes "no match\n") × (status ≡ 1))
+abbrev pub AnswersMatch : (json : Bool) → (Matched Unmatched : Type 0) → (text : List ℕ) → (status : ℕ) → Type 0
+AnswersMatch json Matched Unmatched text status = (Matched × (status ≡ 0)) ⊎ (Unmatched × (text ≡ no_match_text json) × (status ≡ 1))
 
 -- the only failure is that something is refused in this way, or that memory ran out
 abbrev pub IsRefusal : (Refuses : ErrorView → Type 0) → Failure → Type 0
 IsRefusal Refuses failures.Usage = ⊥
 IsRefusal Refuses (failures.Refused error) = MemoryOr Refuses error
 
-abbrev pub IsMatchAnswer : (ignores : Bool) → (words : List (List ℕ)) → (text : List ℕ) → (status : ℕ) → Type 0
-IsMatchAnswer ignores (pattern ∷ base ∷ input ∷ []) text status =
-    AnswersMatch (IsMatchText ignores pattern input (base_of base) text) (IsUnmatched ignores pattern input (base_of base)) text status
-IsMatchAnswer ignores words text status = ⊥
+abbrev pub IsMatchAnswer : Flags → (words : List (List ℕ)) → (text : List ℕ) → (status : ℕ) → Type 0
+IsMatchAnswer flags (pattern ∷ base ∷ input ∷ []) text status =
+    AnswersMatch flags.json (IsMatchText flags pattern input (base_of base) text)
+    (IsUnmatched flags.ignore_case pattern input (base_of base)) text status
+IsMatchAnswer flags words text status = ⊥
 
 abbrev pub IsMatchFailure : (ignores : Bool) → (words : List (List ℕ)) → Failure → Type 0
 IsMatchFailure ignores (pattern ∷ base ∷ input ∷ []) failure = IsRefusal (RefusesPatternOf ignores pattern (base_of base)) failure
@@ -288,10 +299,11 @@ IsMatchFailure ignores words failure = failure ≡ failures.Usage
 
 -- ---- the words after `first`
 
-abbrev pub IsFirstAnswer : (ignores : Bool) → (words : List (List ℕ)) → (text : List ℕ) → (status : ℕ) → Type 0
-IsFirstAnswer ignores (base ∷ input ∷ pattern ∷ patterns) text status =
-    AnswersMatch (IsFirstText ignores (pattern ∷ patterns) input (base_of base) text) (IsUnmatchedByEach ignores (pattern ∷ patterns) input (base_of base)) text status
-IsFirstAnswer ignores words text status = ⊥
+abbrev pub IsFirstAnswer : Flags → (words : List (List ℕ)) → (text : List ℕ) → (status : ℕ) → Type 0
+IsFirstAnswer flags (base ∷ input ∷ pattern ∷ patterns) text status =
+    AnswersMatch flags.json (IsFirstText flags (pattern ∷ patterns) input (base_of base) text)
+    (IsUnmatchedByEach flags.ignore_case (pattern ∷ patterns) input (base_of base)) text status
+IsFirstAnswer flags words text status = ⊥
 
 abbrev pub IsFirstFailure : (ignores : Bool) → (words : List (List ℕ)) → Failure → Type 0
 IsFirstFailure ignores (base ∷ input ∷ pattern ∷ patterns) failure = IsRefusal (RefusesOneOf ignores (pattern ∷ patterns) (base_of base)) failure
@@ -299,9 +311,10 @@ IsFirstFailure ignores words failure = failure ≡ failures.Usage
 
 -- ---- the short form: a pattern and an input, without a base URL
 
-abbrev pub IsShortAnswer : (ignores : Bool) → (pattern : List ℕ) → (words : List (List ℕ)) → (text : List ℕ) → (status : ℕ) → Type 0
-IsShortAnswer ignores pattern (input ∷ []) text status = AnswersMatch (IsMatchText ignores pattern input None text) (IsUnmatched ignores pattern input None) text status
-IsShortAnswer ignores pattern words text status = ⊥
+abbrev pub IsShortAnswer : Flags → (pattern : List ℕ) → (words : List (List ℕ)) → (text : List ℕ) → (status : ℕ) → Type 0
+IsShortAnswer flags pattern (input ∷ []) text status =
+    AnswersMatch flags.json (IsMatchText flags pattern input None text) (IsUnmatched flags.ignore_case pattern input None) text status
+IsShortAnswer flags pattern words text status = ⊥
 
 abbrev pub IsShortFailure : (ignores : Bool) → (pattern : List ℕ) → (words : List (List ℕ)) → Failure → Type 0
 IsShortFailure ignores pattern (input ∷ []) failure = IsRefusal (RefusesPatternOf ignores pattern None) failure
@@ -313,43 +326,43 @@ abbrev pub IsCommand : List ℕ → Type 0
 IsCommand word = (word ≡ codes "component") ⊎ (word ≡ codes "match") ⊎ (word ≡ codes "first")
 
 -- the answer to the words, and the status of the run: 0, or 1 where an input is not matched
-abbrev pub IsCommandAnswer : (ignores : Bool) → (words : List (List ℕ)) → (text : List ℕ) → (status : ℕ) → Type 0
-IsCommandAnswer ignores [] text status = ⊥
-IsCommandAnswer ignores (command ∷ words) text status =
+abbrev pub IsCommandAnswer : Flags → (words : List (List ℕ)) → (text : List ℕ) → (status : ℕ) → Type 0
+IsCommandAnswer flags [] text status = ⊥
+IsCommandAnswer flags (command ∷ words) text status =
     ((command ≡ codes "component") × IsComponentAnswer words text status)
-    ⊎ ((command ≡ codes "match") × IsMatchAnswer ignores words text status)
-    ⊎ ((command ≡ codes "first") × IsFirstAnswer ignores words text status)
-    ⊎ ((¬ IsCommand command) × IsShortAnswer ignores command words text status)
+    ⊎ ((command ≡ codes "match") × IsMatchAnswer flags words text status)
+    ⊎ ((command ≡ codes "first") × IsFirstAnswer flags words text status)
+    ⊎ ((¬ IsCommand command) × IsShortAnswer flags command words text status)
 
 -- why there is none: the words are no command, something is refused, or memory ran out
-abbrev pub IsFailure : (ignores : Bool) → (words : List (List ℕ)) → Failure → Type 0
-IsFailure ignores [] failure = failure ≡ failures.Usage
-IsFailure ignores (command ∷ words) failure =
+abbrev pub IsFailure : Flags → (words : List (List ℕ)) → Failure → Type 0
+IsFailure flags [] failure = failure ≡ failures.Usage
+IsFailure flags (command ∷ words) failure =
     ((command ≡ codes "component") × IsComponentFailure words failure)
-    ⊎ ((command ≡ codes "match") × IsMatchFailure ignores words failure)
-    ⊎ ((command ≡ codes "first") × IsFirstFailure ignores words failure)
-    ⊎ ((¬ IsCommand command) × IsShortFailure ignores command words failure)
+    ⊎ ((command ≡ codes "match") × IsMatchFailure flags.ignore_case words failure)
+    ⊎ ((command ≡ codes "first") × IsFirstFailure flags.ignore_case words failure)
+    ⊎ ((¬ IsCommand command) × IsShortFailure flags.ignore_case command words failure)
 
 -- ---- what the program does
 
 -- the text answers the words with this status: it is the help that they ask for, or the answer to a command
-abbrev pub IsProgramAnswer : (ignores : Bool) → (words : List (List ℕ)) → (text : List ℕ) → (status : ℕ) → Type 0
-IsProgramAnswer ignores words text status = (IsHelp words text × (status ≡ 0)) ⊎ IsCommandAnswer ignores words text status
+abbrev pub IsProgramAnswer : Flags → (words : List (List ℕ)) → (text : List ℕ) → (status : ℕ) → Type 0
+IsProgramAnswer flags words text status = (IsHelp words text × (status ≡ 0)) ⊎ IsCommandAnswer flags words text status
 
 -- what is printed answers the words, with this status
-abbrev pub Prints : (ignores : Bool) → (words : List (List ℕ)) → (status : ℕ) → (old new : Option (List ℕ)) → Type 0
-Prints ignores words status old new = (text : List ℕ) × IsProgramAnswer ignores words text status × Appends old new text
+abbrev pub Prints : Flags → (words : List (List ℕ)) → (status : ℕ) → (old new : Option (List ℕ)) → Type 0
+Prints flags words status old new = (text : List ℕ) × IsProgramAnswer flags words text status × Appends old new text
 
 -- the words have an answer, which is not printed or only in part
-abbrev pub AreAnswered : (ignores : Bool) → (words : List (List ℕ)) → Type 0
-AreAnswered ignores words = (text : List ℕ) × (status : ℕ) × IsProgramAnswer ignores words text status
+abbrev pub AreAnswered : Flags → (words : List (List ℕ)) → Type 0
+AreAnswered flags words = (text : List ℕ) × (status : ℕ) × IsProgramAnswer flags words text status
 
 -- the words have none, and this is so
-abbrev pub FailsWhere : (ignores : Bool) → (words : List (List ℕ)) → (IsSo : Type 0) → Type 0
-FailsWhere ignores words IsSo = (failure : Failure) × IsFailure ignores words failure × IsSo
+abbrev pub FailsWhere : Flags → (words : List (List ℕ)) → (IsSo : Type 0) → Type 0
+FailsWhere flags words IsSo = (failure : Failure) × IsFailure flags words failure × IsSo
 
--- what is printed are the lines that were found, or that there are none
-abbrev pub IsPrintedOf : Option (String Global) → Printed → Type 0
-IsPrintedOf lines printed =
-    MatchOption lines ((string_bytes printed.text ≡ codes "no match\n") × (printed.status ≡ NO_MATCH))
+-- what is printed is the text that was found, or that there is none
+abbrev pub IsPrintedOf : (json : Bool) → Option (String Global) → Printed → Type 0
+IsPrintedOf json found printed =
+    MatchOption found ((string_bytes printed.text ≡ no_match_text json) × (printed.status ≡ NO_MATCH))
     (λ text. (printed.text ≡ text) × (printed.status ≡ DONE))

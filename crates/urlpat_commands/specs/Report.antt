@@ -1,5 +1,5 @@
 -- What the program prints.
-use Rattle.std.specs.Prelude.{ℕ, List, [], ◌++◌, codes, decimal, Option, None, Some}
+use Rattle.std.specs.Prelude.{ℕ, Bool, true, false, List, [], ◌++◌, codes, decimal, Option, None, Some}
 use Rattle.std.specs.Fmt.{with_newline}
 use Rattle.std.specs.List.{flat_map}
 use Rattle.urlpat_commands.specs.declared.command.Failure.{Failure}
@@ -25,6 +25,11 @@ group_line component name capture = component ++ codes " " ++ name ++ capture_te
 -- the line of the first match: its index
 abbrev pub first_line : (index : ℕ) → List ℕ
 first_line index = codes "match " ++ decimal index ++ codes "\n"
+
+-- what is printed where there is no match
+abbrev pub no_match_text : (json : Bool) → List ℕ
+no_match_text true = codes "null\n"
+no_match_text false = codes "no match\n"
 
 -- how the program is used
 abbrev pub usage : List ℕ

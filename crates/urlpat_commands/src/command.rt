@@ -6,7 +6,7 @@ ghost use Rattle.urlpat_commands.specs.Answers.{FailsComponent, FailsWhere, AreA
 ghost use Rattle.urlpat_commands.specs.Kinds.{IsKind, NamesOptions};
 ghost use Rattle.urlpat_commands.specs.FilterLines.{AskToFilter, Does};
 ghost use Rattle.urlpat_commands.specs.Notes.{HasRefusedInput};
-ghost use Rattle.urlpat_commands.specs.Report.{component_lines, failure_lines};
+ghost use Rattle.urlpat_commands.specs.Report.{component_lines, failure_lines, no_match_text};
 ghost use Rattle.urlpat_commands.specs.declared.command.Failure.{Failure};
 ghost use Rattle.urlpat_commands.specs.declared.command.Failure.TheVariants as failures;
 ghost use Rattle.urlpattern.specs.Options.{options_view};
@@ -20,7 +20,7 @@ use crate::notes::{diagnosis_note, input_note};
 use std::alloc::{AllocError, Global};
 use std::io;
 use std::io::{BufRead, Write};
-use urlpat_words::{help_of, words_after};
+use urlpat_words::{Flags, help_of, words_after};
 use urlpattern::Error;
 use urlpattern::component::{generate_pattern_string, generate_regular_expression_and_name_list};
 use urlpattern::parser::{Options, parse_pattern_string};
@@ -75,26 +75,26 @@ impl From<AllocError> for Failure {
     }
 }
 
-/// Does what the words ask for, with patterns that ignore case or not, and gives the status to end with.
+/// Does what the words and the flags ask for, and gives the status to end with.
 ///
 /// `filter` reads lines from `input`. What is printed goes to `out`, the answer of each other command in one piece. Why there is no
 /// answer goes to `err`, and that an input or a line is no URL.
 pub fn run<In: BufRead, Out: Write, Err: Write>(
     alloc: Global,
     words: &[String],
-    ignore_case: bool,
+    flags: Flags,
     input: &mut In,
     out: &mut Out,
     err: &mut Err,
 ) -> u8
     ensures status { (result ≡ DONE) ⊎ (result ≡ NO_MATCH) ⊎ (result ≡ FAILED) }
-    ensures answers { result ≢ FAILED → Does ignore_case (words_view words.now) result (In.remaining input.old) (Out.contents out.old) (Out.contents out.new) }
+    ensures answers { result ≢ FAILED → Does flags (words_view words.now) result (In.remaining input.old) (Out.contents out.old) (Out.contents out.new) }
     ensures quiet { result ≢ FAILED → (err.new ≡ err.old) ⊎ HasRefusedInput (words_view words.now) ⊎ AskToFilter (words_view words.now) }
-    ensures fails { result ≡ FAILED → FailsWhere ignore_case (words_view words.now) (out.new ≡ out.old) ⊎ AreAnswered ignore_case (words_view words.now) ⊎ AskToFilter (words_view words.now) }
+    ensures fails { result ≡ FAILED → FailsWhere flags (words_view words.now) (out.new ≡ out.old) ⊎ AreAnswered flags (words_view words.now) ⊎ AskToFilter (words_view words.now) }
 {
     match words_after(words, "filter") {
-        Some(rest) => filter(alloc, rest, ignore_case, input, out, err),
-        None => run_once(alloc, words, ignore_case, out, err),
+        Some(rest) => filter(alloc, rest, flags, input, out, err),
+        None => run_once(alloc, words, flags, out, err),
     }
 }
 
@@ -102,14 +102,14 @@ pub fn run<In: BufRead, Out: Write, Err: Write>(
 fn run_once<Out: Write, Err: Write>(
     alloc: Global,
     words: &[String],
-    ignore_case: bool,
+    flags: Flags,
     out: &mut Out,
     err: &mut Err,
 ) -> u8
     ensures status { (result ≡ DONE) ⊎ (result ≡ NO_MATCH) ⊎ (result ≡ FAILED) }
-    ensures answers { result ≢ FAILED → Prints ignore_case (words_view words.now) result (Out.contents out.old) (Out.contents out.new) }
+    ensures answers { result ≢ FAILED → Prints flags (words_view words.now) result (Out.contents out.old) (Out.contents out.new) }
     ensures quiet { result ≢ FAILED → (err.new ≡ err.old) ⊎ HasRefusedInput (words_view words.now) }
-    ensures fails { result ≡ FAILED → FailsWhere ignore_case (words_view words.now) (out.new ≡ out.old) ⊎ AreAnswered ignore_case (words_view words.now) }
+    ensures fails { result ≡ FAILED → FailsWhere flags (words_view words.now) (out.new ≡ out.old) ⊎ AreAnswered flags (words_view words.now) }
 {
     if let Some(text) = help_of(words) {
         return match print(text.as_bytes(), out) {
@@ -117,7 +117,7 @@ fn run_once<Out: Write, Err: Write>(
             Err(_) => FAILED,
         };
     }
-    match answer(alloc, words, ignore_case) {
+    match answer(alloc, words, flags) {
         Ok(answer) => match note_beside(alloc, words, answer.status) {
             Ok(note) => match print(answer.text.as_bytes(), out) {
                 Ok(()) => {
@@ -199,18 +199,18 @@ fn report<Err: Write>(failure: &Failure, err: &mut Err) -> io::Result<()>
 }
 
 /// What the words ask for.
-fn answer(alloc: Global, words: &[String], ignore_case: bool) -> Result<Printed, Failure>
-    ensures answers { IfOk result (λ answer. IsCommandAnswer ignore_case (words_view words.now) (string_bytes answer.text) answer.status) }
-    ensures fails { IfErr result (IsFailure ignore_case (words_view words.now)) }
+fn answer(alloc: Global, words: &[String], flags: Flags) -> Result<Printed, Failure>
+    ensures answers { IfOk result (λ answer. IsCommandAnswer flags (words_view words.now) (string_bytes answer.text) answer.status) }
+    ensures fails { IfErr result (IsFailure flags (words_view words.now)) }
 {
     let [command, rest @ ..] = words else {
         return Err(Failure::Usage);
     };
     match command.as_str() {
         "component" => component_answer(alloc, rest),
-        "match" => match_answer(alloc, rest, ignore_case),
-        "first" => first_answer(alloc, rest, ignore_case),
-        pattern => short_answer(alloc, pattern, rest, ignore_case),
+        "match" => match_answer(alloc, rest, flags),
+        "first" => first_answer(alloc, rest, flags),
+        pattern => short_answer(alloc, pattern, rest, flags),
     }
 }
 
@@ -219,16 +219,16 @@ fn short_answer(
     alloc: Global,
     pattern: &str,
     words: &[String],
-    ignore_case: bool,
+    flags: Flags,
 ) -> Result<Printed, Failure>
-    ensures answers { IfOk result (λ answer. IsShortAnswer ignore_case pattern.now (words_view words.now) (string_bytes answer.text) answer.status) }
-    ensures fails { IfErr result (IsShortFailure ignore_case pattern.now (words_view words.now)) }
+    ensures answers { IfOk result (λ answer. IsShortAnswer flags pattern.now (words_view words.now) (string_bytes answer.text) answer.status) }
+    ensures fails { IfErr result (IsShortFailure flags.ignore_case pattern.now (words_view words.now)) }
 {
     let [input] = words else {
         return Err(Failure::Usage);
     };
-    let lines = matched_groups(alloc, pattern, NO_BASE, ignore_case, input)?;
-    Ok(answer_of(alloc, lines)?)
+    let lines = matched_groups(alloc, pattern, NO_BASE, flags, input)?;
+    Ok(answer_of(alloc, lines, flags.json)?)
 }
 
 /// What the words after `component` ask for.
@@ -246,21 +246,21 @@ fn component_answer(alloc: Global, words: &[String]) -> Result<Printed, Failure>
 }
 
 /// What the words after `match` ask for.
-fn match_answer(alloc: Global, words: &[String], ignore_case: bool) -> Result<Printed, Failure>
-    ensures answers { IfOk result (λ answer. IsMatchAnswer ignore_case (words_view words.now) (string_bytes answer.text) answer.status) }
-    ensures fails { IfErr result (IsMatchFailure ignore_case (words_view words.now)) }
+fn match_answer(alloc: Global, words: &[String], flags: Flags) -> Result<Printed, Failure>
+    ensures answers { IfOk result (λ answer. IsMatchAnswer flags (words_view words.now) (string_bytes answer.text) answer.status) }
+    ensures fails { IfErr result (IsMatchFailure flags.ignore_case (words_view words.now)) }
 {
     let [pattern, base, input] = words else {
         return Err(Failure::Usage);
     };
-    let lines = matched_groups(alloc, pattern, base, ignore_case, input)?;
-    Ok(answer_of(alloc, lines)?)
+    let lines = matched_groups(alloc, pattern, base, flags, input)?;
+    Ok(answer_of(alloc, lines, flags.json)?)
 }
 
 /// What the words after `first` ask for.
-fn first_answer(alloc: Global, words: &[String], ignore_case: bool) -> Result<Printed, Failure>
-    ensures answers { IfOk result (λ answer. IsFirstAnswer ignore_case (words_view words.now) (string_bytes answer.text) answer.status) }
-    ensures fails { IfErr result (IsFirstFailure ignore_case (words_view words.now)) }
+fn first_answer(alloc: Global, words: &[String], flags: Flags) -> Result<Printed, Failure>
+    ensures answers { IfOk result (λ answer. IsFirstAnswer flags (words_view words.now) (string_bytes answer.text) answer.status) }
+    ensures fails { IfErr result (IsFirstFailure flags.ignore_case (words_view words.now)) }
 {
     let [base, input, patterns @ ..] = words else {
         return Err(Failure::Usage);
@@ -268,21 +268,28 @@ fn first_answer(alloc: Global, words: &[String], ignore_case: bool) -> Result<Pr
     if patterns.is_empty() {
         return Err(Failure::Usage);
     }
-    let lines = first_groups(alloc, base, ignore_case, input, patterns)?;
-    Ok(answer_of(alloc, lines)?)
+    let lines = first_groups(alloc, base, flags, input, patterns)?;
+    Ok(answer_of(alloc, lines, flags.json)?)
 }
 
-/// The lines of a match, or that there is none.
-fn answer_of(alloc: Global, lines: Option<String>) -> Result<Printed, AllocError>
-    ensures { IfOk result (IsPrintedOf lines) }
+/// The text of a match, or that there is none.
+fn answer_of(alloc: Global, found: Option<String>, json: bool) -> Result<Printed, AllocError>
+    ensures { IfOk result (IsPrintedOf json found) }
 {
-    match lines {
+    match found {
         Some(text) => Ok(Printed { text, status: DONE }),
         None => Ok(Printed {
-            text: String::from_str(alloc, "no match\n")?,
+            text: String::from_str(alloc, no_match_text(json))?,
             status: NO_MATCH,
         }),
     }
+}
+
+/// What is printed where there is no match.
+fn no_match_text(json: bool) -> &'static str
+    ensures { result.now ≡ no_match_text json }
+{
+    if json { "null\n" } else { "no match\n" }
 }
 
 /// The answer to `component`.

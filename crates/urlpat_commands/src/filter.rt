@@ -1,26 +1,33 @@
 //! The command `filter`: the lines of a reader whose URLs match a pattern.
 
-ghost use Rattle.std.specs.Prelude.{◌≡◌, ◌≢◌, ◌⊎◌, ◌++◌, OnOk};
+ghost use Rattle.std.specs.Prelude.{◌≡◌, ◌≢◌, ◌⊎◌, OnOk};
 ghost use Rattle.urlpat_commands.specs.Answers.{IsUnmatchedUnder, kept_base, words_view};
-ghost use Rattle.urlpat_commands.specs.FilterLines.{FiltersLines, IsCapturedBy, bytes_captured};
-ghost use Rattle.urlpat_filter.specs.Filters.{shape_text};
+ghost use Rattle.urlpat_commands.specs.FilterLines.{FiltersLines, HasPiece, IsPieceOf};
+ghost use Rattle.urlpat_filter.specs.Filters.{GetsPiece};
 ghost use Rattle.urlpattern.specs.BorrowedMatches.{pattern_captures_view};
 ghost use Rattle.urlpattern.specs.Patterns.{pattern_view};
 
 use crate::base::{BaseUrl, base_url, url_under};
 use crate::command::{DONE, FAILED, NO_MATCH};
+use crate::json::match_json;
 use crate::matching::{base_of, capture_of, compiled};
 use crate::notes::write_refusal;
 use std::alloc::{AllocError, Global};
 use std::io::{BufRead, Write};
 use urlpat_filter::{LineMatcher, Outcome, filter_lines};
-use urlpat_words::{Shape, query_of};
+use urlpat_words::{Flags, Shape, query_of};
 use urlpattern::regexp::PatternRegexp;
 use urlpattern::{UrlPattern, UrlPatternCaptures};
 
 /// The usage of `filter`.
 const FILTER_USAGE: &str = "\
 usage: urlpat filter PATTERN BASE [--not] [--count] [--group COMPONENT.NAME]
+       add --ignore-case for patterns that ignore case
+";
+
+/// The usage of `filter` with JSON as the answer.
+const JSON_USAGE: &str = "\
+usage: urlpat filter PATTERN BASE --json
        add --ignore-case for patterns that ignore case
 ";
 
@@ -36,20 +43,20 @@ struct UrlLines<'a> {
 pub fn filter<In: BufRead, Out: Write, Err: Write>(
     alloc: Global,
     words: &[String],
-    ignore_case: bool,
+    flags: Flags,
     input: &mut In,
     out: &mut Out,
     err: &mut Err,
 ) -> u8
     ensures status { (result ≡ DONE) ⊎ (result ≡ NO_MATCH) ⊎ (result ≡ FAILED) }
-    ensures answers { result ≢ FAILED → FiltersLines ignore_case (words_view words.now) result (In.remaining input.old) (Out.contents out.old) (Out.contents out.new) }
+    ensures answers { result ≢ FAILED → FiltersLines flags (words_view words.now) result (In.remaining input.old) (Out.contents out.old) (Out.contents out.new) }
 {
-    let Some(query) = query_of(words) else {
-        let _ = err.write_all(FILTER_USAGE.as_bytes());
+    let Some(query) = query_of(words, flags.json) else {
+        let _ = err.write_all(usage(flags.json).as_bytes());
         return FAILED;
     };
     let base = base_of(query.base);
-    let pattern = match compiled(alloc, query.pattern, base, ignore_case) {
+    let pattern = match compiled(alloc, query.pattern, base, flags.ignore_case) {
         Ok(pattern) => pattern,
         Err(error) => return write_refusal(alloc, query.pattern, base, error, err),
     };
@@ -71,8 +78,13 @@ pub fn filter<In: BufRead, Out: Write, Err: Write>(
     }
 }
 
+/// The usage of `filter`.
+fn usage(json: bool) -> &'static str {
+    if json { JSON_USAGE } else { FILTER_USAGE }
+}
+
 impl LineMatcher for UrlLines<'_> {
-    ghost Matches = { λ lines text capture. IsCapturedBy (pattern_view lines.pattern.now) (kept_base lines.base.now) text capture };
+    ghost Matches = { λ lines text shape piece. IsPieceOf (pattern_view lines.pattern.now) (kept_base lines.base.now) text shape piece };
 
     ghost Differs = { λ lines text. IsUnmatchedUnder (pattern_view lines.pattern.now) text (kept_base lines.base.now) };
 
@@ -90,7 +102,7 @@ impl LineMatcher for UrlLines<'_> {
         };
         match self.pattern.captures(self.alloc, &url) {
             Ok(Some(found)) => {
-                let pushed = push_capture(&found, shape, written);
+                let pushed = push_piece(self.alloc, &found, shape, written);
                 drop(found);
                 pushed?;
                 Ok(Outcome::Match)
@@ -101,19 +113,21 @@ impl LineMatcher for UrlLines<'_> {
     }
 }
 
-/// Appends what a group captured, if the shape has one.
-fn push_capture(
+/// Appends what a shape has of a match: what a group captured, or JSON.
+fn push_piece(
+    alloc: Global,
     found: &UrlPatternCaptures<'_, '_>,
     shape: Shape<'_>,
     written: &mut Vec<u8>,
 ) -> Result<(), AllocError>
-    ensures { OnOk result (written.new.items ≡ written.old.items ++ shape_text shape.entry (bytes_captured (pattern_captures_view found.now))) }
+    ensures { OnOk result (GetsPiece (HasPiece (pattern_captures_view found.now) shape.entry) written.old.items written.new.items) }
 {
     match shape {
         Shape::Group(component, name) => match capture_of(found, component, name) {
             Some(capture) => written.extend_from_slice(capture.as_bytes()),
             None => Ok(()),
         },
+        Shape::Json => written.extend_from_slice(match_json(alloc, found)?.as_bytes()),
         Shape::Line | Shape::Count => Ok(()),
     }
 }

@@ -1,32 +1,35 @@
 //! The command `first`: the first of some patterns that matches a URL, and what its groups capture.
 
-ghost use Rattle.std.specs.Prelude.{option_copied, IfErr, IfOk};
-ghost use Rattle.urlpat_commands.specs.Answers.{ArePatternsOf, FindsFirst, FindsFirstBy, RefusesOneOf, base_of, words_view};
+ghost use Rattle.std.specs.Prelude.{option_copied, string_bytes, IfErr, IfOk};
+ghost use Rattle.urlpat_commands.specs.Answers.{ArePatternsOf, FindsFirst, FindsFirstBy, RefusesOneOf, ShowsFirst, base_of, words_view};
+ghost use Rattle.urlpattern.specs.BorrowedMatches.{pattern_captures_view};
 ghost use Rattle.urlpattern.specs.Errors.{MemoryOr, OnlyOutOfMemory};
 ghost use Rattle.urlpattern.specs.FirstMatch.{patterns_view};
 
+use crate::json::first_json;
 use crate::matching::{base_of, compiled, push_match, url_of};
-use std::alloc::Global;
+use std::alloc::{AllocError, Global};
+use urlpat_words::Flags;
 use urlpattern::regexp::PatternRegexp;
-use urlpattern::{Error, UrlPatternList};
+use urlpattern::{Error, UrlPatternCaptures, UrlPatternList};
 
-/// A line with the index of the first pattern that matches an input, and a line for each group of the match. `None`: no
-/// pattern matches it.
+/// The first match of an input: a line with the index of its pattern and a line for each group, or JSON. `None`: no pattern
+/// matches it.
 ///
 /// The error is why a pattern or its base is refused, that of the first one that is, or that memory ran out.
 pub fn first_groups(
     alloc: Global,
     base: &str,
-    ignore_case: bool,
+    flags: Flags,
     input: &str,
     patterns: &[String],
 ) -> Result<Option<String>, Error>
-    ensures found { IfOk result (FindsFirst ignore_case (words_view patterns.now) input.now (base_of base.now)) }
-    ensures refused { IfErr result (MemoryOr (RefusesOneOf ignore_case (words_view patterns.now) (base_of base.now))) }
+    ensures found { IfOk result (FindsFirst flags (words_view patterns.now) input.now (base_of base.now)) }
+    ensures refused { IfErr result (MemoryOr (RefusesOneOf flags.ignore_case (words_view patterns.now) (base_of base.now))) }
 {
     let base = base_of(base);
-    let list = compiled_list(alloc, patterns, base, ignore_case)?;
-    let answer = groups_of_first(alloc, &list, base, input);
+    let list = compiled_list(alloc, patterns, base, flags.ignore_case)?;
+    let answer = groups_of_first(alloc, &list, base, flags.json, input);
     drop(list);
     Ok(answer?)
 }
@@ -54,17 +57,18 @@ fn compiled_list(
     Ok(list)
 }
 
-/// A line with the index of the first pattern that matches an input, and a line for each group of the match. `None`: no
-/// pattern matches it.
+/// The first match of an input: a line with the index of its pattern and a line for each group, or JSON. `None`: no pattern
+/// matches it.
 ///
 /// The error is that memory ran out.
 fn groups_of_first(
     alloc: Global,
     list: &UrlPatternList<PatternRegexp>,
     base: Option<&str>,
+    json: bool,
     input: &str,
 ) -> Result<Option<String>, Error>
-    ensures found { IfOk result (FindsFirstBy (patterns_view list.now) input.now (option_copied base.entry)) }
+    ensures found { IfOk result (FindsFirstBy json (patterns_view list.now) input.now (option_copied base.entry)) }
     ensures memory { OnlyOutOfMemory result }
 {
     let Some(url) = url_of(alloc, base, input)? else {
@@ -73,9 +77,24 @@ fn groups_of_first(
     let Some((index, found)) = list.first_captures(alloc, &url)? else {
         return Ok(None);
     };
-    let mut text = format!(in alloc; "match {index}\n")?;
-    let pushed = push_match(alloc, &mut text, &found);
+    let text = first_text(alloc, json, index, &found);
     drop(found);
-    pushed?;
-    Ok(Some(text))
+    Ok(Some(text?))
+}
+
+/// The text of the first match: a line with the index of its pattern and a line for each group, or JSON.
+fn first_text(
+    alloc: Global,
+    json: bool,
+    index: usize,
+    found: &UrlPatternCaptures<'_, '_>,
+) -> Result<String, AllocError>
+    ensures { IfOk result (λ text. ShowsFirst json index (pattern_captures_view found.now) (string_bytes text)) }
+{
+    if json {
+        return first_json(alloc, index, found);
+    }
+    let mut text = format!(in alloc; "match {index}\n")?;
+    push_match(alloc, &mut text, found)?;
+    Ok(text)
 }

@@ -6,10 +6,12 @@ mod base;
 mod command;
 mod filter;
 mod first;
+mod json;
 mod matching;
 mod notes;
 
 pub use base::{BaseUrl, base_url, url_under};
 pub use command::{DONE, FAILED, Failure, NO_MATCH, fail, print, run};
+pub use json::{json_line, match_tree};
 pub use matching::{base_of, compiled, push_match, url_of};
 pub use notes::{note_of, write_refusal};

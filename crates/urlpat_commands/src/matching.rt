@@ -3,7 +3,7 @@
 ghost use Rattle.std.specs.Map.{keys_of};
 ghost use Rattle.std.specs.Prelude.{◌≡◌, ◌++◌, ◌∷◌, [], ℕ, List, map, option_copied, string_bytes, IfErr, IfOk, IfSome, OnOk};
 ghost use Rattle.std.specs.Str.{chars};
-ghost use Rattle.urlpat_commands.specs.Answers.{AreGroupLines, AreLines, AreNames, FindsMatch, FindsMatchBy, FindsUrl, GetsLines, IsPatternOf, RefusesPatternOf, base_of, group_bytes, all_named_results};
+ghost use Rattle.urlpat_commands.specs.Answers.{AreGroupLines, AreLines, AreNames, FindsMatch, FindsMatchBy, FindsUrl, GetsLines, IsPatternOf, RefusesPatternOf, ShowsMatch, base_of, group_bytes, all_named_results};
 ghost use Rattle.urlpat_commands.specs.Report.{group_line};
 ghost use Rattle.urlpattern.specs.BorrowedMatches.{pattern_captures_view, groups_view};
 ghost use Rattle.urlpattern.specs.Eight.{name_text};
@@ -11,9 +11,11 @@ ghost use Rattle.urlpattern.specs.Errors.{MemoryOr, OnlyOutOfMemory};
 ghost use Rattle.urlpattern.specs.Patterns.{pattern_view};
 ghost use Rattle.urlpattern.specs.Text.{text_of};
 
+use crate::json::match_json;
 use std::alloc::{AllocError, Global};
 use std::borrow::CowStr;
 use url::Url;
+use urlpat_words::Flags;
 use urlpattern::parser::RegexSyntax;
 use urlpattern::quirks::{StringOrInit, process_match_input};
 use urlpattern::regexp::PatternRegexp;
@@ -24,22 +26,22 @@ use urlpattern::{
 /// The word that stands for no base URL.
 pub const NO_BASE: &str = "-";
 
-/// A line for each group of the match of an input. `None`: the input is not matched.
+/// The match of an input: a line for each group, or JSON. `None`: the input is not matched.
 ///
 /// The error is why the pattern or its base is refused, or that memory ran out.
 pub fn matched_groups(
     alloc: Global,
     pattern: &str,
     base: &str,
-    ignore_case: bool,
+    flags: Flags,
     input: &str,
 ) -> Result<Option<String>, Error>
-    ensures found { IfOk result (FindsMatch ignore_case pattern.now input.now (base_of base.now)) }
-    ensures refused { IfErr result (MemoryOr (RefusesPatternOf ignore_case pattern.now (base_of base.now))) }
+    ensures found { IfOk result (FindsMatch flags pattern.now input.now (base_of base.now)) }
+    ensures refused { IfErr result (MemoryOr (RefusesPatternOf flags.ignore_case pattern.now (base_of base.now))) }
 {
     let base = base_of(base);
-    let pattern = compiled(alloc, pattern, base, ignore_case)?;
-    let answer = groups_of_match(alloc, &pattern, base, input);
+    let pattern = compiled(alloc, pattern, base, flags.ignore_case)?;
+    let answer = groups_of_match(alloc, &pattern, base, flags.json, input);
     drop(pattern);
     Ok(answer?)
 }
@@ -70,16 +72,17 @@ pub fn compiled(
     UrlPattern::from_constructor_string(alloc, pattern, base, options)
 }
 
-/// A line for each group of the match of an input. `None`: the input is not matched.
+/// The match of an input: a line for each group, or JSON. `None`: the input is not matched.
 ///
 /// The error is that memory ran out.
 fn groups_of_match(
     alloc: Global,
     pattern: &UrlPattern<PatternRegexp>,
     base: Option<&str>,
+    json: bool,
     input: &str,
 ) -> Result<Option<String>, Error>
-    ensures found { IfOk result (FindsMatchBy (pattern_view pattern.now) input.now (option_copied base.entry)) }
+    ensures found { IfOk result (FindsMatchBy json (pattern_view pattern.now) input.now (option_copied base.entry)) }
     ensures memory { OnlyOutOfMemory result }
 {
     let Some(url) = url_of(alloc, base, input)? else {
@@ -88,11 +91,25 @@ fn groups_of_match(
     let Some(found) = pattern.captures(alloc, &url)? else {
         return Ok(None);
     };
-    let mut text = String::new(alloc);
-    let pushed = push_match(alloc, &mut text, &found);
+    let text = match_text(alloc, json, &found);
     drop(found);
-    pushed?;
-    Ok(Some(text))
+    Ok(Some(text?))
+}
+
+/// The text of a match: a line for each group, or JSON.
+fn match_text(
+    alloc: Global,
+    json: bool,
+    found: &UrlPatternCaptures<'_, '_>,
+) -> Result<String, AllocError>
+    ensures { IfOk result (λ text. ShowsMatch json (pattern_captures_view found.now) (string_bytes text)) }
+{
+    if json {
+        return match_json(alloc, found);
+    }
+    let mut text = String::new(alloc);
+    push_match(alloc, &mut text, found)?;
+    Ok(text)
 }
 
 /// What an input is matched as: its URL. `None`: `url` refuses it.

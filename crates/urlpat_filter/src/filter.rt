@@ -1,9 +1,9 @@
 //! The command `filter`, over anything that matches lines.
-ghost use Rattle.std.specs.Prelude.{◌≡◌, ℕ, List, Option, IfOk, IfSome, OnOk, None, nat_lt};
+ghost use Rattle.std.specs.Prelude.{◌≡◌, ℕ, List, IfOk, IfSome, OnOk, None, nat_lt};
 ghost use Rattle.std.specs.Io.KnownBytes.{Appends};
 ghost use Rattle.urlpat_filter.specs.Filters.{AnswersMatched, AnswersUnmatched, FilterAnswers, FiltersInput, FiltersText, GetsPiece, IsOutcome, asked_shape, count_line};
 ghost use Rattle.urlpat_lines.specs.Answers.{selected_by};
-ghost use Rattle.urlpattern_eight.specs.declared.eight.ComponentName.{ComponentName};
+ghost use Rattle.urlpat_words.specs.declared.query.Shape.{Shape as Asked};
 
 use std::alloc::{AllocError, Global};
 use std::io;
@@ -24,11 +24,11 @@ pub enum Outcome {
 
 /// Something that matches the texts of lines.
 pub trait LineMatcher {
-    ghost Matches: { Self → (text : List ℕ) → (capture : ComponentName → (name : List ℕ) → Option (List ℕ)) → Type 0 };
+    ghost Matches: { Self → (text : List ℕ) → Asked → (piece : List ℕ) → Type 0 };
 
     ghost Differs: { Self → (text : List ℕ) → Type 0 };
 
-    /// Matches a text. What a group captured is appended to `written`, if the shape has one.
+    /// Matches a text. What the shape has of a match is appended to `written`.
     ///
     /// The error is that memory ran out.
     fn outcome(
@@ -37,7 +37,7 @@ pub trait LineMatcher {
         shape: Shape<'_>,
         written: &mut Vec<u8>,
     ) -> Result<Outcome, AllocError>
-        ensures { IfOk result (IsOutcome (Matches self.now text.now) (Differs self.now text.now) shape.entry written.old.items written.new.items) };
+        ensures { IfOk result (IsOutcome (Matches self.now text.now shape.entry) (Differs self.now text.now) written.old.items written.new.items) };
 }
 
 /// A rule that selects the lines that match, or those that do not.
@@ -114,7 +114,7 @@ fn write_count<Out: Write>(shape: Shape<'_>, selected: u64, out: &mut Out) -> io
             writeln!(out, "{selected}")?;
             out.flush()
         }
-        Shape::Line | Shape::Group(_, _) => out.flush(),
+        Shape::Line | Shape::Group(_, _) | Shape::Json => out.flush(),
     }
 }
 
@@ -182,7 +182,7 @@ fn asked_shape(inverted: bool, shape: Shape<'_>) -> Shape<'_>
     if inverted { Shape::Count } else { shape }
 }
 
-/// Appends what is to be written for a line that matches, after what its group captured.
+/// Appends what is to be written for a line that matches, after what is printed of its match.
 fn answer_match(
     inverted: bool,
     shape: Shape<'_>,
@@ -196,7 +196,7 @@ fn answer_match(
     }
     match shape {
         Shape::Line => written.extend_from_slice(line)?,
-        Shape::Count => {}
+        Shape::Count | Shape::Json => {}
         Shape::Group(_, _) => written.push(b'\n')?,
     }
     Ok(Verdict::Selected)
@@ -218,7 +218,7 @@ fn answer_other(
     }
     match shape {
         Shape::Line => written.extend_from_slice(line)?,
-        Shape::Count | Shape::Group(_, _) => {}
+        Shape::Count | Shape::Group(_, _) | Shape::Json => {}
     }
     Ok(selected(verdict))
 }

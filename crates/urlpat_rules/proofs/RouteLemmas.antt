@@ -1,17 +1,21 @@
 -- Lemmas on the patterns of a table, and on the rows that are printed of it.
-use Rattle.std.proofs.Common.{◌≡◌, ◌<◌, ◌+◌, ◌∙◌, ℕ, Bool, All, List, [], ◌∷◌, ◌++◌, ap, append_assoc, append-nil, arith, codes, decimal, get_or, length, refl, subst, sym, take}
+use Rattle.std.proofs.Common.{◌≡◌, ◌<◌, ◌+◌, ◌∙◌, ℕ, Bool, false, All, List, [], ◌∷◌, ◌++◌, ap, append_assoc, append-nil, arith, codes, decimal, get_or, length, refl, subst, sym, take}
 use Rattle.std.proofs.lemmas.Grind.{flat_map-append, take_at_read}
 use Rattle.std.proofs.lemmas.List.{map-append}
 use Rattle.std.proofs.lemmas.List.Elements.{All-push}
 use Rattle.std.specs.List.{flat_map}
 use Rattle.std.specs.Map.{values_of}
 use Rattle.std.specs.Prelude.{IfSome, Option, None, Some}
+use Rattle.serde_json.specs.Data.{Data, no_members, number, put, string, unsigned}
+use Rattle.serde_json.specs.Written.{has_float}
+use Rattle.urlpat_commands.proofs.JsonLemmas.{put-none}
 use Rattle.urlpat_commands.specs.Answers.{BaseView, IsPatternOf, base_view}
 use Rattle.urlpat_commands.specs.FilterLines.{status_of}
 use Rattle.urlpat_filter.specs.Filters.{FiltersText}
-use Rattle.urlpat_rules.specs.Routes.{AreRoutesOf, IsAnswered, Routes, RoutesBy, bare_lines, cell_text, row_text}
+use Rattle.urlpat_rules.specs.Routes.{AreRoutesOf, IsAnswered, Routes, RoutesBy, bare_lines, cell_text, route_tree, row_text}
 use Rattle.urlpat_tables.specs.Tables.{EntryView, entries_view, entry_view, table_entries}
 use Rattle.urlpat_tables.specs.declared.table.Entry.{Entry}
+use Rattle.urlpat_words.specs.declared.flags.Flags.{Flags}
 use Rattle.urlpat_words.specs.declared.query.Shape.TheVariants.{Line}
 use Rattle.urlpattern.specs.Patterns.{pattern_view}
 use Rattle.urlpattern.specs.UrlPattern.{UrlPattern}
@@ -65,13 +69,21 @@ row-of entry text old headed celled new head cells end =
     ∙ ap (λ (row : List ℕ). row ++ codes "\n") (cells ∙ ap (λ (row : List ℕ). row ++ middle) head ∙ append_assoc old front middle)
     ∙ append_assoc old (front ++ middle) (codes "\n")
 
+-- the tree of a route has no float
+pub route-none : (entry : EntryView) (found : Data) → has_float found ≡ false → has_float (route_tree entry found) ≡ false
+route-none entry found none =
+    let numbered = put (codes "number") (number (unsigned entry.number)) no_members in
+    let named = put (codes "name") (string entry.name) numbered in
+    put-none (codes "match") found named none
+    (put-none (codes "name") (string entry.name) numbered refl (put-none (codes "number") (number (unsigned entry.number)) no_members refl refl))
+
 -- ---- what is printed
 
 -- what is answered by the entries of a table is answered by the table
-pub routes-by : (ignores : Bool) (table : List ℕ) (base : Option (List ℕ)) (kept : BaseView) (items shown : List Entry) (routes : Routes) (input old new : Option (List ℕ)) (any : Bool) (status : ℕ)
-    → entries_view items ≡ table_entries table → shown ≡ items → AreRoutesOf ignores base (entries_view shown) routes → kept ≡ base_view base → status ≡ status_of any
-    → IfSome input (λ text. FiltersText (IsAnswered routes kept) Line text any old new) → RoutesBy ignores table base status input old new
-routes-by ignores table base kept items shown routes None old new any status are same is read ends found =
-    (routes, subst (λ (es : List EntryView). AreRoutesOf ignores base es routes) (ap entries_view same ∙ are) is, tt)
-routes-by ignores table base kept items shown routes (Some text) old new any status are same is read ends found =
-    (routes, subst (λ (es : List EntryView). AreRoutesOf ignores base es routes) (ap entries_view same ∙ are) is, (any, ends, subst (λ b. FiltersText (IsAnswered routes b) Line text any old new) read found))
+pub routes-by : (flags : Flags) (table : List ℕ) (base : Option (List ℕ)) (kept : BaseView) (items shown : List Entry) (routes : Routes) (input old new : Option (List ℕ)) (any : Bool) (status : ℕ)
+    → entries_view items ≡ table_entries table → shown ≡ items → AreRoutesOf flags.ignore_case base (entries_view shown) routes → kept ≡ base_view base → status ≡ status_of any
+    → IfSome input (λ text. FiltersText (IsAnswered flags.json routes kept) Line text any old new) → RoutesBy flags table base status input old new
+routes-by flags table base kept items shown routes None old new any status are same is read ends found =
+    (routes, subst (λ (es : List EntryView). AreRoutesOf flags.ignore_case base es routes) (ap entries_view same ∙ are) is, tt)
+routes-by flags table base kept items shown routes (Some text) old new any status are same is read ends found =
+    (routes, subst (λ (es : List EntryView). AreRoutesOf flags.ignore_case base es routes) (ap entries_view same ∙ are) is, (any, ends, subst (λ b. FiltersText (IsAnswered flags.json routes b) Line text any old new) read found))

@@ -1,13 +1,15 @@
 -- Which pattern of a table is the first that matches each line, and what is printed of it. Words and texts are bytes.
-use Rattle.std.specs.Prelude.{◌≡◌, ◌≢◌, ◌⊎◌, ℕ, All, Bool, List, ◌++◌, codes, decimal, map, IfSome, Option, Some, String, option_copied, slice_get}
+use Rattle.std.specs.Prelude.{◌≡◌, ◌≢◌, ◌⊎◌, ℕ, All, Bool, true, false, List, [], ◌∷◌, ◌++◌, codes, decimal, map, IfSome, Option, Some, String, option_copied, slice_get}
 use Rattle.std.specs.Borrow.{Bor}
 use Rattle.std.specs.List.{flat_map}
 use Rattle.std.specs.Map.{values_of}
 use Rattle.std.specs.declared.alloc.Global.{Global}
 use Rattle.bstr.specs.Text.{lines_of, without_terminator}
+use Rattle.serde_json.specs.Data.{Data, number, string, unsigned}
 use Rattle.url.specs.Parts.{Parts}
 use Rattle.urlpat_commands.specs.Answers.{AreLines, BaseView, IsPatternOf, IsUnmatchedByAllUnder, IsUrlUnder, all_named_results, base_view, words_view}
 use Rattle.urlpat_commands.specs.FilterLines.{status_of}
+use Rattle.urlpat_commands.specs.Json.{IsMatchTree, json_line}
 use Rattle.urlpat_commands.specs.declared.command.TheConstants.{FAILED}
 use Rattle.urlpat_filter.specs.Filters.{FiltersText}
 use Rattle.urlpat_lines.specs.Answers.{selected_by}
@@ -16,6 +18,7 @@ use Rattle.urlpat_lines.specs.declared.answers.Verdict.TheVariants.{Selected}
 use Rattle.urlpat_rules.specs.TableWords.{NameTable}
 use Rattle.urlpat_tables.specs.Tables.{EntryView, entries_view, entry_view, table_entries}
 use Rattle.urlpat_tables.specs.declared.table.Entry.{Entry}
+use Rattle.urlpat_words.specs.declared.flags.Flags.{Flags}
 use Rattle.urlpat_words.specs.declared.query.Shape.TheVariants.{Line}
 use Rattle.urlpattern.specs.FirstMatch.{IsFirstMatch}
 use Rattle.urlpattern.specs.PatternMaps.{entry_patterns}
@@ -24,6 +27,7 @@ use Rattle.urlpattern.specs.ResultViews.{ResultView}
 use Rattle.urlpattern.specs.UrlPattern.{UrlPattern}
 use Rattle.urlpattern.specs.UrlPatternMatchInput.TheVariants as match_inputs
 use Rattle.urlpattern_eight.specs.declared.eight.ComponentName.{ComponentName}
+use Rattle.urlpattern_inputs.specs.Trees.{object_of}
 use Rattle.urlpattern_engine.specs.PatternRegexps.{pattern_answer}
 use Rattle.urlpattern_engine.specs.declared.pattern_regexp.PatternRegexp.{PatternRegexp}
 
@@ -54,10 +58,29 @@ row_text entry text = decimal entry.number ++ codes "\t" ++ entry.name ++ flat_m
 abbrev pub IsRouteRow : EntryView → (ComponentName → ResultView) → (row : List ℕ) → Type 0
 IsRouteRow entry result row = (text : List ℕ) × AreLines (all_named_results result) text × (row ≡ row_text entry text)
 
+-- the tree of a route: the number and the name of its entry, and the match
+abbrev pub route_tree : EntryView → (found : Data) → Data
+route_tree entry found =
+    object_of ((codes "number", Some (number (unsigned entry.number))) ∷ (codes "name", Some (string entry.name)) ∷ (codes "match", Some found) ∷ [])
+
+-- the row is the line of such a tree
+abbrev pub IsRouteJson : EntryView → (ComponentName → ResultView) → (row : List ℕ) → Type 0
+IsRouteJson entry result row = (tree : Data) × IsMatchTree result tree × (row ≡ json_line (route_tree entry tree))
+
+-- the row of an entry, as JSON or not
+abbrev pub IsShown : (json : Bool) → EntryView → (ComponentName → ResultView) → (row : List ℕ) → Type 0
+IsShown true entry result row = IsRouteJson entry result row
+IsShown false entry result row = IsRouteRow entry result row
+
+-- what is printed for a line that no pattern matches
+abbrev pub unmatched_text : (json : Bool) → List ℕ
+unmatched_text true = codes "null\n"
+unmatched_text false = codes "-\n"
+
 -- ---- answers
 
 -- A pattern is the first that matches the text, a URL under this base URL, and the row is that of its entry.
-pub record IsRouted (routes : Routes) (base : BaseView) (text row : List ℕ) : Type 0 where
+pub record IsRouted (json : Bool) (routes : Routes) (base : BaseView) (text row : List ℕ) : Type 0 where
   pub url : Parts
   pub index : ℕ
   pub result : ComponentName → ResultView
@@ -65,34 +88,34 @@ pub record IsRouted (routes : Routes) (base : BaseView) (text row : List ℕ) : 
   pub is_url : IsUrlUnder text base url
   pub is_first : IsFirstMatch pattern_answer (entry_patterns routes) (match_inputs.Url url) (Some (index, result))
   pub is_there : slice_get (values_of routes) index ≡ Some entry
-  pub is_row : IsRouteRow (entry_view entry) result row
+  pub shows : IsShown json (entry_view entry) result row
 
 -- a line is answered by such a row, or by a mark where no pattern matches it
-abbrev pub IsAnswered : Routes → BaseView → (text line : List ℕ) → Verdict → (written : List ℕ) → Type 0
-IsAnswered routes base text line verdict written =
-    (IsRouted routes base text written × (verdict ≡ Selected))
-    ⊎ (IsUnmatchedByAllUnder (entry_patterns routes) text base × (written ≡ codes "-\n") × (selected_by verdict ≡ 0))
+abbrev pub IsAnswered : (json : Bool) → Routes → BaseView → (text line : List ℕ) → Verdict → (written : List ℕ) → Type 0
+IsAnswered json routes base text line verdict written =
+    (IsRouted json routes base text written × (verdict ≡ Selected))
+    ⊎ (IsUnmatchedByAllUnder (entry_patterns routes) text base × (written ≡ unmatched_text json) × (selected_by verdict ≡ 0))
 
 -- the lines of a text have such answers, which are written, and the status is 1 if no pattern matches one
-abbrev pub RoutesText : Routes → BaseView → (text : List ℕ) → (status : ℕ) → (old new : Option (List ℕ)) → Type 0
-RoutesText routes base text status old new =
-    (any : Bool) × (status ≡ status_of any) × FiltersText (IsAnswered routes base) Line text any old new
+abbrev pub RoutesText : (json : Bool) → Routes → BaseView → (text : List ℕ) → (status : ℕ) → (old new : Option (List ℕ)) → Type 0
+RoutesText json routes base text status old new =
+    (any : Bool) × (status ≡ status_of any) × FiltersText (IsAnswered json routes base) Line text any old new
 
 -- what the reader has, if that is known, is answered by the patterns of a table
-abbrev pub RoutesBy : (ignores : Bool) → (table : List ℕ) → (base : Option (List ℕ)) → (status : ℕ) → (input old new : Option (List ℕ)) → Type 0
-RoutesBy ignores table base status input old new =
-    (routes : Routes) × AreRoutesOf ignores base (table_entries table) routes × IfSome input (λ text. RoutesText routes (base_view base) text status old new)
+abbrev pub RoutesBy : Flags → (table : List ℕ) → (base : Option (List ℕ)) → (status : ℕ) → (input old new : Option (List ℕ)) → Type 0
+RoutesBy flags table base status input old new =
+    (routes : Routes) × AreRoutesOf flags.ignore_case base (table_entries table) routes × IfSome input (λ text. RoutesText flags.json routes (base_view base) text status old new)
 
 -- the words after `route` are answered, where files have these tables
-abbrev pub RoutesLines : (ignores : Bool) → (Has : (name table : List ℕ) → Type 0) → (words : List (List ℕ)) → (status : ℕ) → (input old new : Option (List ℕ)) → Type 0
-RoutesLines ignores Has words status input old new =
+abbrev pub RoutesLines : Flags → (Has : (name table : List ℕ) → Type 0) → (words : List (List ℕ)) → (status : ℕ) → (input old new : Option (List ℕ)) → Type 0
+RoutesLines flags Has words status input old new =
     (name : List ℕ) × (base : Option (List ℕ)) × NameTable words name base
-    × (table : List ℕ) × Has name table × RoutesBy ignores table base status input old new
+    × (table : List ℕ) × Has name table × RoutesBy flags table base status input old new
 
 -- ---- unless the run failed
 
-abbrev pub RoutesTable : (ignores : Bool) → (table : List ℕ) → (base : Option (Bor (List ℕ))) → (status : ℕ) → (input old new : Option (List ℕ)) → Type 0
-RoutesTable ignores table base status input old new = status ≢ FAILED → RoutesBy ignores table (option_copied base) status input old new
+abbrev pub RoutesTable : Flags → (table : List ℕ) → (base : Option (Bor (List ℕ))) → (status : ℕ) → (input old new : Option (List ℕ)) → Type 0
+RoutesTable flags table base status input old new = status ≢ FAILED → RoutesBy flags table (option_copied base) status input old new
 
-abbrev pub RoutesFile : (ignores : Bool) → (Has : (name table : List ℕ) → Type 0) → (words : List (String Global)) → (status : ℕ) → (input old new : Option (List ℕ)) → Type 0
-RoutesFile ignores Has words status input old new = status ≢ FAILED → RoutesLines ignores Has (words_view words) status input old new
+abbrev pub RoutesFile : Flags → (Has : (name table : List ℕ) → Type 0) → (words : List (String Global)) → (status : ℕ) → (input old new : Option (List ℕ)) → Type 0
+RoutesFile flags Has words status input old new = status ≢ FAILED → RoutesLines flags Has (words_view words) status input old new

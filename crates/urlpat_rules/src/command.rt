@@ -11,9 +11,9 @@ use crate::unreachable::list_unreachable;
 use std::alloc::Global;
 use std::io::{BufRead, Write};
 use urlpat_commands::{DONE, FAILED, NO_MATCH};
-use urlpat_words::words_after;
+use urlpat_words::{Flags, words_after};
 
-/// Does what the words ask for, with patterns that ignore case or not, and gives the status to end with.
+/// Does what the words and the flags ask for, and gives the status to end with.
 ///
 /// `filter` and `route` read lines from `input`, `route` and `unreachable` a file from `tables`. What is printed goes to `out`, and
 /// why there is no answer to `err`.
@@ -21,15 +21,15 @@ pub fn run<T: Tables, In: BufRead, Out: Write, Err: Write>(
     alloc: Global,
     tables: &T,
     words: &[String],
-    ignore_case: bool,
+    flags: Flags,
     input: &mut In,
     out: &mut Out,
     err: &mut Err,
 ) -> u8
     ensures status { (result ≡ DONE) ⊎ (result ≡ NO_MATCH) ⊎ (result ≡ FAILED) }
-    ensures answers { AnswersWords ignore_case (T.Has tables.now) words.now result (In.remaining input.old) (Out.contents out.old) (Out.contents out.new) }
+    ensures answers { AnswersWords flags (T.Has tables.now) words.now result (In.remaining input.old) (Out.contents out.old) (Out.contents out.new) }
     ensures quiet { result ≢ FAILED → (err.new ≡ err.old) ⊎ MayReport (words_view words.now) }
-    ensures fails { result ≡ FAILED → FailsAny ignore_case (words_view words.now) (out.new ≡ out.old) }
+    ensures fails { result ≡ FAILED → FailsAny flags (words_view words.now) (out.new ≡ out.old) }
 {
     if let Some(rest) = words_after(words, "covers") {
         return covers(alloc, rest, out, err);
@@ -38,7 +38,7 @@ pub fn run<T: Tables, In: BufRead, Out: Write, Err: Write>(
         return list_unreachable(alloc, tables, rest, out, err);
     }
     if let Some(rest) = words_after(words, "route") {
-        return route(alloc, tables, rest, ignore_case, input, out, err);
+        return route(alloc, tables, rest, flags, input, out, err);
     }
-    urlpat_commands::run(alloc, words, ignore_case, input, out, err)
+    urlpat_commands::run(alloc, words, flags, input, out, err)
 }

@@ -2,10 +2,10 @@
 
 ghost use Rattle.std.specs.Prelude.{◌≡◌, ◌⊎◌, option_copied, IfSome};
 ghost use Rattle.urlpat_commands.specs.Answers.{kept_base};
-ghost use Rattle.urlpat_rules.specs.Routes.{AreRoutesOf, IsAnswered, RoutesFile, RoutesTable};
+ghost use Rattle.urlpat_rules.specs.Routes.{AreRoutesOf, IsAnswered, RoutesFile, RoutesTable, unmatched_text};
 ghost use Rattle.urlpat_tables.specs.Tables.{entries_view};
 
-use crate::row::push_row;
+use crate::row::push_route;
 use crate::tables::{Tables, read_entries, read_table, report_refused, table_words};
 use std::alloc::{AllocError, Global};
 use std::io::{BufRead, Write};
@@ -15,7 +15,7 @@ use urlpat_commands::{
 use urlpat_filter::write_answers;
 use urlpat_lines::{Rule, Verdict};
 use urlpat_tables::Entry;
-use urlpat_words::Shape;
+use urlpat_words::{Flags, Shape};
 use urlpattern::UrlPatternMap;
 use urlpattern::regexp::PatternRegexp;
 
@@ -25,15 +25,13 @@ usage: urlpat route FILE [BASE]
        add --ignore-case for patterns that ignore case
 ";
 
-/// The answer to a line that no pattern matches.
-const UNMATCHED: &str = "-\n";
-
 /// The entries of a table with their patterns, which match the URLs of lines under a base URL.
 #[derive(Drop)]
 struct Router<'a, 't> {
     alloc: Global,
     routes: &'a UrlPatternMap<Entry<'t>, PatternRegexp>,
     base: &'a BaseUrl,
+    json: bool,
 }
 
 /// Does what the words after `route` ask for, and gives the status to end with.
@@ -41,13 +39,13 @@ pub fn route<T: Tables, In: BufRead, Out: Write, Err: Write>(
     alloc: Global,
     tables: &T,
     words: &[String],
-    ignore_case: bool,
+    flags: Flags,
     input: &mut In,
     out: &mut Out,
     err: &mut Err,
 ) -> u8
     ensures status { (result ≡ DONE) ⊎ (result ≡ NO_MATCH) ⊎ (result ≡ FAILED) }
-    ensures answers { RoutesFile ignore_case (T.Has tables.now) words.now result (In.remaining input.old) (Out.contents out.old) (Out.contents out.new) }
+    ensures answers { RoutesFile flags (T.Has tables.now) words.now result (In.remaining input.old) (Out.contents out.old) (Out.contents out.new) }
 {
     let Some((name, base)) = table_words(words) else {
         let _ = err.write_all(ROUTE_USAGE.as_bytes());
@@ -56,7 +54,7 @@ pub fn route<T: Tables, In: BufRead, Out: Write, Err: Write>(
     let Some(table) = read_table(tables, name, err) else {
         return FAILED;
     };
-    let status = route_by(alloc, &table, base, ignore_case, input, out, err);
+    let status = route_by(alloc, &table, base, flags, input, out, err);
     drop(table);
     status
 }
@@ -66,18 +64,18 @@ fn route_by<In: BufRead, Out: Write, Err: Write>(
     alloc: Global,
     table: &[u8],
     base: Option<&str>,
-    ignore_case: bool,
+    flags: Flags,
     input: &mut In,
     out: &mut Out,
     err: &mut Err,
 ) -> u8
     ensures status { (result ≡ DONE) ⊎ (result ≡ NO_MATCH) ⊎ (result ≡ FAILED) }
-    ensures answers { RoutesTable ignore_case table.now base.entry result (In.remaining input.old) (Out.contents out.old) (Out.contents out.new) }
+    ensures answers { RoutesTable flags table.now base.entry result (In.remaining input.old) (Out.contents out.old) (Out.contents out.new) }
 {
     let Some(entries) = read_entries(alloc, table, err) else {
         return FAILED;
     };
-    let Some(routes) = routes_of(alloc, &entries, base, ignore_case, err) else {
+    let Some(routes) = routes_of(alloc, &entries, base, flags.ignore_case, err) else {
         return FAILED;
     };
     let kept = match base_url(alloc, base) {
@@ -88,6 +86,7 @@ fn route_by<In: BufRead, Out: Write, Err: Write>(
         alloc,
         routes: &routes,
         base: &kept,
+        json: flags.json,
     };
     let found = write_answers(alloc, &router, Shape::Line, input, out, err);
     drop(routes);
@@ -125,8 +124,15 @@ fn routes_of<'t, Err: Write>(
     Some(routes)
 }
 
+/// What is printed for a line that no pattern matches.
+fn unmatched_text(json: bool) -> &'static str
+    ensures { result.now ≡ unmatched_text json }
+{
+    if json { "null\n" } else { "-\n" }
+}
+
 impl Rule for Router<'_, '_> {
-    ghost Answers = { λ router. IsAnswered router.routes.now (kept_base router.base.now) };
+    ghost Answers = { λ router. IsAnswered router.json router.routes.now (kept_base router.base.now) };
 
     fn answer(
         &self,
@@ -138,18 +144,18 @@ impl Rule for Router<'_, '_> {
             return Err(AllocError);
         };
         let Some(url) = found else {
-            written.extend_from_slice(UNMATCHED.as_bytes())?;
+            written.extend_from_slice(unmatched_text(self.json).as_bytes())?;
             return Ok(Verdict::NoUrl);
         };
         match self.routes.first_captures(self.alloc, &url) {
             Ok(Some((_, entry, found))) => {
-                let pushed = push_row(self.alloc, entry, &found, written);
+                let pushed = push_route(self.alloc, self.json, entry, &found, written);
                 drop(found);
                 pushed?;
                 Ok(Verdict::Selected)
             }
             Ok(None) => {
-                written.extend_from_slice(UNMATCHED.as_bytes())?;
+                written.extend_from_slice(unmatched_text(self.json).as_bytes())?;
                 Ok(Verdict::Passed)
             }
             Err(_) => Err(AllocError),

@@ -1,23 +1,69 @@
 //! The rows that `route` prints.
 
 ghost use Rattle.std.specs.List.{flat_map};
-ghost use Rattle.std.specs.Prelude.{◌≡◌, ◌++◌, OnOk};
+ghost use Rattle.std.specs.Prelude.{◌≡◌, ◌++◌, IfOk, OnOk};
+ghost use Rattle.serde_json.specs.View.{view};
 ghost use Rattle.urlpat_filter.specs.Filters.{GetsPiece};
-ghost use Rattle.urlpat_rules.specs.Routes.{IsRouteRow, bare_lines, cell_text};
+ghost use Rattle.urlpat_rules.specs.Routes.{IsRouteJson, IsRouteRow, IsShown, bare_lines, cell_text, route_tree};
 ghost use Rattle.urlpat_tables.specs.Tables.{entry_view};
 ghost use Rattle.urlpattern.specs.BorrowedMatches.{pattern_captures_view};
 
 use bstr::ByteSlice;
+use serde_json::{Map, Value};
 use std::alloc::{AllocError, Global};
-use urlpat_commands::push_match;
+use urlpat_commands::{json_line, match_tree, push_match};
 use urlpat_tables::Entry;
 use urlpattern::UrlPatternCaptures;
+use urlpattern_inputs::writing::put_text;
 
 /// How many bytes the groups of a row usually have at most.
 const USUAL: usize = 256;
 
-/// Appends the row of an entry whose pattern matches: its number, its name and each group, with tabs between.
-pub fn push_row(
+/// Appends the row of an entry whose pattern matches: as JSON, or with tabs between its number, its name and each group.
+pub fn push_route(
+    alloc: Global,
+    json: bool,
+    entry: &Entry<'_>,
+    found: &UrlPatternCaptures<'_, '_>,
+    row: &mut Vec<u8>,
+) -> Result<(), AllocError>
+    ensures { OnOk result (GetsPiece (IsShown json (entry_view entry.now) (pattern_captures_view found.now)) row.old.items row.new.items) }
+{
+    if json {
+        push_json(alloc, entry, found, row)
+    } else {
+        push_row(alloc, entry, found, row)
+    }
+}
+
+/// Appends the row of an entry as JSON.
+fn push_json(
+    alloc: Global,
+    entry: &Entry<'_>,
+    found: &UrlPatternCaptures<'_, '_>,
+    row: &mut Vec<u8>,
+) -> Result<(), AllocError>
+    ensures { OnOk result (GetsPiece (IsRouteJson (entry_view entry.now) (pattern_captures_view found.now)) row.old.items row.new.items) }
+{
+    let tree = route_tree(alloc, entry, match_tree(alloc, found)?)?;
+    let line = json_line(alloc, &tree)?;
+    row.extend_from_slice(line.as_bytes())?;
+    Ok(())
+}
+
+/// The number and the name of an entry, and the match, as JSON.
+fn route_tree(alloc: Global, entry: &Entry<'_>, found: Value) -> Result<Value, AllocError>
+    ensures { IfOk result (λ tree. view tree ≡ route_tree (entry_view entry.now) (view found)) }
+{
+    let mut members = Map::new(alloc);
+    serde_json::put(&mut members, alloc, "number", Value::from(entry.number))?;
+    put_text(&mut members, alloc, "name", entry.name)?;
+    serde_json::put(&mut members, alloc, "match", found)?;
+    Ok(Value::Object(members))
+}
+
+/// Appends the row of an entry: its number, its name and each group, with tabs between.
+fn push_row(
     alloc: Global,
     entry: &Entry<'_>,
     found: &UrlPatternCaptures<'_, '_>,

@@ -1,3 +1,4 @@
+pub mod Flags
 pub mod Help
 pub mod Queries
 pub mod Words

@@ -10,6 +10,7 @@ abbrev pub NamesGroup : (word : List ℕ) → Bool × Shape → Type 0
 NamesGroup word (inverted, shapes.Group component name) = (inverted ≡ false) × (word ≡ name_text component ++ 46 ∷ name.now)
 NamesGroup word (inverted, shapes.Line) = ⊥
 NamesGroup word (inverted, shapes.Count) = ⊥
+NamesGroup word (inverted, shapes.Json) = ⊥
 
 -- a word asks for the lines that do not match, or for their count
 abbrev pub IsAskedByOne : (flag : List ℕ) → Bool × Shape → Type 0
@@ -29,8 +30,14 @@ IsAskedByFlags (flag ∷ []) asked = IsAskedByOne flag asked
 IsAskedByFlags (first ∷ second ∷ []) asked = IsAskedByTwo first second asked
 IsAskedByFlags (first ∷ second ∷ third ∷ words) asked = ⊥
 
+-- the same where answers are JSON: there are no such words, and the match of each line is printed
+abbrev pub IsAsked : (json : Bool) → (words : List (List ℕ)) → Bool × Shape → Type 0
+IsAsked true [] asked = asked ≡ (false, shapes.Json)
+IsAsked true (flag ∷ words) asked = ⊥
+IsAsked false words asked = IsAskedByFlags words asked
+
 -- the words after `filter` ask for this
-abbrev pub IsQueryOf : (words : List (List ℕ)) → Query → Type 0
-IsQueryOf (pattern ∷ base ∷ flags) query =
-    (query.pattern.now ≡ pattern) × (query.base.now ≡ base) × IsAskedByFlags flags (query.inverted, query.shape)
-IsQueryOf words query = ⊥
+abbrev pub IsQueryOf : (json : Bool) → (words : List (List ℕ)) → Query → Type 0
+IsQueryOf json (pattern ∷ base ∷ rest) query =
+    (query.pattern.now ≡ pattern) × (query.base.now ≡ base) × IsAsked json rest (query.inverted, query.shape)
+IsQueryOf json words query = ⊥

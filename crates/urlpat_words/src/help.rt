@@ -31,7 +31,8 @@ usage: urlpat PATTERN URL
   component    shows what the pattern of one component is compiled to
 
 BASE is a URL for the pattern and the input, or - for none. With --ignore-case, which may stand anywhere, the patterns of match, first,
-filter, route and explain ignore case. `urlpat COMMAND --help` says more of a command.
+filter, route and explain ignore case. With --json, which may stand anywhere too, match, first, filter and route print JSON.
+`urlpat COMMAND --help` says more of a command.
 
 example: urlpat 'https://example.com/users/:id' https://example.com/users/7
 ";
@@ -58,7 +59,8 @@ match, prints `no match` and ends with status 1.
 
 usage: urlpat match PATTERN BASE INPUT
 
-BASE is a URL for the pattern and the input, or - for none. With --ignore-case the pattern ignores case.
+BASE is a URL for the pattern and the input, or - for none. With --ignore-case the pattern ignores case. With --json the match is
+printed as JSON, as a browser returns it, or `null`.
 
 example: urlpat match /users/:id https://example.com/ /users/7
 ";
@@ -70,7 +72,8 @@ Prints `match` and the index of the first pattern that matches a URL, from 0 on,
 
 usage: urlpat first BASE INPUT PATTERN..
 
-BASE is a URL for the patterns and the input, or - for none. With --ignore-case the patterns ignore case.
+BASE is a URL for the patterns and the input, or - for none. With --ignore-case the patterns ignore case. With --json an object with
+`index` and `match` is printed, or `null`.
 
 example: urlpat first https://example.com/ /users/7 /about /users/:id
 ";
@@ -84,10 +87,12 @@ usage: urlpat filter PATTERN BASE
        urlpat filter PATTERN BASE --count
        urlpat filter PATTERN BASE --not --count
        urlpat filter PATTERN BASE --group COMPONENT.NAME
+       urlpat filter PATTERN BASE --json
 
   --not          prints the lines that do not match
   --count        prints how many there are, and no line
   --group        prints what a group captured, in place of the line
+  --json         prints the match as JSON, in place of the line
   --ignore-case  may be added to each: the pattern ignores case
 
 BASE is a URL for the pattern and the lines, or - for none. A line that is no URL does not match.
@@ -105,7 +110,7 @@ usage: urlpat route FILE [BASE]
 
 The file has a pattern a line, and its name after a tab, if it has one. A line that is empty or begins with # is skipped. BASE is a
 URL for the patterns and the lines, or - for none. A line that is no URL is matched by no pattern. With --ignore-case the patterns
-ignore case.
+ignore case. With --json an object with `number`, `name` and `match` is printed for each line, or `null`.
 
 example: urlpat route routes.txt https://example.com/ <urls.txt
 ";

@@ -1,7 +1,7 @@
 //! What the words after `filter` ask for.
 
-ghost use Rattle.std.specs.Prelude.{◌≡◌, ◌∷◌, ◌++◌, IfSome};
-ghost use Rattle.urlpat_words.specs.Queries.{IsAskedByFlags, IsAskedByOne, IsAskedByTwo, IsQueryOf, NamesGroup};
+ghost use Rattle.std.specs.Prelude.{◌≡◌, ◌∷◌, ◌++◌, true, IfSome};
+ghost use Rattle.urlpat_words.specs.Queries.{IsAsked, IsAskedByFlags, IsAskedByOne, IsAskedByTwo, IsQueryOf, NamesGroup};
 ghost use Rattle.urlpat_words.specs.Words.{words_view};
 
 use urlpattern_eight::ComponentName;
@@ -15,6 +15,8 @@ pub enum Shape<'a> {
     Count,
     /// What a group captured.
     Group(ComponentName, &'a str),
+    /// The match, as JSON.
+    Json,
 }
 
 /// What the words after `filter` ask for.
@@ -30,20 +32,35 @@ pub struct Query<'a> {
     pub shape: Shape<'a>,
 }
 
-/// What the words after `filter` ask for. `None`: they are not such words.
-pub fn query_of(words: &[String]) -> Option<Query<'_>>
-    ensures { IfSome result (IsQueryOf (words_view words.now)) }
+/// What the words after `filter` ask for, with JSON as the answer or not. `None`: they are not such words.
+pub fn query_of(words: &[String], json: bool) -> Option<Query<'_>>
+    ensures { IfSome result (IsQueryOf json (words_view words.now)) }
 {
-    let [pattern, base, flags @ ..] = words else {
+    let [pattern, base, rest @ ..] = words else {
         return None;
     };
-    let (inverted, shape) = asked_by(flags)?;
+    let (inverted, shape) = if json {
+        asked_as_json(rest)?
+    } else {
+        asked_by(rest)?
+    };
     Some(Query {
         pattern,
         base,
         inverted,
         shape,
     })
+}
+
+/// What the words after the base ask for, with JSON as the answer: there are none, and the match is printed.
+fn asked_as_json(words: &[String]) -> Option<(bool, Shape<'_>)>
+    ensures { IfSome result (IsAsked true (words_view words.now)) }
+{
+    if words.is_empty() {
+        Some((false, Shape::Json))
+    } else {
+        None
+    }
 }
 
 /// What the words after the base ask for: whether lines that do not match are looked for, and what is printed of a line.

@@ -25,7 +25,7 @@ pub fn words_after<'w>(words: &'w [String], command: &str) -> Option<&'w [String
 }
 
 /// Takes each copy of a word out of the words, and returns whether there was one.
-pub fn take_word(words: &mut Vec<String>, word: &str) -> bool
+pub(crate) fn take_word(words: &mut Vec<String>, word: &str) -> bool
     ensures asked { result ≡ list_any (λ other. bytes_eq word.now (string_bytes other)) words.old.items }
     ensures left { words.new.items ≡ filter (λ other. not (bytes_eq word.now (string_bytes other))) words.old.items }
 {

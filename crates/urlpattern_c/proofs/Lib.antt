@@ -1,2 +1,1 @@
-pub mod CallLemmas
 mod Values

@@ -1,15 +1,7 @@
 -- The patterns of a handle.
-use Rattle.std.specs.Prelude.{List, [], Option, None, Some}
-use Rattle.urlpattern_c.specs.declared.kept.Kept.{Kept}
 use Rattle.urlpattern_c.specs.declared.patterns.Patterns.{Patterns}
-use Rattle.urlpattern_engine.specs.declared.pattern_regexp.PatternRegexp.{PatternRegexp}
-use Rattle.urlpattern_pattern.specs.declared.pattern.UrlPattern.{UrlPattern}
-
--- the patterns of what is kept, in their order
-abbrev pub kept_patterns : Option Kept → List (UrlPattern PatternRegexp)
-kept_patterns None = []
-kept_patterns (Some kept) = kept.list
+use Rattle.urlpattern_calls.specs.Kept.{PatternList, kept_patterns}
 
 -- the patterns of a handle
-abbrev pub patterns_in : Patterns → List (UrlPattern PatternRegexp)
+abbrev pub patterns_in : Patterns → PatternList
 patterns_in patterns = kept_patterns patterns.slot.held

@@ -1,5 +1,2 @@
-pub mod Calls
 pub mod Handles
 pub mod Memory
-pub mod Statuses
-pub mod Texts

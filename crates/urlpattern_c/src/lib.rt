@@ -1,24 +1,16 @@
 //! URL patterns for other languages: functions that C calls, of a static library. `bindings/c/urlpattern.h` declares them.
 //!
-//! Each passes on a call of `urlpattern`, and states its clauses again. Raw pointers stay inside of `Loose` and `Slot`.
+//! Each passes on a call of `urlpattern_calls`, and states its clauses again. Raw pointers stay inside of `Loose` and `Slot`.
 #![tactic(auto)]
 
-mod adding;
-mod diagnosing;
-mod kept;
+mod exports;
 mod loose;
 mod patterns;
 mod slot;
-mod status;
-mod testing;
-mod texts;
-mod urls;
 
-pub use adding::{urlpattern_add, urlpattern_free};
-pub use diagnosing::{Place, urlpattern_diagnose};
-pub use kept::Kept;
+pub use exports::{
+    urlpattern_add, urlpattern_component, urlpattern_diagnose, urlpattern_exec, urlpattern_first,
+    urlpattern_free, urlpattern_has_regexp_groups, urlpattern_mismatch, urlpattern_test,
+};
 pub use patterns::Patterns;
 pub use slot::Slot;
-pub use status::Status;
-pub use testing::{urlpattern_exec, urlpattern_first, urlpattern_test};
-pub use texts::urlpattern_component;

@@ -1,12 +1,11 @@
 //! The handle that C keeps.
 ghost use Rattle.std.specs.Prelude.{◌≡◌, is_some};
 
-use crate::kept::Kept;
 use crate::loose::Loose;
 use crate::slot::Slot;
-use std::alloc::{AllocError, Global};
+use std::alloc::Global;
 use std::mem;
-use urlpattern::UrlPatternList;
+use urlpattern_calls::Kept;
 
 /// A handle to patterns in their order. C makes one by writing zeros, which has no pattern and no memory.
 #[repr(C)]
@@ -18,20 +17,26 @@ pub struct Patterns {
 }
 
 impl Patterns {
-    ghost use Rattle.std.specs.Prelude.{[], None, IfErr, IfNone, IfOk, IfSome};
-    ghost use Rattle.urlpattern_c.specs.Handles.{kept_patterns};
+    ghost use Rattle.std.specs.Prelude.{None};
+    ghost use Rattle.urlpattern_c.specs.Handles.{patterns_in};
+    ghost use Rattle.urlpattern_calls.specs.Kept.{boxed_patterns};
+
+    /// As C makes it.
+    fn empty() -> Patterns
+        ensures { result.slot.held ≡ None }
+    {
+        Patterns {
+            is_made: false,
+            slot: Slot::empty(),
+        }
+    }
 
     /// Takes the patterns out, if there are any. The handle is then as C makes it.
     pub(crate) fn take(&mut self, alloc: Global) -> Option<Box<Kept>>
-        ensures taken { IfSome result (λ kept. kept.value.list ≡ kept_patterns self.old.slot.held) }
-        ensures none { IfNone result (kept_patterns self.old.slot.held ≡ []) }
+        ensures taken { boxed_patterns result ≡ patterns_in self.old }
         ensures none_left { self.new.slot.held ≡ None }
     {
-        let empty = Patterns {
-            is_made: false,
-            slot: Slot::empty(),
-        };
-        let Patterns { is_made, slot } = mem::replace(self, empty);
+        let Patterns { is_made, slot } = mem::replace(self, Patterns::empty());
         if is_made {
             Some(slot.into_loose(alloc).into_box())
         } else {
@@ -39,36 +44,16 @@ impl Patterns {
         }
     }
 
-    /// Takes the patterns out, or makes an empty list.
-    ///
-    /// The error is that memory ran out. The handle then has no patterns, as before.
-    pub(crate) fn take_or_new(&mut self, alloc: Global) -> Result<Box<Kept>, AllocError>
-        ensures taken { IfOk result (λ kept. kept.value.list ≡ kept_patterns self.old.slot.held) }
-        ensures none { IfErr result (λ _. kept_patterns self.old.slot.held ≡ []) }
-        ensures none_left { self.new.slot.held ≡ None }
+    /// Puts patterns in.
+    pub(crate) fn put(&mut self, kept: Option<Box<Kept>>)
+        ensures { patterns_in self.new ≡ boxed_patterns kept }
     {
-        match self.take(alloc) {
-            Some(kept) => Ok(kept),
-            None => {
-                let list = UrlPatternList::new(alloc);
-                match Box::new(alloc, Kept { list }) {
-                    Ok(kept) => Ok(kept),
-                    Err(failed) => {
-                        drop(failed);
-                        Err(AllocError)
-                    }
-                }
-            }
-        }
-    }
-
-    /// Puts patterns in, where there are none.
-    pub(crate) fn put(&mut self, kept: Box<Kept>)
-        ensures { kept_patterns self.new.slot.held ≡ kept.value.list }
-    {
-        *self = Patterns {
-            is_made: true,
-            slot: Slot::of(Loose::of(kept)),
+        *self = match kept {
+            Some(kept) => Patterns {
+                is_made: true,
+                slot: Slot::of(Loose::of(kept)),
+            },
+            None => Patterns::empty(),
         };
     }
 }

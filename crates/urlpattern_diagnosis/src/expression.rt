@@ -3,6 +3,7 @@ ghost use Rattle.std.specs.Prelude.{IfOk, IfSome};
 ghost use Rattle.urlpattern_faults.specs.Faults.{IsFaultIn};
 ghost use Rattle.urlpattern_faults.specs.Spans.{IsSpanIn};
 
+use crate::hint::Hint;
 use regex_syntax::{Config, Error, ErrorKind};
 use std::alloc::{AllocError, Global};
 use urlpattern_faults::{Fault, Span};
@@ -35,24 +36,39 @@ pub fn fault_of_expression(alloc: Global, text: &str, body: Span) -> Result<Faul
 pub(crate) fn message(
     alloc: Global,
     expression: &str,
+    hint: Hint,
 ) -> Result<Option<(&'static str, &'static str)>, AllocError> {
     match refusal(alloc, expression)? {
         Some(error) => {
             let kind = error.kind;
-            Ok(Some((kind.message(), advice(kind, expression))))
+            let advice = advice(kind, expression, error.span.start, hint);
+            Ok(Some((kind.message(), advice)))
         }
         None => Ok(None),
     }
 }
 
-/// What to do about a refusal that its message leaves open, after a semicolon, or nothing.
-fn advice(kind: ErrorKind, expression: &str) -> &'static str {
+/// What to do about a refusal at a place that its message leaves open, after a semicolon, or nothing.
+fn advice(kind: ErrorKind, expression: &str, place: usize, hint: Hint) -> &'static str {
+    let refused = expression.as_bytes().get(place);
     match kind {
         ErrorKind::ClassRangeInvalid | ErrorKind::ClassRangeLiteral => {
             "; `-` in a class is between the ends of a range: write `\\-` for the character itself"
         }
+        ErrorKind::ClassUnclosed if hint == Hint::Brackets => {
+            "; `)` ends an expression also in a class: write `\\)` for the character itself"
+        }
+        ErrorKind::ClassUnclosed if expression.contains("&&[") => {
+            "; a class within another ends with a `]` of its own: add `]`"
+        }
         ErrorKind::ClassUnclosed if expression.contains(']') => {
             "; at the front of a class `^` excludes and `]` is one of its characters, and a `[` in it begins another: write `\\^`, `\\]` or `\\[` for the character itself"
+        }
+        ErrorKind::FlagUnrecognized if refused == Some(&b'>') => {
+            "; atomic groups are not supported: write `(?:` for `(?>`"
+        }
+        ErrorKind::RepetitionMissing if refused == Some(&b'{') => {
+            "; nothing is before `{` that it could repeat: write `.{3}` for any three characters"
         }
         ErrorKind::RepetitionMissing => {
             "; `*`, `+`, `?` and `{` repeat what is before them: write `.*` for any text"

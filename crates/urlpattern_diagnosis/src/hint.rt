@@ -1,7 +1,7 @@
 //! What explains a fault besides the part at fault.
 
 use crate::diagnosis::Subject;
-use urlpattern_faults::{Fault, Place, missing_colon};
+use urlpattern_faults::{Fault, Place, Span, missing_colon};
 use urlpattern_syntax::error::{Error, ParserError, RegexFault, TokenizerError};
 use urlpattern_syntax::tokenizer::TokenType;
 
@@ -38,6 +38,8 @@ pub(crate) enum Hint {
     Repeated,
     /// The modifier at fault follows another one.
     SecondModifier,
+    /// The `（` before the modifier at fault is full-width.
+    WideOpen,
     /// The pattern is `https?`, as a regular expression may be.
     Scheme,
 }
@@ -68,6 +70,9 @@ impl Hint {
             Error::Parser(ParserError::DuplicateName(_)) => name_hint(part, fault),
             Error::Parser(ParserError::ExpectedToken(expected, TokenType::OtherModifier, _)) => {
                 modifier_hint(part, fault.span.start, *expected == TokenType::Close)
+            }
+            Error::RegExp(()) if has_cut_class(part, outer(fault).start, part.len()) => {
+                Hint::Brackets
             }
             _ => match search {
                 Some(_) => Hint::Search,
@@ -123,6 +128,8 @@ fn expression_hint(
             (hint, None) => hint,
         },
         (RegexFault::NestedGroupCaptures | RegexFault::NestedGroupNotClosed, Some(open))
+            if is_in_class(part, open.start, fault.span.start) => { Hint::Brackets }
+        (RegexFault::NestedGroupCaptures | RegexFault::NestedGroupNotClosed, Some(open))
             if !is_closed(part, open.start) => { Hint::Open }
         (RegexFault::BadCharacter, None) => question_hint(part, fault.span.end.saturating_sub(1)),
         (RegexFault::BadCharacter | RegexFault::BadEscape, Some(_)) => letter_hint(part, fault),
@@ -166,6 +173,42 @@ fn is_closed(part: &str, place: usize) -> bool {
                     return true;
                 }
             }
+            _ => {}
+        }
+    }
+    false
+}
+
+/// Whether a place is in a class of the expression that begins before it.
+fn is_in_class(part: &str, start: usize, place: usize) -> bool {
+    let mut is_open = false;
+    let mut is_escaped = false;
+    for byte in part.as_bytes().iter().take(place).skip(start) {
+        match byte {
+            _ if is_escaped => is_escaped = false,
+            b'\\' => is_escaped = true,
+            b'[' => is_open = true,
+            b']' => is_open = false,
+            _ => {}
+        }
+    }
+    is_open
+}
+
+/// Whether the first class between two places that has a `)` ends after it, before another one begins.
+fn has_cut_class(part: &str, start: usize, end: usize) -> bool {
+    let mut is_open = false;
+    let mut is_cut = false;
+    let mut is_escaped = false;
+    for byte in part.as_bytes().iter().take(end).skip(start) {
+        match byte {
+            _ if is_escaped => is_escaped = false,
+            b'\\' => is_escaped = true,
+            b'[' if is_cut => return false,
+            b']' if is_cut => return true,
+            b'[' => is_open = true,
+            b']' => is_open = false,
+            b')' => is_cut = is_open,
             _ => {}
         }
     }
@@ -240,8 +283,20 @@ fn modifier_hint(part: &str, place: usize, is_in_group: bool) -> Hint {
     }
     match sign {
         Some(sign) => Hint::NameEnds(sign),
-        None if is_after_expression(part, place) => Hint::Expression,
-        None => Hint::Nothing,
+        None => unread_hint(part, place),
+    }
+}
+
+/// What explains that no expression is before a modifier at a place.
+fn unread_hint(part: &str, place: usize) -> Hint {
+    match part.find('(') {
+        Some(open) if has_cut_class(part, open, place) => return Hint::Brackets,
+        _ => {}
+    }
+    match part.find('（') {
+        Some(open) if open < place => Hint::WideOpen,
+        _ if is_after_expression(part, place) => Hint::Expression,
+        _ => Hint::Nothing,
     }
 }
 
@@ -267,6 +322,11 @@ fn is_after_expression(part: &str, place: usize) -> bool {
         }
         _ => false,
     }
+}
+
+/// The part that a fault is in, or else the fault.
+fn outer(fault: Fault) -> Span {
+    fault.earlier.unwrap_or(fault.span)
 }
 
 /// Where a `?` follows a part of a text.

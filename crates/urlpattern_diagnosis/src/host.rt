@@ -1,7 +1,10 @@
-//! Where a hostname is at fault that `url` refuses.
+//! Where and why a hostname is at fault that `url` refuses.
 ghost use Rattle.urlpattern_faults.specs.Faults.{IsFaultIn};
 ghost use Rattle.urlpattern_faults.specs.Spans.{IsSpanIn};
 
+use crate::wide::{ascii_form, ascii_form_of};
+use std::alloc::{AllocError, Global};
+use url::ParseError;
 use urlpattern_faults::{Fault, Span};
 
 /// The first character of a refused hostname that no domain has, or its first number that no IPv4 address has, or else all of it.
@@ -24,6 +27,35 @@ pub fn fault_of_host(text: &str, host: Span) -> Fault
     }
 }
 
+/// Why a part is no hostname, by the reason of `url`.
+pub(crate) fn host_reason(
+    alloc: Global,
+    reason: ParseError,
+    part: &str,
+) -> Result<String, AllocError> {
+    if part == " " {
+        String::from_str(alloc, "a hostname has no space")
+    } else if part == "\\\\" {
+        String::from_str(alloc, "a hostname has no `\\`")
+    } else if part == "^" {
+        String::from_str(
+            alloc,
+            "a hostname has no `^`: a pattern matches a whole hostname, without `^` and `$`",
+        )
+    } else if let Some(sign) = ascii_form_of(part) {
+        format!(in alloc; "`{part}` is full-width: write `{sign}`")
+    } else if is_one_forbidden(part) {
+        format!(in alloc; "a hostname has no `{part}`")
+    } else if ends_in_number(part) {
+        String::from_str(
+            alloc,
+            "a hostname that ends in a number is an IPv4 address: four numbers up to 255",
+        )
+    } else {
+        format!(in alloc; "`{part}` is no hostname: {reason}")
+    }
+}
+
 /// Where the first character that no domain has begins in the pattern of one, and how long it is. A backslash is one if it is
 /// escaped itself.
 fn forbidden(name: &str) -> Option<(usize, usize)> {
@@ -35,7 +67,10 @@ fn forbidden(name: &str) -> Option<(usize, usize)> {
             }
             is_escaped = true;
         } else {
-            if is_forbidden(c) || c == '%' && !has_digits_after(name, start) {
+            if is_forbidden(c)
+                || is_wide_forbidden(c)
+                || c == '%' && !has_digits_after(name, start)
+            {
                 return Some((start, c.len_utf8()));
             }
             is_escaped = false;
@@ -53,8 +88,16 @@ fn is_forbidden(c: char) -> bool {
         )
 }
 
+/// Whether a character is the full-width form of one that no domain has, as it is read.
+fn is_wide_forbidden(c: char) -> bool {
+    match ascii_form(c) {
+        Some(sign) => matches!(sign, ':' | '%' | '\\') || is_forbidden(sign),
+        None => false,
+    }
+}
+
 /// Whether a text is one character that no domain has.
-pub(crate) fn is_one_forbidden(text: &str) -> bool {
+fn is_one_forbidden(text: &str) -> bool {
     let mut characters = text.chars();
     match (characters.next(), characters.next()) {
         (Some(c), None) => c == '%' || is_forbidden(c),
@@ -84,8 +127,8 @@ fn large_number(name: &str) -> Option<(usize, usize)> {
     None
 }
 
-/// Whether a label is a number in decimal.
-fn is_number(label: &str) -> bool {
+/// Whether a text is a number in decimal.
+pub(crate) fn is_number(label: &str) -> bool {
     !label.is_empty() && label.bytes().all(|byte| byte.is_ascii_digit())
 }
 
@@ -100,7 +143,7 @@ fn is_large(label: &str) -> bool {
 /// Whether the last label of a hostname is a number, so that the hostname is an IPv4 address.
 ///
 /// <https://url.spec.whatwg.org/#ends-in-a-number-checker>
-pub(crate) fn ends_in_number(name: &str) -> bool {
+fn ends_in_number(name: &str) -> bool {
     let name = name.strip_suffix('.').unwrap_or(name);
     match name.rsplit_once('.') {
         Some((_, last)) => is_number(last),

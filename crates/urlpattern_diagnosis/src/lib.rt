@@ -8,6 +8,7 @@ mod host;
 mod printing;
 mod reason;
 mod walk;
+mod wide;
 
 pub use diagnosis::{Diagnosis, Subject};
 pub use expression::fault_of_expression;

@@ -3,7 +3,8 @@
 use crate::diagnosis::Subject;
 use crate::expression::message;
 use crate::hint::Hint;
-use crate::host::{ends_in_number, is_one_forbidden};
+use crate::host::{host_reason, is_number};
+use crate::wide::ascii_form_of;
 use percent_encoding::{CONTROLS, utf8_percent_encode};
 use std::alloc::{AllocError, Global};
 use url::ParseError;
@@ -48,7 +49,7 @@ pub(crate) fn reason_of(
         }
         Error::Parser(ParserError::DuplicateName(name)) => name_reason(alloc, name, faulty.hint),
         Error::Url(reason) => url_reason(alloc, *reason, faulty),
-        Error::RegExp(()) => engine_reason(alloc, faulty.earlier.unwrap_or(faulty.part)),
+        Error::RegExp(()) => engine_reason(alloc, faulty),
         Error::OutOfMemory => String::from_str(alloc, "out of memory"),
     }
 }
@@ -170,7 +171,13 @@ fn colon_reason(faulty: &Faulty<'_>) -> &'static str {
 /// Why a custom expression does not have a character that is not ASCII, and how URLs have it.
 fn ascii_reason(alloc: Global, faulty: &Faulty<'_>) -> Result<String, AllocError> {
     let part = faulty.part;
-    let encoded = utf8_percent_encode(part.trim_start_matches('\\'), CONTROLS);
+    let bare = part.trim_start_matches('\\');
+    if let Some(sign) = ascii_form_of(bare) {
+        return format!(in alloc;
+            "a custom expression has only ASCII characters, and `{bare}` is full-width: write `{sign}`"
+        );
+    }
+    let encoded = utf8_percent_encode(bare, CONTROLS);
     match (faulty.subject, faulty.hint) {
         (Subject::Component(ComponentName::Hostname), _) => {
             format!(in alloc;
@@ -209,6 +216,9 @@ fn expression_reason(fault: RegexFault, hint: Hint) -> &'static str {
         }
         (RegexFault::BadCharacter | RegexFault::BadEscape, _) | (_, Hint::QuestionMark) => {
             "a custom expression does not begin with `?`: write `(a)` for `(?:a)` and `:year(\\d+)` for `(?<year>\\d+)`, or `\\(` for the character itself"
+        }
+        (RegexFault::NestedGroupCaptures | RegexFault::NestedGroupNotClosed, Hint::Brackets) => {
+            "`(` begins a group also in a class: write `\\(` for the character itself"
         }
         (RegexFault::NestedGroupNotClosed, _) => {
             "`)` is missing: the first `(` is not closed, and the second one ends the pattern"
@@ -307,6 +317,16 @@ fn modifier_reason(alloc: Global, value: &str, hint: Hint) -> Result<String, All
                 "`{value}` follows nothing that it could repeat: a name ends before `{sign}`; write `_` in its place, or `\\{value}` for the character itself"
             )
         }
+        Hint::Brackets => {
+            format!(in alloc;
+                "`{value}` follows nothing that it could repeat; `)` ends an expression also in a class: write `\\)` for the character itself"
+            )
+        }
+        Hint::WideOpen => {
+            format!(in alloc;
+                "`{value}` follows nothing that it could repeat; `（` before it is full-width: write `(`"
+            )
+        }
         Hint::Scheme => String::from_str(
             alloc,
             "`?` follows nothing that it could repeat: write `http{s}?` for both protocols",
@@ -333,6 +353,9 @@ fn url_reason(
     let part = faulty.part;
     let what = faulty.subject.name();
     match (faulty.subject, reason) {
+        (Subject::Component(ComponentName::Port), ParseError::InvalidPort) if !is_number(part) => {
+            format!(in alloc; "`{part}` is no {what}: a port has only the digits 0 to 9")
+        }
         (_, ParseError::InvalidPort) => {
             format!(in alloc; "`{part}` is no {what}: a port is a number up to 65535")
         }
@@ -358,32 +381,10 @@ fn url_reason(
     }
 }
 
-/// Why a part is no hostname, by the reason of `url`.
-fn host_reason(alloc: Global, reason: ParseError, part: &str) -> Result<String, AllocError> {
-    if part == " " {
-        String::from_str(alloc, "a hostname has no space")
-    } else if part == "\\\\" {
-        String::from_str(alloc, "a hostname has no `\\`")
-    } else if part == "^" {
-        String::from_str(
-            alloc,
-            "a hostname has no `^`: a pattern matches a whole hostname, without `^` and `$`",
-        )
-    } else if is_one_forbidden(part) {
-        format!(in alloc; "a hostname has no `{part}`")
-    } else if ends_in_number(part) {
-        String::from_str(
-            alloc,
-            "a hostname that ends in a number is an IPv4 address: four numbers up to 255",
-        )
-    } else {
-        format!(in alloc; "`{part}` is no hostname: {reason}")
-    }
-}
-
 /// Why an engine refuses an expression, in the words of the crate `regex`.
-fn engine_reason(alloc: Global, expression: &str) -> Result<String, AllocError> {
-    match message(alloc, expression)? {
+fn engine_reason(alloc: Global, faulty: &Faulty<'_>) -> Result<String, AllocError> {
+    let expression = faulty.earlier.unwrap_or(faulty.part);
+    match message(alloc, expression, faulty.hint)? {
         Some((message, advice)) => {
             format!(in alloc; "the engine refuses the expression `{expression}`: {message}{advice}")
         }

@@ -54,10 +54,12 @@ IsWholeFault bytes fault = IsAlone (λ span. span ≡ whole_span bytes) fault
 abbrev pub begins : (bytes front : List ℕ) → Bool
 begins bytes front = starts_with nat_eq bytes front
 
--- how long the special scheme at the front of a text is, if two slashes follow it: the place where its colon is missing
+-- how long the special scheme at the front of a text is, or the pattern of two, if two slashes follow it: the place where its colon
+-- is missing
 abbrev pub missing_colon : (bytes : List ℕ) → Option ℕ
 missing_colon bytes =
-    if begins bytes (codes "https//") then Some 5
+    if begins bytes (codes "http{s}?//") then Some 8
+    else if begins bytes (codes "https//") then Some 5
     else if begins bytes (codes "http//") || begins bytes (codes "file//") then Some 4
     else if begins bytes (codes "wss//") || begins bytes (codes "ftp//") then Some 3
     else if begins bytes (codes "ws//") then Some 2

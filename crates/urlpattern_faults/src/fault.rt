@@ -60,12 +60,15 @@ impl Fault {
     }
 }
 
-/// How long the special scheme at the front of a text is, if two slashes follow it, and so its colon is missing.
+/// How long the special scheme at the front of a text is, or the pattern `http{s}?` of two, if two slashes follow it, and so its
+/// colon is missing.
 pub fn missing_colon(text: &str) -> Option<usize>
     ensures { result ≡ missing_colon text.now }
 {
     let bytes = text.as_bytes();
-    if bytes.starts_with(b"https//") {
+    if bytes.starts_with(b"http{s}?//") {
+        Some(8)
+    } else if bytes.starts_with(b"https//") {
         Some(5)
     } else if bytes.starts_with(b"http//") || bytes.starts_with(b"file//") {
         Some(4)

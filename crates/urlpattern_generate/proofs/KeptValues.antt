@@ -1,17 +1,19 @@
 -- Values of letters, digits and a few marks, which are canonical as they are.
-use Rattle.std.proofs.Common.{◌≡◌, ◌∙◌, ◌<◌, ℕ, Bool, true, false, ◌&&◌, ◌==◌, ltb, List, [], ◌∷◌, ◌++◌, length, All, Some, Ok, String, string_bytes, ap, arith, refl, sym}
-use Rattle.std.proofs.lemmas.Bool.{false≢true}
+use Rattle.std.proofs.Common.{◌≡◌, ◌≢◌, ◌∙◌, ◌<◌, ℕ, Bool, true, false, not, ◌==◌, List, [], ◌∷◌, ◌++◌, length, All, Some, Ok, ap, arith, refl, subst, sym}
+use Rattle.std.proofs.lemmas.Bool.{and_parts, false≢true}
 use Rattle.std.proofs.lemmas.Bool.Decides.{nat_tests}
 use Rattle.std.proofs.lemmas.List.{append-nil}
 use Rattle.std.proofs.lemmas.List.Elements.{All-cons, All-nil, All-weaker}
+use Rattle.std.proofs.lemmas.Str.{chars-IsAscii}
+use Rattle.std.proofs.lemmas.Str.Ascii.{IsAscii-from_all}
 use Rattle.std.specs.List.{list_all}
 use Rattle.std.specs.Prelude.{IsTrue, codes, slice_index, unwrap_or}
 use Rattle.std.specs.Str.{chars}
-use Rattle.percent_encoding.proofs.PercentLemmas.{percent_encode_unchanged}
-use Rattle.percent_encoding.specs.Percent.{IsKept, percent_encode}
+use Rattle.percent_encoding.specs.Percent.{IsKept}
 use Rattle.percent_encoding.specs.declared.ascii_set.AsciiSet.{AsciiSet}
 use Rattle.url.proofs.InputLemmas.{All_from_list_all, Passes}
 use Rattle.url.proofs.SetLemmas.{kept_from_passes, passing_outside}
+use Rattle.url.specs.Ascii.{slash}
 use Rattle.url.specs.Parser.{and_then}
 use Rattle.url.specs.Path.{IsSegment, IsSegmentList, dot_count}
 use Rattle.url.specs.Scheme.{is_slash}
@@ -25,6 +27,7 @@ use Rattle.urlpattern_eight.specs.declared.eight.ComponentName.TheVariants.{Prot
 use Rattle.urlpattern_generate.proofs.SetTexts.{AreVisible, by_bytes, hash_kept, is_visible, password_kept, path_stays, search_kept, username_kept}
 use Rattle.urlpattern_generate.specs.Manners.{canonical_for}
 use Rattle.urlpattern_generate.specs.Unreserved.{is_escaped, is_unreserved}
+use Rattle.urlpattern_syntax.specs.Text.{lacks}
 
 unreserved_ascii : (b : ℕ) → Passes is_unreserved b → b < 128
 unreserved_ascii b passes = grind (arith, nat_tests)
@@ -93,3 +96,22 @@ pub kept_alone : (component : ComponentName) (hierarchical is_ipv6 : Bool) (byte
     canonical_for component hierarchical is_ipv6 (chars bytes) ≡ Ok (chars bytes)
 kept_alone component hierarchical is_ipv6 bytes path escaped all =
     ap (λ of. canonical_for component of is_ipv6 (chars bytes)) path ∙ kept_for component is_ipv6 bytes escaped (All_from_list_all is_unreserved bytes all)
+
+-- ---- a value as a segment
+
+not_slash : (b : ℕ) → Passes is_unreserved b → not (b == slash) ≡ true
+not_slash b passes = grind (arith, nat_tests)
+
+without_slash : (bytes : List ℕ) → list_all is_unreserved bytes ≡ true → IsTrue (lacks slash bytes)
+without_slash [] all = refl
+without_slash (b ∷ bytes) all =
+    let parts = and_parts (is_unreserved b) (list_all is_unreserved bytes) all in rw (not_slash b parts.0) (without_slash bytes parts.1)
+
+kept_chars : (bytes : List ℕ) → list_all is_unreserved bytes ≡ true → chars bytes ≡ bytes
+kept_chars bytes all = chars-IsAscii bytes (IsAscii-from_all bytes (All-weaker (Passes is_unreserved) (λ b. b < 128) unreserved_ascii bytes (All_from_list_all is_unreserved bytes all)))
+
+pub kept_segment : (bytes : List ℕ) → list_all is_unreserved bytes ≡ true → IsTrue (lacks slash (chars bytes))
+kept_segment bytes all = subst (λ text. IsTrue (lacks slash text)) (sym (kept_chars bytes all)) (without_slash bytes all)
+
+pub kept_some : (bytes : List ℕ) → list_all is_unreserved bytes ≡ true → (length bytes == 0) ≡ false → chars bytes ≢ []
+kept_some bytes all some none = let empty = ap length (sym (kept_chars bytes all) ∙ none) in grind (arith, nat_tests)

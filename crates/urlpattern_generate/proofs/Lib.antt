@@ -2,6 +2,7 @@ pub mod AskedLemmas
 pub mod GeneratingLemmas
 pub mod GivenLemmas
 pub mod KeptValues
+pub mod NamedReadings
 pub mod PlainReadings
 pub mod SameCaptures
 pub mod SetTexts

@@ -6,19 +6,19 @@ use Rattle.std.proofs.lemmas.List.Elements.{All-weaker}
 use Rattle.std.proofs.lemmas.List.{append-nil}
 use Rattle.std.proofs.lemmas.Str.{chars-IsAscii, encodes-IsAscii, encodes-chars}
 use Rattle.std.proofs.lemmas.Str.Ascii.{IsAscii-from_all}
-use Rattle.std.specs.Borrow.{Bor}
 use Rattle.std.specs.Fmt.{digits}
 use Rattle.std.specs.List.{list_all}
-use Rattle.std.specs.Prelude.{IsAscii, IsTrue, Option, codes, encode_utf8_all, is_some, not}
+use Rattle.std.specs.Prelude.{IsAscii, IsTrue, Option, codes, encode_utf8_all, unwrap_or}
 use Rattle.std.specs.Str.{IsUtf8, chars}
 use Rattle.std.specs.declared.alloc.Global.{Global}
 use Rattle.url.proofs.InputLemmas.{All_from_list_all, Passes}
+use Rattle.url.specs.Parser.{Parsed}
 use Rattle.urlpattern_eight.specs.declared.eight.ComponentName.{ComponentName}
 use Rattle.urlpattern_eight.specs.declared.eight.ComponentName.TheVariants.{Protocol, Username, Password, Hostname, Port, Pathname, Search, Hash}
-use Rattle.urlpattern_generate.specs.Asked.{IsAskedBy, capture_not_given}
+use Rattle.urlpattern_generate.specs.Asked.{IsAskedBy}
 use Rattle.urlpattern_generate.specs.Generating.{AnswersOtherwise, AsksFor, IsAnswered, IsWrittenText, RefusesGroups}
-use Rattle.urlpattern_generate.specs.Manners.{WritingManner, options_for, unchanged}
-use Rattle.urlpattern_generate.specs.PlainPatterns.{IsOpen, is_plain_character}
+use Rattle.urlpattern_generate.specs.Manners.{WritingManner, canonical_for, options_for, unchanged}
+use Rattle.urlpattern_generate.specs.PlainPatterns.{is_plain_character}
 use Rattle.urlpattern_generate.specs.declared.error.GenerateError.TheVariants.{ReadOtherwise}
 use Rattle.urlpattern_init.proofs.PlainTexts.{letters, plain_pieces, plain_pieces_are, plain_tokens}
 use Rattle.urlpattern_links.specs.Links.{OfEachGroup, text_of_parts}
@@ -34,7 +34,7 @@ use Rattle.urlpattern_syntax.specs.Parts.{PartView, fixed_text}
 use Rattle.urlpattern_syntax.specs.Pieces.{Anything, ArePieces, Bare, Piece, Stops}
 use Rattle.urlpattern_syntax.specs.Reading.{AreMet, AreParts, Reads, capture_part, demands, items_of, kind_of, value_of, with_text}
 use Rattle.urlpattern_syntax.specs.RegexpText.{escaped, full_wildcard}
-use Rattle.urlpattern_syntax.specs.Text.{option_text, text_of}
+use Rattle.urlpattern_syntax.specs.Text.{lacks, line_feed, text_of}
 use Rattle.urlpattern_syntax.specs.Tokens.{AreTokens, TokenView, end_of}
 use Rattle.urlpattern_syntax.specs.declared.parser.PartModifier.TheVariants as modifiers
 use Rattle.urlpattern_syntax.specs.declared.parser.PartType.{PartType}
@@ -42,7 +42,7 @@ use Rattle.urlpattern_syntax.specs.declared.parser.PartType.TheVariants.{FullWil
 use Rattle.urlpattern_syntax.specs.declared.tokenizer.TokenType.TheVariants.{Asterisk, End}
 
 -- a text is kept, as there is a `String` of it
-kept : (text : List ℕ) (string : String Global) → text_of string ≡ text → unchanged text (Ok text)
+pub kept : (text : List ℕ) (string : String Global) → text_of string ≡ text → unchanged text (Ok text)
 kept text string e = (Ok string, sym (text_bytes string) ∙ ap encode_utf8_all e, ap Ok (sym e))
 
 -- ---- what a matcher answers
@@ -137,26 +137,36 @@ module _ {E : Type 0} (answer : E → List ℕ → Option Captures) (matcher : M
     inr (plain_parts (text_of pattern), [], bytes, plain_asks manner (text_of pattern) pattern plain refl, e ∙ plain_text (text_of pattern), inl otherwise),
   )
 
--- ---- an asterisk
+-- ---- an asterisk alone
 
 star : chars (codes "*") ≡ codes "*"
 unfolding chars
 star = refl
 
-pub zero : chars (codes "0") ≡ codes "0"
+zero : chars (codes "0") ≡ codes "0"
 unfolding chars
 zero = refl
 
--- whether a text is an asterisk and nothing is given for it, by two tests
-pub both_tested : (pattern : List ℕ) (found : Option (Bor (List ℕ))) (given : Option (List ℕ)) (none : Bool) → chars pattern ≡ chars (codes "*") → option_text found ≡ given →
-    is_some found ≡ not none → IsTrue none ↔ ((chars pattern ≡ codes "*") × (given ≡ None))
-both_tested pattern None given true e is test = (λ t. (e ∙ star, sym is), λ both. refl)
-both_tested pattern None given false e is test = absurd (false≢true test)
-both_tested pattern (Some text) given true e is test = absurd (false≢true (sym test))
-both_tested pattern (Some text) given false e is test = (λ t. absurd (false≢true t), λ both. absurd (let no = is ∙ both.1 in cc))
+-- it is one by the test
+pub is_asterisk : (pattern : List ℕ) (same : Bool) → IsTrue same ↔ (chars pattern ≡ chars (codes "*")) → same ≡ true → chars pattern ≡ codes "*"
+is_asterisk pattern same test e = test.0 e ∙ star
 
-pub other_tested : (pattern : List ℕ) (given : Option (List ℕ)) (same : Bool) → IsTrue same ↔ (chars pattern ≡ chars (codes "*")) → same ≡ false → IsTrue same ↔ ((chars pattern ≡ codes "*") × (given ≡ None))
-other_tested pattern given same test e = (λ t. absurd (false≢true (sym e ∙ t)), λ both. test.1 (both.0 ∙ sym star))
+-- what is given for it, or the empty text
+pub given_some : (given : (name : List ℕ) → Option (List ℕ)) (text : List ℕ) → Some text ≡ given (chars (codes "0")) → text ≡ unwrap_or (given (codes "0")) []
+given_some given text is = ap (λ of. unwrap_or of []) (is ∙ ap given zero)
+
+pub given_none : (given : (name : List ℕ) → Option (List ℕ)) → None ≡ given (chars (codes "0")) → chars [] ≡ unwrap_or (given (codes "0")) []
+unfolding chars
+given_none given is = ap (λ of. unwrap_or of []) (is ∙ ap given zero)
+
+-- whether nothing is given for it, by two tests
+pub both_tested : (pattern text given : List ℕ) (none : Bool) → chars pattern ≡ chars (codes "*") → text ≡ given → IsTrue none ↔ (text ≡ chars []) →
+    IsTrue none ↔ ((chars pattern ≡ codes "*") × (given ≡ []))
+unfolding chars
+both_tested pattern text given none e is test = ((λ t. (e ∙ star, sym is ∙ test.0 t)), λ both. test.1 (is ∙ both.1))
+
+pub other_tested : (pattern given : List ℕ) (same : Bool) → IsTrue same ↔ (chars pattern ≡ chars (codes "*")) → same ≡ false → IsTrue same ↔ ((chars pattern ≡ codes "*") × (given ≡ []))
+other_tested pattern given same test e = ((λ t. absurd (false≢true (sym e ∙ t))), λ both. test.1 (both.0 ∙ sym star))
 
 -- a full wildcard without a name
 abbrev anything : List PartView
@@ -204,29 +214,45 @@ asterisk_reads options empty kind e =
     let made : AreParts options unchanged (items_of asterisk_pieces) anything = ([], [], [], asterisk_part options kind, kept [] empty e, kept [] empty e, refl) in
     read_by asterisk_pieces (token End 1 []) asterisk_tokens (asterisk_cut options.prefix) met made
 
-asterisk_asks : (component : ComponentName) (hierarchical : Bool) (manner : WritingManner) (pattern : List ℕ) (empty : String Global) → manner.options ≡ options_for component hierarchical →
-    IsOpen manner pattern → text_of empty ≡ [] → AsksFor manner pattern anything (Some [] ∷ [])
-asterisk_asks component hierarchical manner pattern empty options asked e = record {
-  reads = subst (λ text. Reads text manner.options unchanged anything) (sym asked.0)
-      (asterisk_reads manner.options empty (ap (λ (of : OptionsView). kind_of of full_wildcard) options ∙ wildcard_kind component hierarchical) e);
-  are_asked = (
-    subst (λ given. IsAskedBy manner.canonical given (group FullWildcard [] (codes "0") [] modifiers.None) (Some [])) (sym asked.1) refl,
-    refl,
-  );
-}
+-- the empty text is canonical
+pub empty_canonical : (component : ComponentName) (hierarchical is_ipv6 : Bool) → canonical_for component hierarchical is_ipv6 [] ≡ Ok []
+empty_canonical Protocol hierarchical is_ipv6 = refl
+empty_canonical Username hierarchical is_ipv6 = refl
+empty_canonical Password hierarchical is_ipv6 = refl
+empty_canonical Hostname hierarchical true = refl
+empty_canonical Hostname hierarchical false = refl
+empty_canonical Port hierarchical is_ipv6 = refl
+empty_canonical Pathname true is_ipv6 = refl
+empty_canonical Pathname false is_ipv6 = refl
+empty_canonical Search hierarchical is_ipv6 = refl
+empty_canonical Hash hierarchical is_ipv6 = refl
+
+-- it is to capture what is given, if that is canonical
+asterisk_asked : (canonical : List ℕ → Parsed (List ℕ)) (given : Option (List ℕ)) (text : List ℕ) → text ≡ unwrap_or given [] → canonical text ≡ Ok text →
+    IsAskedBy canonical given (group FullWildcard [] (codes "0") [] modifiers.None) (Some text)
+asterisk_asked canonical None text e is = ap (λ of. Some of) e
+asterisk_asked canonical (Some of) text e is = (text, ap canonical (sym e) ∙ is, refl)
 
 module _ {E : Type 0} (answer : E → List ℕ → Option Captures) (matcher : MatcherView E) (component : ComponentName) (hierarchical : Bool) (manner : WritingManner) (pattern : List ℕ)
-    (options : manner.options ≡ options_for component hierarchical) (asked : IsOpen manner pattern) (empty : String Global) (e : text_of empty ≡ []) where
-  pub open_written : Answers answer matcher [] (Some (Some [] ∷ [])) → IsWrittenText answer matcher manner pattern []
-  open_written answers = record {
+    (options : manner.options ≡ options_for component hierarchical) (is : pattern ≡ codes "*") (text : List ℕ) (given : text ≡ unwrap_or (manner.given (codes "0")) [])
+    (canonical : manner.canonical text ≡ Ok text) (empty : String Global) (e : text_of empty ≡ []) where
+  asterisk_asks : AsksFor manner pattern anything (Some text ∷ [])
+  asterisk_asks = record {
+    reads = subst (λ of. Reads of manner.options unchanged anything) (sym is)
+        (asterisk_reads manner.options empty (ap (λ (of : OptionsView). kind_of of full_wildcard) options ∙ wildcard_kind component hierarchical) e);
+    are_asked = (asterisk_asked manner.canonical (manner.given (codes "0")) text given canonical, refl);
+  }
+
+  pub whole_written : IsTrue (lacks line_feed text) → Answers answer matcher text (Some (Some text ∷ [])) → IsWrittenText answer matcher manner pattern text
+  whole_written line answers = record {
     parts = anything;
-    captures = Some [] ∷ [];
-    is_asked = asterisk_asks component hierarchical manner pattern empty options asked e;
-    may_capture = (inr (0, refl, refl), refl);
-    is_written = refl;
+    captures = Some text ∷ [];
+    is_asked = asterisk_asks;
+    may_capture = (inr (0, refl, line), refl);
+    is_written = sym (append-nil text) ∙ sym (append-nil (text ++ []));
     is_matched = answers;
   }
 
-  pub open_refused : (bytes : List ℕ) → chars bytes ≡ [] → AnswersOtherwise answer matcher (chars bytes) (Some [] ∷ []) → RefusesGroups answer matcher component manner pattern (ReadOtherwise component)
-  open_refused bytes none otherwise =
-      (refl, inr (anything, Some [] ∷ [], bytes, asterisk_asks component hierarchical manner pattern empty options asked e, none, inl otherwise))
+  pub whole_refused : (bytes : List ℕ) → chars bytes ≡ text → AnswersOtherwise answer matcher (chars bytes) (Some text ∷ []) → RefusesGroups answer matcher component manner pattern (ReadOtherwise component)
+  whole_refused bytes same otherwise =
+      (refl, inr (anything, Some text ∷ [], bytes, asterisk_asks, same ∙ sym (append-nil text) ∙ sym (append-nil (text ++ [])), inl otherwise))

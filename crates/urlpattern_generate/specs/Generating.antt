@@ -58,7 +58,11 @@ pub record IsTextWithGroups {E : Type 0} (answer : E → List ℕ → Option Cap
   pub is_written : text ≡ text_of_parts parts captures
   pub is_read_back : IsReadWith answer matcher manner.canonical text captures
 
--- The same of a text that need not be canonical.
+-- the text is such a one if it is canonical
+abbrev pub IsDraft : {E : Type 0} → (answer : E → List ℕ → Option Captures) → MatcherView E → WritingManner → (pattern text : List ℕ) → Type 0
+IsDraft answer matcher manner pattern text = manner.canonical text ≡ Ok text → IsTextWithGroups answer matcher manner pattern text
+
+-- The text is that of the parts, and is matched with what is asked for. It need not be canonical.
 pub record IsWrittenText {E : Type 0} (answer : E → List ℕ → Option Captures) (matcher : MatcherView E) (manner : WritingManner) (pattern text : List ℕ) : Type 0 where
   pub parts : List PartView
   pub captures : Captures
@@ -101,11 +105,11 @@ HasText answer component name hierarchical groups text =
     let view = component_view component in
     IsTextWithGroups answer view.matcher (manner_for name hierarchical view.pattern_string groups) view.pattern_string text
 
--- the same, where the text need not be canonical
-abbrev pub HasWrittenText : {E : Type 0} → (answer : E → List ℕ → Option Captures) → Component E → ComponentName → (hierarchical : Bool) → List GivenView → (text : List ℕ) → Type 0
-HasWrittenText answer component name hierarchical groups text =
+-- it is if it is canonical
+abbrev pub HasDraft : {E : Type 0} → (answer : E → List ℕ → Option Captures) → Component E → ComponentName → (hierarchical : Bool) → List GivenView → (text : List ℕ) → Type 0
+HasDraft answer component name hierarchical groups text =
     let view = component_view component in
-    IsWrittenText answer view.matcher (manner_for name hierarchical view.pattern_string groups) view.pattern_string text
+    IsDraft answer view.matcher (manner_for name hierarchical view.pattern_string groups) view.pattern_string text
 
 -- why it has none: the error
 abbrev pub LacksText : {E : Type 0} → (answer : E → List ℕ → Option Captures) → Component E → ComponentName → (hierarchical : Bool) → List GivenView → GenerateError → Type 0

@@ -4,7 +4,7 @@ use Rattle.std.specs.declared.alloc.Global.{Global}
 use Rattle.urlpattern_core.specs.Components.{component_view}
 use Rattle.urlpattern_core.specs.declared.component.Component.{Component}
 use Rattle.urlpattern_generate.specs.Asked.{AreAsked, RefusesGiven, RefusesSomeGiven}
-use Rattle.urlpattern_generate.specs.Generating.{AsksFor, IsTextWithGroups, IsWrittenText, RefusesGroups}
+use Rattle.urlpattern_generate.specs.Generating.{AsksFor, IsDraft, IsTextWithGroups, IsWrittenText, RefusesGroups}
 use Rattle.urlpattern_generate.specs.Manners.{WritingManner, canonical_for, given_groups, text_given, options_for, unchanged}
 use Rattle.urlpattern_generate.specs.declared.error.GenerateError.{GenerateError}
 use Rattle.urlpattern_generate.specs.declared.error.GenerateError.TheVariants.{Missing, NotCaptured, ReadOtherwise, OutOfMemory}
@@ -38,6 +38,11 @@ Writes answer component writer text =
 abbrev pub WritesCanonical : {E : Type 0} → (answer : E → List ℕ → Option Captures) → Component E → Writer → (text : List ℕ) → Type 0
 WritesCanonical answer component writer text =
     let view = component_view component in IsTextWithGroups answer view.matcher (manner_of_writer writer) view.pattern_string text
+
+-- the text is such a one if it is canonical
+abbrev pub Drafts : {E : Type 0} → (answer : E → List ℕ → Option Captures) → Component E → Writer → (text : List ℕ) → Type 0
+Drafts answer component writer text =
+    let view = component_view component in IsDraft answer view.matcher (manner_of_writer writer) view.pattern_string text
 
 -- why it writes none: the error
 abbrev pub CannotWrite : {E : Type 0} → (answer : E → List ℕ → Option Captures) → Component E → Writer → GenerateError → Type 0

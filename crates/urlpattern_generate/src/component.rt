@@ -1,9 +1,9 @@
 //! The text of a component.
 
 ghost use Rattle.std.specs.Prelude.{◌≡◌, IfErr, IfOk};
-ghost use Rattle.urlpattern_generate.specs.Generating.{HasText, HasWrittenText, LacksText};
+ghost use Rattle.urlpattern_generate.specs.Generating.{HasDraft, HasText, LacksText};
 ghost use Rattle.urlpattern_generate.specs.Manners.{given_groups, unchanged};
-ghost use Rattle.urlpattern_generate.specs.Writers.{Asks, CannotWrite, Writes, WritesCanonical, manner_of_writer};
+ghost use Rattle.urlpattern_generate.specs.Writers.{Asks, CannotWrite, Drafts, Writes, WritesCanonical, manner_of_writer};
 ghost use Rattle.urlpattern_links.specs.Refused.{given_captures};
 ghost use Rattle.urlpattern_syntax.specs.{Options.options_view, Parts.parts_view, Reading.Reads, Text.text_of};
 
@@ -38,21 +38,21 @@ pub fn generate_component<R: RegExp>(
     writer.canonical_text(component)
 }
 
-/// The same, where the text need not be canonical.
+/// A draft of that text: it is the text if it is canonical.
 ///
 /// Of a URL with eight such texts none has to be looked at again, if they are canonical in any URL of its kind.
-pub fn write_component<R: RegExp>(
+pub fn draft_component<R: RegExp>(
     alloc: Global,
     component: &Component<R>,
     name: ComponentName,
     hierarchical: bool,
     groups: &[GivenGroup<'_>],
 ) -> Result<String, GenerateError>
-    ensures written { IfOk result (λ text. HasWrittenText R.answer component.now name hierarchical (given_groups groups.now) (text_of text)) }
+    ensures drafted { IfOk result (λ text. HasDraft R.answer component.now name hierarchical (given_groups groups.now) (text_of text)) }
     ensures refused { IfErr result (LacksText R.answer component.now name hierarchical (given_groups groups.now)) }
 {
     let writer = Writer::new(alloc, &component.pattern_string, name, hierarchical, groups);
-    writer.text(component)
+    writer.draft(component)
 }
 
 impl Writer<'_> {
@@ -69,6 +69,20 @@ impl Writer<'_> {
             Ok(text)
         } else {
             Err(GenerateError::ReadOtherwise(self.component))
+        }
+    }
+
+    /// A draft of the text of a component.
+    fn draft<R: RegExp>(&self, component: &Component<R>) -> Result<String, GenerateError>
+        ensures drafted { IfOk result (λ text. Drafts R.answer component.now self.now (text_of text)) }
+        ensures refused { IfErr result (CannotWrite R.answer component.now self.now) }
+    {
+        if let Some(text) = self.whole_draft(component)? {
+            return Ok(text);
+        }
+        match self.named_draft(component)? {
+            Some(text) => Ok(text),
+            None => self.text(component),
         }
     }
 

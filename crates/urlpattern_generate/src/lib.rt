@@ -5,12 +5,13 @@ mod captures;
 mod component;
 mod error;
 mod groups;
+mod named;
 mod plain;
 mod read_back;
 mod unreserved;
 mod writer;
 
-pub use component::{generate_component, write_component};
+pub use component::{draft_component, generate_component};
 pub use error::GenerateError;
 pub use groups::GivenGroup;
 pub use writer::begins_ipv6;

@@ -1,15 +1,17 @@
-//! Pattern texts that need no parser: plain texts, and an asterisk for which nothing is given.
+//! Pattern texts that need no parser: plain texts, and an asterisk alone.
 
 ghost use Rattle.std.specs.List.{list_all};
-ghost use Rattle.std.specs.Prelude.{◌≡◌, ◌↔◌, codes, IfErr, IfOk, IsTrue};
+ghost use Rattle.std.specs.Prelude.{◌≡◌, ◌↔◌, [], codes, IfErr, IfOk, IfSome, IsTrue, unwrap_or};
 ghost use Rattle.std.specs.Str.{chars};
 ghost use Rattle.urlpattern_generate.specs.PlainPatterns.{IsOpen, is_plain_character};
-ghost use Rattle.urlpattern_generate.specs.Writers.{CannotWrite, Writes, manner_of_writer};
+ghost use Rattle.urlpattern_generate.specs.Writers.{CannotWrite, Drafts, Writes, manner_of_writer};
 ghost use Rattle.urlpattern_syntax.specs.Text.{text_of};
 
 use crate::error::GenerateError;
 use crate::groups::{given_text, is_same_text};
+use crate::read_back::is_captured;
 use crate::writer::Writer;
+use std::alloc::AllocError;
 use urlpattern_core::component::Component;
 use urlpattern_core::regexp::RegExp;
 
@@ -32,7 +34,29 @@ impl Writer<'_> {
         }
     }
 
-    /// The text of a component whose pattern text is an asterisk for which nothing is given: the empty text.
+    /// A draft of the text of a component whose pattern text is an asterisk: what is given for it, as it is.
+    ///
+    /// `None`: the pattern text is another, or the component does not capture the whole of this text. The error is that memory ran
+    /// out.
+    pub(crate) fn whole_draft<R: RegExp>(
+        &self,
+        component: &Component<R>,
+    ) -> Result<Option<String>, AllocError>
+        ensures { IfOk result (λ draft. IfSome draft (λ text. Drafts R.answer component.now self.now (text_of text))) }
+    {
+        if !is_same_text(&component.pattern_string, "*") {
+            return Ok(None);
+        }
+        let given = self.given_alone();
+        if given.contains('\n') || !is_captured(&component.matcher, given, given) {
+            return Ok(None);
+        }
+        let mut text = String::new(self.alloc);
+        text.push_str(given)?;
+        Ok(Some(text))
+    }
+
+    /// The text of a component whose pattern text is an asterisk for which no text is given, or an empty one: the empty text.
     pub(crate) fn open_text<R: RegExp>(
         &self,
         component: &Component<R>,
@@ -50,11 +74,21 @@ impl Writer<'_> {
         }
     }
 
-    /// Whether a pattern text is an asterisk for which nothing is given.
+    /// Whether a pattern text is an asterisk for which no text is given, or an empty one.
     pub(crate) fn is_open(&self, pattern: &str) -> bool
         ensures { IsTrue result ↔ IsOpen (manner_of_writer self.now) (chars pattern.now) }
     {
-        is_same_text(pattern, "*") && given_text(self.groups, self.component, "0").is_none()
+        is_same_text(pattern, "*") && is_same_text(self.given_alone(), "")
+    }
+
+    /// What is given for an asterisk alone, or the empty text.
+    fn given_alone(&self) -> &str
+        ensures { chars result.now ≡ unwrap_or ((manner_of_writer self.now).given (codes "0")) [] }
+    {
+        match given_text(self.groups, self.component, "0") {
+            Some(text) => text,
+            None => "",
+        }
     }
 }
 

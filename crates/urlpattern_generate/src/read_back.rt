@@ -1,9 +1,9 @@
 //! Whether a text is read back as it was meant.
 
-ghost use Rattle.std.specs.Prelude.{◌≡◌, ◌↔◌, Some, IfOk, IsTrue, map};
+ghost use Rattle.std.specs.Prelude.{◌≡◌, ◌↔◌, ◌∷◌, [], Some, IfOk, IsTrue, map};
 ghost use Rattle.std.specs.Str.{chars};
 ghost use Rattle.urlpattern_core.specs.Matchers.{matcher_view};
-ghost use Rattle.urlpattern_meaning.specs.CaptureTexts.{captures_view};
+ghost use Rattle.urlpattern_meaning.specs.{CaptureTexts.captures_view, Matching.Answers};
 ghost use Rattle.urlpattern_generate.specs.Generating.{IsAnswered, TellsCanonical};
 ghost use Rattle.urlpattern_generate.specs.Writers.{manner_of_writer};
 ghost use Rattle.urlpattern_links.specs.Refused.{given_captures};
@@ -12,7 +12,7 @@ ghost use Rattle.urlpattern_syntax.specs.Text.{option_text};
 use crate::groups::is_same_text;
 use crate::writer::Writer;
 use std::alloc::AllocError;
-use urlpattern_core::matcher::Matcher;
+use urlpattern_core::matcher::{Look, Matcher};
 use urlpattern_core::regexp::RegExp;
 use urlpattern_syntax::Error;
 
@@ -41,6 +41,16 @@ impl Writer<'_> {
             Err(Error::OutOfMemory) => Err(AllocError),
             Err(_) => Ok(false),
         }
+    }
+}
+
+/// Whether a matcher takes a text, and its one group captures this.
+pub(crate) fn is_captured<R: RegExp>(matcher: &Matcher<R>, text: &str, value: &str) -> bool
+    ensures { IsTrue result → Answers R.answer (matcher_view matcher.now) (chars text.now) (Some (Some (chars value.now) ∷ [])) }
+{
+    match matcher.look(text) {
+        Some(Look::Captured(captured)) => is_same_text(captured, value),
+        _ => false,
     }
 }
 

@@ -10,3 +10,5 @@ pub mod AskedCaptures
 pub mod LinkedTexts
 pub mod GivenGroups
 pub mod MatchedTexts
+pub mod ReadTexts
+pub mod UsersExample

@@ -6,13 +6,12 @@ use Rattle.std.specs.Result.{result_ok}
 use Rattle.std.specs.declared.alloc.Global.{Global}
 use Rattle.url.specs.Parts.{Parts}
 use Rattle.urlpattern_create.specs.Compiled.{IsPathKind}
-use Rattle.urlpattern_generate.proofs.GeneratingLemmas.{canonical_written}
-use Rattle.urlpattern_generate.specs.Manners.{GivenView, begins_ipv6, canonical_for, manner_for}
+use Rattle.urlpattern_generate.specs.Manners.{GivenView, begins_ipv6, canonical_for}
 use Rattle.urlpattern_init.specs.Inheritance.{texts_of_url, url_text}
 use Rattle.urlpattern_init.specs.declared.init.UrlPatternMatchInput.TheVariants as inputs
 use Rattle.urlpattern_meaning.specs.PartMeaning.{Captures}
 use Rattle.urlpattern_pattern.specs.GeneratedTexts.{printed_values}
-use Rattle.urlpattern_pattern.specs.LinkedUrls.{GeneratesTexts, IsLink, RefusesLink, WritesText, WritesTexts}
+use Rattle.urlpattern_pattern.specs.LinkedUrls.{DraftsText, DraftsTexts, GeneratesTexts, IsLink, RefusesLink}
 use Rattle.urlpattern_pattern.specs.Match.{HasMatch}
 use Rattle.urlpattern_pattern.specs.Patterns.{PatternView}
 use Rattle.urlpattern_eight.proofs.EightLemmas.{at-each}
@@ -64,29 +63,28 @@ module _ {E : Type 0} (answer : E → List ℕ → Option Captures) (pattern : P
   linked texts (Ok url) generated has = subst (λ (of : Texts). GeneratesTexts answer pattern groups of) (sym has) generated
   linked texts (Err error) generated has = tt
 
-  -- what is written for each component, where an error is left out
-  pub written_texts : {F : Type 0} (result : Result (Eight (String Global)) F) (found : Option (Eight (String Global))) → found ≡ result_ok result →
+  -- the drafts of the components, where an error is left out
+  pub drafted_texts : {F : Type 0} (result : Result (Eight (String Global)) F) (found : Option (Eight (String Global))) → found ≡ result_ok result →
       IsPathKind answer (printed_values pattern) (pattern Protocol).matcher true →
-      IfOk result (λ texts. (name : ComponentName) → WritesText answer pattern groups name (at (string_texts texts) name)) → IfSome found (λ texts. WritesTexts answer pattern groups (string_texts texts))
-  written_texts result None same kind written = tt
-  written_texts (Ok texts) (Some found) same kind written =
+      IfOk result (λ texts. (name : ComponentName) → DraftsText answer pattern groups name (at (string_texts texts) name)) → IfSome found (λ texts. DraftsTexts answer pattern groups (string_texts texts))
+  drafted_texts result None same kind drafted = tt
+  drafted_texts (Ok texts) (Some found) same kind drafted =
       let e : texts ≡ found = (let other = sym same in cc) in
-      (kind, subst (λ of. (name : ComponentName) → WritesText answer pattern groups name (at (string_texts of) name)) e written)
-  written_texts (Err error) (Some found) same kind written = absurd cc
+      (kind, subst (λ of. (name : ComponentName) → DraftsText answer pattern groups name (at (string_texts of) name)) e drafted)
+  drafted_texts (Err error) (Some found) same kind drafted = absurd cc
 
-  -- the texts of a URL of the web, where each is written for its component
-  web_linked : (url : Parts) → IsWebUrl url → begins_ipv6 (pattern Hostname).pattern_string ≡ false → WritesTexts answer pattern groups (texts_of_url url) → IsLink answer pattern groups url
-  web_linked url web no_address written component =
-      let view = pattern component in (
-        true,
-        written.0,
-        canonical_written answer view.matcher (manner_for component true view.pattern_string groups) view.pattern_string (at (texts_of_url url) component) (written.1 component)
-            (canonical_under (λ name. (pattern name).pattern_string) no_address component (at (texts_of_url url) component)
-            (subst (λ text. canonical_for component true false text ≡ Ok text) (sym (at-each (λ name. url_text name url) component)) (texts_are_canonical url web component))),
-      )
+  -- the texts of a URL of the web, where each is a draft
+  web_linked : (url : Parts) → IsWebUrl url → begins_ipv6 (pattern Hostname).pattern_string ≡ false → DraftsTexts answer pattern groups (texts_of_url url) → IsLink answer pattern groups url
+  web_linked url web no_address drafted component = (
+    true,
+    drafted.0,
+    drafted.1 component
+        (canonical_under (λ name. (pattern name).pattern_string) no_address component (at (texts_of_url url) component)
+        (subst (λ text. canonical_for component true false text ≡ Ok text) (sym (at-each (λ name. url_text name url) component)) (texts_are_canonical url web component))),
+  )
 
-  pub web_link : (url : Parts) (texts : Texts) → IsWebUrl url → begins_ipv6 (pattern Hostname).pattern_string ≡ false → WritesTexts answer pattern groups texts → texts_of_url url ≡ texts → IsLink answer pattern groups url
-  web_link url texts web no_address written has = web_linked url web no_address (subst (λ (of : Texts). WritesTexts answer pattern groups of) (sym has) written)
+  pub web_link : (url : Parts) (texts : Texts) → IsWebUrl url → begins_ipv6 (pattern Hostname).pattern_string ≡ false → DraftsTexts answer pattern groups texts → texts_of_url url ≡ texts → IsLink answer pattern groups url
+  web_link url texts web no_address drafted has = web_linked url web no_address (subst (λ (of : Texts). DraftsTexts answer pattern groups of) (sym has) drafted)
 
   -- what is linked is matched
   matched : (url : Parts) → IsLink answer pattern groups url → HasMatch answer pattern (inputs.Url url)

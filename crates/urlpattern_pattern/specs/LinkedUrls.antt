@@ -3,7 +3,7 @@ use Rattle.std.specs.Prelude.{◌≢◌, ℕ, true, List, MatchResult, Option, R
 use Rattle.std.specs.declared.alloc.Global.{Global}
 use Rattle.url.specs.Parts.{Parts}
 use Rattle.urlpattern_create.specs.Compiled.{IsPathKind}
-use Rattle.urlpattern_generate.specs.Generating.{IsWrittenText}
+use Rattle.urlpattern_generate.specs.Generating.{IsDraft}
 use Rattle.urlpattern_generate.specs.Manners.{GivenView, manner_for}
 use Rattle.urlpattern_generate.specs.declared.error.GenerateError.{GenerateError}
 use Rattle.urlpattern_generate.specs.declared.error.GenerateError.TheVariants as generating
@@ -27,16 +27,16 @@ GeneratesTexts answer pattern groups texts = (component : ComponentName) → Gen
 abbrev pub IsLink : {E : Type 0} → (answer : E → List ℕ → Option Captures) → PatternView E → List GivenView → Parts → Type 0
 IsLink answer pattern groups url = GeneratesTexts answer pattern groups (texts_of_url url)
 
--- the text is written for its component with these groups, where the pathname is hierarchical; it need not be canonical
-abbrev pub WritesText : {E : Type 0} → (answer : E → List ℕ → Option Captures) → PatternView E → List GivenView → ComponentName → (text : List ℕ) → Type 0
-WritesText answer pattern groups component text =
-    let view = pattern component in IsWrittenText answer view.matcher (manner_for component true view.pattern_string groups) view.pattern_string text
+-- the text is that of its component with these groups if it is canonical, where the pathname is hierarchical
+abbrev pub DraftsText : {E : Type 0} → (answer : E → List ℕ → Option Captures) → PatternView E → List GivenView → ComponentName → (text : List ℕ) → Type 0
+DraftsText answer pattern groups component text =
+    let view = pattern component in IsDraft answer view.matcher (manner_for component true view.pattern_string groups) view.pattern_string text
 
--- the pathname is hierarchical, and each text is written for its component
-abbrev pub WritesTexts : {E : Type 0} → (answer : E → List ℕ → Option Captures) → PatternView E → List GivenView → Texts → Type 0
-WritesTexts answer pattern groups texts =
+-- the pathname is hierarchical, and each text is such a draft
+abbrev pub DraftsTexts : {E : Type 0} → (answer : E → List ℕ → Option Captures) → PatternView E → List GivenView → Texts → Type 0
+DraftsTexts answer pattern groups texts =
     IsPathKind answer (printed_values pattern) (pattern Protocol).matcher true
-    × ((component : ComponentName) → WritesText answer pattern groups component (at texts component))
+    × ((component : ComponentName) → DraftsText answer pattern groups component (at texts component))
 
 -- a component is answered by its text, or by why it has none
 abbrev pub AnswersGroups : {E : Type 0} → (answer : E → List ℕ → Option Captures) → PatternView E → List GivenView → ComponentName → Result (String Global) GenerateError → Type 0

@@ -1,10 +1,13 @@
 //! The text of a URL, put together from the texts of its components.
 
-ghost use Rattle.std.specs.Prelude.{◌≡◌, IfOk, string_bytes};
+ghost use Rattle.std.specs.Prelude.{◌≡◌, ◌++◌, IfOk, OnOk, string_bytes};
 ghost use Rattle.urlpattern_url.specs.UrlLines.{authority_line, bytes_of_each, has_authority, marked, url_line, user_line};
 
 use std::alloc::{AllocError, Global};
 use urlpattern_eight::Eight;
+
+/// The bytes beside the path for which room is made at first, as many as most URLs have at most.
+const ROOM: usize = 64;
 
 /// The text of a URL with these texts.
 ///
@@ -12,25 +15,27 @@ use urlpattern_eight::Eight;
 pub(crate) fn url_line(alloc: Global, texts: &Eight<String>) -> Result<String, AllocError>
     ensures { IfOk result (λ line. string_bytes line ≡ url_line (bytes_of_each texts.now)) }
 {
-    let authority = authority_line(alloc, texts)?;
-    let search = marked(alloc, "?", &texts.search)?;
-    let hash = marked(alloc, "#", &texts.hash)?;
-    let protocol = &texts.protocol;
-    let pathname = &texts.pathname;
-    format!(in alloc; "{protocol}:{authority}{pathname}{search}{hash}")
+    let mut line = String::with_capacity(alloc, texts.pathname.len().saturating_add(ROOM))?;
+    line.push_str(&texts.protocol)?;
+    line.push_str(":")?;
+    push_authority(&mut line, texts)?;
+    line.push_str(&texts.pathname)?;
+    push_marked(&mut line, "?", &texts.search)?;
+    push_marked(&mut line, "#", &texts.hash)?;
+    Ok(line)
 }
 
-/// The two slashes, the user, the host and the port. It is empty where the URL needs no host.
-fn authority_line(alloc: Global, texts: &Eight<String>) -> Result<String, AllocError>
-    ensures { IfOk result (λ line. string_bytes line ≡ authority_line (bytes_of_each texts.now)) }
+/// Appends the two slashes, the user, the host and the port, if the URL has them.
+fn push_authority(line: &mut String, texts: &Eight<String>) -> Result<(), AllocError>
+    ensures { OnOk result (string_bytes line.new ≡ string_bytes line.old ++ authority_line (bytes_of_each texts.now)) }
 {
     if !has_authority(&texts.hostname, &texts.pathname) {
-        return Ok(String::new(alloc));
+        return Ok(());
     }
-    let user = user_line(alloc, &texts.username, &texts.password)?;
-    let port = marked(alloc, ":", &texts.port)?;
-    let hostname = &texts.hostname;
-    format!(in alloc; "//{user}{hostname}{port}")
+    line.push_str("//")?;
+    push_user(line, &texts.username, &texts.password)?;
+    line.push_str(&texts.hostname)?;
+    push_marked(line, ":", &texts.port)
 }
 
 /// Whether a URL has two slashes before its path: it has a host, or the path begins with two slashes itself.
@@ -40,23 +45,25 @@ fn has_authority(hostname: &str, pathname: &str) -> bool
     !hostname.is_empty() || matches!(pathname.as_bytes(), [b'/', b'/', ..])
 }
 
-/// The user name and the password. It is empty where both are.
-fn user_line(alloc: Global, username: &str, password: &str) -> Result<String, AllocError>
-    ensures { IfOk result (λ line. string_bytes line ≡ user_line username.now password.now) }
+/// Appends the user name and the password, unless both are empty.
+fn push_user(line: &mut String, username: &str, password: &str) -> Result<(), AllocError>
+    ensures { OnOk result (string_bytes line.new ≡ string_bytes line.old ++ user_line username.now password.now) }
 {
     if username.is_empty() && password.is_empty() {
-        return Ok(String::new(alloc));
+        return Ok(());
     }
-    let password = marked(alloc, ":", password)?;
-    format!(in alloc; "{username}{password}@")
+    line.push_str(username)?;
+    push_marked(line, ":", password)?;
+    line.push_str("@")
 }
 
-/// A text after its mark. It is empty where the text is.
-fn marked(alloc: Global, mark: &str, text: &str) -> Result<String, AllocError>
-    ensures { IfOk result (λ line. string_bytes line ≡ marked mark.now text.now) }
+/// Appends a text after its mark, unless the text is empty.
+fn push_marked(line: &mut String, mark: &str, text: &str) -> Result<(), AllocError>
+    ensures { OnOk result (string_bytes line.new ≡ string_bytes line.old ++ marked mark.now text.now) }
 {
     if text.is_empty() {
-        return Ok(String::new(alloc));
+        return Ok(());
     }
-    format!(in alloc; "{mark}{text}")
+    line.push_str(mark)?;
+    line.push_str(text)
 }

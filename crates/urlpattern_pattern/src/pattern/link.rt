@@ -2,7 +2,7 @@
 ghost use Rattle.std.specs.Prelude.{IfErr, IfOk, IfSome};
 ghost use Rattle.urlpattern_generate.specs.Manners.{given_groups};
 ghost use Rattle.urlpattern_init.specs.declared.init.UrlPatternMatchInput.TheVariants as inputs;
-ghost use Rattle.urlpattern_pattern.specs.LinkedUrls.{AnswersGroups, GeneratesTexts, IsLink, RefusesLink, WritesText, WritesTexts};
+ghost use Rattle.urlpattern_pattern.specs.LinkedUrls.{AnswersGroups, DraftsText, DraftsTexts, GeneratesTexts, IsLink, RefusesLink};
 ghost use Rattle.urlpattern_pattern.specs.Match.{HasMatch};
 ghost use Rattle.urlpattern_pattern.specs.Patterns.{pattern_view};
 ghost use Rattle.urlpattern_eight.specs.Eight.{IsFirstError};
@@ -14,7 +14,7 @@ use std::alloc::Global;
 use url::Url;
 use urlpattern_core::regexp::RegExp;
 use urlpattern_eight::{ComponentName, Eight};
-use urlpattern_generate::{GenerateError, GivenGroup, begins_ipv6, write_component};
+use urlpattern_generate::{GenerateError, GivenGroup, begins_ipv6, draft_component};
 use urlpattern_url::{NoLink, is_web_url, url_of_texts};
 
 impl<R: RegExp> UrlPattern<R> {
@@ -67,32 +67,33 @@ impl<R: RegExp> UrlPattern<R> {
         { self.generate(alloc, component, groups) };
         Eight::try_from_fn(text)
     }
-    /// The URL with these groups, if it is one of the web. The texts of such a URL are canonical, so that none of them is looked at.
+
+    /// The URL with these groups, if it is one of the web. The texts of such a URL are canonical, so that drafts of them are enough.
     ///
-    /// `None`: it is another, there is none, or memory ran out.
+    /// `None`: it is another, there is none, a group is given what is not canonical, or memory ran out.
     fn web_link(&self, alloc: Global, groups: &[GivenGroup<'_>]) -> Option<Url>
         ensures { IfSome result (IsLink R.answer (pattern_view self.now) (given_groups groups.now)) }
     {
         if begins_ipv6(&self.hostname.pattern_string) {
             return None;
         }
-        let texts = self.write_each(alloc, groups)?;
+        let texts = self.draft_each(alloc, groups)?;
         let Ok(url) = url_of_texts(alloc, &texts) else {
             return None;
         };
         if is_web_url(&url) { Some(url) } else { None }
     }
 
-    /// The texts of the components with these groups, where the pathname is hierarchical. They need not be canonical.
-    fn write_each(&self, alloc: Global, groups: &[GivenGroup<'_>]) -> Option<Eight<String>>
-        ensures { IfSome result (λ texts. WritesTexts R.answer (pattern_view self.now) (given_groups groups.now) (string_texts texts)) }
+    /// Drafts of the texts of the components with these groups, where the pathname is hierarchical.
+    fn draft_each(&self, alloc: Global, groups: &[GivenGroup<'_>]) -> Option<Eight<String>>
+        ensures { IfSome result (λ texts. DraftsTexts R.answer (pattern_view self.now) (given_groups groups.now) (string_texts texts)) }
     {
         let Ok(true) = self.has_hierarchical_path(alloc) else {
             return None;
         };
         let text = |component: ComponentName| -> Result<String, GenerateError>
-            ensures { IfOk result (λ text. WritesText R.answer (pattern_view self.entry.now) (given_groups groups.entry.now) component (text_of text)) }
-        { write_component(alloc, self.get(component), component, true, groups) };
+            ensures { IfOk result (λ text. DraftsText R.answer (pattern_view self.entry.now) (given_groups groups.entry.now) component (text_of text)) }
+        { draft_component(alloc, self.get(component), component, true, groups) };
         Eight::try_from_fn(text).ok()
     }
 }

@@ -13,6 +13,6 @@ returns-clause-answers c =
     (take_all _ (drop 2 words) (omega (arith, length-drop 2 words))) in
     let found = rw (c.deref.ensures, c.deref-2.ensures) at c.in_ok-lines.ensures.found in
     let base = base_of (string_bytes c.base-item.result) in
-    first_answers c.args.ignore_case words c.base-item.result c.input-item.result patterns are some _ _
-    (answers_match (IsFirstText c.args.ignore_case (words_view patterns) (string_bytes c.input-item.result) base) (IsUnmatchedByEach c.args.ignore_case (words_view patterns) (string_bytes c.input-item.result) base)
+    first_answers c.args.flags words c.base-item.result c.input-item.result patterns are some _ _
+    (answers_match c.args.flags.json (IsFirstText c.args.flags (words_view patterns) (string_bytes c.input-item.result) base) (IsUnmatchedByEach c.args.flags.ignore_case (words_view patterns) (string_bytes c.input-item.result) base)
     c.in_ok-lines.lines c.in_ok-answer_of.field-0 c.in_ok-answer_of.ensures found)

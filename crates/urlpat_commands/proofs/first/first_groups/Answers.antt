@@ -10,5 +10,5 @@ returns-clause-found c =
     let words = words_view c.args.patterns.now in
     let found = c.in_ok-answer.field-0 in
     let base = option_copied c.base_of-base.result in
-    subst (λ b. MatchOption found (IsUnmatchedByEach c.args.ignore_case words c.args.input.now b) (λ text. IsFirstText c.args.ignore_case words c.args.input.now b (string_bytes text))) c.base_of-base.ensures
-    (first_found_by c.args.ignore_case words c.args.input.now base (patterns_view c.in_ok-list.list) found c.in_ok-list.ensures.compiled c.in_ok-answer.ensures.found)
+    subst (λ b. MatchOption found (IsUnmatchedByEach c.args.flags.ignore_case words c.args.input.now b) (λ text. IsFirstText c.args.flags words c.args.input.now b (string_bytes text))) c.base_of-base.ensures
+    (first_found_by c.args.flags words c.args.input.now base (patterns_view c.in_ok-list.list) found c.in_ok-list.ensures.compiled c.in_ok-answer.ensures.found)

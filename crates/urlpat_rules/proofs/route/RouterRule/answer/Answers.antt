@@ -16,7 +16,7 @@ returns-in-Ok-Some c =
           is_url = rw c.in-Some.is at c.in-Ok.ensures.found;
           is_first = rw c.in-Ok-Some.field-0-is at c.in-Ok-Some.ensures.first;
           is_there = rw c.in-Ok-Some.field-0-is at c.in-Ok-Some.ensures.value;
-          is_row = is;
+          shows = is;
         },
         refl,
       ),

@@ -17,9 +17,6 @@ use denote.Steps.{nothing}
 use denote.Triple.Entry.{alive}
 use denote.Triple.Walked.{Stays, walk_of}
 use Rattle.std.proofs.raw_atomic.Walks.{proved_at, leaves}
-use Rattle.std.specs.contracts.alloc.Global as global
-use Rattle.std.proofs.alloc.Global.TheLaws as global_laws
-use Rattle.urlpattern_c.specs.contracts.kept.Kept as kept
 use Rattle.urlpattern_c.proofs.Values.{single, slot_good, slot_in}
 use Rattle.urlpattern_c.specs.contracts.slot.Slot.empty.{ended, clauses}
 use Rattle.urlpattern_c.specs.contracts.slot.Slot.empty.Key.{name as #self}

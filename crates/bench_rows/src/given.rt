@@ -1,0 +1,46 @@
+//! What a question gives, as the library reads it of JSON.
+
+use crate::recorded::{Fault, field, optional_text};
+use serde_json::Value;
+use std::alloc::Global;
+use std::borrow::CowStr;
+use url::{ParseError, Url};
+use urlpattern_core::Error;
+use urlpattern_inputs::{StringOrInit, UrlPatternInit, UrlPatternOptions};
+
+/// What is given: a text, or an init.
+pub fn input<'a>(alloc: Global, fields: &'a Value) -> Result<StringOrInit<'a>, Fault> {
+    // docs: given
+    if let Some(text) = optional_text(fields, "string") {
+        return Ok(StringOrInit::String(CowStr::Borrowed(text)));
+    }
+    let init = read(UrlPatternInit::from_json_value(alloc, field(fields, "init")?))?;
+    Ok(StringOrInit::Init(init))
+    // docs: end
+}
+
+/// The options that a question names, or the default ones.
+pub fn options(alloc: Global, question: &Value) -> Result<UrlPatternOptions, Fault> {
+    match question.get("options") {
+        Some(options) => read(UrlPatternOptions::from_json_value(alloc, options)),
+        None => Ok(UrlPatternOptions::default()),
+    }
+}
+
+/// The value that was read. A question has one.
+pub fn read<T: Drop>(found: Result<Option<T>, Error>) -> Result<T, Fault> {
+    match found {
+        Ok(Some(value)) => Ok(value),
+        Ok(None) => Err(Fault::NoCase),
+        Err(_) => Err(Fault::OutOfMemory),
+    }
+}
+
+/// The URL of a text.
+pub fn url(alloc: Global, text: &str) -> Result<Url, Error> {
+    match Url::parse(alloc, text) {
+        Ok(url) => Ok(url),
+        Err(ParseError::OutOfMemory) => Err(Error::OutOfMemory),
+        Err(error) => Err(Error::Url(error)),
+    }
+}

@@ -1,0 +1,163 @@
+//! The functions that C calls.
+ghost use Rattle.std.specs.Prelude.{◌≡◌, None};
+ghost use Rattle.urlpattern_c.specs.Handles.{patterns_in};
+ghost use Rattle.urlpattern_calls.specs.Calls.{IsAdded, IsFirstReported, IsTested, ReturnsStatus};
+ghost use Rattle.urlpattern_calls.specs.Mismatches.{IsCustomReported, IsMismatchReported};
+ghost use Rattle.urlpattern_calls.specs.Texts.{IsComponentWritten, IsDiagnosed, IsExecReported};
+
+use crate::patterns::Patterns;
+use std::alloc::Global;
+use urlpattern_calls::{
+    Place, add, diagnose, execute, first, has_regexp_groups, mismatch, test, write_component,
+};
+
+/// Compiles a constructor string, with a base URL unless that is empty, and appends the pattern.
+#[unsafe(no_mangle)]
+pub extern "C" fn urlpattern_add(
+    alloc: Global,
+    patterns: &mut Patterns,
+    text: &[u8],
+    base: &[u8],
+    ignore_case: bool,
+) -> u32
+    ensures { ReturnsStatus (IsAdded (patterns_in patterns.old) text.now base.now ignore_case (patterns_in patterns.new)) result }
+{
+    let mut kept = patterns.take(alloc);
+    let status = add(alloc, &mut kept, text, base, ignore_case);
+    patterns.put(kept);
+    status.number()
+}
+
+/// Frees the patterns. The handle is then as C makes it, so that freeing it again does nothing.
+#[unsafe(no_mangle)]
+pub extern "C" fn urlpattern_free(alloc: Global, patterns: &mut Patterns)
+    ensures { patterns.new.slot.held ≡ None }
+{
+    drop(patterns.take(alloc));
+}
+
+/// Whether a pattern matches a URL.
+#[unsafe(no_mangle)]
+pub extern "C" fn urlpattern_test(
+    alloc: Global,
+    patterns: &mut Patterns,
+    index: usize,
+    url: &[u8],
+    base: &[u8],
+) -> u32
+    ensures answer { ReturnsStatus (IsTested (patterns_in patterns.old) index url.now base.now) result }
+    ensures unchanged { patterns_in patterns.new ≡ patterns_in patterns.old }
+{
+    let kept = patterns.take(alloc);
+    let status = test(alloc, &kept, index, url, base);
+    patterns.put(kept);
+    status.number()
+}
+
+/// The index of the first pattern that matches a URL.
+#[unsafe(no_mangle)]
+pub extern "C" fn urlpattern_first(
+    alloc: Global,
+    patterns: &mut Patterns,
+    url: &[u8],
+    base: &[u8],
+    index: &mut usize,
+) -> u32
+    ensures answer { ReturnsStatus (IsFirstReported (patterns_in patterns.old) url.now base.now index.old index.new) result }
+    ensures unchanged { patterns_in patterns.new ≡ patterns_in patterns.old }
+{
+    let kept = patterns.take(alloc);
+    let status = first(alloc, &kept, url, base, index);
+    patterns.put(kept);
+    status.number()
+}
+
+/// The number of the first component of a URL that a pattern does not match.
+#[unsafe(no_mangle)]
+pub extern "C" fn urlpattern_mismatch(
+    alloc: Global,
+    patterns: &mut Patterns,
+    index: usize,
+    url: &[u8],
+    base: &[u8],
+    component: &mut u32,
+) -> u32
+    ensures answer { ReturnsStatus (IsMismatchReported (patterns_in patterns.old) index url.now base.now component.new) result }
+    ensures unchanged { patterns_in patterns.new ≡ patterns_in patterns.old }
+{
+    let kept = patterns.take(alloc);
+    let status = mismatch(alloc, &kept, index, url, base, component);
+    patterns.put(kept);
+    status.number()
+}
+
+/// Writes the match of a URL, as JSON.
+#[unsafe(no_mangle)]
+pub extern "C" fn urlpattern_exec(
+    alloc: Global,
+    patterns: &mut Patterns,
+    index: usize,
+    url: &[u8],
+    base: &[u8],
+    buffer: &mut [u8],
+    needed: &mut usize,
+) -> u32
+    ensures answer { ReturnsStatus (IsExecReported (patterns_in patterns.old) index url.now base.now buffer.old buffer.new needed.new) result }
+    ensures unchanged { patterns_in patterns.new ≡ patterns_in patterns.old }
+{
+    let kept = patterns.take(alloc);
+    let status = execute(alloc, &kept, index, url, base, buffer, needed);
+    patterns.put(kept);
+    status.number()
+}
+
+/// Writes the pattern text of a component.
+#[unsafe(no_mangle)]
+pub extern "C" fn urlpattern_component(
+    alloc: Global,
+    patterns: &mut Patterns,
+    index: usize,
+    component: u32,
+    buffer: &mut [u8],
+    needed: &mut usize,
+) -> u32
+    ensures answer { ReturnsStatus (IsComponentWritten (patterns_in patterns.old) index component buffer.old buffer.new needed.new) result }
+    ensures unchanged { patterns_in patterns.new ≡ patterns_in patterns.old }
+{
+    let kept = patterns.take(alloc);
+    let status = write_component(&kept, index, component, buffer, needed);
+    patterns.put(kept);
+    status.number()
+}
+
+/// Whether a pattern has a custom regular expression.
+#[unsafe(no_mangle)]
+pub extern "C" fn urlpattern_has_regexp_groups(
+    alloc: Global,
+    patterns: &mut Patterns,
+    index: usize,
+) -> u32
+    ensures answer { ReturnsStatus (IsCustomReported (patterns_in patterns.old) index) result }
+    ensures unchanged { patterns_in patterns.new ≡ patterns_in patterns.old }
+{
+    let kept = patterns.take(alloc);
+    let status = has_regexp_groups(&kept, index);
+    patterns.put(kept);
+    status.number()
+}
+
+/// Writes why a constructor string is refused, and where it is at fault.
+#[unsafe(no_mangle)]
+pub extern "C" fn urlpattern_diagnose(
+    alloc: Global,
+    text: &[u8],
+    base: &[u8],
+    ignore_case: bool,
+    buffer: &mut [u8],
+    needed: &mut usize,
+    place: &mut Place,
+) -> u32
+    ensures { ReturnsStatus (IsDiagnosed text.now base.now ignore_case buffer.old buffer.new needed.new place.new) result }
+{
+    diagnose(alloc, text, base, ignore_case, buffer, needed, place).number()
+}

@@ -1,0 +1,109 @@
+-- Lemmas on what calls report.
+use Rattle.std.proofs.Common.{◌≡◌, ℕ, Bool, List, length, refl, inl, inr, ◌⊎◌}
+use Rattle.std.specs.Str.{chars}
+use Rattle.urlpattern.specs.Errors.{ErrorView, MemoryOr, error_view}
+use Rattle.urlpattern.specs.Errors.{ErrorView as views}
+use Rattle.urlpattern.specs.FromString.{IsPatternOfText, RefusesPatternOfText}
+use Rattle.urlpattern.specs.Patterns.{pattern_view}
+use Rattle.std.specs.Prelude.{slice_get, Some}
+use Rattle.urlpattern.specs.Eight.{components}
+use Rattle.urlpattern_calls.specs.Calls.{given_base, c_options, error_status, IsAdded, IsPushed, IsTested, IsUrlTested}
+use Rattle.urlpattern_calls.specs.Mismatches.{IsMismatchReported, IsUrlMismatched}
+use Rattle.urlpattern_calls.specs.Texts.{IsComponentWritten, IsDiagnosed, IsDiagnosis, IsExecReported, IsUrlExecuted, IsWritten}
+use Rattle.urlpattern_calls.specs.declared.diagnosing.Place.{Place}
+use Rattle.urlpattern_eight.specs.declared.eight.ComponentName.{ComponentName}
+use Rattle.urlpattern_calls.specs.declared.status.Status.{Status}
+use Rattle.urlpattern_calls.specs.declared.status.Status.TheVariants as statuses
+use Rattle.urlpattern_engine.specs.PatternRegexps.{pattern_engine}
+use Rattle.urlpattern_engine.specs.declared.pattern_regexp.PatternRegexp.{PatternRegexp}
+use Rattle.urlpattern_pattern.specs.declared.pattern.UrlPattern.{UrlPattern}
+use Rattle.urlpattern_syntax.specs.declared.error.Error.{Error}
+
+-- a pattern that is compiled and pushed is added
+pub added : (old : List (UrlPattern PatternRegexp)) (text base : List ℕ) (ignores : Bool) (pattern : UrlPattern PatternRegexp) (new : List (UrlPattern PatternRegexp)) (status : Status)
+    → IsPatternOfText pattern_engine (chars text) (given_base base) (c_options ignores) (pattern_view pattern) → IsPushed old pattern new status → IsAdded old text base ignores new status
+added old text base ignores pattern new statuses.Done is pushed = (pattern, is, pushed)
+added old text base ignores pattern new statuses.NoMatch is pushed = absurd pushed
+added old text base ignores pattern new statuses.NotUtf8 is pushed = absurd pushed
+added old text base ignores pattern new statuses.Refused is pushed = absurd pushed
+added old text base ignores pattern new statuses.OutOfMemory is pushed = pushed
+added old text base ignores pattern new statuses.NoPattern is pushed = absurd pushed
+added old text base ignores pattern new statuses.TooSmall is pushed = absurd pushed
+
+-- an error that is not that memory ran out says why the pattern is refused
+refused_by : (old : List (UrlPattern PatternRegexp)) (text base : List ℕ) (ignores : Bool) (error : ErrorView)
+    → (error ≡ views.OutOfMemory) ⊎ RefusesPatternOfText pattern_engine (chars text) (given_base base) (c_options ignores) error → IsAdded old text base ignores old (error_status error)
+refused_by old text base ignores views.OutOfMemory why = refl
+refused_by old text base ignores views.BaseUrlRequired (inl memory) = absurd cc
+refused_by old text base ignores views.BaseUrlRequired (inr why) = (views.BaseUrlRequired, why, refl)
+refused_by old text base ignores views.BaseUrlWithInit (inl memory) = absurd cc
+refused_by old text base ignores views.BaseUrlWithInit (inr why) = (views.BaseUrlWithInit, why, refl)
+refused_by old text base ignores (views.Tokenizer fault place) (inl memory) = absurd cc
+refused_by old text base ignores (views.Tokenizer fault place) (inr why) = (views.Tokenizer fault place, why, refl)
+refused_by old text base ignores (views.ExpectedToken expected found value) (inl memory) = absurd cc
+refused_by old text base ignores (views.ExpectedToken expected found value) (inr why) = (views.ExpectedToken expected found value, why, refl)
+refused_by old text base ignores (views.DuplicateName name) (inl memory) = absurd cc
+refused_by old text base ignores (views.DuplicateName name) (inr why) = (views.DuplicateName name, why, refl)
+refused_by old text base ignores (views.Url reason) (inl memory) = absurd cc
+refused_by old text base ignores (views.Url reason) (inr why) = (views.Url reason, why, refl)
+refused_by old text base ignores views.RegExp (inl memory) = absurd cc
+refused_by old text base ignores views.RegExp (inr why) = (views.RegExp, why, refl)
+
+pub refused : (old : List (UrlPattern PatternRegexp)) (text base : List ℕ) (ignores : Bool) (error : Error)
+    → MemoryOr (RefusesPatternOfText pattern_engine (chars text) (given_base base) (c_options ignores)) error → IsAdded old text base ignores old (error_status (error_view error))
+refused old text base ignores error why = refused_by old text base ignores (error_view error) why
+
+-- ---- answers of the pattern at an index
+
+pub tested : (patterns : List (UrlPattern PatternRegexp)) (index : ℕ) (pattern : UrlPattern PatternRegexp) (text base : List ℕ) (status : Status)
+    → slice_get patterns index ≡ Some pattern → IsUrlTested (pattern_view pattern) text base status → IsTested patterns index text base status
+tested patterns index pattern text base statuses.Done is answer = (pattern, is, answer)
+tested patterns index pattern text base statuses.NoMatch is answer = (pattern, is, answer)
+tested patterns index pattern text base statuses.NotUtf8 is answer = (pattern, is, answer)
+tested patterns index pattern text base statuses.Refused is answer = (pattern, is, answer)
+tested patterns index pattern text base statuses.OutOfMemory is answer = (pattern, is, answer)
+tested patterns index pattern text base statuses.NoPattern is answer = absurd answer
+tested patterns index pattern text base statuses.TooSmall is answer = (pattern, is, answer)
+
+pub mismatched : (patterns : List (UrlPattern PatternRegexp)) (index : ℕ) (pattern : UrlPattern PatternRegexp) (text base : List ℕ) (number : ℕ) (status : Status)
+    → slice_get patterns index ≡ Some pattern → IsUrlMismatched (pattern_view pattern) text base number status → IsMismatchReported patterns index text base number status
+mismatched patterns index pattern text base number statuses.Done is answer = (pattern, is, answer)
+mismatched patterns index pattern text base number statuses.NoMatch is answer = (pattern, is, answer)
+mismatched patterns index pattern text base number statuses.NotUtf8 is answer = (pattern, is, answer)
+mismatched patterns index pattern text base number statuses.Refused is answer = (pattern, is, answer)
+mismatched patterns index pattern text base number statuses.OutOfMemory is answer = (pattern, is, answer)
+mismatched patterns index pattern text base number statuses.NoPattern is answer = absurd answer.1
+mismatched patterns index pattern text base number statuses.TooSmall is answer = (pattern, is, answer)
+
+pub executed : (patterns : List (UrlPattern PatternRegexp)) (index : ℕ) (pattern : UrlPattern PatternRegexp) (url base old new : List ℕ) (needed : ℕ) (status : Status)
+    → slice_get patterns index ≡ Some pattern → IsUrlExecuted (pattern_view pattern) url base old new needed status → IsExecReported patterns index url base old new needed status
+executed patterns index pattern url base old new needed statuses.Done is answer = (pattern, is, answer)
+executed patterns index pattern url base old new needed statuses.NoMatch is answer = (pattern, is, answer)
+executed patterns index pattern url base old new needed statuses.NotUtf8 is answer = (pattern, is, answer)
+executed patterns index pattern url base old new needed statuses.Refused is answer = (pattern, is, answer)
+executed patterns index pattern url base old new needed statuses.OutOfMemory is answer = (pattern, is, answer)
+executed patterns index pattern url base old new needed statuses.NoPattern is answer = absurd answer.0
+executed patterns index pattern url base old new needed statuses.TooSmall is answer = (pattern, is, answer)
+
+-- ---- texts that are written
+
+pub component_written : (patterns : List (UrlPattern PatternRegexp)) (index component : ℕ) (pattern : UrlPattern PatternRegexp) (name : ComponentName) (text old new : List ℕ) (needed : ℕ) (status : Status)
+    → slice_get patterns index ≡ Some pattern → slice_get components component ≡ Some name → chars text ≡ (pattern_view pattern name).pattern_string
+    → needed ≡ length text → IsWritten text old new status → IsComponentWritten patterns index component old new needed status
+component_written patterns index component pattern name text old new needed statuses.Done is named same counted written = (text, (pattern, name, is, named, same), counted, written)
+component_written patterns index component pattern name text old new needed statuses.NoMatch is named same counted written = absurd written
+component_written patterns index component pattern name text old new needed statuses.NotUtf8 is named same counted written = absurd written
+component_written patterns index component pattern name text old new needed statuses.Refused is named same counted written = absurd written
+component_written patterns index component pattern name text old new needed statuses.OutOfMemory is named same counted written = absurd written
+component_written patterns index component pattern name text old new needed statuses.NoPattern is named same counted written = absurd written
+component_written patterns index component pattern name text old new needed statuses.TooSmall is named same counted written = (text, (pattern, name, is, named, same), counted, written)
+
+pub diagnosed : (text base : List ℕ) (ignores : Bool) (place : Place) (reason old new : List ℕ) (needed : ℕ) (status : Status)
+    → IsDiagnosis text base ignores place reason → needed ≡ length reason → IsWritten reason old new status → IsDiagnosed text base ignores old new needed place status
+diagnosed text base ignores place reason old new needed statuses.Done is counted written = (reason, is, counted, written)
+diagnosed text base ignores place reason old new needed statuses.NoMatch is counted written = absurd written
+diagnosed text base ignores place reason old new needed statuses.NotUtf8 is counted written = absurd written
+diagnosed text base ignores place reason old new needed statuses.Refused is counted written = absurd written
+diagnosed text base ignores place reason old new needed statuses.OutOfMemory is counted written = absurd written
+diagnosed text base ignores place reason old new needed statuses.NoPattern is counted written = absurd written
+diagnosed text base ignores place reason old new needed statuses.TooSmall is counted written = (reason, is, counted, written)

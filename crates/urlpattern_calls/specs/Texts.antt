@@ -1,0 +1,103 @@
+-- What calls write to memory of C's, of texts that are bytes.
+use Rattle.std.specs.Prelude.{◌≡◌, ◌⊎◌, ◌++◌, ◌<◌, ◌≤◌, ℕ, Bool, List, length, drop, slice_get, None, Some, string_bytes}
+use Rattle.std.specs.Str.{chars}
+use Rattle.serde_json.specs.Data.{Data, depth}
+use Rattle.serde_json.specs.Read.{read, max_depth}
+use Rattle.url.specs.Parts.{Parts}
+use Rattle.urlpattern.specs.Eight.{components}
+use Rattle.urlpattern.specs.Errors.{error_view}
+use Rattle.urlpattern.specs.FromString.{IsPatternOfText, RefusesPatternOfText}
+use Rattle.urlpattern.specs.Match.{IsMatch}
+use Rattle.urlpattern.specs.Patterns.{PatternView, pattern_view}
+use Rattle.urlpattern.specs.ResultViews.{result_view}
+use Rattle.urlpattern_calls.specs.Calls.{given_base, c_options, IsNoUrl, IsUrlUnderBase, IsUrlTested}
+use Rattle.urlpattern_calls.specs.declared.diagnosing.Place.{Place}
+use Rattle.urlpattern_calls.specs.declared.status.Status.{Status}
+use Rattle.urlpattern_calls.specs.declared.status.Status.TheVariants as statuses
+use Rattle.urlpattern_diagnosis.specs.declared.diagnosis.{Diagnosis.Diagnosis, Subject.Subject}
+use Rattle.urlpattern_diagnosis.specs.declared.diagnosis.Subject.TheVariants as subjects
+use Rattle.urlpattern_eight.specs.declared.eight.ComponentName.{ComponentName}
+use Rattle.urlpattern_engine.specs.PatternRegexps.{pattern_answer, pattern_engine}
+use Rattle.urlpattern_engine.specs.declared.pattern_regexp.PatternRegexp.{PatternRegexp}
+use Rattle.urlpattern_init.specs.declared.init.UrlPatternMatchInput.TheVariants as match_inputs
+use Rattle.urlpattern_matches.specs.ResultJson.{IsResultTree, plain_results_view}
+use Rattle.urlpattern_matches.specs.declared.result.UrlPatternResult.{UrlPatternResult}
+use Rattle.urlpattern_pattern.specs.declared.pattern.UrlPattern.{UrlPattern}
+
+-- The buffer begins with the text, and the rest of it is as it was; or the text has more bytes, and the buffer is as it was.
+abbrev pub IsWritten : (text old new : List ℕ) → Status → Type 0
+IsWritten text old new statuses.Done = (length text ≤ length old) × (new ≡ text ++ drop (length text) old)
+IsWritten text old new statuses.TooSmall = (length old < length text) × (new ≡ old)
+IsWritten text old new status = ⊥
+
+-- such a text is written, of so many bytes
+abbrev pub WritesToBuffer : (IsText : List ℕ → Type 0) → (old new : List ℕ) → (needed : ℕ) → Status → Type 0
+WritesToBuffer IsText old new needed status = (text : List ℕ) × IsText text × (needed ≡ length text) × IsWritten text old new status
+
+-- ---- components
+
+-- the pattern text of a component, by its number
+abbrev pub IsTextOfComponent : List (UrlPattern PatternRegexp) → (index component : ℕ) → (text : List ℕ) → Type 0
+IsTextOfComponent patterns index component text =
+    (pattern : UrlPattern PatternRegexp) × (name : ComponentName) × (slice_get patterns index ≡ Some pattern) × (slice_get components component ≡ Some name)
+    × (chars text ≡ (pattern_view pattern name).pattern_string)
+
+abbrev pub IsComponentWritten : List (UrlPattern PatternRegexp) → (index component : ℕ) → (old new : List ℕ) → (needed : ℕ) → Status → Type 0
+IsComponentWritten patterns index component old new needed statuses.NoPattern =
+    ((slice_get patterns index ≡ None) ⊎ (slice_get components component ≡ None)) × (new ≡ old)
+IsComponentWritten patterns index component old new needed status = WritesToBuffer (IsTextOfComponent patterns index component) old new needed status
+
+-- ---- matches
+
+-- the text is JSON that reads as the tree
+abbrev pub IsTextOf : Data → (text : List ℕ) → Type 0
+IsTextOf tree text = depth tree ≤ max_depth → read text ≡ Some tree
+
+-- the text is the JSON of the result
+abbrev pub IsResultText : UrlPatternResult → (text : List ℕ) → Type 0
+IsResultText result text = (tree : Data) × IsResultTree (plain_results_view result) tree × IsTextOf tree text
+
+-- The text is the JSON of the pattern's match of the URL.
+pub record IsJsonOfMatch (pattern : PatternView PatternRegexp) (url base text : List ℕ) : Type 0 where
+  pub parts : Parts
+  pub result : UrlPatternResult
+  pub is_url : IsUrlUnderBase url base parts
+  pub is_match : IsMatch pattern_answer pattern (match_inputs.Url parts) (result_view result)
+  pub is_text : IsResultText result text
+
+-- the match of the URL is written, or there is none
+abbrev pub IsUrlExecuted : PatternView PatternRegexp → (url base : List ℕ) → (old new : List ℕ) → (needed : ℕ) → Status → Type 0
+IsUrlExecuted pattern url base old new needed statuses.Done = WritesToBuffer (IsJsonOfMatch pattern url base) old new needed statuses.Done
+IsUrlExecuted pattern url base old new needed statuses.TooSmall = WritesToBuffer (IsJsonOfMatch pattern url base) old new needed statuses.TooSmall
+IsUrlExecuted pattern url base old new needed status = IsUrlTested pattern url base status × (new ≡ old)
+
+-- the same of the pattern at an index
+abbrev pub IsExecReported : List (UrlPattern PatternRegexp) → (index : ℕ) → (url base : List ℕ) → (old new : List ℕ) → (needed : ℕ) → Status → Type 0
+IsExecReported patterns index url base old new needed statuses.NoPattern = (slice_get patterns index ≡ None) × (new ≡ old)
+IsExecReported patterns index url base old new needed status =
+    (pattern : UrlPattern PatternRegexp) × (slice_get patterns index ≡ Some pattern)
+    × IsUrlExecuted (pattern_view pattern) url base old new needed status
+
+-- ---- diagnoses
+
+-- 1 where the base URL is at fault, and 0 where the pattern is
+abbrev pub subject_number : Subject → ℕ
+subject_number subjects.Base = 1
+subject_number subject = 0
+
+-- the pattern is refused as the diagnosis says, and the place is where its text is at fault
+pub record IsDiagnosis (text base : List ℕ) (ignore_case : Bool) (place : Place) (reason : List ℕ) : Type 0 where
+  pub diagnosis : Diagnosis
+  pub is_refused : RefusesPatternOfText pattern_engine (chars text) (given_base base) (c_options ignore_case) (error_view diagnosis.error)
+  pub is_reason : reason ≡ string_bytes diagnosis.reason
+  pub is_subject : place.subject ≡ subject_number diagnosis.subject
+  pub is_start : place.start ≡ diagnosis.fault.span.start
+  pub is_end : place.end ≡ diagnosis.fault.span.end
+
+-- Why the pattern is refused is written; NoMatch: it is not refused.
+abbrev pub IsDiagnosed : (text base : List ℕ) → (ignore_case : Bool) → (old new : List ℕ) → (needed : ℕ) → Place → Status → Type 0
+IsDiagnosed text base ignores old new needed place statuses.Done = WritesToBuffer (IsDiagnosis text base ignores place) old new needed statuses.Done
+IsDiagnosed text base ignores old new needed place statuses.TooSmall = WritesToBuffer (IsDiagnosis text base ignores place) old new needed statuses.TooSmall
+IsDiagnosed text base ignores old new needed place statuses.NoMatch =
+    ((pattern : PatternView PatternRegexp) × IsPatternOfText pattern_engine (chars text) (given_base base) (c_options ignores) pattern) × (new ≡ old)
+IsDiagnosed text base ignores old new needed place status = IsNoUrl text base status × (new ≡ old)
