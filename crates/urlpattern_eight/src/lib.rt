@@ -4,3 +4,4 @@
 mod eight;
 
 pub use eight::{COMPONENTS, ComponentName, Eight, NamedValues};
+// x
