@@ -12,8 +12,8 @@ pub use Rattle.urlpattern_faults.specs.Spans
 pub use Rattle.urlpattern_init.specs.ConstructorString
 pub use Rattle.urlpattern_init.specs.Inheritance
 pub use Rattle.urlpattern_init.specs.SpecialProtocol
-pub use Rattle.urlpattern_init.specs.Split
-pub use Rattle.urlpattern_init.specs.Splitting
+pub use Rattle.urlpattern_split.specs.Split
+pub use Rattle.urlpattern_split.specs.Splitting
 pub use Rattle.urlpattern_init.specs.UrlTexts
 pub use Rattle.urlpattern_laws.specs.Folded
 pub use Rattle.urlpattern_laws.specs.Outcomes

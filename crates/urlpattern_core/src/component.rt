@@ -6,14 +6,14 @@ ghost use Rattle.std.specs.Prelude.{◌≡◌, Some, string_bytes};
 
 mod compile;
 mod matchers;
+mod normal;
 
 use crate::error::Error;
 use crate::matcher::Matcher;
 pub use matchers::generate_matcher;
+pub use normal::normalize_part_list;
 use std::fmt;
-pub use urlpattern_printing::{
-    generate_pattern_string, generate_regular_expression_and_name_list, normalize_part_list,
-};
+pub use urlpattern_printing::{generate_pattern_string, generate_regular_expression_and_name_list};
 
 /// What a pattern text is compiled to.
 ///

@@ -8,7 +8,7 @@ use Rattle.urlpattern_faults.specs.Places.{IsFaultMoved}
 use Rattle.urlpattern_diagnosis.specs.declared.diagnosis.{Diagnosis.Diagnosis, Subject.Subject}
 use Rattle.urlpattern_diagnosis.specs.declared.diagnosis.Subject.TheVariants as subjects
 use Rattle.urlpattern_faults.specs.declared.fault.Fault.{Fault}
-use Rattle.urlpattern_init.specs.Split.{HasProtocol}
+use Rattle.urlpattern_split.specs.Split.{HasProtocol}
 use Rattle.urlpattern_init.specs.declared.init.UrlPatternInit.{UrlPatternInit}
 use Rattle.urlpattern_inputs.specs.declared.options.UrlPatternOptions.{UrlPatternOptions}
 use Rattle.urlpattern_create.specs.Compiled.{AreCompiled, FirstRefused, IsComponentCompiled, IsComponentRefused, IsPatternOfInit, Manner, RefusesValues, manner_of, pattern_values}

@@ -9,9 +9,10 @@ use crate::span::Span;
 use crate::token::first_fault;
 use std::alloc::Global;
 use urlpattern_eight::ComponentName;
+use urlpattern_parser::parser::Stop;
+use urlpattern_parser::tokenizer::tokenize;
 use urlpattern_syntax::error::{Error, OutOfMemory, ParserError};
-use urlpattern_syntax::parser::Stop;
-use urlpattern_syntax::tokenizer::{Token, TokenType, TokenizePolicy, tokenize};
+use urlpattern_syntax::tokenizer::{Token, TokenType, TokenizePolicy};
 
 /// Where a text is at fault.
 ///

@@ -9,8 +9,8 @@ use crate::fault::{Fault, span_of};
 use crate::span::Span;
 use std::alloc::Global;
 use urlpattern_eight::ComponentName;
+use urlpattern_parser::parser::Stop;
 use urlpattern_syntax::error::{OutOfMemory, TokenizerError};
-use urlpattern_syntax::parser::Stop;
 use urlpattern_syntax::tokenizer::{TokenType, split_first};
 
 /// The fault of a text whose first fault is this one, at this place, with an earlier token that is at fault too.

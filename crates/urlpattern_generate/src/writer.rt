@@ -13,8 +13,9 @@ use crate::groups::GivenGroup;
 use std::alloc::Global;
 use urlpattern_canonical::canonicalize_and_process::{Canonicalizer, canonicalize_ipv6_hostname};
 use urlpattern_eight::ComponentName;
+use urlpattern_parser::parser::parse_pattern_string;
 use urlpattern_syntax::Error;
-use urlpattern_syntax::parser::{Options, Part, parse_pattern_string};
+use urlpattern_syntax::parser::{Options, Part};
 
 /// What stays the same while the text of a component is written.
 #[derive(Drop)]

@@ -1,9 +1,3 @@
-pub mod ClosedTokens
-pub mod TokenPlaces
-pub mod SeenLemmas
-pub mod TextBetween
-pub mod SplitLemmas
-pub mod UserinfoLemmas
 pub mod SplitUnique
 pub mod SplitExists
 pub mod InheritanceLemmas

@@ -6,9 +6,9 @@ use Rattle.std.specs.Prelude.{codes, IsTrue, IsSomeAnd, Option, slice_get}
 use Rattle.urlpattern_init.proofs.PlainTexts.{letters, plain_cut}
 use Rattle.urlpattern_init.proofs.SplitUnique.{splits_one_given}
 use Rattle.urlpattern_init.specs.ConstructorString.{SplitsAs, SplitsInto}
-use Rattle.urlpattern_init.specs.Split.{EndsAt, IsAbsoluteSplit, IsRelativeSplit, IsTextBetween, ends_at, may_end}
-use Rattle.urlpattern_init.specs.declared.constructor_parser.sections.Section.{Section}
-use Rattle.urlpattern_init.specs.declared.constructor_parser.sections.Section.TheVariants.{Protocol, Authority, Username, Hostname, Port, Pathname, Search}
+use Rattle.urlpattern_split.specs.Split.{EndsAt, IsAbsoluteSplit, IsRelativeSplit, IsTextBetween, ends_at, may_end}
+use Rattle.urlpattern_split.specs.declared.sections.Section.{Section}
+use Rattle.urlpattern_split.specs.declared.sections.Section.TheVariants.{Protocol, Authority, Username, Hostname, Port, Pathname, Search}
 use Rattle.urlpattern_syntax.specs.declared.tokenizer.TokenType.{TokenType}
 use Rattle.urlpattern_syntax.specs.declared.tokenizer.TokenType.TheVariants.{End, EscapedChar, InvalidChar, Name, Open, OtherModifier}
 use Rattle.urlpattern_syntax.proofs.TokenExamples.{literals, name, no, none, token}

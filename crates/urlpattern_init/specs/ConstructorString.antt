@@ -2,7 +2,7 @@
 use Rattle.std.specs.Prelude.{◌≡◌, ℕ, ◌*◌, ◌≤◌, ◌⊎◌, Bool, true, false, List, Option, None, length}
 use Rattle.url.specs.declared.Url.{Url}
 use Rattle.urlpattern_init.specs.SpecialProtocol.{RefusesProtocol}
-use Rattle.urlpattern_init.specs.Split.{HasProtocol, IsSplit, LacksProtocol}
+use Rattle.urlpattern_split.specs.Split.{HasProtocol, IsSplit, LacksProtocol}
 use Rattle.urlpattern_init.specs.declared.init.UrlPatternInit.{UrlPatternInit}
 use Rattle.urlpattern_eight.specs.Eight.{Values}
 use Rattle.urlpattern_syntax.specs.Errors.{ErrorView}

@@ -2,6 +2,4 @@ pub mod ConstructorString
 pub mod Inheritance
 pub mod Processing
 pub mod SpecialProtocol
-pub mod Split
-pub mod Splitting
 pub mod UrlTexts

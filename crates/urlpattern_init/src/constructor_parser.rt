@@ -5,28 +5,26 @@
 ghost use Rattle.std.specs.Prelude.{◌≡◌, IfErr, IfOk, IfSome, ◌*◌, ◌≤◌, length};
 ghost use Rattle.std.specs.Str.{chars};
 ghost use Rattle.urlpattern_init.specs.ConstructorString.{AreFewTurns, HasProtocolOrBase, RefusesString, SplitsInto};
+ghost use Rattle.urlpattern_eight.specs.Eight.{at};
 ghost use Rattle.urlpattern_init.specs.Inheritance.{values_view};
 ghost use Rattle.urlpattern_init.specs.SpecialProtocol.{IsSpecialTo, RefusesProtocol};
-ghost use Rattle.urlpattern_init.specs.Split.{HasProtocol, IsSplit};
-ghost use Rattle.urlpattern_init.specs.Splitting.{IsSource, split_values, text_of_source, tokens_of};
+ghost use Rattle.urlpattern_split.specs.Split.{HasProtocol, IsSplit};
+ghost use Rattle.urlpattern_split.specs.Splitting.{IsOwned, IsSource, split_values, text_of_source, tokens_of};
 ghost use Rattle.urlpattern_syntax.specs.Errors.{MemoryOr, OnlyOutOfMemory};
+ghost use Rattle.urlpattern_syntax.specs.Text.{option_text};
 
-mod components;
-mod sections;
 mod special_protocol;
-mod tokens;
 
 use crate::init::UrlPatternInit;
-use components::Split;
-use sections::{Position, Section};
 pub use special_protocol::accepts_special_scheme;
 use special_protocol::is_special_protocol;
 use std::alloc::Global;
-use tokens::Source;
 use url::Url;
 use urlpattern_core::Error;
 use urlpattern_core::regexp::RegExp;
 use urlpattern_core::tokenizer::{TokenizePolicy, tokenize};
+use urlpattern_eight::{ComponentName, Eight};
+use urlpattern_split::{Position, Section, Source, Split};
 
 impl UrlPatternInit {
     /// Splits a constructor string, the pattern of a whole URL, into the patterns of its components.
@@ -65,11 +63,11 @@ impl UrlPatternInit {
             input: pattern,
             tokens: &tokens,
         };
-        let split = source.split::<R>(alloc)?;
+        let split = split::<R>(alloc, &source)?;
         if split.values.protocol.is_none() && base_url.is_none() {
             return Err(Error::BaseUrlRequired);
         }
-        let init = split.to_init(alloc, base_url)?;
+        let init = to_init(alloc, &split, base_url)?;
         Ok((init, split.turns))
     }
 }
@@ -99,29 +97,52 @@ pub fn protocol_of(alloc: Global, pattern: &str) -> Result<Option<&str>, Error>
     }
 }
 
-impl<'t, 'a> Source<'t, 'a> {
-    /// The components of a constructor string. Its protocol is read first, and whether it is special.
-    ///
-    /// The error is that of the protocol's pattern, or that memory ran out.
-    fn split<R: RegExp>(&self, alloc: Global) -> Result<Split<'a>, Error>
-        requires { IsSource self.now }
-        ensures split { IfOk result (λ split. IsSplit (IsSpecialTo R.RegExp) (text_of_source self.now) (tokens_of self.now) (split_values split)) }
-        ensures turns { IfOk result (λ split. split.turns ≤ 2 * length self.now.tokens.now) }
-        ensures refused { IfErr result (MemoryOr (λ error. HasProtocol (text_of_source self.now) (λ protocol. RefusesProtocol protocol error))) }
-    {
-        let start = Position {
-            index: 0,
-            depth: 0,
-            turns: 0,
-        };
-        let end = self.end_of(Section::Protocol, start);
-        if !self.is_sign(end.index, b':') {
-            return Ok(self.relative(end));
-        }
-        let back = Position { index: 0, ..end };
-        let colon = self.end_of(Section::Protocol, back);
-        let protocol = self.text_between(0, colon.index);
-        let special = is_special_protocol::<R>(alloc, protocol)?;
-        Ok(self.absolute(colon, protocol, special))
+/// The components of a constructor string. Its protocol is read first, and whether it is special.
+///
+/// The error is that of the protocol's pattern, or that memory ran out.
+fn split<'a, R: RegExp>(alloc: Global, source: &Source<'_, 'a>) -> Result<Split<'a>, Error>
+    requires { IsSource source.now }
+    ensures split { IfOk result (λ split. IsSplit (IsSpecialTo R.RegExp) (text_of_source source.now) (tokens_of source.now) (split_values split)) }
+    ensures turns { IfOk result (λ split. split.turns ≤ 2 * length source.now.tokens.now) }
+    ensures refused { IfErr result (MemoryOr (λ error. HasProtocol (text_of_source source.now) (λ protocol. RefusesProtocol protocol error))) }
+{
+    let start = Position {
+        index: 0,
+        depth: 0,
+        turns: 0,
+    };
+    let end = source.end_of(Section::Protocol, start);
+    if !source.is_sign(end.index, b':') {
+        return Ok(source.relative(end));
+    }
+    let back = Position { index: 0, ..end };
+    let colon = source.end_of(Section::Protocol, back);
+    let protocol = source.text_between(0, colon.index);
+    let special = is_special_protocol::<R>(alloc, protocol)?;
+    Ok(source.absolute(colon, protocol, special))
+}
+
+/// An init with these components and a base URL.
+///
+/// The error is that memory ran out.
+fn to_init(alloc: Global, split: &Split<'_>, base_url: Option<Url>) -> Result<UrlPatternInit, Error>
+    ensures components { IfOk result (λ init. values_view init ≡ split_values split.now) }
+    ensures base { IfOk result (λ init. init.base_url ≡ base_url) }
+    ensures memory { OnlyOutOfMemory result }
+{
+    let value = |name: ComponentName| -> Result<Option<String>, Error>
+        ensures { IsOwned (at (split_values split.entry.now) name) result }
+    { owned(alloc, *split.values.get(name)) };
+    let values = Eight::try_from_fn(value)?;
+    Ok(UrlPatternInit::from_eight(values, base_url))
+}
+
+/// A text of one's own, if there is one.
+fn owned(alloc: Global, text: Option<&str>) -> Result<Option<String>, Error>
+    ensures { IsOwned (option_text text.entry) result }
+{
+    match text {
+        Some(text) => Ok(Some(String::from_str(alloc, text)?)),
+        None => Ok(None),
     }
 }

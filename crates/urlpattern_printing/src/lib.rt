@@ -2,11 +2,9 @@
 #![tactic(auto)]
 
 mod names;
-mod normal;
 mod printed;
 mod regexp_text;
 
 pub use names::{generate_name_list, generate_regular_expression_and_name_list};
-pub use normal::normalize_part_list;
 pub use printed::generate_pattern_string;
 pub use regexp_text::generate_regular_expression;

@@ -7,17 +7,8 @@ pub mod BodyLemmas
 pub mod PieceLemmas
 pub mod PiecesExist
 pub mod ReadingLemmas
-pub mod GroupLemmas
-pub mod PartListLemmas
 pub mod TokenLemmas
-pub mod ReaderLemmas
-pub mod BracedLemmas
-pub mod CharacterLemmas
-pub mod TextReadingLemmas
-pub mod StopLemmas
 pub mod NameCharacters
-pub mod NameSets
-pub mod GivenNameLemmas
 pub mod ErrorTextExamples
 pub mod RegexpTextExamples
 pub mod TokenExamples

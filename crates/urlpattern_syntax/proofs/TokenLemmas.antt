@@ -1,20 +1,18 @@
 -- Lemmas on tokens: what is skipped, how a body goes on, how cuts are joined.
-use Rattle.std.proofs.Common.{◌≡◌, ℕ, ◌<◌, ◌⊎◌, Bool, true, false, List, [], ◌∷◌, ◌++◌, length, Ok, Err, refl, sym, ap, ◌∙◌, subst, inl, inr, arith, append_assoc}
+use Rattle.std.proofs.Common.{◌≡◌, ℕ, ◌<◌, ◌⊎◌, Bool, true, false, List, [], ◌∷◌, ◌++◌, length, Err, refl, sym, ap, ◌∙◌, subst, inl, inr, arith, append_assoc}
 use Rattle.std.specs.Prelude.{codes, IsTrue}
 use Rattle.std.proofs.lemmas.Bool.{both_ways, and_from}
 use Rattle.std.proofs.lemmas.List.Folds.{list_all-append}
 use Rattle.std.proofs.lemmas.List.{append_cancel_right}
-use Rattle.std.specs.Str.{chars}
 use Rattle.urlpattern_syntax.specs.declared.error.Error.TheVariants as errors
 use Rattle.urlpattern_syntax.specs.declared.error.TokenizerError.{TokenizerError}
-use Rattle.urlpattern_syntax.specs.declared.tokenizer.lexemes.Lexeme.{Lexeme}
 use Rattle.urlpattern_syntax.specs.declared.tokenizer.TokenizePolicy.{TokenizePolicy}
 use Rattle.urlpattern_syntax.specs.declared.tokenizer.TokenizePolicy.TheVariants as policies
 use Rattle.urlpattern_syntax.specs.declared.tokenizer.TokenType.{TokenType}
 use Rattle.urlpattern_syntax.specs.declared.tokenizer.TokenType.TheVariants.{Asterisk, Char, Close, End, EscapedChar, InvalidChar, Name, Open, OtherModifier, Regexp}
 use Rattle.urlpattern_syntax.specs.Text.{byte_len, BeginsAt, BeginsWith, is_among, is_name_start, is_name_part}
 use Rattle.urlpattern_syntax.proofs.TextLemmas.{byte_len-append, length-le-byte_len}
-use Rattle.urlpattern_syntax.specs.Tokens.{TokenView, end_of, AreTokensUnder, IsCut, IsInvalidChar, IsInvalidCharOf, IsTokenOf, LexesUnder, Skips, SkipsBy, IsLexed, Spells, EndsThere, IsName, IsFaultAt, InvalidName, ReportsFaultUnder, marks, is_ignored}
+use Rattle.urlpattern_syntax.specs.Tokens.{TokenView, end_of, AreTokensUnder, IsCut, IsInvalidChar, IsInvalidCharOf, IsTokenOf, Skips, SkipsBy, IsLexed, Spells, EndsThere, IsName, IsFaultAt, InvalidName, ReportsFaultUnder, marks, is_ignored}
 
 -- ---- what is skipped
 
@@ -137,10 +135,6 @@ abbrev pub IsLexedUnder : TokenizePolicy → List ℕ → TokenType → (value r
 IsLexedUnder policies.Strict text kind value rest = IsLexed text kind value rest
 IsLexedUnder policies.Lenient text kind value rest = IsLexed text kind value rest ⊎ IsInvalidChar text kind value rest
 
-pub LexesUnder-ok : (policy : TokenizePolicy) (text : List ℕ) (lexeme : Lexeme) → LexesUnder policy text (Ok lexeme) → IsLexedUnder policy text lexeme.kind (chars lexeme.value.now) (chars lexeme.rest.now)
-LexesUnder-ok policies.Strict text lexeme h = h
-LexesUnder-ok policies.Lenient text lexeme h = h
-
 -- a character that is taken leaves a shorter text
 pub IsInvalidChar-shorter : (text value rest : List ℕ) (kind : TokenType) → IsInvalidChar text kind value rest → byte_len rest < byte_len text
 IsInvalidChar-shorter text value rest kind h =
@@ -179,11 +173,6 @@ IsCutUnder-more policy text tokens left value rest next kind index cut lexed pla
 pub AreTokensUnder-cut : (policy : TokenizePolicy) (text : List ℕ) (tokens front : List TokenView) → IsCutUnder policy text front [] → tokens ≡ front ++ end_of text ∷ [] → AreTokensUnder policy text tokens
 AreTokensUnder-cut policies.Strict text tokens front cut all = record { front = front; cut = cut; all = all }
 AreTokensUnder-cut policies.Lenient text tokens front cut all = record { front = front; cut = cut; all = all }
-
--- a fault is told under the strict policy alone
-pub ReportsFaultUnder-first : (policy : TokenizePolicy) (text left : List ℕ) (front : List TokenView) (fault : TokenizerError) (index : ℕ) → IsCutUnder policy text front left → LexesUnder policy left (Err fault) → BeginsAt text left index → ReportsFaultUnder policy text (errors.Tokenizer fault index)
-ReportsFaultUnder-first policies.Strict text left front fault index cut reported place = record { front = front; left = left; cut = cut; place = place; fault = reported }
-ReportsFaultUnder-first policies.Lenient text left front fault index cut reported place = absurd reported
 
 pub ReportsFaultUnder-memory : (policy : TokenizePolicy) (text : List ℕ) → ReportsFaultUnder policy text errors.OutOfMemory
 ReportsFaultUnder-memory policies.Strict text = tt

@@ -1,17 +1,8 @@
 -- Strict tokens that are read one by one, and the place in the text that the reading has reached.
 use Rattle.std.specs.Prelude.{◌≡◌, ℕ, ◌⊎◌, ◌&&◌, not, Bool, IsTrue, List, [], ◌∷◌, ◌++◌}
 use Rattle.std.specs.List.{list_all}
-use Rattle.urlpattern_syntax.specs.declared.tokenizer.cursors.Cursor.{Cursor}
-use Rattle.urlpattern_syntax.specs.Text.{BeginsWith, chars, is_among}
-use Rattle.urlpattern_syntax.specs.Tokens.{IsCut, IsStrictCut, IsTokenOf, Skips, Token, TokenType, TokenView, end_of, is_ignored, marks, token_view}
-
--- the text that is read
-abbrev pub cursor_text : Cursor → List ℕ
-cursor_text cursor = chars cursor.input.now
-
--- what stands in it after the place
-abbrev pub cursor_rest : Cursor → List ℕ
-cursor_rest cursor = chars cursor.rest.now
+use Rattle.urlpattern_syntax.specs.Text.{BeginsWith, is_among}
+use Rattle.urlpattern_syntax.specs.Tokens.{IsCut, IsStrictCut, IsTokenOf, Skips, TokenType, TokenView, end_of, is_ignored, marks}
 
 -- the whole text is cut into strict tokens up to this rest of it, and nothing is skipped where that begins
 pub record IsPlace (whole rest : List ℕ) : Type 0 where
@@ -30,10 +21,6 @@ abbrev pub IsTokenAfter : (whole rest : List ℕ) → TokenView → (next : List
 IsTokenAfter whole rest token next =
     ((rest ≡ []) × (token ≡ end_of whole) × (next ≡ []))
     ⊎ ((behind : List ℕ) × IsTokenOf whole rest token behind × Skips behind next)
-
--- the cursor gives this token, and then is this one
-abbrev pub GivesToken : (old : Cursor) → Token → (new : Cursor) → Type 0
-GivesToken old token new = IsTokenAfter (cursor_text old) (cursor_rest old) (token_view token) (cursor_rest new)
 
 -- End is no token that is read on from
 abbrev pub tokens_left : TokenType → ℕ

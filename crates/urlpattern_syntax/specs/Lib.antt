@@ -1,10 +1,8 @@
 pub mod Cursors
 pub mod ErrorText
 pub mod Errors
-pub mod GivenNames
 pub mod Options
 pub mod Parsing
-pub mod PartLists
 pub mod Parts
 pub mod PatternText
 pub mod Pieces

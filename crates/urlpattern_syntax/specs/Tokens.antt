@@ -1,8 +1,7 @@
 -- The tokens of a pattern text, after the URLPattern Standard, section "Tokenizing".
-use Rattle.std.specs.Prelude.{◌≡◌, ℕ, ◌<◌, ◌≤◌, ◌⊎◌, Bool, List, [], ◌∷◌, ◌++◌, codes, IsTrue, MatchResult, Result}
+use Rattle.std.specs.Prelude.{◌≡◌, ℕ, ◌<◌, ◌≤◌, ◌⊎◌, Bool, List, [], ◌∷◌, ◌++◌, codes, IsTrue}
 use Rattle.std.specs.List.{list_all}
 use Rattle.urlpattern_syntax.specs.declared.error.{Error.Error, RegexFault.RegexFault, TokenizerError.TokenizerError}
-use Rattle.urlpattern_syntax.specs.declared.tokenizer.lexemes.Lexeme.{Lexeme}
 pub use Rattle.urlpattern_syntax.specs.declared.tokenizer.{Token.Token, TokenType.TokenType}
 use Rattle.urlpattern_syntax.specs.declared.tokenizer.TokenizePolicy.{TokenizePolicy}
 use Rattle.urlpattern_syntax.specs.declared.tokenizer.TokenType.TheVariants.{Asterisk, Char, Close, End, EscapedChar, InvalidChar, Name, Open, OtherModifier, Regexp}
@@ -240,20 +239,6 @@ pub record IsInvalidChar (text : List ℕ) (kind : TokenType) (value rest : List
   pub is_fault : IsFaultAt text fault
   pub is_kind : kind ≡ InvalidChar
   pub is_value : value ≡ character ∷ []
-
--- a token at the front of a text, or why there is none
-abbrev pub Lexes : List ℕ → Result Lexeme TokenizerError → Type 0
-Lexes text result = MatchResult result
-    (λ lexeme. IsLexed text lexeme.kind (chars lexeme.value.now) (chars lexeme.rest.now))
-    (λ fault. IsFaultAt text (fault_view fault))
-
--- the same under the policy: under the lenient one a character in a fault's place is a token
-abbrev pub LexesUnder : TokenizePolicy → List ℕ → Result Lexeme TokenizerError → Type 0
-LexesUnder TokenizePolicy.Strict text result = Lexes text result
-LexesUnder TokenizePolicy.Lenient text result = MatchResult result
-    (λ lexeme. IsLexed text lexeme.kind (chars lexeme.value.now) (chars lexeme.rest.now)
-    ⊎ IsInvalidChar text lexeme.kind (chars lexeme.value.now) (chars lexeme.rest.now))
-    (λ fault. ⊥)
 
 -- no ASCII character stands after a backslash in the body of a custom regular expression
 abbrev pub LacksEscaped : List ℕ → FaultView → Type 0

@@ -1,4 +1,5 @@
-//! The syntax of URL patterns: from the text of one component's pattern to its tokens and its parts.
+//! The syntax of URL patterns: tokens and parts of the text of one component's pattern, what they mean to its reader, errors, and how
+//! texts are written and escaped.
 #![tactic(auto)]
 
 pub mod error;

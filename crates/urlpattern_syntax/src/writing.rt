@@ -151,7 +151,7 @@ pub fn written<T: Writable>(alloc: Global, text: &T) -> Result<String, AllocErro
 }
 
 /// Whether a text is the one that would be written. It does not allocate.
-pub(crate) fn is_written<T: Writable>(text: &str, written: &T) -> bool
+pub fn is_written<T: Writable>(text: &str, written: &T) -> bool
     ensures { MatchBool result (chars text.now ≡ T.text written.now) (¬ (chars text.now ≡ T.text written.now)) }
 {
     let mut comparison = Comparison { left: Some(text) };

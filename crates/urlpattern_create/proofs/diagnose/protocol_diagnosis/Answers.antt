@@ -4,7 +4,7 @@ use Rattle.std.specs.Prelude.{IfSome}
 use Rattle.std.specs.Str.{chars}
 use Rattle.urlpattern_diagnosis.specs.declared.diagnosis.Subject.{Subject}
 use Rattle.urlpattern_eight.specs.declared.eight.ComponentName.TheVariants.{Protocol}
-use Rattle.urlpattern_init.specs.Split.{HasProtocol}
+use Rattle.urlpattern_split.specs.Split.{HasProtocol}
 use Rattle.urlpattern_create.specs.Diagnoses.{ShowsProtocol}
 use Rattle.urlpattern_create.proofs.DiagnosisLemmas.{shows_all, shows_fault}
 use Rattle.urlpattern_create.proofs.diagnose.protocol_diagnosis.Goals as goal

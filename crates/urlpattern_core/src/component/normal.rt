@@ -1,0 +1,33 @@
+//! The normal form of a list of parts.
+
+ghost use Rattle.std.specs.Prelude.{IfErr, IfOk};
+ghost use Rattle.urlpattern_printing.specs.NormalForms.{FailsIfPrintable, IsJoinedIfKept, IsReadFrom, RefusesPrinted};
+ghost use Rattle.urlpattern_syntax.specs.{Options.options_view, Parts.parts_view, Reading.encoding_by};
+
+use std::alloc::Global;
+use urlpattern_parser::parser::parse_pattern_string;
+use urlpattern_printing::generate_pattern_string;
+use urlpattern_syntax::Error;
+use urlpattern_syntax::parser::{Options, Part};
+
+/// The parts that the pattern text of a list of parts reads as.
+///
+/// Parts that mean the same may be cut in several ways, such as `a{}?b` and `ab`. Their normal form is what their pattern
+/// text reads as. Of printable parts, such as those that were read under the standard's options, it is these parts with
+/// neighbouring plain fixed texts joined, if the callback answers each of their texts by itself or by an error. The error
+/// is then one of the callback's, or that memory ran out.
+pub fn normalize_part_list<F: Fn(&str) -> Result<String, Error> + Drop>(
+    alloc: Global,
+    part_list: &[Part],
+    options: &Options,
+    encoding_callback: F,
+) -> Result<Vec<Part>, Error>
+    requires { F.IsAlwaysCallable encoding_callback }
+    ensures same { IfOk result (IsJoinedIfKept (options_view options.now) (encoding_by F.Fn encoding_callback) (parts_view part_list.now)) }
+    ensures fails { IfErr result (FailsIfPrintable (options_view options.now) (encoding_by F.Fn encoding_callback) (parts_view part_list.now)) }
+    ensures reads { IfOk result (IsReadFrom (options_view options.now) (encoding_by F.Fn encoding_callback) (parts_view part_list.now)) }
+    ensures refuses { IfErr result (RefusesPrinted (options_view options.now) (encoding_by F.Fn encoding_callback) (parts_view part_list.now)) }
+{
+    let text = generate_pattern_string(alloc, part_list, options)?;
+    parse_pattern_string(alloc, &text, options, encoding_callback)
+}

@@ -1,0 +1,10 @@
+pub mod LexemeLemmas
+pub mod GroupLemmas
+pub mod PartListLemmas
+pub mod ReaderLemmas
+pub mod BracedLemmas
+pub mod CharacterLemmas
+pub mod TextReadingLemmas
+pub mod StopLemmas
+pub mod NameSets
+pub mod GivenNameLemmas

@@ -1,0 +1,19 @@
+-- The place that the reading of a text has reached, and the token that it gives.
+use Rattle.std.specs.Prelude.{ℕ, List}
+use Rattle.urlpattern_parser.specs.declared.tokenizer.cursors.Cursor.{Cursor}
+use Rattle.urlpattern_syntax.specs.Cursors.{IsTokenAfter}
+use Rattle.urlpattern_syntax.specs.Text.{chars}
+use Rattle.urlpattern_syntax.specs.Tokens.{token_view}
+use Rattle.urlpattern_syntax.specs.declared.tokenizer.Token.{Token}
+
+-- the text that is read
+abbrev pub cursor_text : Cursor → List ℕ
+cursor_text cursor = chars cursor.input.now
+
+-- what stands in it after the place
+abbrev pub cursor_rest : Cursor → List ℕ
+cursor_rest cursor = chars cursor.rest.now
+
+-- the cursor gives this token, and then is this one
+abbrev pub GivesToken : (old : Cursor) → Token → (new : Cursor) → Type 0
+GivesToken old token new = IsTokenAfter (cursor_text old) (cursor_rest old) (token_view token) (cursor_rest new)

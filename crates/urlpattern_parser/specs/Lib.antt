@@ -1,0 +1,5 @@
+pub mod CursorTexts
+pub mod GivenNames
+pub mod Lexemes
+pub mod PartLists
+pub mod Readers

@@ -1,0 +1,102 @@
+-- What the parser reads, and what it adds to its list of parts, under its own options and by its own callback.
+use Rattle.std.specs.Prelude.{◌≡◌, ℕ, List, [], ◌∷◌, ◌++◌, Contains, Option}
+use Rattle.std.specs.Borrow.{Bor}
+use Rattle.urlpattern_parser.specs.declared.parser.part_list.PartList.{PartList}
+use Rattle.urlpattern_parser.specs.declared.parser.{PatternParser.PatternParser, pieces.Matched.Matched, pieces.Piece.Piece, pieces.Placeholder.Placeholder}
+use Rattle.urlpattern_syntax.specs.declared.tokenizer.TokenType.TheVariants.{End}
+use Rattle.urlpattern_syntax.specs.Errors.{ErrorView}
+use Rattle.urlpattern_syntax.specs.declared.error.Error.{Error}
+use Rattle.urlpattern_syntax.specs.Options.{OptionsView, options_view}
+use Rattle.urlpattern_syntax.specs.Parsing.{AddsItem, AddsParts, FailsItem, FailsItems, pending_items}
+use Rattle.urlpattern_parser.specs.Readers.{KnowsNames, group_item, matched_view, part_list_view, piece_view}
+use Rattle.urlpattern_syntax.specs.Parts.{parts_view}
+use Rattle.urlpattern_syntax.specs.declared.parser.Part.{Part}
+use Rattle.urlpattern_syntax.specs.declared.parser.PartModifier.{PartModifier}
+use Rattle.urlpattern_syntax.specs.Reading.{Calls, Demand, Encoding, Expect, Fixed, Item, Reads, Refuses, compared, encode_fixed, encoding_by, item, name_or}
+use Rattle.urlpattern_syntax.specs.RegexpText.{group_names}
+use Rattle.urlpattern_syntax.specs.Tokens.{token_view}
+use Rattle.urlpattern_syntax.specs.declared.tokenizer.Token.{Token}
+use Rattle.urlpattern_syntax.specs.Text.{chars, option_text}
+
+-- ---- the parser
+
+abbrev pub parser_options : {F : Type 0} → PatternParser F → OptionsView
+parser_options parser = options_view parser.options.now
+
+abbrev pub parser_encoding : {F : Type 0} → Calls F → PatternParser F → Encoding
+parser_encoding calls parser = encoding_by calls parser.encoding_callback
+
+-- the text means these parts to the parser
+abbrev pub ParserReads : {F : Type 0} → Calls F → PatternParser F → List ℕ → List Part → Type 0
+ParserReads calls parser text parts = Reads text (parser_options parser) (parser_encoding calls parser) (parts_view parts)
+
+-- the parser refuses the text with this error
+abbrev pub ParserRefuses : {F : Type 0} → Calls F → PatternParser F → List ℕ → ErrorView → Type 0
+ParserRefuses calls parser text error = Refuses text (parser_options parser) (parser_encoding calls parser) error
+
+-- the regular expression that decides the kind of a placeholder's part
+abbrev pub matched_regexp : {F : Type 0} → PatternParser F → Matched → List ℕ
+matched_regexp parser matched = compared (parser_options parser) (matched_view matched)
+
+-- ---- the names of a list
+
+abbrev pub list_names : PartList → List (List ℕ)
+list_names list = group_names (part_list_view list).parts
+
+-- the list keeps these names
+abbrev pub Knows : PartList → List (List ℕ) → Type 0
+Knows list names = KnowsNames names list.given_names list.next_numeric_name
+
+-- the list keeps the names of its parts
+abbrev pub KnowsItsNames : PartList → Type 0
+KnowsItsNames list = Knows list (list_names list)
+
+-- the name of the list's next placeholder: this one, or else its number among those that have none
+abbrev pub next_name : PartList → Option (Bor (List ℕ)) → List ℕ
+next_name list name = name_or (option_text name) list.next_numeric_name
+
+-- the error reports that the name of the list's next placeholder is in it already
+abbrev pub IsDuplicate : PartList → Option (Bor (List ℕ)) → ErrorView → Type 0
+IsDuplicate list name error = Contains (list_names list) (next_name list name) × (error ≡ ErrorView.DuplicateName (next_name list name))
+
+-- ---- what a list takes
+
+-- the list's pending text, as an item if there is one
+abbrev pub pending_item : PartList → List Item
+pending_item list = pending_items (part_list_view list).pending
+
+-- the list's pending text, then the text of these bytes with a modifier
+abbrev pub then_text : PartList → (bytes : List ℕ) → PartModifier → List Item
+then_text list bytes modifier = pending_item list ++ Fixed (chars bytes) modifier ∷ []
+
+-- the list's pending text, then a placeholder between the texts of these bytes
+abbrev pub then_group : PartList → (before : List ℕ) → Placeholder → (after : List ℕ) → PartModifier → List Item
+then_group list before placeholder after modifier =
+    pending_item list ++ group_item (chars before) placeholder (chars after) modifier list.next_numeric_name ∷ []
+
+-- what a piece stands for after the list
+abbrev pub next_item : PartList → Piece → Item
+next_item list piece = item list.next_numeric_name (piece_view piece)
+
+-- the demands at the last token: the encoding of the list's pending text, and that the token is the end
+abbrev pub end_demands : PartList → Token → List Demand
+end_demands list token = encode_fixed (part_list_view list).pending ++ Expect End (token_view token) ∷ []
+
+-- the parser puts the parts of these items after those of the list, and nothing is pending
+abbrev pub AddsAll : {F : Type 0} → Calls F → PatternParser F → (old : PartList) → List Item → (new : PartList) → Type 0
+AddsAll calls parser old items new =
+    AddsParts (parser_options parser) (parser_encoding calls parser) (part_list_view old) items (part_list_view new)
+
+-- the parser adds the piece to the list
+abbrev pub AddsPiece : {F : Type 0} → Calls F → PatternParser F → (old : PartList) → Piece → (new : PartList) → Type 0
+AddsPiece calls parser old piece new =
+    AddsItem (parser_options parser) (parser_encoding calls parser) (part_list_view old) (next_item old piece) (part_list_view new)
+
+-- memory ran out, or a demand of these items after the list fails with the error
+abbrev pub FailsToAdd : {F : Type 0} → Calls F → PatternParser F → PartList → List Item → Error → Type 0
+FailsToAdd calls parser list items error = FailsItems (parser_encoding calls parser) (part_list_view list).parts items error
+
+-- the parser does not add the piece to the list
+abbrev pub FailsToAddPiece : {F : Type 0} → Calls F → PatternParser F → PartList → Piece → Error → Type 0
+FailsToAddPiece calls parser list piece error =
+    FailsItem (parser_encoding calls parser) (part_list_view list) (next_item list piece) error

@@ -1,0 +1,122 @@
+-- The reader of a pattern's pieces: which tokens it takes, which are left, and what its pieces and the list of parts show.
+use Rattle.std.specs.Prelude.{◌≡◌, ◌≢◌, ◌<◌, ◌≤◌, ◌+◌, ℕ, ◌⊎◌, List, [], ◌∷◌, ◌++◌, length, decimal, Contains, IsTrue, ◌^◌, ◌↔◌}
+use Rattle.std.specs.Str.{chars, IsUtf8}
+use Rattle.std.specs.Borrow.{Bor}
+use Rattle.urlpattern_parser.specs.declared.parser.pieces.{Matched.Matched as MatchedValue, Next.Next, Piece.Piece as PieceValue, Placeholder.Placeholder as PlaceholderValue, Reader.Reader}
+use Rattle.urlpattern_syntax.specs.declared.tokenizer.TokenType.TheVariants.{End}
+use Rattle.urlpattern_parser.specs.declared.parser.part_list.PartList.{PartList}
+use Rattle.urlpattern_syntax.specs.Cursors.{AreTokensAfter, IsPlace, tokens_left}
+use Rattle.urlpattern_parser.specs.CursorTexts.{cursor_rest, cursor_text}
+use Rattle.urlpattern_syntax.specs.Errors.{ErrorView}
+use Rattle.urlpattern_syntax.specs.declared.error.Error.{Error}
+use Rattle.urlpattern_syntax.specs.Errors.{MemoryOr}
+use Rattle.urlpattern_parser.specs.declared.parser.given_names.GivenNames.{GivenNames}
+use Rattle.urlpattern_parser.specs.GivenNames.{has_name}
+use Rattle.urlpattern_syntax.specs.Parsing.{IsTokenList, IsModifierSpelled, IsNameSpelled, IsGiven, BeginsWithPlaceholder, IsPieceNamed, BeginsWithCharacters, BeginsWithRow, BeginsWithClose, BeginsWithPiece, HasEndingAt, PartListView}
+use Rattle.urlpattern_syntax.specs.Parts.{parts_view}
+use Rattle.urlpattern_syntax.specs.declared.parser.PartModifier.{PartModifier}
+use Rattle.urlpattern_syntax.specs.Text.{option_text, text_of}
+use Rattle.urlpattern_syntax.specs.Pieces.{Piece, Placeholder, Matched, Ending, IsPrefixOf}
+use Rattle.urlpattern_syntax.specs.Reading.{Item, Capture, name_or}
+use Rattle.urlpattern_syntax.specs.Tokens.{AreTokens, ReportsFault, TokenView, token_view}
+
+-- the text that is read
+abbrev pub reader_text : Reader → List ℕ
+reader_text reader = cursor_text reader.cursor
+
+-- more than the tokens that are left, End apart
+abbrev pub reader_left : Reader → ℕ
+reader_left reader = length reader.cursor.rest.now + tokens_left reader.token.kind
+
+-- these tokens are left: the first, and those of the rest of the text
+pub record HasTokensLeft (reader : Reader) (tokens : List TokenView) : Type 0 where
+  pub more : List TokenView
+  pub first : tokens ≡ token_view reader.token ∷ more
+  pub closed : IsTokenList tokens
+  pub others : ((reader.token.kind ≡ End) × (more ≡ []))
+      ⊎ ((reader.token.kind ≢ End) × AreTokensAfter (reader_text reader) (cursor_rest reader.cursor) more)
+
+-- the reader is at a place of its text, and the token before that is spelled as its kind is
+pub record Stands (reader : Reader) : Type 0 where
+  pub place : IsPlace (reader_text reader) (cursor_rest reader.cursor)
+  pub mark : IsModifierSpelled (token_view reader.token)
+  pub name : IsNameSpelled (token_view reader.token)
+
+-- what is left after the taking (`rest`) is so related to what was left before it (`tokens`)
+pub record Takes (old new : Reader) (Is : (tokens rest : List TokenView) → Type 0) : Type 0 where
+  pub whole : new.cursor.input.now ≡ old.cursor.input.now
+  pub stands : Stands new
+  pub left : reader_left new ≤ reader_left old
+  pub gives : (rest : List TokenView) → HasTokensLeft new rest → (tokens : List TokenView) × HasTokensLeft old tokens × Is tokens rest
+
+-- all tokens of the text are left
+pub record StartsText (text : List ℕ) (reader : Reader) : Type 0 where
+  pub whole : reader_text reader ≡ text
+  pub stands : Stands reader
+  pub all : (tokens : List TokenView) → HasTokensLeft reader tokens → AreTokens text tokens
+
+abbrev pub matched_view : MatchedValue → Matched
+matched_view MatchedValue.Segment = Matched.Segment
+matched_view (MatchedValue.Custom body) = Matched.Custom (chars body.now)
+matched_view MatchedValue.Anything = Matched.Anything
+
+abbrev pub placeholder_view : PlaceholderValue → Placeholder
+placeholder_view value = record { name = option_text value.name; matched = matched_view value.matched }
+
+abbrev pub piece_view : PieceValue → Piece
+piece_view (PieceValue.Text text) = Piece.Text (chars text.now)
+piece_view (PieceValue.Bare prefix placeholder modifier) = Piece.Bare (chars prefix.now) (placeholder_view placeholder) modifier
+piece_view (PieceValue.TextGroup text modifier) = Piece.TextGroup (text_of text) modifier
+piece_view (PieceValue.Group before placeholder after modifier) =
+    Piece.Group (text_of before) (placeholder_view placeholder) (text_of after) modifier
+
+-- a placeholder between texts, as an item
+abbrev pub group_item : (before : List ℕ) → PlaceholderValue → (after : List ℕ) → PartModifier → ℕ → Item
+group_item before value after modifier number =
+    Capture before (name_or (option_text value.name) number) (matched_view value.matched) after modifier
+
+abbrev pub IsNextNamed : Next → Type 0
+IsNextNamed (Next.Piece piece) = IsPieceNamed (piece_view piece)
+IsNextNamed other = Unit {0}
+
+-- the next piece of tokens, or how they end
+abbrev pub IsNext : (point : List ℕ) → (tokens : List TokenView) → Next → (rest : List TokenView) → Type 0
+IsNext point tokens (Next.Piece piece) rest = BeginsWithPiece point tokens (piece_view piece) rest
+IsNext point tokens (Next.Characters first more) rest = BeginsWithRow tokens (chars first.now ++ chars more.now) rest
+IsNext point tokens Next.Stops rest = HasEndingAt tokens Ending.Stops rest
+IsNext point tokens Next.LacksClose rest = HasEndingAt tokens Ending.LacksClose rest
+
+-- the same of these tokens after any that are the prefix
+abbrev pub IsNextAfter : (prefix : List ℕ) → (tokens : List TokenView) → Next → (rest : List TokenView) → Type 0
+IsNextAfter prefix tokens next rest =
+    (point : List ℕ) (before : List TokenView) → IsPrefixOf point before prefix → IsNext point (before ++ tokens) next rest
+
+-- a placeholder is taken
+abbrev pub TakesPlaceholder : (old new : Reader) → PlaceholderValue → Type 0
+TakesPlaceholder old new value = Takes old new (λ tokens rest. BeginsWithPlaceholder tokens (placeholder_view value) rest)
+
+-- the first token, a character, is taken and then more of them, whose values these are
+abbrev pub TakesRow : (old new : Reader) → (more : Bor (List ℕ)) → Type 0
+TakesRow old new more = Takes old new (λ tokens rest. BeginsWithCharacters tokens (token_view old.token) (chars more.now) rest)
+
+-- the end of a group and its modifier are taken
+abbrev pub TakesClose : (old new : Reader) → PartModifier → Type 0
+TakesClose old new modifier = Takes old new (λ tokens rest. BeginsWithClose tokens modifier rest)
+
+-- what is taken leaves less
+abbrev pub IsShorter : (new old : ℕ) → Next → Type 0
+IsShorter new old (Next.Piece piece) = new < old
+IsShorter new old (Next.Characters first more) = new < old
+IsShorter new old other = Unit {0}
+
+abbrev pub part_list_view : PartList → PartListView
+part_list_view list = record { parts = parts_view list.parts.items; pending = text_of list.pending_fixed_value; number = list.next_numeric_name }
+
+-- these are the names so far: those that the pattern gives are kept, and the others are numbers below this one
+pub record KnowsNames (names : List (List ℕ)) (given : GivenNames) (number : ℕ) : Type 0 where
+  pub named : (name : List ℕ) → IsUtf8 name → IsGiven (chars name) → Contains names (chars name) ↔ IsTrue (has_name given name)
+  pub numbered : (other : ℕ) → number ≤ other → other < 2 ^ 64 → ¬ Contains names (decimal other)
+
+-- memory ran out, or the error is the first fault of the text, or it is one of these and the rest has tokens
+abbrev pub FaultOr : Reader → (ErrorView → Type 0) → Error → Type 0
+FaultOr reader Is error = ReportsFault (reader_text reader) error ⊎ (((tokens : List TokenView) × HasTokensLeft reader tokens) × MemoryOr Is error)

@@ -1,0 +1,177 @@
+//! The parts of a pattern text, read from its tokens.
+//!
+//! <https://urlpattern.spec.whatwg.org/#parts-and-part-lists>
+ghost use Rattle.std.specs.Prelude.{◌≤◌, ◌≡◌, Result, IfOk, IfErr, OnOk};
+ghost use Rattle.std.specs.Str.{chars};
+ghost use Rattle.urlpattern_syntax.specs.Errors.{ErrorView, error_view};
+ghost use Rattle.urlpattern_syntax.specs.{Options.options_view, Text.text_of};
+ghost use Rattle.urlpattern_syntax.specs.Errors.{MemoryOr};
+ghost use Rattle.urlpattern_parser.specs.Readers.{FaultOr, Stands, StartsText, reader_left, reader_text};
+ghost use Rattle.urlpattern_parser.specs.PartLists.{AddsAll, ParserReads, ParserRefuses, end_demands, matched_regexp, parser_encoding, parser_options, pending_item};
+ghost use Rattle.urlpattern_syntax.specs.Reading.{FirstFails, IsReadAs, Refuses, encoding_by, kind_of, value_of};
+
+mod given_names;
+mod part_list;
+mod pieces;
+mod stop;
+
+use crate::tokenizer::{Token, TokenType};
+use part_list::PartList;
+use pieces::{Matched, Next, Reader};
+use std::alloc::{AllocError, Global};
+pub use stop::Stop;
+use urlpattern_syntax::error::{Error, ParserError};
+use urlpattern_syntax::escape::SegmentWildcard;
+pub use urlpattern_syntax::parser::{
+    FULL_WILDCARD_REGEXP_VALUE, Options, Part, PartModifier, PartType, RegexSyntax,
+};
+use urlpattern_syntax::writing::is_written;
+
+/// What stays the same while a pattern text is read.
+///
+/// <https://urlpattern.spec.whatwg.org/#pattern-parser>
+#[derive(Drop)]
+struct PatternParser<'o, F> {
+    alloc: Global,
+    options: &'o Options,
+    encoding_callback: F,
+}
+
+/// The parts of a pattern text.
+///
+/// Each fixed text, prefix and suffix goes through the callback, which may be asked in any order. The error is the first
+/// fault of the text, with its place in bytes; else the first demand of its pieces that is not met, which may be the
+/// callback's own error; or that memory ran out.
+///
+/// <https://urlpattern.spec.whatwg.org/#parse-a-pattern-string>
+pub fn parse_pattern_string<F: Fn(&str) -> Result<String, Error> + Drop>(
+    alloc: Global,
+    input: &str,
+    options: &Options,
+    encoding_callback: F,
+) -> Result<Vec<Part>, Error>
+    requires { F.IsAlwaysCallable encoding_callback }
+    ensures reads { IfOk result (IsReadAs (chars input.now) (options_view options.now) (encoding_by F.Fn encoding_callback)) }
+    ensures refuses { IfErr result (MemoryOr (Refuses (chars input.now) (options_view options.now) (encoding_by F.Fn encoding_callback))) }
+{
+    let mut reader = Reader::new(alloc, input)?;
+    let parser = PatternParser {
+        alloc,
+        options,
+        encoding_callback,
+    };
+    parser.part_list(&mut reader)
+}
+
+impl<F: Fn(&str) -> Result<String, Error>> PatternParser<'_, F> {
+    /// The parts of a text, of which no token is taken.
+    fn part_list(&self, reader: &mut Reader<'_>) -> Result<Vec<Part>, Error>
+        requires callable { F.IsAlwaysCallable self.now.encoding_callback }
+        requires starts { StartsText (reader_text reader.old) reader.old }
+        requires room { reader_left reader.old ≤ usize.MAX }
+        ensures reads { IfOk result (λ parts. ParserReads F.Fn self.now (reader_text reader.old) parts.items) }
+        ensures refuses { IfErr result (MemoryOr (ParserRefuses F.Fn self.now (reader_text reader.old))) }
+    {
+        let mut list = PartList::new(self.alloc);
+        let mut next = Next::Stops;
+        loop {
+            reader.next_piece(&self.options.prefix_code_point, &mut next)?;
+            match &next {
+                Next::Piece(piece) => match list.add(self, piece) {
+                    Ok(()) => {}
+                    Err(error) => return Err(first_fault(reader, error)),
+                },
+                Next::Characters(first, more) => {
+                    list.add_plain(first)?;
+                    list.add_plain(more)?;
+                }
+                Next::LacksClose => {
+                    reader.read_to_end()?;
+                    return Err(expected_token(self.alloc, TokenType::Close, reader.token()));
+                }
+                Next::Stops => {
+                    self.finish(&mut list, reader)?;
+                    return Ok(list.parts);
+                }
+            }
+        }
+    }
+
+    /// Adds what is pending before the token with which no piece begins, which has to be the end.
+    fn finish(&self, list: &mut PartList<'_>, reader: &Reader<'_>) -> Result<(), Error>
+        requires callable { F.IsAlwaysCallable self.now.encoding_callback }
+        requires stands { Stands reader.now }
+        ensures end { OnOk result (reader.now.token.kind ≡ TokenType.End) }
+        ensures ok { OnOk result (AddsAll F.Fn self.now list.old (pending_item list.old) list.new) }
+        ensures err { IfErr result (FaultOr reader.now (FirstFails (parser_encoding F.Fn self.now) (end_demands list.old reader.now.token))) }
+    {
+        if let Err(error) = list.add_pending(self) {
+            return Err(first_fault(reader, error));
+        }
+        if reader.token().kind != TokenType::End {
+            reader.read_to_end()?;
+            return Err(expected_token(self.alloc, TokenType::End, reader.token()));
+        }
+        Ok(())
+    }
+
+    /// What the callback answers for a text.
+    fn ask(&self, text: &str) -> Result<String, Error>
+        requires { F.IsAlwaysCallable self.now.encoding_callback }
+        ensures ok { IfOk result (λ answer. parser_encoding F.Fn self.now (chars text.now) (Result.Ok (text_of answer))) }
+        ensures err { IfErr result (λ error. parser_encoding F.Fn self.now (chars text.now) (Result.Err (error_view error))) }
+    {
+        (self.encoding_callback)(text)
+    }
+
+    /// The kind of a placeholder's part, and its value: the body of a custom regular expression that is no wildcard.
+    #[inline(always)]
+    fn kind_and_value(&self, matched: Matched<'_>) -> Result<(PartType, String), AllocError>
+        ensures kind { IfOk result (λ found. found.0 ≡ kind_of (parser_options self.now) (matched_regexp self.now matched.entry)) }
+        ensures value { IfOk result (λ found. text_of found.1 ≡ value_of found.0 (matched_regexp self.now matched.entry)) }
+    {
+        match matched {
+            Matched::Segment => Ok((PartType::SegmentWildcard, String::new(self.alloc))),
+            Matched::Anything => Ok((PartType::FullWildcard, String::new(self.alloc))),
+            Matched::Custom(body) => self.kind_by_regexp(body),
+        }
+    }
+
+    /// The kind and the value of a part that stands for what this regular expression matches.
+    fn kind_by_regexp(&self, regexp: &str) -> Result<(PartType, String), AllocError>
+        ensures kind { IfOk result (λ found. found.0 ≡ kind_of (parser_options self.now) (chars regexp.now)) }
+        ensures value { IfOk result (λ found. text_of found.1 ≡ value_of found.0 (chars regexp.now)) }
+    {
+        if is_written(regexp, &SegmentWildcard(self.options)) {
+            return Ok((PartType::SegmentWildcard, String::new(self.alloc)));
+        }
+        if regexp == FULL_WILDCARD_REGEXP_VALUE {
+            return Ok((PartType::FullWildcard, String::new(self.alloc)));
+        }
+        Ok((PartType::Regexp, String::from_str(self.alloc, regexp)?))
+    }
+}
+
+/// The first fault of the text that is read, if it has one, or else this error. Out of memory stays as it is.
+fn first_fault(reader: &Reader<'_>, error: Error) -> Error
+    requires { Stands reader.now }
+    ensures { FaultOr reader.now (λ view. view ≡ error_view error) result }
+{
+    if matches!(error, Error::OutOfMemory) {
+        return error;
+    }
+    match reader.read_to_end() {
+        Ok(()) => error,
+        Err(fault) => fault,
+    }
+}
+
+/// The error where a token of this kind has to stand and another does, or that memory ran out.
+fn expected_token(alloc: Global, kind: TokenType, found: Token<'_>) -> Error
+    ensures { MemoryOr (λ error. error ≡ ErrorView.ExpectedToken kind found.entry.kind (chars found.entry.value.now)) result }
+{
+    match String::from_str(alloc, found.value) {
+        Ok(value) => Error::Parser(ParserError::ExpectedToken(kind, found.kind, value)),
+        Err(error) => error.into(),
+    }
+}

@@ -1,0 +1,52 @@
+//! The names that a pattern gives to its placeholders.
+ghost use Rattle.std.specs.Prelude.{◌≡◌, ◌||◌, ℕ, List, false, OnOk};
+ghost use Rattle.urlpattern_parser.specs.GivenNames.{has_name, has_bytes};
+
+use arrayvec::ArrayVec;
+use std::alloc::{AllocError, Global};
+use std::collections::BTreeSet;
+
+/// How many names are kept without memory.
+const FEW: usize = 8;
+
+/// Names, slices of the pattern's text: the first few side by side, all others in a set.
+#[derive(Drop)]
+pub(super) struct GivenNames<'a> {
+    few: ArrayVec<&'a str, FEW>,
+    others: BTreeSet<&'a str>,
+}
+
+impl<'a> GivenNames<'a> {
+    /// No name. It does not allocate.
+    pub(super) fn new(alloc: Global) -> Self
+        ensures { (name : List ℕ) → has_name result name ≡ false }
+    {
+        GivenNames {
+            few: ArrayVec::new(),
+            others: BTreeSet::new(alloc),
+        }
+    }
+
+    /// Whether the name is there.
+    pub(super) fn contain(&self, name: &str) -> bool
+        ensures { result ≡ has_name self.now name.now }
+    {
+        self.few.contains(&name) || self.others.contains(name)
+    }
+
+    /// Adds a name.
+    ///
+    /// The error is that memory ran out.
+    pub(super) fn add(&mut self, name: &'a str) -> Result<(), AllocError>
+        ensures { OnOk result ((other : List ℕ) → has_name self.new other ≡ (has_bytes other name.entry || has_name self.old other)) }
+    {
+        if !self.few.is_full() {
+            self.few.push(name);
+            return Ok(());
+        }
+        match self.others.insert(name) {
+            Ok(_) => Ok(()),
+            Err(_) => Err(AllocError),
+        }
+    }
+}

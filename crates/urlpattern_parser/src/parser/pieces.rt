@@ -1,0 +1,338 @@
+//! The pieces of a pattern, read from its tokens one by one.
+//!
+//! <https://urlpattern.spec.whatwg.org/#parse-a-pattern-string>
+ghost use Rattle.std.specs.Prelude.{◌≡◌, ◌≢◌, ◌∷◌, ◌++◌, ◌<◌, ◌≤◌, ℕ, List, IsTrue, IfErr, IfNone, IfOk, IfSome, OnOk, length};
+ghost use Rattle.std.specs.Str.{chars};
+ghost use Rattle.urlpattern_syntax.specs.declared.tokenizer.TokenType.TheVariants as kinds;
+ghost use Rattle.urlpattern_syntax.specs.Parsing.{BeginsWithModifier, BeginsWithTexts, IsNameGiven};
+ghost use Rattle.urlpattern_parser.specs.Readers.{HasTokensLeft, IsNext, IsNextAfter, IsNextNamed, IsShorter, Stands, StartsText, Takes, TakesClose, TakesPlaceholder, TakesRow, reader_left, reader_text};
+ghost use Rattle.urlpattern_syntax.specs.Pieces.{is_placeholder, is_text};
+ghost use Rattle.urlpattern_syntax.specs.Text.{option_text, text_of};
+ghost use Rattle.urlpattern_syntax.specs.Tokens.{ReportsFault, TokenView, token_view};
+
+use crate::tokenizer::{Cursor, Token, TokenType};
+use std::alloc::Global;
+use urlpattern_syntax::error::Error;
+use urlpattern_syntax::parser::PartModifier;
+
+/// What a placeholder stands for.
+#[derive(Clone, Copy)]
+pub(super) enum Matched<'a> {
+    /// A segment.
+    Segment,
+    /// What a custom regular expression matches: its body.
+    Custom(&'a str),
+    /// Anything.
+    Anything,
+}
+
+/// A placeholder, perhaps with a name.
+#[derive(Clone, Copy)]
+pub(super) struct Placeholder<'a> {
+    pub(super) name: Option<&'a str>,
+    pub(super) matched: Matched<'a>,
+}
+
+/// A piece of a pattern.
+#[derive(Drop)]
+pub(super) enum Piece<'a> {
+    /// One character.
+    Text(&'a str),
+    /// A placeholder without braces, with the prefix code point before it or nothing.
+    Bare(&'a str, Placeholder<'a>, PartModifier),
+    /// Texts in braces.
+    TextGroup(String, PartModifier),
+    /// A placeholder in braces, with the texts before and after it.
+    Group(String, Placeholder<'a>, String, PartModifier),
+}
+
+/// What the tokens that are left begin with.
+#[derive(Drop)]
+pub(super) enum Next<'a> {
+    /// A piece, which is taken.
+    Piece(Piece<'a>),
+    /// A character and the characters after it, which are taken. Each of them is a piece, and another one follows.
+    Characters(&'a str, &'a str),
+    /// A token with which no piece begins. It is not taken.
+    Stops,
+    /// A group without its end. The token in place of that is not taken.
+    LacksClose,
+}
+
+/// The tokens of a pattern that no piece has taken: the first of them, and where the others begin.
+#[derive(Clone, Copy)]
+pub(super) struct Reader<'a> {
+    alloc: Global,
+    cursor: Cursor<'a>,
+    token: Token<'a>,
+}
+
+impl<'a> Reader<'a> {
+    /// The tokens of a text.
+    ///
+    /// The error is the first fault of the text.
+    pub(super) fn new(alloc: Global, input: &'a str) -> Result<Self, Error>
+        ensures starts { IfOk result (λ reader. StartsText (chars input.now) reader) }
+        ensures room { IfOk result (λ reader. reader_left reader ≤ length input.now) }
+        ensures fault { IfErr result (ReportsFault (chars input.now)) }
+    {
+        let mut cursor = Cursor::new(input);
+        let token = cursor.next()?;
+        Ok(Reader {
+            alloc,
+            cursor,
+            token,
+        })
+    }
+
+    /// The first token that no piece has taken.
+    pub(super) fn token(&self) -> Token<'a>
+        ensures { result ≡ self.now.token }
+    {
+        self.token
+    }
+
+    /// Reads the other tokens, to the end of the text. It does not allocate.
+    ///
+    /// The error is the first fault of the text.
+    pub(super) fn read_to_end(&self) -> Result<(), Error>
+        requires { Stands self.now }
+        ensures tokens { OnOk result ((tokens : List TokenView) × HasTokensLeft self.now tokens) }
+        ensures fault { IfErr result (ReportsFault (reader_text self.now)) }
+    {
+        self.cursor.read_to_end()
+    }
+
+    /// Takes the next piece, if the tokens begin with one. What they begin with is written to `next`.
+    ///
+    /// The error is the first fault of the text, or that memory ran out.
+    pub(super) fn next_piece(
+        &mut self,
+        prefix_code_point: &str,
+        next: &mut Next<'a>,
+    ) -> Result<(), Error>
+        requires { Stands self.old }
+        ensures next { OnOk result (Takes self.old self.new (λ tokens rest. IsNext (chars prefix_code_point.now) tokens next.new rest)) }
+        ensures named { OnOk result (IsNextNamed next.new) }
+        ensures less { OnOk result (IsShorter (reader_left self.new) (reader_left self.old) next.new) }
+        ensures fault { IfErr result (ReportsFault (reader_text self.old)) }
+    {
+        match self.token.kind {
+            TokenType::Open => {
+                *next = self.group()?;
+                Ok(())
+            }
+            TokenType::Name | TokenType::Regexp | TokenType::Asterisk => self.bare("", next),
+            TokenType::Char => self.character(prefix_code_point, next),
+            TokenType::EscapedChar => {
+                let token = self.take()?;
+                *next = Next::Piece(Piece::Text(token.value));
+                Ok(())
+            }
+            _ => {
+                *next = Next::Stops;
+                Ok(())
+            }
+        }
+    }
+
+    /// Takes the first token.
+    fn take(&mut self) -> Result<Token<'a>, Error>
+        requires stands { Stands self.old }
+        requires more { self.old.token.kind ≢ kinds.End }
+        ensures token { IfOk result (λ token. token ≡ self.old.token) }
+        ensures takes { OnOk result (Takes self.old self.new (λ tokens rest. tokens ≡ token_view self.old.token ∷ rest)) }
+        ensures less { OnOk result (reader_left self.new < reader_left self.old) }
+        ensures fault { IfErr result (ReportsFault (reader_text self.old)) }
+    {
+        let next = self.cursor.next()?;
+        let token = self.token;
+        self.token = next;
+        Ok(token)
+    }
+
+    /// Takes a character, and the placeholder after it if the character is its prefix, or else the characters after it.
+    fn character(&mut self, prefix_code_point: &str, next: &mut Next<'a>) -> Result<(), Error>
+        requires stands { Stands self.old }
+        requires character { self.old.token.kind ≡ kinds.Char }
+        ensures next { OnOk result (Takes self.old self.new (λ tokens rest. IsNext (chars prefix_code_point.now) tokens next.new rest)) }
+        ensures named { OnOk result (IsNextNamed next.new) }
+        ensures less { OnOk result (reader_left self.new < reader_left self.old) }
+        ensures fault { IfErr result (ReportsFault (reader_text self.old)) }
+    {
+        let (first, more) = self.characters()?;
+        if !more.is_empty() {
+            *next = Next::Characters(first, more);
+            return Ok(());
+        }
+        if first == prefix_code_point && is_placeholder(self.token.kind) {
+            return self.bare(first, next);
+        }
+        *next = Next::Piece(Piece::Text(first));
+        Ok(())
+    }
+
+    /// Takes a character, and the characters after it up to the last of them. Their values.
+    fn characters(&mut self) -> Result<(&'a str, &'a str), Error>
+        requires stands { Stands self.old }
+        requires character { self.old.token.kind ≡ kinds.Char }
+        ensures first { IfOk result (λ taken. taken.0 ≡ self.old.token.value) }
+        ensures more { IfOk result (λ taken. TakesRow self.old self.new taken.1) }
+        ensures less { OnOk result (reader_left self.new < reader_left self.old) }
+        ensures fault { IfErr result (ReportsFault (reader_text self.old)) }
+    {
+        let more = self.cursor.characters();
+        let next = self.cursor.next()?;
+        let first = self.token.value;
+        self.token = next;
+        Ok((first, more))
+    }
+
+    /// Takes a placeholder without braces and its modifier, after this prefix.
+    fn bare(&mut self, prefix: &'a str, next: &mut Next<'a>) -> Result<(), Error>
+        requires stands { Stands self.old }
+        requires placeholder { IsTrue (is_placeholder self.old.token.kind) }
+        ensures next { OnOk result (Takes self.old self.new (λ tokens rest. IsNextAfter (chars prefix.now) tokens next.new rest)) }
+        ensures named { OnOk result (IsNextNamed next.new) }
+        ensures less { OnOk result (reader_left self.new < reader_left self.old) }
+        ensures fault { IfErr result (ReportsFault (reader_text self.old)) }
+    {
+        let placeholder = self.placeholder()?;
+        let modifier = self.modifier()?;
+        *next = Next::Piece(Piece::Bare(prefix, placeholder, modifier));
+        Ok(())
+    }
+
+    /// Takes a group from its opening brace on, up to where its end has to be.
+    fn group(&mut self) -> Result<Next<'a>, Error>
+        requires stands { Stands self.old }
+        requires opening { self.old.token.kind ≡ kinds.Open }
+        ensures next { IfOk result (λ next. Takes self.old self.new (λ tokens rest. (point : List ℕ) → IsNext point tokens next rest)) }
+        ensures named { IfOk result IsNextNamed }
+        ensures less { OnOk result (reader_left self.new < reader_left self.old) }
+        ensures fault { IfErr result (ReportsFault (reader_text self.old)) }
+    {
+        let _opening = self.take()?;
+        let before = self.texts()?;
+        if !is_placeholder(self.token.kind) {
+            return match self.close()? {
+                Some(modifier) => Ok(Next::Piece(Piece::TextGroup(before, modifier))),
+                None => Ok(Next::LacksClose),
+            };
+        }
+        let placeholder = self.placeholder()?;
+        let after = self.texts()?;
+        match self.close()? {
+            Some(modifier) => Ok(Next::Piece(Piece::Group(before, placeholder, after, modifier))),
+            None => Ok(Next::LacksClose),
+        }
+    }
+
+    /// Takes the texts that the tokens begin with. Their values, end to end.
+    fn texts(&mut self) -> Result<String, Error>
+        requires { Stands self.old }
+        ensures texts { IfOk result (λ text. Takes self.old self.new (λ tokens rest. BeginsWithTexts tokens (text_of text) rest)) }
+        ensures fault { IfErr result (ReportsFault (reader_text self.old)) }
+    {
+        let mut text = String::new(self.alloc);
+        while is_text(self.token.kind) {
+            let token = self.take()?;
+            text.push_str(token.value)?;
+        }
+        Ok(text)
+    }
+
+    /// Takes a placeholder.
+    ///
+    /// <https://urlpattern.spec.whatwg.org/#try-to-consume-a-regexp-or-wildcard-token>
+    fn placeholder(&mut self) -> Result<Placeholder<'a>, Error>
+        requires stands { Stands self.old }
+        requires placeholder { IsTrue (is_placeholder self.old.token.kind) }
+        ensures placeholder { IfOk result (TakesPlaceholder self.old self.new) }
+        ensures named { IfOk result (λ placeholder. IsNameGiven (option_text placeholder.name)) }
+        ensures less { OnOk result (reader_left self.new < reader_left self.old) }
+        ensures fault { IfErr result (ReportsFault (reader_text self.old)) }
+    {
+        let first = self.take()?;
+        match first.kind {
+            TokenType::Name => {
+                if self.token.kind != TokenType::Regexp {
+                    return Ok(Placeholder {
+                        name: Some(first.value),
+                        matched: Matched::Segment,
+                    });
+                }
+                let regexp = self.take()?;
+                Ok(Placeholder {
+                    name: Some(first.value),
+                    matched: Matched::Custom(regexp.value),
+                })
+            }
+            TokenType::Regexp => Ok(Placeholder {
+                name: None,
+                matched: Matched::Custom(first.value),
+            }),
+            _ => Ok(Placeholder {
+                name: None,
+                matched: Matched::Anything,
+            }),
+        }
+    }
+
+    /// Takes the end of a group and its modifier, if the tokens begin with that end.
+    fn close(&mut self) -> Result<Option<PartModifier>, Error>
+        requires { Stands self.old }
+        ensures closes { IfOk result (λ found. IfSome found (TakesClose self.old self.new)) }
+        ensures lacks { IfOk result (λ found. IfNone found (Takes self.old self.new (λ tokens rest. tokens ≡ rest))) }
+        ensures other { IfOk result (λ found. IfNone found (self.new.token.kind ≢ kinds.Close)) }
+        ensures fault { IfErr result (ReportsFault (reader_text self.old)) }
+    {
+        if self.token.kind != TokenType::Close {
+            return Ok(None);
+        }
+        let _closing = self.take()?;
+        Ok(Some(self.modifier()?))
+    }
+
+    /// Takes the modifier that the tokens begin with, if there is one.
+    ///
+    /// <https://urlpattern.spec.whatwg.org/#try-to-consume-a-modifier-token>
+    #[inline(always)]
+    fn modifier(&mut self) -> Result<PartModifier, Error>
+        requires { Stands self.old }
+        ensures modifier { IfOk result (λ modifier. Takes self.old self.new (λ tokens rest. BeginsWithModifier tokens modifier rest)) }
+        ensures fault { IfErr result (ReportsFault (reader_text self.old)) }
+    {
+        match self.token.kind {
+            TokenType::OtherModifier => {
+                let token = self.take()?;
+                if token.value == "?" {
+                    return Ok(PartModifier::Optional);
+                }
+                Ok(PartModifier::OneOrMore)
+            }
+            TokenType::Asterisk => {
+                let _asterisk = self.take()?;
+                Ok(PartModifier::ZeroOrMore)
+            }
+            _ => Ok(PartModifier::None),
+        }
+    }
+}
+
+/// Whether a token is a character, escaped or not.
+fn is_text(kind: TokenType) -> bool
+    ensures { result ≡ is_text kind }
+{
+    matches!(kind, TokenType::Char | TokenType::EscapedChar)
+}
+
+/// Whether a placeholder begins with a token of this kind.
+fn is_placeholder(kind: TokenType) -> bool
+    ensures { result ≡ is_placeholder kind }
+{
+    matches!(
+        kind,
+        TokenType::Name | TokenType::Regexp | TokenType::Asterisk
+    )
+}

@@ -1,0 +1,50 @@
+//! Where the pieces of a pattern text end.
+ghost use Rattle.std.specs.Prelude.{IfErr, IfOk};
+ghost use Rattle.std.specs.Str.{chars};
+ghost use Rattle.urlpattern_syntax.specs.Stops.{IsStopOf};
+ghost use Rattle.urlpattern_syntax.specs.Tokens.{ReportsFault, token_view};
+
+use super::pieces::{Next, Reader};
+use crate::tokenizer::Token;
+use std::alloc::Global;
+use urlpattern_syntax::error::Error;
+
+/// Where the pieces of a pattern text end.
+#[derive(Debug, Clone, Copy)]
+pub struct Stop<'a> {
+    /// The first token that no piece takes: the one found, or the brace of a group that lacks its end.
+    pub first: Token<'a>,
+    /// The token before which the pieces end, which is `End` where they are the whole text.
+    pub found: Token<'a>,
+}
+
+impl<'a> Stop<'a> {
+    /// Where the pieces of a text end, if this is the prefix code point.
+    ///
+    /// The error is the first fault of the text, or that memory ran out.
+    pub fn of(alloc: Global, input: &'a str, prefix_code_point: &str) -> Result<Self, Error>
+        ensures stops { IfOk result (λ stop. IsStopOf (chars input.now) (chars prefix_code_point.now) (token_view stop.first) (token_view stop.found)) }
+        ensures fault { IfErr result (ReportsFault (chars input.now)) }
+    {
+        let mut reader = Reader::new(alloc, input)?;
+        let mut next = Next::Stops;
+        loop {
+            let first = reader.token();
+            reader.next_piece(prefix_code_point, &mut next)?;
+            match &next {
+                Next::Piece(_) => {}
+                Next::Characters(_, _) => {}
+                Next::LacksClose => {
+                    reader.read_to_end()?;
+                    let found = reader.token();
+                    return Ok(Stop { first, found });
+                }
+                Next::Stops => {
+                    reader.read_to_end()?;
+                    let found = reader.token();
+                    return Ok(Stop { first, found });
+                }
+            }
+        }
+    }
+}

@@ -1,0 +1,232 @@
+//! The taking of one token at the front of a text, and of what is skipped before it.
+//!
+//! <https://urlpattern.spec.whatwg.org/#tokenize>
+ghost use Rattle.std.specs.Prelude.{◌≡◌, ◌<◌, ◌≤◌, ◌∷◌, ◌++◌, ℕ, Bool, [], length, codes, IfOk, IfErr};
+ghost use Rattle.std.specs.Str.{chars};
+ghost use Rattle.urlpattern_syntax.specs.Text.{BeginsWith, is_among, is_name_part};
+ghost use Rattle.urlpattern_syntax.specs.Tokens.{FaultView, IsFaultAt, IsInvalidChar, LacksEscaped, LacksQuestionMark, Skips, SkipsBy, fault_view, is_ignored};
+ghost use Rattle.urlpattern_parser.specs.Lexemes.{Lexes, LexesUnder};
+
+use super::{TokenType, TokenizePolicy, before, is_name_part, is_name_start, split_first};
+use urlpattern_syntax::error::{RegexFault, TokenizerError};
+
+/// The front of a text, as a token, and what follows it.
+#[derive(Clone, Copy)]
+pub(super) struct Lexeme<'a> {
+    pub(super) kind: TokenType,
+    pub(super) value: &'a str,
+    pub(super) rest: &'a str,
+}
+
+/// The token at the front of a text that is not empty and begins with no character that is skipped. Under the lenient
+/// policy a character with which no token begins is one itself.
+pub(super) fn next_token<'a>(
+    text: &'a str,
+    policy: &TokenizePolicy,
+) -> Result<Lexeme<'a>, TokenizerError>
+    requires characters { ¬ (chars text.now ≡ []) }
+    requires counts { ¬ BeginsWith is_ignored (chars text.now) }
+    ensures { LexesUnder policy.now (chars text.now) result }
+{
+    match (next_lexeme(text), policy) {
+        (Err(_), TokenizePolicy::Lenient) => Ok(invalid_char(text)),
+        (answer, _) => answer,
+    }
+}
+
+/// The first character of a text, with which no token begins.
+fn invalid_char(text: &str) -> Lexeme<'_>
+    requires characters { ¬ (chars text.now ≡ []) }
+    requires fault { (fault : FaultView) × IsFaultAt (chars text.now) fault }
+    ensures { IsInvalidChar (chars text.now) result.kind (chars result.value.now) (chars result.rest.now) }
+{
+    let (_, rest) = split_first(text).unwrap();
+    Lexeme {
+        kind: TokenType::InvalidChar,
+        value: before(text, rest),
+        rest,
+    }
+}
+
+/// The token at the front of a text that is not empty and begins with no character that is skipped.
+pub(super) fn next_lexeme(text: &str) -> Result<Lexeme<'_>, TokenizerError>
+    requires characters { ¬ (chars text.now ≡ []) }
+    requires counts { ¬ BeginsWith is_ignored (chars text.now) }
+    ensures { Lexes (chars text.now) result }
+{
+    let Some((first, rest)) = split_first(text) else {
+        return Err(TokenizerError::IncompleteEscapeCode);
+    };
+    let kind = match first {
+        '{' => TokenType::Open,
+        '}' => TokenType::Close,
+        '*' => TokenType::Asterisk,
+        '+' | '?' => TokenType::OtherModifier,
+        '\\' => return escaped_char(rest),
+        ':' => return name(rest),
+        '(' => return regexp(rest),
+        _ => TokenType::Char,
+    };
+    Ok(Lexeme {
+        kind,
+        value: before(text, rest),
+        rest,
+    })
+}
+
+/// The character after a backslash.
+fn escaped_char(text: &str) -> Result<Lexeme<'_>, TokenizerError>
+    ensures { Lexes (codes "\\" ++ chars text.now) result }
+{
+    match split_first(text) {
+        None => Err(TokenizerError::IncompleteEscapeCode),
+        Some((_, rest)) => Ok(Lexeme {
+            kind: TokenType::EscapedChar,
+            value: before(text, rest),
+            rest,
+        }),
+    }
+}
+
+/// The name after a colon, with all the name characters that there are.
+fn name(text: &str) -> Result<Lexeme<'_>, TokenizerError>
+    ensures { Lexes (codes ":" ++ chars text.now) result }
+{
+    match split_first(text) {
+        Some((first, rest)) if is_name_start(first) => {
+            let rest = skip::<NamePart>(rest);
+            Ok(Lexeme {
+                kind: TokenType::Name,
+                value: before(text, rest),
+                rest,
+            })
+        }
+        _ => Err(TokenizerError::InvalidName),
+    }
+}
+
+/// The body after an open bracket, up to the bracket that closes it.
+fn regexp(text: &str) -> Result<Lexeme<'_>, TokenizerError>
+    ensures { Lexes (codes "(" ++ chars text.now) result }
+{
+    match split_first(text) {
+        Some(('?', _)) => Err(TokenizerError::InvalidRegex(RegexFault::BadCharacter)),
+        Some((')', _)) => Err(TokenizerError::InvalidRegex(RegexFault::Empty)),
+        _ => regexp_body(text),
+    }
+}
+
+/// A body that is neither empty nor begins with a question mark, up to the bracket that closes it.
+fn regexp_body(text: &str) -> Result<Lexeme<'_>, TokenizerError>
+    requires { ¬ BeginsWith (is_among (codes "?)")) (chars text.now) }
+    ensures { Lexes (codes "(" ++ chars text.now) result }
+{
+    let mut rest = text;
+    let mut depth = 0usize;
+    while let Some((first, after)) = split_first(rest) {
+        match first {
+            '\\' => rest = escaped_ascii(after)?,
+            '(' => {
+                rest = nested_group(after)?;
+                depth += 1;
+            }
+            ')' => {
+                if depth == 0 {
+                    let value = before(text, rest);
+                    return Ok(Lexeme {
+                        kind: TokenType::Regexp,
+                        value,
+                        rest: after,
+                    });
+                }
+                rest = after;
+                depth -= 1;
+            }
+            _ if first.is_ascii() => rest = after,
+            _ => return Err(TokenizerError::InvalidRegex(RegexFault::BadCharacter)),
+        }
+    }
+    Err(TokenizerError::InvalidRegex(RegexFault::MissingClose))
+}
+
+/// What follows the character that a backslash takes in the body of a regular expression.
+fn escaped_ascii(text: &str) -> Result<&str, TokenizerError>
+    ensures cut { IfOk result (λ rest. (c : ℕ) × (chars text.now ≡ c ∷ chars rest.now) × (c < 128)) }
+    ensures len { IfOk result (λ rest. length rest.now < length text.now) }
+    ensures fault { IfErr result (λ fault. LacksEscaped (chars text.now) (fault_view fault)) }
+{
+    match split_first(text) {
+        None => Err(TokenizerError::IncompleteEscapeCode),
+        Some((escaped, rest)) if escaped.is_ascii() => Ok(rest),
+        Some(_) => Err(TokenizerError::InvalidRegex(RegexFault::BadEscape)),
+    }
+}
+
+/// What follows the `?` that stands after an inner bracket of a regular expression.
+fn nested_group(text: &str) -> Result<&str, TokenizerError>
+    ensures cut { IfOk result (λ rest. chars text.now ≡ codes "?" ++ chars rest.now) }
+    ensures len { IfOk result (λ rest. length rest.now < length text.now) }
+    ensures fault { IfErr result (λ fault. LacksQuestionMark (chars text.now) (fault_view fault)) }
+{
+    match split_first(text) {
+        None => Err(TokenizerError::InvalidRegex(RegexFault::NestedGroupNotClosed)),
+        Some(('?', rest)) => Ok(rest),
+        Some(_) => Err(TokenizerError::InvalidRegex(RegexFault::NestedGroupCaptures)),
+    }
+}
+
+/// A kind of characters.
+trait CharKind {
+    ghost test: { ℕ → Bool };
+
+    /// Whether the character is of the kind.
+    fn has(c: char) -> bool
+        ensures { result ≡ test c };
+}
+
+/// The tabs, line feeds and carriage returns, which are skipped between tokens.
+struct Ignored;
+
+impl CharKind for Ignored {
+    ghost test = { is_ignored };
+
+    fn has(c: char) -> bool {
+        matches!(c, '\t' | '\n' | '\r')
+    }
+}
+
+/// The characters of a name.
+struct NamePart;
+
+impl CharKind for NamePart {
+    ghost test = { is_name_part };
+
+    fn has(c: char) -> bool {
+        is_name_part(c)
+    }
+}
+
+/// The text after the characters of the kind that it begins with.
+fn skip<K: CharKind>(text: &str) -> &str
+    ensures skips { SkipsBy K.test (chars text.now) (chars result.now) }
+    ensures all { ¬ BeginsWith K.test (chars result.now) }
+    ensures len { length result.now ≤ length text.now }
+{
+    let mut rest = text;
+    while let Some((first, after)) = split_first(rest) {
+        if !K::has(first) {
+            break;
+        }
+        rest = after;
+    }
+    rest
+}
+
+/// The text after the characters that it begins with and that are skipped between tokens.
+pub(super) fn skip_ignored(text: &str) -> &str
+    ensures skips { Skips (chars text.now) (chars result.now) }
+    ensures all { ¬ BeginsWith is_ignored (chars result.now) }
+    ensures len { length result.now ≤ length text.now }
+{
+    skip::<Ignored>(text)
+}
