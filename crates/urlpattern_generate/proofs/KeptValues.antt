@@ -1,117 +1,255 @@
--- Values of letters, digits and a few marks, which are canonical as they are.
-use Rattle.std.proofs.Common.{◌≡◌, ◌≢◌, ◌∙◌, ◌<◌, ℕ, Bool, true, false, not, ◌==◌, List, [], ◌∷◌, ◌++◌, length, All, Some, Ok, ap, arith, refl, subst, sym}
-use Rattle.std.proofs.lemmas.Bool.{and_parts, false≢true}
+-- Values that are canonical as they are.
+use Rattle.std.proofs.Common.{◌≡◌, ◌≢◌, ◌∙◌, ◌+◌, ◌<◌, ◌≤◌, ℕ, add-one, drop, get_or, Bool, true, false, not, ◌&&◌, ◌==◌, List, [], ◌∷◌, ◌++◌, append_assoc, length, All, Some, Ok, ap, arith, refl, subst, sym}
+use Rattle.std.proofs.lemmas.Bool.{and_parts, cond-false, eqb-true, false≢true, not-true}
 use Rattle.std.proofs.lemmas.Bool.Decides.{nat_tests}
-use Rattle.std.proofs.lemmas.List.{append-nil}
-use Rattle.std.proofs.lemmas.List.Elements.{All-cons, All-nil, All-weaker}
-use Rattle.std.proofs.lemmas.Str.{chars-IsAscii}
+use Rattle.std.proofs.Math.Seq.{drop-cons}
+use Rattle.std.proofs.lemmas.List.{append-nil, drop_all}
+use Rattle.std.proofs.lemmas.List.Elements.{All-cons, All-head, All-nil, All-push, All-tail, All-weaker}
+use Rattle.std.proofs.lemmas.Str.{IsUtf8-from_ascii, chars-IsAscii}
 use Rattle.std.proofs.lemmas.Str.Ascii.{IsAscii-from_all}
+use Rattle.std.specs.Char.{is_ascii_digit, is_ascii_lowercase, is_digit, to_ascii_lowercase}
 use Rattle.std.specs.List.{list_all}
-use Rattle.std.specs.Prelude.{IsTrue, codes, slice_index, unwrap_or}
-use Rattle.std.specs.Str.{chars}
+use Rattle.std.specs.Prelude.{IsAscii, Option, ◌||◌, codes, if◌then◌else◌, slice_index, unwrap_or}
+use Rattle.std.specs.Str.{IsUtf8, chars}
 use Rattle.percent_encoding.specs.Percent.{IsKept}
 use Rattle.percent_encoding.specs.declared.ascii_set.AsciiSet.{AsciiSet}
-use Rattle.url.proofs.InputLemmas.{All_from_list_all, Passes}
-use Rattle.url.proofs.SetLemmas.{kept_from_passes, passing_outside}
-use Rattle.url.specs.Ascii.{slash}
+use Rattle.url.proofs.InputLemmas.{All_from_list_all, IsNot, Passes, is_empty_nonempty, rsplit_once_none}
+use Rattle.url.proofs.PathLemmas.{no_segments, push_valid}
+use Rattle.url.proofs.SetLemmas.{kept_from_passes, passes_from_kept, passing_outside}
+use Rattle.url.specs.Ascii.{dot, lower_x, slash, upper_x}
+use Rattle.url.specs.Host.{IsHostOf}
+use Rattle.url.specs.Input.{is_empty, lowercase}
+use Rattle.url.specs.Ipv4.{ends_in_a_number, is_number, last_label_of, number_of, parse_number, split_radix}
 use Rattle.url.specs.Parser.{and_then}
 use Rattle.url.specs.Path.{IsSegment, IsSegmentList, dot_count}
 use Rattle.url.specs.Scheme.{is_slash}
 use Rattle.url.specs.Setters as setters
+use Rattle.url.specs.declared.host.Host.TheVariants.{Domain}
 use Rattle.url.specs.declared.scheme.SchemeType.TheVariants.{SpecialNotFile}
-use Rattle.url.specs.declared.sets.TheConstants.{FRAGMENT, PATH, SPECIAL_QUERY, USERINFO}
+use Rattle.url.specs.declared.sets.TheConstants.{FORBIDDEN_DOMAIN, FRAGMENT, PATH, SPECIAL_QUERY}
 use Rattle.urlpattern_canonical.proofs.CanonicalLemmas.{pathname_of-bare}
-use Rattle.urlpattern_canonical.specs.Canonical.{after, dummy_url, pathname_of, without_guard}
+use Rattle.urlpattern_canonical.specs.Canonical.{after, canonical_hostname, dummy_url, hostname_of, pathname_of, without_guard}
 use Rattle.urlpattern_eight.specs.declared.eight.ComponentName.{ComponentName}
 use Rattle.urlpattern_eight.specs.declared.eight.ComponentName.TheVariants.{Protocol, Username, Password, Hostname, Port, Pathname, Search, Hash}
-use Rattle.urlpattern_generate.proofs.SetTexts.{AreVisible, by_bytes, hash_kept, is_visible, password_kept, path_stays, search_kept, username_kept}
+use Rattle.urlpattern_generate.proofs.HostTexts.{host_visible, hostname_kept}
+use Rattle.urlpattern_generate.proofs.SetTexts.{AreVisible, by_bytes, hash_kept, is_visible, path_stays, pathname_kept, search_kept}
 use Rattle.urlpattern_generate.specs.Manners.{canonical_for}
-use Rattle.urlpattern_generate.specs.Unreserved.{is_escaped, is_unreserved}
-use Rattle.urlpattern_syntax.specs.Text.{lacks}
+use Rattle.urlpattern_generate.specs.Kept.{is_dot_mark, is_kept_character, is_kept_path, is_kept_value, is_label_character}
 
-unreserved_ascii : (b : ℕ) → Passes is_unreserved b → b < 128
-unreserved_ascii b passes = grind (arith, nat_tests)
+-- ---- characters that are kept
 
-unreserved_visible : (b : ℕ) → Passes is_unreserved b → Passes is_visible b
-unreserved_visible b passes = grind (arith, nat_tests)
+kept_ascii : (b : ℕ) → Passes is_kept_character b → b < 128
+kept_ascii b passes = grind (arith, nat_tests)
 
-are_visible : (bytes : List ℕ) → All (Passes is_unreserved) bytes → AreVisible bytes
-are_visible = All-weaker (Passes is_unreserved) (Passes is_visible) unreserved_visible
+kept_visible : (b : ℕ) → Passes is_kept_character b → Passes is_visible b
+kept_visible b passes = passes_from_kept PATH is_visible refl b (kept_from_passes is_kept_character PATH refl b (kept_ascii b passes) passes)
 
-are_kept : (set : AsciiSet) → passing_outside is_unreserved set ≡ true → (bytes : List ℕ) → All (Passes is_unreserved) bytes → All (IsKept set) bytes
-are_kept set outside = All-weaker (Passes is_unreserved) (IsKept set) (λ b passes. kept_from_passes is_unreserved set outside b (unreserved_ascii b passes) passes)
+are_visible : (bytes : List ℕ) → All (Passes is_kept_character) bytes → AreVisible bytes
+are_visible = All-weaker (Passes is_kept_character) (Passes is_visible) kept_visible
 
--- ---- a path of one segment, behind its guard
+are_kept : (set : AsciiSet) → passing_outside is_kept_character set ≡ true → (bytes : List ℕ) → All (Passes is_kept_character) bytes → All (IsKept set) bytes
+are_kept set outside = All-weaker (Passes is_kept_character) (IsKept set) (λ b passes. kept_from_passes is_kept_character set outside b (kept_ascii b passes) passes)
 
-no_slash : (b : ℕ) → Passes is_unreserved b → is_slash SpecialNotFile b ≡ false
+-- ---- paths
+
+-- a character of a segment
+abbrev is_of_segment : ℕ → Bool
+is_of_segment b = is_kept_character b && not (b == slash)
+
+of_segment_kept : (b : ℕ) → Passes is_of_segment b → Passes is_kept_character b
+of_segment_kept b passes = (and_parts (is_kept_character b) (not (b == slash)) passes).0
+
+no_slash : (b : ℕ) → Passes is_of_segment b → is_slash SpecialNotFile b ≡ false
 no_slash b passes = grind (arith, nat_tests)
 
-guarded_segment : (bytes : List ℕ) → All (Passes is_unreserved) bytes → IsSegment SpecialNotFile (45 ∷ bytes)
+-- what is known of a segment that is read up to here: nothing is read of it, or its first character may not begin a dot segment
+abbrev First : (begins : Bool) → List ℕ → Type 0
+First true segment = segment ≡ []
+First false [] = ⊥
+First false (b ∷ segment) = is_dot_mark b ≡ false
+
+first_more : (begins : Bool) (segment : List ℕ) (b : ℕ) → First begins segment → not (begins && is_dot_mark b) ≡ true → First false (segment ++ b ∷ [])
+first_more true segment b is other = subst (λ of. First false (of ++ b ∷ [])) (sym is) (not-true (is_dot_mark b) other)
+first_more false [] b is other = absurd is
+first_more false (c ∷ segment) b is other = is
+
+no_dot : (b : ℕ) → is_dot_mark b ≡ false → (b == 46) ≡ false
+no_dot b other = grind (arith, nat_tests)
+
+no_percent : (b : ℕ) → is_dot_mark b ≡ false → (b == 37) ≡ false
+no_percent b other = grind (arith, nat_tests)
+
+no_dots : (begins : Bool) (segment : List ℕ) → First begins segment → dot_count segment ≡ 0
 unfolding dot_count
-guarded_segment bytes all = record {
-  escaped = are_kept PATH refl (45 ∷ bytes) (All-cons (Passes is_unreserved) 45 bytes refl all);
-  whole = All-cons (λ b. is_slash SpecialNotFile b ≡ false) 45 bytes refl (All-weaker (Passes is_unreserved) (λ b. is_slash SpecialNotFile b ≡ false) no_slash bytes all);
-  resolved = refl;
+no_dots true segment first = ap dot_count first
+no_dots false [] first = absurd first
+no_dots false (b ∷ segment) first = rw (no_dot b first, no_percent b first)
+
+is_segment : (begins : Bool) (segment : List ℕ) → All (Passes is_of_segment) segment → First begins segment → IsSegment SpecialNotFile segment
+is_segment begins segment all first = record {
+  escaped = are_kept PATH refl segment (All-weaker (Passes is_of_segment) (Passes is_kept_character) of_segment_kept segment all);
+  whole = All-weaker (Passes is_of_segment) (λ b. is_slash SpecialNotFile b ≡ false) no_slash segment all;
+  resolved = no_dots begins segment first;
 }
 
-guarded_path : (bytes : List ℕ) → All (Passes is_unreserved) bytes → IsSegmentList SpecialNotFile (codes "/-" ++ bytes)
-guarded_path bytes all = record {
-  segments = (45 ∷ bytes) ∷ [];
-  joined = sym (append-nil (codes "/-" ++ bytes));
-  each = All-cons (IsSegment SpecialNotFile) (45 ∷ bytes) [] (guarded_segment bytes all) (All-nil (IsSegment SpecialNotFile));
-}
+segments : (begins : Bool) (done segment bytes : List ℕ) → IsSegmentList SpecialNotFile done → All (Passes is_of_segment) segment → First begins segment →
+    is_kept_path begins bytes ≡ true → IsSegmentList SpecialNotFile (done ++ slash ∷ (segment ++ bytes))
+segments begins done segment [] list all first kept =
+    subst (λ of. IsSegmentList SpecialNotFile (done ++ slash ∷ of)) (sym (append-nil segment))
+    (push_valid SpecialNotFile done segment list (is_segment begins segment all first))
+segments begins done segment (b ∷ bytes) list all first kept =
+    let parts = and_parts (is_kept_character b && not (begins && is_dot_mark b)) (is_kept_path (b == slash) bytes) kept in
+    let own = and_parts (is_kept_character b) (not (begins && is_dot_mark b)) parts.0 in
+    by_slash (λ next before front h i j k. segments next before front bytes h i j k) (b == slash) refl parts.1 own.0 own.1
+  where
+    by_slash : ((next : Bool) (before front : List ℕ) → IsSegmentList SpecialNotFile before → All (Passes is_of_segment) front → First next front → is_kept_path next bytes ≡ true →
+        IsSegmentList SpecialNotFile (before ++ slash ∷ (front ++ bytes))) →
+        (is : Bool) → (b == slash) ≡ is → is_kept_path (b == slash) bytes ≡ true → is_kept_character b ≡ true → not (begins && is_dot_mark b) ≡ true →
+        IsSegmentList SpecialNotFile (done ++ slash ∷ (segment ++ b ∷ bytes))
+    by_slash more true e rest own other =
+        subst (λ of. IsSegmentList SpecialNotFile (done ++ slash ∷ (segment ++ of ∷ bytes))) (sym (eqb-true b slash e))
+        (subst (IsSegmentList SpecialNotFile) (append_assoc done (slash ∷ segment) (slash ∷ bytes))
+        (more true (done ++ slash ∷ segment) [] (push_valid SpecialNotFile done segment list (is_segment begins segment all first))
+        (All-nil (Passes is_of_segment)) refl (subst (λ (of : Bool). is_kept_path of bytes ≡ true) e rest)))
+    by_slash more false e rest own other =
+        subst (λ of. IsSegmentList SpecialNotFile (done ++ slash ∷ of)) (append_assoc segment (b ∷ []) bytes)
+        (more false done (segment ++ b ∷ []) list (All-push (Passes is_of_segment) segment b all (rw (own, e))) (first_more begins segment b first other)
+        (subst (λ (of : Bool). is_kept_path of bytes ≡ true) e rest))
 
-guarded_visible : (bytes : List ℕ) → All (Passes is_unreserved) bytes → AreVisible (codes "/-" ++ bytes)
-guarded_visible bytes all = All-cons (Passes is_visible) 47 (45 ∷ bytes) refl (All-cons (Passes is_visible) 45 bytes refl (are_visible bytes all))
+path_characters : (begins : Bool) (bytes : List ℕ) → is_kept_path begins bytes ≡ true → All (Passes is_kept_character) bytes
+path_characters begins [] kept = All-nil (Passes is_kept_character)
+path_characters begins (b ∷ bytes) kept =
+    let parts = and_parts (is_kept_character b && not (begins && is_dot_mark b)) (is_kept_path (b == slash) bytes) kept in
+    All-cons (Passes is_kept_character) b bytes (and_parts (is_kept_character b) (not (begins && is_dot_mark b)) parts.0).0 (path_characters (b == slash) bytes parts.1)
 
-slash_first : (bytes : List ℕ) → All (Passes is_unreserved) bytes → (slice_index bytes 0 == 47) ≡ false
-slash_first [] all = refl
-slash_first (b ∷ bytes) all = let passes = all 0 0 (omega arith) in grind (arith, nat_tests)
+-- a path that does not begin with a slash stands behind a guard
+guarded_kept : (bytes : List ℕ) → (slice_index bytes 0 == slash) ≡ false → is_kept_path false bytes ≡ true → pathname_of bytes ≡ Ok bytes
+guarded_kept bytes bare kept =
+    let visible = All-cons (Passes is_visible) 47 (45 ∷ bytes) refl (All-cons (Passes is_visible) 45 bytes refl (are_visible bytes (path_characters false bytes kept))) in
+    let list = segments false [] (45 ∷ []) bytes (no_segments SpecialNotFile) (All-cons (Passes is_of_segment) 45 [] refl (All-nil (Passes is_of_segment))) refl kept in
+    pathname_of-bare bytes bare
+    ∙ ap (λ parsed. and_then parsed (λ path. Ok (without_guard path))) (path_stays (codes "/-" ++ bytes) visible list (omega arith))
 
-path_kept : (bytes : List ℕ) → All (Passes is_unreserved) bytes → pathname_of bytes ≡ Ok bytes
-path_kept bytes all =
-    pathname_of-bare bytes (slash_first bytes all)
-    ∙ ap (λ parsed. and_then parsed (λ path. Ok (without_guard path))) (path_stays (codes "/-" ++ bytes) (guarded_visible bytes all) (guarded_path bytes all) (omega arith))
+path_kept : (bytes : List ℕ) → is_kept_path false bytes ≡ true → pathname_of bytes ≡ Ok bytes
+path_kept [] kept = guarded_kept [] refl kept
+path_kept (b ∷ bytes) kept = by_slash (b == slash) refl
+  where
+    by_slash : (is : Bool) → (b == slash) ≡ is → pathname_of (b ∷ bytes) ≡ Ok (b ∷ bytes)
+    by_slash false e = guarded_kept (b ∷ bytes) e kept
+    by_slash true e =
+        let rest = (and_parts (is_kept_character b && not (false && is_dot_mark b)) (is_kept_path (b == slash) bytes) kept).1 in
+        let list = segments true [] [] bytes (no_segments SpecialNotFile) (All-nil (Passes is_of_segment)) refl (subst (λ (of : Bool). is_kept_path of bytes ≡ true) e rest) in
+        pathname_kept (b ∷ bytes) (are_visible (b ∷ bytes) (path_characters false (b ∷ bytes) kept))
+        (subst (λ of. IsSegmentList SpecialNotFile (of ∷ bytes)) (sym (eqb-true b slash e)) list) (omega arith)
 
--- ---- any component that is escaped character by character
+-- ---- a label of a host
 
-kept_for : (component : ComponentName) (is_ipv6 : Bool) (bytes : List ℕ) → is_escaped component ≡ true → All (Passes is_unreserved) bytes →
-    canonical_for component true is_ipv6 (chars bytes) ≡ Ok (chars bytes)
-kept_for Protocol is_ipv6 bytes e all = absurd (false≢true e)
-kept_for Username is_ipv6 bytes e all =
-    by_bytes (λ value. after dummy_url (λ old. setters.set_username old value) (λ new. new.username)) bytes (are_visible bytes all) (username_kept bytes (are_kept USERINFO refl bytes all))
-kept_for Password is_ipv6 bytes e all =
-    by_bytes (λ value. after dummy_url (λ old. setters.set_password old (Some value)) (λ new. new.password)) bytes (are_visible bytes all) (password_kept bytes (are_kept USERINFO refl bytes all))
-kept_for Hostname is_ipv6 bytes e all = absurd (false≢true e)
-kept_for Port is_ipv6 bytes e all = absurd (false≢true e)
-kept_for Pathname is_ipv6 bytes e all = by_bytes pathname_of bytes (are_visible bytes all) (path_kept bytes all)
-kept_for Search is_ipv6 bytes e all =
+label_ascii : (b : ℕ) → Passes is_label_character b → b < 128
+label_ascii b passes = grind (arith, nat_tests)
+
+label_no_dot : (b : ℕ) → Passes is_label_character b → IsNot dot b
+label_no_dot b passes same = grind (arith, nat_tests)
+
+lower_one : (b : ℕ) → Passes is_label_character b → to_ascii_lowercase b ≡ b
+lower_one b passes = grind (arith, nat_tests)
+
+lower_all : (bytes : List ℕ) → All (Passes is_label_character) bytes → lowercase bytes ≡ bytes
+lower_all [] all = refl
+lower_all (b ∷ bytes) all =
+    (λ i. lower_one b (All-head (Passes is_label_character) b bytes all) i ∷ lower_all bytes (All-tail (Passes is_label_character) b bytes all) i)
+
+-- what tells a number, of the last label
+abbrev is_last_number : List ℕ → Bool
+is_last_number last = (not (is_empty last) && list_all is_ascii_digit last) || is_number (parse_number last)
+
+no_number : (b : ℕ) (bytes : List ℕ) → Passes is_label_character b → is_last_number (b ∷ bytes) ≡ false
+unfolding parse_number
+no_number b bytes passes =
+    let decimal_digit : is_ascii_digit b ≡ false = grind (arith, nat_tests) in
+    let digit : is_digit b 10 ≡ false = grind (arith, nat_tests) in
+    let zero : (b == 48) ≡ false = grind (arith, nat_tests) in
+    let some : is_empty (b ∷ bytes) ≡ false = is_empty_nonempty (b ∷ bytes) (omega arith) in
+    let digits = ap (λ (is : Bool). is && list_all is_ascii_digit bytes) decimal_digit in
+    let radix : split_radix (b ∷ bytes) ≡ (10, b ∷ bytes) =
+    ap
+    (λ (is : Bool). if is && (slice_index (b ∷ bytes) 1 == lower_x || slice_index (b ∷ bytes) 1 == upper_x) then (16, drop 2 (b ∷ bytes))
+    else (if is then (8, drop 1 (b ∷ bytes)) else (10, b ∷ bytes))) zero in
+    let none : list_all (λ c. is_digit c 10) (b ∷ bytes) ≡ false = ap (λ (is : Bool). is && list_all (λ c. is_digit c 10) bytes) digit in
+    let parsed : parse_number (b ∷ bytes) ≡ number_of 10 (b ∷ bytes) = cond-false _ _ _ some ∙ (λ i. number_of (radix i).0 (radix i).1) in
+    let no : is_number (number_of 10 (b ∷ bytes)) ≡ false = ap is_number (cond-false _ _ _ none) in
+    (λ i. (not (some i) && digits i) || is_number (parsed i)) ∙ no
+
+label_named : (b : ℕ) (bytes : List ℕ) → All (Passes is_label_character) (b ∷ bytes) → ends_in_a_number (b ∷ bytes) ≡ false
+unfolding ends_in_a_number
+label_named b bytes all =
+    let cut = rsplit_once_none dot (b ∷ bytes) (All-weaker (Passes is_label_character) (IsNot dot) label_no_dot (b ∷ bytes) all) in
+    ap (λ (parts : Option (List ℕ) × List ℕ). is_last_number (last_label_of parts.0 parts.1)) cut ∙ no_number b bytes (All-head (Passes is_label_character) b bytes all)
+
+label_host : (b : ℕ) (bytes : List ℕ) → All (Passes is_label_character) (b ∷ bytes) → IsHostOf SpecialNotFile (Domain (b ∷ bytes))
+label_host b bytes all = (
+  record {
+    allowed = All-weaker (Passes is_label_character) (IsKept FORBIDDEN_DOMAIN) (λ c passes. kept_from_passes is_label_character FORBIDDEN_DOMAIN refl c (label_ascii c passes) passes) (b ∷ bytes) all;
+    lower = lower_all (b ∷ bytes) all;
+    named = label_named b bytes all;
+  },
+  omega arith,
+)
+
+label_kept : (bytes : List ℕ) → list_all is_label_character bytes ≡ true → canonical_hostname (chars bytes) ≡ Ok (chars bytes)
+unfolding chars
+label_kept [] all = refl
+label_kept (b ∷ bytes) all =
+    let host = label_host b bytes (All_from_list_all is_label_character (b ∷ bytes) all) in
+    by_bytes hostname_of (b ∷ bytes) (host_visible (Domain (b ∷ bytes)) host) (hostname_kept (Domain (b ∷ bytes)) host)
+
+-- ---- byte by byte
+
+module _ (begins : Bool) (bytes : List ℕ) (i other : ℕ) (within : i < length bytes) where
+  step : is_kept_path begins (drop i bytes)
+      ≡ ((is_kept_character (get_or bytes i other) && not (begins && is_dot_mark (get_or bytes i other))) && is_kept_path (get_or bytes i other == slash) (drop (i + 1) bytes))
+  step = ap (is_kept_path begins) (drop-cons bytes i other within ∙ ap (λ n. get_or bytes i other ∷ drop n bytes) (sym (add-one i)))
+
+  pub path_goes_on : (is_kept_character (get_or bytes i other) && not (begins && is_dot_mark (get_or bytes i other))) ≡ true →
+      is_kept_path (get_or bytes i other == slash) (drop (i + 1) bytes) ≡ is_kept_path begins (drop i bytes)
+  path_goes_on kept = sym (step ∙ ap (λ (is : Bool). is && is_kept_path (get_or bytes i other == slash) (drop (i + 1) bytes)) kept)
+
+  pub path_stops : (is_kept_character (get_or bytes i other) && not (begins && is_dot_mark (get_or bytes i other))) ≡ false → false ≡ is_kept_path begins (drop i bytes)
+  path_stops kept = sym (step ∙ ap (λ (is : Bool). is && is_kept_path (get_or bytes i other == slash) (drop (i + 1) bytes)) kept)
+
+pub path_ends : (begins : Bool) (bytes : List ℕ) (i : ℕ) → length bytes ≤ i → true ≡ is_kept_path begins (drop i bytes)
+path_ends begins bytes i past = sym (ap (is_kept_path begins) (drop_all i bytes past))
+
+-- ---- any component
+
+kept_for : (component : ComponentName) (bytes : List ℕ) → is_kept_value component bytes ≡ true → canonical_for component true false (chars bytes) ≡ Ok (chars bytes)
+kept_for Protocol bytes e = absurd (false≢true e)
+kept_for Username bytes e = absurd (false≢true e)
+kept_for Password bytes e = absurd (false≢true e)
+kept_for Hostname bytes e = label_kept bytes e
+kept_for Port bytes e = absurd (false≢true e)
+kept_for Pathname bytes e = by_bytes pathname_of bytes (are_visible bytes (path_characters false bytes e)) (path_kept bytes e)
+kept_for Search bytes e =
+    let all = All_from_list_all is_kept_character bytes e in
     by_bytes (λ value. after dummy_url (λ old. Ok (setters.set_query old (Some value))) (λ new. unwrap_or new.query [])) bytes (are_visible bytes all)
     (search_kept bytes (are_visible bytes all) (are_kept SPECIAL_QUERY refl bytes all))
-kept_for Hash is_ipv6 bytes e all =
+kept_for Hash bytes e =
+    let all = All_from_list_all is_kept_character bytes e in
     by_bytes (λ value. after dummy_url (λ old. Ok (setters.set_fragment old (Some value))) (λ new. unwrap_or new.fragment [])) bytes (are_visible bytes all)
     (hash_kept bytes (are_visible bytes all) (are_kept FRAGMENT refl bytes all))
 
-pub kept_alone : (component : ComponentName) (hierarchical is_ipv6 : Bool) (bytes : List ℕ) → IsTrue hierarchical → is_escaped component ≡ true → list_all is_unreserved bytes ≡ true →
+pub kept_alone : (component : ComponentName) (hierarchical is_ipv6 : Bool) (bytes : List ℕ) → ((hierarchical && not is_ipv6) && is_kept_value component bytes) ≡ true →
     canonical_for component hierarchical is_ipv6 (chars bytes) ≡ Ok (chars bytes)
-kept_alone component hierarchical is_ipv6 bytes path escaped all =
-    ap (λ of. canonical_for component of is_ipv6 (chars bytes)) path ∙ kept_for component is_ipv6 bytes escaped (All_from_list_all is_unreserved bytes all)
+kept_alone component true false bytes kept = kept_for component bytes kept
+kept_alone component true true bytes kept = absurd (false≢true kept)
+kept_alone component false is_ipv6 bytes kept = absurd (false≢true kept)
 
 -- ---- a value as a segment
 
-not_slash : (b : ℕ) → Passes is_unreserved b → not (b == slash) ≡ true
-not_slash b passes = grind (arith, nat_tests)
+path_ascii : (bytes : List ℕ) → is_kept_path false bytes ≡ true → IsAscii bytes
+path_ascii bytes kept = IsAscii-from_all bytes (All-weaker (Passes is_kept_character) (λ b. b < 128) kept_ascii bytes (path_characters false bytes kept))
 
-without_slash : (bytes : List ℕ) → list_all is_unreserved bytes ≡ true → IsTrue (lacks slash bytes)
-without_slash [] all = refl
-without_slash (b ∷ bytes) all =
-    let parts = and_parts (is_unreserved b) (list_all is_unreserved bytes) all in rw (not_slash b parts.0) (without_slash bytes parts.1)
+pub kept_utf8 : (bytes : List ℕ) → is_kept_path false bytes ≡ true → IsUtf8 bytes
+kept_utf8 bytes kept = IsUtf8-from_ascii bytes (path_ascii bytes kept)
 
-kept_chars : (bytes : List ℕ) → list_all is_unreserved bytes ≡ true → chars bytes ≡ bytes
-kept_chars bytes all = chars-IsAscii bytes (IsAscii-from_all bytes (All-weaker (Passes is_unreserved) (λ b. b < 128) unreserved_ascii bytes (All_from_list_all is_unreserved bytes all)))
-
-pub kept_segment : (bytes : List ℕ) → list_all is_unreserved bytes ≡ true → IsTrue (lacks slash (chars bytes))
-kept_segment bytes all = subst (λ text. IsTrue (lacks slash text)) (sym (kept_chars bytes all)) (without_slash bytes all)
-
-pub kept_some : (bytes : List ℕ) → list_all is_unreserved bytes ≡ true → (length bytes == 0) ≡ false → chars bytes ≢ []
-kept_some bytes all some none = let empty = ap length (sym (kept_chars bytes all) ∙ none) in grind (arith, nat_tests)
+pub kept_some : (bytes : List ℕ) → is_kept_path false bytes ≡ true → (length bytes == 0) ≡ false → chars bytes ≢ []
+kept_some bytes kept some none = let empty = ap length (sym (chars-IsAscii bytes (path_ascii bytes kept)) ∙ none) in grind (arith, nat_tests)

@@ -1,6 +1,7 @@
 pub mod AskedLemmas
 pub mod GeneratingLemmas
 pub mod GivenLemmas
+pub mod HostTexts
 pub mod KeptValues
 pub mod NamedReadings
 pub mod PlainReadings

@@ -1,7 +1,7 @@
 pub mod Asked
 pub mod GenerateErrorText
 pub mod Generating
+pub mod Kept
 pub mod Manners
 pub mod PlainPatterns
-pub mod Unreserved
 pub mod Writers

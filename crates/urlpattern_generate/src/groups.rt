@@ -2,6 +2,7 @@
 
 ghost use Rattle.std.specs.Prelude.{◌≡◌, ◌↔◌, IsTrue, bytes_eq};
 ghost use Rattle.std.specs.Str.{chars};
+ghost use Rattle.urlpattern_eight.specs.Eight.{name_text};
 ghost use Rattle.urlpattern_generate.specs.Manners.{given_groups, text_given, given_view, is_given_for};
 ghost use Rattle.urlpattern_syntax.specs.Text.{option_text};
 
@@ -42,7 +43,14 @@ pub(crate) fn given_text<'g>(
 fn is_given_for(component: ComponentName, name: &str, given: &GivenGroup<'_>) -> bool
     ensures { result ≡ is_given_for component (chars name.now) (given_view given.now) }
 {
-    given.0.as_str() == component.as_str() && is_same_text(given.1, name)
+    is_same_component(given.0, component) && is_same_text(given.1, name)
+}
+
+/// Whether two components are the same.
+fn is_same_component(one: ComponentName, other: ComponentName) -> bool
+    ensures { result ≡ bytes_eq (name_text one) (name_text other) }
+{
+    one == other
 }
 
 /// Whether two texts are the same.

@@ -5,10 +5,10 @@ mod captures;
 mod component;
 mod error;
 mod groups;
+mod kept;
 mod named;
 mod plain;
 mod read_back;
-mod unreserved;
 mod writer;
 
 pub use component::{draft_component, generate_component};

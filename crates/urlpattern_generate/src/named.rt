@@ -54,7 +54,7 @@ impl Writer<'_> {
             return None;
         }
         let value = given_text(self.groups, self.component, name)?;
-        if value.is_empty() || !self.keeps(value) {
+        if value.is_empty() || value.contains('/') || !self.keeps(value) {
             return None;
         }
         Some((front, value))

@@ -1,0 +1,33 @@
+-- Values that are canonical as they are.
+use Rattle.std.specs.Prelude.{ℕ, Bool, List, [], ◌∷◌, false, true, not, ◌==◌, ◌&&◌, ◌||◌, codes}
+use Rattle.std.specs.Char.{is_ascii_alphanumeric, is_ascii_lowercase}
+use Rattle.std.specs.List.{list_all}
+use Rattle.url.specs.Ascii.{slash}
+use Rattle.urlpattern_eight.specs.declared.eight.ComponentName.{ComponentName}
+use Rattle.urlpattern_eight.specs.declared.eight.ComponentName.TheVariants.{Hostname, Pathname, Search, Hash}
+use Rattle.urlpattern_syntax.specs.Text.{is_among}
+
+-- neither a path nor a search or a hash escapes the character
+abbrev pub is_kept_character : ℕ → Bool
+is_kept_character c = is_ascii_alphanumeric c || is_among (codes "-._~/!$%&()*+,:;=@") c
+
+-- a dot segment may begin with the character: a dot or an escape
+abbrev pub is_dot_mark : ℕ → Bool
+is_dot_mark c = is_among (codes ".%") c
+
+-- each character is kept, and no segment after a slash may be a dot segment; `begins`: the text follows a slash
+abbrev pub is_kept_path : (begins : Bool) → List ℕ → Bool
+is_kept_path begins [] = true
+is_kept_path begins (c ∷ text) = (is_kept_character c && not (begins && is_dot_mark c)) && is_kept_path (c == slash) text
+
+-- a letter in lower case or a hyphen
+abbrev pub is_label_character : ℕ → Bool
+is_label_character c = is_ascii_lowercase c || is_among (codes "-") c
+
+-- the value is canonical in the component, where a pathname is a path of segments and a hostname is no IPv6 address
+abbrev pub is_kept_value : ComponentName → List ℕ → Bool
+is_kept_value Hostname value = list_all is_label_character value
+is_kept_value Pathname value = is_kept_path false value
+is_kept_value Search value = list_all is_kept_character value
+is_kept_value Hash value = list_all is_kept_character value
+is_kept_value component value = false

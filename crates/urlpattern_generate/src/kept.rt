@@ -1,0 +1,101 @@
+//! Values that are canonical as they are.
+
+ghost use Rattle.std.specs.List.{list_all};
+ghost use Rattle.std.specs.Prelude.{◌≡◌, ◌&&◌, false, not};
+ghost use Rattle.urlpattern_generate.specs.Kept.{is_dot_mark, is_kept_character, is_kept_path, is_kept_value, is_label_character};
+
+use crate::writer::Writer;
+use urlpattern_eight::ComponentName;
+
+impl Writer<'_> {
+    /// Whether a value is of those that the component is known to take as they are.
+    pub(crate) fn keeps(&self, text: &str) -> bool
+        ensures { result ≡ ((self.now.hierarchical && not self.now.is_ipv6) && is_kept_value self.now.component text.now) }
+    {
+        self.hierarchical && !self.is_ipv6 && is_kept_value(self.component, text.as_bytes())
+    }
+}
+
+/// Whether a value is canonical in a component, where a pathname is a path of segments and a hostname is no IPv6 address.
+fn is_kept_value(component: ComponentName, value: &[u8]) -> bool
+    ensures { result ≡ is_kept_value component value.now }
+{
+    match component {
+        ComponentName::Hostname => is_label(value),
+        ComponentName::Pathname => is_kept_path(value),
+        ComponentName::Search | ComponentName::Hash => is_kept_text(value),
+        ComponentName::Protocol
+        | ComponentName::Username
+        | ComponentName::Password
+        | ComponentName::Port => false,
+    }
+}
+
+/// Whether a path escapes no character of a value, and no segment after a slash may be a dot segment.
+fn is_kept_path(value: &[u8]) -> bool
+    ensures { result ≡ is_kept_path false value.now }
+{
+    let mut begins = false;
+    for b in value {
+        if !goes_on(begins, *b) {
+            return false;
+        }
+        begins = *b == b'/';
+    }
+    true
+}
+
+/// Whether a path keeps a character that follows a slash or not.
+fn goes_on(begins: bool, b: u8) -> bool
+    ensures { result ≡ (is_kept_character b && not (begins && is_dot_mark b)) }
+{
+    is_kept_byte(b) && !(begins && matches!(b, b'.' | b'%'))
+}
+
+/// Whether a search and a hash escape no character of a value.
+fn is_kept_text(value: &[u8]) -> bool
+    ensures { result ≡ list_all is_kept_character value.now }
+{
+    value.iter().all(|&b| is_kept_byte(b))
+}
+
+/// Whether neither a path nor a search or a hash escapes a character.
+fn is_kept_byte(b: u8) -> bool
+    ensures { result ≡ is_kept_character b }
+{
+    b.is_ascii_alphanumeric()
+        || matches!(
+            b,
+            b'-' | b'.'
+                | b'_'
+                | b'~'
+                | b'/'
+                | b'!'
+                | b'$'
+                | b'%'
+                | b'&'
+                | b'('
+                | b')'
+                | b'*'
+                | b'+'
+                | b','
+                | b':'
+                | b';'
+                | b'='
+                | b'@'
+        )
+}
+
+/// Whether a value is a label of a host in lower case without digits.
+fn is_label(value: &[u8]) -> bool
+    ensures { result ≡ list_all is_label_character value.now }
+{
+    value.iter().all(|&b| is_label_byte(b))
+}
+
+/// Whether a character is a letter in lower case or a hyphen.
+fn is_label_byte(b: u8) -> bool
+    ensures { result ≡ is_label_character b }
+{
+    b.is_ascii_lowercase() || b == b'-'
+}
