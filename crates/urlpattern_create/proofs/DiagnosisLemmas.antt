@@ -6,7 +6,7 @@ use Rattle.std.specs.Prelude.{Result, IfNone, IfOk, IfSome, option_copied, strin
 use Rattle.std.specs.Str.{chars}
 use Rattle.urlpattern_core.specs.Components.{ComponentView}
 use Rattle.urlpattern_core.specs.declared.regexp.RegExp.{Ghosts as Engine}
-use Rattle.urlpattern_faults.specs.Faults.{IsFaultOf, IsUrlFault}
+use Rattle.urlpattern_faults.specs.Faults.{IsColonFault, IsFaultOf, IsUrlFault}
 use Rattle.urlpattern_faults.specs.Places.{IsFaultMoved}
 use Rattle.urlpattern_diagnosis.specs.declared.diagnosis.Diagnosis.{Diagnosis}
 use Rattle.urlpattern_diagnosis.specs.declared.diagnosis.Subject.{Subject}
@@ -14,9 +14,10 @@ use Rattle.urlpattern_diagnosis.specs.declared.diagnosis.Subject.TheVariants as 
 use Rattle.urlpattern_faults.specs.declared.fault.Fault.{Fault}
 use Rattle.urlpattern_inputs.specs.declared.options.UrlPatternOptions.{UrlPatternOptions}
 use Rattle.urlpattern_create.specs.Compiled.{FirstRefused, IsComponentCompiled, IsComponentRefused, IsPathKind, IsPatternOfInit, Manner, RefusesValues, after_protocol, manner_of}
-use Rattle.urlpattern_create.specs.Diagnoses.{IsOf, IsPartOfRefused, IsRefusalOf, RefusesComponent, ShowsAll, ShowsFault, ShowsInit, ShowsPattern, ShowsProtocol, ShowsRefusal, ShowsText, error_of}
+use Rattle.urlpattern_create.specs.Diagnoses.{IsOf, IsPartOfRefused, IsRefusalOf, RefusesComponent, ShowsAll, ShowsColon, ShowsFault, ShowsInit, ShowsPattern, ShowsProtocol, ShowsRefusal, ShowsText, error_of}
 use Rattle.urlpattern_create.specs.FromString.{IsInitOfText, IsPatternOfText}
 use Rattle.urlpattern_create.specs.PatternViews.{PatternView}
+use Rattle.urlpattern_init.specs.Split.{HasProtocol}
 use Rattle.urlpattern_init.specs.declared.init.UrlPatternInit.{UrlPatternInit}
 use Rattle.urlpattern_eight.specs.declared.eight.ComponentName.{ComponentName}
 use Rattle.urlpattern_create.specs.declared.refusal.Refusal.{Refusal}
@@ -88,6 +89,15 @@ shows_fault component bytes pattern point prefix error diagnosis fault same text
 -- the whole text is shown
 pub shows_all : (bytes : List ℕ) (diagnosis : Diagnosis) → string_bytes diagnosis.text ≡ bytes → IsUrlFault bytes diagnosis.fault → ShowsAll diagnosis
 shows_all bytes diagnosis text fault = subst (λ (x : List ℕ). IsUrlFault x diagnosis.fault) (sym text) fault
+
+-- the colon after a text that is no protocol is shown
+pub shows_colon : (bytes before : List ℕ) (diagnosis : Diagnosis) (fault : Fault) → string_bytes diagnosis.text ≡ bytes → HasProtocol (chars bytes) (λ (protocol : List ℕ). protocol ≡ chars before) →
+    IsColonFault bytes before fault → diagnosis.fault ≡ fault → ShowsColon (chars bytes) diagnosis
+shows_colon bytes before diagnosis fault text has is same = (
+  before,
+  has,
+  subst (λ (x : List ℕ). IsColonFault x before diagnosis.fault) (sym text) (subst (λ (x : Fault). IsColonFault bytes before x) (sym same) is),
+)
 
 -- no text stands for none
 pub text-or_nothing : (base : Option (Bor (List ℕ))) (found nothing : Bor (List ℕ)) → found ≡ unwrap_or base nothing → nothing.now ≡ [] → found.now ≡ unwrap_or (option_copied base) []

@@ -22,7 +22,7 @@ use urlpattern_core::regexp::RegExp;
 use urlpattern_core::tokenizer::{TokenizePolicy, tokenize};
 use urlpattern_diagnosis::{
     Diagnosis, Fault, Place, Subject, component_start, fault_of, fault_of_expression,
-    fault_of_host, refused_expression, refused_row,
+    fault_of_host, missing_colon, refused_expression, refused_row,
 };
 use urlpattern_eight::{ComponentName, Eight};
 use urlpattern_init::{UrlPatternInit, protocol_of};
@@ -91,18 +91,24 @@ fn protocol_diagnosis(alloc: Global, error: Error, text: &str) -> Result<Diagnos
     let Ok(found) = protocol_of(alloc, text) else {
         return Err(OutOfMemory);
     };
-    match (found, &error) {
-        (None, _) | (_, Error::BaseUrlRequired) => {
-            Ok(Diagnosis::whole(alloc, error, Subject::Whole, text)?)
-        }
-        (Some(protocol), _) => {
-            let name = ComponentName::Protocol;
-            let fault = fault_of(alloc, Some(name), protocol, "", &error)?;
-            let place = Place::of_component(text, protocol, name, 0, protocol.len());
-            let subject = Subject::Component(name);
-            Ok(Diagnosis::of_part(alloc, error, subject, text, protocol, fault, place)?)
-        }
+    match found {
+        Some(protocol) if !lacks_colon(text, &error) => match Fault::of_colon(text, protocol) {
+            Some(fault) => Ok(Diagnosis::of_colon(alloc, error, text, fault)?),
+            None => {
+                let name = ComponentName::Protocol;
+                let fault = fault_of(alloc, Some(name), protocol, "", &error)?;
+                let place = Place::of_component(text, protocol, name, 0, protocol.len());
+                let subject = Subject::Component(name);
+                Ok(Diagnosis::of_part(alloc, error, subject, text, protocol, fault, place)?)
+            }
+        },
+        _ => Ok(Diagnosis::whole(alloc, error, Subject::Whole, text)?),
     }
+}
+
+/// Whether a text that is refused with this error has no protocol, or no colon after it.
+fn lacks_colon(text: &str, error: &Error) -> bool {
+    matches!(error, Error::BaseUrlRequired) || missing_colon(text).is_some()
 }
 
 /// What is wrong with an init, in a constructor string or else in its own values.

@@ -1,9 +1,11 @@
 //! What is wrong with a pattern that is refused.
 
 ghost use Rattle.std.specs.Prelude.{◌≡◌, string_bytes, IfOk, IfSome};
+ghost use Rattle.urlpattern_diagnosis.specs.declared.diagnosis.Subject.TheVariants as subjects;
 ghost use Rattle.urlpattern_faults.specs.Faults.{IsFaultIn, IsUrlFault};
 ghost use Rattle.urlpattern_faults.specs.Places.{IsFaultMoved, IsPlaceOf};
 
+use crate::colon::path_colon_reason;
 use crate::hint::Hint;
 use crate::reason::{Faulty, reason_of};
 use std::alloc::{AllocError, Global};
@@ -114,8 +116,32 @@ impl Diagnosis {
             Some(place) => place.moved(text, part, fault),
             None => Fault::whole(text),
         };
-        let hint = Hint::of_part(&error, text, part, fault, place);
+        let hint = Hint::of_part(&error, subject, text, part, fault, place);
         Self::of_fault(alloc, error, subject, text, moved, hint)
+    }
+
+    /// A colon of a text, where no name follows it, has this fault: what is before it is no protocol.
+    ///
+    /// The error is that memory ran out.
+    pub fn of_colon(
+        alloc: Global,
+        error: Error,
+        text: &str,
+        fault: Fault,
+    ) -> Result<Self, AllocError>
+        ensures error { IfOk result (λ diagnosis. diagnosis.error ≡ error) }
+        ensures subject { IfOk result (λ diagnosis. diagnosis.subject ≡ subjects.Whole) }
+        ensures text { IfOk result (λ diagnosis. string_bytes diagnosis.text ≡ text.now) }
+        ensures fault { IfOk result (λ diagnosis. diagnosis.fault ≡ fault) }
+    {
+        let reason = path_colon_reason(alloc, text, fault.span.start)?;
+        Ok(Diagnosis {
+            error,
+            subject: Subject::Whole,
+            text: String::from_str(alloc, text)?,
+            fault,
+            reason,
+        })
     }
 
     /// A text has a fault.

@@ -51,6 +51,7 @@ pub(crate) fn message(
 /// What to do about a refusal at a place that its message leaves open, after a semicolon, or nothing.
 fn advice(kind: ErrorKind, expression: &str, place: usize, hint: Hint) -> &'static str {
     let refused = expression.as_bytes().get(place);
+    let next = expression.as_bytes().get(place.saturating_add(1));
     match kind {
         ErrorKind::ClassRangeInvalid | ErrorKind::ClassRangeLiteral => {
             "; `-` in a class is between the ends of a range: write `\\-` for the character itself"
@@ -64,8 +65,30 @@ fn advice(kind: ErrorKind, expression: &str, place: usize, hint: Hint) -> &'stat
         ErrorKind::ClassUnclosed if expression.contains(']') => {
             "; at the front of a class `^` excludes and `]` is one of its characters, and a `[` in it begins another: write `\\^`, `\\]` or `\\[` for the character itself"
         }
+        ErrorKind::EscapeUnrecognized if next == Some(&b'k') =>
+            "; backreferences are not supported",
+        ErrorKind::EscapeUnrecognized => {
+            "; write the character without `\\` for the character itself"
+        }
+        ErrorKind::FlagUnrecognized if refused == Some(&b'#') => "; comments are not supported",
         ErrorKind::FlagUnrecognized if refused == Some(&b'>') => {
             "; atomic groups are not supported: write `(?:` for `(?>`"
+        }
+        _ => count_advice(kind, refused),
+    }
+}
+
+/// The same of a refused repetition, where this byte is at fault.
+fn count_advice(kind: ErrorKind, refused: Option<&u8>) -> &'static str {
+    match kind {
+        ErrorKind::RepetitionCountDecimalEmpty if refused == Some(&b',') => {
+            "; write `{0,3}` for at most three"
+        }
+        ErrorKind::RepetitionCountDecimalEmpty => {
+            "; a count is a number: write `\\{` for the character itself"
+        }
+        ErrorKind::RepetitionCountUnclosed => {
+            "; a count ends with `}`, or write `\\{` for the character itself"
         }
         ErrorKind::RepetitionMissing if refused == Some(&b'{') => {
             "; nothing is before `{` that it could repeat: write `.{3}` for any three characters"

@@ -1,6 +1,11 @@
 //! What explains a fault besides the part at fault.
 
+use crate::around::{
+    has_bracket_before, has_cut_class, has_open_group, is_after_expression, is_after_modifier,
+    is_after_word, is_closed, is_in_class, sign_at, wide_mark,
+};
 use crate::diagnosis::Subject;
+use urlpattern_eight::ComponentName;
 use urlpattern_faults::{Fault, Place, Span, missing_colon};
 use urlpattern_syntax::error::{Error, ParserError, RegexFault, TokenizerError};
 use urlpattern_syntax::tokenizer::TokenType;
@@ -32,14 +37,18 @@ pub(crate) enum Hint {
     NameBegins(char),
     /// This character, which no name has, follows a name.
     NameEnds(char),
-    /// A regular expression is not in parentheses.
+    /// A regular expression is not in parentheses, or follows a colon.
     Expression,
     /// The character at fault is repeated.
     Repeated,
     /// The modifier at fault follows another one.
     SecondModifier,
-    /// The `（` before the modifier at fault is full-width.
-    WideOpen,
+    /// This mark before the modifier at fault is full-width.
+    Wide(char),
+    /// Only a word is before the modifier at fault in its group, as in other templates.
+    Word,
+    /// A group after what is at fault is not closed.
+    OpenGroup,
     /// The pattern is `https?`, as a regular expression may be.
     Scheme,
 }
@@ -56,6 +65,7 @@ impl Hint {
     /// What explains the fault of a pattern that is at a place in a text.
     pub(crate) fn of_part(
         error: &Error,
+        subject: Subject,
         text: &str,
         part: &str,
         fault: Fault,
@@ -63,13 +73,16 @@ impl Hint {
     ) -> Self {
         let search = search_after(text, part, place);
         match error {
-            Error::Tokenizer(TokenizerError::InvalidName, _) => colon_hint(part, fault.span.end),
+            Error::Tokenizer(TokenizerError::InvalidName, _) => {
+                colon_hint(subject, part, fault.span.end)
+            }
             Error::Tokenizer(TokenizerError::InvalidRegex(reason), _) => {
                 expression_hint(*reason, text, part, fault, search)
             }
             Error::Parser(ParserError::DuplicateName(_)) => name_hint(part, fault),
+            Error::Parser(ParserError::ExpectedToken(_, TokenType::Open, _)) => brace_hint(fault),
             Error::Parser(ParserError::ExpectedToken(expected, TokenType::OtherModifier, _)) => {
-                modifier_hint(part, fault.span.start, *expected == TokenType::Close)
+                modifier_hint(part, fault, *expected == TokenType::Close)
             }
             Error::RegExp(()) if has_cut_class(part, outer(fault).start, part.len()) => {
                 Hint::Brackets
@@ -82,34 +95,35 @@ impl Hint {
     }
 }
 
-/// What explains that no name follows a colon, which is before this place.
-fn colon_hint(part: &str, place: usize) -> Hint {
-    match part.as_bytes().get(place) {
+/// What explains that no name follows a colon, which is before this place. A port that begins with it is of an IPv6 address
+/// without its brackets.
+fn colon_hint(subject: Subject, part: &str, place: usize) -> Hint {
+    match (subject, part.as_bytes().get(place)) {
+        (Subject::Component(ComponentName::Port), _) if part.starts_with(':') => Hint::Brackets,
         _ if has_bracket_before(part, place) => Hint::Brackets,
-        Some(byte) if is_none_of_names(*byte) => Hint::NameBegins(char::from(*byte)),
+        (Subject::Component(ComponentName::Hostname), _) if has_open_group(part, place) => {
+            Hint::OpenGroup
+        }
+        (_, Some(byte)) if is_none_of_names(*byte) => Hint::NameBegins(char::from(*byte)),
+        (_, Some(b'\\' | b'[')) => Hint::Expression,
         _ => Hint::Nothing,
     }
 }
 
 /// Whether a character begins no name, and is not used in patterns.
-fn is_none_of_names(byte: u8) -> bool {
+pub(crate) fn is_none_of_names(byte: u8) -> bool {
     matches!(
         byte,
-        b'0'..=b'9' | b'-' | b'^' | b'.' | b'~' | b'@' | b'&' | b'='
+        b'0'..=b'9' | b'-' | b'^' | b'.' | b'~' | b'@' | b'&' | b'=' | b' ' | b'\'' | b'"'
     )
 }
 
-/// Whether the last bracket before a place is a `[`.
-fn has_bracket_before(part: &str, place: usize) -> bool {
-    let mut is_open = false;
-    for byte in part.as_bytes().iter().take(place) {
-        match byte {
-            b'[' => is_open = true,
-            b']' => is_open = false,
-            _ => {}
-        }
+/// What explains that a group begins in another: its brace follows that of the first.
+fn brace_hint(fault: Fault) -> Hint {
+    match fault.earlier {
+        Some(open) if open.end == fault.span.start => Hint::Repeated,
+        _ => Hint::Nothing,
     }
-    is_open
 }
 
 /// What explains that a parenthesis begins no custom expression. The `?` after the pattern is at this place in the text.
@@ -158,63 +172,6 @@ fn letter_hint(part: &str, fault: Fault) -> Hint {
     }
 }
 
-/// Whether the parenthesis at a place is closed.
-fn is_closed(part: &str, place: usize) -> bool {
-    let mut depth = 0usize;
-    let mut is_escaped = false;
-    for byte in part.as_bytes().iter().skip(place) {
-        match byte {
-            _ if is_escaped => is_escaped = false,
-            b'\\' => is_escaped = true,
-            b'(' => depth = depth.saturating_add(1),
-            b')' => {
-                depth = depth.saturating_sub(1);
-                if depth == 0 {
-                    return true;
-                }
-            }
-            _ => {}
-        }
-    }
-    false
-}
-
-/// Whether a place is in a class of the expression that begins before it.
-fn is_in_class(part: &str, start: usize, place: usize) -> bool {
-    let mut is_open = false;
-    let mut is_escaped = false;
-    for byte in part.as_bytes().iter().take(place).skip(start) {
-        match byte {
-            _ if is_escaped => is_escaped = false,
-            b'\\' => is_escaped = true,
-            b'[' => is_open = true,
-            b']' => is_open = false,
-            _ => {}
-        }
-    }
-    is_open
-}
-
-/// Whether the first class between two places that has a `)` ends after it, before another one begins.
-fn has_cut_class(part: &str, start: usize, end: usize) -> bool {
-    let mut is_open = false;
-    let mut is_cut = false;
-    let mut is_escaped = false;
-    for byte in part.as_bytes().iter().take(end).skip(start) {
-        match byte {
-            _ if is_escaped => is_escaped = false,
-            b'\\' => is_escaped = true,
-            b'[' if is_cut => return false,
-            b']' if is_cut => return true,
-            b'[' => is_open = true,
-            b']' => is_open = false,
-            b')' => is_cut = is_open,
-            _ => {}
-        }
-    }
-    false
-}
-
 /// What is there from a place on for the `)` of a custom expression: another bracket, which closes neither a class nor a count,
 /// or a `)` that is escaped.
 fn close_hint(part: &str, place: usize) -> Hint {
@@ -248,22 +205,17 @@ fn name_hint(part: &str, fault: Fault) -> Hint {
     }
 }
 
-/// The `-` or `^` at a place.
-fn sign_at(part: &str, place: usize) -> Option<char> {
-    match part.as_bytes().get(place) {
-        Some(b'-') => Some('-'),
-        Some(b'^') => Some('^'),
-        _ => None,
-    }
-}
-
-/// What explains that a modifier at a place, maybe within a group, follows nothing that it could repeat.
-fn modifier_hint(part: &str, place: usize, is_in_group: bool) -> Hint {
+/// What explains that a modifier, maybe within a group, follows nothing that it could repeat.
+fn modifier_hint(part: &str, fault: Fault, is_in_group: bool) -> Hint {
+    let place = fault.span.start;
     if !is_in_group && is_after_modifier(part, place) {
         return Hint::SecondModifier;
     }
     if part == "https?" {
         return Hint::Scheme;
+    }
+    if is_in_group && is_after_word(part, fault) {
+        return Hint::Word;
     }
     let mut sign = None;
     let mut is_after_name = false;
@@ -293,34 +245,11 @@ fn unread_hint(part: &str, place: usize) -> Hint {
         Some(open) if has_cut_class(part, open, place) => return Hint::Brackets,
         _ => {}
     }
-    match part.find('（') {
-        Some(open) if open < place => Hint::WideOpen,
-        _ if is_after_expression(part, place) => Hint::Expression,
-        _ => Hint::Nothing,
-    }
-}
-
-/// Whether a modifier is before a place, and not the same sign escaped.
-fn is_after_modifier(part: &str, place: usize) -> bool {
-    let bytes = part.as_bytes();
-    match place.checked_sub(1) {
-        Some(last) => {
-            matches!(bytes.get(last), Some(b'*' | b'+' | b'?'))
-                && bytes.get(last.saturating_sub(1)) != Some(&b'\\')
-        }
-        None => false,
-    }
-}
-
-/// Whether a class, `.` or a backslash and a letter is before a place.
-fn is_after_expression(part: &str, place: usize) -> bool {
-    let bytes = part.as_bytes();
-    match bytes.get(place.saturating_sub(1)) {
-        Some(b']' | b'.') => true,
-        Some(byte) if byte.is_ascii_alphabetic() => {
-            bytes.get(place.saturating_sub(2)) == Some(&b'\\')
-        }
-        _ => false,
+    match wide_mark(part, place) {
+        Some(mark) => Hint::Wide(mark),
+        None if is_after_expression(part, place) => Hint::Expression,
+        None if has_open_group(part, place) => Hint::OpenGroup,
+        None => Hint::Nothing,
     }
 }
 

@@ -1,10 +1,12 @@
 //! Why a pattern is refused, in words for its author.
 
+use crate::colon::colon_reason;
 use crate::diagnosis::Subject;
 use crate::expression::message;
 use crate::hint::Hint;
 use crate::host::{host_reason, is_number};
-use crate::wide::ascii_form_of;
+use crate::scheme::{COLON_MISSING, base_reason, is_quoted, protocol_reason};
+use crate::wide::{ascii_form, ascii_form_of};
 use percent_encoding::{CONTROLS, utf8_percent_encode};
 use std::alloc::{AllocError, Global};
 use url::ParseError;
@@ -54,46 +56,6 @@ pub(crate) fn reason_of(
     }
 }
 
-/// What is said of a scheme without its colon.
-const COLON_MISSING: &str = "`:` is missing before `//`: a protocol ends with it, as in `https://`";
-
-/// Why a pattern needs a base URL, and what to write: a pattern begins with no `^`, as a regular expression may.
-fn base_reason(alloc: Global, faulty: &Faulty<'_>) -> Result<String, AllocError> {
-    let part = faulty.part;
-    if faulty.hint == Hint::Colon {
-        return String::from_str(alloc, COLON_MISSING);
-    }
-    if part.contains(['\t', '\n', '\r']) {
-        return String::from_str(
-            alloc,
-            "a pattern without a protocol needs a base URL: begin it with `https://`, or give a base",
-        );
-    }
-    let relative = part.trim_start_matches('^');
-    let front = front_of_url(relative);
-    format!(in alloc;
-        "a pattern without a protocol needs a base URL: write `{front}{relative}`, or give a base"
-    )
-}
-
-/// What a URL has before a text that is relative to it: also a hostname, unless the text may begin with one, as it has a dot there.
-fn front_of_url(text: &str) -> &'static str {
-    if text.starts_with("//") {
-        return "https:";
-    }
-    if text.starts_with('/') {
-        return "https://HOST";
-    }
-    for (index, byte) in text.as_bytes().iter().enumerate() {
-        match byte {
-            b'.' if index > 0 => return "https://",
-            b'.' | b'/' | b'?' | b'#' => return "https://HOST/",
-            _ => {}
-        }
-    }
-    "https://HOST/"
-}
-
 /// Adds that an earlier token is at fault too, other than the parenthesis of a custom expression.
 fn add_earlier(reason: &mut String, earlier: Option<&str>) -> Result<(), AllocError> {
     match earlier {
@@ -117,12 +79,7 @@ fn token_reason(
             alloc,
             "`\\` at the end escapes nothing: write `\\\\` for the character itself",
         ),
-        (TokenizerError::InvalidName, Hint::NameBegins(sign)) if is_of_names(faulty.subject) => {
-            format!(in alloc;
-                "no name follows `:`: a name begins with a letter, `$` or `_`, and not with `{sign}`; write `\\:` for the colon itself"
-            )
-        }
-        (TokenizerError::InvalidName, _) => String::from_str(alloc, colon_reason(faulty)),
+        (TokenizerError::InvalidName, _) => colon_reason(alloc, faulty),
         (TokenizerError::InvalidRegex(_), Hint::ClosedBy(bracket)) => {
             format!(in alloc;
                 "`(` is not closed: a custom expression ends with `)`, and here `{bracket}` is in its place"
@@ -132,38 +89,6 @@ fn token_reason(
             if !faulty.part.is_ascii() => { ascii_reason(alloc, faulty) }
         (TokenizerError::InvalidRegex(fault), hint) => {
             String::from_str(alloc, expression_reason(*fault, hint))
-        }
-    }
-}
-
-/// Whether patterns of the subject have colons for names alone.
-fn is_of_names(subject: Subject) -> bool {
-    !matches!(
-        subject,
-        Subject::Component(ComponentName::Protocol | ComponentName::Hostname | ComponentName::Port)
-    )
-}
-
-/// Why no name follows a colon.
-fn colon_reason(faulty: &Faulty<'_>) -> &'static str {
-    match (faulty.subject, faulty.hint) {
-        _ if faulty.part == "[" => {
-            "`[` is not closed: an IPv6 address ends with `]`, and each `:` in it is written `\\:`"
-        }
-        (Subject::Component(ComponentName::Hostname), Hint::Brackets) => {
-            "no name follows `:`: in an IPv6 address each `:` is written `\\:`"
-        }
-        (Subject::Component(ComponentName::Hostname), _) => {
-            "no name follows `:`: a hostname is written without its port, which is a component of its own"
-        }
-        (Subject::Component(ComponentName::Port), _) => {
-            "no name follows `:`: a port is a number up to 65535, without a colon"
-        }
-        (Subject::Component(ComponentName::Protocol), _) => {
-            "no name follows `:`: a protocol is written without `://`"
-        }
-        _ => {
-            "no name follows `:`: a name begins with a letter, `$` or `_`; write `\\:` for the character itself"
         }
     }
 }
@@ -269,48 +194,71 @@ fn stop_reason(
     hint: Hint,
 ) -> Result<String, AllocError> {
     match (expected, found) {
-        (TokenType::Close, TokenType::End) => String::from_str(
-            alloc,
-            match hint {
-                Hint::Search => {
-                    "`{` is not closed: a group ends with `}`, or write `\\{` for the character itself; the `?` after it begins the search"
-                }
-                _ => {
-                    "`{` is not closed: a group ends with `}`, or write `\\{` for the character itself"
-                }
-            },
-        ),
-        (TokenType::Close, TokenType::Open) => String::from_str(
-            alloc,
-            "groups do not nest: close the first one before this `{`, or write `\\{` for the character itself",
-        ),
-        (_, TokenType::OtherModifier) if hint != Hint::Nothing => {
-            modifier_reason(alloc, value, hint)
+        (_, TokenType::OtherModifier) => {
+            modifier_reason(alloc, value, expected == TokenType::Close, hint)
         }
-        (TokenType::Close, TokenType::OtherModifier) => {
-            format!(in alloc;
-                "`{value}` is within a group: a modifier follows the `}}`, or write `\\{value}` for the character itself"
-            )
-        }
-        (TokenType::Close, _) => String::from_str(
-            alloc,
-            "a group has one name, expression or `*` at most: this is its second",
-        ),
+        (TokenType::Close, _) => String::from_str(alloc, group_reason(found, hint)),
         (_, TokenType::Close) => String::from_str(
             alloc,
             "`}` closes no group: write `\\}` for the character itself",
         ),
-        (_, TokenType::OtherModifier) => {
-            format!(in alloc;
-                "`{value}` follows nothing that it could repeat: it is a modifier after a name, an expression, `*` or `}}`; write `\\{value}` for the character itself"
-            )
-        }
         _ => format!(in alloc; "`{value}` is not expected here"),
     }
 }
 
-/// Why a modifier follows nothing that it could repeat, where a hint explains it.
-fn modifier_reason(alloc: Global, value: &str, hint: Hint) -> Result<String, AllocError> {
+/// Why a token does not stand in a group.
+fn group_reason(found: TokenType, hint: Hint) -> &'static str {
+    match (found, hint) {
+        (TokenType::End, Hint::Search) => {
+            "`{` is not closed: a group ends with `}`, or write `\\{` for the character itself; the `?` after it begins the search"
+        }
+        (TokenType::End, _) => {
+            "`{` is not closed: a group ends with `}`, or write `\\{` for the character itself"
+        }
+        (TokenType::Open, Hint::Repeated) => {
+            "groups do not nest: a name is written `:id`, without braces; write `\\{` for the character itself"
+        }
+        (TokenType::Open, _) => {
+            "groups do not nest: close the first one before this `{`, or write `\\{` for the character itself"
+        }
+        _ => "a group has one name, expression or `*` at most: this is its second",
+    }
+}
+
+/// Why a modifier does not stand where it does, maybe in a group.
+fn modifier_reason(
+    alloc: Global,
+    value: &str,
+    is_in_group: bool,
+    hint: Hint,
+) -> Result<String, AllocError> {
+    match hint {
+        Hint::Word => {
+            format!(in alloc;
+                "`{value}` is within a group: a modifier follows the `}}`, and a name is written `:id{value}`; write `\\{value}` for the character itself"
+            )
+        }
+        Hint::Nothing if is_in_group => {
+            format!(in alloc;
+                "`{value}` is within a group: a modifier follows the `}}`, or write `\\{value}` for the character itself"
+            )
+        }
+        Hint::SecondModifier => {
+            format!(in alloc;
+                "`{value}` is a second modifier: a name, an expression, `*` or a group has only one; write `\\{value}` for the character itself"
+            )
+        }
+        Hint::Expression => {
+            format!(in alloc;
+                "`{value}` repeats a regular expression only within `(` and `)`: write it as in `(\\d+)`, or `\\{value}` for the character itself"
+            )
+        }
+        _ => unrepeated_reason(alloc, value, hint),
+    }
+}
+
+/// Why a modifier follows nothing that it could repeat.
+fn unrepeated_reason(alloc: Global, value: &str, hint: Hint) -> Result<String, AllocError> {
     match hint {
         Hint::NameEnds(sign) => {
             format!(in alloc;
@@ -322,23 +270,24 @@ fn modifier_reason(alloc: Global, value: &str, hint: Hint) -> Result<String, All
                 "`{value}` follows nothing that it could repeat; `)` ends an expression also in a class: write `\\)` for the character itself"
             )
         }
-        Hint::WideOpen => {
+        Hint::Wide(mark) => {
+            let sign = ascii_form(mark).unwrap_or(mark);
             format!(in alloc;
-                "`{value}` follows nothing that it could repeat; `（` before it is full-width: write `(`"
+                "`{value}` follows nothing that it could repeat; `{mark}` before it is full-width: write `{sign}`"
+            )
+        }
+        Hint::OpenGroup => {
+            format!(in alloc;
+                "`{value}` follows nothing that it could repeat: write `\\{value}` for the character itself; the `{{` after it is not closed"
             )
         }
         Hint::Scheme => String::from_str(
             alloc,
             "`?` follows nothing that it could repeat: write `http{s}?` for both protocols",
         ),
-        Hint::SecondModifier => {
-            format!(in alloc;
-                "`{value}` is a second modifier: a name, an expression, `*` or a group has only one; write `\\{value}` for the character itself"
-            )
-        }
         _ => {
             format!(in alloc;
-                "`{value}` repeats a regular expression only within `(` and `)`: write it as in `(\\d+)`, or `\\{value}` for the character itself"
+                "`{value}` follows nothing that it could repeat: it is a modifier after a name, an expression, `*` or `}}`; write `\\{value}` for the character itself"
             )
         }
     }
@@ -353,32 +302,41 @@ fn url_reason(
     let part = faulty.part;
     let what = faulty.subject.name();
     match (faulty.subject, reason) {
-        (Subject::Component(ComponentName::Port), ParseError::InvalidPort) if !is_number(part) => {
-            format!(in alloc; "`{part}` is no {what}: a port has only the digits 0 to 9")
+        (Subject::Component(ComponentName::Port), ParseError::InvalidPort) => {
+            port_reason(alloc, part)
         }
         (_, ParseError::InvalidPort) => {
             format!(in alloc; "`{part}` is no {what}: a port is a number up to 65535")
         }
-        (Subject::Component(ComponentName::Protocol), _) if part.starts_with('^') => {
-            format!(in alloc; "`{part}` is no {what}: a pattern matches a whole URL, without `^`")
-        }
-        (Subject::Component(ComponentName::Protocol), _) if part == "http[s]" => {
-            format!(in alloc; "`{part}` is no {what}: write `http{{s}}?` for both")
-        }
-        (Subject::Component(ComponentName::Protocol), _) => {
-            format!(in alloc;
-                "`{part}` is no {what}: it begins with a letter, and has letters, digits, `+`, `-` and `.`"
-            )
-        }
+        (Subject::Component(ComponentName::Protocol), _) => protocol_reason(alloc, part),
         (Subject::Component(ComponentName::Hostname), _) => host_reason(alloc, reason, part),
         (_, ParseError::RelativeUrlWithoutBase) if faulty.hint == Hint::Colon => {
             String::from_str(alloc, COLON_MISSING)
+        }
+        (Subject::Base, _) if part.is_empty() => String::from_str(
+            alloc,
+            "the base URL is empty: give one that begins with `https://`, or none",
+        ),
+        (_, ParseError::RelativeUrlWithoutBase) if is_quoted(part) => {
+            format!(in alloc; "`{part}` is no {what}: it is written without quotes around it")
         }
         (_, ParseError::RelativeUrlWithoutBase) => {
             format!(in alloc; "`{part}` is no {what}: begin it with a protocol, as `https://`")
         }
         _ => format!(in alloc; "`{part}` is no {what}: {reason}"),
     }
+}
+
+/// Why a part is no port. One that begins with a dot may be meant as a hostname that begins with a name.
+fn port_reason(alloc: Global, part: &str) -> Result<String, AllocError> {
+    let why = if is_number(part) {
+        "a port is a number up to 65535"
+    } else if part.starts_with('.') {
+        "a port has only the digits 0 to 9, and a name after `:` begins with a letter, `$` or `_`"
+    } else {
+        "a port has only the digits 0 to 9"
+    };
+    format!(in alloc; "`{part}` is no port: {why}")
 }
 
 /// Why an engine refuses an expression, in the words of the crate `regex`.

@@ -1,5 +1,5 @@
 -- Where the pattern text of a component is at fault. Texts are their bytes.
-use Rattle.std.specs.Prelude.{◌≡◌, ℕ, ◌+◌, ◌⊎◌, ◌&&◌, ◌==◌, Bool, true, false, List, [], ◌∷◌, length, map, filter, take, drop, min, bytes_eq, Option, Some, None, IsSomeAnd, IfSome, MatchBool, string_bytes, ◌++◌, ◌≤◌, ◌||◌, MatchOption, codes, if◌then◌else◌, nat_eq}
+use Rattle.std.specs.Prelude.{◌≡◌, ℕ, ◌+◌, ◌⊎◌, ◌&&◌, ◌==◌, Bool, true, false, List, [], ◌∷◌, length, map, filter, take, drop, min, bytes_eq, IsTrue, Option, Some, None, IsSomeAnd, IfSome, MatchBool, string_bytes, ◌++◌, ◌≤◌, ◌||◌, MatchOption, codes, if◌then◌else◌, nat_eq}
 use Rattle.std.specs.List.{list_any, starts_with}
 use Rattle.std.specs.Str.{chars}
 use Rattle.urlpattern_faults.specs.Spans.{IsSpanAt, IsSpanIn, whole_span}
@@ -69,6 +69,14 @@ missing_colon bytes =
 abbrev pub IsUrlFault : (bytes : List ℕ) → Fault → Type 0
 IsUrlFault bytes fault =
     MatchOption (missing_colon bytes) (IsWholeFault bytes fault) (λ place. IsAlone (IsSpanAt bytes place 0) fault)
+
+-- a character of a path, a search or a hash that no protocol has
+abbrev pub is_path_sign : ℕ → Bool
+is_path_sign c = is_among (codes "/#=") c
+
+-- the colon after a text that has such a character is at fault: it ends no protocol
+abbrev pub IsColonFault : (bytes before : List ℕ) → Fault → Type 0
+IsColonFault bytes before fault = IsTrue (list_any is_path_sign before) × IsAlone (IsSpanAt bytes (length before) 1) fault
 
 -- ---- where no token begins
 

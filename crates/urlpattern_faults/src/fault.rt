@@ -1,7 +1,8 @@
 //! Where the pattern text of a component is at fault.
-ghost use Rattle.std.specs.Prelude.{◌≡◌, ℕ, IfOk, IfSome, None, filter, map};
+ghost use Rattle.std.specs.Prelude.{◌≡◌, ℕ, false, IfNone, IfOk, IfSome, None, filter, map};
+ghost use Rattle.std.specs.List.{list_any};
 ghost use Rattle.std.specs.Str.{chars};
-ghost use Rattle.urlpattern_faults.specs.Faults.{IsFaultIn, IsFaultOf, IsParserFault, IsSecondFault, IsSpanOfToken, IsStopFault, IsUrlFault, IsWholeFault, gives_name, marks_len, missing_colon};
+ghost use Rattle.urlpattern_faults.specs.Faults.{IsColonFault, IsFaultIn, IsFaultOf, IsParserFault, IsSecondFault, IsSpanOfToken, IsStopFault, IsUrlFault, IsWholeFault, gives_name, is_path_sign, marks_len, missing_colon};
 ghost use Rattle.urlpattern_faults.specs.Spans.{IsSpanIn};
 ghost use Rattle.urlpattern_syntax.specs.Tokens.{AreTokens, token_view};
 
@@ -59,6 +60,35 @@ impl Fault {
             None => Fault::whole(text),
         }
     }
+}
+
+impl Fault {
+    /// The colon after a text that is no protocol, since it has a character of a path, a search or a hash.
+    pub fn of_colon(text: &str, before: &str) -> Option<Self>
+        ensures fault { IfSome result (IsColonFault text.now before.now) }
+        ensures other { IfNone result (list_any is_path_sign before.now ≡ false) }
+        ensures within { IfSome result (IsFaultIn text.now) }
+    {
+        if has_path_sign(before) {
+            Some(Fault::of_span(Span::at(text, before.len(), 1)))
+        } else {
+            None
+        }
+    }
+}
+
+/// Whether a text has a character of a path, a search or a hash that no protocol has.
+fn has_path_sign(text: &str) -> bool
+    ensures { result ≡ list_any is_path_sign text.now }
+{
+    text.as_bytes().iter().any(|byte| is_path_sign(*byte))
+}
+
+/// Whether a byte is such a character.
+fn is_path_sign(byte: u8) -> bool
+    ensures { result ≡ is_path_sign byte }
+{
+    matches!(byte, b'/' | b'#' | b'=')
 }
 
 /// How long the special scheme at the front of a text is, or the pattern `http{s}?` of two, if two slashes follow it, and so its

@@ -1,4 +1,4 @@
-use Rattle.std.proofs.Common.{Bor, List, [], ℕ, ◌≡◌, sym, subst, inl}
+use Rattle.std.proofs.Common.{Bor, List, [], ℕ, ◌≡◌, sym, subst, inl, inr}
 use Rattle.std.proofs.lemmas.Str.{chars-nil}
 use Rattle.std.specs.Prelude.{IfSome}
 use Rattle.std.specs.Str.{chars}
@@ -6,24 +6,35 @@ use Rattle.urlpattern_diagnosis.specs.declared.diagnosis.Subject.{Subject}
 use Rattle.urlpattern_eight.specs.declared.eight.ComponentName.TheVariants.{Protocol}
 use Rattle.urlpattern_split.specs.Split.{HasProtocol}
 use Rattle.urlpattern_create.specs.Diagnoses.{ShowsProtocol}
-use Rattle.urlpattern_create.proofs.DiagnosisLemmas.{shows_all, shows_fault}
+use Rattle.urlpattern_create.proofs.DiagnosisLemmas.{shows_all, shows_colon, shows_fault}
 use Rattle.urlpattern_create.proofs.diagnose.protocol_diagnosis.Goals as goal
 
-pub returns-in_ok-of_part-in-Some-default-clause-shows : goal.returns-in_ok-of_part-in-Some-default-clause-shows
-returns-in_ok-of_part-in-Some-default-clause-shows c =
+pub returns-in_ok-of_colon-in-Some-of_colon-clause-shows : goal.returns-in_ok-of_colon-in-Some-of_colon-clause-shows
+returns-in_ok-of_colon-in-Some-of_colon-clause-shows c =
     let text = c.args.text.now in
-    let made = c.in_ok-of_part-in-Some-default.field-0 in
-    let is = c.in_ok-of_part-in-Some-default.ensures in
-    let protocol = c.in-Some-default.protocol in
-    let fault = c.in_ok-fault-in-Some-default.fault in
+    let made = c.in_ok-of_colon-in-Some-of_colon.field-0 in
+    let is = c.in_ok-of_colon-in-Some-of_colon.ensures in
+    let protocol = c.in-Some.protocol in
     let has : HasProtocol (chars text) (λ (other : List ℕ). other ≡ chars protocol.now) =
-    subst (λ found. IfSome found (λ (part : Bor (List ℕ)). HasProtocol (chars text) (λ (other : List ℕ). other ≡ chars part.now))) c.in-Some-default.is-0 c.in-Ok.ensures.protocol in
+    subst (λ found. IfSome found (λ (part : Bor (List ℕ)). HasProtocol (chars text) (λ (other : List ℕ). other ≡ chars part.now))) c.in-Some.is c.in-Ok.ensures.protocol in
     subst (λ (what : Subject). ShowsProtocol (chars text) what made) (sym is.subject)
-    (protocol.now, has, shows_fault Protocol text protocol.now (chars []) [] c.args.error made fault is.error is.text chars-nil (inl c.in_ok-fault-in-Some-default.ensures.fault) is.fault)
+    (inr (shows_colon text protocol.now made c.in-Some-of_colon.fault is.text has c.in-Some-of_colon.ensures.fault is.fault))
 
-pub returns-in_ok-whole-in-None-default-clause-shows : goal.returns-in_ok-whole-in-None-default-clause-shows
-returns-in_ok-whole-in-None-default-clause-shows c =
+pub returns-in_ok-of_part-in-None-clause-shows : goal.returns-in_ok-of_part-in-None-clause-shows
+returns-in_ok-of_part-in-None-clause-shows c =
     let text = c.args.text.now in
-    let made = c.in_ok-whole-in-None-default.field-0 in
-    let is = c.in_ok-whole-in-None-default.ensures in
-    subst (λ (what : Subject). ShowsProtocol (chars text) what made) (sym is.subject) (shows_all text made is.text is.fault)
+    let made = c.in_ok-of_part-in-None.field-0 in
+    let is = c.in_ok-of_part-in-None.ensures in
+    let protocol = c.in-Some.protocol in
+    let fault = c.in_ok-fault-in-None.fault in
+    let has : HasProtocol (chars text) (λ (other : List ℕ). other ≡ chars protocol.now) =
+    subst (λ found. IfSome found (λ (part : Bor (List ℕ)). HasProtocol (chars text) (λ (other : List ℕ). other ≡ chars part.now))) c.in-Some.is c.in-Ok.ensures.protocol in
+    subst (λ (what : Subject). ShowsProtocol (chars text) what made) (sym is.subject)
+    (protocol.now, has, c.in-None.ensures.other, shows_fault Protocol text protocol.now (chars []) [] c.args.error made fault is.error is.text chars-nil (inl c.in_ok-fault-in-None.ensures.fault) is.fault)
+
+pub returns-in_ok-whole-in_default-found-clause-shows : goal.returns-in_ok-whole-in_default-found-clause-shows
+returns-in_ok-whole-in_default-found-clause-shows c =
+    let text = c.args.text.now in
+    let made = c.in_ok-whole-in_default-found.field-0 in
+    let is = c.in_ok-whole-in_default-found.ensures in
+    subst (λ (what : Subject). ShowsProtocol (chars text) what made) (sym is.subject) (inl (shows_all text made is.text is.fault))

@@ -1,0 +1,147 @@
+//! What stands around a place in a pattern text.
+
+use crate::wide::ascii_form;
+use urlpattern_faults::Fault;
+
+/// Whether the last bracket before a place is a `[`.
+pub(crate) fn has_bracket_before(part: &str, place: usize) -> bool {
+    let mut is_open = false;
+    for byte in part.as_bytes().iter().take(place) {
+        match byte {
+            b'[' => is_open = true,
+            b']' => is_open = false,
+            _ => {}
+        }
+    }
+    is_open
+}
+
+/// Whether a group that begins after a place is not closed.
+pub(crate) fn has_open_group(part: &str, place: usize) -> bool {
+    let mut depth = 0usize;
+    let mut is_escaped = false;
+    for byte in part.as_bytes().iter().skip(place) {
+        match byte {
+            _ if is_escaped => is_escaped = false,
+            b'\\' => is_escaped = true,
+            b'{' => depth = depth.saturating_add(1),
+            b'}' => depth = depth.saturating_sub(1),
+            _ => {}
+        }
+    }
+    depth > 0
+}
+
+/// Whether the parenthesis at a place is closed.
+pub(crate) fn is_closed(part: &str, place: usize) -> bool {
+    let mut depth = 0usize;
+    let mut is_escaped = false;
+    for byte in part.as_bytes().iter().skip(place) {
+        match byte {
+            _ if is_escaped => is_escaped = false,
+            b'\\' => is_escaped = true,
+            b'(' => depth = depth.saturating_add(1),
+            b')' => {
+                depth = depth.saturating_sub(1);
+                if depth == 0 {
+                    return true;
+                }
+            }
+            _ => {}
+        }
+    }
+    false
+}
+
+/// Whether a place is in a class of the expression that begins before it.
+pub(crate) fn is_in_class(part: &str, start: usize, place: usize) -> bool {
+    let mut is_open = false;
+    let mut is_escaped = false;
+    for byte in part.as_bytes().iter().take(place).skip(start) {
+        match byte {
+            _ if is_escaped => is_escaped = false,
+            b'\\' => is_escaped = true,
+            b'[' => is_open = true,
+            b']' => is_open = false,
+            _ => {}
+        }
+    }
+    is_open
+}
+
+/// Whether the first class between two places that has a `)` ends after it, before another one begins.
+pub(crate) fn has_cut_class(part: &str, start: usize, end: usize) -> bool {
+    let mut is_open = false;
+    let mut is_cut = false;
+    let mut is_escaped = false;
+    for byte in part.as_bytes().iter().take(end).skip(start) {
+        match byte {
+            _ if is_escaped => is_escaped = false,
+            b'\\' => is_escaped = true,
+            b'[' if is_cut => return false,
+            b']' if is_cut => return true,
+            b'[' => is_open = true,
+            b']' => is_open = false,
+            b')' => is_cut = is_open,
+            _ => {}
+        }
+    }
+    false
+}
+
+/// The first full-width mark before a place.
+pub(crate) fn wide_mark(part: &str, place: usize) -> Option<char> {
+    for (index, c) in part.char_indices() {
+        if index >= place {
+            return None;
+        }
+        match ascii_form(c) {
+            Some('(' | ')' | '{' | '}' | ':' | '*' | '\\') => return Some(c),
+            _ => {}
+        }
+    }
+    None
+}
+
+/// Whether a modifier is before a place, and not the same sign escaped.
+pub(crate) fn is_after_modifier(part: &str, place: usize) -> bool {
+    let bytes = part.as_bytes();
+    match place.checked_sub(1) {
+        Some(last) => {
+            matches!(bytes.get(last), Some(b'*' | b'+' | b'?'))
+                && bytes.get(last.saturating_sub(1)) != Some(&b'\\')
+        }
+        None => false,
+    }
+}
+
+/// Whether a class, `.` or a backslash and a letter is before a place.
+pub(crate) fn is_after_expression(part: &str, place: usize) -> bool {
+    let bytes = part.as_bytes();
+    match bytes.get(place.saturating_sub(1)) {
+        Some(b']' | b'.') => true,
+        Some(byte) if byte.is_ascii_alphabetic() => {
+            bytes.get(place.saturating_sub(2)) == Some(&b'\\')
+        }
+        _ => false,
+    }
+}
+
+/// The `-` or `^` at a place.
+pub(crate) fn sign_at(part: &str, place: usize) -> Option<char> {
+    match part.as_bytes().get(place) {
+        Some(b'-') => Some('-'),
+        Some(b'^') => Some('^'),
+        _ => None,
+    }
+}
+
+/// Whether only letters, digits and `_` stand between the brace of a group and what is at fault in it.
+pub(crate) fn is_after_word(part: &str, fault: Fault) -> bool {
+    let Some(open) = fault.earlier else {
+        return false;
+    };
+    let end = fault.span.start;
+    let mut word = part.as_bytes().iter().take(end).skip(open.end);
+    open.end < end && word.all(|byte| byte.is_ascii_alphanumeric() || *byte == b'_')
+}
