@@ -4,14 +4,17 @@
 
 ghost use Rattle.std.specs.Prelude.{⊤};
 
+mod command;
+
+use command::run;
 use std::alloc::AllocError;
 use std::io::{BufReader, BufWriter};
 use std::process::ExitCode;
 use std::{env, fs, io};
-use urlpat_commands::{Failure, fail};
 use urlpat_explain::explain;
 use urlpat_links::link;
-use urlpat_rules::{Tables, run};
+use urlpat_matching::{Failure, fail};
+use urlpat_rules::Tables;
 use urlpat_words::{Flags, take_flags, words_after};
 
 /// The files of the host.

@@ -1,8 +1,10 @@
 -- A lemma on what `filter` answers.
 use Rattle.std.proofs.Common.{◌≡◌, ◌∙◌, ℕ, Bool, List, ap, subst}
 use Rattle.std.specs.Prelude.{Option, None, Some, IfSome}
-use Rattle.urlpat_commands.specs.Answers.{BaseView, IsPatternOf, base_of, base_view}
-use Rattle.urlpat_commands.specs.FilterLines.{FiltersLines, IsFiltered, status_of}
+use Rattle.urlpat_matching.specs.InputUrls.{BaseView, base_view}
+use Rattle.urlpat_matching.specs.PatternWords.{IsPatternOf, base_of}
+use Rattle.urlpat_commands.specs.FilterLines.{FiltersLines, IsFiltered}
+use Rattle.urlpat_matching.specs.Status.{status_of}
 use Rattle.urlpat_filter.specs.Filters.{FiltersText}
 use Rattle.urlpat_words.specs.Queries.{IsQueryOf}
 use Rattle.urlpat_words.specs.declared.flags.Flags.{Flags}

@@ -1,12 +1,17 @@
--- Lemmas on the patterns of the command `first`.
-use Rattle.std.proofs.Common.{◌≡◌, ℕ, Bool, ◌<◌, ◌+◌, List, [], ◌∷◌, ◌++◌, map, length, take, get_or, refl, ap, ◌∙◌, sym, subst, inl, inr}
+-- Lemmas on the patterns of the command `first`, and on its JSON.
+use Rattle.std.proofs.Common.{◌≡◌, ℕ, Bool, ◌<◌, ◌+◌, List, [], ◌∷◌, ◌++◌, map, length, take, get_or, refl, ap, ◌∙◌, sym, subst, inl, inr, codes, false}
 use Rattle.std.proofs.lemmas.Grind.{take_at_read}
 use Rattle.std.proofs.lemmas.List.{take-map}
 use Rattle.std.proofs.lemmas.Option.{slice_get-map, slice_get_read}
 use Rattle.std.specs.List.{AllZip}
 use Rattle.std.specs.Prelude.{MatchOption, Option, None, Some, String, option_map, string_bytes}
 use Rattle.std.specs.declared.alloc.Global.{Global}
-use Rattle.urlpat_commands.specs.Answers.{ArePatternsOf, IsFirstText, IsFirstTextBy, IsPatternOf, IsUnmatchedByAll, IsUnmatchedByEach, RefusesOneOf, RefusesPatternOf}
+use Rattle.urlpat_commands.specs.Answers.{ArePatternsOf, IsFirstText, IsFirstTextBy, IsUnmatchedByAll, IsUnmatchedByEach, RefusesOneOf}
+use Rattle.urlpat_matching.specs.PatternWords.{IsPatternOf, RefusesPatternOf}
+use Rattle.serde_json.specs.Data.{Data, no_members, number, put, unsigned}
+use Rattle.serde_json.specs.Written.{has_float}
+use Rattle.urlpat_commands.specs.Json.{first_tree}
+use Rattle.urlpat_matching.proofs.JsonLemmas.{put-none}
 use Rattle.urlpat_words.specs.declared.flags.Flags.{Flags}
 use Rattle.urlpattern.specs.Errors.{MemoryOr}
 use Rattle.urlpattern.specs.Patterns.{PatternView, pattern_view}
@@ -63,3 +68,11 @@ pub first_found_by : (flags : Flags) (patterns : List (List ℕ)) (input : List 
     → MatchOption found (IsUnmatchedByEach flags.ignore_case patterns input base) (λ text. IsFirstText flags patterns input base (string_bytes text))
 first_found_by flags patterns input base compiled None are answer = (compiled, are, answer)
 first_found_by flags patterns input base compiled (Some text) are answer = (compiled, are, answer)
+
+-- ---- JSON
+
+-- the tree of the first match has no float where that of the match has none
+pub first-none : (index : ℕ) (found : Data) → has_float found ≡ false → has_float (first_tree index found) ≡ false
+first-none index found none =
+    put-none (codes "match") found (put (codes "index") (number (unsigned index)) no_members) none
+    (put-none (codes "index") (number (unsigned index)) no_members refl refl)

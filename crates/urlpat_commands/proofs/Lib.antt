@@ -1,7 +1,5 @@
 pub mod AnswerExamples
-pub mod GroupNames
 pub mod AnswerLemmas
 pub mod FirstLemmas
-pub mod JsonLemmas
 pub mod ShortLemmas
 pub mod FilterLemmas

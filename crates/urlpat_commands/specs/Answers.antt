@@ -1,35 +1,27 @@
 -- What the program answers to its words, and what it refuses. Words and texts are bytes.
-use Rattle.std.specs.Prelude.{◌≡◌, ◌≢◌, ◌↔◌, ◌⊎◌, All, ◌++◌, ℕ, Bool, true, false, if◌then◌else◌, List, [], ◌∷◌, length, map, max, codes, bytes_eq, Option, None, Some, Result, Ok, Err, String, string_bytes, encode_utf8_all, slice_get, take, IsSome, MatchOption}
-use Rattle.std.specs.Ordering.{on, nat_cmp}
-use Rattle.std.specs.Cmp.Lexicographic.{slice_cmp}
-use Rattle.std.specs.List.{AllZip, Contains, flat_map}
-use Rattle.std.specs.List.Sorted.{IsStrictlySortedBy}
+use Rattle.std.specs.Prelude.{◌≡◌, ◌≢◌, ◌⊎◌, All, ◌++◌, ℕ, Bool, true, false, List, [], ◌∷◌, map, codes, Option, None, Some, Result, Ok, Err, String, string_bytes, encode_utf8_all, slice_get, take, MatchOption}
+use Rattle.std.specs.List.{AllZip}
 use Rattle.std.specs.Str.{chars}
 use Rattle.std.specs.declared.alloc.Global.{Global}
 use Rattle.std.specs.Io.KnownBytes.{Appends}
-use Rattle.url.specs.declared.Url.{Url}
-use Rattle.url.specs.Parser.{Parsed, and_then, parse_url}
 use Rattle.url.specs.Parts.{Parts}
-use Rattle.urlpat_commands.specs.declared.base.BaseUrl.{BaseUrl}
-use Rattle.urlpat_commands.specs.declared.command.Failure.{Failure}
-use Rattle.urlpat_commands.specs.declared.command.Failure.TheVariants as failures
+use Rattle.urlpat_matching.specs.declared.status.Failure.{Failure}
+use Rattle.urlpat_matching.specs.declared.status.Failure.TheVariants as failures
 use Rattle.urlpat_commands.specs.declared.command.Printed.{Printed}
-use Rattle.urlpat_commands.specs.declared.command.TheConstants.{DONE, NO_MATCH}
+use Rattle.urlpat_matching.specs.declared.status.TheConstants.{DONE, NO_MATCH}
+use Rattle.urlpat_matching.specs.GroupLines.{AreLines, all_named_results}
+use Rattle.urlpat_matching.specs.InputUrls.{IsUrlOf, base_view}
+use Rattle.urlpat_matching.specs.MatchTexts.{IsMatchText, IsUnmatched, IsUnmatchedByAllUnder}
+use Rattle.urlpat_matching.specs.PatternWords.{IsPatternOf, RefusesPatternOf, base_of}
 use Rattle.urlpat_words.specs.Help.{IsHelp}
 use Rattle.urlpat_words.specs.declared.flags.Flags.{Flags}
-pub use Rattle.urlpat_words.specs.Words.{words_view}
-use Rattle.urlpat_commands.specs.Json.{IsFirstJson, IsMatchJson}
+use Rattle.urlpat_commands.specs.Json.{IsFirstJson}
 use Rattle.urlpat_commands.specs.Kinds.{IsKind, NamesOptions}
-use Rattle.urlpat_commands.specs.Report.{component_lines, first_line, group_line, no_match_text}
-use Rattle.urlpattern.specs.Eight.{components, name_text}
+use Rattle.urlpat_commands.specs.Report.{component_lines, first_line, no_match_text}
 use Rattle.urlpattern.specs.Dialect.{HasMeaningOf}
 use Rattle.urlpattern.specs.Errors.{ErrorView, MemoryOr}
-use Rattle.urlpattern.specs.Canonical.{IsRefusedByUrl}
 use Rattle.urlpattern.specs.FirstMatch.{IsFirstMatch}
-use Rattle.urlpattern.specs.FromString.{IsPatternOfText, RefusesPatternOfText}
-use Rattle.urlpattern.specs.Inputs.{parsed_base, text_bytes}
 use Rattle.urlpattern.specs.Laws.{Answered, listed}
-use Rattle.urlpattern.specs.Match.{HasNoMatch, IsMatch}
 use Rattle.urlpattern.specs.ResultViews.{ResultView}
 use Rattle.urlpattern.specs.Options.{OptionsView}
 use Rattle.urlpattern.specs.Parts.{PartView}
@@ -38,15 +30,13 @@ use Rattle.urlpattern.specs.Printing.{Keeps, printed}
 use Rattle.urlpattern.specs.Reading.{Encoding, Reads, Refuses, encoding_of}
 use Rattle.urlpattern.specs.RegexpText.{group_names, regexp_text}
 use Rattle.urlpattern.specs.RoundTrip.{IsPrintable, ReadsBack}
-use Rattle.urlpattern_engine.specs.PatternRegexps.{pattern_answer, pattern_engine}
+use Rattle.urlpattern_engine.specs.PatternRegexps.{pattern_answer}
 use Rattle.urlpattern_engine.specs.declared.pattern_regexp.PatternRegexp.{PatternRegexp}
 use Rattle.urlpattern_eight.specs.declared.eight.ComponentName.{ComponentName}
 use Rattle.urlpattern_init.specs.declared.init.UrlPatternMatchInput.TheVariants as match_inputs
-use Rattle.urlpattern_inputs.specs.declared.options.UrlPatternOptions.{UrlPatternOptions}
 use Rattle.urlpattern_syntax.specs.declared.error.Error.{Error}
 use Rattle.urlpattern_syntax.specs.declared.error.Error.TheVariants as errors
 use Rattle.urlpattern_syntax.specs.declared.parser.PartType.TheVariants.{Regexp}
-use Rattle.urlpattern_syntax.specs.declared.parser.RegexSyntax.TheVariants.{Rust}
 
 -- ---- what a component is compiled to
 
@@ -81,141 +71,6 @@ abbrev pub FailsComponent : (kind pattern : List ℕ) → Failure → Type 0
 FailsComponent kind pattern failures.Usage = ¬ IsKind kind
 FailsComponent kind pattern (failures.Refused error) = MemoryOr (RefusesComponentText kind pattern) error
 
--- ---- what a pattern captures
-
--- the base URL that a word stands for: none for `-`
-abbrev pub base_of : List ℕ → Option (List ℕ)
-base_of word = if bytes_eq word (codes "-") then None else Some word
-
--- the options that whole patterns are compiled under, where they ignore case or not; and the default ones
-abbrev pub pattern_options : (ignores : Bool) → UrlPatternOptions
-pattern_options ignores = record { regex_syntax = Rust; ignore_case = ignores }
-
-abbrev pub default_pattern_options : UrlPatternOptions
-default_pattern_options = pattern_options false
-
--- the constructor string with this base URL is compiled to the pattern, which ignores case or not, by the engine `PatternRegexp`
-abbrev pub IsPatternOf : (ignores : Bool) → (text : List ℕ) → (base : Option (List ℕ)) → PatternView PatternRegexp → Type 0
-IsPatternOf ignores text base pattern = IsPatternOfText pattern_engine (chars text) base (pattern_options ignores) pattern
-
--- it is refused with this error, as a constructor string or when it is compiled
-abbrev pub RefusesPatternOf : (ignores : Bool) → (text : List ℕ) → (base : Option (List ℕ)) → ErrorView → Type 0
-RefusesPatternOf ignores text base error = RefusesPatternOfText pattern_engine (chars text) base (pattern_options ignores) error
-
--- the bytes that a group captured, if it took part
-abbrev pub group_bytes : Option (Option (List ℕ)) → Option (List ℕ)
-group_bytes (Some (Some text)) = Some (encode_utf8_all text)
-group_bytes capture = None
-
--- These are the names of the component's groups, each once, in the order of their bytes.
-pub record AreNames (found : ResultView) (names : List (List ℕ)) : Type 0 where
-  pub are_all : (name : List ℕ) → Contains names name ↔ IsSome (found.group name)
-  pub in_order : IsStrictlySortedBy (on encode_utf8_all (slice_cmp nat_cmp)) names
-
--- the line of the component's group of this name
-abbrev pub named_group_line : (component : List ℕ) → ResultView → (name : List ℕ) → List ℕ
-named_group_line component found name = group_line component (encode_utf8_all name) (group_bytes (found.group name))
-
--- the text has a line for each group of the component
-abbrev pub AreGroupLines : (component : List ℕ) → ResultView → (text : List ℕ) → Type 0
-AreGroupLines component found text = (names : List (List ℕ)) × AreNames found names × (text ≡ flat_map (named_group_line component found) names)
-
--- the text has the lines of these components, one after the other
-abbrev pub AreLines : List (List ℕ × ResultView) → (text : List ℕ) → Type 0
-AreLines [] text = text ≡ []
-AreLines (component ∷ rest) text =
-    (first others : List ℕ) × (text ≡ first ++ others) × AreGroupLines component.0 component.1 first × AreLines rest others
-
--- the text gets such lines after what it has
-abbrev pub GetsLines : (AreSuch : List ℕ → Type 0) → (old new : String Global) → Type 0
-GetsLines AreSuch old new = (lines : List ℕ) × (string_bytes new ≡ string_bytes old ++ lines) × AreSuch lines
-
--- these components by their names, and all
-abbrev pub named_results : (ComponentName → ResultView) → List ComponentName → List (List ℕ × ResultView)
-named_results result names = map (λ name. (name_text name, result name)) names
-
-abbrev pub all_named_results : (ComponentName → ResultView) → List (List ℕ × ResultView)
-all_named_results result = named_results result components
-
--- the text shows what the groups of a match capture: as JSON, or a line for each
-abbrev pub ShowsMatch : (json : Bool) → (ComponentName → ResultView) → (text : List ℕ) → Type 0
-ShowsMatch true result text = IsMatchJson result text
-ShowsMatch false result text = AreLines (all_named_results result) text
-
--- the text shows which pattern is the first that matches, and what its groups capture
-abbrev pub ShowsFirst : (json : Bool) → (index : ℕ) → (ComponentName → ResultView) → (text : List ℕ) → Type 0
-ShowsFirst true index result text = IsFirstJson index result text
-ShowsFirst false index result text = (lines : List ℕ) × AreLines (all_named_results result) lines × (text ≡ first_line index ++ lines)
-
--- A base URL that is read: what `url` makes of its text, and how many bytes that has.
-pub record BaseView : Type 0 where
-  pub url : Parsed (Option Parts)
-  pub bytes : ℕ
-
-abbrev pub base_view : (text : Option (List ℕ)) → BaseView
-base_view text = record { url = parsed_base text; bytes = text_bytes text }
-
-abbrev pub kept_base : BaseUrl → BaseView
-kept_base base = record { url = Ok base.url; bytes = base.bytes }
-
--- what `url` makes of an input under a base URL
-abbrev pub read_under : BaseView → (input : List ℕ) → Parsed Parts
-read_under base input = and_then base.url (λ url. parse_url url input)
-
--- the input is this URL, under the base URL
-abbrev pub IsUrlUnder : (input : List ℕ) → BaseView → (url : Parts) → Type 0
-IsUrlUnder input base url = read_under base input ≡ Ok url
-
-abbrev pub IsUrlOf : (input : List ℕ) → (base : Option (List ℕ)) → (url : Parts) → Type 0
-IsUrlOf input base url = IsUrlUnder input (base_view base) url
-
--- `url` refuses the input or the base URL, or they are too long
-abbrev pub IsRefusedUnder : (input : List ℕ) → BaseView → Type 0
-IsRefusedUnder input base = IsRefusedByUrl (read_under base input) (max (length input) base.bytes)
-
-abbrev pub IsRefusedText : (input : List ℕ) → (base : Option (List ℕ)) → Type 0
-IsRefusedText input base = IsRefusedUnder input (base_view base)
-
--- what is found is the URL of the input; None where it has none
-abbrev pub FindsUrlUnder : (input : List ℕ) → BaseView → Option Url → Type 0
-FindsUrlUnder input base found = MatchOption found (IsRefusedUnder input base) (IsUrlUnder input base)
-
-abbrev pub FindsUrl : (input : List ℕ) → (base : Option (List ℕ)) → Option Url → Type 0
-FindsUrl input base found = FindsUrlUnder input (base_view base) found
-
--- The pattern matches the input, a URL under this base URL, and the text has what the groups capture.
-pub record IsMatchTextBy (json : Bool) (compiled : PatternView PatternRegexp) (input : List ℕ) (base : Option (List ℕ)) (text : List ℕ) : Type 0 where
-  pub url : Parts
-  pub result : ComponentName → ResultView
-  pub is_url : IsUrlOf input base url
-  pub is_match : IsMatch pattern_answer compiled (match_inputs.Url url) result
-  pub shows : ShowsMatch json result text
-
-abbrev pub IsMatchText : Flags → (pattern input : List ℕ) → (base : Option (List ℕ)) → (text : List ℕ) → Type 0
-IsMatchText flags pattern input base text =
-    (compiled : PatternView PatternRegexp) × IsPatternOf flags.ignore_case pattern base compiled × IsMatchTextBy flags.json compiled input base text
-
--- the pattern does not match the input: `url` refuses it, or the pattern has no match on it
-abbrev pub IsUnmatchedUnder : (compiled : PatternView PatternRegexp) → (input : List ℕ) → BaseView → Type 0
-IsUnmatchedUnder compiled input base =
-    IsRefusedUnder input base ⊎ ((url : Parts) × IsUrlUnder input base url × HasNoMatch pattern_answer compiled (match_inputs.Url url))
-
-abbrev pub IsUnmatchedBy : (compiled : PatternView PatternRegexp) → (input : List ℕ) → (base : Option (List ℕ)) → Type 0
-IsUnmatchedBy compiled input base = IsUnmatchedUnder compiled input (base_view base)
-
-abbrev pub IsUnmatched : (ignores : Bool) → (pattern input : List ℕ) → (base : Option (List ℕ)) → Type 0
-IsUnmatched ignores pattern input base =
-    (compiled : PatternView PatternRegexp) × IsPatternOf ignores pattern base compiled × IsUnmatchedBy compiled input base
-
--- what is found is the text of a match; None where there is none
-abbrev pub FindsMatch : Flags → (pattern input : List ℕ) → (base : Option (List ℕ)) → Option (String Global) → Type 0
-FindsMatch flags pattern input base found =
-    MatchOption found (IsUnmatched flags.ignore_case pattern input base) (λ text. IsMatchText flags pattern input base (string_bytes text))
-
-abbrev pub FindsMatchBy : (json : Bool) → PatternView PatternRegexp → (input : List ℕ) → (base : Option (List ℕ)) → Option (String Global) → Type 0
-FindsMatchBy json compiled input base found =
-    MatchOption found (IsUnmatchedBy compiled input base) (λ text. IsMatchTextBy json compiled input base (string_bytes text))
-
 -- ---- what the first match captures
 
 -- the constructor strings with this base URL are compiled to the patterns, one to each
@@ -231,6 +86,11 @@ pub record RefusesOneOf (ignores : Bool) (texts : List (List ℕ)) (base : Optio
   pub are_compiled : ArePatternsOf ignores (take index texts) base earlier
   pub refuses : RefusesPatternOf ignores text base error
 
+-- the text shows which pattern is the first that matches, and what its groups capture
+abbrev pub ShowsFirst : (json : Bool) → (index : ℕ) → (ComponentName → ResultView) → (text : List ℕ) → Type 0
+ShowsFirst true index result text = IsFirstJson index result text
+ShowsFirst false index result text = (lines : List ℕ) × AreLines (all_named_results result) lines × (text ≡ first_line index ++ lines)
+
 -- A pattern of the list is the first that matches the input, a URL under this base URL, and the text has its index and
 -- what its groups capture.
 pub record IsFirstTextBy (json : Bool) (compiled : List (PatternView PatternRegexp)) (input : List ℕ) (base : Option (List ℕ)) (text : List ℕ) : Type 0 where
@@ -245,11 +105,7 @@ abbrev pub IsFirstText : Flags → (patterns : List (List ℕ)) → (input : Lis
 IsFirstText flags patterns input base text =
     (compiled : List (PatternView PatternRegexp)) × ArePatternsOf flags.ignore_case patterns base compiled × IsFirstTextBy flags.json compiled input base text
 
--- no pattern of the list matches the input: `url` refuses it, or none has a match on it
-abbrev pub IsUnmatchedByAllUnder : (compiled : List (PatternView PatternRegexp)) → (input : List ℕ) → BaseView → Type 0
-IsUnmatchedByAllUnder compiled input base =
-    IsRefusedUnder input base ⊎ ((url : Parts) × IsUrlUnder input base url × IsFirstMatch pattern_answer compiled (match_inputs.Url url) None)
-
+-- no pattern of the list matches the input
 abbrev pub IsUnmatchedByAll : (compiled : List (PatternView PatternRegexp)) → (input : List ℕ) → (base : Option (List ℕ)) → Type 0
 IsUnmatchedByAll compiled input base = IsUnmatchedByAllUnder compiled input (base_view base)
 

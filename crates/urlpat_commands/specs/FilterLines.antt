@@ -1,9 +1,14 @@
 -- What `filter` answers to its words and to the lines that it reads. Words and texts are bytes.
-use Rattle.std.specs.Prelude.{◌≡◌, ◌⊎◌, ℕ, Bool, true, false, List, [], codes, Option, None, Some, IfSome}
+use Rattle.std.specs.Prelude.{◌≡◌, ◌⊎◌, ℕ, Bool, List, [], codes, Option, None, Some, IfSome}
 use Rattle.std.specs.Str.{chars}
 use Rattle.url.specs.Parts.{Parts}
-use Rattle.urlpat_commands.specs.Answers.{BaseView, IsPatternOf, IsUnmatchedUnder, IsUrlUnder, Prints, base_of, base_view, group_bytes}
-use Rattle.urlpat_commands.specs.Json.{IsMatchJson}
+use Rattle.urlpat_matching.specs.InputUrls.{BaseView, IsUrlUnder, base_view}
+use Rattle.urlpat_matching.specs.PatternWords.{IsPatternOf, base_of}
+use Rattle.urlpat_matching.specs.MatchTexts.{IsUnmatchedUnder}
+use Rattle.urlpat_commands.specs.Answers.{Prints}
+use Rattle.urlpat_matching.specs.GroupLines.{group_bytes}
+use Rattle.urlpat_matching.specs.MatchJson.{IsMatchJson}
+use Rattle.urlpat_matching.specs.Status.{status_of}
 use Rattle.urlpat_filter.specs.Filters.{FilterAnswers, FiltersText}
 use Rattle.urlpat_lines.specs.declared.answers.Verdict.{Verdict}
 use Rattle.urlpat_words.specs.Queries.{IsQueryOf}
@@ -39,11 +44,6 @@ pub record IsPieceOf (compiled : PatternView PatternRegexp) (base : BaseView) (t
   pub is_url : IsUrlUnder text base url
   pub is_match : IsMatch pattern_answer compiled (match_inputs.Url url) result
   pub is_piece : HasPiece result shape piece
-
--- the status: 0 if there is a line that is looked for, else 1
-abbrev pub status_of : (any : Bool) → ℕ
-status_of true = 0
-status_of false = 1
 
 -- the answer to a line: by what the pattern captures of it under this base URL, as is asked
 abbrev pub IsFiltered : PatternView PatternRegexp → BaseView → Query → (text line : List ℕ) → Verdict → (written : List ℕ) → Type 0

@@ -1,6 +1,8 @@
 -- What the program says on standard error beside its answer.
 use Rattle.std.specs.Prelude.{◌≡◌, ◌⊎◌, ℕ, List, [], ◌∷◌, codes, None}
-use Rattle.urlpat_commands.specs.Answers.{IsCommand, IsRefusedText, base_of}
+use Rattle.urlpat_commands.specs.Answers.{IsCommand}
+use Rattle.urlpat_matching.specs.InputUrls.{IsRefusedText}
+use Rattle.urlpat_matching.specs.PatternWords.{base_of}
 
 -- `url` refuses the input of `match`
 abbrev pub HasRefusedMatchInput : (words : List (List ℕ)) → Type 0

@@ -1,78 +1,33 @@
 //! The commands of the program: what its words ask for, and what it prints.
 
-ghost use Rattle.std.specs.Io.KnownBytes.{Appends};
-ghost use Rattle.std.specs.Prelude.{◌≡◌, ◌≢◌, ◌⊎◌, map, string_bytes, IfErr, IfOk, IfSome, OnOk, Ok, None};
-ghost use Rattle.urlpat_commands.specs.Answers.{FailsComponent, FailsWhere, AreAnswered, IsCommandAnswer, IsComponentAnswer, IsComponentFailure, IsComponentText, CopiesBytes, IsFailure, IsPrintedOf, Prints, IsFirstAnswer, IsFirstFailure, IsShortAnswer, IsShortFailure, IsMatchAnswer, IsMatchFailure, words_view};
+ghost use Rattle.std.specs.Prelude.{◌≡◌, ◌≢◌, ◌⊎◌, map, string_bytes, IfErr, IfOk, IfSome, Ok, None};
+ghost use Rattle.urlpat_commands.specs.Answers.{FailsComponent, FailsWhere, AreAnswered, IsCommandAnswer, IsComponentAnswer, IsComponentFailure, IsComponentText, CopiesBytes, IsFailure, IsPrintedOf, Prints, IsFirstAnswer, IsFirstFailure, IsShortAnswer, IsShortFailure, IsMatchAnswer, IsMatchFailure};
+ghost use Rattle.urlpat_words.specs.Words.{words_view};
 ghost use Rattle.urlpat_commands.specs.Kinds.{IsKind, NamesOptions};
 ghost use Rattle.urlpat_commands.specs.FilterLines.{AskToFilter, Does};
 ghost use Rattle.urlpat_commands.specs.Notes.{HasRefusedInput};
-ghost use Rattle.urlpat_commands.specs.Report.{component_lines, failure_lines, no_match_text};
-ghost use Rattle.urlpat_commands.specs.declared.command.Failure.{Failure};
-ghost use Rattle.urlpat_commands.specs.declared.command.Failure.TheVariants as failures;
+ghost use Rattle.urlpat_commands.specs.Report.{component_lines, no_match_text};
 ghost use Rattle.urlpattern.specs.Options.{options_view};
 ghost use Rattle.urlpattern.specs.Errors.{OnlyOutOfMemory};
-ghost use Rattle.urlpattern_syntax.specs.declared.error.Error.TheVariants as errors;
 
 use crate::filter::filter;
 use crate::first::first_groups;
-use crate::matching::{NO_BASE, matched_groups};
 use crate::notes::{diagnosis_note, input_note};
 use std::alloc::{AllocError, Global};
-use std::io;
 use std::io::{BufRead, Write};
+use urlpat_matching::{
+    DONE, FAILED, Failure, NO_BASE, NO_MATCH, fail, matched_groups, print, report,
+};
 use urlpat_words::{Flags, help_of, words_after};
 use urlpattern::Error;
 use urlpattern::component::{generate_pattern_string, generate_regular_expression_and_name_list};
 use urlpattern::parser::{Options, parse_pattern_string};
-
-/// The status of a run that gave its answer.
-pub const DONE: u8 = 0;
-
-/// The status of a run whose input is not matched.
-pub const NO_MATCH: u8 = 1;
-
-/// The status of every other run.
-pub const FAILED: u8 = 2;
-
-/// The usage of `component`.
-const COMPONENT_USAGE: &str = "usage: urlpat component default|hostname|pathname PATTERN\n";
-
-/// The usage of `match`.
-const MATCH_USAGE: &str = "       urlpat match PATTERN BASE INPUT\n";
-
-/// The usage of `first`.
-const FIRST_USAGE: &str = "       urlpat first BASE INPUT PATTERN..\n";
 
 /// An answer: what is printed, and the status to end with.
 #[derive(Drop)]
 struct Printed {
     text: String,
     status: u8,
-}
-
-/// Why there is no answer.
-#[derive(Debug, Drop)]
-pub enum Failure {
-    /// The words are no command.
-    Usage,
-    /// The library refused a word, or memory ran out.
-    Refused(Error),
-}
-
-impl From<Error> for Failure {
-    ghost from_gives = { λ error failure. failure ≡ failures.Refused error };
-
-    fn from(error: Error) -> Failure {
-        Failure::Refused(error)
-    }
-}
-
-impl From<AllocError> for Failure {
-    ghost from_gives = { λ error failure. failure ≡ failures.Refused errors.OutOfMemory };
-
-    fn from(error: AllocError) -> Failure {
-        Failure::Refused(Error::from(error))
-    }
 }
 
 /// Does what the words and the flags ask for, and gives the status to end with.
@@ -132,14 +87,6 @@ fn run_once<Out: Write, Err: Write>(
     }
 }
 
-/// Writes a text, and all that is still to be written.
-pub fn print<Out: Write>(text: &[u8], out: &mut Out) -> io::Result<()>
-    ensures { OnOk result (Appends (Out.contents out.old) (Out.contents out.new) text.now) }
-{
-    out.write_all(text)?;
-    out.flush()
-}
-
 /// What is said beside an answer with this status.
 fn note_beside(alloc: Global, words: &[String], status: u8) -> Result<Option<String>, Error>
     ensures { IfOk result (λ note. IfSome note (λ text. HasRefusedInput (words_view words.now))) }
@@ -177,24 +124,6 @@ fn fail_with_note<Err: Write>(
             FAILED
         }
         Err(error) => fail(&Failure::from(Error::from(error)), err),
-    }
-}
-
-/// Reports why there is no answer, and gives the status to end with.
-pub fn fail<Err: Write>(failure: &Failure, err: &mut Err) -> u8
-    ensures { result ≡ FAILED }
-{
-    let _ = report(failure, err);
-    FAILED
-}
-
-/// Writes why there is no answer: how the program is used, or the error and a line end.
-fn report<Err: Write>(failure: &Failure, err: &mut Err) -> io::Result<()>
-    ensures { IfSome (failure_lines failure.now) (λ lines. OnOk result (Appends (Err.contents err.old) (Err.contents err.new) lines)) }
-{
-    match failure {
-        Failure::Usage => write!(err, "{COMPONENT_USAGE}{MATCH_USAGE}{FIRST_USAGE}"),
-        Failure::Refused(error) => writeln!(err, "{error}"),
     }
 }
 

@@ -1,20 +1,21 @@
 //! The command `filter`: the lines of a reader whose URLs match a pattern.
 
 ghost use Rattle.std.specs.Prelude.{◌≡◌, ◌≢◌, ◌⊎◌, OnOk};
-ghost use Rattle.urlpat_commands.specs.Answers.{IsUnmatchedUnder, kept_base, words_view};
+ghost use Rattle.urlpat_matching.specs.MatchTexts.{IsUnmatchedUnder};
+ghost use Rattle.urlpat_matching.specs.InputUrls.{kept_base};
+ghost use Rattle.urlpat_words.specs.Words.{words_view};
 ghost use Rattle.urlpat_commands.specs.FilterLines.{FiltersLines, HasPiece, IsPieceOf};
 ghost use Rattle.urlpat_filter.specs.Filters.{GetsPiece};
 ghost use Rattle.urlpattern.specs.BorrowedMatches.{pattern_captures_view};
 ghost use Rattle.urlpattern.specs.Patterns.{pattern_view};
 
-use crate::base::{BaseUrl, base_url, url_under};
-use crate::command::{DONE, FAILED, NO_MATCH};
-use crate::json::match_json;
-use crate::matching::{base_of, capture_of, compiled};
-use crate::notes::write_refusal;
 use std::alloc::{AllocError, Global};
 use std::io::{BufRead, Write};
 use urlpat_filter::{LineMatcher, Outcome, filter_lines};
+use urlpat_matching::{
+    BaseUrl, DONE, FAILED, NO_MATCH, base_of, base_url, capture_of, compiled, match_json,
+    url_under, write_refusal,
+};
 use urlpat_words::{Flags, Shape, query_of};
 use urlpattern::regexp::PatternRegexp;
 use urlpattern::{UrlPattern, UrlPatternCaptures};

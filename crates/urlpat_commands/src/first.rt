@@ -1,14 +1,16 @@
 //! The command `first`: the first of some patterns that matches a URL, and what its groups capture.
 
 ghost use Rattle.std.specs.Prelude.{option_copied, string_bytes, IfErr, IfOk};
-ghost use Rattle.urlpat_commands.specs.Answers.{ArePatternsOf, FindsFirst, FindsFirstBy, RefusesOneOf, ShowsFirst, base_of, words_view};
+ghost use Rattle.urlpat_commands.specs.Answers.{ArePatternsOf, FindsFirst, FindsFirstBy, RefusesOneOf, ShowsFirst};
+ghost use Rattle.urlpat_matching.specs.PatternWords.{base_of};
+ghost use Rattle.urlpat_words.specs.Words.{words_view};
 ghost use Rattle.urlpattern.specs.BorrowedMatches.{pattern_captures_view};
 ghost use Rattle.urlpattern.specs.Errors.{MemoryOr, OnlyOutOfMemory};
 ghost use Rattle.urlpattern.specs.FirstMatch.{patterns_view};
 
 use crate::json::first_json;
-use crate::matching::{base_of, compiled, push_match, url_of};
 use std::alloc::{AllocError, Global};
+use urlpat_matching::{base_of, compiled, push_match, url_of};
 use urlpat_words::Flags;
 use urlpattern::regexp::PatternRegexp;
 use urlpattern::{Error, UrlPatternCaptures, UrlPatternList};

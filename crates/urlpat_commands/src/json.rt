@@ -1,22 +1,14 @@
-//! Matches as JSON, each on a line.
+//! The first match as JSON, on a line.
 
 ghost use Rattle.serde_json.specs.View.{view};
-ghost use Rattle.serde_json.specs.Written.{has_float};
-ghost use Rattle.std.specs.Prelude.{◌≡◌, false, string_bytes, IfOk};
-ghost use Rattle.urlpat_commands.specs.Json.{IsFirstJson, IsMatchJson, IsMatchTree, first_tree, json_line};
+ghost use Rattle.std.specs.Prelude.{◌≡◌, string_bytes, IfOk};
+ghost use Rattle.urlpat_commands.specs.Json.{IsFirstJson, first_tree};
 ghost use Rattle.urlpattern.specs.BorrowedMatches.{pattern_captures_view};
 
 use serde_json::{Map, Value};
 use std::alloc::{AllocError, Global};
+use urlpat_matching::{json_line, match_tree};
 use urlpattern::UrlPatternCaptures;
-
-/// The line of a match.
-pub fn match_json(alloc: Global, found: &UrlPatternCaptures<'_, '_>) -> Result<String, AllocError>
-    ensures { IfOk result (λ text. IsMatchJson (pattern_captures_view found.now) (string_bytes text)) }
-{
-    let tree = match_tree(alloc, found)?;
-    json_line(alloc, &tree)
-}
 
 /// The line of the first match: the index of its pattern, and the match.
 pub fn first_json(
@@ -30,16 +22,6 @@ pub fn first_json(
     json_line(alloc, &tree)
 }
 
-/// The JSON of a match.
-pub fn match_tree(alloc: Global, found: &UrlPatternCaptures<'_, '_>) -> Result<Value, AllocError>
-    ensures { IfOk result (λ tree. IsMatchTree (pattern_captures_view found.now) (view tree)) }
-{
-    match found.to_json_value(alloc) {
-        Ok(tree) => Ok(tree),
-        Err(_) => Err(AllocError),
-    }
-}
-
 /// The JSON of the first match.
 fn first_tree(alloc: Global, index: usize, found: Value) -> Result<Value, AllocError>
     ensures { IfOk result (λ tree. view tree ≡ first_tree index (view found)) }
@@ -48,13 +30,4 @@ fn first_tree(alloc: Global, index: usize, found: Value) -> Result<Value, AllocE
     serde_json::put(&mut members, alloc, "index", Value::from(index))?;
     serde_json::put(&mut members, alloc, "match", found)?;
     Ok(Value::Object(members))
-}
-
-/// The text of JSON without floats, and a line end.
-pub fn json_line(alloc: Global, tree: &Value) -> Result<String, AllocError>
-    ensures { IfOk result (λ text. has_float (view tree.now) ≡ false → string_bytes text ≡ json_line (view tree.now)) }
-{
-    let mut text = tree.to_string(alloc)?;
-    text.push('\n')?;
-    Ok(text)
 }

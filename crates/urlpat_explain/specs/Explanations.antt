@@ -2,8 +2,9 @@
 use Rattle.std.specs.Prelude.{◌≡◌, ◌⊎◌, ℕ, Bool, List, [], ◌∷◌, ◌++◌, Option, None, Some}
 use Rattle.std.specs.Io.KnownBytes.{Appends}
 use Rattle.url.specs.Parts.{Parts}
-use Rattle.urlpat_commands.specs.Answers.{IsPatternOf, IsRefusedText, IsUrlOf, base_of}
-use Rattle.urlpat_commands.specs.FilterLines.{status_of}
+use Rattle.urlpat_matching.specs.PatternWords.{IsPatternOf, base_of}
+use Rattle.urlpat_matching.specs.InputUrls.{IsRefusedText, IsUrlOf}
+use Rattle.urlpat_matching.specs.Status.{status_of}
 use Rattle.urlpat_explain.specs.Notes.{AreNotesOf}
 use Rattle.urlpat_explain.specs.Rows.{IsMatchTable, pattern_table}
 use Rattle.urlpattern_engine.specs.PatternRegexps.{pattern_answer}

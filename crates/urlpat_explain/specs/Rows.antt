@@ -2,7 +2,7 @@
 use Rattle.std.specs.Prelude.{◌≡◌, ◌==◌, ◌-◌, ℕ, List, [], ◌∷◌, ◌++◌, codes, encode_utf8_all, fold, length, map, max, Option, None, Some, option_map, zip, if◌then◌else◌}
 use Rattle.std.specs.List.{flat_map, repeat}
 use Rattle.std.specs.Str.{chars}
-use Rattle.urlpat_commands.specs.Report.{capture_text}
+use Rattle.urlpat_matching.specs.GroupLines.{capture_text}
 use Rattle.urlpat_explain.specs.declared.table.TheConstants.{NAME_WIDTH}
 use Rattle.urlpattern_core.specs.Components.{ComponentView}
 use Rattle.urlpattern_eight.specs.Eight.{Texts, at, components, name_text}

@@ -1,7 +1,7 @@
 //! The command `explain`: a line for each component of a pattern, and notes on what the pattern leaves out.
 
 ghost use Rattle.std.specs.Prelude.{◌≡◌, ◌≢◌, ◌⊎◌, length, option_copied, string_bytes, IfNone, IfOk, IfSome};
-ghost use Rattle.urlpat_commands.specs.FilterLines.{status_of};
+ghost use Rattle.urlpat_matching.specs.Status.{status_of};
 ghost use Rattle.urlpat_explain.specs.Explanations.{AskToExplain, Explains, IsExplained, IsTable};
 ghost use Rattle.urlpat_words.specs.Words.{words_view};
 ghost use Rattle.urlpattern_pattern.specs.Patterns.{pattern_view};
@@ -10,11 +10,13 @@ use crate::notes::push_notes;
 use crate::table::{match_table, pattern_table};
 use std::alloc::Global;
 use std::io::Write;
-use urlpat_commands::{
+use urlpat_matching::{
     DONE, FAILED, Failure, NO_MATCH, base_of, compiled, fail, note_of, print, url_of, write_refusal,
 };
-use urlpattern::regexp::PatternRegexp;
-use urlpattern::{Error, UrlPattern, url_texts};
+use urlpattern_engine::PatternRegexp;
+use urlpattern_matches::url_texts;
+use urlpattern_pattern::UrlPattern;
+use urlpattern_syntax::Error;
 
 /// The usage of `explain`.
 const EXPLAIN_USAGE: &str = "\

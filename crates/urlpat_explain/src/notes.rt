@@ -1,15 +1,17 @@
 //! Notes on a pattern: what it inherits from the base URL, what it leaves out, and what its port is.
 
 ghost use Rattle.std.specs.Prelude.{◌≡◌, ◌++◌, option_copied, string_bytes, IfOk, OnOk};
-ghost use Rattle.urlpat_commands.specs.Answers.{GetsLines};
+ghost use Rattle.urlpat_matching.specs.GroupLines.{GetsLines};
 ghost use Rattle.urlpat_explain.specs.Notes.{AreNotesOf, AreNotesOfInit, inherited_name, left_out_name, names_line, notes_text, port_note};
 ghost use Rattle.urlpattern_init.specs.Inheritance.{values_view};
 ghost use Rattle.urlpattern_syntax.specs.Text.{option_text};
 
 use std::alloc::{AllocError, Global};
-use urlpattern::regexp::PatternRegexp;
-use urlpattern::{ComponentName, Error, UrlPatternInit};
 use urlpattern_create::{init_of_text, pattern_values};
+use urlpattern_eight::ComponentName;
+use urlpattern_engine::PatternRegexp;
+use urlpattern_init::UrlPatternInit;
+use urlpattern_syntax::Error;
 
 /// What is said of components that are inherited.
 const INHERITED: &str = "inherited from the base URL:";

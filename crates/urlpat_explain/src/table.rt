@@ -3,7 +3,7 @@
 ghost use Rattle.std.specs.List.{flat_map};
 ghost use Rattle.std.specs.Prelude.{◌≡◌, ◌++◌, length, map, option_copied, string_bytes, zip, IfOk, OnOk};
 ghost use Rattle.std.specs.Str.{chars};
-ghost use Rattle.urlpat_commands.specs.Answers.{GetsLines};
+ghost use Rattle.urlpat_matching.specs.GroupLines.{GetsLines};
 ghost use Rattle.urlpat_explain.specs.Rows.{IsMatchTable, IsVerdict, column, group_cell, pattern_cell, pattern_table, shown, text_cell, widest};
 ghost use Rattle.urlpattern_core.specs.Components.{component_view};
 ghost use Rattle.urlpattern_matches.specs.GroupTexts.{borrowed_texts, texts_of};
@@ -11,9 +11,11 @@ ghost use Rattle.urlpattern_pattern.specs.Patterns.{pattern_view};
 ghost use Rattle.urlpattern_syntax.specs.Text.{option_text};
 
 use std::alloc::{AllocError, Global};
-use urlpattern::component::Component;
-use urlpattern::regexp::PatternRegexp;
-use urlpattern::{ComponentName, Eight, Error, UrlPattern};
+use urlpattern_core::component::Component;
+use urlpattern_eight::{ComponentName, Eight};
+use urlpattern_engine::PatternRegexp;
+use urlpattern_pattern::UrlPattern;
+use urlpattern_syntax::Error;
 
 /// How many characters the longest name of a component has.
 const NAME_WIDTH: usize = 8;

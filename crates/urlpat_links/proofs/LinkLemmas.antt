@@ -4,7 +4,7 @@ use Rattle.std.specs.Io.KnownBytes.{Appends}
 use Rattle.std.specs.Prelude.{Option}
 use Rattle.std.specs.declared.alloc.Global.{Global}
 use Rattle.url.specs.Parts.{Parts, serialize}
-use Rattle.urlpat_commands.specs.Answers.{IsPatternOf, base_of}
+use Rattle.urlpat_matching.specs.PatternWords.{IsPatternOf, base_of}
 use Rattle.urlpat_links.specs.LinkAnswers.{HasNoLink, IsLinkBy, IsUnlinked, OfPattern, WritesLink}
 use Rattle.urlpat_links.specs.declared.linking.Unlinked.{Unlinked}
 use Rattle.urlpat_links.specs.declared.linking.Unlinked.TheVariants as unlinked

@@ -2,7 +2,7 @@
 use Rattle.std.specs.Prelude.{◌≢◌, ◌++◌, ℕ, false, Any, List, ◌∷◌, codes, Option}
 use Rattle.std.specs.Io.KnownBytes.{Appends}
 use Rattle.url.specs.Parts.{Parts, serialize}
-use Rattle.urlpat_commands.specs.Answers.{IsPatternOf, base_of}
+use Rattle.urlpat_matching.specs.PatternWords.{IsPatternOf, base_of}
 use Rattle.urlpat_links.specs.Given.{AreGiven, Given, GivesNothing}
 use Rattle.urlpat_links.specs.declared.linking.Unlinked.{Unlinked}
 use Rattle.urlpat_links.specs.declared.linking.Unlinked.TheVariants as unlinked

@@ -10,9 +10,11 @@ ghost use Rattle.urlpattern_core.specs.Components.{component_view};
 ghost use Rattle.urlpattern_pattern.specs.Patterns.{pattern_view};
 
 use std::alloc::{AllocError, Global};
-use urlpattern::component::Component;
-use urlpattern::regexp::PatternRegexp;
-use urlpattern::{ComponentName, GivenGroup, UrlPattern};
+use urlpattern_core::component::Component;
+use urlpattern_eight::ComponentName;
+use urlpattern_engine::PatternRegexp;
+use urlpattern_generate::GivenGroup;
+use urlpattern_pattern::UrlPattern;
 
 /// Why words give nothing for the groups of a pattern.
 #[derive(Drop)]

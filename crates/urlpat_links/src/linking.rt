@@ -14,9 +14,10 @@ use std::alloc::Global;
 use std::io;
 use std::io::Write;
 use url::Url;
-use urlpat_commands::{DONE, FAILED, NO_MATCH, base_of, compiled, write_refusal};
-use urlpattern::regexp::PatternRegexp;
-use urlpattern::{NoLink, UrlPattern};
+use urlpat_matching::{DONE, FAILED, NO_MATCH, base_of, compiled, write_refusal};
+use urlpattern_engine::PatternRegexp;
+use urlpattern_pattern::UrlPattern;
+use urlpattern_url::NoLink;
 
 /// The usage of `link`.
 const LINK_USAGE: &str = "usage: urlpat link PATTERN BASE NAME=VALUE..\n";

@@ -3,7 +3,8 @@
 use crate::linking::Unlinked;
 use std::io;
 use std::io::Write;
-use urlpattern::{GenerateError, NoLink};
+use urlpattern_generate::GenerateError;
+use urlpattern_url::NoLink;
 
 /// Writes why there is no URL, as a line.
 pub(crate) fn write_reason<Err: Write>(reason: &Unlinked<'_>, err: &mut Err) -> io::Result<()> {

@@ -6,8 +6,8 @@ use Rattle.std.specs.List.{AllZip}
 use Rattle.std.specs.Prelude.{Option, String, nat_lt, string_bytes}
 use Rattle.std.specs.Io.KnownBytes.{Appends}
 use Rattle.std.specs.declared.alloc.Global.{Global}
-use Rattle.urlpat_commands.specs.Answers.{words_view}
-use Rattle.urlpat_commands.specs.FilterLines.{status_of}
+use Rattle.urlpat_words.specs.Words.{words_view}
+use Rattle.urlpat_matching.specs.Status.{status_of}
 use Rattle.urlpat_rules.specs.Coverings.{ArePartsOf, ComparesWith, TellsCovering, TellsWhether}
 use Rattle.urlpat_rules.specs.Unreached.{ArePartsOfEach, AreUnreached, ListsOf}
 use Rattle.urlpat_tables.specs.Tables.{EntryView, entries_view, entry_view, table_entries}

@@ -2,7 +2,7 @@
 use Rattle.std.proofs.Common.{◌≡◌, ℕ, List, ap₂, sym, ◌∙◌}
 use Rattle.std.specs.Prelude.{IfOk, Option, option_map, Ok, Err, Result}
 use Rattle.std.specs.Str.{chars}
-use Rattle.urlpat_commands.specs.Answers.{default_pattern_options}
+use Rattle.urlpat_matching.specs.PatternWords.{default_pattern_options}
 use Rattle.urlpat_rules.specs.Coverings.{ArePartsOf, ArePartsOfInit}
 use Rattle.url.specs.Parser.{and_then}
 use Rattle.url.specs.Parts.{Parts}

@@ -8,9 +8,10 @@ use Rattle.std.specs.Map.{values_of}
 use Rattle.std.specs.Prelude.{IfSome, Option, None, Some}
 use Rattle.serde_json.specs.Data.{Data, no_members, number, put, string, unsigned}
 use Rattle.serde_json.specs.Written.{has_float}
-use Rattle.urlpat_commands.proofs.JsonLemmas.{put-none}
-use Rattle.urlpat_commands.specs.Answers.{BaseView, IsPatternOf, base_view}
-use Rattle.urlpat_commands.specs.FilterLines.{status_of}
+use Rattle.urlpat_matching.proofs.JsonLemmas.{put-none}
+use Rattle.urlpat_matching.specs.InputUrls.{BaseView, base_view}
+use Rattle.urlpat_matching.specs.PatternWords.{IsPatternOf}
+use Rattle.urlpat_matching.specs.Status.{status_of}
 use Rattle.urlpat_filter.specs.Filters.{FiltersText}
 use Rattle.urlpat_rules.specs.Routes.{AreRoutesOf, IsAnswered, Routes, RoutesBy, bare_lines, cell_text, route_tree, row_text}
 use Rattle.urlpat_tables.specs.Tables.{EntryView, entries_view, entry_view, table_entries}

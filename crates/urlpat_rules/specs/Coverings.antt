@@ -3,7 +3,7 @@ use Rattle.std.specs.Prelude.{◌≡◌, ℕ, false, List, [], ◌∷◌, ◌++�
 use Rattle.std.specs.List.{flat_map}
 use Rattle.std.specs.Io.KnownBytes.{Appends}
 use Rattle.std.specs.declared.alloc.Global.{Global}
-use Rattle.urlpat_commands.specs.Answers.{IsPatternOf, default_pattern_options}
+use Rattle.urlpat_matching.specs.PatternWords.{IsPatternOf, default_pattern_options}
 use Rattle.urlpattern_create.specs.Compiled.{IsPatternOfInit}
 use Rattle.urlpattern_eight.specs.Eight.{at, components, name_text}
 use Rattle.urlpattern_eight.specs.declared.eight.ComponentName.{ComponentName}

@@ -1,4 +1,3 @@
-pub mod Commands
 pub mod Coverings
 pub mod Routes
 pub mod TableWords

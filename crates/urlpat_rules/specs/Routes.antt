@@ -7,10 +7,14 @@ use Rattle.std.specs.declared.alloc.Global.{Global}
 use Rattle.bstr.specs.Text.{lines_of, without_terminator}
 use Rattle.serde_json.specs.Data.{Data, number, string, unsigned}
 use Rattle.url.specs.Parts.{Parts}
-use Rattle.urlpat_commands.specs.Answers.{AreLines, BaseView, IsPatternOf, IsUnmatchedByAllUnder, IsUrlUnder, all_named_results, base_view, words_view}
-use Rattle.urlpat_commands.specs.FilterLines.{status_of}
-use Rattle.urlpat_commands.specs.Json.{IsMatchTree, json_line}
-use Rattle.urlpat_commands.specs.declared.command.TheConstants.{FAILED}
+use Rattle.urlpat_matching.specs.GroupLines.{AreLines, all_named_results}
+use Rattle.urlpat_matching.specs.InputUrls.{BaseView, IsUrlUnder, base_view}
+use Rattle.urlpat_matching.specs.PatternWords.{IsPatternOf}
+use Rattle.urlpat_matching.specs.MatchTexts.{IsUnmatchedByAllUnder}
+use Rattle.urlpat_words.specs.Words.{words_view}
+use Rattle.urlpat_matching.specs.Status.{status_of}
+use Rattle.urlpat_matching.specs.MatchJson.{IsMatchTree, json_line}
+use Rattle.urlpat_matching.specs.declared.status.TheConstants.{FAILED}
 use Rattle.urlpat_filter.specs.Filters.{FiltersText}
 use Rattle.urlpat_lines.specs.Answers.{selected_by}
 use Rattle.urlpat_lines.specs.declared.answers.Verdict.{Verdict}

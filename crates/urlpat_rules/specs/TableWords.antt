@@ -1,6 +1,6 @@
 -- The words of commands that have a table. Words are bytes.
 use Rattle.std.specs.Prelude.{◌≡◌, ℕ, List, [], ◌∷◌, Option, None}
-use Rattle.urlpat_commands.specs.Answers.{base_of}
+use Rattle.urlpat_matching.specs.PatternWords.{base_of}
 
 -- the words name a file, and the base URL that a second word stands for
 abbrev pub NameTable : (words : List (List ℕ)) → (name : List ℕ) → (base : Option (List ℕ)) → Type 0

@@ -1,8 +1,8 @@
 -- Which patterns of a table one before them covers, and what is printed of them. Words and texts are bytes.
-use Rattle.std.specs.Prelude.{◌≡◌, ℕ, All, List, [], ◌∷◌, ◌++◌, codes, decimal, length, nat_lt, Option, None, Some, option_map, slice_get, unwrap_or}
+use Rattle.std.specs.Prelude.{◌≡◌, ℕ, All, List, ◌++◌, codes, decimal, length, nat_lt, Option, Some, option_map, slice_get, unwrap_or}
 use Rattle.std.specs.List.{AllZip, flat_map}
 use Rattle.std.specs.Io.KnownBytes.{Appends}
-use Rattle.urlpat_commands.specs.FilterLines.{status_of}
+use Rattle.urlpat_matching.specs.Status.{status_of}
 use Rattle.urlpat_rules.specs.Coverings.{ArePartsOf}
 use Rattle.urlpat_rules.specs.TableWords.{NameTable}
 use Rattle.urlpat_tables.specs.Tables.{EntryView, table_entries}

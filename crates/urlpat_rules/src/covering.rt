@@ -2,13 +2,13 @@
 
 ghost use Rattle.std.specs.Io.KnownBytes.{Appends};
 ghost use Rattle.std.specs.Prelude.{◌≡◌, ◌≢◌, ◌⊎◌, ◌++◌, string_bytes, IfOk, IfSome, OnOk, None};
-ghost use Rattle.urlpat_commands.specs.Answers.{words_view};
+ghost use Rattle.urlpat_words.specs.Words.{words_view};
 ghost use Rattle.urlpat_rules.specs.Coverings.{ArePartsOf, ComparesWith, TellsCovering, TellsWhether, parting_lines, text_lines};
 
 use crate::parts::parts_of_text;
 use std::alloc::{AllocError, Global};
 use std::io::Write;
-use urlpat_commands::{DONE, FAILED, NO_MATCH, print, write_refusal};
+use urlpat_matching::{DONE, FAILED, NO_MATCH, print, write_refusal};
 use urlpattern::rules::{Parting, PatternCovering, PatternParts, Reason};
 use urlpattern::{ComponentName, Eight};
 

@@ -1,7 +1,6 @@
-//! The commands of the program `urlpat` that compare patterns, or have a table of them; and all commands.
+//! The commands of the program `urlpat` that compare patterns, or have a table of them.
 #![tactic(auto)]
 
-mod command;
 mod covering;
 mod parts;
 mod route;
@@ -9,5 +8,7 @@ mod row;
 mod tables;
 mod unreachable;
 
-pub use command::run;
+pub use covering::covers;
+pub use route::route;
 pub use tables::Tables;
+pub use unreachable::list_unreachable;

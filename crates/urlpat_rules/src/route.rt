@@ -1,7 +1,7 @@
 //! The command `route`: the first pattern of a table that matches the URL of each line.
 
 ghost use Rattle.std.specs.Prelude.{◌≡◌, ◌⊎◌, option_copied, IfSome};
-ghost use Rattle.urlpat_commands.specs.Answers.{kept_base};
+ghost use Rattle.urlpat_matching.specs.InputUrls.{kept_base};
 ghost use Rattle.urlpat_rules.specs.Routes.{AreRoutesOf, IsAnswered, RoutesFile, RoutesTable, unmatched_text};
 ghost use Rattle.urlpat_tables.specs.Tables.{entries_view};
 
@@ -9,11 +9,11 @@ use crate::row::push_route;
 use crate::tables::{Tables, read_entries, read_table, report_refused, table_words};
 use std::alloc::{AllocError, Global};
 use std::io::{BufRead, Write};
-use urlpat_commands::{
-    BaseUrl, DONE, FAILED, Failure, NO_MATCH, base_url, compiled, fail, url_under,
-};
 use urlpat_filter::write_answers;
 use urlpat_lines::{Rule, Verdict};
+use urlpat_matching::{
+    BaseUrl, DONE, FAILED, Failure, NO_MATCH, base_url, compiled, fail, url_under,
+};
 use urlpat_tables::Entry;
 use urlpat_words::{Flags, Shape};
 use urlpattern::UrlPatternMap;

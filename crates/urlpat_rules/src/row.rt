@@ -11,7 +11,7 @@ ghost use Rattle.urlpattern.specs.BorrowedMatches.{pattern_captures_view};
 use bstr::ByteSlice;
 use serde_json::{Map, Value};
 use std::alloc::{AllocError, Global};
-use urlpat_commands::{json_line, match_tree, push_match};
+use urlpat_matching::{json_line, match_tree, push_match};
 use urlpat_tables::Entry;
 use urlpattern::UrlPatternCaptures;
 use urlpattern_inputs::writing::put_text;

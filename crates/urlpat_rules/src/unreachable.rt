@@ -2,8 +2,8 @@
 
 ghost use Rattle.std.specs.Io.KnownBytes.{Appends};
 ghost use Rattle.std.specs.Prelude.{◌≡◌, ◌≢◌, ◌⊎◌, ◌++◌, length, nat_lt, string_bytes, option_copied, IfOk, IfSome, OnOk};
-ghost use Rattle.urlpat_commands.specs.Answers.{words_view};
-ghost use Rattle.urlpat_commands.specs.FilterLines.{status_of};
+ghost use Rattle.urlpat_words.specs.Words.{words_view};
+ghost use Rattle.urlpat_matching.specs.Status.{status_of};
 ghost use Rattle.urlpat_rules.specs.Unreached.{ArePartsOfEach, AreUnreached, Lists, ListsOf, number_at, unreached_line};
 ghost use Rattle.urlpat_tables.specs.Tables.{entries_view};
 
@@ -11,7 +11,7 @@ use crate::parts::parts_of_text;
 use crate::tables::{Tables, read_entries, read_table, report_refused, table_words};
 use std::alloc::{AllocError, Global};
 use std::io::Write;
-use urlpat_commands::{DONE, FAILED, NO_MATCH, print};
+use urlpat_matching::{DONE, FAILED, NO_MATCH, print};
 use urlpat_tables::Entry;
 use urlpattern::rules::{PatternParts, Shadowed, unreachable};
 

@@ -1,7 +1,10 @@
 use Rattle.std.proofs.Common.{◌<◌, arith, drop, length, length-drop, rules, slice_range, take_all}
 use Rattle.std.specs.Prelude.{string_bytes}
-use Rattle.urlpat_commands.proofs.AnswerLemmas.{first_answers, answers_match, two_words_and_more}
-use Rattle.urlpat_commands.specs.Answers.{IsFirstText, IsUnmatchedByEach, base_of, words_view}
+use Rattle.urlpat_commands.proofs.AnswerLemmas.{first_answers, answers_match}
+use Rattle.urlpat_matching.proofs.MatchLemmas.{two_words_and_more}
+use Rattle.urlpat_commands.specs.Answers.{IsFirstText, IsUnmatchedByEach}
+use Rattle.urlpat_matching.specs.PatternWords.{base_of}
+use Rattle.urlpat_words.specs.Words.{words_view}
 use Rattle.urlpat_commands.proofs.command.first_answer.Goals as goal
 
 pub returns-clause-answers : goal.returns-clause-answers

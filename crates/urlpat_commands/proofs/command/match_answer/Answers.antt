@@ -1,7 +1,8 @@
 use Rattle.std.proofs.lemmas.Result.{err_from_is_err_and}
 use Rattle.std.specs.Prelude.{string_bytes}
 use Rattle.urlpat_commands.proofs.AnswerLemmas.{match_answers, match_fails, answers_match, three_words}
-use Rattle.urlpat_commands.specs.Answers.{IsMatchText, IsUnmatched, base_of}
+use Rattle.urlpat_matching.specs.MatchTexts.{IsMatchText, IsUnmatched}
+use Rattle.urlpat_matching.specs.PatternWords.{base_of}
 use Rattle.urlpat_commands.proofs.command.match_answer.Goals as goal
 
 pub returns-in_err-lines-clause-fails : goal.returns-in_err-lines-clause-fails

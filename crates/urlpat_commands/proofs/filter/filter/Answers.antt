@@ -1,8 +1,8 @@
 use Rattle.std.proofs.Common.{ap, sym}
 use Rattle.std.specs.Prelude.{option_copied}
 use Rattle.urlpat_commands.proofs.FilterLemmas.{filters}
-use Rattle.urlpat_commands.specs.Answers.{kept_base}
-use Rattle.urlpat_commands.specs.FilterLines.{status_of}
+use Rattle.urlpat_matching.specs.InputUrls.{kept_base}
+use Rattle.urlpat_matching.specs.Status.{status_of}
 use Rattle.urlpattern.specs.Patterns.{pattern_view}
 use Rattle.urlpat_commands.proofs.filter.filter.Goals as goal
 

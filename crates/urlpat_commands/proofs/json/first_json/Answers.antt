@@ -1,8 +1,10 @@
 use Rattle.std.proofs.Common.{ap, ◌∙◌}
 use Rattle.serde_json.specs.View.{view}
 use Rattle.serde_json.specs.Written.{has_float}
-use Rattle.urlpat_commands.proofs.JsonLemmas.{first-none, line_is, match-none}
-use Rattle.urlpat_commands.specs.Json.{IsFirstJson, json_line}
+use Rattle.urlpat_commands.proofs.FirstLemmas.{first-none}
+use Rattle.urlpat_matching.proofs.JsonLemmas.{line_is, match-none}
+use Rattle.urlpat_commands.specs.Json.{IsFirstJson}
+use Rattle.urlpat_matching.specs.MatchJson.{json_line}
 use Rattle.urlpattern.specs.BorrowedMatches.{pattern_captures_view}
 use Rattle.urlpat_commands.proofs.json.first_json.Goals as goal
 

@@ -1,5 +1,5 @@
 use Rattle.std.proofs.Common.{ap, encode_utf8_all, refl, ◌∙◌}
-use Rattle.urlpat_commands.proofs.AnswerLemmas.{bytes_of_text}
+use Rattle.urlpat_matching.proofs.MatchLemmas.{bytes_of_text}
 use Rattle.urlpat_explain.specs.Rows.{shown}
 use Rattle.urlpattern_core.specs.declared.component.Component.{Component}
 use Rattle.urlpattern_engine.specs.declared.pattern_regexp.PatternRegexp.{PatternRegexp}

@@ -1,6 +1,6 @@
 use Rattle.std.proofs.Common.{List, ap, arith, drop, length, length-drop, refl, slice_range, take_all, ◌∙◌}
-use Rattle.urlpat_commands.proofs.AnswerLemmas.{two_words_and_more}
-use Rattle.urlpat_commands.specs.Answers.{base_of}
+use Rattle.urlpat_matching.proofs.MatchLemmas.{two_words_and_more}
+use Rattle.urlpat_matching.specs.PatternWords.{base_of}
 use Rattle.urlpat_links.proofs.LinkLemmas.{has_none, writes}
 use Rattle.urlpattern_pattern.specs.Patterns.{pattern_view}
 use Rattle.urlpat_links.proofs.linking.link.Goals as goal

@@ -1,4 +1,4 @@
-use Rattle.urlpat_commands.proofs.AnswerLemmas.{is_default}
+use Rattle.urlpat_matching.proofs.MatchLemmas.{is_default}
 use Rattle.urlpat_rules.proofs.PartsLemmas.{parts-of-init}
 use Rattle.urlpattern_engine.proofs.EngineLaws.{taken_first}
 use Rattle.urlpattern_pattern.specs.Patterns.{pattern_view}

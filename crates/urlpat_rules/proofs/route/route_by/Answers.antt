@@ -1,7 +1,7 @@
 use Rattle.std.proofs.Common.{ap, sym}
 use Rattle.std.specs.Prelude.{option_copied}
-use Rattle.urlpat_commands.specs.Answers.{kept_base}
-use Rattle.urlpat_commands.specs.FilterLines.{status_of}
+use Rattle.urlpat_matching.specs.InputUrls.{kept_base}
+use Rattle.urlpat_matching.specs.Status.{status_of}
 use Rattle.urlpat_rules.proofs.RouteLemmas.{routes-by}
 use Rattle.urlpat_rules.proofs.route.route_by.Goals as goal
 

@@ -1,8 +1,8 @@
 use Rattle.std.proofs.Common.{List, ap, string_bytes, ℕ, ◌++◌, ◌∙◌}
 use Rattle.serde_json.specs.View.{view}
 use Rattle.serde_json.specs.Written.{has_float}
-use Rattle.urlpat_commands.proofs.JsonLemmas.{match-none}
-use Rattle.urlpat_commands.specs.Json.{json_line}
+use Rattle.urlpat_matching.proofs.JsonLemmas.{match-none}
+use Rattle.urlpat_matching.specs.MatchJson.{json_line}
 use Rattle.urlpat_rules.proofs.RouteLemmas.{route-none}
 use Rattle.urlpat_tables.specs.Tables.{entry_view}
 use Rattle.urlpattern.specs.BorrowedMatches.{pattern_captures_view}

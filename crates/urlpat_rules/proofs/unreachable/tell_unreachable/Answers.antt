@@ -1,6 +1,6 @@
 use Rattle.std.proofs.Common.{◌∙◌, ap, length, nat_lt, subst, string_bytes}
 use Rattle.std.specs.Prelude.{option_copied}
-use Rattle.urlpat_commands.specs.FilterLines.{status_of}
+use Rattle.urlpat_matching.specs.Status.{status_of}
 use Rattle.std.specs.Io.KnownBytes.{Appends}
 use Rattle.urlpat_rules.proofs.ListLemmas.{lists-of}
 use Rattle.urlpat_rules.proofs.unreachable.tell_unreachable.Goals as goal

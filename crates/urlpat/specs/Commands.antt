@@ -1,0 +1,40 @@
+-- What the program answers to its words. Words and texts are bytes.
+use Rattle.std.specs.Prelude.{◌≢◌, ◌⊎◌, ℕ, List, codes, Option, String}
+use Rattle.std.specs.declared.alloc.Global.{Global}
+use Rattle.urlpat_commands.specs.Answers.{AreAnswered, FailsWhere}
+use Rattle.urlpat_words.specs.Words.{words_view, AreWordsAfter}
+use Rattle.urlpat_commands.specs.FilterLines.{AskToFilter, Does}
+use Rattle.urlpat_commands.specs.Notes.{HasRefusedInput}
+use Rattle.urlpat_matching.specs.declared.status.TheConstants.{FAILED}
+use Rattle.urlpat_rules.specs.Coverings.{TellsWhether}
+use Rattle.urlpat_rules.specs.Routes.{RoutesLines}
+use Rattle.urlpat_rules.specs.Unreached.{Lists}
+use Rattle.urlpat_words.specs.declared.flags.Flags.{Flags}
+
+-- the first word asks to compare patterns, or for a table
+abbrev pub AskForRules : (words : List (List ℕ)) → Type 0
+AskForRules words =
+    (rest : List (List ℕ)) × (AreWordsAfter (codes "covers") words rest ⊎ AreWordsAfter (codes "unreachable") words rest ⊎ AreWordsAfter (codes "route") words rest)
+
+-- the words are answered by a command that compares patterns, or has a table
+abbrev pub DoesRules : Flags → (Has : (name table : List ℕ) → Type 0) → (words : List (List ℕ)) → (status : ℕ) → (input old new : Option (List ℕ)) → Type 0
+DoesRules flags Has words status input old new =
+    ((rest : List (List ℕ)) × AreWordsAfter (codes "covers") words rest × TellsWhether rest status old new)
+    ⊎ ((rest : List (List ℕ)) × AreWordsAfter (codes "unreachable") words rest × Lists Has rest status old new)
+    ⊎ ((rest : List (List ℕ)) × AreWordsAfter (codes "route") words rest × RoutesLines flags Has rest status input old new)
+
+-- or by another one
+abbrev pub DoesAny : Flags → (Has : (name table : List ℕ) → Type 0) → (words : List (List ℕ)) → (status : ℕ) → (input old new : Option (List ℕ)) → Type 0
+DoesAny flags Has words status input old new = DoesRules flags Has words status input old new ⊎ Does flags words status input old new
+
+-- unless the run failed, its words are answered
+abbrev pub AnswersWords : Flags → (Has : (name table : List ℕ) → Type 0) → (words : List (String Global)) → (status : ℕ) → (input old new : Option (List ℕ)) → Type 0
+AnswersWords flags Has words status input old new = status ≢ FAILED → DoesAny flags Has (words_view words) status input old new
+
+-- the words may be answered with a report beside the answer: `url` refuses their input, or they ask for lines or for patterns
+abbrev pub MayReport : (words : List (List ℕ)) → Type 0
+MayReport words = HasRefusedInput words ⊎ AskToFilter words ⊎ AskForRules words
+
+-- the words have no answer, and this is so; or they have one, or ask for lines or for patterns
+abbrev pub FailsAny : Flags → (words : List (List ℕ)) → (IsSo : Type 0) → Type 0
+FailsAny flags words IsSo = FailsWhere flags words IsSo ⊎ AreAnswered flags words ⊎ AskToFilter words ⊎ AskForRules words

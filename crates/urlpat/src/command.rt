@@ -1,0 +1,41 @@
+//! All commands of the program.
+
+ghost use Rattle.std.specs.Prelude.{◌≡◌, ◌≢◌, ◌⊎◌};
+ghost use Rattle.urlpat_words.specs.Words.{words_view};
+ghost use Rattle.urlpat.specs.Commands.{AnswersWords, FailsAny, MayReport};
+
+use std::alloc::Global;
+use std::io::{BufRead, Write};
+use urlpat_matching::{DONE, FAILED, NO_MATCH};
+use urlpat_rules::{Tables, covers, list_unreachable, route};
+use urlpat_words::{Flags, words_after};
+
+/// Does what the words and the flags ask for, and gives the status to end with.
+///
+/// `filter` and `route` read lines from `input`, `route` and `unreachable` a file from `tables`. What is printed goes to `out`, and
+/// why there is no answer to `err`.
+pub fn run<T: Tables, In: BufRead, Out: Write, Err: Write>(
+    alloc: Global,
+    tables: &T,
+    words: &[String],
+    flags: Flags,
+    input: &mut In,
+    out: &mut Out,
+    err: &mut Err,
+) -> u8
+    ensures status { (result ≡ DONE) ⊎ (result ≡ NO_MATCH) ⊎ (result ≡ FAILED) }
+    ensures answers { AnswersWords flags (T.Has tables.now) words.now result (In.remaining input.old) (Out.contents out.old) (Out.contents out.new) }
+    ensures quiet { result ≢ FAILED → (err.new ≡ err.old) ⊎ MayReport (words_view words.now) }
+    ensures fails { result ≡ FAILED → FailsAny flags (words_view words.now) (out.new ≡ out.old) }
+{
+    if let Some(rest) = words_after(words, "covers") {
+        return covers(alloc, rest, out, err);
+    }
+    if let Some(rest) = words_after(words, "unreachable") {
+        return list_unreachable(alloc, tables, rest, out, err);
+    }
+    if let Some(rest) = words_after(words, "route") {
+        return route(alloc, tables, rest, flags, input, out, err);
+    }
+    urlpat_commands::run(alloc, words, flags, input, out, err)
+}

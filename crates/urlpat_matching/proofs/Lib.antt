@@ -1,0 +1,4 @@
+pub mod MatchExamples
+pub mod GroupNames
+pub mod MatchLemmas
+pub mod JsonLemmas

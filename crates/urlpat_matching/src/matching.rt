@@ -1,0 +1,260 @@
+//! What the groups of a pattern capture of a URL.
+
+ghost use Rattle.std.specs.Map.{keys_of};
+ghost use Rattle.std.specs.Prelude.{◌≡◌, ◌++◌, ◌∷◌, [], ℕ, List, map, option_copied, string_bytes, IfErr, IfOk, IfSome, OnOk};
+ghost use Rattle.std.specs.Str.{chars};
+ghost use Rattle.urlpat_matching.specs.GroupLines.{AreGroupLines, AreLines, AreNames, GetsLines, group_bytes, all_named_results, group_line};
+ghost use Rattle.urlpat_matching.specs.MatchTexts.{FindsMatch, FindsMatchBy, ShowsMatch};
+ghost use Rattle.urlpat_matching.specs.InputUrls.{FindsUrl};
+ghost use Rattle.urlpat_matching.specs.PatternWords.{IsPatternOf, RefusesPatternOf, base_of};
+ghost use Rattle.urlpattern_matches.specs.BorrowedMatches.{pattern_captures_view, groups_view};
+ghost use Rattle.urlpattern_eight.specs.Eight.{name_text};
+ghost use Rattle.urlpattern_syntax.specs.Errors.{MemoryOr, OnlyOutOfMemory};
+ghost use Rattle.urlpattern_pattern.specs.Patterns.{pattern_view};
+ghost use Rattle.urlpattern_syntax.specs.Text.{text_of};
+
+use crate::json::match_json;
+use std::alloc::{AllocError, Global};
+use std::borrow::CowStr;
+use url::Url;
+use urlpat_words::Flags;
+use urlpattern_eight::ComponentName;
+use urlpattern_engine::PatternRegexp;
+use urlpattern_init::UrlPatternMatchInput;
+use urlpattern_inputs::{StringOrInit, UrlPatternOptions};
+use urlpattern_matches::UrlPatternCaptures;
+use urlpattern_pattern::UrlPattern;
+use urlpattern_quirks::process_match_input;
+use urlpattern_syntax::{Error, RegexSyntax};
+
+/// The word that stands for no base URL.
+pub const NO_BASE: &str = "-";
+
+/// The match of an input: a line for each group, or JSON. `None`: the input is not matched.
+///
+/// The error is why the pattern or its base is refused, or that memory ran out.
+pub fn matched_groups(
+    alloc: Global,
+    pattern: &str,
+    base: &str,
+    flags: Flags,
+    input: &str,
+) -> Result<Option<String>, Error>
+    ensures found { IfOk result (FindsMatch flags pattern.now input.now (base_of base.now)) }
+    ensures refused { IfErr result (MemoryOr (RefusesPatternOf flags.ignore_case pattern.now (base_of base.now))) }
+{
+    let base = base_of(base);
+    let pattern = compiled(alloc, pattern, base, flags.ignore_case)?;
+    let answer = groups_of_match(alloc, &pattern, base, flags.json, input);
+    drop(pattern);
+    Ok(answer?)
+}
+
+/// The base URL that a word stands for.
+pub fn base_of(word: &str) -> Option<&str>
+    ensures { option_copied result ≡ base_of word.now }
+{
+    if word == NO_BASE { None } else { Some(word) }
+}
+
+/// The pattern of a constructor string, which ignores case or not, over an engine that is made for patterns.
+///
+/// The error is why the pattern or its base is refused, or that memory ran out.
+pub fn compiled(
+    alloc: Global,
+    pattern: &str,
+    base: Option<&str>,
+    ignore_case: bool,
+) -> Result<UrlPattern<PatternRegexp>, Error>
+    ensures compiled { IfOk result (λ compiled. IsPatternOf ignore_case pattern.now (option_copied base.entry) (pattern_view compiled)) }
+    ensures refused { IfErr result (MemoryOr (RefusesPatternOf ignore_case pattern.now (option_copied base.entry))) }
+{
+    let options = UrlPatternOptions {
+        regex_syntax: RegexSyntax::Rust,
+        ignore_case,
+    };
+    UrlPattern::from_constructor_string(alloc, pattern, base, options)
+}
+
+/// The match of an input: a line for each group, or JSON. `None`: the input is not matched.
+///
+/// The error is that memory ran out.
+fn groups_of_match(
+    alloc: Global,
+    pattern: &UrlPattern<PatternRegexp>,
+    base: Option<&str>,
+    json: bool,
+    input: &str,
+) -> Result<Option<String>, Error>
+    ensures found { IfOk result (FindsMatchBy json (pattern_view pattern.now) input.now (option_copied base.entry)) }
+    ensures memory { OnlyOutOfMemory result }
+{
+    let Some(url) = url_of(alloc, base, input)? else {
+        return Ok(None);
+    };
+    let Some(found) = pattern.captures(alloc, &url)? else {
+        return Ok(None);
+    };
+    let text = match_text(alloc, json, &found);
+    drop(found);
+    Ok(Some(text?))
+}
+
+/// The text of a match: a line for each group, or JSON.
+fn match_text(
+    alloc: Global,
+    json: bool,
+    found: &UrlPatternCaptures<'_, '_>,
+) -> Result<String, AllocError>
+    ensures { IfOk result (λ text. ShowsMatch json (pattern_captures_view found.now) (string_bytes text)) }
+{
+    if json {
+        return match_json(alloc, found);
+    }
+    let mut text = String::new(alloc);
+    push_match(alloc, &mut text, found)?;
+    Ok(text)
+}
+
+/// What an input is matched as: its URL. `None`: `url` refuses it.
+///
+/// The error is that memory ran out.
+pub fn url_of(alloc: Global, base: Option<&str>, input: &str) -> Result<Option<Url>, Error>
+    ensures found { IfOk result (FindsUrl input.now (option_copied base.entry)) }
+    ensures memory { OnlyOutOfMemory result }
+{
+    let input = StringOrInit::String(CowStr::Borrowed(input));
+    match process_match_input(alloc, input, base)? {
+        Some((found, inputs)) => {
+            drop(inputs);
+            match found {
+                UrlPatternMatchInput::Url(url) => Ok(Some(url)),
+                UrlPatternMatchInput::Init(_) => Ok(None),
+            }
+        }
+        None => Ok(None),
+    }
+}
+
+/// Appends a line for each group of a match.
+pub fn push_match(
+    alloc: Global,
+    text: &mut String,
+    found: &UrlPatternCaptures<'_, '_>,
+) -> Result<(), AllocError>
+    ensures { OnOk result (GetsLines (AreLines (all_named_results (pattern_captures_view found.now))) text.old text.new) }
+{
+    for name in ComponentName::all() {
+        push_groups(alloc, text, found, name)?;
+    }
+    Ok(())
+}
+
+/// Appends a line for each group of a component, in the order of the bytes of their names.
+fn push_groups(
+    alloc: Global,
+    text: &mut String,
+    found: &UrlPatternCaptures<'_, '_>,
+    name: ComponentName,
+) -> Result<(), AllocError>
+    ensures { OnOk result (GetsLines (AreGroupLines (name_text name) (pattern_captures_view found.now name)) text.old text.new) }
+{
+    match only_group(found, name) {
+        Some(group) => {
+            push_group(text, name.as_str(), group, capture_of(found, name, group))?;
+            Ok(())
+        }
+        None => push_sorted_groups(alloc, text, found, name),
+    }
+}
+
+/// The name of the group of a component that has one alone.
+fn only_group<'p>(found: &UrlPatternCaptures<'p, '_>, name: ComponentName) -> Option<&'p str>
+    ensures { IfSome result (λ group. keys_of (groups_view found.now name) ≡ chars group.now ∷ []) }
+{
+    let mut groups = found.groups(name);
+    let (group, _) = groups.next()?;
+    match groups.next() {
+        Some(_) => None,
+        None => Some(group),
+    }
+}
+
+/// Appends a line for each group of a component, in the order of the bytes of their names, which are sorted.
+fn push_sorted_groups(
+    alloc: Global,
+    text: &mut String,
+    found: &UrlPatternCaptures<'_, '_>,
+    name: ComponentName,
+) -> Result<(), AllocError>
+    ensures { OnOk result (GetsLines (AreGroupLines (name_text name) (pattern_captures_view found.now name)) text.old text.new) }
+{
+    let groups = sorted_names(alloc, found, name)?;
+    for group in &groups {
+        push_group(text, name.as_str(), group, capture_of(found, name, group))?;
+    }
+    Ok(())
+}
+
+/// The names of the groups of a component, each once, in the order of their bytes.
+fn sorted_names(
+    alloc: Global,
+    found: &UrlPatternCaptures<'_, '_>,
+    name: ComponentName,
+) -> Result<Vec<String>, AllocError>
+    ensures { IfOk result (λ names. AreNames (pattern_captures_view found.now name) (map (λ name. text_of name) names.items)) }
+{
+    let mut names = names_of(alloc, found, name)?;
+    names.sort_unstable();
+    names.dedup();
+    Ok(names)
+}
+
+/// The names of the groups of a component, in the order of the pattern.
+fn names_of(
+    alloc: Global,
+    found: &UrlPatternCaptures<'_, '_>,
+    name: ComponentName,
+) -> Result<Vec<String>, AllocError>
+    ensures { IfOk result (λ names. map (λ name. text_of name) names.items ≡ keys_of (groups_view found.now name)) }
+{
+    let mut names = Vec::new(alloc);
+    for (group, _) in found.groups(name) {
+        let copy = String::from_str(alloc, group)?;
+        names.push(copy)?;
+    }
+    Ok(names)
+}
+
+/// What a group captured. `None`: it took no part.
+pub fn capture_of<'u>(
+    found: &UrlPatternCaptures<'_, 'u>,
+    name: ComponentName,
+    group: &str,
+) -> Option<&'u str>
+    ensures { option_copied result ≡ group_bytes ((pattern_captures_view found.now name).group (chars group.now)) }
+{
+    match found.get(name, group) {
+        Some(capture) => Some(capture),
+        None => None,
+    }
+}
+
+/// Appends the line of a group: its component and its name, and what it captured, if it took part.
+fn push_group(
+    text: &mut String,
+    component: &str,
+    name: &str,
+    capture: Option<&str>,
+) -> Result<(), AllocError>
+    ensures { OnOk result (string_bytes text.new ≡ string_bytes text.old ++ group_line component.now name.now (option_copied capture.entry)) }
+{
+    text.push_str(component)?;
+    text.push(' ')?;
+    text.push_str(name)?;
+    if let Some(capture) = capture {
+        text.push('=')?;
+        text.push_str(capture)?;
+    }
+    text.push('\n')
+}

@@ -1,0 +1,141 @@
+//! What goes to standard error beside an answer: what is wrong with a pattern that is refused, and that an input is no URL.
+
+ghost use Rattle.std.specs.Prelude.{◌≡◌, option_copied, IfOk, IfSome};
+ghost use Rattle.urlpat_matching.specs.InputUrls.{IsRefusedText};
+
+use crate::matching::url_of;
+use crate::status::FAILED;
+use std::alloc::Global;
+use std::io::Write;
+use url::{ParseError, Url};
+use urlpattern_diagnosis::{Diagnosis, Subject};
+use urlpattern_engine::PatternRegexp;
+use urlpattern_inputs::UrlPatternOptions;
+use urlpattern_pattern::UrlPattern;
+use urlpattern_syntax::Error;
+use urlpattern_syntax::error::OutOfMemory;
+
+/// Says that an input is no URL. `None`: it is one.
+///
+/// The error is that memory ran out.
+pub fn note_of(alloc: Global, base: Option<&str>, input: &str) -> Result<Option<String>, Error>
+    ensures { IfOk result (λ note. IfSome note (λ text. IsRefusedText input.now (option_copied base.entry))) }
+{
+    match url_of(alloc, base, input)? {
+        Some(url) => {
+            drop(url);
+            Ok(None)
+        }
+        None => match parsed(alloc, base, input) {
+            Err(ParseError::OutOfMemory) => Err(Error::OutOfMemory),
+            Err(reason) => {
+                Ok(Some(format!(in alloc; "the input `{input}` is no URL: {reason}\n")?))
+            }
+            Ok(url) => {
+                drop(url);
+                Ok(Some(format!(in alloc; "the input `{input}` is no URL\n")?))
+            }
+        },
+    }
+}
+
+/// The URL of an input, as `url` reads it.
+fn parsed(alloc: Global, base: Option<&str>, input: &str) -> Result<Url, ParseError> {
+    let Some(base) = base else {
+        return Url::parse(alloc, input);
+    };
+    let base = Url::parse(alloc, base)?;
+    let url = base.join(input);
+    drop(base);
+    url
+}
+
+/// Reports why a constructor string or its base is refused, and what is wrong with it, and gives the status to end with.
+pub fn write_refusal<Err: Write>(
+    alloc: Global,
+    pattern: &str,
+    base: Option<&str>,
+    error: Error,
+    err: &mut Err,
+) -> u8
+    ensures { result ≡ FAILED }
+{
+    let note = match error {
+        Error::OutOfMemory => Ok(None),
+        _ => match_diagnosis(alloc, pattern, base),
+    };
+    match note {
+        Ok(Some(note)) => {
+            let _ = write!(err, "{error}\n{note}");
+        }
+        Ok(None) => {
+            let _ = writeln!(err, "{error}");
+        }
+        Err(_) => {
+            let _ = err.write_all(b"out of memory\n");
+        }
+    }
+    drop(error);
+    FAILED
+}
+
+/// What is wrong with a constructor string, or its base, as lines for a reader. `None`: neither is refused.
+///
+/// The error is that memory ran out.
+pub fn match_diagnosis(
+    alloc: Global,
+    pattern: &str,
+    base: Option<&str>,
+) -> Result<Option<String>, OutOfMemory> {
+    // docs: diagnosis
+    match diagnosed(alloc, pattern, base)? {
+        Some(diagnosis) => {
+            let text = format!(in alloc; "{diagnosis}\n");
+            drop(diagnosis);
+            Ok(Some(text?))
+        }
+        None => Ok(None),
+    }
+    // docs: end
+}
+
+/// What is wrong with the first constructor string that is refused, after its number, or with the base. `None`: none is
+/// refused.
+///
+/// The error is that memory ran out.
+pub fn first_diagnosis(
+    alloc: Global,
+    base: Option<&str>,
+    patterns: &[String],
+) -> Result<Option<String>, OutOfMemory> {
+    for (index, pattern) in patterns.iter().enumerate() {
+        if let Some(diagnosis) = diagnosed(alloc, pattern, base)? {
+            let text = numbered(alloc, index, &diagnosis);
+            drop(diagnosis);
+            return Ok(Some(text?));
+        }
+    }
+    Ok(None)
+}
+
+/// A diagnosis after the number of its pattern. Of the base no pattern is named.
+fn numbered(alloc: Global, index: usize, diagnosis: &Diagnosis) -> Result<String, OutOfMemory> {
+    // docs: subject
+    match diagnosis.subject {
+        Subject::Base => Ok(format!(in alloc; "{diagnosis}\n")?),
+        _ => Ok(format!(in alloc; "pattern {index}: {diagnosis}\n")?),
+    }
+    // docs: end
+}
+
+/// What is wrong with a constructor string, or its base.
+// docs: diagnose
+fn diagnosed(
+    alloc: Global,
+    pattern: &str,
+    base: Option<&str>,
+) -> Result<Option<Diagnosis>, OutOfMemory> {
+    let options = UrlPatternOptions::default();
+    UrlPattern::<PatternRegexp>::diagnose(alloc, pattern, base, options)
+}
+// docs: end
