@@ -17,7 +17,7 @@ use Rattle.urlpattern_create.specs.Compiled.{FirstRefused, IsComponentCompiled, 
 use Rattle.urlpattern_create.specs.Diagnoses.{IsOf, IsPartOfRefused, IsRefusalOf, RefusesComponent, ShowsAll, ShowsColon, ShowsFault, ShowsInit, ShowsPattern, ShowsProtocol, ShowsRefusal, ShowsText, error_of}
 use Rattle.urlpattern_create.specs.FromString.{IsInitOfText, IsPatternOfText}
 use Rattle.urlpattern_create.specs.PatternViews.{PatternView}
-use Rattle.urlpattern_init.specs.Split.{HasProtocol}
+use Rattle.urlpattern_split.specs.Split.{HasProtocol}
 use Rattle.urlpattern_init.specs.declared.init.UrlPatternInit.{UrlPatternInit}
 use Rattle.urlpattern_eight.specs.declared.eight.ComponentName.{ComponentName}
 use Rattle.urlpattern_create.specs.declared.refusal.Refusal.{Refusal}
