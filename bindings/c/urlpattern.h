@@ -8,7 +8,7 @@
  * - Each other pointer leads to a value of its type that may be written, and that nothing else uses during the call; a buffer to as
  *   many bytes as its size says. No two arguments overlap, but for texts.
  * - A handle holds zeros (`URLPATTERN_EMPTY`) before its first call. After that only these functions write it, it is not copied, and one
- *   call at a time has it. It may go from one thread to another between calls.
+ *   call at a time has it. Each call of a handle is made by the same thread: that another one may make it is not proved.
  * - `malloc`, `realloc` and `free` come from one allocator, and align a block to each power of two up to 16 that divides its size.
  * - No call is made from a signal handler, nor from the forked child of a process with threads.
  *

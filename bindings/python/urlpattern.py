@@ -6,8 +6,8 @@
 
 The shared object is the one that the environment variable URLPATTERN_LIBRARY names, or else `liburlpattern.so` beside this file.
 
-An object may be used from several threads: the interpreter's lock is held during each call. Under an interpreter without that lock, give
-each object to one thread at a time.
+Give each object to one thread, which makes all its calls and frees it: that a handle may go to another thread is not proved. Calls of
+different objects may be made at the same time, and the interpreter's lock is held during each.
 """
 import ctypes
 import json
